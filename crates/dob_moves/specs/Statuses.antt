@@ -1,0 +1,36 @@
+-- The status of a position, and the list of its moves.
+use Rattle.std.specs.Prelude.{◌≡◌, ℕ, ◌<◌, ◌≤◌, List, Option, Some, None, Contains, AllPairs}
+use Rattle.dob_pieces.specs.declared.kind.Kind.TheVariants.{Lion}
+use Rattle.dob_pieces.specs.declared.kind.Side.TheVariants.{Enemy}
+use Rattle.dob_pieces.specs.declared.setup.Setup.{Setup}
+use Rattle.dob_pieces.specs.Setups.{at, piece_of}
+use Rattle.dob_moves.specs.declared.moves.Move.{Move}
+use Rattle.dob_moves.specs.declared.outlook.Status.{Status}
+use Rattle.dob_moves.specs.declared.outlook.Status.TheVariants.{Caught, Tried, Stuck, Open}
+use Rattle.dob_moves.specs.Moves.{Goes, CanGo, CatchesLion, place}
+
+-- some step of the mover ends on the enemy lion
+abbrev pub CanCatch : Setup → Type 0
+CanCatch p = (move : Move) × CatchesLion p move
+
+-- the enemy lion stands on row 1
+abbrev pub HasTried : Setup → Type 0
+HasTried p = (square : ℕ) × (square < 3) × (at p square ≡ Some (piece_of Enemy Lion))
+
+-- the status, in the order in which it is decided
+abbrev pub HasStatus : Setup → Status → Type 0
+HasStatus p Caught = CanCatch p
+HasStatus p Tried = (¬ CanCatch p) × HasTried p
+HasStatus p Stuck = (¬ CanCatch p) × (¬ HasTried p) × ((move : Move) → ¬ CanGo p move)
+HasStatus p Open = (¬ CanCatch p) × (¬ HasTried p) × ((move : Move) × CanGo p move)
+
+-- The list has each move of an open position, once, in the move order, and none of any other position.
+pub record AreMoves (p : Setup) (moves : List Move) : Type 0 where
+  pub sound : (move : Move) → Contains moves move → HasStatus p Open × CanGo p move
+  pub whole : (move : Move) → HasStatus p Open → CanGo p move → Contains moves move
+  pub ordered : AllPairs (λ a b. place a < place b) moves
+
+-- the first step in the move order that catches the enemy lion
+pub record IsFirstCatch (p : Setup) (move : Move) : Type 0 where
+  pub catches : CatchesLion p move
+  pub first : (other : Move) → CatchesLion p other → place move ≤ place other

@@ -1,0 +1,8 @@
+// The rules of Dobutsu shogi: the status of a position, its moves in move order, and what a move leads to.
+#![tactic(auto)]
+
+mod moves;
+mod outlook;
+
+pub use moves::Move;
+pub use outlook::Status;

@@ -1,0 +1,21 @@
+// Moves.
+use dob_pieces::{HandKind, Kind, Square};
+
+/// A move of the side to move.
+#[derive(Clone, Copy, Debug, PartialEq, Eq)]
+pub enum Move {
+    /// A step of a piece of that kind, as it was before the step, from one square to another; `catch` where it
+    /// catches a piece, `grows` where a chick becomes a hen.
+    Step {
+        kind: Kind,
+        from: Square,
+        to: Square,
+        catch: bool,
+        grows: bool,
+    },
+    /// A drop of a piece in hand onto an empty square.
+    Put {
+        kind: HandKind,
+        to: Square,
+    },
+}

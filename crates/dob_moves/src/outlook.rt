@@ -1,0 +1,14 @@
+// What a position is before any move is made.
+
+/// The status of a position, decided in this order.
+#[derive(Clone, Copy, Debug, PartialEq, Eq)]
+pub enum Status {
+    /// Some step of the side to move ends on the enemy lion: a win in one ply.
+    Caught,
+    /// The enemy lion stands on row 1: a loss in 0.
+    Tried,
+    /// The side to move has no move: a loss in 0.
+    Stuck,
+    /// All else.
+    Open,
+}

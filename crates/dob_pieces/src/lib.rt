@@ -1,0 +1,20 @@
+// The pieces of Dobutsu shogi: squares, kinds, sides, hands, and what stands on the board. A `Position` is
+// legal by its type: each side has one lion, no kind has more than two pieces, and the lion of the side to
+// move doesn't stand on that side's far row.
+#![tactic(auto)]
+
+mod hand;
+mod kind;
+mod memory;
+mod piece_set;
+mod position;
+mod setup;
+mod square;
+
+pub use hand::{Hand, Hands};
+pub use kind::{HandKind, Kind, Piece, Side};
+pub use memory::Memory;
+pub use piece_set::PieceSet;
+pub use position::Position;
+pub use setup::Setup;
+pub use square::Square;

@@ -1,0 +1,2 @@
+// Positions and moves as text.
+#![tactic(auto)]
