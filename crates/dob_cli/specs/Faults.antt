@@ -1,0 +1,24 @@
+-- The program's faults as they are printed, and their exit statuses.
+use Rattle.std.specs.Prelude.{ℕ, List, [], ◌∷◌, ◌++◌, codes}
+use Rattle.dob_text.specs.Faults as position
+use Rattle.dob_cli.specs.declared.fault.Fault.{Fault}
+use Rattle.dob_cli.specs.declared.fault.Fault.TheVariants.{Text, SetTooLarge, TooDeep, Memory, Io}
+
+abbrev pub fault_text : Fault → List ℕ
+fault_text (Text fault) = position.fault_text fault
+fault_text SetTooLarge = codes "E8 SetTooLarge"
+fault_text TooDeep = codes "E12 TooDeep"
+fault_text Memory = codes "E23 Memory"
+fault_text Io = codes "E24 Io"
+
+-- the line on standard error
+abbrev pub fault_line : Fault → List ℕ
+fault_line fault = codes "dobutsu: " ++ fault_text fault ++ 10 ∷ []
+
+-- 1 where what was asked is refused, 3 where the program failed
+abbrev pub status_of : Fault → ℕ
+status_of (Text _) = 1
+status_of SetTooLarge = 1
+status_of TooDeep = 3
+status_of Memory = 3
+status_of Io = 3

@@ -1,0 +1,64 @@
+-- What the program owes for its words: an exit status, and what it writes.
+use Rattle.std.specs.Prelude.{◌≡◌, ℕ, ◌≤◌, ◌⊎◌, List, [], ◌∷◌, ◌++◌, Option, codes, take, length}
+use Rattle.std.specs.Io.KnownBytes.{Appends, Keeps}
+use Rattle.std.specs.Fmt.{decimal}
+use Rattle.dob_pieces.specs.declared.setup.Setup.{Setup}
+use Rattle.dob_pieces.specs.Setups.{IsLegal}
+use Rattle.dob_text.specs.PositionText.{Spells}
+use Rattle.dob_text.specs.Faults.{HasFault}
+use Rattle.dob_value.specs.declared.value.Value.{Value}
+use Rattle.dob_value.specs.declared.value.Value.TheVariants.{Win, Loss, Draw}
+use Rattle.dob_value.specs.Values.{HasValue}
+use Rattle.dob_cli.specs.declared.fault.Fault.{Fault}
+use Rattle.dob_cli.specs.declared.fault.Fault.TheVariants.{Text, SetTooLarge, TooDeep, Memory, Io}
+use Rattle.dob_cli.specs.Faults.{fault_line, status_of}
+
+-- the bytes that a stream holds, where it tells them
+abbrev pub Bytes : Type 0
+Bytes = Option (List ℕ)
+
+-- the line that tells a value, with its line feed
+abbrev pub value_line : Value → List ℕ
+value_line (Win plies) = codes "win " ++ decimal plies ++ 10 ∷ []
+value_line (Loss plies) = codes "loss " ++ decimal plies ++ 10 ∷ []
+value_line Draw = codes "draw" ++ 10 ∷ []
+
+-- a beginning of the bytes came in
+abbrev pub AppendsPart : Bytes → Bytes → List ℕ → Type 0
+AppendsPart old new bytes = (n : ℕ) × (n ≤ length bytes) × Appends old new (take n bytes)
+
+-- the text is a legal position's, whose value this is by definition
+pub record IsValueOf (text : List ℕ) (value : Value) : Type 0 where
+  pub position : Setup
+  pub legal : IsLegal position
+  pub spelled : Spells text position
+  pub right : HasValue position value
+
+-- the fault is given only where it is one of the text's, or memory or standard output failed
+abbrev pub IsFaultOf : List ℕ → Fault → Type 0
+IsFaultOf text (Text fault) = HasFault text fault
+IsFaultOf text SetTooLarge = (position : Setup) × IsLegal position × Spells text position × IsBeyondSweeps position
+IsFaultOf text TooDeep = (position : Setup) × IsLegal position × Spells text position × HasEndlessDepth position
+IsFaultOf text Memory = Unit {0}
+IsFaultOf text Io = Unit {0}
+
+-- It told the value: status 0, the value's line on standard output and nothing else.
+pub record TellsValue (text : List ℕ) (status : ℕ) (out out' err err' : Bytes) : Type 0 where
+  pub value : Value
+  pub of_text : IsValueOf text value
+  pub status : status ≡ 0
+  pub told : Appends out out' (value_line value)
+  pub silent : Keeps err err'
+
+-- It told a fault: the fault's status, and on standard error the fault's line, or a beginning of it where standard
+-- error fails. Standard output has nothing of it, or a beginning of the value's line where standard output failed.
+pub record TellsFault (text : List ℕ) (status : ℕ) (out out' err err' : Bytes) : Type 0 where
+  pub fault : Fault
+  pub of_text : IsFaultOf text fault
+  pub status : status ≡ status_of fault
+  pub told : AppendsPart err err' (fault_line fault)
+  pub silent : Keeps out out' ⊎ ((value : Value) × IsValueOf text value × AppendsPart out out' (value_line value))
+
+-- what the program does where it is asked for the value of the position that a text names
+abbrev pub AnswersValue : List ℕ → ℕ → Bytes → Bytes → Bytes → Bytes → Type 0
+AnswersValue text status out out' err err' = TellsValue text status out out' err err' ⊎ TellsFault text status out out' err err'

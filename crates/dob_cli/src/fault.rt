@@ -1,0 +1,51 @@
+// The faults of the program, their lines and their exit statuses.
+ghost use Rattle.std.specs.Prelude.{◌≡◌, Some};
+ghost use Rattle.dob_cli.specs.Faults.{status_of, fault_text};
+
+use dob_text::TextFault;
+use std::alloc::AllocError;
+use std::error::Error;
+use std::fmt;
+
+/// Why the program refuses what it is asked, or fails at it.
+#[derive(Clone, Copy, Debug, PartialEq, Eq)]
+pub enum Fault {
+    /// E1 to E6: the text isn't a position's.
+    Text(TextFault),
+    /// E8: the position's piece set is larger than those whose values can be found.
+    SetTooLarge,
+    /// E12: a distance would be above 65,534 plies.
+    TooDeep,
+    /// E23: a growth was refused for want of memory.
+    Memory,
+    /// E24: standard output failed.
+    Io,
+}
+
+impl Fault {
+    /// The exit status: 1 where what was asked is refused, 3 where the program failed.
+    pub fn status(self) -> u8
+        ensures { result ≡ status_of self }
+    {
+        match self {
+            Fault::Text(_) | Fault::SetTooLarge => 1,
+            Fault::TooDeep | Fault::Memory | Fault::Io => 3,
+        }
+    }
+}
+
+impl fmt::Display for Fault {
+    ghost output = { λ fault. Some (fault_text fault) };
+
+    fn fmt<W: fmt::Write>(&self, f: &mut fmt::Formatter<W>) -> fmt::Result {
+        match self {
+            Fault::Text(fault) => write!(f, "{fault}"),
+            Fault::SetTooLarge => write!(f, "E8 SetTooLarge"),
+            Fault::TooDeep => write!(f, "E12 TooDeep"),
+            Fault::Memory => write!(f, "E23 Memory"),
+            Fault::Io => write!(f, "E24 Io"),
+        }
+    }
+}
+
+impl Error for Fault {}

@@ -1,0 +1,10 @@
+// The command line of `dobutsu`: from words to printed bytes and an exit status.
+#![tactic(auto)]
+
+pub mod command;
+mod fault;
+mod output;
+mod program;
+
+pub use fault::Fault;
+pub use program::run_words;

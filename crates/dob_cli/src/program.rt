@@ -1,0 +1,100 @@
+// The program: from its words to what it prints and its exit status.
+ghost use Rattle.std.specs.Prelude.{◌≡◌, IfOk, IfErr, map, string_bytes};
+ghost use Rattle.dob_cli.specs.Words.{value};
+ghost use Rattle.dob_cli.specs.Words as words_of;
+ghost use Rattle.dob_cli.specs.Faults.{fault_line};
+ghost use Rattle.dob_cli.specs.Program.{AnswersValue, IsValueLineOf, IsFaultOf, value_line, Tells, TellsOneFault};
+
+use crate::command::{Order, Reading, read_words};
+use crate::fault::Fault;
+use crate::output::write_bytes;
+use dob_text::read_position;
+use dob_value::{Value, sweep_value};
+use std::alloc::{AllocError, Global};
+use std::io::Write;
+
+/// The exit status for words that the program doesn't know.
+const USAGE: u8 = 2;
+
+/// Runs the program by its words, those after the program's name. What it tells goes to `out`, a fault's line and a
+/// word on wrong usage to `err`; the answer is the exit status.
+///
+/// The status is 0 where it is done or help was asked for, 1 where what was asked is refused, 2 for words that it
+/// doesn't know, 3 for want of memory, for a distance above 65,534 plies and where `out` fails. Where `err` fails,
+/// the status is the same.
+pub fn run_words<O: Write, E: Write>(
+    alloc: Global,
+    words: &[&str],
+    out: &mut O,
+    err: &mut E,
+) -> u8 {
+    match read_words(alloc, words) {
+        Err(AllocError) => tell_fault(alloc, Fault::Memory, err),
+        Ok(Reading::Help(text)) => tell(alloc, text.as_str(), out, err),
+        Ok(Reading::Usage(text)) => {
+            let _ = write_bytes(err, text.as_bytes());
+            USAGE
+        }
+        Ok(Reading::Order(Order::Value(text))) => run_value(alloc, text, out, err),
+    }
+}
+
+// Tells the value of the position that the text names.
+fn run_value<O: Write, E: Write>(alloc: Global, text: &str, out: &mut O, err: &mut E) -> u8
+    ensures { AnswersValue text.now result (O.contents out.old) (O.contents out.new) (E.contents err.old) (E.contents err.new) }
+{
+    match value_of(alloc, text) {
+        Ok(line) => tell(alloc, line.as_str(), out, err),
+        Err(fault) => tell_fault(alloc, fault, err),
+    }
+}
+
+// The line that tells the value of the position that the text names.
+fn value_of(alloc: Global, text: &str) -> Result<String, Fault>
+    ensures ok { IfOk result (λ line. IsValueLineOf text.now (string_bytes line)) }
+    ensures err { IfErr result (IsFaultOf text.now) }
+{
+    let position = read_position(text)?;
+    let value = sweep_value(alloc, &position)?;
+    Ok(line_of(alloc, value)?)
+}
+
+// The line that tells a value.
+fn line_of(alloc: Global, value: Value) -> Result<String, AllocError>
+    ensures { IfOk result (λ line. string_bytes line ≡ value_line value) }
+{
+    match value {
+        Value::Win(plies) => format!(in alloc; "win {plies}\n"),
+        Value::Loss(plies) => format!(in alloc; "loss {plies}\n"),
+        Value::Draw => "draw\n".to_string(alloc),
+    }
+}
+
+// Tells a line on standard output.
+fn tell<O: Write, E: Write>(alloc: Global, line: &str, out: &mut O, err: &mut E) -> u8
+    ensures { Tells line.now result (O.contents out.old) (O.contents out.new) (E.contents err.old) (E.contents err.new) }
+{
+    let is_whole = write_bytes(out, line.as_bytes());
+    let is_flushed = out.flush().is_ok();
+    if is_whole && is_flushed {
+        0
+    } else {
+        tell_fault(alloc, Fault::Io, err)
+    }
+}
+
+// Tells a fault on standard error, or that no memory was left to tell it.
+fn tell_fault<E: Write>(alloc: Global, fault: Fault, err: &mut E) -> u8
+    ensures { TellsOneFault fault result (E.contents err.old) (E.contents err.new) }
+{
+    match format!(in alloc; "dobutsu: {fault}\n") {
+        Ok(line) => {
+            let _ = write_bytes(err, line.as_bytes());
+            fault.status()
+        }
+        Err(AllocError) => {
+            let _ = write_bytes(err, b"dobutsu: E23 Memory\n");
+            Fault::Memory.status()
+        }
+    }
+}
