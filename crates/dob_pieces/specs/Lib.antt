@@ -1,3 +1,4 @@
 pub mod Squares
 pub mod Pieces
 pub mod Setups
+pub mod Faults

@@ -3,6 +3,7 @@
 // move doesn't stand on that side's far row.
 #![tactic(auto)]
 
+mod fault;
 mod hand;
 mod kind;
 mod memory;
@@ -11,6 +12,7 @@ mod position;
 mod setup;
 mod square;
 
+pub use fault::PositionFault;
 pub use hand::{Hand, Hands};
 pub use kind::{HandKind, Kind, Piece, Side};
 pub use memory::Memory;
