@@ -2,3 +2,4 @@ pub mod Squares
 pub mod Pieces
 pub mod Setups
 pub mod Faults
+pub mod Sets

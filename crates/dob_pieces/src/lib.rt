@@ -16,7 +16,7 @@ pub use fault::PositionFault;
 pub use hand::{Hand, Hands};
 pub use kind::{HandKind, Kind, Piece, Side};
 pub use memory::Memory;
-pub use piece_set::PieceSet;
+pub use piece_set::{PieceSet, SetText};
 pub use position::Position;
 pub use setup::Setup;
 pub use square::Square;
