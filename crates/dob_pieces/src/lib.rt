@@ -6,6 +6,7 @@
 mod fault;
 mod hand;
 mod kind;
+pub mod laws;
 mod memory;
 mod piece_set;
 mod position;
