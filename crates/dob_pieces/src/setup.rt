@@ -30,7 +30,13 @@ impl Setup {
         for index in 0..Square::COUNT {
             board[index] = turned_cell(self.at(Square::new(index).turned()));
         }
-        Setup { board, hands: Hands { mover: self.hands.enemy, enemy: self.hands.mover } }
+        Setup {
+            board,
+            hands: Hands {
+                mover: self.hands.enemy,
+                enemy: self.hands.mover,
+            },
+        }
     }
 
     /// The mirror image: columns a and c exchanged.
@@ -41,7 +47,10 @@ impl Setup {
         for index in 0..Square::COUNT {
             board[index] = self.at(Square::new(index).mirrored());
         }
-        Setup { board, hands: self.hands }
+        Setup {
+            board,
+            hands: self.hands,
+        }
     }
 }
 
