@@ -1,2 +1,3 @@
 pub mod Turns
 pub mod Outcomes
+pub mod Mirrors

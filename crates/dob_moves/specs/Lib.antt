@@ -1,3 +1,4 @@
 pub mod Moves
 pub mod Statuses
 pub mod Outcomes
+pub mod Mirrors
