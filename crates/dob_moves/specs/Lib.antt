@@ -2,3 +2,4 @@ pub mod Moves
 pub mod Statuses
 pub mod Outcomes
 pub mod Mirrors
+pub mod Laws

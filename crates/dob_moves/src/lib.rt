@@ -2,6 +2,7 @@
 #![tactic(auto)]
 
 mod applied;
+pub mod laws;
 mod moves;
 mod outlook;
 
