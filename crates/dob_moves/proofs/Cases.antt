@@ -11,7 +11,7 @@ use Rattle.dob_moves.specs.declared.moves.Move.{Move}
 use Rattle.dob_moves.specs.declared.moves.Move.TheVariants.{Step, Put}
 use Rattle.dob_moves.specs.declared.outlook.Status.{Status}
 use Rattle.dob_moves.specs.declared.outlook.Status.TheVariants.{Caught, Tried, Stuck, Open}
-use Rattle.dob_moves.specs.Moves.{Goes, CanGo, CatchesLion, CanTake, grows_at}
+use Rattle.dob_moves.specs.Moves.{CanGo, CatchesLion, CanTake, grows_at}
 use Rattle.dob_moves.specs.Statuses.{HasStatus}
 use Rattle.dob_moves.proofs.Turns.{kind_of}
 
