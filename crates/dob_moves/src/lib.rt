@@ -3,6 +3,8 @@
 
 mod moves;
 mod outlook;
+mod search;
+mod steps;
 
 pub use moves::Move;
 pub use outlook::Status;
