@@ -17,7 +17,7 @@ first-cons_none (Some m) rest h = cc
 
 -- of what is left from place i on, the value at i comes first, if it is there
 pub first_found : (f : ℕ → Option Move) (xs : List ℕ) (i : ℕ) → i < length xs → is_some (f (get_or xs i 0)) ≡ true → first (filter_map f (drop i xs)) ≡ f (get_or xs i 0)
-first_found f xs i h found = rw drop-cons xs i 0 (first-cons_some (f (get_or xs i 0)) (filter_map f (drop (suc i) xs)) found)
+first_found f xs i h found = rw (drop-cons xs i 0) (first-cons_some (f (get_or xs i 0)) (filter_map f (drop (suc i) xs)) found)
 
 -- and else what comes after it
 pub first_passed : (f : ℕ → Option Move) (xs : List ℕ) (i : ℕ) → i < length xs → is_some (f (get_or xs i 0)) ≡ false → first (filter_map f (drop (i + 1) xs)) ≡ first (filter_map f (drop i xs))
@@ -56,3 +56,5 @@ below_found g i (suc n) h before found =
 pub first-option : (o : Option Move) → first (option_to_list o) ≡ o
 first-option None = refl
 first-option (Some m) = refl
+
+pub ruleset firsts = (first_found, first_passed, first-append_none, first-append_some, none_from, below_passed, below_found, first-option)

@@ -1,6 +1,5 @@
 // The search for the first step or drop, in the move order.
 ghost use Rattle.std.specs.Prelude.{◌≡◌};
-ghost use Rattle.dob_pieces.specs.Setups.{at};
 ghost use Rattle.dob_moves.specs.Walks.{first, own_kind, step_onto, step_in, steps_by, steps_from, all_steps, put_on, drops_of, all_drops};
 
 use dob_pieces::{HandKind, Kind, Piece, Setup, Side, Square};
@@ -15,13 +14,6 @@ pub(crate) enum Aim {
     AtLion,
     /// On an empty square or another enemy piece.
     Elsewhere,
-}
-
-/// What stands on that square.
-pub(crate) fn cell(setup: &Setup, square: Square) -> Option<Piece>
-    ensures { result ≡ at setup.now square }
-{
-    setup.board[square.index()]
 }
 
 /// The kind of the mover's piece that stands there.
@@ -55,11 +47,12 @@ pub(crate) fn step_in(setup: &Setup, aim: Aim, kind: Kind, from: Square, directi
     ensures { result ≡ step_in aim setup.now kind from direction }
 {
     match square_in(from, direction) {
-        Some(to) => step_onto(aim, cell(setup, to), kind, from, to),
+        Some(to) => step_onto(aim, setup.at(to), kind, from, to),
         None => None,
     }
 }
 
+#[tactic(auto, using(crate::proofs::Firsts::firsts), unfolding(crate::specs::Walks::steps_by))]
 /// The first step of a piece of that kind on that square.
 fn first_step_by(setup: &Setup, aim: Aim, kind: Kind, from: Square) -> Option<Move>
     ensures { result ≡ first (steps_by aim setup.now kind from) }
@@ -73,16 +66,18 @@ fn first_step_by(setup: &Setup, aim: Aim, kind: Kind, from: Square) -> Option<Mo
     None
 }
 
+#[tactic(auto, unfolding(crate::specs::Walks::steps_from))]
 /// The first of the mover's steps from that square.
 fn first_step_from(setup: &Setup, aim: Aim, from: Square) -> Option<Move>
     ensures { result ≡ first (steps_from aim setup.now from) }
 {
-    match own_kind(cell(setup, from)) {
+    match own_kind(setup.at(from)) {
         Some(kind) => first_step_by(setup, aim, kind, from),
         None => None,
     }
 }
 
+#[tactic(auto, using(crate::proofs::Firsts::firsts), unfolding(crate::specs::Walks::all_steps))]
 /// The first of the mover's steps.
 pub(crate) fn first_step(setup: &Setup, aim: Aim) -> Option<Move>
     ensures { result ≡ first (all_steps aim setup.now) }
@@ -100,12 +95,13 @@ pub(crate) fn first_step(setup: &Setup, aim: Aim) -> Option<Move>
 pub(crate) fn put_on(setup: &Setup, kind: HandKind, to: Square) -> Option<Move>
     ensures { result ≡ put_on setup.now kind to }
 {
-    match cell(setup, to) {
+    match setup.at(to) {
         Some(_) => None,
         None => Some(Move::Put { kind, to }),
     }
 }
 
+#[tactic(auto, using(crate::proofs::Firsts::firsts), unfolding(crate::specs::Walks::drops_of))]
 /// The first drop of a piece of that kind.
 fn first_drop_of(setup: &Setup, kind: HandKind) -> Option<Move>
     ensures { result ≡ first (drops_of setup.now kind) }
@@ -122,6 +118,7 @@ fn first_drop_of(setup: &Setup, kind: HandKind) -> Option<Move>
     None
 }
 
+#[tactic(auto, using(crate::proofs::Firsts::firsts), unfolding(crate::specs::Walks::all_drops))]
 /// The first drop.
 pub(crate) fn first_drop(setup: &Setup) -> Option<Move>
     ensures { result ≡ first (all_drops setup.now) }
