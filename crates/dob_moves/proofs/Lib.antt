@@ -1,1 +1,4 @@
 pub mod Firsts
+pub mod Runs
+pub mod Tables
+pub mod Reach
