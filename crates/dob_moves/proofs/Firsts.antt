@@ -1,5 +1,5 @@
 -- The first move of a list that is made piece by piece.
-use Rattle.std.proofs.Common.{◌≡◌, ℕ, zero, suc, ◌+◌, ◌<◌, Bool, true, false, List, [], ◌∷◌, ◌++◌, Option, Some, None, length, get_or, drop, refl, sym, ap, ◌∙◌, subst, inl, inr, arith, add-one, drop-cons, option_to_list}
+use Rattle.std.proofs.Common.{◌≡◌, ℕ, zero, suc, ◌+◌, ◌<◌, true, false, List, [], ◌∷◌, ◌++◌, Option, Some, None, length, get_or, drop, refl, sym, ap, ◌∙◌, inl, inr, arith, add-one, drop-cons, option_to_list}
 use Rattle.std.specs.Option.{is_some}
 use Rattle.std.specs.List.{filter_map, cons_option}
 use Rattle.std.proofs.lemmas.Bool.{cases_lt}
@@ -44,12 +44,12 @@ pub below_found : (g : ℕ → List Move) (i n : ℕ) → i < n → first (each_
 below_found g i zero h before found = absurd (omega arith)
 below_found g i (suc n) h before found =
     elim (cases_lt i n) [
-        inl lt ↦
-            let e = below_found g i n lt before found in
-            first-append_some (each_below g n) (g n) (ap is_some e ∙ found) ∙ e
+      | inl lt ↦
+          let e = below_found g i n lt before found in
+          first-append_some (each_below g n) (g n) (ap is_some e ∙ found) ∙ e
       | inr ge ↦
-            let e : n ≡ i = omega arith in
-            rw e (first-append_none (each_below g i) (g i) before)
+          let e : n ≡ i = omega arith in
+          rw e (first-append_none (each_below g i) (g i) before)
     ]
 
 -- the same of single values

@@ -2,3 +2,4 @@ pub mod Firsts
 pub mod Runs
 pub mod Tables
 pub mod Reach
+pub mod Verdicts

@@ -1,9 +1,7 @@
 -- Lists made piece by piece: what they contain, and their order.
-use Rattle.std.proofs.Common.{◌≡◌, ◌≢◌, ℕ, zero, suc, ◌+◌, ◌<◌, ◌≤◌, ◌⊎◌, Bool, true, false, cond, List, [], ◌∷◌, ◌++◌, Option, Some, None, length, get_or, refl, sym, ap, ◌∙◌, subst, inl, inr, arith, option_to_list, All, AllPairs, Contains}
-use Rattle.std.specs.List.{filter, filter_map}
+use Rattle.std.proofs.Common.{◌≡◌, ℕ, zero, suc, ◌<◌, ◌≤◌, List, [], ◌∷◌, ◌++◌, Option, Some, None, length, get_or, refl, sym, ap, ◌∙◌, subst, inl, inr, arith, option_to_list, All, AllPairs, Contains}
 use Rattle.std.proofs.lemmas.Bool.{cases_lt}
-use Rattle.std.proofs.lemmas.List.{append-nil}
-use Rattle.std.proofs.lemmas.List.Elements.{Contains-append_left, Contains-append_right, Contains-append_cases, All-nil, All-cons, filter_map-append, filter-append}
+use Rattle.std.proofs.lemmas.List.Elements.{Contains-append_left, Contains-append_right, Contains-append_cases, All-nil, All-cons}
 use Rattle.std.proofs.lemmas.List.Kept.{AllPairs-cons}
 use Rattle.dob_moves.specs.declared.moves.Move.{Move}
 use Rattle.dob_moves.specs.Moves.{place}
@@ -18,7 +16,7 @@ pub each_sound : (g : ℕ → List Move) (n : ℕ) (m : Move) → Contains (each
 each_sound g zero m h = absurd (none_in_empty m h)
 each_sound g (suc n) m h =
     elim (Contains-append_cases (each_below g n) (g n) m h) [
-        inl before ↦ let w = each_sound g n m before in (w.0, omega (arith, w.1), w.2)
+      | inl before ↦ let w = each_sound g n m before in (w.0, omega (arith, w.1), w.2)
       | inr here ↦ (n, omega arith, here)
     ]
 
@@ -26,10 +24,10 @@ pub each_whole : (g : ℕ → List Move) (n k : ℕ) (m : Move) → k < n → Co
 each_whole g zero k m h here = absurd (omega arith)
 each_whole g (suc n) k m h here =
     elim (cases_lt k n) [
-        inl lt ↦ Contains-append_left (each_below g n) (g n) m (each_whole g n k m lt here)
+      | inl lt ↦ Contains-append_left (each_below g n) (g n) m (each_whole g n k m lt here)
       | inr ge ↦
-            let e : k ≡ n = omega arith in
-            Contains-append_right (each_below g n) (g n) m (subst (λ (i : ℕ). Contains (g i) m) e here)
+          let e : k ≡ n = omega arith in
+          Contains-append_right (each_below g n) (g n) m (subst (λ (i : ℕ). Contains (g i) m) e here)
     ]
 
 pub option_sound : (o : Option Move) (m : Move) → Contains (option_to_list o) m → o ≡ Some m
@@ -76,8 +74,8 @@ pub rising-pairs : (low high : ℕ) (ms : List Move) → Rising low high ms → 
 rising-pairs low high [] r = λ i j d h k. absurd (omega (arith, k))
 rising-pairs low high (m ∷ ms) r =
     AllPairs-cons (λ (a b : Move). place a < place b) m ms
-        (λ k d h. omega (arith, rising-after (suc (place m)) high ms r.1 k d h))
-        (rising-pairs (suc (place m)) high ms r.1)
+    (λ k d h. omega (arith, rising-after (suc (place m)) high ms r.1 k d h))
+    (rising-pairs (suc (place m)) high ms r.1)
 
 -- ---- the first of a list
 
@@ -94,6 +92,7 @@ first_least low high [] m other r e h = absurd (none_in_empty other h)
 first_least low high (x ∷ ms) m other r e h = least h.0 h.1 h.2 where
   same : x ≡ m
   same = cc
+
   least : (k : ℕ) → k < suc (length ms) → get_or (x ∷ ms) k other ≡ other → place m ≤ place other
   least zero lt at = let p = ap place (sym same ∙ at) in omega (arith, p)
   least (suc k) lt at =

@@ -1,9 +1,8 @@
 -- The directions of each kind lead to exactly the squares to which a step of the kind leads.
-use Rattle.std.proofs.Common.{◌≡◌, ℕ, zero, suc, ◌+◌, ◌<◌, Bool, true, false, ◌&&◌, cond, eqb, List, [], ◌∷◌, ◌++◌, Option, Some, None, refl, sym, ap, ◌∙◌, arith, option_to_list}
+use Rattle.std.proofs.Common.{◌≡◌, ℕ, zero, suc, ◌<◌, Bool, true, false, ◌&&◌, cond, eqb, List, [], ◌∷◌, ◌++◌, Option, Some, None, refl, ap, ◌∙◌, option_to_list}
 use Rattle.std.specs.List.{filter, filter_map, cons_option}
 use Rattle.std.proofs.lemmas.Bool.{and_parts, eqb-true}
 use Rattle.std.proofs.lemmas.List.Elements.{filter_map-append, filter-append}
-use Rattle.std.proofs.lemmas.List.{append-nil}
 use Rattle.dob_pieces.specs.declared.kind.Kind.{Kind}
 use Rattle.dob_pieces.specs.declared.kind.Kind.TheVariants.{Lion, Giraffe, Elephant, Chick, Hen}
 use Rattle.dob_pieces.specs.declared.setup.Setup.{Setup}
@@ -67,7 +66,7 @@ by_targets : (aim : Aim) (p : Setup) (kind : Kind) (from : ℕ) (ds : List ℕ) 
 by_targets aim p kind from [] = refl
 by_targets aim p kind from (d ∷ ds) =
     ap (λ (ms : List Move). cons_option (step_in aim p kind from d) ms) (by_targets aim p kind from ds)
-        ∙ onto_one aim p kind from (square_in from d) (filter_map (square_in from) ds)
+    ∙ onto_one aim p kind from (square_in from d) (filter_map (square_in from) ds)
 
 last_one : (test : ℕ → Bool) (f : ℕ → Option Move) (k : ℕ) (b : Bool) → filter_map f (cond b (k ∷ []) []) ≡ option_to_list (cond b (f k) None)
 last_one test f k false = refl
@@ -80,14 +79,14 @@ by_squares : (test : ℕ → Bool) (f : ℕ → Option Move) (n : ℕ) → filte
 by_squares test f zero = refl
 by_squares test f (suc n) =
     ap (filter_map f) (filter-append test (numbers n) (n ∷ []))
-        ∙ filter_map-append f (filter test (numbers n)) (filter test (n ∷ []))
-        ∙ ap (λ (ms : List Move). ms ++ filter_map f (filter test (n ∷ []))) (by_squares test f n)
-        ∙ ap (λ (ms : List Move). each_below (λ k. option_to_list (cond (test k) (f k) None)) n ++ ms) (last_one test f n (test n))
+    ∙ filter_map-append f (filter test (numbers n)) (filter test (n ∷ []))
+    ∙ ap (λ (ms : List Move). ms ++ filter_map f (filter test (n ∷ []))) (by_squares test f n)
+    ∙ ap (λ (ms : List Move). each_below (λ k. option_to_list (cond (test k) (f k) None)) n ++ ms) (last_one test f n (test n))
 
 -- the steps of a piece are those to each square in turn
 pub steps_by-squares : (aim : Aim) (p : Setup) (kind : Kind) (from : ℕ) → from < 12 → steps_by aim p kind from ≡ each_below (λ to. option_to_list (step_to aim p kind from to)) 12
 unfolding steps_by
 steps_by-squares aim p kind from h =
     by_targets aim p kind from (directions_of kind)
-        ∙ ap (filter_map (λ to. step_onto aim (at p to) kind from to)) (targets_are kind from h)
-        ∙ by_squares (leads kind from) (λ to. step_onto aim (at p to) kind from to) 12
+    ∙ ap (filter_map (λ to. step_onto aim (at p to) kind from to)) (targets_are kind from h)
+    ∙ by_squares (leads kind from) (λ to. step_onto aim (at p to) kind from to) 12

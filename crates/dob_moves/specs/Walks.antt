@@ -1,5 +1,5 @@
 -- The order in which steps and drops are looked for: by square, by direction, by kind in hand.
-use Rattle.std.specs.Prelude.{ℕ, zero, suc, ◌+◌, ◌-◌, ◌*◌, ◌/◌, ◌%◌, ◌&&◌, nat_lt, Bool, true, false, cond, List, [], ◌∷◌, ◌++◌, Option, Some, None, option_to_list}
+use Rattle.std.specs.Prelude.{ℕ, zero, suc, ◌+◌, ◌-◌, ◌*◌, ◌/◌, ◌%◌, ◌&&◌, nat_lt, true, false, cond, List, [], ◌∷◌, ◌++◌, Option, Some, None, option_to_list}
 use Rattle.std.specs.List.{filter_map}
 use Rattle.dob_pieces.specs.declared.kind.Kind.{Kind}
 use Rattle.dob_pieces.specs.declared.kind.Kind.TheVariants.{Lion, Giraffe, Elephant, Chick, Hen}
@@ -7,7 +7,6 @@ use Rattle.dob_pieces.specs.declared.kind.HandKind.{HandKind}
 use Rattle.dob_pieces.specs.declared.kind.HandKind.TheVariants as hand
 use Rattle.dob_pieces.specs.declared.kind.Side.{Side}
 use Rattle.dob_pieces.specs.declared.kind.Side.TheVariants.{Mover, Enemy}
-use Rattle.dob_pieces.specs.declared.kind.Piece.{Piece}
 use Rattle.dob_pieces.specs.declared.setup.Setup.{Setup}
 use Rattle.dob_pieces.specs.Squares.{column, row}
 use Rattle.dob_pieces.specs.Setups.{Cell, at, held}

@@ -1,10 +1,12 @@
 // The rules of Dobutsu shogi: the status of a position, its moves in move order, and what a move leads to.
 #![tactic(auto)]
 
+mod judge;
 mod moves;
 mod outlook;
 mod search;
 mod steps;
 
+pub use judge::{first_catch, status};
 pub use moves::Move;
 pub use outlook::Status;

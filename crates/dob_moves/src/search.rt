@@ -2,10 +2,9 @@
 ghost use Rattle.std.specs.Prelude.{◌≡◌};
 ghost use Rattle.dob_moves.specs.Walks.{first, own_kind, step_onto, step_in, steps_by, steps_from, all_steps, put_on, drops_of, all_drops};
 
-use dob_pieces::{HandKind, Kind, Piece, Setup, Side, Square};
-
 use crate::moves::Move;
 use crate::steps::{directions, square_in};
+use dob_pieces::{HandKind, Kind, Piece, Setup, Side, Square};
 
 /// Where a step is to end.
 #[derive(Clone, Copy, Debug, PartialEq, Eq)]
@@ -21,7 +20,12 @@ pub(crate) fn own_kind(cell: Option<Piece>) -> Option<Kind>
     ensures { result ≡ own_kind cell }
 {
     match cell {
-        Some(Piece { side: Side::Mover, kind }) => Some(kind),
+        Some(
+            Piece {
+                side: Side::Mover,
+                kind,
+            },
+        ) => Some(kind),
         _ => None,
     }
 }
@@ -32,18 +36,60 @@ fn step_onto(aim: Aim, cell: Option<Piece>, kind: Kind, from: Square, to: Square
 {
     let grows = matches!(kind, Kind::Chick) && to.row() == 3;
     match (aim, cell) {
-        (Aim::Elsewhere, None) => Some(Move::Step { kind, from, to, catch: false, grows }),
-        (Aim::Elsewhere, Some(Piece { side: Side::Enemy, kind: Kind::Lion })) => None,
-        (Aim::AtLion, Some(Piece { side: Side::Enemy, kind: Kind::Lion }))
-        | (Aim::Elsewhere, Some(Piece { side: Side::Enemy, .. })) => {
-            Some(Move::Step { kind, from, to, catch: true, grows })
+        (Aim::Elsewhere, None) => Some(Move::Step {
+            kind,
+            from,
+            to,
+            catch: false,
+            grows,
+        }),
+        (
+            Aim::Elsewhere,
+            Some(
+                Piece {
+                    side: Side::Enemy,
+                    kind: Kind::Lion,
+                },
+            ),
+        ) => None,
+        (
+            Aim::AtLion,
+            Some(
+                Piece {
+                    side: Side::Enemy,
+                    kind: Kind::Lion,
+                },
+            ),
+        )
+        | (
+            Aim::Elsewhere,
+            Some(
+                Piece {
+                    side: Side::Enemy,
+                    ..
+                },
+            ),
+        ) => {
+            Some(Move::Step {
+                kind,
+                from,
+                to,
+                catch: true,
+                grows,
+            })
         }
         _ => None,
     }
 }
 
 /// The step in that direction, if the board has the square and it is where the step is to end.
-pub(crate) fn step_in(setup: &Setup, aim: Aim, kind: Kind, from: Square, direction: u8) -> Option<Move>
+pub(crate) fn step_in(
+    setup: &Setup,
+    aim: Aim,
+    kind: Kind,
+    from: Square,
+    direction: u8,
+) -> Option<Move>
     ensures { result ≡ step_in aim setup.now kind from direction }
 {
     match square_in(from, direction) {

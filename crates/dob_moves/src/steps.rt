@@ -5,9 +5,13 @@ ghost use Rattle.dob_moves.specs.Walks.{directions_of, square_in};
 use dob_pieces::{Kind, Square};
 
 const LION: [u8; 8] = [0, 1, 2, 3, 5, 6, 7, 8];
+
 const GIRAFFE: [u8; 4] = [1, 3, 5, 7];
+
 const ELEPHANT: [u8; 4] = [0, 2, 6, 8];
+
 const CHICK: [u8; 1] = [7];
+
 const HEN: [u8; 6] = [1, 3, 5, 6, 7, 8];
 
 /// The directions of the kind's steps, ascending: places of the three by three squares around a piece, counted row by

@@ -1,5 +1,5 @@
 -- The first drop that is found is the first of the whole list.
-use Rattle.std.proofs.Common.{◌≡◌, ℕ, ◌<◌, Bool, true, ◌∙◌, ap, arith, option_to_list, None}
+use Rattle.std.proofs.Common.{◌≡◌, ℕ, ◌<◌, true, ◌∙◌, ap, arith, option_to_list, None}
 use Rattle.std.proofs.lemmas.Bool.{lt-ltb}
 use Rattle.std.specs.Option.{is_some}
 use Rattle.dob_pieces.specs.declared.kind.HandKind.{HandKind}
@@ -14,7 +14,7 @@ unfolding drops_of
 put_found p kind i some below before found =
     rw (lt-ltb 0 (held p.hands.mover kind) some)
     (below_found (λ to. option_to_list (put_on p kind to)) i 12 below before (ap is_some (first-option (put_on p kind i)) ∙ found)
-        ∙ first-option (put_on p kind i))
+    ∙ first-option (put_on p kind i))
 
 pub returns-then-is_some : goal.returns-then-is_some
 returns-then-is_some c =
