@@ -3,3 +3,4 @@ pub mod Runs
 pub mod Tables
 pub mod Reach
 pub mod Verdicts
+pub mod Appends

@@ -107,7 +107,7 @@ pub record IsFound (aim : Aim) (p : Setup) (kind : Kind) (from to : ℕ) (m : Mo
   pub step : IsStep p kind from to
   pub found : step_onto aim (at p to) kind from to ≡ Some m
 
-go_found : (p : Setup) (kind : Kind) (from to : ℕ) (catch grows : Bool) → CanGo p (Step kind from to catch grows) → IsFound Elsewhere p kind from to (Step kind from to catch grows)
+pub go_found : (p : Setup) (kind : Kind) (from to : ℕ) (catch grows : Bool) → CanGo p (Step kind from to catch grows) → IsFound Elsewhere p kind from to (Step kind from to catch grows)
 go_found p kind from to false false (q, (g, free, s)) = record { step = record { own = s.own; leads = s.leads }; found = rw (free, g) refl }
 go_found p kind from to false true (q, (g, free, s)) = record { step = record { own = s.own; leads = s.leads }; found = rw (free, g) refl }
 go_found p kind from to true false (q, (g, taken, take, s)) = record { step = record { own = s.own; leads = s.leads }; found = catch_found p take.0 kind taken from to false take.1 take.2 g }

@@ -2,6 +2,7 @@
 #![tactic(auto)]
 
 mod judge;
+pub mod listing;
 mod moves;
 mod outlook;
 mod search;
