@@ -17,9 +17,9 @@ taken_more f xs i old items new h before e =
     let one : take (i + 1) xs ≡ take i xs ++ get_or xs i 0 ∷ [] = rw add-one (take-suc xs i 0 h) in
     let parts = filter_map-append f (take i xs) (get_or xs i 0 ∷ []) in
     let joined : new ≡ (old ++ filter_map f (take i xs)) ++ cons_option (f (get_or xs i 0)) [] =
-        e ∙ ap (λ (ms : List Move). ms ++ option_to_list (f (get_or xs i 0))) before ∙ ap (λ (ms : List Move). (old ++ filter_map f (take i xs)) ++ ms) (single (f (get_or xs i 0))) in
+    e ∙ ap (λ (ms : List Move). ms ++ option_to_list (f (get_or xs i 0))) before ∙ ap (λ (ms : List Move). (old ++ filter_map f (take i xs)) ++ ms) (single (f (get_or xs i 0))) in
     joined ∙ append_assoc old (filter_map f (take i xs)) (cons_option (f (get_or xs i 0)) [])
-        ∙ ap (λ (ms : List Move). old ++ ms) (sym (ap (filter_map f) one ∙ parts))
+    ∙ ap (λ (ms : List Move). old ++ ms) (sym (ap (filter_map f) one ∙ parts))
 
 -- what one more number gives
 pub below_more_moves : (g : ℕ → List Move) (i : ℕ) (old items new : List Move) → items ≡ old ++ each_below g i → new ≡ items ++ g i → new ≡ old ++ each_below g (i + 1)

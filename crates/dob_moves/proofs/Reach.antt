@@ -19,8 +19,9 @@ use Rattle.dob_moves.specs.declared.search.Aim.{Aim}
 use Rattle.dob_moves.specs.declared.search.Aim.TheVariants.{AtLion, Elsewhere}
 use Rattle.dob_moves.specs.Moves.{grows_at, CanTake, CanGo, CatchesLion, hand_place, place}
 use Rattle.dob_moves.specs.Statuses.{IsFirstCatch}
-use Rattle.dob_moves.specs.Walks.{first, each_below, step_onto, step_onto_piece, steps_by, own_kind, own_by_side, steps_if, steps_from, all_steps, put_if, put_on, drops_of, all_drops}
+use Rattle.dob_moves.specs.Walks.{first, each_below, may_end, step_onto, steps_by, own_kind, own_by_side, steps_if, steps_from, all_steps, put_if, put_on, drops_of, all_drops}
 use Rattle.dob_moves.proofs.Runs.{none_in_empty, each_sound, each_whole, option_sound, option_whole, Rising, rising-lower, rising-append, rising-option, rising-each, first_none, first_some, first_least}
+use Rattle.std.specs.Option.{is_some}
 use Rattle.dob_moves.proofs.Tables.{step_to, steps_by-squares}
 
 -- ---- one step
@@ -43,7 +44,7 @@ go_catch : (p : Setup) (kind : Kind) (from to : ℕ) (grows : Bool) (taken : Han
 go_catch p kind from to false taken s take e = (_, (e, taken, take, record { own = s.own; leads = s.leads; outcome = refl }))
 go_catch p kind from to true taken s take e = (_, (e, taken, take, record { own = s.own; leads = s.leads; outcome = refl }))
 
-piece_sound : (aim : Aim) (p : Setup) (side : Side) (stands kind : Kind) (from to : ℕ) (m : Move) → IsStep p kind from to → at p to ≡ Some (piece_of side stands) → step_onto_piece aim side stands kind from to ≡ Some m → Meets aim p m
+piece_sound : (aim : Aim) (p : Setup) (side : Side) (stands kind : Kind) (from to : ℕ) (m : Move) → IsStep p kind from to → at p to ≡ Some (piece_of side stands) → step_onto aim (Some (piece_of side stands)) kind from to ≡ Some m → Meets aim p m
 piece_sound AtLion p Mover stands kind from to m s e h = cc
 piece_sound AtLion p Enemy Lion kind from to m s e h =
     let same : Step kind from to true (grows_at kind to) ≡ m = cc in
@@ -75,24 +76,11 @@ step_sound Elsewhere p kind from to None m s e h =
 step_sound aim p kind from to (Some piece) m s e h = piece_sound aim p piece.side piece.kind kind from to m s e h
 
 -- its place
-piece_place : (aim : Aim) (side : Side) (stands kind : Kind) (from to : ℕ) (m : Move) → step_onto_piece aim side stands kind from to ≡ Some m → place m ≡ 12 * from + to
-piece_place AtLion Mover stands kind from to m h = cc
-piece_place AtLion Enemy Lion kind from to m h = let same : Step kind from to true (grows_at kind to) ≡ m = cc in sym (ap place same)
-piece_place AtLion Enemy Giraffe kind from to m h = cc
-piece_place AtLion Enemy Elephant kind from to m h = cc
-piece_place AtLion Enemy Chick kind from to m h = cc
-piece_place AtLion Enemy Hen kind from to m h = cc
-piece_place Elsewhere Mover stands kind from to m h = cc
-piece_place Elsewhere Enemy Lion kind from to m h = cc
-piece_place Elsewhere Enemy Giraffe kind from to m h = let same : Step kind from to true (grows_at kind to) ≡ m = cc in sym (ap place same)
-piece_place Elsewhere Enemy Elephant kind from to m h = let same : Step kind from to true (grows_at kind to) ≡ m = cc in sym (ap place same)
-piece_place Elsewhere Enemy Chick kind from to m h = let same : Step kind from to true (grows_at kind to) ≡ m = cc in sym (ap place same)
-piece_place Elsewhere Enemy Hen kind from to m h = let same : Step kind from to true (grows_at kind to) ≡ m = cc in sym (ap place same)
-
 step_place : (aim : Aim) (kind : Kind) (from to : ℕ) (cell : Cell) (m : Move) → step_onto aim cell kind from to ≡ Some m → place m ≡ 12 * from + to
-step_place AtLion kind from to None m h = cc
-step_place Elsewhere kind from to None m h = let same : Step kind from to false (grows_at kind to) ≡ m = cc in sym (ap place same)
-step_place aim kind from to (Some piece) m h = piece_place aim piece.side piece.kind kind from to m h
+step_place aim kind from to cell m h = by_end (may_end aim cell) h where
+  by_end : (b : Bool) → cond b (Some (Step kind from to (is_some cell) (grows_at kind to))) None ≡ Some m → place m ≡ 12 * from + to
+  by_end false h = cc
+  by_end true h = let same : Step kind from to (is_some cell) (grows_at kind to) ≡ m = cc in sym (ap place same)
 
 -- each step of the rules is found
 catch_found : (p : Setup) (caught kind : Kind) (taken : HandKind) (from to : ℕ) (grows : Bool) → at p to ≡ Some (piece_of Enemy caught) → kind_in_hand caught ≡ Some taken → grows_at kind to ≡ grows → step_onto Elsewhere (at p to) kind from to ≡ Some (Step kind from to true grows)

@@ -1,5 +1,5 @@
 -- What the searches say of a position.
-use Rattle.std.proofs.Common.{refl, ◌≡◌, ◌≢◌, ℕ, ◌≤◌, List, [], ◌∷◌, ◌++◌, Contains, inl, inr, subst, arith, Bool, true, false, Option, Some, None, MatchOption, length, sym, ◌∙◌}
+use Rattle.std.proofs.Common.{refl, ◌≡◌, ◌≢◌, List, [], ◌++◌, Contains, inl, inr, subst, arith, Bool, true, false, Option, Some, None, MatchOption, length, sym, ◌∙◌}
 use Rattle.std.specs.Bool.{IsTrue}
 use Rattle.std.specs.Option.{is_some}
 use Rattle.dob_pieces.specs.declared.setup.Setup.{Setup}
@@ -34,14 +34,14 @@ drop_answer p b o (Some m) len e h d t = (λ _. (m, drop_goes p m (sym d)), λ _
 move_listed : (p : Setup) → length p.board ≡ 12 → (m : Move) → CanGo p m → Contains (all_steps Elsewhere p ++ all_drops p) m
 move_listed p len (Step kind from to catch grows) h =
     Contains-append_left (all_steps Elsewhere p) (all_drops p) (Step kind from to catch grows)
-        (found_in_steps Elsewhere p kind from to (Step kind from to catch grows) len (go_found p kind from to catch grows h))
+    (found_in_steps Elsewhere p kind from to (Step kind from to catch grows) len (go_found p kind from to catch grows h))
 move_listed p len (Put kind to) h =
     Contains-append_right (all_steps Elsewhere p) (all_drops p) (Put kind to) (drops_whole p kind to h)
 
 listed_goes : (p : Setup) (m : Move) → Contains (all_steps Elsewhere p ++ all_drops p) m → CanGo p m
 listed_goes p m h =
     elim (Contains-append_cases (all_steps Elsewhere p) (all_drops p) m h) [
-        inl step ↦ steps_sound Elsewhere p m step
+      | inl step ↦ steps_sound Elsewhere p m step
       | inr drop ↦ drops_sound p m drop
     ]
 
@@ -68,8 +68,8 @@ not_open p Open h n o = n refl
 pub other_answer : (p : Setup) (s : Status) → HasStatus p s → s ≢ Open → (none : List Move) → none ≡ [] → AreMoves p none
 other_answer p s h n none e =
     subst (λ (ms : List Move). AreMoves p ms) (sym e)
-        (record {
-          sound = λ m here. absurd (none_in_empty m here);
-          whole = λ m is_open goes. absurd (not_open p s h n is_open);
-          ordered = rising-pairs 0 0 [] (omega arith);
-        })
+    (record {
+      sound = λ m here. absurd (none_in_empty m here);
+      whole = λ m is_open goes. absurd (not_open p s h n is_open);
+      ordered = rising-pairs 0 0 [] (omega arith);
+    })

@@ -1,6 +1,7 @@
 -- The order in which steps and drops are looked for: by square, by direction, by kind in hand.
-use Rattle.std.specs.Prelude.{ℕ, zero, suc, ◌+◌, ◌-◌, ◌*◌, ◌/◌, ◌%◌, ◌&&◌, nat_lt, true, false, cond, List, [], ◌∷◌, ◌++◌, Option, Some, None, option_to_list}
+use Rattle.std.specs.Prelude.{ℕ, zero, suc, ◌+◌, ◌-◌, ◌*◌, ◌/◌, ◌%◌, ◌&&◌, nat_lt, Bool, true, false, not, cond, List, [], ◌∷◌, ◌++◌, Option, Some, None, option_to_list}
 use Rattle.std.specs.List.{filter_map}
+use Rattle.std.specs.Option.{is_some}
 use Rattle.dob_pieces.specs.declared.kind.Kind.{Kind}
 use Rattle.dob_pieces.specs.declared.kind.Kind.TheVariants.{Lion, Giraffe, Elephant, Chick, Hen}
 use Rattle.dob_pieces.specs.declared.kind.HandKind.{HandKind}
@@ -9,6 +10,7 @@ use Rattle.dob_pieces.specs.declared.kind.Side.{Side}
 use Rattle.dob_pieces.specs.declared.kind.Side.TheVariants.{Mover, Enemy}
 use Rattle.dob_pieces.specs.declared.setup.Setup.{Setup}
 use Rattle.dob_pieces.specs.Squares.{column, row}
+use Rattle.dob_pieces.specs.Pieces.{is_lion}
 use Rattle.dob_pieces.specs.Setups.{Cell, at, held}
 use Rattle.dob_moves.specs.declared.moves.Move.{Move}
 use Rattle.dob_moves.specs.declared.moves.Move.TheVariants.{Step, Put}
@@ -43,23 +45,21 @@ square_of column row = cond (nat_lt 0 column && nat_lt column 4 && (nat_lt 0 row
 abbrev pub square_in : ℕ → ℕ → Option ℕ
 square_in from direction = square_of (column from + direction % 3) (row from + direction / 3)
 
--- a step onto a piece: the enemy lion alone is aimed at, or any other enemy piece
-abbrev pub step_onto_piece : Aim → Side → Kind → Kind → ℕ → ℕ → Option Move
-step_onto_piece AtLion Enemy Lion kind from to = Some (Step kind from to true (grows_at kind to))
-step_onto_piece AtLion _ _ kind from to = None
-step_onto_piece Elsewhere Mover _ kind from to = None
-step_onto_piece Elsewhere Enemy Lion kind from to = None
-step_onto_piece Elsewhere Enemy _ kind from to = Some (Step kind from to true (grows_at kind to))
+-- a step at the enemy lion may end on it alone, and a step elsewhere on any other enemy piece
+abbrev pub may_take : Aim → Side → Kind → Bool
+may_take aim Mover kind = false
+may_take AtLion Enemy kind = is_lion kind
+may_take Elsewhere Enemy kind = not (is_lion kind)
 
--- a step to an empty square, which aims at no lion
-abbrev pub step_to_empty : Aim → Kind → ℕ → ℕ → Option Move
-step_to_empty AtLion kind from to = None
-step_to_empty Elsewhere kind from to = Some (Step kind from to false (grows_at kind to))
+-- a step elsewhere may end on an empty square too
+abbrev pub may_end : Aim → Cell → Bool
+may_end AtLion None = false
+may_end Elsewhere None = true
+may_end aim (Some piece) = may_take aim piece.side piece.kind
 
--- the step that ends on what stands there, if it ends where it is aimed
+-- the step that ends on what stands there, if it may end there
 abbrev pub step_onto : Aim → Cell → Kind → ℕ → ℕ → Option Move
-step_onto aim None kind from to = step_to_empty aim kind from to
-step_onto aim (Some piece) kind from to = step_onto_piece aim piece.side piece.kind kind from to
+step_onto aim cell kind from to = cond (may_end aim cell) (Some (Step kind from to (is_some cell) (grows_at kind to))) None
 
 abbrev pub step_if : Aim → Setup → Kind → ℕ → Option ℕ → Option Move
 step_if aim p kind from None = None

@@ -4,15 +4,13 @@ ghost use Rattle.dob_moves.specs.Statuses.{AreMoves};
 ghost use Rattle.dob_moves.specs.Walks.{steps_by, steps_from, all_steps, put_on, drops_of, all_drops};
 ghost use Rattle.dob_moves.specs.declared.search.Aim.TheVariants.{Elsewhere};
 
-use std::alloc::Global;
-
-use dob_pieces::{HandKind, Kind, Memory, Position, Setup, Square};
-
 use crate::judge::status;
 use crate::moves::Move;
 use crate::outlook::Status;
 use crate::search::{Aim, own_kind, put_on, step_in};
 use crate::steps::directions;
+use dob_pieces::{HandKind, Kind, Memory, Position, Setup, Square};
+use std::alloc::Global;
 
 /// Appends the move, if there is one.
 fn push_found(moves: &mut Vec<Move>, found: Option<Move>) -> Result<(), Memory>
@@ -26,11 +24,19 @@ fn push_found(moves: &mut Vec<Move>, found: Option<Move>) -> Result<(), Memory>
 
 /// Appends the steps of a piece of that kind on that square, other than onto the enemy lion.
 #[tactic(auto, using(crate::proofs::Appends::appends), unfolding(crate::specs::Walks::steps_by))]
-fn push_steps_by(moves: &mut Vec<Move>, setup: &Setup, kind: Kind, from: Square) -> Result<(), Memory>
+fn push_steps_by(
+    moves: &mut Vec<Move>,
+    setup: &Setup,
+    kind: Kind,
+    from: Square,
+) -> Result<(), Memory>
     ensures { OnOk result (moves.new.items ≡ moves.old.items ++ steps_by Elsewhere setup.now kind from) }
 {
     for direction in directions(kind) {
-        push_found(moves, step_in(setup, Aim::Elsewhere, kind, from, *direction))?;
+        push_found(
+            moves,
+            step_in(setup, Aim::Elsewhere, kind, from, *direction),
+        )?;
     }
     Ok(())
 }

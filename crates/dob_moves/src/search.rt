@@ -1,6 +1,6 @@
 // The search for the first step or drop, in the move order.
 ghost use Rattle.std.specs.Prelude.{◌≡◌};
-ghost use Rattle.dob_moves.specs.Walks.{first, own_kind, step_onto, step_in, steps_by, steps_from, all_steps, put_on, drops_of, all_drops};
+ghost use Rattle.dob_moves.specs.Walks.{first, own_kind, may_end, step_onto, step_in, steps_by, steps_from, all_steps, put_on, drops_of, all_drops};
 
 use crate::moves::Move;
 use crate::steps::{directions, square_in};
@@ -20,65 +20,44 @@ pub(crate) fn own_kind(cell: Option<Piece>) -> Option<Kind>
     ensures { result ≡ own_kind cell }
 {
     match cell {
-        Some(
-            Piece {
-                side: Side::Mover,
-                kind,
-            },
-        ) => Some(kind),
-        _ => None,
+        Some(piece) => match piece.side {
+            Side::Mover => Some(piece.kind),
+            Side::Enemy => None,
+        },
+        None => None,
     }
 }
 
-/// The step that ends on what stands there, if that is where it is to end.
+/// Whether such a step may end on what stands there.
+fn may_end(aim: Aim, cell: Option<Piece>) -> bool
+    ensures { result ≡ may_end aim cell }
+{
+    match cell {
+        Some(piece) => match (aim, piece.side, piece.kind) {
+            (_, Side::Mover, _) => false,
+            (Aim::AtLion, Side::Enemy, kind) => matches!(kind, Kind::Lion),
+            (Aim::Elsewhere, Side::Enemy, kind) => !matches!(kind, Kind::Lion),
+        },
+        None => matches!(aim, Aim::Elsewhere),
+    }
+}
+
+/// The step that ends on what stands there, if it may end there.
 fn step_onto(aim: Aim, cell: Option<Piece>, kind: Kind, from: Square, to: Square) -> Option<Move>
     ensures { result ≡ step_onto aim cell kind from to }
 {
-    let grows = matches!(kind, Kind::Chick) && to.row() == 3;
-    match (aim, cell) {
-        (Aim::Elsewhere, None) => Some(Move::Step {
+    if may_end(aim, cell) {
+        let catch = cell.is_some();
+        let grows = matches!(kind, Kind::Chick) && to.row() == 3;
+        Some(Move::Step {
             kind,
             from,
             to,
-            catch: false,
+            catch,
             grows,
-        }),
-        (
-            Aim::Elsewhere,
-            Some(
-                Piece {
-                    side: Side::Enemy,
-                    kind: Kind::Lion,
-                },
-            ),
-        ) => None,
-        (
-            Aim::AtLion,
-            Some(
-                Piece {
-                    side: Side::Enemy,
-                    kind: Kind::Lion,
-                },
-            ),
-        )
-        | (
-            Aim::Elsewhere,
-            Some(
-                Piece {
-                    side: Side::Enemy,
-                    ..
-                },
-            ),
-        ) => {
-            Some(Move::Step {
-                kind,
-                from,
-                to,
-                catch: true,
-                grows,
-            })
-        }
-        _ => None,
+        })
+    } else {
+        None
     }
 }
 
@@ -98,8 +77,8 @@ pub(crate) fn step_in(
     }
 }
 
-#[tactic(auto, using(crate::proofs::Firsts::firsts), unfolding(crate::specs::Walks::steps_by))]
 /// The first step of a piece of that kind on that square.
+#[tactic(auto, using(crate::proofs::Firsts::firsts), unfolding(crate::specs::Walks::steps_by))]
 fn first_step_by(setup: &Setup, aim: Aim, kind: Kind, from: Square) -> Option<Move>
     ensures { result ≡ first (steps_by aim setup.now kind from) }
 {
@@ -112,8 +91,8 @@ fn first_step_by(setup: &Setup, aim: Aim, kind: Kind, from: Square) -> Option<Mo
     None
 }
 
-#[tactic(auto, unfolding(crate::specs::Walks::steps_from))]
 /// The first of the mover's steps from that square.
+#[tactic(auto, unfolding(crate::specs::Walks::steps_from))]
 fn first_step_from(setup: &Setup, aim: Aim, from: Square) -> Option<Move>
     ensures { result ≡ first (steps_from aim setup.now from) }
 {
@@ -123,8 +102,8 @@ fn first_step_from(setup: &Setup, aim: Aim, from: Square) -> Option<Move>
     }
 }
 
-#[tactic(auto, using(crate::proofs::Firsts::firsts), unfolding(crate::specs::Walks::all_steps))]
 /// The first of the mover's steps.
+#[tactic(auto, using(crate::proofs::Firsts::firsts), unfolding(crate::specs::Walks::all_steps))]
 pub(crate) fn first_step(setup: &Setup, aim: Aim) -> Option<Move>
     ensures { result ≡ first (all_steps aim setup.now) }
 {
@@ -147,8 +126,8 @@ pub(crate) fn put_on(setup: &Setup, kind: HandKind, to: Square) -> Option<Move>
     }
 }
 
-#[tactic(auto, using(crate::proofs::Firsts::firsts), unfolding(crate::specs::Walks::drops_of))]
 /// The first drop of a piece of that kind.
+#[tactic(auto, using(crate::proofs::Firsts::firsts), unfolding(crate::specs::Walks::drops_of))]
 fn first_drop_of(setup: &Setup, kind: HandKind) -> Option<Move>
     ensures { result ≡ first (drops_of setup.now kind) }
 {
@@ -164,8 +143,8 @@ fn first_drop_of(setup: &Setup, kind: HandKind) -> Option<Move>
     None
 }
 
-#[tactic(auto, using(crate::proofs::Firsts::firsts), unfolding(crate::specs::Walks::all_drops))]
 /// The first drop.
+#[tactic(auto, using(crate::proofs::Firsts::firsts), unfolding(crate::specs::Walks::all_drops))]
 pub(crate) fn first_drop(setup: &Setup) -> Option<Move>
     ensures { result ≡ first (all_drops setup.now) }
 {

@@ -6,8 +6,8 @@ use Rattle.dob_moves.proofs.listing.moves.Goals as goal
 pub returns-in_ok-push_drops-in-Open : goal.returns-in_ok-push_drops-in-Open
 returns-in_ok-push_drops-in-Open c =
     open_answer c.args.position.now.setup c.args.position.now.legal.squares c.in-Open.ensures
-        c.new-moves.result.items c.push_steps.new.moves.items c.push_drops.new.moves.items
-        c.new-moves.ensures.items (search rules) (search rules)
+    c.new-moves.result.items c.push_steps.new.moves.items c.push_drops.new.moves.items
+    c.new-moves.ensures.items (search rules) (search rules)
 
 pub returns-in_default : goal.returns-in_default
 returns-in_default c =
