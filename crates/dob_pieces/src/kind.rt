@@ -79,6 +79,9 @@ impl Piece {
     pub fn turned(self) -> Piece
         ensures { result ≡ piece_of (other_side self.side) self.kind }
     {
-        Piece { side: self.side.other(), kind: self.kind }
+        Piece {
+            side: self.side.other(),
+            kind: self.kind,
+        }
     }
 }

@@ -1,5 +1,5 @@
 use Rattle.std.proofs.Common.{sym, subst}
-use Rattle.dob_pieces.specs.Setups.{IsLegal, mirrored}
+use Rattle.dob_pieces.specs.Setups.{IsLegal}
 use Rattle.dob_pieces.proofs.Boards.{IsLegal-mirrored}
 use Rattle.dob_pieces.proofs.position.Position.mirrored.Goals as goal
 

@@ -16,4 +16,4 @@ unfolding mirrored
 returns c =
     ap (λ (board : List Cell). let s : Setup = record { board = board; hands = c.args.self.now.hands } in s)
     (cells_all (λ k. at c.args.self.now (mirrored_square k)) c.loop-index.board c.loop-index.index
-        c.loop-index.invariant.0 c.loop-index-test.false c.loop-index.invariant.1)
+    c.loop-index.invariant.0 c.loop-index-test.false c.loop-index.invariant.1)
