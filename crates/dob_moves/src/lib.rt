@@ -2,10 +2,15 @@
 #![tactic(auto)]
 
 mod applied;
+mod judge;
 pub mod laws;
+pub mod listing;
 mod moves;
 mod outlook;
+mod search;
+mod steps;
 
 pub use applied::apply;
+pub use judge::{first_catch, status};
 pub use moves::Move;
 pub use outlook::Status;
