@@ -11,3 +11,6 @@ mod steps;
 pub use judge::{first_catch, status};
 pub use moves::Move;
 pub use outlook::Status;
+
+#[cfg(test)]
+mod tests;
