@@ -1,2 +1,11 @@
-// Positions and moves as text.
+// Positions and moves as text. A text that is read is the one text of its position, and each refusal says what
+// the text lacks.
 #![tactic(auto)]
+
+mod letters;
+mod pushes;
+mod write_moves;
+mod write_positions;
+
+pub use write_moves::write_move;
+pub use write_positions::write_position;
