@@ -2,10 +2,16 @@
 // the text lacks.
 #![tactic(auto)]
 
+mod boards;
+mod fault;
+mod hands;
 mod letters;
+mod parts;
 mod pushes;
+mod setups;
 mod write_moves;
 mod write_positions;
 
+pub use fault::TextFault;
 pub use write_moves::write_move;
 pub use write_positions::write_position;

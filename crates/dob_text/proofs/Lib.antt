@@ -1,0 +1,4 @@
+pub mod Splits
+pub mod Plain
+pub mod Grids
+pub mod Fronts
