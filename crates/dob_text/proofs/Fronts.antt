@@ -94,7 +94,7 @@ hand_in side word = record {
   giraffes = front (cased side 71) (drop (front (cased side 69) (drop (front (cased side 67) word) word)) (drop (front (cased side 67) word) word));
 }
 
-same_hand : (h k : Hand) → h.chicks ≡ k.chicks → h.elephants ≡ k.elephants → h.giraffes ≡ k.giraffes → h ≡ k
+pub same_hand : (h k : Hand) → h.chicks ≡ k.chicks → h.elephants ≡ k.elephants → h.giraffes ≡ k.giraffes → h ≡ k
 same_hand h k chicks elephants giraffes =
     ap (λ (n : ℕ). let r : Hand = record { chicks = n; elephants = h.elephants; giraffes = h.giraffes } in r) chicks
     ∙ ap (λ (n : ℕ). let r : Hand = record { chicks = k.chicks; elephants = n; giraffes = h.giraffes } in r) elephants

@@ -2,3 +2,4 @@ pub mod Splits
 pub mod Plain
 pub mod Grids
 pub mod Fronts
+pub mod Whole
