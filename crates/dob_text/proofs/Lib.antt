@@ -3,3 +3,4 @@ pub mod Plain
 pub mod Grids
 pub mod Fronts
 pub mod Whole
+pub mod Verdicts

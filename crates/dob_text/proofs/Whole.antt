@@ -67,7 +67,7 @@ spelled_letters text setup spells = letters_up text _ _ _ (text_parts text setup
 pub spelled_hands : (text : List ℕ) (setup : Setup) → Spells text setup → HasHands text
 spelled_hands text setup spells = (board_text setup.board, setup.hands.mover, setup.hands.enemy, refl, spells.spelled)
 
-same_setup : (s t : Setup) → s.board ≡ t.board → s.hands.mover ≡ t.hands.mover → s.hands.enemy ≡ t.hands.enemy → s ≡ t
+pub same_setup : (s t : Setup) → s.board ≡ t.board → s.hands.mover ≡ t.hands.mover → s.hands.enemy ≡ t.hands.enemy → s ≡ t
 same_setup s t board mover enemy =
     ap (λ (x : List Cell). let r : Setup = record { board = x; hands = s.hands } in r) board
     ∙ ap (λ (h : Hand). let r : Setup = record { board = t.board; hands = record { mover = h; enemy = s.hands.enemy } } in r) mover
@@ -106,3 +106,10 @@ no_mover text grid mover enemy parts none hands = none hands.1 (hands_are text g
 -- a second word that is no hand's
 pub no_enemy : (text grid mover enemy : List ℕ) → AreParts text grid mover enemy → ((hand : Hand) → enemy ≢ hand_text Enemy hand) → ¬ HasHands text
 no_enemy text grid mover enemy parts none hands = none hands.2 (hands_are text grid mover enemy parts hands).1
+
+pub shape_by : (text grid mover enemy : List ℕ) → IsAscii text → AreParts text grid mover enemy → HasShape text
+shape_by text grid mover enemy ascii parts = (ascii, grid, mover, enemy, parts)
+
+pub letters_by : (text grid mover enemy : List ℕ) (board : List Cell) → AreParts text grid mover enemy → grid ≡ board_text board → HasLetters text
+letters_by text grid mover enemy board parts is =
+    letters_up text grid mover enemy parts (subst (λ (x : List ℕ). HasLetters x) (sym is) (board_letters board))

@@ -23,3 +23,12 @@ HasFault text Hand = HasShape text × HasLetters text × ¬ HasHands text
 HasFault text Lions = (setup : Setup) × Spells text setup × ¬ HasLions setup
 HasFault text Count = (setup : Setup) × Spells text setup × HasLions setup × ¬ HasFewPieces setup
 HasFault text FarLion = (setup : Setup) × Spells text setup × HasLions setup × HasFewPieces setup × ¬ HasLionAtHome setup
+
+-- why the setup that a text spells is no position
+abbrev pub IsRefused : Setup → TextFault → Type 0
+IsRefused setup Lions = ¬ HasLions setup
+IsRefused setup Count = HasLions setup × ¬ HasFewPieces setup
+IsRefused setup FarLion = HasLions setup × HasFewPieces setup × ¬ HasLionAtHome setup
+IsRefused setup Shape = ⊥
+IsRefused setup Letter = ⊥
+IsRefused setup Hand = ⊥

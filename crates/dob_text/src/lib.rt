@@ -8,10 +8,12 @@ mod hands;
 mod letters;
 mod parts;
 mod pushes;
+mod read_positions;
 mod setups;
 mod write_moves;
 mod write_positions;
 
 pub use fault::TextFault;
+pub use read_positions::read_position;
 pub use write_moves::write_move;
 pub use write_positions::write_position;

@@ -13,7 +13,7 @@ use crate::hands::hand_of;
 use crate::parts::parts_of;
 
 /// The setup that a text spells, a position or not, with 255 in place of a larger count in hand.
-pub fn setup_of(text: &[u8]) -> Result<Setup, TextFault>
+pub fn read_setup(text: &[u8]) -> Result<Setup, TextFault>
     ensures { MatchResult result
         (λ setup. (full : Setup) × Spells text.now full × (setup ≡ capped_setup full))
         (λ fault. HasFault text.now fault) }
