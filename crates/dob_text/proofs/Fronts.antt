@@ -24,8 +24,8 @@ front_is letter xs =
     let size : length (take n xs) ≡ n = length-take-le n xs (prefix_len-le-length (λ byte. byte == letter) xs) in
     ext_get_or 0 (take n xs) (replicate n letter) (size ∙ sym (length-replicate n letter))
     (λ i h.
-        let lt : i < n = omega arith in
-        get_or-take n xs i 0 lt ∙ is_letter _ letter (prefix_len_passes (λ byte. byte == letter) xs i 0 lt) ∙ sym (get_or-replicate n i letter 0 lt))
+    let lt : i < n = omega arith in
+    get_or-take n xs i 0 lt ∙ is_letter _ letter (prefix_len_passes (λ byte. byte == letter) xs i 0 lt) ∙ sym (get_or-replicate n i letter 0 lt))
 
 -- a run, and then no more of its letter
 run_front : (letter n : ℕ) (rest : List ℕ) → (0 < length rest → get_or rest 0 0 ≢ letter) → front letter (replicate n letter ++ rest) ≡ n
@@ -34,13 +34,13 @@ run_front letter n rest ends =
     let size : length (replicate n letter ++ rest) ≡ n + length rest = length-append (replicate n letter) rest ∙ ap (λ m. m + length rest) run in
     prefix_len_is (λ byte. byte == letter) (replicate n letter ++ rest) n 0 (omega arith)
     (λ k h.
-        let read : get_or (replicate n letter ++ rest) k 0 ≡ letter = get_or_append_left (replicate n letter) rest 0 k (omega arith) ∙ get_or-replicate n k letter 0 h in
-        grind (arith, nat_tests))
+    let read : get_or (replicate n letter ++ rest) k 0 ≡ letter = get_or_append_left (replicate n letter) rest 0 k (omega arith) ∙ get_or-replicate n k letter 0 h in
+    grind (arith, nat_tests))
     (λ h.
-        let other : get_or rest 0 0 ≢ letter = ends (omega arith) in
-        let none : n - n ≡ 0 = omega arith in
-        let read : get_or (replicate n letter ++ rest) n 0 ≡ get_or rest 0 0 = get_or-append_right (replicate n letter) rest n n 0 run (omega arith) ∙ ap (λ m. get_or rest m 0) none in
-        grind (arith, nat_tests))
+    let other : get_or rest 0 0 ≢ letter = ends (omega arith) in
+    let none : n - n ≡ 0 = omega arith in
+    let read : get_or (replicate n letter ++ rest) n 0 ≡ get_or rest 0 0 = get_or-append_right (replicate n letter) rest n n 0 run (omega arith) ∙ ap (λ m. get_or rest m 0) none in
+    grind (arith, nat_tests))
 
 -- two runs begin with neither's letter
 begins : (letter b d y z : ℕ) → b ≢ letter → d ≢ letter → 0 < length (replicate y b ++ replicate z d) → get_or (replicate y b ++ replicate z d) 0 0 ≢ letter
@@ -104,8 +104,8 @@ runs_hand : (side : Side) (hand : Hand) (word : List ℕ) → Runs (cased side 6
 runs_hand side hand word r =
     let second : front (cased side 69) (drop (front (cased side 67) word) word) ≡ hand.elephants = ap (λ n. front (cased side 69) (drop n word)) r.first ∙ r.second in
     let third : (hand_in side word).giraffes ≡ hand.giraffes =
-        ap (λ n. front (cased side 71) (drop (front (cased side 69) (drop n word)) (drop n word))) r.first
-        ∙ ap (λ n. front (cased side 71) (drop n (drop hand.chicks word))) r.second ∙ r.third in
+    ap (λ n. front (cased side 71) (drop (front (cased side 69) (drop n word)) (drop n word))) r.first
+    ∙ ap (λ n. front (cased side 71) (drop n (drop hand.chicks word))) r.second ∙ r.third in
     same_hand (hand_in side word) hand r.first second third
 
 dash_hand : (side : Side) → (hand_in side (45 ∷ [])) ≡ record { chicks = 0; elephants = 0; giraffes = 0 }
@@ -152,16 +152,17 @@ hand_spelled side word c e g some is_c is_e is_g whole =
 pub hand_refused : (side : Side) (word : List ℕ) (c e g : ℕ) → word ≢ 45 ∷ [] → c ≡ front (cased side 67) word → e ≡ front (cased side 69) (drop c word) → g ≡ front (cased side 71) (drop e (drop c word)) → g < length (drop e (drop c word)) → (hand : Hand) → word ≢ hand_text side hand
 hand_refused side word c e g other is_c is_e is_g more hand is =
     elim (dash_cases (hand_letters side hand)) [
-      inl plain ↦
-        let spelled : word ≡ hand_letters side hand = is ∙ plain in
-        let r : Runs (cased side 67) (cased side 69) (cased side 71) hand.chicks hand.elephants hand.giraffes word = subst (λ (x : List ℕ). Runs (cased side 67) (cased side 69) (cased side 71) hand.chicks hand.elephants hand.giraffes x) (sym spelled) (hand_runs side hand) in
-        let same_c : c ≡ hand.chicks = is_c ∙ r.first in
-        let same_e : e ≡ hand.elephants = is_e ∙ ap (λ n. front (cased side 69) (drop n word)) same_c ∙ r.second in
-        let same_drop : drop e (drop c word) ≡ drop hand.elephants (drop hand.chicks word) = ap (λ n. drop n (drop c word)) same_e ∙ ap (λ n. drop hand.elephants (drop n word)) same_c in
-        let same_g : g ≡ hand.giraffes = is_g ∙ ap (front (cased side 71)) same_drop ∙ r.third in
-        let size : length (drop e (drop c word)) ≡ hand.giraffes = ap length same_drop ∙ r.last in
-        absurd (omega arith)
-    | inr dash ↦ absurd (other (is ∙ dash)) ]
+      | inl plain ↦
+          let spelled : word ≡ hand_letters side hand = is ∙ plain in
+          let r : Runs (cased side 67) (cased side 69) (cased side 71) hand.chicks hand.elephants hand.giraffes word = subst (λ (x : List ℕ). Runs (cased side 67) (cased side 69) (cased side 71) hand.chicks hand.elephants hand.giraffes x) (sym spelled) (hand_runs side hand) in
+          let same_c : c ≡ hand.chicks = is_c ∙ r.first in
+          let same_e : e ≡ hand.elephants = is_e ∙ ap (λ n. front (cased side 69) (drop n word)) same_c ∙ r.second in
+          let same_drop : drop e (drop c word) ≡ drop hand.elephants (drop hand.chicks word) = ap (λ n. drop n (drop c word)) same_e ∙ ap (λ n. drop hand.elephants (drop n word)) same_c in
+          let same_g : g ≡ hand.giraffes = is_g ∙ ap (front (cased side 71)) same_drop ∙ r.third in
+          let size : length (drop e (drop c word)) ≡ hand.giraffes = ap length same_drop ∙ r.last in
+          absurd (omega arith)
+      | inr dash ↦ absurd (other (is ∙ dash))
+    ]
 
 pub one_byte : (xs : List ℕ) (byte : ℕ) → length xs ≡ 1 → get_or xs 0 0 ≡ byte → xs ≡ byte ∷ []
 one_byte (x ∷ []) byte size is = ap (λ n. n ∷ []) is
@@ -172,8 +173,8 @@ one_byte (x ∷ y ∷ xs) byte size is = absurd (omega arith)
 pub front_stops : (letter : ℕ) (xs : List ℕ) (n : ℕ) → n ≤ length xs → ((k : ℕ) → k < n → get_or xs k 0 ≡ letter) → (n < length xs → get_or xs n 0 ≢ letter) → n ≡ front letter xs
 front_stops letter xs n size each ends =
     sym (prefix_len_is (λ byte. byte == letter) xs n 0 size
-        (λ k h. let is : get_or xs k 0 ≡ letter = each k h in grind (arith, nat_tests))
-        (λ h. let other : get_or xs n 0 ≢ letter = ends h in grind (arith, nat_tests)))
+    (λ k h. let is : get_or xs k 0 ≡ letter = each k h in grind (arith, nat_tests))
+    (λ h. let other : get_or xs n 0 ≢ letter = ends h in grind (arith, nat_tests)))
 
 -- the three counts of a word, each of what the one before left
 pub record Counts (side : Side) (word : List ℕ) (c e g : ℕ) : Type 0 where

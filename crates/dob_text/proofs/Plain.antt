@@ -38,8 +38,8 @@ letters_plain : (side : Side) (hand : Hand) → All IsPlain (hand_letters side h
 letters_plain side hand =
     All-append IsPlain _ _
     (All-append IsPlain _ _
-        (All-replicate IsPlain hand.chicks _ (piece_plain side Chick))
-        (All-replicate IsPlain hand.elephants _ (piece_plain side Elephant)))
+    (All-replicate IsPlain hand.chicks _ (piece_plain side Chick))
+    (All-replicate IsPlain hand.elephants _ (piece_plain side Elephant)))
     (All-replicate IsPlain hand.giraffes _ (piece_plain side Giraffe))
 
 dash_plain : (letters : List ℕ) → All IsPlain letters → All IsPlain (or_dash letters)

@@ -9,9 +9,10 @@ use Rattle.dob_text.specs.PositionText.{IsWord, IsGrid, AreWords, AreParts, HasS
 
 -- the fronts are of one length
 pub same_split : (a b x y : List ℕ) → length a ≡ length b → a ++ x ≡ b ++ y → (a ≡ b) × (x ≡ y)
-same_split a b x y size joined =
-    (sym (take_at a x (length a) refl) ∙ ap (take (length a)) joined ∙ take_at b y (length a) (sym size),
-     sym (drop_at a x (length a) refl) ∙ ap (drop (length a)) joined ∙ drop_at b y (length a) (sym size))
+same_split a b x y size joined = (
+  sym (take_at a x (length a) refl) ∙ ap (take (length a)) joined ∙ take_at b y (length a) (sym size),
+  sym (drop_at a x (length a) refl) ∙ ap (drop (length a)) joined ∙ drop_at b y (length a) (sym size),
+)
 
 abbrev pub is_space : ℕ → Bool
 is_space byte = byte == 32
@@ -45,10 +46,11 @@ same_parts a b x y p q size none_x none_y joined =
 -- the two words are what stands before the first space and after it
 pub words_are : (text mover enemy : List ℕ) → AreWords text mover enemy → (position_or_len is_space text ≡ length mover) × (before_first is_space text ≡ mover) × (after_first is_space text ≡ enemy)
 words_are text mover enemy words =
-    let at : position_or_len is_space text ≡ length mover = ap (position_or_len is_space) words.joined ∙ space_at mover enemy words.first.whole in
-    (at,
-     ap (λ n. take n text) at ∙ ap (take (length mover)) words.joined ∙ take_at mover (32 ∷ enemy) (length mover) refl,
-     ap (λ n. drop (n + 1) text) at ∙ ap (drop (length mover + 1)) (words.joined ∙ sym (append_assoc mover (32 ∷ []) enemy)) ∙ drop_at (mover ++ 32 ∷ []) enemy (length mover + 1) (length-append mover (32 ∷ [])))
+    let at : position_or_len is_space text ≡ length mover = ap (position_or_len is_space) words.joined ∙ space_at mover enemy words.first.whole in (
+      at,
+      ap (λ n. take n text) at ∙ ap (take (length mover)) words.joined ∙ take_at mover (32 ∷ enemy) (length mover) refl,
+      ap (λ n. drop (n + 1) text) at ∙ ap (drop (length mover + 1)) (words.joined ∙ sym (append_assoc mover (32 ∷ []) enemy)) ∙ drop_at (mover ++ 32 ∷ []) enemy (length mover + 1) (length-append mover (32 ∷ [])),
+    )
 
 -- the place of the first space is known
 pub space_is : (text mover enemy : List ℕ) → AreWords text mover enemy → position is_space text ≡ Some (length mover)
@@ -69,8 +71,8 @@ words_found text mover enemy space found is_mover is_enemy first second =
     let byte : get_or text space 0 ≡ 32 = (let t : is_space (get_or text space 0) ≡ true = at.1 in grind (arith, nat_tests)) in
     record {
       joined = sym (take-append-drop space text) ∙ ap (λ x. take space text ++ x) (drop_more text space 0 lt)
-        ∙ ap (λ n. take space text ++ n ∷ drop (space + 1) text) byte
-        ∙ ap (λ x. x ++ 32 ∷ drop (space + 1) text) (sym is_mover) ∙ ap (λ x. mover ++ 32 ∷ x) (sym is_enemy);
+          ∙ ap (λ n. take space text ++ n ∷ drop (space + 1) text) byte
+          ∙ ap (λ x. x ++ 32 ∷ drop (space + 1) text) (sym is_mover) ∙ ap (λ x. mover ++ 32 ∷ x) (sym is_enemy);
       first = first;
       second = second;
     }

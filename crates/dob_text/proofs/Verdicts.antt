@@ -65,10 +65,12 @@ ordered text _ g lt x y = absurd (omega (arith, place_small g))
 one_fault : (text : List ℕ) (f g : TextFault) → HasFault text f → HasFault text g → f ≡ g
 one_fault text f g x y =
     elim (cases_lt (place f) (place g)) [
-      inl lt ↦ absurd (ordered text f g lt x y)
-    | inr ge ↦ elim (cases_lt (place g) (place f)) [
-        inl lt ↦ absurd (ordered text g f lt y x)
-      | inr le ↦ same_place f g (omega arith) ] ]
+      | inl lt ↦ absurd (ordered text f g lt x y)
+      | inr ge ↦ elim (cases_lt (place g) (place f)) [
+        | inl lt ↦ absurd (ordered text g f lt y x)
+        | inr le ↦ same_place f g (omega arith)
+      ]
+    ]
 
 -- a position's text has none
 no_fault : (text : List ℕ) (setup : Setup) (f : TextFault) → IsLegal setup → Spells text setup → HasFault text f → ⊥
@@ -89,9 +91,10 @@ read_as text (Err f) reads = tt
 
 pub refused_as : (text : List ℕ) (r : Result Position TextFault) → Reads text r → (f : TextFault) → IsErrOf r f ↔ HasFault text f
 refused_as text (Ok position) reads f = (λ same. cc, λ x. absurd (no_fault text position.setup f reads.0 reads.1 x))
-refused_as text (Err e) reads f =
-    (λ same. let is : e ≡ f = cc in subst (λ (g : TextFault). HasFault text g) is reads,
-     λ x. ap (λ (g : TextFault). Err g) (one_fault text e f reads x))
+refused_as text (Err e) reads f = (
+  λ same. let is : e ≡ f = cc in subst (λ (g : TextFault). HasFault text g) is reads,
+  λ x. ap (λ (g : TextFault). Err g) (one_fault text e f reads x),
+)
 
 pub whole_as : (text : List ℕ) (r : Result Position TextFault) → Reads text r → (setup : Setup) → IsLegal setup → text ≡ text_of setup → IsOkAnd r (λ position. position.setup ≡ setup)
 whole_as text (Ok position) reads setup legal is = same_spelled text position.setup setup reads.1 (record { squares = legal.squares; spelled = is })

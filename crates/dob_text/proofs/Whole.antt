@@ -55,11 +55,15 @@ spelled_shape text setup spells =
     let mover : List ℕ = hand_text Mover setup.hands.mover in
     let enemy : List ℕ = hand_text Enemy setup.hands.enemy in
     let all : All (λ byte. byte < 128) (text_of setup) =
-        All-append (λ byte. byte < 128) (board_text setup.board ++ 32 ∷ mover) (32 ∷ enemy)
-        (All-append (λ byte. byte < 128) (board_text setup.board) (32 ∷ mover) (board_ascii setup.board) (All-cons (λ byte. byte < 128) 32 mover space (hand_ascii Mover setup.hands.mover)))
-        (All-cons (λ byte. byte < 128) 32 enemy space (hand_ascii Enemy setup.hands.enemy)) in
-    (subst (λ (x : List ℕ). IsAscii x) (sym spells.spelled) (IsAscii-from_all (text_of setup) all),
-     board_text setup.board, mover, enemy, text_parts text setup spells.spelled)
+    All-append (λ byte. byte < 128) (board_text setup.board ++ 32 ∷ mover) (32 ∷ enemy)
+    (All-append (λ byte. byte < 128) (board_text setup.board) (32 ∷ mover) (board_ascii setup.board) (All-cons (λ byte. byte < 128) 32 mover space (hand_ascii Mover setup.hands.mover)))
+    (All-cons (λ byte. byte < 128) 32 enemy space (hand_ascii Enemy setup.hands.enemy)) in (
+      subst (λ (x : List ℕ). IsAscii x) (sym spells.spelled) (IsAscii-from_all (text_of setup) all),
+      board_text setup.board,
+      mover,
+      enemy,
+      text_parts text setup spells.spelled,
+    )
 
 pub spelled_letters : (text : List ℕ) (setup : Setup) → Spells text setup → HasLetters text
 spelled_letters text setup spells = letters_up text _ _ _ (text_parts text setup spells.spelled) (board_letters setup.board)
@@ -77,9 +81,9 @@ same_setup s t board mover enemy =
 pub same_spelled : (text : List ℕ) (s t : Setup) → Spells text s → Spells text t → s ≡ t
 same_spelled text s t spells_s spells_t =
     let parts : (board_text s.board ≡ board_text t.board) × (hand_text Mover s.hands.mover ≡ hand_text Mover t.hands.mover) × (hand_text Enemy s.hands.enemy ≡ hand_text Enemy t.hands.enemy) =
-        same_parts (board_text s.board) (board_text t.board) _ _ _ _ refl
-        (hand_word Mover s.hands.mover).whole (hand_word Mover t.hands.mover).whole
-        (sym spells_s.spelled ∙ spells_t.spelled) in
+    same_parts (board_text s.board) (board_text t.board) _ _ _ _ refl
+    (hand_word Mover s.hands.mover).whole (hand_word Mover t.hands.mover).whole
+    (sym spells_s.spelled ∙ spells_t.spelled) in
     same_setup s t
     (same_board s.board t.board spells_s.squares spells_t.squares parts.0)
     (same_hand_text Mover s.hands.mover t.hands.mover parts.1)
@@ -96,7 +100,7 @@ spelled_by text grid mover enemy board first second parts size is_grid is_mover 
 hands_are : (text grid mover enemy : List ℕ) → AreParts text grid mover enemy → (hands : HasHands text) → (mover ≡ hand_text Mover hands.1) × (enemy ≡ hand_text Enemy hands.2)
 hands_are text grid mover enemy parts hands =
     let same : (grid ≡ hands.0) × (mover ≡ hand_text Mover hands.1) × (enemy ≡ hand_text Enemy hands.2) =
-        same_parts grid hands.0 mover _ enemy _ (parts.board.size ∙ sym hands.3) parts.first.whole (hand_word Mover hands.1).whole (sym parts.joined ∙ hands.4) in
+    same_parts grid hands.0 mover _ enemy _ (parts.board.size ∙ sym hands.3) parts.first.whole (hand_word Mover hands.1).whole (sym parts.joined ∙ hands.4) in
     (same.1, same.2)
 
 -- a first word that is no hand's

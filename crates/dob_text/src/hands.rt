@@ -5,9 +5,8 @@ ghost use Rattle.dob_pieces.specs.declared.hand.Hand.{Hand};
 ghost use Rattle.dob_text.specs.PositionText.{hand_text};
 ghost use Rattle.dob_text.specs.Readings.{capped};
 
-use dob_pieces::{Hand, Kind, Side};
-
 use crate::letters::piece_letter;
+use dob_pieces::{Hand, Kind, Side};
 
 /// How many times the bytes begin with the letter.
 fn front_len(bytes: &[u8], letter: u8) -> usize
@@ -37,7 +36,11 @@ pub fn hand_of(word: &[u8], side: Side) -> Option<Hand>
         (λ hand. (full : Hand) × (word.now ≡ hand_text side full) × (hand ≡ capped full)) }
 {
     if word.len() == 1 && word[0] == b'-' {
-        return Some(Hand { chicks: 0, elephants: 0, giraffes: 0 });
+        return Some(Hand {
+            chicks: 0,
+            elephants: 0,
+            giraffes: 0,
+        });
     }
     let chicks = front_len(word, piece_letter(side, Kind::Chick));
     let rest = &word[chicks..];

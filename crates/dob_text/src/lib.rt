@@ -10,6 +10,8 @@ mod parts;
 mod pushes;
 mod read_positions;
 mod setups;
+#[cfg(test)]
+mod tests;
 mod write_moves;
 mod write_positions;
 

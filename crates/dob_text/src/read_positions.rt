@@ -6,10 +6,9 @@ ghost use Rattle.dob_text.specs.declared.fault.TextFault.{TextFault};
 ghost use Rattle.dob_text.specs.PositionText.{text_of, Spells};
 ghost use Rattle.dob_text.specs.Faults.{HasFault, IsRefused};
 
-use dob_pieces::{Position, PositionFault, Setup};
-
 use crate::fault::TextFault;
 use crate::setups::read_setup;
+use dob_pieces::{Position, PositionFault, Setup};
 
 /// The position of a setup.
 fn position_of(setup: Setup) -> Result<Position, TextFault>

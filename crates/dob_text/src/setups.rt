@@ -5,12 +5,11 @@ ghost use Rattle.dob_text.specs.PositionText.{Spells};
 ghost use Rattle.dob_text.specs.Readings.{capped_setup};
 ghost use Rattle.dob_text.specs.Faults.{HasFault};
 
-use dob_pieces::{Hands, Setup, Side};
-
 use crate::boards::board_of;
 use crate::fault::TextFault;
 use crate::hands::hand_of;
 use crate::parts::parts_of;
+use dob_pieces::{Hands, Setup, Side};
 
 /// The setup that a text spells, a position or not, with 255 in place of a larger count in hand.
 pub fn read_setup(text: &[u8]) -> Result<Setup, TextFault>
@@ -30,5 +29,8 @@ pub fn read_setup(text: &[u8]) -> Result<Setup, TextFault>
     let Some(enemy) = hand_of(parts.enemy, Side::Enemy) else {
         return Err(TextFault::Hand);
     };
-    Ok(Setup { board, hands: Hands { mover, enemy } })
+    Ok(Setup {
+        board,
+        hands: Hands { mover, enemy },
+    })
 }

@@ -3,13 +3,11 @@ ghost use Rattle.std.specs.Prelude.{◌≡◌, ◌++◌, OnOk, IfOk};
 ghost use Rattle.std.specs.String.{string_bytes};
 ghost use Rattle.dob_text.specs.MoveText.{side_of, seen, square_text, move_text};
 
-use std::alloc::{AllocError, Global};
-
-use dob_moves::Move;
-use dob_pieces::{Memory, Side, Square};
-
 use crate::letters::piece_letter;
 use crate::pushes::push_byte;
+use dob_moves::Move;
+use dob_pieces::{Memory, Side, Square};
+use std::alloc::{AllocError, Global};
 
 /// Whose move it is, seen from the side to move in the first position.
 fn mover_side(second: bool) -> Side
@@ -39,7 +37,13 @@ fn push_move(text: &mut String, choice: Move, second: bool) -> Result<(), AllocE
 {
     let side = mover_side(second);
     match choice {
-        Move::Step { kind, from, to, catch, grows } => {
+        Move::Step {
+            kind,
+            from,
+            to,
+            catch,
+            grows,
+        } => {
             push_byte(text, piece_letter(side, kind))?;
             push_square(text, seen_square(second, from))?;
             push_byte(text, if catch { b'x' } else { b'-' })?;

@@ -3,12 +3,10 @@ ghost use Rattle.std.specs.Prelude.{◌≡◌, ◌++◌, ◌<◌, ◌+◌, OnOk,
 ghost use Rattle.std.specs.String.{string_bytes};
 ghost use Rattle.dob_text.specs.PositionText.{row_text, board_text, hand_letters, hand_text, text_of};
 
-use std::alloc::{AllocError, Global};
-
-use dob_pieces::{Hand, Kind, Memory, Piece, Position, Side, Square};
-
 use crate::letters::{cell_letter, piece_letter};
 use crate::pushes::{push_byte, push_times};
+use dob_pieces::{Hand, Kind, Memory, Piece, Position, Side, Square};
+use std::alloc::{AllocError, Global};
 
 /// Writes the letters of a row at the end, from its first square on.
 fn push_row(
@@ -25,10 +23,7 @@ fn push_row(
 }
 
 /// Writes the rows at the end, row 4 first.
-fn push_board(
-    text: &mut String,
-    board: &[Option<Piece>; Square::COUNT],
-) -> Result<(), AllocError>
+fn push_board(text: &mut String, board: &[Option<Piece>; Square::COUNT]) -> Result<(), AllocError>
     ensures { OnOk result (string_bytes text.new ≡ string_bytes text.old ++ board_text board.now) }
 {
     push_row(text, board, 9)?;

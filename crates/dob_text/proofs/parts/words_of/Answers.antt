@@ -19,7 +19,8 @@ returns-else-is_word c = λ mover enemy words.
     let text : List ℕ = c.args.text.now in
     let space : ℕ = c.in_ok-space.space in
     let both : IsWord (take space text) × IsWord (take (length text - (space + 1)) (drop (space + 1) text)) =
-        words_only text _ _ mover enemy space c.in_ok-space.ensures refl (take_rest text (space + 1)) words in
+    words_only text _ _ mover enemy space c.in_ok-space.ensures refl (take_rest text (space + 1)) words in
     elim c.else-is_word.branch [
-      else-is_word-via-then-is_word+else-is_word-2 w ↦ let t : w.is_word-then-is_word.result ≡ true = w.is_word-then-is_word.ensures.1 both.1 in cc
-    | else-is_word-via-else-is_word w ↦ let t : c.is_word.result ≡ true = c.is_word.ensures.1 both.0 in cc ]
+      | else-is_word-via-then-is_word+else-is_word-2 w ↦ let t : w.is_word-then-is_word.result ≡ true = w.is_word-then-is_word.ensures.1 both.1 in cc
+      | else-is_word-via-else-is_word w ↦ let t : c.is_word.result ≡ true = c.is_word.ensures.1 both.0 in cc
+    ]
