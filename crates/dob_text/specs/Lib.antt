@@ -1,0 +1,5 @@
+pub mod Letters
+pub mod MoveText
+pub mod PositionText
+pub mod Faults
+pub mod Readings

@@ -1,2 +1,21 @@
-// Positions and moves as text.
+// Positions and moves as text. A text that is read is the one text of its position, and each refusal says what
+// the text lacks.
 #![tactic(auto)]
+
+mod boards;
+mod fault;
+mod hands;
+mod letters;
+mod parts;
+mod pushes;
+mod read_positions;
+mod setups;
+#[cfg(test)]
+mod tests;
+mod write_moves;
+mod write_positions;
+
+pub use fault::TextFault;
+pub use read_positions::read_position;
+pub use write_moves::write_move;
+pub use write_positions::write_position;

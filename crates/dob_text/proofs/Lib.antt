@@ -1,0 +1,6 @@
+pub mod Splits
+pub mod Plain
+pub mod Grids
+pub mod Fronts
+pub mod Whole
+pub mod Verdicts

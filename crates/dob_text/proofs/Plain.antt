@@ -1,0 +1,74 @@
+-- The letters of boards and hands are ASCII, and neither slash nor space.
+use Rattle.std.proofs.Common.{◌≡◌, ◌≢◌, ◌<◌, ℕ, List, [], ◌∷◌, ◌++◌, length, All, Some, None, true, false, refl, replicate, IsTrue, arith, lit<}
+use Rattle.std.specs.List.{list_any}
+use Rattle.std.proofs.lemmas.List.Elements.{All-append, All-replicate, All-weaker, All-cons}
+use Rattle.dob_pieces.specs.declared.kind.Kind.{Kind}
+use Rattle.dob_pieces.specs.declared.kind.Kind.TheVariants.{Lion, Giraffe, Elephant, Chick, Hen}
+use Rattle.dob_pieces.specs.declared.kind.Side.{Side}
+use Rattle.dob_pieces.specs.declared.kind.Side.TheVariants.{Mover, Enemy}
+use Rattle.dob_pieces.specs.declared.kind.Piece.{Piece}
+use Rattle.dob_pieces.specs.declared.hand.Hand.{Hand}
+use Rattle.dob_pieces.specs.Setups.{Cell}
+use Rattle.dob_text.specs.Letters.{letter_of_kind, cased, letter_of}
+use Rattle.dob_text.specs.PositionText.{hand_letters, or_dash, hand_text, IsBoardLetter}
+
+-- a byte below 128 that is neither slash nor space
+pub record IsPlain (byte : ℕ) : Type 0 where
+  pub ascii : byte < 128
+  pub space : byte ≢ 32
+  pub slash : byte ≢ 47
+
+piece_plain : (side : Side) (kind : Kind) → IsPlain (cased side (letter_of_kind kind))
+piece_plain Mover Lion = record { ascii = omega arith; space = omega arith; slash = omega arith }
+piece_plain Mover Giraffe = record { ascii = omega arith; space = omega arith; slash = omega arith }
+piece_plain Mover Elephant = record { ascii = omega arith; space = omega arith; slash = omega arith }
+piece_plain Mover Chick = record { ascii = omega arith; space = omega arith; slash = omega arith }
+piece_plain Mover Hen = record { ascii = omega arith; space = omega arith; slash = omega arith }
+piece_plain Enemy Lion = record { ascii = omega arith; space = omega arith; slash = omega arith }
+piece_plain Enemy Giraffe = record { ascii = omega arith; space = omega arith; slash = omega arith }
+piece_plain Enemy Elephant = record { ascii = omega arith; space = omega arith; slash = omega arith }
+piece_plain Enemy Chick = record { ascii = omega arith; space = omega arith; slash = omega arith }
+piece_plain Enemy Hen = record { ascii = omega arith; space = omega arith; slash = omega arith }
+
+pub letter_plain : (cell : Cell) → IsPlain (letter_of cell)
+letter_plain None = record { ascii = omega arith; space = omega arith; slash = omega arith }
+letter_plain (Some piece) = piece_plain piece.side piece.kind
+
+letters_plain : (side : Side) (hand : Hand) → All IsPlain (hand_letters side hand)
+letters_plain side hand =
+    All-append IsPlain _ _
+    (All-append IsPlain _ _
+    (All-replicate IsPlain hand.chicks _ (piece_plain side Chick))
+    (All-replicate IsPlain hand.elephants _ (piece_plain side Elephant)))
+    (All-replicate IsPlain hand.giraffes _ (piece_plain side Giraffe))
+
+dash_plain : (letters : List ℕ) → All IsPlain letters → All IsPlain (or_dash letters)
+dash_plain [] each = All-replicate IsPlain 1 45 (record { ascii = omega arith; space = omega arith; slash = omega arith })
+dash_plain (letter ∷ letters) each = each
+
+pub hand_plain : (side : Side) (hand : Hand) → All IsPlain (hand_text side hand)
+hand_plain side hand = dash_plain (hand_letters side hand) (letters_plain side hand)
+
+dash_filled : (letters : List ℕ) → 0 < length (or_dash letters)
+dash_filled [] = omega arith
+dash_filled (letter ∷ letters) = omega arith
+
+pub hand_filled : (side : Side) (hand : Hand) → 0 < length (hand_text side hand)
+hand_filled side hand = dash_filled (hand_letters side hand)
+
+-- the letter of a square is one of those of boards
+piece_letter_known : (side : Side) (kind : Kind) → IsBoardLetter (cased side (letter_of_kind kind))
+piece_letter_known Mover Lion = refl
+piece_letter_known Mover Giraffe = refl
+piece_letter_known Mover Elephant = refl
+piece_letter_known Mover Chick = refl
+piece_letter_known Mover Hen = refl
+piece_letter_known Enemy Lion = refl
+piece_letter_known Enemy Giraffe = refl
+piece_letter_known Enemy Elephant = refl
+piece_letter_known Enemy Chick = refl
+piece_letter_known Enemy Hen = refl
+
+pub letter_known : (cell : Cell) → IsBoardLetter (letter_of cell)
+letter_known None = refl
+letter_known (Some piece) = piece_letter_known piece.side piece.kind

@@ -1,0 +1,34 @@
+-- The faults of a text that is no position's, in the order in which they are tested.
+use Rattle.std.specs.Prelude.{ℕ, List, codes}
+use Rattle.dob_pieces.specs.declared.setup.Setup.{Setup}
+use Rattle.dob_pieces.specs.Setups.{HasLions, HasFewPieces, HasLionAtHome}
+use Rattle.dob_text.specs.declared.fault.TextFault.{TextFault}
+use Rattle.dob_text.specs.declared.fault.TextFault.TheVariants.{Shape, Letter, Hand, Lions, Count, FarLion}
+use Rattle.dob_text.specs.PositionText.{HasShape, HasLetters, HasHands, Spells}
+
+-- how a fault is printed
+abbrev pub fault_text : TextFault → List ℕ
+fault_text Shape = codes "E1 Shape"
+fault_text Letter = codes "E2 Letter"
+fault_text Hand = codes "E3 Hand"
+fault_text Lions = codes "E4 Lions"
+fault_text Count = codes "E5 Count"
+fault_text FarLion = codes "E6 FarLion"
+
+-- the first fault of the text: what it lacks, and that it has all that is tested before
+abbrev pub HasFault : List ℕ → TextFault → Type 0
+HasFault text Shape = ¬ HasShape text
+HasFault text Letter = HasShape text × ¬ HasLetters text
+HasFault text Hand = HasShape text × HasLetters text × ¬ HasHands text
+HasFault text Lions = (setup : Setup) × Spells text setup × ¬ HasLions setup
+HasFault text Count = (setup : Setup) × Spells text setup × HasLions setup × ¬ HasFewPieces setup
+HasFault text FarLion = (setup : Setup) × Spells text setup × HasLions setup × HasFewPieces setup × ¬ HasLionAtHome setup
+
+-- why the setup that a text spells is no position
+abbrev pub IsRefused : Setup → TextFault → Type 0
+IsRefused setup Lions = ¬ HasLions setup
+IsRefused setup Count = HasLions setup × ¬ HasFewPieces setup
+IsRefused setup FarLion = HasLions setup × HasFewPieces setup × ¬ HasLionAtHome setup
+IsRefused setup Shape = ⊥
+IsRefused setup Letter = ⊥
+IsRefused setup Hand = ⊥

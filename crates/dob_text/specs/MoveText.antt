@@ -1,0 +1,35 @@
+-- The text of a move.
+use Rattle.std.specs.Prelude.{ℕ, ◌+◌, Bool, true, false, List, [], ◌∷◌, ◌++◌, if◌then◌else◌}
+use Rattle.dob_pieces.specs.declared.kind.Side.{Side}
+use Rattle.dob_pieces.specs.declared.kind.Side.TheVariants.{Mover, Enemy}
+use Rattle.dob_pieces.specs.Squares.{column, row, turned_square}
+use Rattle.dob_pieces.specs.Pieces.{kind_on_board}
+use Rattle.dob_moves.specs.declared.moves.Move.{Move}
+use Rattle.dob_moves.specs.declared.moves.Move.TheVariants.{Step, Put}
+use Rattle.dob_text.specs.Letters.{letter_of_kind, cased}
+
+-- the side of whoever moves, seen from the side to move in the first position of a line
+abbrev pub side_of : Bool → Side
+side_of second = if second then Enemy else Mover
+
+-- the square seen from the side to move in the first position: the second side's squares are turned back
+abbrev pub seen : Bool → ℕ → ℕ
+seen second square = if second then turned_square square else square
+
+-- a square's name: the column's letter from a on, the row's digit from 1 on
+abbrev pub square_text : ℕ → List ℕ
+square_text square = (97 + column square) ∷ (49 + row square) ∷ []
+
+-- A step: the letter before it, the square that it leaves, `x` for a catch and else `-`, the square that it reaches,
+-- and `+` where a chick becomes a hen. A drop: the letter, `*`, the square.
+abbrev pub move_text : Move → Bool → List ℕ
+move_text (Step kind from to catch grows) second =
+    cased (side_of second) (letter_of_kind kind) ∷ []
+    ++ square_text (seen second from)
+    ++ (if catch then 120 else 45) ∷ []
+    ++ square_text (seen second to)
+    ++ (if grows then 43 ∷ [] else [])
+move_text (Put kind to) second =
+    cased (side_of second) (letter_of_kind (kind_on_board kind)) ∷ []
+    ++ 42 ∷ []
+    ++ square_text (seen second to)

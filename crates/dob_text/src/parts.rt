@@ -1,0 +1,79 @@
+// The parts of a position's text: fifteen bytes of board and two words.
+ghost use Rattle.std.specs.Prelude.{◌≡◌, ◌==◌, ◌↔◌, ℕ, List, length, position, MatchOption, IsTrue, IsAscii};
+ghost use Rattle.dob_text.specs.PositionText.{IsWord, IsGrid, AreWords, AreParts, HasShape};
+
+/// How many bytes the board takes.
+const GRID_LEN: usize = 15;
+
+/// The parts of a text, none of which has a space.
+#[derive(Clone, Copy)]
+pub struct Parts<'a> {
+    pub grid: &'a [u8],
+    pub mover: &'a [u8],
+    pub enemy: &'a [u8],
+}
+
+/// Whether these fifteen bytes have slashes at 3, 7 and 11, no other slash, and no space.
+fn is_grid(grid: &[u8]) -> bool
+    requires { length grid.now ≡ 15 }
+    ensures { IsTrue result ↔ IsGrid grid.now }
+{
+    for (i, byte) in grid.iter().enumerate() {
+        if *byte == b' ' || (*byte == b'/') != (i % 4 == 3) {
+            return false;
+        }
+    }
+    true
+}
+
+/// Whether there are bytes, and none is a space.
+fn is_word(word: &[u8]) -> bool
+    ensures { IsTrue result ↔ IsWord word.now }
+{
+    for byte in word {
+        if *byte == b' ' {
+            return false;
+        }
+    }
+    !word.is_empty()
+}
+
+/// The place of the first space.
+fn first_space(text: &[u8]) -> Option<usize>
+    ensures { result ≡ position (λ byte. byte == 32) text.now }
+{
+    text.iter().position(|byte| *byte == b' ')
+}
+
+/// The two words of a text that is two words with a space between them.
+fn words_of(text: &[u8]) -> Option<(&[u8], &[u8])>
+    ensures { MatchOption result
+        ((mover enemy : List ℕ) → ¬ AreWords text.now mover enemy)
+        (λ words. AreWords text.now words.0.now words.1.now) }
+{
+    let space = first_space(text)?;
+    let mover = &text[..space];
+    let enemy = &text[space + 1..];
+    if is_word(mover) && is_word(enemy) {
+        Some((mover, enemy))
+    } else {
+        None
+    }
+}
+
+/// The parts of a text of the right shape.
+pub fn parts_of(text: &[u8]) -> Option<Parts<'_>>
+    ensures { MatchOption result
+        (¬ HasShape text.now)
+        (λ parts. IsAscii text.now × AreParts text.now parts.grid.now parts.mover.now parts.enemy.now) }
+{
+    if !text.is_ascii() || text.len() <= GRID_LEN {
+        return None;
+    }
+    let (grid, rest) = text.split_at(GRID_LEN);
+    if rest[0] != b' ' || !is_grid(grid) {
+        return None;
+    }
+    let (mover, enemy) = words_of(&rest[1..])?;
+    Some(Parts { grid, mover, enemy })
+}
