@@ -1,0 +1,1 @@
+-- How what the words ask for and what is read of them go together.
