@@ -1,13 +1,13 @@
 -- What `clap`'s lexer makes of a word, by the word's first bytes.
 use Rattle.std.proofs.Common.{◌≡◌, ◌∙◌, ◌+◌, ◌==◌, ◌||◌, ℕ, Bool, arith, suc, take, refl, sym, ap, subst, cond, codes, true, false, [], ◌∷◌, List, Option, Some, None, true≢false}
-use Rattle.std.specs.Prelude.{slice_get, is_some}
+use Rattle.std.specs.Prelude.{slice_get, is_some, not}
 use Rattle.std.specs.Str.{bytes_eq, chars}
 use Rattle.std.specs.List.{before_first}
 use Rattle.std.proofs.lemmas.Slice.Eq.{bytes_eq-Decides}
 use Rattle.std.proofs.lemmas.Bool.Decides.{Decides-eqb}
 use Rattle.clap.specs.Lexer.{has_byte, long_of, short_of}
 use Rattle.std.specs.Option.{option_map_or}
-use Rattle.dob_cli.specs.Words.{Text, flag_of, is_help_flag}
+use Rattle.dob_cli.specs.Words.{Text, flag_of, is_help_flag, is_text}
 
 -- the first bytes of a word
 pub data View : Text → Type 0 where
@@ -102,7 +102,7 @@ help_hyphen = rw no_first refl
 pub help_dashes : is_help_flag (45 ∷ 45 ∷ []) ≡ false
 help_dashes = rw hyphen_first refl
 
-or_false : (b : Bool) → (b || false) ≡ b
+pub or_false : (b : Bool) → (b || false) ≡ b
 or_false true = refl
 or_false false = refl
 
@@ -112,3 +112,34 @@ help_long a cs = rw (hyphen_first (a ∷ cs)) (or_false (bytes_eq (codes "help")
 pub help_short : (y : ℕ) (ys : Text) → (y == 45) ≡ false
     → is_help_flag (45 ∷ y ∷ ys) ≡ option_map_or (λ x. 104 == x) (slice_get (chars (y ∷ ys)) 0) false
 help_short y ys t = rw (flip y 45 false t) refl
+
+-- ---- which words are `--`
+
+pub flip_bytes : (v w : Text) (b : Bool) → bytes_eq v w ≡ b → bytes_eq w v ≡ b
+flip_bytes v w true e = (bytes_eq-Decides w v).1 (sym ((bytes_eq-Decides v w).0 e))
+flip_bytes v w false e = go (bytes_eq w v) refl
+  where
+    go : (b : Bool) → bytes_eq w v ≡ b → bytes_eq w v ≡ false
+    go false t = t
+    go true t = absurd (true≢false (sym ((bytes_eq-Decides v w).1 (sym ((bytes_eq-Decides w v).0 t))) ∙ e))
+
+-- what `--` does not pass is no test of `--`
+differs_by : (test : Text → Bool) (w : Text) → test (codes "--") ≡ false → test w ≡ true → bytes_eq w (codes "--") ≡ false
+differs_by test w fails passes = go (bytes_eq w (codes "--")) refl
+  where
+    go : (b : Bool) → bytes_eq w (codes "--") ≡ b → bytes_eq w (codes "--") ≡ false
+    go false t = t
+    go true t = absurd (true≢false (sym passes ∙ (ap test ((bytes_eq-Decides w (codes "--")).0 t) ∙ fails)))
+
+pub text_differs : (w : Text) → is_text w ≡ true → bytes_eq w (codes "--") ≡ false
+text_differs w e = differs_by is_text w (ap (λ (o : Option ℕ). not (is_some o)) (hyphen_first [])) e
+
+pub help_differs : (w : Text) → is_help_flag w ≡ true → bytes_eq w (codes "--") ≡ false
+help_differs w e = differs_by is_help_flag w help_dashes e
+
+none_of : (o : Option ℕ) → not (is_some o) ≡ true → o ≡ None
+none_of None e = refl
+none_of (Some x) e = absurd (true≢false (sym e))
+
+pub text_flag : (w : Text) → is_text w ≡ true → flag_of w ≡ None
+text_flag w e = none_of (flag_of w) e

@@ -7,14 +7,15 @@ use Rattle.std.specs.List.{before_first}
 use Rattle.std.specs.Str.{bytes_eq, chars}
 use Rattle.std.proofs.lemmas.Slice.Eq.{bytes_eq-Decides}
 use Rattle.clap.specs.Words.{Rule, is_simple_and_free}
-use Rattle.clap.specs.Walk.{Held, Row, Step, plain, value, idle, arg_by_long, arg_by_short, bundle_met, long_or_other, short_or_plain, takes_values}
+use Rattle.clap.specs.Walk.{value as walk_value}
+use Rattle.clap.specs.Walk.{Held, Row, Step, plain, idle, arg_by_long, arg_by_short, bundle_met, long_or_other, short_or_plain, takes_values}
 use Rattle.clap.specs.Simple.{filled, help_rule}
 use Rattle.clap.specs.Lexer.{has_byte, long_of, short_of}
-use Rattle.clap.specs.Kinds.{Kinds}
+use Rattle.clap.specs.Kinds.{Kinds, or_else}
 use Rattle.clap.specs.Faults.{bundle_fault, flag_word_fault, flags_fault, long_fault, react_fault, short_fault}
 use Rattle.clap.specs.declared.error.kind.ErrorKind.{ErrorKind}
 use Rattle.clap.specs.declared.error.kind.ErrorKind.TheVariants as kind
-use Rattle.dob_cli.specs.Words.{Text, flag_of, is_help_flag, is_text}
+use Rattle.dob_cli.specs.Words.{Meaning, Text, flag_of, help, is_help_flag, is_text, topic, usage, value}
 use Rattle.dob_cli.specs.Shapes.{dobutsu_app}
 use Rattle.dob_cli.proofs.Lexing.{help_letter, help_hyphen, help_dashes, help_long, help_short, View, view, empty, letter, hyphen, dashes, long, short, hyphen_first, no_first, long_letter, short_letter, flag_letter, long_short, short_short, before_none}
 
@@ -37,7 +38,7 @@ module _ (c : List Rule) (rows : List Row) (pending : Option (Text × List Text)
   h = held rows pending
 
   abbrev Plain : Text → Type 0
-  Plain w = long_or_other c idle w (long_of w) h ≡ (h, value)
+  Plain w = long_or_other c idle w (long_of w) h ≡ (h, walk_value)
 
   bundle_plain : (k : ℕ) (flags : Text) → slice_get (chars flags) 0 ≡ None → bundle_met c k flags 0 plain h ≡ (h, plain)
   unfolding bundle_met
@@ -49,7 +50,8 @@ module _ (c : List Rule) (rows : List Row) (pending : Option (Text × List Text)
   bundle_passes zero flags e = refl
   bundle_passes (suc k) flags e = rw e refl
 
-  text_plain : (w : Text) → View w → flag_of w ≡ None → Plain w
+  -- a text is no flag
+  pub text_plain : (w : Text) → View w → flag_of w ≡ None → Plain w
   text_plain _ empty e = refl
   text_plain _ (letter x rest t) e = rw (long_letter x rest t, short_letter x rest t) refl
   text_plain _ hyphen e = refl
@@ -57,7 +59,7 @@ module _ (c : List Rule) (rows : List Row) (pending : Option (Text × List Text)
   text_plain _ (long a cs) e = absurd (some≢none 45 (sym (hyphen_first (a ∷ cs)) ∙ e))
   text_plain _ (short y ys t) e = rw (long_short y ys t, short_short y ys t, bundle_plain (length (y ∷ ys)) (y ∷ ys) e) refl
 
-  text_passes : (w : Text) → View w → flag_of w ≡ None → flag_word_fault c false (long_of w) w h ≡ []
+  pub text_passes : (w : Text) → View w → flag_of w ≡ None → flag_word_fault c false (long_of w) w h ≡ []
   text_passes _ empty e = refl
   text_passes _ (letter x rest t) e = rw (long_letter x rest t, short_letter x rest t) refl
   text_passes _ hyphen e = refl
@@ -84,6 +86,18 @@ no_help_kind (k ∷ ks) = not (is_help_kind k) && no_help_kind ks
 abbrev pub is_usage : Kinds → Bool
 is_usage [] = false
 is_usage (k ∷ ks) = no_help_kind (k ∷ ks)
+
+-- a first step that is usage makes it usage
+pub or_else_usage : (a b : Kinds) → is_usage a ≡ true → is_usage (or_else a b) ≡ true
+or_else_usage [] b e = absurd (true≢false (sym e))
+or_else_usage (k ∷ ks) b e = e
+
+-- the kinds of error that go with what the words ask for
+abbrev pub Fits : Meaning → Kinds → Type 0
+Fits (value t) kinds = kinds ≡ []
+Fits help kinds = kinds ≡ kind.DisplayHelp ∷ []
+Fits topic kinds = kinds ≡ kind.DisplayHelp ∷ kind.InvalidSubcommand ∷ []
+Fits usage kinds = is_usage kinds ≡ true
 
 module _ (c : List Rule) (rows : List Row) (pending : Option (Text × List Text)) (knows : KnowsHelp c rows pending) where
   abbrev g : Held
