@@ -3,8 +3,8 @@ use Rattle.std.proofs.Common.{ap₂, ◌≡◌, ◌∙◌, ◌==◌, ◌||◌, �
 use Rattle.std.specs.Str.{bytes_eq}
 use Rattle.std.specs.List.{fold}
 use Rattle.std.proofs.lemmas.Slice.Eq.{bytes_eq-Decides}
-use Rattle.clap.specs.Words.{Row, built}
-use Rattle.clap.specs.Walk.{Held, Rule, Walk, finished, idle, nothing_held, settled, walk_from, walked}
+use Rattle.clap.specs.Words.{first_of}
+use Rattle.clap.specs.Walk.{Held, Rule, Walk, finished, idle, nothing_held, rows_after, settled, walk_from, walked}
 use Rattle.clap.specs.Simple.{App, Shape, built_leaf, inherited, marked_built, with_leaf_noted}
 use Rattle.clap.specs.Kinds.{Kinds, or_else}
 use Rattle.clap.specs.Faults.{check_fault, defaults_fault, level_fault, settle_fault, step_fault, turn_fault, walk_fault}
@@ -186,3 +186,21 @@ value_fits (t ∷ rest) = go (is_text t) (is_dashes t) (is_help_flag t) refl ref
     go false false true text e asks = helps start t rest (help_turn value_shape [] [] None 1 t refl refl knows_first asks)
     go false false false text e asks =
         refuses start t rest (other_turn value_shape [] [] None 1 t refl refl knows_first text asks (flip_bytes (codes "--") t false e))
+
+-- ---- the matches
+
+-- what is found for POSITION
+abbrev pub position_in : List Text → Option Text
+position_in words = first_of (codes "POSITION") (rows_after rules [] words)
+
+abbrev found_at : Walk → List Text → Option Text
+found_at w words = first_of (codes "POSITION") (finished rules (fold (walked rules []) w words).held)
+
+pub text_found : (t : Text) → is_text t ≡ true → position_in (t ∷ []) ≡ Some t
+text_found t text = ap (λ (w : Walk). found_at w []) (text_goes t text)
+
+pub text_found_before : (t : Text) → is_text t ≡ true → position_in (t ∷ codes "--" ∷ []) ≡ Some t
+text_found_before t text = ap (λ (w : Walk). found_at w (codes "--" ∷ [])) (text_goes t text) ∙ ap (λ (w : Walk). found_at w []) (dashes_close_after t)
+
+pub text_found_bare : (t : Text) → position_in (codes "--" ∷ t ∷ []) ≡ Some t
+text_found_bare t = ap (λ (w : Walk). found_at w (t ∷ [])) dashes_close ∙ ap (λ (w : Walk). found_at w []) (bare_goes t)
