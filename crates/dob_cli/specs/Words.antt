@@ -1,6 +1,6 @@
 -- What the words after the program's name ask for, without a word on how they are read. A word is
 -- the list of its bytes.
-use Rattle.std.specs.Prelude.{◌==◌, ◌||◌, ℕ, Bool, false, not, List, [], ◌∷◌, Option, Some, None, is_some}
+use Rattle.std.specs.Prelude.{◌≡◌, ◌⊎◌, ◌==◌, ◌||◌, ℕ, Bool, true, false, not, List, [], ◌∷◌, Option, Some, None, is_some}
 use Rattle.std.specs.Prelude.{if◌then◌else◌, codes, slice_get}
 use Rattle.std.specs.Option.{option_map_or}
 use Rattle.std.specs.Str.{bytes_eq, chars}
@@ -63,3 +63,11 @@ meaning_of (word ∷ rest) =
     if bytes_eq (codes "value") word then meaning_of_value rest
     else (if bytes_eq (codes "help") word then topic
     else (if is_help_flag word then help else usage))
+
+-- the words are `value TEXT`, `value -- TEXT` or `value TEXT --`, where only behind `--` the text
+-- may look like an option
+abbrev pub IsValueLine : List Text → Text → Type 0
+IsValueLine words text =
+    ((words ≡ codes "value" ∷ text ∷ []) × (is_text text ≡ true))
+    ⊎ ((words ≡ codes "value" ∷ codes "--" ∷ text ∷ [])
+    ⊎ ((words ≡ codes "value" ∷ text ∷ codes "--" ∷ []) × (is_text text ≡ true)))
