@@ -1,31 +1,29 @@
-use Rattle.std.proofs.Common.{rules, ◌≡◌, ◌∙◌, IfOk, Some, codes, map, ap, List, [], ◌∷◌, Bor, option_map}
-use Rattle.clap.specs.Words.{kind_of, subcommand_rows_of}
-use Rattle.dob_cli.specs.Words.{meaning_of}
-use Rattle.dob_cli.specs.Shapes.{dobutsu_app, found_in}
-use Rattle.dob_cli.specs.Answers.{ComesFromLine, IsReadingOf, IsReadingOfKind, IsValueOrder}
+-- What `clap` answers is what the words ask for.
+use Rattle.std.proofs.Common.{◌≡◌, map}
+use Rattle.std.proofs.lemmas.Result.{IfOk-weaker}
+use Rattle.clap.specs.Words.{app_of}
+use Rattle.dob_cli.proofs.Orders.{asked_by_matches, order_has_line, order_is_meant, refusal_of_words}
 use Rattle.dob_cli.proofs.command.read_words.Goals as goal
 
 pub unreachable-requires : goal.unreachable-requires
 unreachable-requires c =
-    let made = c.in_ok-dobutsu_command.ensures in
-    let m = c.in-Ok.ensures in
-    let n = c.in-None.ensures in
-    ?
+    let asked = asked_by_matches (app_of c.in_ok-dobutsu_command.field-0) (map (λ w. w.now) c.args.words.now) c.in-Ok.matches
+    c.in_ok-dobutsu_command.ensures.0 c.in-Ok.ensures.kinds c.in-Ok.ensures.matches in
+    c.in-None.ensures asked.0 asked.2
 
 pub returns-in-Some-clause-meaning : goal.returns-in-Some-clause-meaning
 returns-in-Some-clause-meaning c =
-    let made = c.in_ok-dobutsu_command.ensures in
-    let m = c.in-Ok.ensures in
-    let n = c.in-Some.ensures in
-    let o = c.in-Some.order-is in
-    ?
+    let asked = asked_by_matches (app_of c.in_ok-dobutsu_command.field-0) (map (λ w. w.now) c.args.words.now) c.in-Ok.matches
+    c.in_ok-dobutsu_command.ensures.0 c.in-Ok.ensures.kinds c.in-Ok.ensures.matches in
+    order_is_meant _ asked.0 c.in-Some.order asked.1 (c.in-Some.ensures asked.0 asked.2)
 
 pub returns-in-Some-clause-line : goal.returns-in-Some-clause-line
-returns-in-Some-clause-line c = ?
+returns-in-Some-clause-line c =
+    let asked = asked_by_matches (app_of c.in_ok-dobutsu_command.field-0) (map (λ w. w.now) c.args.words.now) c.in-Ok.matches
+    c.in_ok-dobutsu_command.ensures.0 c.in-Ok.ensures.kinds c.in-Ok.ensures.matches in
+    order_has_line _ asked.0 c.in-Some.order asked.1 (c.in-Some.ensures asked.0 asked.2)
 
 pub returns-in-Err-clause-meaning : goal.returns-in-Err-clause-meaning
 returns-in-Err-clause-meaning c =
-    let made = c.in_ok-dobutsu_command.ensures in
-    let m = c.in-Err.ensures in
-    let n = c.read_refusal.ensures in
-    ?
+    IfOk-weaker c.read_refusal.result _ _ (refusal_of_words (app_of c.in_ok-dobutsu_command.field-0) (map (λ w. w.now) c.args.words.now) c.in-Err.error
+    c.in_ok-dobutsu_command.ensures.0 c.in-Err.ensures.kinds) c.read_refusal.ensures
