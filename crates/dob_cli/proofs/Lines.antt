@@ -1,5 +1,5 @@
 -- The lines that ask for the value of a text, and what `clap` finds in them.
-use Rattle.std.proofs.Common.{◌≡◌, ◌∙◌, ◌⊎◌, Bool, inl, inr, refl, sym, ap, subst, cond, codes, true, false, [], ◌∷◌, List, Option, Some, None, true≢false}
+use Rattle.std.proofs.Common.{◌≡◌, ◌∙◌, ◌⊎◌, ℕ, Bool, not, is_some, inl, inr, refl, sym, ap, subst, cond, codes, true, false, [], ◌∷◌, List, Option, Some, None, true≢false}
 use Rattle.std.specs.Prelude.{option_map}
 use Rattle.std.specs.Str.{bytes_eq}
 use Rattle.std.proofs.lemmas.Slice.Eq.{bytes_eq-Decides}
@@ -7,6 +7,7 @@ use Rattle.clap.specs.Words.{Row, fault_of, first_of, subcommand_of}
 use Rattle.clap.specs.Kinds.{Kinds}
 use Rattle.dob_cli.specs.Words.{IsValueLine, Meaning, Text, help, is_dashes, is_help_flag, is_text, meaning_of, meaning_of_bare, meaning_of_rest, meaning_of_value, topic, usage, value}
 use Rattle.dob_cli.specs.Shapes.{dobutsu_app, found_in}
+use Rattle.dob_cli.proofs.Lexing.{hyphen_first}
 use Rattle.dob_cli.proofs.Turns.{Fits}
 use Rattle.dob_cli.proofs.ValueWords.{position_in, text_found, text_found_bare, text_found_before}
 use Rattle.dob_cli.proofs.AllWords.{value_entered, words_fit}
@@ -27,6 +28,9 @@ no_value m t off e = true≢false (sym (ap is_value e) ∙ off)
 help_or_usage : (b : Bool) → is_value (cond b help usage) ≡ false
 help_or_usage true = refl
 help_or_usage false = refl
+
+dashes_no_text : is_text (codes "--") ≡ false
+dashes_no_text = ap (λ (o : Option ℕ). not (is_some o)) (hyphen_first [])
 
 -- the words after `value`
 abbrev IsRest : List Text → Text → Type 0
@@ -82,6 +86,12 @@ line_of [] t e = absurd (no_value usage t refl e)
 line_of (word ∷ rest) t e =
     let f = first_of_line word rest t e in
     line_of_rest word t rest f.0 (rest_of rest t f.1)
+
+-- and each such line asks for it
+pub line_means : (words : List Text) (t : Text) → IsValueLine words t → meaning_of words ≡ value t
+line_means words t (inl h) = ap meaning_of h.0 ∙ rw h.1 refl
+line_means words t (inr (inl h)) = ap meaning_of h ∙ rw dashes_no_text refl
+line_means words t (inr (inr h)) = ap meaning_of h.0 ∙ rw h.1 refl
 
 -- ---- what is found in it
 

@@ -8,16 +8,16 @@ use Rattle.clap.specs.declared.error.ErrorKind.{ErrorKind}
 use Rattle.clap.specs.declared.error.ErrorKind.TheVariants as kind
 use Rattle.clap.specs.declared.parser.ArgMatches.{ArgMatches}
 use Rattle.clap.proofs.WalkLemmas.{both, first_value-rows}
-use Rattle.dob_cli.specs.Words.{Meaning, Text, help, meaning_of, topic, usage, value}
+use Rattle.dob_cli.specs.Words.{IsValueLine, Meaning, Text, help, meaning_of, topic, usage, value}
 use Rattle.dob_cli.specs.Shapes.{dobutsu_app, found_in}
-use Rattle.dob_cli.specs.Answers.{ComesFromLine, IsReadingOf, IsReadingOfKind, IsValueOrder}
+use Rattle.dob_cli.specs.Readings.{ComesFromLine, IsReadingOf, IsReadingOfKind, IsValueOrder}
 use Rattle.dob_cli.specs.declared.command.Order.{Order}
 use Rattle.dob_cli.specs.declared.command.Order.TheVariants as order
 use Rattle.dob_cli.specs.declared.command.Reading.{Reading}
 use Rattle.dob_cli.specs.declared.command.Reading.TheVariants as reading
 use Rattle.dob_cli.proofs.Turns.{Fits, is_help_kind, is_usage, no_help_kind}
 use Rattle.dob_cli.proofs.AllWords.{words_fit}
-use Rattle.dob_cli.proofs.Lines.{asked_text, found_line, line_of}
+use Rattle.dob_cli.proofs.Lines.{asked_text, found_line, line_means, line_of}
 
 -- the subcommand's own matches have the text that was found
 pub text_of_matches : (sub : Option (Text × List Row)) (inner : ArgMatches) (o : Option (Bor Text)) (t : Text)
@@ -120,3 +120,7 @@ pub refusal_of_words : (app : App) (words : List Text) (e : Error) → app ≡ d
 refusal_of_words app words e is kinds r h =
     let has : HasKind (fault_of dobutsu_app words) e = subst (λ a. HasKind (fault_of a words) e) is (kinds (ap is_simple_and_free is)) in
     refusal_is_meant (meaning_of words) (fault_of dobutsu_app words) (kind_of e) r (words_fit words) has h
+
+-- a reading of what the words mean, at a line that asks for the value of a text
+pub read_at_line : (words : List Text) (t : Text) (r : Reading) → IsValueLine words t → IsReadingOf (meaning_of words) r → IsReadingOf (value t) r
+read_at_line words t r line h = subst (λ m. IsReadingOf m r) (line_means words t line) h

@@ -86,7 +86,7 @@ helps w word rest asks = rw asks refl
 -- one word is refused
 refuses : (w : Walk) (word : Text) (rest : List Text) → is_usage (turn_fault value_shape [] w word) ≡ true → is_usage (kinds_at w (word ∷ rest)) ≡ true
 unfolding walk_fault
-refuses w word rest fails = 
+refuses w word rest fails =
     or_else_usage (or_else (turn_fault value_shape [] w word) (walk_fault value_shape [] (walked rules [] w word) rest)) (ending (fold (walked rules []) w (word ∷ rest)))
     (or_else_usage (turn_fault value_shape [] w word) (walk_fault value_shape [] (walked rules [] w word) rest) fails)
 

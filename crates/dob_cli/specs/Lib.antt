@@ -1,3 +1,3 @@
 pub mod Words
 pub mod Shapes
-pub mod Answers
+pub mod Readings

@@ -1,9 +1,9 @@
 // What the words of the program `dobutsu` ask for, read by `clap`.
 ghost use Rattle.std.specs.Prelude.{◌≡◌, IfOk, IsSomeAnd, Some, codes, map};
 ghost use Rattle.clap.specs.Words.{kind_of, subcommand_rows_of};
-ghost use Rattle.dob_cli.specs.Words.{meaning_of};
+ghost use Rattle.dob_cli.specs.Words.{IsValueLine, meaning_of, value};
 ghost use Rattle.dob_cli.specs.Shapes.{HasShape, dobutsu_app, found_in, value_app};
-ghost use Rattle.dob_cli.specs.Answers.{ComesFromLine, IsReadingOf, IsReadingOfKind, IsValueOrder};
+ghost use Rattle.dob_cli.specs.Readings.{ComesFromLine, IsReadingOf, IsReadingOfKind, IsValueOrder};
 
 use clap::error::ErrorKind;
 use clap::{Arg, ArgMatches, Command, Error};
@@ -27,7 +27,8 @@ pub enum Reading<'a> {
     Usage(String),
 }
 
-const POSITION_HELP: &str = "A position: four rows of three letters, row 4 (the far row of the side to move) first, joined
+const POSITION_HELP: &str =
+    "A position: four rows of three letters, row 4 (the far row of the side to move) first, joined
 by `/`, then a space and the hand of the side to move, a space and the hand of the other side.
 
 Letters: L lion, G giraffe, E elephant, C chick, H hen, upper case for the side to move and
@@ -45,7 +46,9 @@ Example: dobutsu value \"..l/.../L../... - -\" prints `win 3`.";
 /// `AllocError` where memory runs out, and for no other cause.
 pub fn read_words<'a>(alloc: Global, words: &'a [&'a str]) -> Result<Reading<'a>, AllocError>
     ensures meaning { IfOk result (IsReadingOf (meaning_of (map (λ w. w.now) words.now))) }
-    ensures line { IfOk result (ComesFromLine (map (λ w. w.now) words.now)) }
+    ensures sound { IfOk result (ComesFromLine (map (λ w. w.now) words.now)) }
+    ensures complete { (text : _) → IsValueLine (map (λ w. w.now) words.now) text
+        → IfOk result (IsReadingOf (value text)) }
 {
     match dobutsu_command(alloc)?.try_get_matches_from(words) {
         Ok(matches) => match order_of(&matches) {
@@ -61,6 +64,7 @@ fn dobutsu_command<'a>(alloc: Global) -> Result<Command<'a>, AllocError>
     ensures { IfOk result (HasShape dobutsu_app) }
 {
     Command::new(alloc, "dobutsu")
+        .bin_name("dobutsu")?
         .no_binary_name(true)
         .subcommand_required(true)
         .about("Values of positions of Dobutsu shogi")
@@ -104,5 +108,5 @@ fn read_refusal<'a>(alloc: Global, error: &Error) -> Result<Reading<'a>, AllocEr
     }
 }
 
-
-
+#[cfg(test)]
+mod tests;

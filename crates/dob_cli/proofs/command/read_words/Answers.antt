@@ -17,8 +17,8 @@ returns-in-Some-clause-meaning c =
     c.in_ok-dobutsu_command.ensures.0 c.in-Ok.ensures.kinds c.in-Ok.ensures.matches in
     order_is_meant _ asked.0 c.in-Some.order asked.1 (c.in-Some.ensures asked.0 asked.2)
 
-pub returns-in-Some-clause-line : goal.returns-in-Some-clause-line
-returns-in-Some-clause-line c =
+pub returns-in-Some-clause-sound : goal.returns-in-Some-clause-sound
+returns-in-Some-clause-sound c =
     let asked = asked_by_matches (app_of c.in_ok-dobutsu_command.field-0) (map (λ w. w.now) c.args.words.now) c.in-Ok.matches
     c.in_ok-dobutsu_command.ensures.0 c.in-Ok.ensures.kinds c.in-Ok.ensures.matches in
     order_has_line _ asked.0 c.in-Some.order asked.1 (c.in-Some.ensures asked.0 asked.2)
