@@ -1,7 +1,7 @@
 -- The text comes from the subcommand's own matches.
 use Rattle.std.proofs.Common.{◌≡◌, Some, None, option_map, ap, [], ℕ, List, Option}
 use Rattle.std.specs.Prelude.{unwrap_or}
-use Rattle.dob_cli.proofs.Orders.{text_of_matches}
+use Rattle.dob_cli.proofs.Outcomes.{text_of_matches}
 use Rattle.dob_cli.proofs.command.order_of.Goals as goal
 
 pub returns-in_err-get_str-in-value : goal.returns-in_err-get_str-in-value

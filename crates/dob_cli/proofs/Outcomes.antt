@@ -43,9 +43,6 @@ asked_by_matches app words m is kinds matches =
 pub order_is_meant : (m : Meaning) (t : Text) (o : Order) → m ≡ value t → IsValueOrder t o → IsReadingOf m (reading.Order o)
 order_is_meant m t o is holds = rw is holds
 
-pub order_has_line : (words : List Text) (t : Text) (o : Order) → meaning_of words ≡ value t → IsValueOrder t o → ComesFromLine words (reading.Order o)
-order_has_line words t (order.Value s) is holds = rw holds (line_of words t is)
-
 -- ---- refusals
 
 not_true : (b : Bool) → not b ≡ true → b ≡ false
@@ -121,6 +118,21 @@ refusal_of_words app words e is kinds r h =
     let has : HasKind (fault_of dobutsu_app words) e = subst (λ a. HasKind (fault_of a words) e) is (kinds (ap is_simple_and_free is)) in
     refusal_is_meant (meaning_of words) (fault_of dobutsu_app words) (kind_of e) r (words_fit words) has h
 
--- a reading of what the words mean, at a line that asks for the value of a text
-pub read_at_line : (words : List Text) (t : Text) (r : Reading) → IsValueLine words t → IsReadingOf (meaning_of words) r → IsReadingOf (value t) r
-read_at_line words t r line h = subst (λ m. IsReadingOf m r) (line_means words t line) h
+-- ---- lines that ask for the value of a text
+
+-- what is read at such a line is an order for its text
+pub reading_at_line : (words : List Text) (t : Text) (r : Reading) → IsValueLine words t → IsReadingOf (meaning_of words) r → IsReadingOf (value t) r
+reading_at_line words t r line h = subst (λ m. IsReadingOf m r) (line_means words t line) h
+
+-- an order is what only a value is read as
+order_means : (m : Meaning) (s : Bor Text) → IsReadingOf m (reading.Order (order.Value s)) → m ≡ value s.now
+order_means (value t) s h = ap value (sym h)
+order_means help s h = absurd h
+order_means topic s h = absurd h
+order_means usage s h = absurd h
+
+-- so an order is read only at such a line
+pub order_from_line : (words : List Text) (r : Reading) → IsReadingOf (meaning_of words) r → ComesFromLine words r
+order_from_line words (reading.Order (order.Value s)) h = line_of words s.now (order_means (meaning_of words) s h)
+order_from_line words (reading.Help s) h = tt
+order_from_line words (reading.Usage s) h = tt
