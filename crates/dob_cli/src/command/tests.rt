@@ -13,10 +13,10 @@ const TAUGHT: [&str; 6] = [
     "dobutsu value \"..l/.../L../... - -\" prints `win 3`",
 ];
 
-fn expect_help(
+fn expect_help<'a>(
     rt: &impl Abort,
     alloc: Global,
-    words: &[&str],
+    words: &'a [&'a str],
     usage: &str,
 ) -> Result<(), AllocError> {
     let Reading::Help(text) = read_words(alloc, words)? else {
@@ -30,10 +30,10 @@ fn expect_help(
     Ok(())
 }
 
-fn expect_usage(
+fn expect_usage<'a>(
     rt: &impl Abort,
     alloc: Global,
-    words: &[&str],
+    words: &'a [&'a str],
     fault: &str,
 ) -> Result<(), AllocError> {
     let Reading::Usage(text) = read_words(alloc, words)? else {
@@ -93,10 +93,10 @@ fn usage_names_the_fault(rt: HostRuntime) -> Result<(), Fail> {
     Ok(())
 }
 
-fn expect_value(
+fn expect_value<'a>(
     rt: &impl Abort,
     alloc: Global,
-    words: &[&str],
+    words: &'a [&'a str],
     wanted: &str,
 ) -> Result<(), AllocError> {
     let Reading::Order(Order::Value(text)) = read_words(alloc, words)? else {
