@@ -1,0 +1,143 @@
+-- How `clap` reads all the words of the program.
+use Rattle.std.proofs.Common.{◌≡◌, ◌∙◌, ◌==◌, ◌||◌, ℕ, Bool, refl, sym, ap, subst, cond, codes, true, false, [], ◌∷◌, List, Option, Some, None, zero, suc, true≢false}
+use Rattle.std.specs.Prelude.{is_some}
+use Rattle.std.specs.Str.{bytes_eq}
+use Rattle.std.specs.List.{fold}
+use Rattle.std.proofs.lemmas.Slice.Eq.{bytes_eq-Decides}
+use Rattle.clap.specs.Words.{App, Row, built, fault_of, first_of, subcommand_of}
+use Rattle.clap.specs.Walk.{Held, Names, Walk, arg_by_long, arg_by_short, finished, idle, nothing_held, rows_after, settled, subcommand_met, walked}
+use Rattle.clap.specs.Simple.{Shape, entered, names_of}
+use Rattle.clap.specs.Kinds.{Kinds, or_else}
+use Rattle.clap.specs.Faults.{check_fault, defaults_fault, entered_fault, settle_fault, turn_fault, walk_fault}
+use Rattle.clap.specs.declared.error.kind.ErrorKind.TheVariants as kind
+use Rattle.clap.proofs.FaultLemmas.{stopped_fault}
+use Rattle.clap.proofs.WalkLemmas.{walk_stopped}
+use Rattle.dob_cli.specs.Words.{Meaning, Text, help, is_help_flag, is_text, meaning_of, meaning_of_value, topic, usage, value}
+use Rattle.dob_cli.specs.Shapes.{dobutsu_app}
+use Rattle.dob_cli.proofs.Lexing.{flip_bytes, help_dashes, or_false}
+use Rattle.dob_cli.proofs.Turns.{Fits, KnowsHelp, help_flag, is_usage, or_else_usage}
+use Rattle.dob_cli.proofs.Steps.{closed_at, help_turn, open_at, other_turn, text_turn}
+use Rattle.dob_cli.proofs.ValueWords.{value_fits, value_kinds, value_shape}
+
+-- the program's command, built
+abbrev program : App
+program = built dobutsu_app
+
+abbrev top : Shape
+top = program.top
+
+abbrev names : Names
+names = names_of program
+
+subs_are : program.subs ≡ value_shape ∷ Rattle.clap.specs.Simple.built_leaf (Rattle.clap.specs.Simple.help_shape) ∷ []
+subs_are = refl
+
+abbrev start : Walk
+start = open_at [] None 1
+
+knows : KnowsHelp top.rules [] None
+knows = record {
+  by_long = λ name. ap (λ b. cond b (Some help_flag) None) (or_false (bytes_eq (codes "help") name));
+  by_short = λ x. ap (λ b. cond b (Some help_flag) None) (or_false (104 == x));
+  asks = refl;
+}
+
+-- ---- the kinds of error
+
+-- the walk stopped so, at this subcommand
+abbrev ending : Walk → Kinds
+ending e = or_else (entered_fault program e.stopped) (or_else (settle_fault top.rules false e.held)
+    (or_else (defaults_fault (settled top.rules e.held).rows top.rules) (check_fault top (finished top.rules e.held) (is_some (entered program e.stopped)))))
+
+abbrev kinds_at : Walk → List Text → Kinds
+kinds_at w words = or_else (walk_fault top names w words) (ending (fold (walked top.rules names) w words))
+
+kinds_are : (words : List Text) → fault_of dobutsu_app words ≡ kinds_at start words
+kinds_are words = refl
+
+-- one word asks for help
+helps : (w : Walk) (word : Text) (rest : List Text) → turn_fault top names w word ≡ kind.DisplayHelp ∷ [] → kinds_at w (word ∷ rest) ≡ kind.DisplayHelp ∷ []
+unfolding walk_fault
+helps w word rest asks = rw asks refl
+
+-- one word is refused
+refuses : (w : Walk) (word : Text) (rest : List Text) → is_usage (turn_fault top names w word) ≡ true → is_usage (kinds_at w (word ∷ rest)) ≡ true
+unfolding walk_fault
+refuses w word rest fails =
+    or_else_usage (or_else (turn_fault top names w word) (walk_fault top names (walked top.rules names w word) rest)) (ending (fold (walked top.rules names) w (word ∷ rest)))
+    (or_else_usage (turn_fault top names w word) (walk_fault top names (walked top.rules names w word) rest) fails)
+
+-- the words from `value` on
+abbrev entered_at : List Text → Walk
+entered_at words = record start { stopped = Some (codes "value", words) }
+
+value_steps : (rest : List Text) → fold (walked top.rules names) start (codes "value" ∷ rest) ≡ entered_at rest
+unfolding walked
+value_steps rest = sym (walk_stopped top.rules names start (codes "value") [] rest)
+
+value_walks : (rest : List Text) → walk_fault top names start (codes "value" ∷ rest) ≡ []
+unfolding walk_fault walked
+value_walks rest = stopped_fault top names start (codes "value", []) rest
+
+or_else_nil : (k : Kinds) → or_else k [] ≡ k
+or_else_nil [] = refl
+or_else_nil (k ∷ ks) = refl
+
+value_ends : (rest : List Text) → ending (entered_at rest) ≡ or_else (value_kinds rest) []
+unfolding defaults_fault
+value_ends rest = refl
+
+value_kinds_are : (rest : List Text) → kinds_at start (codes "value" ∷ rest) ≡ value_kinds rest
+value_kinds_are rest =
+    ap (λ k. or_else k (ending (fold (walked top.rules names) start (codes "value" ∷ rest)))) (value_walks rest)
+    ∙ (ap ending (value_steps rest) ∙ (value_ends rest ∙ or_else_nil (value_kinds rest)))
+
+-- the words from `help` on
+help_kinds : (rest : List Text) → kinds_at start (codes "help" ∷ rest) ≡ kind.DisplayHelp ∷ kind.InvalidSubcommand ∷ []
+unfolding walk_fault
+help_kinds rest = refl
+
+-- no words, and `--` alone
+no_words : is_usage (kinds_at start []) ≡ true
+unfolding walk_fault defaults_fault
+no_words = refl
+
+only_dashes : is_usage (kinds_at start (codes "--" ∷ [])) ≡ true
+unfolding walk_fault defaults_fault walked
+only_dashes = refl
+
+dashes_more : (word : Text) (rest : List Text) → is_usage (kinds_at start (codes "--" ∷ word ∷ rest)) ≡ true
+unfolding walk_fault walked
+dashes_more word rest = refl
+
+no_subcommand : (word : Text) → bytes_eq (codes "value") word ≡ false → bytes_eq (codes "help") word ≡ false → subcommand_met names idle word ≡ None
+no_subcommand word v h = rw (v, h) refl
+
+-- a first word that names no subcommand
+other_fits : (word : Text) (rest : List Text) → subcommand_met names idle word ≡ None → Fits (cond (is_help_flag word) help usage) (kinds_at start (word ∷ rest))
+other_fits word rest none = go (is_help_flag word) (is_text word) (bytes_eq (codes "--") word) refl refl refl rest
+  where
+    go : (a b d : Bool) → is_help_flag word ≡ a → is_text word ≡ b → bytes_eq (codes "--") word ≡ d → (more : List Text) → Fits (cond a help usage) (kinds_at start (word ∷ more))
+    go true b d asks text e more = helps start word more (help_turn top names [] None 1 word none refl knows asks)
+    go false true d asks text e more = refuses start word more (rw (text_turn top names [] None 1 word none refl text) refl)
+    go false false true asks text e [] = subst (λ w. is_usage (kinds_at start (w ∷ [])) ≡ true) ((bytes_eq-Decides (codes "--") word).0 e) only_dashes
+    go false false true asks text e (v ∷ more) = subst (λ w. is_usage (kinds_at start (w ∷ v ∷ more)) ≡ true) ((bytes_eq-Decides (codes "--") word).0 e) (dashes_more v more)
+    go false false false asks text e more = refuses start word more (other_turn top names [] None 1 word none refl knows text asks (flip_bytes (codes "--") word false e))
+
+-- the kinds of error go with what the words ask for
+pub words_fit : (words : List Text) → Fits (meaning_of words) (fault_of dobutsu_app words)
+words_fit [] = no_words
+words_fit (word ∷ rest) = go (bytes_eq (codes "value") word) (bytes_eq (codes "help") word) refl refl
+  where
+    go : (a b : Bool) → bytes_eq (codes "value") word ≡ a → bytes_eq (codes "help") word ≡ b
+        → Fits (cond a (meaning_of_value rest) (cond b topic (cond (is_help_flag word) help usage))) (kinds_at start (word ∷ rest))
+    go true b v h = subst (λ w. Fits (meaning_of_value rest) (kinds_at start (w ∷ rest))) ((bytes_eq-Decides (codes "value") word).0 v)
+        (rw (value_kinds_are rest) (value_fits rest))
+    go false true v h = subst (λ w. kinds_at start (w ∷ rest) ≡ kind.DisplayHelp ∷ kind.InvalidSubcommand ∷ []) ((bytes_eq-Decides (codes "help") word).0 h) (help_kinds rest)
+    go false false v h = other_fits word rest (no_subcommand word v h)
+
+-- ---- the matches
+
+-- the subcommand `value` is entered, with the words after it
+pub value_entered : (rest : List Text) → subcommand_of dobutsu_app (codes "value" ∷ rest) ≡ Some (codes "value", rows_after value_shape.rules [] rest)
+value_entered rest = ap (λ (w : Walk). entered program w.stopped) (value_steps rest)

@@ -1,0 +1,5 @@
+pub mod Words
+pub mod Shapes
+pub mod Readings
+pub mod Faults
+pub mod Program

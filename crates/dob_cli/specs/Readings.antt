@@ -1,0 +1,35 @@
+-- How what was read of the words goes with what they ask for.
+use Rattle.std.specs.Prelude.{◌≡◌, ◌↔◌, List, Option, Some, codes}
+use Rattle.clap.specs.declared.error.kind.ErrorKind.{ErrorKind}
+use Rattle.clap.specs.declared.error.kind.ErrorKind.TheVariants as kind
+use Rattle.dob_cli.specs.Words.{IsValueLine, Meaning, Text, help, topic, usage, value}
+use Rattle.dob_cli.specs.declared.command.Order.{Order}
+use Rattle.dob_cli.specs.declared.command.Order.TheVariants as order
+use Rattle.dob_cli.specs.declared.command.Reading.{Reading}
+use Rattle.dob_cli.specs.declared.command.Reading.TheVariants as reading
+
+-- the order is for the value of this text
+abbrev pub IsValueOrder : Text → Order → Type 0
+IsValueOrder text (order.Value t) = t.now ≡ text
+
+-- what was read is what the words ask for
+abbrev pub IsReadingOf : Meaning → Reading → Type 0
+IsReadingOf (value text) (reading.Order o) = IsValueOrder text o
+IsReadingOf help (reading.Help _) = Unit {0}
+IsReadingOf topic (reading.Help _) = Unit {0}
+IsReadingOf topic (reading.Usage _) = Unit {0}
+IsReadingOf usage (reading.Usage _) = Unit {0}
+IsReadingOf _ _ = ⊥
+
+-- an order for the value of a text is read only from a line that asks for it
+abbrev pub ComesFromLine : List Text → Reading → Type 0
+ComesFromLine words (reading.Order (order.Value t)) = IsValueLine words t.now
+ComesFromLine words _ = Unit {0}
+
+-- what a refusal of this kind is read as
+abbrev pub IsReadingOfKind : ErrorKind → Reading → Type 0
+IsReadingOfKind kind.OutOfMemory _ = ⊥
+IsReadingOfKind kind.DisplayHelp (reading.Help _) = Unit {0}
+IsReadingOfKind kind.DisplayHelp _ = ⊥
+IsReadingOfKind _ (reading.Usage _) = Unit {0}
+IsReadingOfKind _ _ = ⊥

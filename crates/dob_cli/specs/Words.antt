@@ -1,0 +1,73 @@
+-- What the words after the program's name ask for, without a word on how they are read. A word is
+-- the list of its bytes.
+use Rattle.std.specs.Prelude.{◌≡◌, ◌⊎◌, ◌==◌, ◌||◌, ℕ, Bool, true, false, not, List, [], ◌∷◌, Option, Some, None, is_some}
+use Rattle.std.specs.Prelude.{if◌then◌else◌, codes, slice_get}
+use Rattle.std.specs.Option.{option_map_or}
+use Rattle.std.specs.Str.{bytes_eq, chars}
+
+abbrev pub Text : Type 0
+Text = List ℕ
+
+-- the character after a word's leading `-` (45); a lone `-` has none
+abbrev pub flag_of : Text → Option ℕ
+flag_of [] = None
+flag_of (c ∷ rest) = if c == 45 then slice_get (chars rest) 0 else None
+
+-- the word is a text: it does not begin with `-`, or is a lone `-`
+abbrev pub is_text : Text → Bool
+is_text word = not (is_some (flag_of word))
+
+abbrev pub is_dashes : Text → Bool
+is_dashes word = bytes_eq (codes "--") word
+
+-- the word is `--help`, `-h` or begins with `-h` (104)
+abbrev pub is_help_flag : Text → Bool
+is_help_flag word =
+    bytes_eq (codes "--help") word || option_map_or (λ c. 104 == c) (flag_of word) false
+
+-- what the words ask for
+pub data Meaning : Type 0 where
+  -- the value of the position that the text names
+  value : Text → Meaning
+  -- the help text
+  help : Meaning
+  -- the subcommand `help` and what follows it: a help text, or usage where nothing has that name
+  topic : Meaning
+  -- nothing that the program knows
+  usage : Meaning
+
+-- after `value --`: one word, whatever it begins with
+abbrev pub meaning_of_bare : List Text → Meaning
+meaning_of_bare (text ∷ []) = value text
+meaning_of_bare _ = usage
+
+-- after `value` and a text: nothing more, but for a last `--` or a call for help
+abbrev pub meaning_of_rest : Text → List Text → Meaning
+meaning_of_rest text [] = value text
+meaning_of_rest text (word ∷ []) =
+    if is_dashes word then value text else (if is_help_flag word then help else usage)
+meaning_of_rest text (word ∷ _) = if is_help_flag word then help else usage
+
+-- after `value`
+abbrev pub meaning_of_value : List Text → Meaning
+meaning_of_value [] = usage
+meaning_of_value (word ∷ rest) =
+    if is_text word then meaning_of_rest word rest
+    else (if is_dashes word then meaning_of_bare rest
+    else (if is_help_flag word then help else usage))
+
+-- of all the words
+abbrev pub meaning_of : List Text → Meaning
+meaning_of [] = usage
+meaning_of (word ∷ rest) =
+    if bytes_eq (codes "value") word then meaning_of_value rest
+    else (if bytes_eq (codes "help") word then topic
+    else (if is_help_flag word then help else usage))
+
+-- the words are `value TEXT`, `value -- TEXT` or `value TEXT --`, where only behind `--` the text
+-- may look like an option
+abbrev pub IsValueLine : List Text → Text → Type 0
+IsValueLine words text =
+    ((words ≡ codes "value" ∷ text ∷ []) × (is_text text ≡ true))
+    ⊎ ((words ≡ codes "value" ∷ codes "--" ∷ text ∷ [])
+    ⊎ ((words ≡ codes "value" ∷ text ∷ codes "--" ∷ []) × (is_text text ≡ true)))
