@@ -1,5 +1,5 @@
 -- What the words after the program's name ask for, without a word on how they are read. A word is
--- the list of its bytes.
+-- the list of its bytes, which are UTF-8.
 use Rattle.std.specs.Prelude.{◌≡◌, ◌⊎◌, ◌==◌, ◌||◌, ℕ, Bool, true, false, not, List, [], ◌∷◌, Option, None, is_some}
 use Rattle.std.specs.Prelude.{if◌then◌else◌, codes, slice_get}
 use Rattle.std.specs.Option.{option_map_or}
