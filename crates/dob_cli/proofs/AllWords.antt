@@ -1,22 +1,22 @@
 -- How `clap` reads all the words of the program.
-use Rattle.std.proofs.Common.{◌≡◌, ◌∙◌, ◌==◌, ◌||◌, ℕ, Bool, refl, sym, ap, subst, cond, codes, true, false, [], ◌∷◌, List, Option, Some, None, zero, suc, true≢false}
+use Rattle.std.proofs.Common.{◌≡◌, ◌∙◌, ◌==◌, Bool, refl, sym, ap, subst, cond, codes, true, false, [], ◌∷◌, List, Some, None}
 use Rattle.std.specs.Prelude.{is_some}
 use Rattle.std.specs.Str.{bytes_eq}
 use Rattle.std.specs.List.{fold}
 use Rattle.std.proofs.lemmas.Slice.Eq.{bytes_eq-Decides}
-use Rattle.clap.specs.Words.{App, Row, built, fault_of, first_of, subcommand_of}
-use Rattle.clap.specs.Walk.{Held, Names, Walk, arg_by_long, arg_by_short, finished, idle, nothing_held, rows_after, settled, subcommand_met, walked}
+use Rattle.clap.specs.Words.{App, built, fault_of, subcommand_of}
+use Rattle.clap.specs.Walk.{Names, Walk, finished, idle, rows_after, settled, subcommand_met, walked}
 use Rattle.clap.specs.Simple.{Shape, entered, names_of}
 use Rattle.clap.specs.Kinds.{Kinds, or_else}
 use Rattle.clap.specs.Faults.{check_fault, defaults_fault, entered_fault, settle_fault, turn_fault, walk_fault}
 use Rattle.clap.specs.declared.error.kind.ErrorKind.TheVariants as kind
 use Rattle.clap.proofs.FaultLemmas.{stopped_fault}
 use Rattle.clap.proofs.WalkLemmas.{walk_stopped}
-use Rattle.dob_cli.specs.Words.{Meaning, Text, help, is_help_flag, is_text, meaning_of, meaning_of_value, topic, usage, value}
+use Rattle.dob_cli.specs.Words.{Text, help, is_help_flag, is_text, meaning_of, meaning_of_value, topic, usage}
 use Rattle.dob_cli.specs.Shapes.{dobutsu_app}
-use Rattle.dob_cli.proofs.Lexing.{flip_bytes, help_dashes, or_false}
+use Rattle.dob_cli.proofs.Lexing.{flip_bytes, or_false}
 use Rattle.dob_cli.proofs.Turns.{Fits, KnowsHelp, help_flag, is_usage, or_else_usage}
-use Rattle.dob_cli.proofs.Steps.{closed_at, help_turn, open_at, other_turn, text_turn}
+use Rattle.dob_cli.proofs.Steps.{help_turn, open_at, other_turn, text_turn}
 use Rattle.dob_cli.proofs.ValueWords.{value_fits, value_kinds, value_shape}
 
 -- the program's command, built

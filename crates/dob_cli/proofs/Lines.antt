@@ -1,16 +1,14 @@
 -- The lines that ask for the value of a text, and what `clap` finds in them.
-use Rattle.std.proofs.Common.{◌≡◌, ◌∙◌, ◌⊎◌, ℕ, Bool, not, is_some, inl, inr, refl, sym, ap, subst, cond, codes, true, false, [], ◌∷◌, List, Option, Some, None, true≢false}
-use Rattle.std.specs.Prelude.{option_map}
+use Rattle.std.proofs.Common.{◌≡◌, ◌∙◌, ◌⊎◌, ℕ, Bool, not, is_some, inl, inr, refl, sym, ap, subst, cond, codes, true, false, [], ◌∷◌, List, Option, Some, true≢false}
 use Rattle.std.specs.Str.{bytes_eq}
 use Rattle.std.proofs.lemmas.Slice.Eq.{bytes_eq-Decides}
-use Rattle.clap.specs.Words.{Row, fault_of, first_of, subcommand_of}
-use Rattle.clap.specs.Kinds.{Kinds}
+use Rattle.clap.specs.Words.{subcommand_of}
 use Rattle.dob_cli.specs.Words.{IsValueLine, Meaning, Text, help, is_dashes, is_help_flag, is_text, meaning_of, meaning_of_bare, meaning_of_rest, meaning_of_value, topic, usage, value}
 use Rattle.dob_cli.specs.Shapes.{dobutsu_app, found_in}
 use Rattle.dob_cli.proofs.Lexing.{hyphen_first}
 use Rattle.dob_cli.proofs.Turns.{Fits}
 use Rattle.dob_cli.proofs.ValueWords.{position_in, text_found, text_found_bare, text_found_before}
-use Rattle.dob_cli.proofs.AllWords.{value_entered, words_fit}
+use Rattle.dob_cli.proofs.AllWords.{value_entered}
 
 -- ---- a value is asked for only by such a line
 

@@ -1,11 +1,10 @@
 -- What one word of the program's command line does to the walk over the words.
-use Rattle.std.proofs.Common.{◌≡◌, ◌∙◌, ℕ, Bool, refl, sym, ap, cond, codes, true, false, [], ◌∷◌, List, Option, Some, None, zero, suc, true≢false}
+use Rattle.std.proofs.Common.{◌≡◌, ◌∙◌, ℕ, ap, codes, true, false, [], ◌∷◌, List, Option, None}
 use Rattle.std.specs.Str.{bytes_eq}
-use Rattle.clap.specs.Walk.{Held, Names, Row, Rule, Step, Walk, after_step, arg_by_index, idle, subcommand_met, to_positional, value, walked, word_met}
+use Rattle.clap.specs.Walk.{Held, Names, Row, Step, Walk, after_step, arg_by_index, idle, subcommand_met, to_positional, value, walked, word_met}
 use Rattle.clap.specs.Simple.{Shape}
-use Rattle.clap.specs.Lexer.{long_of}
 use Rattle.clap.specs.Kinds.{Kinds, or_else}
-use Rattle.clap.specs.Faults.{flag_word_fault, step_fault, turn_fault, word_fault}
+use Rattle.clap.specs.Faults.{step_fault, turn_fault, word_fault}
 use Rattle.clap.specs.declared.error.kind.ErrorKind.TheVariants as kind
 use Rattle.dob_cli.specs.Words.{Text, is_help_flag, is_text}
 use Rattle.dob_cli.proofs.Lexing.{view, text_flag, text_differs, help_differs}

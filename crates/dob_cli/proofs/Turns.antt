@@ -1,23 +1,23 @@
 -- What `clap` makes of one word of the program's command line, at a command whose one flag is the
 -- help flag.
-use Rattle.std.proofs.Common.{◌≡◌, ◌∙◌, ◌==◌, ◌||◌, ◌&&◌, ℕ, Bool, refl, sym, ap, subst, cond, codes, true, false, [], ◌∷◌, List, Option, Some, None, length, zero, suc, true≢false}
-use Rattle.std.specs.Prelude.{slice_get, is_some, drop, encode_utf8, not}
+use Rattle.std.proofs.Common.{◌≡◌, ◌∙◌, ◌==◌, ◌&&◌, ℕ, Bool, refl, sym, ap, subst, cond, codes, true, false, [], ◌∷◌, List, Option, Some, None, length, zero, suc, true≢false}
+use Rattle.std.specs.Prelude.{slice_get, is_some, not}
 use Rattle.std.specs.Option.{option_map_or}
 use Rattle.std.specs.List.{before_first}
 use Rattle.std.specs.Str.{bytes_eq, chars}
 use Rattle.std.proofs.lemmas.Slice.Eq.{bytes_eq-Decides}
 use Rattle.clap.specs.Words.{Rule, is_simple_and_free}
 use Rattle.clap.specs.Walk.{value as walk_value}
-use Rattle.clap.specs.Walk.{Held, Row, Step, plain, idle, arg_by_long, arg_by_short, bundle_met, long_or_other, short_or_plain, takes_values}
+use Rattle.clap.specs.Walk.{Held, Row, plain, idle, arg_by_long, arg_by_short, bundle_met, long_or_other}
 use Rattle.clap.specs.Simple.{filled, help_rule}
-use Rattle.clap.specs.Lexer.{has_byte, long_of, short_of}
+use Rattle.clap.specs.Lexer.{has_byte, long_of}
 use Rattle.clap.specs.Kinds.{Kinds, or_else}
-use Rattle.clap.specs.Faults.{bundle_fault, flag_word_fault, flags_fault, long_fault, react_fault, short_fault}
+use Rattle.clap.specs.Faults.{flag_word_fault, flags_fault, long_fault, react_fault, short_fault}
 use Rattle.clap.specs.declared.error.kind.ErrorKind.{ErrorKind}
 use Rattle.clap.specs.declared.error.kind.ErrorKind.TheVariants as kind
 use Rattle.dob_cli.specs.Words.{Meaning, Text, flag_of, help, is_help_flag, is_text, topic, usage, value}
 use Rattle.dob_cli.specs.Shapes.{dobutsu_app}
-use Rattle.dob_cli.proofs.Lexing.{help_letter, help_hyphen, help_dashes, help_long, help_short, View, view, empty, letter, hyphen, dashes, long, short, hyphen_first, no_first, long_letter, short_letter, flag_letter, long_short, short_short, before_none}
+use Rattle.dob_cli.proofs.Lexing.{help_letter, help_hyphen, help_dashes, help_long, help_short, View, empty, letter, hyphen, dashes, long, short, hyphen_first, no_first, long_letter, short_letter, flag_letter, long_short, short_short, before_none}
 
 pub simple : is_simple_and_free dobutsu_app ≡ true
 simple = refl

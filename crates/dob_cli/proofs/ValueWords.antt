@@ -1,19 +1,18 @@
 -- How `clap` reads the words after `value`.
-use Rattle.std.proofs.Common.{ap₂, ◌≡◌, ◌∙◌, ◌==◌, ◌||◌, ℕ, Bool, refl, sym, ap, subst, cond, codes, true, false, [], ◌∷◌, List, Option, Some, None, zero, suc, true≢false}
+use Rattle.std.proofs.Common.{ap₂, ◌≡◌, ◌∙◌, ◌==◌, ℕ, Bool, refl, ap, subst, cond, codes, true, false, [], ◌∷◌, List, Option, Some, None}
 use Rattle.std.specs.Str.{bytes_eq}
 use Rattle.std.specs.List.{fold}
 use Rattle.std.proofs.lemmas.Slice.Eq.{bytes_eq-Decides}
 use Rattle.clap.specs.Words.{first_of}
 use Rattle.clap.specs.Walk.{Held, Rule, Walk, finished, idle, nothing_held, rows_after, settled, walk_from, walked}
-use Rattle.clap.specs.Simple.{App, Shape, built_leaf, inherited, marked_built, with_leaf_noted}
+use Rattle.clap.specs.Simple.{Shape, built_leaf, inherited, marked_built, with_leaf_noted}
 use Rattle.clap.specs.Kinds.{Kinds, or_else}
-use Rattle.clap.specs.Faults.{check_fault, defaults_fault, level_fault, settle_fault, step_fault, turn_fault, walk_fault}
+use Rattle.clap.specs.Faults.{check_fault, defaults_fault, level_fault, settle_fault, turn_fault, walk_fault}
 use Rattle.clap.specs.declared.error.kind.ErrorKind.TheVariants as kind
-use Rattle.clap.proofs.OnLiterals.{clap_on_literals}
-use Rattle.dob_cli.specs.Words.{Meaning, Text, help, is_dashes, is_help_flag, is_text, meaning_of_bare, meaning_of_rest, meaning_of_value, usage, value}
+use Rattle.dob_cli.specs.Words.{Text, help, is_dashes, is_help_flag, is_text, meaning_of_bare, meaning_of_rest, meaning_of_value, usage, value}
 use Rattle.dob_cli.specs.Shapes.{dobutsu_app, value_app}
 use Rattle.dob_cli.proofs.Lexing.{flip_bytes, help_dashes, or_false}
-use Rattle.dob_cli.proofs.Turns.{KnowsHelp, help_flag, Fits, held, is_usage, or_else_usage}
+use Rattle.dob_cli.proofs.Turns.{KnowsHelp, help_flag, Fits, is_usage, or_else_usage}
 use Rattle.dob_cli.proofs.Steps.{closed_at, help_turn, open_at, other_turn, text_turn, text_walked}
 
 -- the subcommand `value`, built

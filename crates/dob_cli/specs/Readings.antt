@@ -1,5 +1,5 @@
 -- How what was read of the words goes with what they ask for.
-use Rattle.std.specs.Prelude.{◌≡◌, ◌↔◌, List, Option, Some, codes}
+use Rattle.std.specs.Prelude.{◌≡◌, List}
 use Rattle.clap.specs.declared.error.kind.ErrorKind.{ErrorKind}
 use Rattle.clap.specs.declared.error.kind.ErrorKind.TheVariants as kind
 use Rattle.dob_cli.specs.Words.{IsValueLine, Meaning, Text, help, topic, usage, value}

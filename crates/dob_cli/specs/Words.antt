@@ -1,6 +1,6 @@
 -- What the words after the program's name ask for, without a word on how they are read. A word is
--- the list of its bytes.
-use Rattle.std.specs.Prelude.{◌≡◌, ◌⊎◌, ◌==◌, ◌||◌, ℕ, Bool, true, false, not, List, [], ◌∷◌, Option, Some, None, is_some}
+-- the list of its bytes, which are UTF-8.
+use Rattle.std.specs.Prelude.{◌≡◌, ◌⊎◌, ◌==◌, ◌||◌, ℕ, Bool, true, false, not, List, [], ◌∷◌, Option, None, is_some}
 use Rattle.std.specs.Prelude.{if◌then◌else◌, codes, slice_get}
 use Rattle.std.specs.Option.{option_map_or}
 use Rattle.std.specs.Str.{bytes_eq, chars}

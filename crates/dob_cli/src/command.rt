@@ -1,4 +1,7 @@
-// What the words of the program `dobutsu` ask for, read by `clap`.
+// What the words of the program `dobutsu` ask for, read by `clap`. A further subcommand has a
+// variant of `Order`, a case of `Meaning` and of `meaning_of` (specs/Words.antt), a function that
+// makes its command, an arm in `order_of`, its shape (specs/Shapes.antt) and a file like
+// proofs/ValueWords.antt.
 ghost use Rattle.std.specs.Prelude.{◌≡◌, IfOk, IsSomeAnd, Some, codes, map};
 ghost use Rattle.clap.specs.Words.{kind_of, subcommand_rows_of};
 ghost use Rattle.dob_cli.specs.Words.{IsValueLine, meaning_of, value};
@@ -39,7 +42,8 @@ Answers: `win D`, `loss D` or `draw`, where D is the distance in plies.
 
 Example: dobutsu value \"..l/.../L../... - -\" prints `win 3`.";
 
-/// Reads the words after the program's name. The text of an `Order` is one of the words.
+/// Reads the words after the program's name. `--help`, `-h` and the subcommand `help` give the help.
+/// A word that begins with `-` is an option, but for a lone `-`, the first `--` and what follows it.
 ///
 /// # Errors
 ///

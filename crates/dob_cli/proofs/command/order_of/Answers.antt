@@ -1,5 +1,5 @@
 -- The text comes from the subcommand's own matches.
-use Rattle.std.proofs.Common.{◌≡◌, Some, None, option_map, ap, [], ℕ, List, Option}
+use Rattle.std.proofs.Common.{◌≡◌, Some, None, ap, [], ℕ, List, Option}
 use Rattle.std.specs.Prelude.{unwrap_or}
 use Rattle.dob_cli.proofs.Outcomes.{text_of_matches}
 use Rattle.dob_cli.proofs.command.order_of.Goals as goal
