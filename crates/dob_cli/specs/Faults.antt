@@ -1,6 +1,8 @@
 -- The program's faults as they are printed, and their exit statuses.
 use Rattle.std.specs.Prelude.{ℕ, List, [], ◌∷◌, ◌++◌, codes}
 use Rattle.dob_text.specs.Faults as position
+use Rattle.dob_value.specs.declared.fault.Fault as value
+use Rattle.dob_value.specs.declared.fault.Fault.TheVariants as value_fault
 use Rattle.dob_cli.specs.declared.fault.Fault.{Fault}
 use Rattle.dob_cli.specs.declared.fault.Fault.TheVariants.{Text, SetTooLarge, TooDeep, Memory, Io}
 
@@ -22,3 +24,9 @@ status_of SetTooLarge = 1
 status_of TooDeep = 3
 status_of Memory = 3
 status_of Io = 3
+
+-- a fault of finding a value
+abbrev pub fault_of_value : value.Fault → Fault
+fault_of_value value_fault.SetTooLarge = SetTooLarge
+fault_of_value value_fault.TooDeep = TooDeep
+fault_of_value value_fault.Memory = Memory

@@ -42,6 +42,10 @@ IsFaultOf text TooDeep = (position : Setup) × IsLegal position × Spells text p
 IsFaultOf text Memory = Unit {0}
 IsFaultOf text Io = Unit {0}
 
+-- the bytes are the line of the value that the text's position has
+abbrev pub IsValueLineOf : List ℕ → List ℕ → Type 0
+IsValueLineOf text line = (value : Value) × IsValueOf text value × (line ≡ value_line value)
+
 -- It told the value: status 0, the value's line on standard output and nothing else.
 pub record TellsValue (text : List ℕ) (status : ℕ) (out out' err err' : Bytes) : Type 0 where
   pub value : Value
@@ -62,3 +66,16 @@ pub record TellsFault (text : List ℕ) (status : ℕ) (out out' err err' : Byte
 -- what the program does where it is asked for the value of the position that a text names
 abbrev pub AnswersValue : List ℕ → ℕ → Bytes → Bytes → Bytes → Bytes → Type 0
 AnswersValue text status out out' err err' = TellsValue text status out out' err err' ⊎ TellsFault text status out out' err err'
+
+-- The fault, or that no memory was left for telling it: its status, and its line on standard error as far as that
+-- takes it.
+abbrev pub TellsOneFault : Fault → ℕ → Bytes → Bytes → Type 0
+TellsOneFault fault status err err' =
+    ((status ≡ status_of fault) × AppendsPart err err' (fault_line fault))
+  ⊎ ((status ≡ status_of Memory) × AppendsPart err err' (fault_line Memory))
+
+-- The line on standard output and status 0; or a beginning of it, and the fault of a failing output.
+abbrev pub Tells : List ℕ → ℕ → Bytes → Bytes → Bytes → Bytes → Type 0
+Tells line status out out' err err' =
+    ((status ≡ 0) × Appends out out' line × Keeps err err')
+  ⊎ (AppendsPart out out' line × TellsOneFault Io status err err')

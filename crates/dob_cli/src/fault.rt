@@ -1,6 +1,6 @@
 // The faults of the program, their lines and their exit statuses.
 ghost use Rattle.std.specs.Prelude.{◌≡◌, Some};
-ghost use Rattle.dob_cli.specs.Faults.{status_of, fault_text};
+ghost use Rattle.dob_cli.specs.declared.fault.Fault.TheVariants as fault;
 
 use dob_text::TextFault;
 use std::alloc::AllocError;
@@ -23,6 +23,8 @@ pub enum Fault {
 }
 
 impl Fault {
+    ghost use Rattle.dob_cli.specs.Faults.{status_of};
+
     /// The exit status: 1 where what was asked is refused, 3 where the program failed.
     pub fn status(self) -> u8
         ensures { result ≡ status_of self }
@@ -35,6 +37,8 @@ impl Fault {
 }
 
 impl fmt::Display for Fault {
+    ghost use Rattle.dob_cli.specs.Faults.{fault_text};
+
     ghost output = { λ fault. Some (fault_text fault) };
 
     fn fmt<W: fmt::Write>(&self, f: &mut fmt::Formatter<W>) -> fmt::Result {
@@ -49,3 +53,33 @@ impl fmt::Display for Fault {
 }
 
 impl Error for Fault {}
+
+impl From<TextFault> for Fault {
+    ghost from_gives = { λ given result. result ≡ fault.Text given };
+
+    fn from(given: TextFault) -> Fault {
+        Fault::Text(given)
+    }
+}
+
+impl From<dob_value::Fault> for Fault {
+    ghost use Rattle.dob_cli.specs.Faults.{fault_of_value};
+
+    ghost from_gives = { λ given result. result ≡ fault_of_value given };
+
+    fn from(given: dob_value::Fault) -> Fault {
+        match given {
+            dob_value::Fault::SetTooLarge => Fault::SetTooLarge,
+            dob_value::Fault::TooDeep => Fault::TooDeep,
+            dob_value::Fault::Memory => Fault::Memory,
+        }
+    }
+}
+
+impl From<AllocError> for Fault {
+    ghost from_gives = { λ _ result. result ≡ fault.Memory };
+
+    fn from(_refused: AllocError) -> Fault {
+        Fault::Memory
+    }
+}

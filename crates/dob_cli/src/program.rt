@@ -22,12 +22,21 @@ const USAGE: u8 = 2;
 /// The status is 0 where it is done or help was asked for, 1 where what was asked is refused, 2 for words that it
 /// doesn't know, 3 for want of memory, for a distance above 65,534 plies and where `out` fails. Where `err` fails,
 /// the status is the same.
-pub fn run_words<O: Write, E: Write>(
+pub fn run_words<'a, O: Write, E: Write>(
     alloc: Global,
-    words: &[&str],
+    words: &'a [&'a str],
     out: &mut O,
     err: &mut E,
-) -> u8 {
+) -> u8
+    // Where the words ask for the value of a position: its line, or the line of a fault that holds.
+    ensures value { (text : List ℕ) → meaning_of (map (λ w. w.now) words.now) ≡ words.value text
+        → AnswersValue text result (O.contents out.old) (O.contents out.new) (E.contents err.old) (E.contents err.new) }
+    // Where they ask for help: status 0 and nothing on standard error, or standard output or memory failed.
+    ensures help { meaning_of (map (λ w. w.now) words.now) ≡ words.help → result ≡ 0 ⊎ result ≡ 3 }
+    // Where they are none that the program knows: status 2 and nothing on standard output, or memory failed.
+    ensures usage { meaning_of (map (λ w. w.now) words.now) ≡ words.usage
+        → (result ≡ 2 ⊎ result ≡ 3) × Keeps (O.contents out.old) (O.contents out.new) }
+{
     match read_words(alloc, words) {
         Err(AllocError) => tell_fault(alloc, Fault::Memory, err),
         Ok(Reading::Help(text)) => tell(alloc, text.as_str(), out, err),
