@@ -1,7 +1,7 @@
 -- The letters of a hand: three runs, one after another.
-use Rattle.std.proofs.Common.{◌≡◌, ◌≢◌, ◌==◌, ◌<◌, ◌≤◌, ◌+◌, ◌-◌, ℕ, suc, zero, Bool, true, false, List, [], ◌∷◌, ◌++◌, length, get_or, take, drop, replicate, refl, sym, ap, ◌∙◌, inl, inr, ◌⊎◌, subst, arith, append_assoc, length-append}
+use Rattle.std.proofs.Common.{◌≡◌, ◌≢◌, ◌==◌, ◌<◌, ◌≤◌, ◌+◌, ◌-◌, ℕ, suc, zero, true, List, [], ◌∷◌, ◌++◌, length, get_or, take, drop, replicate, refl, sym, ap, ◌∙◌, inl, inr, ◌⊎◌, subst, arith, append_assoc, length-append}
 use Rattle.std.specs.List.{prefix_len}
-use Rattle.std.proofs.lemmas.List.{take_at, drop_at, get_or-take, get_or-replicate, length-replicate, length-take-le, get_or_append_left, get_or-append_right, ext_get_or, take-append-drop, append-nil, take_all, nil_from_length}
+use Rattle.std.proofs.lemmas.List.{drop_at, get_or-take, get_or-replicate, length-replicate, length-take-le, get_or_append_left, get_or-append_right, ext_get_or, take-append-drop, append-nil, take_all}
 use Rattle.std.proofs.lemmas.List.Sums.{prefix_len_is, prefix_len_passes, prefix_len-le-length}
 use Rattle.std.proofs.lemmas.Bool.Decides.{nat_tests}
 use Rattle.dob_pieces.specs.declared.hand.Hand.{Hand}

@@ -1,11 +1,10 @@
 -- The text of a board stands for one board.
-use Rattle.std.proofs.Common.{if◌then◌else◌, nat_lt, ◌==◌, ◌≡◌, ◌≢◌, ◌<◌, ◌%◌, ◌↔◌, ◌-◌, ◌+◌, ◌*◌, ℕ, suc, zero, List, [], ◌∷◌, ◌++◌, length, get_or, All, Some, None, refl, sym, ap, ◌∙◌, arith}
+use Rattle.std.proofs.Common.{if◌then◌else◌, nat_lt, ◌==◌, ◌≡◌, ◌≢◌, ◌<◌, ◌%◌, ◌↔◌, ◌-◌, ℕ, suc, zero, List, [], ◌∷◌, length, get_or, All, Some, None, refl, sym, ap, ◌∙◌, arith}
 use Rattle.std.proofs.lemmas.List.Elements.{All-from_get_or}
 use Rattle.dob_pieces.specs.declared.kind.Kind.{Kind}
 use Rattle.dob_pieces.specs.declared.kind.Kind.TheVariants.{Lion, Giraffe, Elephant, Chick, Hen}
 use Rattle.dob_pieces.specs.declared.kind.Side.{Side}
 use Rattle.dob_pieces.specs.declared.kind.Side.TheVariants.{Mover, Enemy}
-use Rattle.dob_pieces.specs.declared.kind.Piece.{Piece}
 use Rattle.dob_pieces.specs.Setups.{Cell}
 use Rattle.dob_text.specs.Letters.{letter_of_kind, cased, letter_of}
 use Rattle.dob_text.specs.PositionText.{board_text, IsGrid, IsBoardLetter, HasLetters}

@@ -1,11 +1,11 @@
 -- A text is joined from its parts in one way.
-use Rattle.std.proofs.Common.{Bool, ◌≡◌, ◌≢◌, ◌==◌, ◌<◌, ◌≤◌, ◌+◌, ℕ, List, [], ◌∷◌, ◌++◌, length, get_or, take, drop, All, Option, Some, None, true, false, eqb, refl, sym, subst, ap, ◌∙◌, arith, append_assoc, length-append}
+use Rattle.std.proofs.Common.{Bool, ◌≡◌, ◌≢◌, ◌==◌, ◌<◌, ◌≤◌, ◌+◌, ℕ, List, [], ◌∷◌, ◌++◌, length, get_or, take, drop, All, Some, None, true, false, refl, sym, subst, ap, ◌∙◌, arith, append_assoc, length-append}
 use Rattle.std.specs.List.{position, position_or_len, before_first, after_first}
-use Rattle.std.proofs.lemmas.List.{take_at, drop_at, get_or_at, get_or_append_left, take-append-drop, drop_more, take_rest}
+use Rattle.std.proofs.lemmas.List.{take_at, drop_at, get_or_at, get_or_append_left, take-append-drop, drop_more}
 use Rattle.std.proofs.lemmas.List.Quantifiers.{position-Some}
 use Rattle.std.proofs.lemmas.List.Sums.{position_or_len_is}
 use Rattle.std.proofs.lemmas.Bool.Decides.{nat_tests}
-use Rattle.dob_text.specs.PositionText.{IsWord, IsGrid, AreWords, AreParts, HasShape}
+use Rattle.dob_text.specs.PositionText.{IsWord, AreWords, AreParts, HasShape}
 
 -- the fronts are of one length
 pub same_split : (a b x y : List ℕ) → length a ≡ length b → a ++ x ≡ b ++ y → (a ≡ b) × (x ≡ y)

@@ -1,17 +1,15 @@
 -- A text has one fault at most, and none where a position's text is.
-use Rattle.std.proofs.Common.{◌≡◌, ◌<◌, ◌≤◌, ◌+◌, ◌↔◌, ℕ, List, Result, Ok, Err, min, refl, sym, subst, ap, ◌∙◌, arith, inl, inr}
+use Rattle.std.proofs.Common.{◌≡◌, ◌<◌, ◌≤◌, ◌↔◌, ℕ, List, Result, Ok, Err, refl, sym, subst, ap, ◌∙◌, arith, inl, inr}
 use Rattle.std.specs.Result.{MatchResult, IsErrOf, IfOk, IsOkAnd}
 use Rattle.std.proofs.lemmas.Bool.{cases_lt}
-use Rattle.dob_pieces.specs.declared.kind.HandKind.{HandKind}
 use Rattle.dob_pieces.specs.declared.kind.HandKind.TheVariants as kind
-use Rattle.dob_pieces.specs.declared.hand.Hand.{Hand}
 use Rattle.dob_pieces.specs.declared.setup.Setup.{Setup}
 use Rattle.dob_pieces.specs.declared.position.Position.{Position}
-use Rattle.dob_pieces.specs.Setups.{total, held, HasLions, HasFewPieces, HasLionAtHome, IsLegal}
+use Rattle.dob_pieces.specs.Setups.{total, HasLions, HasFewPieces, HasLionAtHome, IsLegal}
 use Rattle.dob_text.specs.declared.fault.TextFault.{TextFault}
 use Rattle.dob_text.specs.declared.fault.TextFault.TheVariants as fault
 use Rattle.dob_text.specs.PositionText.{Spells, text_of}
-use Rattle.dob_text.specs.Readings.{capped, capped_setup}
+use Rattle.dob_text.specs.Readings.{capped_setup}
 use Rattle.dob_text.specs.Faults.{HasFault, IsRefused}
 use Rattle.dob_text.proofs.Fronts.{same_hand}
 use Rattle.dob_text.proofs.Whole.{spelled_shape, spelled_letters, spelled_hands, same_spelled, same_setup}

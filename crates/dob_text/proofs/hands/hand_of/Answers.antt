@@ -1,5 +1,5 @@
 -- A dash, three runs of letters, or no hand's text.
-use Rattle.std.proofs.Common.{◌≡◌, ◌≢◌, ◌<◌, ◌≤◌, ◌-◌, ℕ, List, [], ◌∷◌, length, get_or, take, drop, refl, ap, ◌∙◌, arith}
+use Rattle.std.proofs.Common.{◌≡◌, ◌≢◌, ◌-◌, ℕ, List, [], ◌∷◌, length, get_or, take, drop, refl, ap, ◌∙◌, arith}
 use Rattle.std.proofs.lemmas.List.{take_rest}
 use Rattle.dob_text.proofs.Fronts.{Counts, counts, one_byte, same_hand, hand_spelled, hand_refused}
 use Rattle.dob_text.proofs.hands.hand_of.Goals as goal
