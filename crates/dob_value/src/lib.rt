@@ -1,6 +1,8 @@
 // The value of a position: who wins, and in how many plies.
 #![tactic(auto)]
 
+mod laws;
 mod value;
 
+pub use laws::{lost_stays_lost, not_won_and_lost, one_value, won_stays_won};
 pub use value::Value;
