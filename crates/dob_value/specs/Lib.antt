@@ -1,2 +1,4 @@
 pub mod Values
 pub mod Depths
+pub mod Entries
+pub mod Graphs

@@ -1,7 +1,9 @@
 // The value of a position: who wins, and in how many plies.
 #![tactic(auto)]
 
+mod graph;
 mod laws;
+mod sweep;
 mod value;
 
 pub use laws::{lost_stays_lost, not_won_and_lost, one_value, won_stays_won};

@@ -1,0 +1,57 @@
+-- Positions with their statuses and the numbers of their successors, and tables of values for them.
+use Rattle.std.specs.Prelude.{◌≡◌, ℕ, ◌+◌, ◌≤◌, ◌<◌, List, length, Some, Contains, slice_get, slice_index_or}
+use Rattle.dob_pieces.specs.declared.setup.Setup.{Setup}
+use Rattle.dob_moves.specs.declared.moves.Move.{Move}
+use Rattle.dob_moves.specs.declared.outlook.Status.TheVariants.{Open}
+use Rattle.dob_moves.specs.Moves.{Goes}
+use Rattle.dob_moves.specs.Statuses.{HasStatus}
+use Rattle.dob_value.specs.declared.value.Value.{Value}
+use Rattle.dob_value.specs.declared.value.Value.TheVariants.{Draw}
+use Rattle.dob_value.specs.declared.graph.Node.{Node}
+use Rattle.dob_value.specs.Values.{HasValue}
+use Rattle.dob_value.specs.Depths.{SameOutlook}
+use Rattle.dob_value.specs.Entries.{IsCutOff, HasDistance}
+
+-- the node's position
+abbrev pub setup_of : Node → Setup
+setup_of node = node.position.setup
+
+-- The node has its position's status, and where that is open its successors are numbers that stand for the positions
+-- to which the moves lead. StandsFor says which number stands for which position.
+pub record IsNode (StandsFor : ℕ → Setup → Type 0) (node : Node) : Type 0 where
+  pub status : HasStatus (setup_of node) node.status
+  pub sound : (number : ℕ) → Contains node.successors.items number →
+      (move : Move) × (q : Setup) × Goes (setup_of node) move q × StandsFor number q
+  pub whole : HasStatus (setup_of node) Open → (move : Move) (q : Setup) → Goes (setup_of node) move q →
+      (number : ℕ) × Contains node.successors.items number × StandsFor number q
+
+-- some node has that number, and its position is won and lost at the same depths as this one
+abbrev pub NodeStandsFor : List Node → ℕ → Setup → Type 0
+NodeStandsFor nodes number q = (node : Node) × (slice_get nodes number ≡ Some node) × SameOutlook q (setup_of node)
+
+-- the list is closed: each successor is among its nodes
+abbrev pub IsGraph : List Node → Type 0
+IsGraph nodes = (number : ℕ) (node : Node) → slice_get nodes number ≡ Some node → IsNode (NodeStandsFor nodes) node
+
+-- a table with an entry for each node, of which each meets the fact
+pub record HasEntries (Fits : ℕ → Setup → Value → Type 0) (nodes : List Node) (entries : List Value) : Type 0 where
+  pub same_length : length entries ≡ length nodes
+  pub fits : (number : ℕ) (node : Node) → slice_get nodes number ≡ Some node →
+      Fits number (setup_of node) (slice_index_or entries number Draw)
+
+-- each entry is its position's value cut off at depth n
+abbrev pub AreCutOff : ℕ → List Node → List Value → Type 0
+AreCutOff n = HasEntries (λ number p entry. IsCutOff n p entry)
+
+-- the entries below that number are cut off at depth n + 1, the others at depth n
+abbrev pub AreSwept : ℕ → ℕ → List Node → List Value → Type 0
+AreSwept n upto = HasEntries (λ number p entry.
+    (number < upto → IsCutOff (n + 1) p entry) × (upto ≤ number → IsCutOff n p entry))
+
+-- each entry is its position's value
+abbrev pub AreValues : List Node → List Value → Type 0
+AreValues = HasEntries (λ number p entry. HasValue p entry)
+
+-- some node's position is won or lost in n plies, and not in fewer
+abbrev pub SomeHasDistance : List Node → ℕ → Type 0
+SomeHasDistance nodes n = (number : ℕ) × (node : Node) × (slice_get nodes number ≡ Some node) × HasDistance (setup_of node) n
