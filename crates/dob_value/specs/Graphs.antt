@@ -2,11 +2,12 @@
 use Rattle.std.specs.Prelude.{◌≡◌, ℕ, ◌+◌, ◌≤◌, ◌<◌, List, length, Some, Contains, slice_get, slice_index_or}
 use Rattle.dob_pieces.specs.declared.setup.Setup.{Setup}
 use Rattle.dob_moves.specs.declared.moves.Move.{Move}
-use Rattle.dob_moves.specs.declared.outlook.Status.TheVariants.{Open}
+use Rattle.dob_moves.specs.declared.outlook.Status.{Status}
+use Rattle.dob_moves.specs.declared.outlook.Status.TheVariants.{Caught, Tried, Stuck, Open}
 use Rattle.dob_moves.specs.Moves.{Goes}
 use Rattle.dob_moves.specs.Statuses.{HasStatus}
 use Rattle.dob_value.specs.declared.value.Value.{Value}
-use Rattle.dob_value.specs.declared.value.Value.TheVariants.{Draw}
+use Rattle.dob_value.specs.declared.value.Value.TheVariants.{Loss, Draw}
 use Rattle.dob_value.specs.declared.graph.Node.{Node}
 use Rattle.dob_value.specs.Values.{HasValue}
 use Rattle.dob_value.specs.Depths.{SameOutlook}
@@ -55,3 +56,13 @@ AreValues = HasEntries (λ number p entry. HasValue p entry)
 -- some node's position is won or lost in n plies, and not in fewer
 abbrev pub SomeHasDistance : List Node → ℕ → Type 0
 SomeHasDistance nodes n = (number : ℕ) × (node : Node) × (slice_get nodes number ≡ Some node) × HasDistance (setup_of node) n
+
+-- the value at depth 0, by the status
+abbrev pub value_at_start : Status → Value
+value_at_start Tried = Loss 0
+value_at_start Stuck = Loss 0
+value_at_start Caught = Draw
+value_at_start Open = Draw
+
+abbrev pub first_value : Node → Value
+first_value node = value_at_start node.status

@@ -2,3 +2,4 @@ pub mod Values
 pub mod Depths
 pub mod Entries
 pub mod Graphs
+pub mod Faults

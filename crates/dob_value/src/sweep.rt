@@ -1,15 +1,20 @@
 // Sweeps over the positions of a graph: after n of them each entry is its position's value cut off at depth n, and a
 // sweep that changes nothing is the last.
-ghost use Rattle.std.specs.Prelude.{◌≡◌, ◌≢◌, ◌+◌, ◌<◌, length, All, slice_index_or, false};
+ghost use Rattle.std.specs.Prelude.{◌≡◌, ◌≢◌, ℕ, ◌+◌, ◌<◌, length, All, IfOk, map, slice_index_or, true, false};
 ghost use Rattle.std.specs.List.{list_any, list_all};
 ghost use Rattle.dob_value.specs.declared.value.Value.TheVariants.{Draw};
 ghost use Rattle.dob_value.specs.Values.{Won, Lost};
 ghost use Rattle.dob_value.specs.Entries.{is_win_within, is_loss_within, is_draw, IsCutOff, TellsAt, HasDistance};
-ghost use Rattle.dob_value.specs.Graphs.{IsNode, setup_of};
+ghost use Rattle.dob_value.specs.Graphs.{IsNode, IsGraph, AreCutOff, AreSwept, AreValues, SomeHasDistance, first_value, setup_of};
 
+use crate::fault::Fault;
 use crate::graph::Node;
 use crate::value::Value;
 use dob_moves::Status;
+use std::alloc::{AllocError, Global};
+
+/// The greatest distance that an entry may have.
+pub const MAX_DISTANCE: u16 = 65_534;
 
 // The entry with that number.
 fn entry_at(values: &[Value], number: usize) -> Value
@@ -62,4 +67,80 @@ fn next_value(node: &Node, depth: u16, values: &[Value]) -> Value
             }
         }
     }
+}
+
+// Sweeps over one entry, and says whether it has changed.
+fn update(nodes: &[Node], number: usize, depth: u16, values: &mut [Value]) -> bool
+    requires below { depth < 65535 }
+    requires within { number < length nodes.now }
+    requires graph { IsGraph nodes.now }
+    requires swept { AreSwept depth number nodes.now values.old }
+    ensures swept { AreSwept depth (number + 1) nodes.now values.new }
+    ensures found { result ≡ true → SomeHasDistance nodes.now (depth + 1) }
+    ensures same { result ≡ false → values.new ≡ values.old }
+{
+    if !entry_at(values, number).is_draw() {
+        return false;
+    }
+    let value = next_value(&nodes[number], depth, values);
+    if value.is_draw() {
+        return false;
+    }
+    values[number] = value;
+    true
+}
+
+// Sweeps over all entries, which are cut off at that depth, and says whether any has changed.
+fn sweep_once(nodes: &[Node], depth: u16, values: &mut [Value]) -> bool
+    requires below { depth < 65535 }
+    requires graph { IsGraph nodes.now }
+    requires cut_off { AreCutOff depth nodes.now values.old }
+    ensures cut_off { AreCutOff (depth + 1) nodes.now values.new }
+    ensures found { result ≡ true → SomeHasDistance nodes.now (depth + 1) }
+    ensures same { result ≡ false → values.new ≡ values.old }
+{
+    let mut found = false;
+    for number in 0..nodes.len() {
+        if update(nodes, number, depth, values) {
+            found = true;
+        }
+    }
+    found
+}
+
+// The value cut off at depth 0.
+fn first_value(node: &Node) -> Value
+    ensures { result ≡ first_value node.now }
+{
+    match node.status {
+        Status::Tried | Status::Stuck => Value::Loss(0),
+        Status::Caught | Status::Open => Value::Draw,
+    }
+}
+
+// The table before the first sweep.
+fn first_values(alloc: Global, nodes: &[Node]) -> Result<Vec<Value>, AllocError>
+    ensures { IfOk result (λ values. values.items ≡ map first_value nodes.now) }
+{
+    nodes.iter().map(|node| first_value(node)).collect(alloc)
+}
+
+/// The value of each node's position. It sweeps until nothing changes.
+///
+/// Errors: `TooDeep` where some distance is above `MAX_DISTANCE`, and `Memory`.
+pub(crate) fn settle(alloc: Global, nodes: &[Node]) -> Result<Vec<Value>, Fault>
+    requires { IsGraph nodes.now }
+    ensures values { IfOk result (λ values. AreValues nodes.now values.items) }
+    ensures deep { result ≡ Err Fault.TooDeep → (n : ℕ) × (65534 < n) × SomeHasDistance nodes.now n }
+    ensures set { result ≢ Err Fault.SetTooLarge }
+{
+    let mut values = first_values(alloc, nodes)?;
+    let mut depth = 0;
+    while sweep_once(nodes, depth, &mut values) {
+        depth += 1;
+        if depth > MAX_DISTANCE {
+            return Err(Fault::TooDeep);
+        }
+    }
+    Ok(values)
 }
