@@ -1,2 +1,5 @@
 pub mod Moves
 pub mod Statuses
+pub mod Outcomes
+pub mod Mirrors
+pub mod Laws

@@ -7,7 +7,6 @@ use Rattle.dob_pieces.specs.declared.kind.HandKind.{HandKind}
 use Rattle.dob_pieces.specs.declared.kind.HandKind.TheVariants as hand
 use Rattle.dob_pieces.specs.declared.kind.Side.{Side}
 use Rattle.dob_pieces.specs.declared.kind.Side.TheVariants.{Mover, Enemy}
-use Rattle.dob_pieces.specs.declared.kind.Piece.{Piece}
 use Rattle.dob_pieces.specs.Squares.{column, row}
 
 -- A step's columns and rows for the side to move, each with one added, so that (1, 2) is a step straight ahead.

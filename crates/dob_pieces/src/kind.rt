@@ -1,8 +1,7 @@
 // Sides, kinds of piece and pieces.
 ghost use Rattle.std.specs.Prelude.{◌≡◌};
-ghost use Rattle.dob_pieces.specs.Pieces.{other_side, kind_in_hand, kind_on_board, is_lion, counts_as, leads};
-
-use crate::square::Square;
+ghost use Rattle.dob_pieces.specs.Pieces.{other_side, kind_in_hand, kind_on_board};
+ghost use Rattle.dob_pieces.specs.Setups.{piece_of};
 
 /// The side to move, or the other one.
 #[derive(Clone, Copy, Debug, PartialEq, Eq)]
@@ -73,4 +72,16 @@ impl HandKind {
 pub struct Piece {
     pub side: Side,
     pub kind: Kind,
+}
+
+impl Piece {
+    /// The piece seen from the other side.
+    pub fn turned(self) -> Piece
+        ensures { result ≡ piece_of (other_side self.side) self.kind }
+    {
+        Piece {
+            side: self.side.other(),
+            kind: self.kind,
+        }
+    }
 }

@@ -1,0 +1,4 @@
+pub mod Turns
+pub mod Outcomes
+pub mod Mirrors
+pub mod Cases

@@ -1,0 +1,242 @@
+-- The mirror image of a move is a move of the mirror image, and leads to the mirror image of its outcome.
+use Rattle.std.proofs.Common.{◌≡◌, ◌≢◌, ℕ, ◌+◌, ◌-◌, ◌*◌, ◌/◌, ◌%◌, ◌<◌, ◌≤◌, ◌==◌, Bool, true, false, List, Option, Some, None, length, get_or, set, refl, sym, ap, subst, ◌∙◌, ⊎_elim, arith}
+use Rattle.std.proofs.lemmas.Bool.{cases_eq, eqb-true, agree_below, agree_below_at}
+use Rattle.std.proofs.lemmas.List.{length-set, get_or-set_same, get_or-set_other}
+use Rattle.dob_pieces.specs.declared.kind.Kind.{Kind}
+use Rattle.dob_pieces.specs.declared.kind.Kind.TheVariants.{Lion, Giraffe, Elephant, Chick, Hen}
+use Rattle.dob_pieces.specs.declared.kind.HandKind.{HandKind}
+use Rattle.dob_pieces.specs.declared.kind.Side.TheVariants.{Mover, Enemy}
+use Rattle.dob_pieces.specs.declared.hand.Hands.{Hands}
+use Rattle.dob_pieces.specs.declared.setup.Setup.{Setup}
+use Rattle.dob_pieces.specs.Squares.{row, mirrored_square}
+use Rattle.dob_pieces.specs.Pieces.{kind_on_board, leads}
+use Rattle.dob_pieces.specs.Setups.{Cell, at, board_by, piece_of, turned, mirrored}
+use Rattle.dob_pieces.proofs.Boards.{all_below, all_below-at, board_by-from_cells, length-board_by, at-board_by, length-mirrored, at-mirrored, within-from_piece, leads-to_board}
+use Rattle.dob_moves.specs.declared.moves.Move.{Move}
+use Rattle.dob_moves.specs.declared.moves.Move.TheVariants.{Step, Put}
+use Rattle.dob_moves.specs.declared.outlook.Status.{Status}
+use Rattle.dob_moves.specs.declared.outlook.Status.TheVariants.{Caught, Tried, Stuck, Open}
+use Rattle.dob_moves.specs.Moves.{Goes, CanGo, CatchesLion, Steps, Drops, CanTake, hands_after_catch, with_one_less, grows_at}
+use Rattle.dob_moves.specs.Statuses.{CanCatch, HasTried, HasStatus}
+use Rattle.dob_moves.specs.Mirrors.{mirrored_move}
+
+-- ---- squares
+
+mirrored_on_board : (k : ℕ) → k < 12 → mirrored_square k < 12
+mirrored_on_board k h = omega arith
+
+mirrored_low : (k : ℕ) → k < 3 → mirrored_square k < 3
+mirrored_low k h = omega arith
+
+row-mirrored : (k : ℕ) → row (mirrored_square k) ≡ row k
+row-mirrored k = omega arith
+
+twice_all : all_below (λ k. mirrored_square (mirrored_square k) == k) 12 ≡ true
+twice_all = refl
+
+mirrored_twice : (k : ℕ) → k < 12 → mirrored_square (mirrored_square k) ≡ k
+mirrored_twice k h =
+    eqb-true (mirrored_square (mirrored_square k)) k (all_below-at (λ k. mirrored_square (mirrored_square k) == k) 12 k twice_all h)
+
+mirrored_apart : (k i : ℕ) → k < 12 → k ≢ mirrored_square i → mirrored_square k ≢ i
+mirrored_apart k i h apart e = apart (sym (mirrored_twice k h) ∙ ap mirrored_square e)
+
+-- each kind steps alike on either side
+leads_test : Kind → ℕ → Bool
+leads_test kind a = agree_below (λ b. leads kind (mirrored_square a) (mirrored_square b)) (λ b. leads kind a b) 12
+
+leads_all : (kind : Kind) → all_below (leads_test kind) 12 ≡ true
+unfolding leads leads_test
+leads_all Lion = refl
+leads_all Giraffe = refl
+leads_all Elephant = refl
+leads_all Chick = refl
+leads_all Hen = refl
+
+leads-mirrored : (kind : Kind) (a b : ℕ) → a < 12 → b < 12 → leads kind (mirrored_square a) (mirrored_square b) ≡ leads kind a b
+unfolding leads_test
+leads-mirrored kind a b h k =
+    agree_below_at (λ b. leads kind (mirrored_square a) (mirrored_square b)) (λ b. leads kind a b) 12 b
+    (all_below-at (leads_test kind) 12 a (leads_all kind) h) k
+
+grows_at-mirrored : (kind : Kind) (to : ℕ) → grows_at kind (mirrored_square to) ≡ grows_at kind to
+grows_at-mirrored Lion to = refl
+grows_at-mirrored Giraffe to = refl
+grows_at-mirrored Elephant to = refl
+grows_at-mirrored Chick to = ap (λ r. r == 3) (row-mirrored to)
+grows_at-mirrored Hen to = refl
+
+-- ---- boards
+
+abbrev mirrored_board : List Cell → List Cell
+mirrored_board board = board_by (λ k. get_or board (mirrored_square k) None)
+
+-- a write to the mirror image
+mirrored_put : (board : List Cell) (i : ℕ) (c : Cell) → length board ≡ 12 → i < 12
+    → mirrored_board (set board i c) ≡ set (mirrored_board board) (mirrored_square i) c
+mirrored_put board i c twelve h =
+    let image = mirrored_board board in
+    let j = mirrored_square i in
+    let f = λ (k : ℕ). get_or (set board i c) (mirrored_square k) None in
+    let wide : length image ≡ 12 = length-board_by (λ k. get_or board (mirrored_square k) None) in
+    let wide_set : length (set image j c) ≡ 12 = length-set image j c ∙ wide in
+    let low : j < length image = omega (arith, mirrored_on_board i h) in
+    let within : i < length board = omega arith in
+    let here : get_or (set image j c) j None ≡ f j =
+    get_or-set_same image j c None low ∙ sym (ap (λ k. get_or (set board i c) k None) (mirrored_twice i h) ∙ get_or-set_same board i c None within)
+    in
+    sym (board_by-from_cells f (set image j c) wide_set (λ k small.
+    ⊎_elim (λ (e : k ≡ j). subst (λ k. get_or (set image j c) k None ≡ f k) (sym e) here)
+    (λ (e : k ≡ j → ⊥).
+    get_or-set_other image j k c None e ∙ at-board_by (λ k. get_or board (mirrored_square k) None) k small
+    ∙ sym (get_or-set_other board i (mirrored_square k) c None (mirrored_apart k i small e)))
+    (cases_eq k j)))
+
+-- what stands on a square's image
+pub at-image : (p : Setup) (k : ℕ) → k < 12 → at (mirrored p) (mirrored_square k) ≡ at p k
+at-image p k h = at-mirrored p (mirrored_square k) (mirrored_on_board k h) ∙ ap (at p) (mirrored_twice k h)
+
+-- the mirror image of the mirror image
+pub mirrored-mirrored : (p : Setup) → length p.board ≡ 12 → mirrored (mirrored p) ≡ p
+unfolding mirrored
+mirrored-mirrored p twelve =
+    ap (λ (b : List Cell). record { board = b; hands = p.hands })
+    (sym (board_by-from_cells (λ k. at (mirrored p) (mirrored_square k)) p.board twelve (λ k h. sym (at-image p k h))))
+
+-- turning and mirroring in either order
+pub mirrored-turned : (p : Setup) → mirrored (turned p) ≡ turned (mirrored p)
+unfolding mirrored turned
+mirrored-turned p = refl
+
+-- ---- moves
+
+-- what a piece stands on is on the board
+piece_on_board : (p : Setup) (k : ℕ) (c : Cell) → length p.board ≡ 12 → at p k ≡ c → c ≢ None → k < 12
+piece_on_board p k None twelve e some = absurd (some refl)
+piece_on_board p k (Some piece) twelve e some = let lt = within-from_piece p k piece e in omega arith
+
+mover_on_board : (p : Setup) (k : ℕ) (kind : Kind) → length p.board ≡ 12 → at p k ≡ Some (piece_of Mover kind) → k < 12
+mover_on_board p k kind twelve e = let lt = within-from_piece p k (piece_of Mover kind) e in omega arith
+
+-- the mirror image of what stands after a step
+stepped_image : (p : Setup) (from to : ℕ) (c : Cell) (hands : Hands) → length p.board ≡ 12 → from < 12 → to < 12
+    → mirrored (record { board = set (set p.board from None) to c; hands = hands })
+    ≡ record { board = set (set (mirrored p).board (mirrored_square from) None) (mirrored_square to) c; hands = hands }
+unfolding mirrored
+stepped_image p from to c hands twelve h k =
+    ap (λ (b : List Cell). record { board = b; hands = hands })
+    (mirrored_put (set p.board from None) to c (length-set p.board from None ∙ twelve) k
+    ∙ ap (λ (b : List Cell). set b (mirrored_square to) c) (mirrored_put p.board from None twelve h))
+
+dropped_image : (p : Setup) (to : ℕ) (c : Cell) (hands : Hands) → length p.board ≡ 12 → to < 12
+    → mirrored (record { board = set p.board to c; hands = hands })
+    ≡ record { board = set (mirrored p).board (mirrored_square to) c; hands = hands }
+unfolding mirrored
+dropped_image p to c hands twelve k =
+    ap (λ (b : List Cell). record { board = b; hands = hands }) (mirrored_put p.board to c twelve k)
+
+Steps-mirrored : (p : Setup) (kind : Kind) (from to : ℕ) (arrives : Kind) (hands : Hands) (q : Setup) → length p.board ≡ 12
+    → Steps p kind from to arrives hands q
+    → Steps (mirrored p) kind (mirrored_square from) (mirrored_square to) arrives hands (mirrored q)
+Steps-mirrored p kind from to arrives hands q twelve s =
+    let h = mover_on_board p from kind twelve s.own in
+    let k = leads-to_board kind from to s.leads in
+    record {
+      own = at-image p from h ∙ s.own;
+      leads = leads-mirrored kind from to h k ∙ s.leads;
+      outcome =
+          ap mirrored s.outcome ∙ mirrored-turned _
+          ∙ ap turned (stepped_image p from to (Some (piece_of Mover arrives)) hands twelve h k);
+    }
+
+Drops-mirrored : (p : Setup) (kind : HandKind) (to : ℕ) (q : Setup) → length p.board ≡ 12
+    → Drops p kind to q → Drops (mirrored p) kind (mirrored_square to) (mirrored q)
+unfolding mirrored
+Drops-mirrored p kind to q twelve d = record {
+  in_hand = d.in_hand;
+  on_board = mirrored_on_board to d.on_board;
+  free = at-image p to d.on_board ∙ d.free;
+  outcome =
+      ap mirrored d.outcome ∙ mirrored-turned _
+      ∙ ap turned (dropped_image p to (Some (piece_of Mover (kind_on_board kind)))
+      (record p.hands { mover = with_one_less p.hands.mover kind }) twelve d.on_board);
+}
+
+CanTake-mirrored : (p : Setup) (to : ℕ) (taken : HandKind) → to < 12 → CanTake p to taken → CanTake (mirrored p) (mirrored_square to) taken
+CanTake-mirrored p to taken k t = (t.0, at-image p to k ∙ t.1, t.2)
+
+hands-mirrored : (p : Setup) → (mirrored p).hands ≡ p.hands
+unfolding mirrored
+hands-mirrored p = refl
+
+-- a move of the mirror image leads to the mirror image
+pub Goes-mirrored : (p : Setup) (move : Move) (q : Setup) → length p.board ≡ 12
+    → Goes p move q → Goes (mirrored p) (mirrored_move move) (mirrored q)
+unfolding mirrored
+Goes-mirrored p (Step kind from to false false) q twelve g =
+    let k = leads-to_board kind from to g.2.leads in
+    (grows_at-mirrored kind to ∙ g.0, at-image p to k ∙ g.1, Steps-mirrored p kind from to kind p.hands q twelve g.2)
+Goes-mirrored p (Step kind from to true false) q twelve g =
+    let k = leads-to_board kind from to g.3.leads in (
+      grows_at-mirrored kind to ∙ g.0,
+      g.1,
+      CanTake-mirrored p to g.1 k g.2,
+      Steps-mirrored p kind from to kind (hands_after_catch p.hands g.1) q twelve g.3,
+    )
+Goes-mirrored p (Step kind from to false true) q twelve g =
+    let k = leads-to_board kind from to g.2.leads in
+    (grows_at-mirrored kind to ∙ g.0, at-image p to k ∙ g.1, Steps-mirrored p kind from to Hen p.hands q twelve g.2)
+Goes-mirrored p (Step kind from to true true) q twelve g =
+    let k = leads-to_board kind from to g.3.leads in (
+      grows_at-mirrored kind to ∙ g.0,
+      g.1,
+      CanTake-mirrored p to g.1 k g.2,
+      Steps-mirrored p kind from to Hen (hands_after_catch p.hands g.1) q twelve g.3,
+    )
+Goes-mirrored p (Put kind to) q twelve g = Drops-mirrored p kind to q twelve g
+
+CanGo-mirrored : (p : Setup) (move : Move) → length p.board ≡ 12 → CanGo p move → CanGo (mirrored p) (mirrored_move move)
+CanGo-mirrored p move twelve can = (mirrored can.0, Goes-mirrored p move can.0 twelve can.1)
+
+CatchesLion-mirrored : (p : Setup) (move : Move) → length p.board ≡ 12
+    → CatchesLion p move → CatchesLion (mirrored p) (mirrored_move move)
+CatchesLion-mirrored p (Step kind from to true grows) twelve c =
+    let h = mover_on_board p from kind twelve c.0 in
+    let k = leads-to_board kind from to c.1 in (
+      at-image p from h ∙ c.0,
+      leads-mirrored kind from to h k ∙ c.1,
+      at-image p to k ∙ c.2,
+      c.3 ∙ sym (grows_at-mirrored kind to),
+    )
+CatchesLion-mirrored p (Step kind from to false grows) twelve c = c
+CatchesLion-mirrored p (Put kind to) twelve c = c
+
+-- ---- statuses
+
+CanCatch-mirrored : (p : Setup) → length p.board ≡ 12 → CanCatch p → CanCatch (mirrored p)
+CanCatch-mirrored p twelve c = (mirrored_move c.0, CatchesLion-mirrored p c.0 twelve c.1)
+
+HasTried-mirrored : (p : Setup) → HasTried p → HasTried (mirrored p)
+HasTried-mirrored p t = (mirrored_square t.0, mirrored_low t.0 t.1, at-image p t.0 (let low = t.1 in omega arith) ∙ t.2)
+
+-- what the mirror image of a setup has, the setup has
+no_catch : (p : Setup) → length p.board ≡ 12 → ¬ CanCatch p → ¬ CanCatch (mirrored p)
+no_catch p twelve not c =
+    not (subst (λ s. CanCatch s) (mirrored-mirrored p twelve) (CanCatch-mirrored (mirrored p) (length-mirrored p) c))
+
+no_try : (p : Setup) → length p.board ≡ 12 → ¬ HasTried p → ¬ HasTried (mirrored p)
+no_try p twelve not t = not (subst (λ s. HasTried s) (mirrored-mirrored p twelve) (HasTried-mirrored (mirrored p) t))
+
+no_move : (p : Setup) → length p.board ≡ 12 → ((move : Move) → ¬ CanGo p move) → (move : Move) → ¬ CanGo (mirrored p) move
+no_move p twelve not move can =
+    not (mirrored_move move)
+    (subst (λ s. CanGo s (mirrored_move move)) (mirrored-mirrored p twelve)
+    (CanGo-mirrored (mirrored p) move (length-mirrored p) can))
+
+-- the mirror image has the same status
+pub HasStatus-mirrored : (p : Setup) (status : Status) → length p.board ≡ 12 → HasStatus p status → HasStatus (mirrored p) status
+HasStatus-mirrored p Caught twelve h = CanCatch-mirrored p twelve h
+HasStatus-mirrored p Tried twelve h = (no_catch p twelve h.0, HasTried-mirrored p h.1)
+HasStatus-mirrored p Stuck twelve h = (no_catch p twelve h.0, no_try p twelve h.1, no_move p twelve h.2)
+HasStatus-mirrored p Open twelve h =
+    (no_catch p twelve h.0, no_try p twelve h.1, (mirrored_move h.2.0, CanGo-mirrored p h.2.0 twelve h.2.1))

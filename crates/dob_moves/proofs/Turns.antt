@@ -1,0 +1,55 @@
+-- When a turned setup is a position.
+use Rattle.std.proofs.Common.{◌≡◌, ◌≢◌, ℕ, ◌-◌, ◌<◌, ◌≤◌, Some, None, length, sym, ap, ◌∙◌, ⊎_elim, arith}
+use Rattle.std.proofs.lemmas.Bool.{cases_lt}
+use Rattle.std.proofs.lemmas.List.{get_or_past}
+use Rattle.dob_pieces.specs.declared.kind.Kind.{Kind}
+use Rattle.dob_pieces.specs.declared.kind.Kind.TheVariants.{Lion}
+use Rattle.dob_pieces.specs.declared.kind.Side.{Side}
+use Rattle.dob_pieces.specs.declared.kind.Side.TheVariants.{Mover, Enemy}
+use Rattle.dob_pieces.specs.declared.setup.Setup.{Setup}
+use Rattle.dob_pieces.specs.Pieces.{other_side}
+use Rattle.dob_pieces.specs.Setups.{Cell, at, turned_cell, piece_of, turned, HasLions, HasFewPieces, HasLionAtHome, IsLegal}
+use Rattle.dob_pieces.proofs.Boards.{length-turned, at-turned, HasLions-turned, HasFewPieces-turned}
+
+-- the side and the kind of what stands on a square
+abbrev pub side_of : Cell → Side
+side_of None = Enemy
+side_of (Some piece) = piece.side
+
+abbrev pub kind_of : Cell → Kind
+kind_of None = Lion
+kind_of (Some piece) = piece.kind
+
+-- a piece of the one side is none of the other
+pub sides_apart : (kind other : Kind) → Some (piece_of Enemy kind) ≢ Some (piece_of Mover other)
+sides_apart kind other e = let s : Enemy ≡ Mover = ap side_of e in cc
+
+-- no enemy lion on row 1
+abbrev pub IsFreeOfTry : Setup → Type 0
+IsFreeOfTry p = (k : ℕ) → k < 3 → at p k ≢ Some (piece_of Enemy Lion)
+
+turned_piece : (side : Side) (kind : Kind) → Some (piece_of (other_side side) kind) ≡ Some (piece_of Mover Lion)
+    → Some (piece_of side kind) ≡ Some (piece_of Enemy Lion)
+turned_piece Mover kind e = absurd (sides_apart kind Lion e)
+turned_piece Enemy kind e = ap (λ k. Some (piece_of Enemy k)) (ap kind_of e)
+
+turned_lion : (c : Cell) → turned_cell c ≡ Some (piece_of Mover Lion) → c ≡ Some (piece_of Enemy Lion)
+turned_lion None e = cc
+turned_lion (Some piece) e = turned_piece piece.side piece.kind e
+
+at-turned_past : (p : Setup) (k : ℕ) → 12 ≤ k → at (turned p) k ≡ None
+at-turned_past p k h = get_or_past (turned p).board k None (omega (arith, length-turned p))
+
+HasLionAtHome-turned : (p : Setup) → IsFreeOfTry p → HasLionAtHome (turned p)
+HasLionAtHome-turned p free k far is =
+    ⊎_elim (λ (h : k < 12). free (11 - k) (omega arith) (turned_lion _ (sym (at-turned p k h) ∙ is)))
+    (λ (h : 12 ≤ k). let past = at-turned_past p k h in cc) (cases_lt k 12)
+
+-- a turned setup is a position
+pub IsLegal-turned : (p : Setup) → length p.board ≡ 12 → HasLions p → HasFewPieces p → IsFreeOfTry p → IsLegal (turned p)
+IsLegal-turned p twelve lions few free = record {
+  squares = length-turned p;
+  lions = HasLions-turned p twelve lions;
+  few = HasFewPieces-turned p twelve few;
+  home = HasLionAtHome-turned p free;
+}

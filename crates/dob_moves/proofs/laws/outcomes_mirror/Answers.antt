@@ -1,0 +1,5 @@
+use Rattle.dob_moves.proofs.Mirrors.{Goes-mirrored}
+use Rattle.dob_moves.proofs.laws.outcomes_mirror.Goals as goal
+
+pub returns : goal.returns
+returns c = λ p move q legal goes. Goes-mirrored p move q legal.squares goes

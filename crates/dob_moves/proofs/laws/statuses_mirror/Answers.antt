@@ -1,0 +1,5 @@
+use Rattle.dob_moves.proofs.Mirrors.{HasStatus-mirrored}
+use Rattle.dob_moves.proofs.laws.statuses_mirror.Goals as goal
+
+pub returns : goal.returns
+returns c = λ p status legal has. HasStatus-mirrored p status legal.squares has

@@ -1,0 +1,48 @@
+-- Laws of the rules, of which `src/laws.rt` has one function each.
+use Rattle.std.specs.Prelude.{◌≡◌, ℕ, Bool}
+use Rattle.dob_pieces.specs.declared.kind.Kind.{Kind}
+use Rattle.dob_pieces.specs.declared.kind.HandKind.{HandKind}
+use Rattle.dob_pieces.specs.declared.setup.Setup.{Setup}
+use Rattle.dob_pieces.specs.Setups.{IsLegal, total, mirrored}
+use Rattle.dob_moves.specs.declared.moves.Move.{Move}
+use Rattle.dob_moves.specs.declared.moves.Move.TheVariants.{Step}
+use Rattle.dob_moves.specs.declared.outlook.Status.{Status}
+use Rattle.dob_moves.specs.declared.outlook.Status.TheVariants.{Open}
+use Rattle.dob_moves.specs.Moves.{Goes, CanGo, CatchesLion}
+use Rattle.dob_moves.specs.Statuses.{HasStatus}
+use Rattle.dob_moves.specs.Mirrors.{mirrored_move}
+
+-- every outcome of a move of an open position is a position
+abbrev pub OutcomesAreLegal : Type 0
+OutcomesAreLegal = (p : Setup) (move : Move) (q : Setup) → IsLegal p → HasStatus p Open → Goes p move q → IsLegal q
+
+-- no move changes how many pieces of a kind there are
+abbrev pub OutcomesKeepPieces : Type 0
+OutcomesKeepPieces = (p : Setup) (move : Move) (q : Setup) (kind : HandKind) → IsLegal p → Goes p move q → total kind q ≡ total kind p
+
+-- a move has one outcome
+abbrev pub MovesHaveOneOutcome : Type 0
+MovesHaveOneOutcome = (p : Setup) (move : Move) (q r : Setup) → Goes p move q → Goes p move r → q ≡ r
+
+-- the statuses exclude each other
+abbrev pub StatusesExclude : Type 0
+StatusesExclude = (p : Setup) (s t : Status) → HasStatus p s → HasStatus p t → s ≡ t
+
+-- a position's mirror image has its status
+abbrev pub StatusesMirror : Type 0
+StatusesMirror = (p : Setup) (s : Status) → IsLegal p → HasStatus p s → HasStatus (mirrored p) s
+
+-- the mirror image of a move leads to the mirror image of its outcome
+abbrev pub OutcomesMirror : Type 0
+OutcomesMirror = (p : Setup) (move : Move) (q : Setup)
+    → IsLegal p → Goes p move q → Goes (mirrored p) (mirrored_move move) (mirrored q)
+
+-- of all steps from one square to another at most one can go
+abbrev pub StepsExclude : Type 0
+StepsExclude = (p : Setup) (kind other : Kind) (from to : ℕ) (catch catches grows grow : Bool)
+    → CanGo p (Step kind from to catch grows) → CanGo p (Step other from to catches grow)
+    → (kind ≡ other) × (catch ≡ catches) × (grows ≡ grow)
+
+-- a step onto the enemy lion isn't a move
+abbrev pub LionsAreNotTaken : Type 0
+LionsAreNotTaken = (p : Setup) (move : Move) → CatchesLion p move → ¬ CanGo p move

@@ -1,0 +1,44 @@
+// Laws of the rules. Each function's contract is one law, of every position and every move; a proof that calls
+// the function may use the law. They do nothing when they run.
+ghost use Rattle.dob_moves.specs.Laws.{OutcomesAreLegal, OutcomesKeepPieces, MovesHaveOneOutcome, StatusesExclude, StatusesMirror, OutcomesMirror, StepsExclude, LionsAreNotTaken};
+
+/// Every outcome of a move of an open position is a position.
+pub fn outcomes_are_legal()
+    ensures { OutcomesAreLegal }
+{}
+
+/// No move changes the piece set: of each kind there are as many pieces as before, board and hands together.
+pub fn outcomes_keep_pieces()
+    ensures { OutcomesKeepPieces }
+{}
+
+/// A move of a position has one outcome.
+pub fn moves_have_one_outcome()
+    ensures { MovesHaveOneOutcome }
+{}
+
+/// A position has at most one status.
+pub fn statuses_exclude()
+    ensures { StatusesExclude }
+{}
+
+/// The mirror image of a position has the position's status.
+pub fn statuses_mirror()
+    ensures { StatusesMirror }
+{}
+
+/// The mirror image of a move leads from the mirror image of a position to the mirror image of its outcome.
+pub fn outcomes_mirror()
+    ensures { OutcomesMirror }
+{}
+
+/// Of all steps from one square to another at most one can go: the position says which piece steps, whether it
+/// catches and whether it grows.
+pub fn steps_exclude()
+    ensures { StepsExclude }
+{}
+
+/// A step onto the enemy lion isn't a move.
+pub fn lions_are_not_taken()
+    ensures { LionsAreNotTaken }
+{}

@@ -1,0 +1,10 @@
+-- Each square below the index has its cell.
+use Rattle.std.proofs.Common.{◌≡◌, ℕ, ◌<◌, length, None, slice_index_or}
+use Rattle.dob_pieces.specs.Squares.{mirrored_square}
+use Rattle.dob_pieces.specs.Setups.{at}
+use Rattle.dob_pieces.proofs.setup.Setup.mirrored.Given as goal
+
+abbrev pub invariant-loop-index : goal.invariant-loop-index
+invariant-loop-index l =
+    (length l.board ≡ 12)
+    × ((k : ℕ) → k < l.index → slice_index_or l.board k None ≡ at l.self (mirrored_square k))
