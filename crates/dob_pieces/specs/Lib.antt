@@ -1,3 +1,5 @@
 pub mod Squares
 pub mod Pieces
 pub mod Setups
+pub mod Faults
+pub mod Sets

@@ -9,6 +9,7 @@ use Rattle.dob_pieces.specs.declared.kind.Side.{Side}
 use Rattle.dob_pieces.specs.declared.kind.Side.TheVariants.{Mover}
 use Rattle.dob_pieces.specs.declared.kind.Piece.{Piece}
 use Rattle.dob_pieces.specs.declared.hand.Hand.{Hand}
+use Rattle.dob_pieces.specs.declared.hand.Hands.{Hands}
 use Rattle.dob_pieces.specs.declared.setup.Setup.{Setup}
 use Rattle.dob_pieces.specs.Squares.{turned_square, mirrored_square}
 use Rattle.dob_pieces.specs.Pieces.{is_side, is_lion, counts_as, other_side}
@@ -18,6 +19,10 @@ Cell = Option Piece
 
 abbrev pub piece_of : Side → Kind → Piece
 piece_of side kind = record { side = side; kind = kind }
+
+-- that board and those hands
+abbrev pub setup_of : List Cell → Hands → Setup
+setup_of board hands = record { board = board; hands = hands }
 
 -- what stands on a square, nothing beyond the board
 abbrev pub at : Setup → ℕ → Cell

@@ -3,18 +3,21 @@
 // move doesn't stand on that side's far row.
 #![tactic(auto)]
 
+mod fault;
 mod hand;
 mod kind;
+pub mod laws;
 mod memory;
 mod piece_set;
 mod position;
 mod setup;
 mod square;
 
+pub use fault::PositionFault;
 pub use hand::{Hand, Hands};
 pub use kind::{HandKind, Kind, Piece, Side};
 pub use memory::Memory;
-pub use piece_set::PieceSet;
+pub use piece_set::{PieceSet, SetText};
 pub use position::Position;
 pub use setup::Setup;
 pub use square::Square;

@@ -1,9 +1,12 @@
 // What stands on the board and lies in the hands, a position or not.
-ghost use Rattle.std.specs.Prelude.{◌≡◌};
-ghost use Rattle.dob_pieces.specs.Setups.{at, turned_cell, turned, mirrored};
+ghost use Rattle.std.specs.Prelude.{◌≡◌, ◌↔◌, IsTrue, length, count_by};
+ghost use Rattle.std.specs.List.{list_any};
+ghost use Rattle.dob_pieces.specs.Faults.{HasFault};
+ghost use Rattle.dob_pieces.specs.Setups.{at, turned_cell, turned, mirrored, holds_lion, holds_kind, total, HasLions, HasFewPieces, HasLionAtHome, IsLegal};
 
+use crate::fault::PositionFault;
 use crate::hand::Hands;
-use crate::kind::Piece;
+use crate::kind::{HandKind, Kind, Piece, Side};
 use crate::square::Square;
 
 /// What stands on each square, from a1 to c4, and what lies in the hands, seen from the side to move. It need
@@ -52,6 +55,67 @@ impl Setup {
             hands: self.hands,
         }
     }
+
+    /// Whether it is a position: each side has one lion, no kind has more than two pieces, and the mover's lion
+    /// isn't on row 4.
+    pub fn is_legal(&self) -> bool
+        ensures { IsTrue result ↔ IsLegal self.now }
+    {
+        self.fault().is_none()
+    }
+
+    // Why it is no position, the first fault in the order of their numbers. `None` for a position.
+    pub(crate) fn fault(&self) -> Option<PositionFault>
+        ensures { HasFault self.now result }
+    {
+        if !self.has_lions() {
+            Some(PositionFault::Lions)
+        } else if !self.has_few_pieces() {
+            Some(PositionFault::Count)
+        } else if !self.has_lion_at_home() {
+            Some(PositionFault::FarLion)
+        } else {
+            None
+        }
+    }
+
+    // Whether each side has one lion.
+    fn has_lions(&self) -> bool
+        ensures { IsTrue result ↔ HasLions self.now }
+    {
+        self.lions(Side::Mover) == 1 && self.lions(Side::Enemy) == 1
+    }
+
+    // Whether no kind has more than two pieces.
+    fn has_few_pieces(&self) -> bool
+        ensures { IsTrue result ↔ HasFewPieces self.now }
+    {
+        self.total(HandKind::Chick) <= 2 && self.total(HandKind::Elephant) <= 2 && self.total(HandKind::Giraffe) <= 2
+    }
+
+    // Whether the mover's lion isn't on row 4.
+    fn has_lion_at_home(&self) -> bool
+        ensures answer { IsTrue result ↔ HasLionAtHome self.now }
+        ensures squares { length self.now.board ≡ 12 }
+    {
+        !has_mover_lion(&self.board[Square::FAR_ROW..])
+    }
+
+    // How many lions of the side stand on the board.
+    fn lions(&self, side: Side) -> usize
+        ensures { result ≡ count_by (holds_lion side) self.now.board }
+    {
+        self.board.iter().filter(|cell| holds_lion(side, **cell)).count()
+    }
+
+    /// How many pieces of the kind there are, board and hands together. A hen counts as a chick.
+    #[tactic(auto, unfolding(crate::specs::Setups::total))]
+    pub fn total(&self, kind: HandKind) -> usize
+        ensures { result ≡ total kind self.now }
+    {
+        let on_board = self.board.iter().filter(|cell| holds_kind(kind, **cell)).count();
+        on_board + usize::from(self.hands.mover.count(kind)) + usize::from(self.hands.enemy.count(kind))
+    }
 }
 
 // What stands on a square, seen from the other side.
@@ -59,4 +123,31 @@ fn turned_cell(cell: Option<Piece>) -> Option<Piece>
     ensures { result ≡ turned_cell cell }
 {
     cell.map(|piece| piece.turned())
+}
+
+// Whether the mover's lion stands on one of the squares.
+fn has_mover_lion(cells: &[Option<Piece>]) -> bool
+    ensures { result ≡ list_any (holds_lion Side.Mover) cells.now }
+{
+    cells.iter().any(|cell| holds_lion(Side::Mover, *cell))
+}
+
+// Whether a lion of the side stands on the square.
+fn holds_lion(side: Side, cell: Option<Piece>) -> bool
+    ensures { result ≡ holds_lion side cell }
+{
+    match cell {
+        None => false,
+        Some(piece) => piece.side == side && piece.kind == Kind::Lion,
+    }
+}
+
+// Whether a piece that counts as that kind stands on the square.
+fn holds_kind(kind: HandKind, cell: Option<Piece>) -> bool
+    ensures { result ≡ holds_kind kind cell }
+{
+    match cell {
+        None => false,
+        Some(piece) => piece.kind.in_hand() == Some(kind),
+    }
 }

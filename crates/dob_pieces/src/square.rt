@@ -26,6 +26,9 @@ impl Square {
     /// How many squares there are.
     pub const COUNT: usize = 12;
 
+    // The number of a4, the first square of row 4.
+    pub(crate) const FAR_ROW: usize = 9;
+
     /// The square of that number, which is below 12.
     pub fn new(index: usize) -> Square
         requires { index < 12 }

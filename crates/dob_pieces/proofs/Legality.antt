@@ -1,0 +1,54 @@
+-- What the tests of a position show.
+use Rattle.std.proofs.Common.{◌≡◌, ◌+◌, ◌-◌, ◌<◌, true, false, List, Some, None, length, take, drop, count_by, slice_index_or, refl, sym, ap, ◌∙◌, arith}
+use Rattle.std.specs.List.{list_any, Any}
+use Rattle.std.proofs.lemmas.Bool.{both_ways, false_from_ne_true}
+use Rattle.std.proofs.lemmas.List.{get_or-drop, get_or_default, take_all}
+use Rattle.std.proofs.Common.{length-drop}
+use Rattle.std.proofs.lemmas.List.Folds.{Any-from_list_any, list_any_at}
+use Rattle.dob_pieces.specs.declared.kind.Kind.{Kind}
+use Rattle.dob_pieces.specs.declared.kind.Kind.TheVariants.{Lion, Giraffe, Elephant, Chick, Hen}
+use Rattle.dob_pieces.specs.declared.kind.Side.{Side}
+use Rattle.dob_pieces.specs.declared.kind.Side.TheVariants.{Mover, Enemy}
+use Rattle.dob_pieces.specs.declared.setup.Setup.{Setup}
+use Rattle.dob_pieces.specs.Setups.{Cell, at, piece_of, holds_lion, HasLions, HasLionAtHome}
+use Rattle.dob_pieces.proofs.Boards.{within-from_piece}
+
+-- one lion of the mover and one of the enemy
+pub HasLions-from_counts : (s : Setup) → count_by (holds_lion Mover) s.board ≡ 1 → count_by (holds_lion Enemy) s.board ≡ 1 → HasLions s
+HasLions-from_counts s m e Mover = m
+HasLions-from_counts s m e Enemy = e
+
+-- the cell with the mover's lion is the only one that has it
+pub mover_lion : (cell : Cell) → holds_lion Mover cell ≡ true → cell ≡ Some (piece_of Mover Lion)
+mover_lion None h = cc
+mover_lion (Some piece) h = mover_lion_piece piece.side piece.kind h
+  where
+    mover_lion_piece : (side : Side) (kind : Kind) → holds_lion Mover (Some (piece_of side kind)) ≡ true → Some (piece_of side kind) ≡ Some (piece_of Mover Lion)
+    mover_lion_piece Mover Lion h = refl
+    mover_lion_piece Mover Giraffe h = cc
+    mover_lion_piece Mover Elephant h = cc
+    mover_lion_piece Mover Chick h = cc
+    mover_lion_piece Mover Hen h = cc
+    mover_lion_piece Enemy kind h = cc
+
+-- no square of row 4 has the mover's lion
+pub HasLionAtHome-from_test : (s : Setup) → list_any (holds_lion Mover) (drop 9 s.board) ≡ false → HasLionAtHome s
+HasLionAtHome-from_test s h k low e =
+    let within : k < length s.board = within-from_piece s k _ e in
+    let far : slice_index_or (drop 9 s.board) (k - 9) None ≡ at s (9 + (k - 9)) = get_or-drop 9 s.board (k - 9) None in
+    let same : 9 + (k - 9) ≡ k = omega arith in
+    let there : k - 9 < length (drop 9 s.board) = omega (arith, length-drop 9 s.board) in
+    let found : holds_lion Mover (slice_index_or (drop 9 s.board) (k - 9) None) ≡ true = ap (holds_lion Mover) (far ∙ ap (at s) same ∙ e) in
+    both_ways (list_any (holds_lion Mover) (drop 9 s.board)) h (list_any_at (holds_lion Mover) (drop 9 s.board) (k - 9) None there found)
+
+-- so the test fails where a square of row 4 has it
+pub test-from_HasLionAtHome : (s : Setup) → HasLionAtHome s → list_any (holds_lion Mover) (drop 9 s.board) ≡ false
+test-from_HasLionAtHome s home =
+    false_from_ne_true _ (λ (h : list_any (holds_lion Mover) (drop 9 s.board) ≡ true).
+        let some : Any (λ x. holds_lion Mover x ≡ true) (drop 9 s.board) = Any-from_list_any (holds_lion Mover) (drop 9 s.board) h in
+        home (9 + some.0) (omega arith)
+        (sym (get_or-drop 9 s.board some.0 None) ∙ get_or_default (drop 9 s.board) some.0 None some.1 some.2 ∙ some.3 ∙ mover_lion some.1 some.4))
+
+-- row 4 is the last three of the twelve squares
+pub far_row : (board : List Cell) → length board ≡ 12 → take 3 (drop 9 board) ≡ drop 9 board
+far_row board e = take_all 3 (drop 9 board) (omega (arith, length-drop 9 board))

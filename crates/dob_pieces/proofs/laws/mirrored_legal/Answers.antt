@@ -1,0 +1,5 @@
+use Rattle.dob_pieces.proofs.Boards.{IsLegal-mirrored}
+use Rattle.dob_pieces.proofs.laws.mirrored_legal.Goals as goal
+
+pub returns : goal.returns
+returns c = IsLegal-mirrored

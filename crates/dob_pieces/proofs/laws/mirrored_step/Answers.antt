@@ -1,0 +1,5 @@
+use Rattle.dob_pieces.proofs.Symmetries.{leads-mirrored}
+use Rattle.dob_pieces.proofs.laws.mirrored_step.Goals as goal
+
+pub returns : goal.returns
+returns c = leads-mirrored

@@ -1,0 +1,19 @@
+-- Why a board and hands are no position.
+use Rattle.std.specs.Prelude.{ℕ, List, Option, Some, None, codes}
+use Rattle.dob_pieces.specs.declared.fault.PositionFault.{PositionFault}
+use Rattle.dob_pieces.specs.declared.fault.PositionFault.TheVariants.{Lions, Count, FarLion}
+use Rattle.dob_pieces.specs.declared.setup.Setup.{Setup}
+use Rattle.dob_pieces.specs.Setups.{HasLions, HasFewPieces, HasLionAtHome, IsLegal}
+
+-- the test that the fault names fails, and those before it hold; without a fault all hold
+abbrev pub HasFault : Setup → Option PositionFault → Type 0
+HasFault setup None = IsLegal setup
+HasFault setup (Some Lions) = ¬ HasLions setup
+HasFault setup (Some Count) = HasLions setup × ¬ HasFewPieces setup
+HasFault setup (Some FarLion) = HasLions setup × HasFewPieces setup × ¬ HasLionAtHome setup
+
+-- what is printed of it
+abbrev pub fault_text : PositionFault → List ℕ
+fault_text Lions = codes "E4 Lions"
+fault_text Count = codes "E5 Count"
+fault_text FarLion = codes "E6 FarLion"
