@@ -1,3 +1,4 @@
 pub mod Depths
 pub mod NextValues
 pub mod Tables
+pub mod Images

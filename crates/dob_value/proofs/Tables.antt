@@ -219,13 +219,13 @@ unchanged_is_final n nodes entries graph cut next =
 
 -- where a sweep finds a draw that it hasn't swept yet, the position is neither won nor lost up to its depth
 pub open_here : (n upto : ℕ) (nodes : List Node) (entries : List Value) (node : Node) (entry : Value) →
-  AreSwept n upto nodes entries → slice_get nodes upto ≡ Some node → entry ≡ slice_index_or entries upto Draw →
-  is_draw entry ≡ true → (¬ Won n (setup_of node)) × (¬ Lost n (setup_of node))
+    AreSwept n upto nodes entries → slice_get nodes upto ≡ Some node → entry ≡ slice_index_or entries upto Draw →
+    is_draw entry ≡ true → (¬ Won n (setup_of node)) × (¬ Lost n (setup_of node))
 open_here n upto nodes entries node entry swept here read is_open =
-  let cut : IsCutOff n (setup_of node) (slice_index_or entries upto Draw) = (swept.fits upto node here).1 (omega arith) in
-  let draw : slice_index_or entries upto Draw ≡ Draw = sym read ∙ draw_is entry is_open in
-  let at_draw : IsCutOff n (setup_of node) Draw = subst (λ x. IsCutOff n (setup_of node) x) draw cut in
-  at_draw
+    let cut : IsCutOff n (setup_of node) (slice_index_or entries upto Draw) = (swept.fits upto node here).1 (omega arith) in
+    let draw : slice_index_or entries upto Draw ≡ Draw = sym read ∙ draw_is entry is_open in
+    let at_draw : IsCutOff n (setup_of node) Draw = subst (λ x. IsCutOff n (setup_of node) x) draw cut in
+    at_draw
 
 -- the table before the first sweep
 pub start_at : (p : Setup) (status : Status) → HasStatus p status → IsCutOff 0 p (value_at_start status)
@@ -241,14 +241,14 @@ pub starts_cut : (nodes : List Node) → IsGraph nodes → AreCutOff 0 nodes (ma
 starts_cut nodes graph = record {
   same_length = length-map nodes first_value;
   fits = λ number node there.
-    let read : slice_get (map first_value nodes) number ≡ Some (first_value node) =
+      let read : slice_get (map first_value nodes) number ≡ Some (first_value node) =
       slice_get-map first_value nodes number ∙ ap (option_map first_value) there in
-    let is : slice_index_or (map first_value nodes) number Draw ≡ first_value node =
+      let is : slice_index_or (map first_value nodes) number Draw ≡ first_value node =
       get_or_from_slice_get (map first_value nodes) number (first_value node) Draw read in
-    subst (λ x. IsCutOff 0 (setup_of node) x) (sym is) (start_cut node (graph number node there).status);
+      subst (λ x. IsCutOff 0 (setup_of node) x) (sym is) (start_cut node (graph number node there).status);
 }
 
 -- a slice that is written back whole is all that there is
 pub put_back : {X : Type 0} (n : ℕ) (new old : List X) → length new ≡ length old → n ≡ length old →
-  take n (new ++ drop (length new) old) ≡ new
+    take n (new ++ drop (length new) old) ≡ new
 put_back n new old same full = grind (arith, common_steps)

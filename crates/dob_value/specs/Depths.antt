@@ -1,6 +1,7 @@
 -- Laws on won and lost positions at different depths.
 use Rattle.std.specs.Prelude.{◌≡◌, ℕ, ◌≤◌}
 use Rattle.dob_pieces.specs.declared.setup.Setup.{Setup}
+use Rattle.dob_pieces.specs.Setups.{IsLegal, mirrored}
 use Rattle.dob_value.specs.declared.value.Value.{Value}
 use Rattle.dob_value.specs.Values.{Won, Lost, HasValue}
 
@@ -23,3 +24,11 @@ OneValue = (p : Setup) (v w : Value) → HasValue p v → HasValue p w → v ≡
 pub record SameOutlook (p q : Setup) : Type 0 where
   pub won : (n : ℕ) → (Won n p → Won n q) × (Won n q → Won n p)
   pub lost : (n : ℕ) → (Lost n p → Lost n q) × (Lost n q → Lost n p)
+
+-- a position and its mirror image are won at the same depths and lost at the same depths
+abbrev pub MirrorsHaveOneOutlook : Type 0
+MirrorsHaveOneOutlook = (p : Setup) → IsLegal p → SameOutlook p (mirrored p)
+
+-- a position's mirror image has its value
+abbrev pub MirrorsHaveOneValue : Type 0
+MirrorsHaveOneValue = (p : Setup) (v : Value) → IsLegal p → HasValue p v → HasValue (mirrored p) v

@@ -12,8 +12,8 @@ loop-depth-init c = record {
 
 pub returns-clause-values : goal.returns-clause-values
 returns-clause-values c =
-  let unchanged = c.loop-depth-test.ensures.same refl ∙ c.deref_mut.ensures.value in
-  let whole = put_back c.loop-depth.values.len c.sweep_once.new.values c.loop-depth.values.items (ap length unchanged) (c.loop-depth.values.ok.0) in
-  let final = unchanged_is_final c.loop-depth.depth c.args.nodes.now c.loop-depth.values.items c.requires c.loop-depth.invariant.cut_off
+    let unchanged = c.loop-depth-test.ensures.same refl ∙ c.deref_mut.ensures.value in
+    let whole = put_back c.loop-depth.values.len c.sweep_once.new.values c.loop-depth.values.items (ap length unchanged) (c.loop-depth.values.ok.0) in
+    let final = unchanged_is_final c.loop-depth.depth c.args.nodes.now c.loop-depth.values.items c.requires c.loop-depth.invariant.cut_off
     (subst (λ xs. AreCutOff (c.loop-depth.depth + 1) c.args.nodes.now xs) unchanged c.sweep_once.ensures.cut_off) in
-  subst (λ xs. AreValues c.args.nodes.now xs) (sym (whole ∙ unchanged)) final
+    subst (λ xs. AreValues c.args.nodes.now xs) (sym (whole ∙ unchanged)) final
