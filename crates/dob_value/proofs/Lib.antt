@@ -2,3 +2,4 @@ pub mod Depths
 pub mod NextValues
 pub mod Tables
 pub mod Images
+pub mod Successors

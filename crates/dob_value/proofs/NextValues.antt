@@ -48,7 +48,7 @@ module _ (n : ℕ) (entries : List Value) (node : Node) (known : IsNode (TellsAt
       Won (suc n) (setup_of node)
   some_lost goes_on any =
       let found = Any-from_list_any (λ number. is_loss_within n (slice_index_or entries number Draw)) node.successors.items any in
-      let step = known.sound found.1 (found.0, found.2, found.3) in
+      let step = known.successors.sound found.1 (found.0, found.2, found.3) in
       inr (goes_on, step.0, step.1, step.2, step.3.1.loss found.4)
 
   pub all_won : HasStatus (setup_of node) Open →
@@ -59,7 +59,7 @@ module _ (n : ℕ) (entries : List Value) (node : Node) (known : IsNode (TellsAt
       inr (
         goes_on,
         λ move q goes.
-            let next = known.whole goes_on move q goes in
+            let next = known.successors.whole goes_on move q goes in
             next.2.1.win (All-contains (λ number. is_win_within n (slice_index_or entries number Draw) ≡ true) node.successors.items next.0 pass next.1),
       )
 
@@ -69,7 +69,7 @@ module _ (n : ℕ) (entries : List Value) (node : Node) (known : IsNode (TellsAt
   none_lost goes_on none won = elim won [
     | inl caught ↦ goes_on.0 caught
     | inr open_win ↦
-        let next = known.whole goes_on open_win.1 open_win.2 open_win.3 in
+        let next = known.successors.whole goes_on open_win.1 open_win.2 open_win.3 in
         let loss = next.2.1.lost open_win.4 in
         let there : is_loss_within n (slice_index_or entries (get_or node.successors.items next.1.0 next.0) Draw) ≡ true =
         rw next.1.2 loss in
@@ -85,7 +85,7 @@ module _ (n : ℕ) (entries : List Value) (node : Node) (known : IsNode (TellsAt
     | inr open_loss ↦
         let pass : All (λ number. is_win_within n (slice_index_or entries number Draw) ≡ true) node.successors.items =
         λ k d below.
-        let step = known.sound (get_or node.successors.items k d) (Contains-get_or node.successors.items k d below) in
+        let step = known.successors.sound (get_or node.successors.items k d) (Contains-get_or node.successors.items k d below) in
         step.3.1.won (open_loss.1 step.0 step.1 step.2) in
         let all = list_all-from_AllPass (λ number. is_win_within n (slice_index_or entries number Draw)) node.successors.items pass in
         cc
@@ -93,7 +93,7 @@ module _ (n : ℕ) (entries : List Value) (node : Node) (known : IsNode (TellsAt
 
   -- each successor has an entry
   pub have_entries : All (λ number. number < length entries) node.successors.items
-  have_entries k d below = (known.sound (get_or node.successors.items k d) (Contains-get_or node.successors.items k d below)).3.0
+  have_entries k d below = (known.successors.sound (get_or node.successors.items k d) (Contains-get_or node.successors.items k d below)).3.0
 
   -- the value at depth n + 1, by the node's status and what was found among its successors
   pub value_at_catch : ¬ Won n (setup_of node) → node.status ≡ Caught → HasValue (setup_of node) (Win (n + 1))

@@ -65,6 +65,17 @@ draw_is (Win d) h = absurd (cc)
 draw_is (Loss d) h = absurd (cc)
 draw_is Draw h = refl
 
+-- a node's successors stay so where their numbers stand for positions in another way too
+pub node_standing : (StandsFor Other : ℕ → Setup → Type 0) (node : Node) →
+    ((number : ℕ) (q : Setup) → StandsFor number q → Other number q) → IsNode StandsFor node → IsNode Other node
+node_standing StandsFor Other node stands known = record {
+  status = known.status;
+  successors = record {
+    sound = λ number there. let step = known.successors.sound number there in (step.0, step.1, step.2, stands number step.1 step.3);
+    whole = λ goes_on move q goes. let step = known.successors.whole goes_on move q goes in (step.0, step.1, stands step.0 q step.2);
+  };
+}
+
 -- the entries during a sweep tell, at each node, of what its successors are
 pub successors_told : (n upto : ℕ) (nodes : List Node) (entries : List Value) (node : Node) →
     AreSwept n upto nodes entries → IsNode (NodeStandsFor nodes) node → IsNode (TellsAt n entries) node
@@ -80,11 +91,7 @@ successors_told n upto nodes entries node swept known =
       | inr later ↦ tells n n (setup_of next) _ (omega arith) (fits.1 later)
     ] in
     (below, tells_same n (setup_of next) q _ stands.2 told_there) in
-    record {
-      status = known.status;
-      sound = λ number there. let step = known.sound number there in (step.0, step.1, step.2, told number step.1 step.3);
-      whole = λ goes_on move q goes. let step = known.whole goes_on move q goes in (step.0, step.1, told step.0 q step.2);
-    }
+    node_standing (NodeStandsFor nodes) (TellsAt n entries) node told known
 
 -- before a sweep and after it
 pub swept_none : (n : ℕ) (nodes : List Node) (entries : List Value) → AreCutOff n nodes entries → AreSwept n 0 nodes entries
@@ -181,7 +188,7 @@ nothing_later n nodes graph nothing (suc m) number node there =
       λ won. (nothing number node there).0 (elim won [
         | inl caught ↦ inl caught
         | inr open_win ↦
-            let next = known.whole open_win.0 open_win.1 open_win.2 open_win.3 in
+            let next = known.successors.whole open_win.0 open_win.1 open_win.2 open_win.3 in
             let later = nothing_later n nodes graph nothing m next.0 next.2.0 next.2.1 in
             let lost = (next.2.2.lost n).1 (later.1 ((next.2.2.lost m).0 open_win.4)) in
             inr (open_win.0, open_win.1, open_win.2, open_win.3, lost)
@@ -191,7 +198,7 @@ nothing_later n nodes graph nothing (suc m) number node there =
         | inr open_loss ↦ inr (
           open_loss.0,
           λ move q goes.
-              let next = known.whole open_loss.0 move q goes in
+              let next = known.successors.whole open_loss.0 move q goes in
               let later = nothing_later n nodes graph nothing m next.0 next.2.0 next.2.1 in
               (next.2.2.won n).1 (later.0 ((next.2.2.won m).0 (open_loss.1 move q goes))),
         )

@@ -17,14 +17,17 @@ use Rattle.dob_value.specs.Entries.{IsCutOff, HasDistance}
 abbrev pub setup_of : Node → Setup
 setup_of node = node.position.setup
 
--- The node has its position's status, and where that is open its successors are numbers that stand for the positions
--- to which the moves lead. StandsFor says which number stands for which position.
+-- The numbers stand for the positions to which the moves of p lead, for each at least one, and for no other.
+-- StandsFor says which number stands for which position.
+pub record AreSuccessors (StandsFor : ℕ → Setup → Type 0) (p : Setup) (numbers : List ℕ) : Type 0 where
+  pub sound : (number : ℕ) → Contains numbers number → (move : Move) × (q : Setup) × Goes p move q × StandsFor number q
+  pub whole : HasStatus p Open → (move : Move) (q : Setup) → Goes p move q →
+      (number : ℕ) × Contains numbers number × StandsFor number q
+
+-- the node has its position's status and successors
 pub record IsNode (StandsFor : ℕ → Setup → Type 0) (node : Node) : Type 0 where
   pub status : HasStatus (setup_of node) node.status
-  pub sound : (number : ℕ) → Contains node.successors.items number →
-      (move : Move) × (q : Setup) × Goes (setup_of node) move q × StandsFor number q
-  pub whole : HasStatus (setup_of node) Open → (move : Move) (q : Setup) → Goes (setup_of node) move q →
-      (number : ℕ) × Contains node.successors.items number × StandsFor number q
+  pub successors : AreSuccessors StandsFor (setup_of node) node.successors.items
 
 -- some node has that number, and its position is won and lost at the same depths as this one
 abbrev pub NodeStandsFor : List Node → ℕ → Setup → Type 0
@@ -66,3 +69,13 @@ value_at_start Open = Draw
 
 abbrev pub first_value : Node → Value
 first_value node = value_at_start node.status
+
+-- below count each number stands for the positions with the same outlook as the one listed there
+abbrev pub ListedFor : ℕ → (ℕ → Setup) → ℕ → Setup → Type 0
+ListedFor count setup_at number q = (number < count) × SameOutlook q (setup_at number)
+
+-- the nodes of the positions that are listed
+pub record AreNodes (count : ℕ) (setup_at : ℕ → Setup) (nodes : List Node) : Type 0 where
+  pub same_length : length nodes ≡ count
+  pub nodes_at : (number : ℕ) (node : Node) → slice_get nodes number ≡ Some node →
+      (setup_of node ≡ setup_at number) × IsNode (ListedFor count setup_at) node

@@ -3,3 +3,4 @@ pub mod Depths
 pub mod Entries
 pub mod Graphs
 pub mod Faults
+pub mod Rosters
