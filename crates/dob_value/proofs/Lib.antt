@@ -3,3 +3,5 @@ pub mod NextValues
 pub mod Tables
 pub mod Images
 pub mod Successors
+pub mod Pairs
+pub mod Nodes

@@ -74,8 +74,9 @@ first_value node = value_at_start node.status
 abbrev pub ListedFor : ℕ → (ℕ → Setup) → ℕ → Setup → Type 0
 ListedFor count setup_at number q = (number < count) × SameOutlook q (setup_at number)
 
--- the nodes of the positions that are listed
-pub record AreNodes (count : ℕ) (setup_at : ℕ → Setup) (nodes : List Node) : Type 0 where
+-- the nodes of the positions that are listed, which are members
+pub record AreNodes (count : ℕ) (setup_at : ℕ → Setup) (IsMember : Setup → Type 0) (nodes : List Node) : Type 0 where
   pub same_length : length nodes ≡ count
-  pub nodes_at : (number : ℕ) (node : Node) → slice_get nodes number ≡ Some node →
-      (setup_of node ≡ setup_at number) × IsNode (ListedFor count setup_at) node
+  pub listed : (number : ℕ) (node : Node) → slice_get nodes number ≡ Some node → setup_of node ≡ setup_at number
+  pub members : (number : ℕ) (node : Node) → slice_get nodes number ≡ Some node → IsMember (setup_of node)
+  pub known : (number : ℕ) (node : Node) → slice_get nodes number ≡ Some node → IsNode (ListedFor count setup_at) node

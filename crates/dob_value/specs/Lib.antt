@@ -4,3 +4,5 @@ pub mod Entries
 pub mod Graphs
 pub mod Faults
 pub mod Rosters
+pub mod Lions
+pub mod LionLaws

@@ -1,19 +1,10 @@
--- Lists of positions, with numbers.
+-- Tables with the values of positions in a row.
 use Rattle.std.specs.Prelude.{ℕ, ◌<◌, List, length, slice_index_or, ◌≡◌}
 use Rattle.dob_pieces.specs.declared.setup.Setup.{Setup}
-use Rattle.dob_moves.specs.declared.moves.Move.{Move}
-use Rattle.dob_moves.specs.declared.outlook.Status.TheVariants.{Open}
-use Rattle.dob_moves.specs.Moves.{Goes}
-use Rattle.dob_moves.specs.Statuses.{HasStatus}
 use Rattle.dob_value.specs.declared.value.Value.{Value}
 use Rattle.dob_value.specs.declared.value.Value.TheVariants.{Draw}
 use Rattle.dob_value.specs.Values.{HasValue}
 use Rattle.dob_value.specs.Entries.{HasDistance}
-
--- what is listed are members, and moves lead from members to members
-pub record IsRoster (count : ℕ) (setup_at : ℕ → Setup) (IsMember : Setup → Type 0) : Type 0 where
-  pub listed : (number : ℕ) → number < count → IsMember (setup_at number)
-  pub closed : (p : Setup) (move : Move) (q : Setup) → IsMember p → HasStatus p Open → Goes p move q → IsMember q
 
 -- a table with the value of each position listed
 pub record HoldsValues (count : ℕ) (setup_at : ℕ → Setup) (entries : List Value) : Type 0 where

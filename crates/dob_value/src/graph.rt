@@ -5,7 +5,7 @@ ghost use Rattle.dob_moves.specs.declared.outlook.Status.{Status};
 ghost use Rattle.dob_moves.specs.Moves.{Goes, CanGo};
 ghost use Rattle.dob_moves.specs.Statuses.{HasStatus, AreMoves};
 ghost use Rattle.dob_value.specs.Depths.{SameOutlook};
-ghost use Rattle.dob_value.specs.Graphs.{AreSuccessors, ListedFor};
+ghost use Rattle.dob_value.specs.Graphs.{AreSuccessors, ListedFor, IsNode, AreNodes, setup_of};
 
 use crate::roster::Roster;
 use dob_moves::{Move, Status, apply};
@@ -49,4 +49,48 @@ fn successors<R: Roster>(
         numbers.push(number)?;
     }
     Ok(numbers)
+}
+
+// The node of the position that is listed under the number.
+fn node_of<R: Roster>(alloc: Global, roster: &R, number: usize) -> Result<Node, Memory>
+    requires { number < R.count roster.now }
+    ensures listed { IfOk result (λ node. setup_of node ≡ R.setup_at roster.now number) }
+    ensures member { IfOk result (λ node. R.has roster.now (setup_of node)) }
+    ensures known { IfOk result (λ node. IsNode (ListedFor (R.count roster.now) (R.setup_at roster.now)) node) }
+{
+    let position = roster.position_at(number);
+    let choices = moves(alloc, &position)?;
+    let successors = successors(alloc, roster, &position, &choices)?;
+    Ok(Node {
+        position,
+        status: status(&position),
+        successors,
+    })
+}
+
+/// The nodes of all positions that are listed.
+///
+/// Error: `Memory`.
+pub(crate) fn graph_of<R: Roster>(alloc: Global, roster: &R) -> Result<Vec<Node>, Memory>
+    ensures { IfOk result (λ nodes.
+        AreNodes (R.count roster.now) (R.setup_at roster.now) (R.has roster.now) nodes.items) }
+{
+    let mut nodes = Vec::new(alloc);
+    for number in 0..roster.len() {
+        let node = node_of(alloc, roster, number)?;
+        nodes.push(node)?;
+    }
+    Ok(nodes)
+}
+
+fn moves(alloc: Global, position: &Position) -> Result<Vec<Move>, Memory>
+    ensures { IfOk result (λ moves. AreMoves position.now.setup moves.items) }
+{
+    Err(Memory)
+}
+
+fn status(position: &Position) -> Status
+    ensures { HasStatus position.now.setup result }
+{
+    Status::Open
 }

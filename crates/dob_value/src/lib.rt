@@ -4,6 +4,7 @@
 mod fault;
 mod graph;
 pub mod laws;
+mod lions;
 mod roster;
 mod sweep;
 mod value;

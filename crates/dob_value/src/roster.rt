@@ -1,8 +1,11 @@
 // Lists of positions with numbers, over which a sweep can go.
 ghost use Rattle.std.specs.Prelude.{◌≡◌, ◌<◌, ℕ};
 ghost use Rattle.dob_pieces.specs.declared.setup.Setup.{Setup};
+ghost use Rattle.dob_moves.specs.declared.moves.Move.{Move};
+ghost use Rattle.dob_moves.specs.declared.outlook.Status.TheVariants.{Open};
+ghost use Rattle.dob_moves.specs.Moves.{Goes};
+ghost use Rattle.dob_moves.specs.Statuses.{HasStatus};
 ghost use Rattle.dob_value.specs.Depths.{SameOutlook};
-ghost use Rattle.dob_value.specs.Rosters.{IsRoster};
 
 use dob_pieces::Position;
 
@@ -18,7 +21,9 @@ pub(crate) trait Roster {
     // the positions that have a number
     ghost has: { Self → Setup → Type 0 };
 
-    ghost laws: { (roster : Self) → IsRoster (count roster) (setup_at roster) (has roster) };
+    // moves lead from such positions to such positions
+    ghost closed: { (roster : Self) (p : Setup) (move : Move) (q : Setup)
+        → has roster p → HasStatus p Open → Goes p move q → has roster q };
 
     /// How many numbers there are.
     fn len(&self) -> usize
@@ -27,7 +32,8 @@ pub(crate) trait Roster {
     /// The position that is listed under the number.
     fn position_at(&self, number: usize) -> Position
         requires { number < count self.now }
-        ensures { result.setup ≡ setup_at self.now number };
+        ensures setup { result.setup ≡ setup_at self.now number }
+        ensures member { has self.now result.setup };
 
     /// The number of a position that has one.
     fn number_of(&self, position: &Position) -> usize

@@ -6,9 +6,11 @@ ghost use Rattle.dob_value.specs.declared.value.Value.TheVariants.{Draw};
 ghost use Rattle.dob_value.specs.Values.{Won, Lost};
 ghost use Rattle.dob_value.specs.Entries.{is_win_within, is_loss_within, is_draw, IsCutOff, TellsAt, HasDistance};
 ghost use Rattle.dob_value.specs.Graphs.{IsNode, IsGraph, AreCutOff, AreSwept, AreValues, SomeHasDistance, first_value, setup_of};
+ghost use Rattle.dob_value.specs.Rosters.{HoldsValues, SomeTooDeep};
 
 use crate::fault::Fault;
-use crate::graph::Node;
+use crate::graph::{Node, graph_of};
+use crate::roster::Roster;
 use crate::value::Value;
 use dob_moves::Status;
 use std::alloc::{AllocError, Global};
@@ -143,4 +145,16 @@ pub(crate) fn settle(alloc: Global, nodes: &[Node]) -> Result<Vec<Value>, Fault>
         }
     }
     Ok(values)
+}
+
+/// The value of each position that is listed, in the order of the numbers.
+///
+/// Errors: `TooDeep` where some distance is above `MAX_DISTANCE`, and `Memory`.
+pub(crate) fn sweep<R: Roster>(alloc: Global, roster: &R) -> Result<Vec<Value>, Fault>
+    ensures values { IfOk result (λ values. HoldsValues (R.count roster.now) (R.setup_at roster.now) values.items) }
+    ensures deep { result ≡ Err Fault.TooDeep → SomeTooDeep (R.has roster.now) }
+    ensures set { result ≢ Err Fault.SetTooLarge }
+{
+    let nodes = graph_of(alloc, roster)?;
+    settle(alloc, &nodes)
 }
