@@ -2,3 +2,9 @@ pub mod Turns
 pub mod Outcomes
 pub mod Mirrors
 pub mod Cases
+pub mod Firsts
+pub mod Runs
+pub mod Tables
+pub mod Reach
+pub mod Verdicts
+pub mod Appends

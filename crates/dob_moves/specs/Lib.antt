@@ -3,3 +3,4 @@ pub mod Statuses
 pub mod Outcomes
 pub mod Mirrors
 pub mod Laws
+pub mod Walks

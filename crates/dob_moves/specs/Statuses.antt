@@ -1,5 +1,5 @@
 -- The status of a position, and the list of its moves.
-use Rattle.std.specs.Prelude.{◌≡◌, ℕ, ◌<◌, ◌≤◌, List, Option, Some, None, Contains, AllPairs}
+use Rattle.std.specs.Prelude.{◌≡◌, ℕ, ◌<◌, ◌≤◌, List, Some, Contains, AllPairs}
 use Rattle.dob_pieces.specs.declared.kind.Kind.TheVariants.{Lion}
 use Rattle.dob_pieces.specs.declared.kind.Side.TheVariants.{Enemy}
 use Rattle.dob_pieces.specs.declared.setup.Setup.{Setup}
@@ -7,7 +7,7 @@ use Rattle.dob_pieces.specs.Setups.{at, piece_of}
 use Rattle.dob_moves.specs.declared.moves.Move.{Move}
 use Rattle.dob_moves.specs.declared.outlook.Status.{Status}
 use Rattle.dob_moves.specs.declared.outlook.Status.TheVariants.{Caught, Tried, Stuck, Open}
-use Rattle.dob_moves.specs.Moves.{Goes, CanGo, CatchesLion, place}
+use Rattle.dob_moves.specs.Moves.{CanGo, CatchesLion, place}
 
 -- some step of the mover ends on the enemy lion
 abbrev pub CanCatch : Setup → Type 0

@@ -3,9 +3,17 @@
 
 mod applied;
 pub mod laws;
+mod judge;
+pub mod listing;
 mod moves;
 mod outlook;
+mod search;
+mod steps;
 
 pub use applied::apply;
+pub use judge::{first_catch, status};
 pub use moves::Move;
 pub use outlook::Status;
+
+#[cfg(test)]
+mod tests;

@@ -45,9 +45,9 @@ HasLionAtHome-from_test s h k low e =
 pub test-from_HasLionAtHome : (s : Setup) → HasLionAtHome s → list_any (holds_lion Mover) (drop 9 s.board) ≡ false
 test-from_HasLionAtHome s home =
     false_from_ne_true _ (λ (h : list_any (holds_lion Mover) (drop 9 s.board) ≡ true).
-        let some : Any (λ x. holds_lion Mover x ≡ true) (drop 9 s.board) = Any-from_list_any (holds_lion Mover) (drop 9 s.board) h in
-        home (9 + some.0) (omega arith)
-        (sym (get_or-drop 9 s.board some.0 None) ∙ get_or_default (drop 9 s.board) some.0 None some.1 some.2 ∙ some.3 ∙ mover_lion some.1 some.4))
+    let some : Any (λ x. holds_lion Mover x ≡ true) (drop 9 s.board) = Any-from_list_any (holds_lion Mover) (drop 9 s.board) h in
+    home (9 + some.0) (omega arith)
+    (sym (get_or-drop 9 s.board some.0 None) ∙ get_or_default (drop 9 s.board) some.0 None some.1 some.2 ∙ some.3 ∙ mover_lion some.1 some.4))
 
 -- row 4 is the last three of the twelve squares
 pub far_row : (board : List Cell) → length board ≡ 12 → take 3 (drop 9 board) ≡ drop 9 board

@@ -51,7 +51,7 @@ pub turned-turned : (s : Setup) → length s.board ≡ 12 → turned (turned s) 
 unfolding turned
 turned-turned s e =
     let cells : (k : ℕ) → k < 12 → at s k ≡ turned_cell (at (turned s) (turned_square k))
-        = λ k lt. sym (ap turned_cell (at-turned s (11 - k) (omega arith)) ∙ turned_cell_twice (at s (11 - (11 - k))) ∙ ap (at s) (turned_square_twice k lt)) in
+    = λ k lt. sym (ap turned_cell (at-turned s (11 - k) (omega arith)) ∙ turned_cell_twice (at s (11 - (11 - k))) ∙ ap (at s) (turned_square_twice k lt)) in
     sym (ap (λ (board : List Cell). setup_of board s.hands) (board_by-from_cells (λ k. turned_cell (at (turned s) (turned_square k))) s.board e cells))
 
 -- mirroring twice too
@@ -59,7 +59,7 @@ pub mirrored-mirrored : (s : Setup) → length s.board ≡ 12 → mirrored (mirr
 unfolding mirrored
 mirrored-mirrored s e =
     let cells : (k : ℕ) → k < 12 → at s k ≡ at (mirrored s) (mirrored_square k)
-        = λ k lt. sym (at-mirrored s (mirrored_square k) (mirrored_square_bound k lt) ∙ ap (at s) (mirrored_square_twice k lt)) in
+    = λ k lt. sym (at-mirrored s (mirrored_square k) (mirrored_square_bound k lt) ∙ ap (at s) (mirrored_square_twice k lt)) in
     sym (ap (λ (board : List Cell). setup_of board s.hands) (board_by-from_cells (λ k. at (mirrored s) (mirrored_square k)) s.board e cells))
 
 -- turning and mirroring commute
@@ -67,9 +67,9 @@ pub turned-mirrored : (s : Setup) → turned (mirrored s) ≡ mirrored (turned s
 unfolding turned mirrored
 turned-mirrored s =
     let cells : (k : ℕ) → k < 12 → turned_cell (at (mirrored s) (turned_square k)) ≡ at (turned s) (mirrored_square k)
-        = λ k lt.
-            ap turned_cell (at-mirrored s (11 - k) (omega arith) ∙ ap (at s) (mirrored-turned_square k lt))
-            ∙ sym (at-turned s (mirrored_square k) (mirrored_square_bound k lt)) in
+    = λ k lt.
+    ap turned_cell (at-mirrored s (11 - k) (omega arith) ∙ ap (at s) (mirrored-turned_square k lt))
+    ∙ sym (at-turned s (mirrored_square k) (mirrored_square_bound k lt)) in
     let hands : Hands = record { mover = s.hands.enemy; enemy = s.hands.mover } in
     ap (λ (board : List Cell). setup_of board hands)
     (board_by-same (λ k. turned_cell (at (mirrored s) (turned_square k))) (λ k. at (turned s) (mirrored_square k)) cells)

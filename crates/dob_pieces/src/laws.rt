@@ -11,50 +11,41 @@ ghost use Rattle.dob_pieces.specs.Setups.{IsLegal, total, turned, mirrored};
 #[tactic(auto, using(crate::proofs::Symmetries::laws))]
 pub fn turned_twice()
     ensures { (setup : Setup) → length setup.board ≡ 12 → turned (turned setup) ≡ setup }
-{
-}
+{}
 
 /// The mirror image of the mirror image of a board of twelve squares is the setup itself.
 #[tactic(auto, using(crate::proofs::Symmetries::laws))]
 pub fn mirrored_twice()
     ensures { (setup : Setup) → length setup.board ≡ 12 → mirrored (mirrored setup) ≡ setup }
-{
-}
+{}
 
 /// Turning and mirroring give the same in either order.
 #[tactic(auto, using(crate::proofs::Symmetries::laws))]
 pub fn turned_mirrored()
     ensures { (setup : Setup) → turned (mirrored setup) ≡ mirrored (turned setup) }
-{
-}
+{}
 
 /// Turning keeps the piece set.
 #[tactic(auto, using(crate::proofs::Symmetries::laws))]
 pub fn turned_total()
     ensures { (kind : HandKind) (setup : Setup) → length setup.board ≡ 12 → total kind (turned setup) ≡ total kind setup }
-{
-}
+{}
 
 /// Mirroring keeps the piece set.
 #[tactic(auto, using(crate::proofs::Symmetries::laws))]
 pub fn mirrored_total()
     ensures { (kind : HandKind) (setup : Setup) → length setup.board ≡ 12 → total kind (mirrored setup) ≡ total kind setup }
-{
-}
+{}
 
 /// The mirror image of a legal setup is legal.
 pub fn mirrored_legal()
     ensures { (setup : Setup) → IsLegal setup → IsLegal (mirrored setup) }
-{
-}
+{}
 
 /// The mirror image of a step is a step.
 pub fn mirrored_step()
-    ensures {
-        (kind : Kind) (from to : ℕ)
+    ensures { (kind : Kind) (from to : ℕ)
         → from < 12
         → to < 12
-        → leads kind (mirrored_square from) (mirrored_square to) ≡ leads kind from to
-    }
-{
-}
+        → leads kind (mirrored_square from) (mirrored_square to) ≡ leads kind from to }
+{}

@@ -21,3 +21,6 @@ pub use piece_set::{PieceSet, SetText};
 pub use position::Position;
 pub use setup::Setup;
 pub use square::Square;
+
+#[cfg(test)]
+mod tests;

@@ -27,7 +27,11 @@ impl PieceSet {
         ensures err { OnErr result ((set : PieceSet) → text.now ≢ set_text set) }
     {
         match *text.as_bytes() {
-            [chicks @ b'0'..=b'2', elephants @ b'0'..=b'2', giraffes @ b'0'..=b'2'] => Ok(PieceSet {
+            [
+                chicks @ b'0'..=b'2',
+                elephants @ b'0'..=b'2',
+                giraffes @ b'0'..=b'2',
+            ] => Ok(PieceSet {
                 chicks: chicks - b'0',
                 elephants: elephants - b'0',
                 giraffes: giraffes - b'0',

@@ -29,17 +29,16 @@ impl Position {
     /// The position with that board and those hands. Refuses, in this order, `Lions` where a side doesn't have
     /// just one lion, `Count` where there are more than two pieces of a kind, and `FarLion` where the mover's lion
     /// stands on row 4.
-    pub fn of(board: [Option<Piece>; Square::COUNT], hands: Hands) -> Result<Position, PositionFault>
+    pub fn of(
+        board: [Option<Piece>; Square::COUNT],
+        hands: Hands,
+    ) -> Result<Position, PositionFault>
         ensures legal { IsOk result ↔ IsLegal (setup_of board hands) }
         ensures setup { IfOk result (λ position. position.setup ≡ setup_of board hands) }
         ensures lions { IsErrOf result PositionFault.Lions ↔ (¬ HasLions (setup_of board hands)) }
-        ensures count {
-            IsErrOf result PositionFault.Count ↔ (HasLions (setup_of board hands) × ¬ HasFewPieces (setup_of board hands))
-        }
-        ensures far_lion {
-            IsErrOf result PositionFault.FarLion
-            ↔ (HasLions (setup_of board hands) × HasFewPieces (setup_of board hands) × ¬ HasLionAtHome (setup_of board hands))
-        }
+        ensures count { IsErrOf result PositionFault.Count ↔ (HasLions (setup_of board hands) × ¬ HasFewPieces (setup_of board hands)) }
+        ensures far_lion { IsErrOf result PositionFault.FarLion
+            ↔ (HasLions (setup_of board hands) × HasFewPieces (setup_of board hands) × ¬ HasLionAtHome (setup_of board hands)) }
     {
         let setup = Setup { board, hands };
         match setup.fault() {

@@ -90,7 +90,9 @@ impl Setup {
     fn has_few_pieces(&self) -> bool
         ensures { IsTrue result ↔ HasFewPieces self.now }
     {
-        self.total(HandKind::Chick) <= 2 && self.total(HandKind::Elephant) <= 2 && self.total(HandKind::Giraffe) <= 2
+        self.total(HandKind::Chick) <= 2
+            && self.total(HandKind::Elephant) <= 2
+            && self.total(HandKind::Giraffe) <= 2
     }
 
     // Whether the mover's lion isn't on row 4.
@@ -105,7 +107,10 @@ impl Setup {
     fn lions(&self, side: Side) -> usize
         ensures { result ≡ count_by (holds_lion side) self.now.board }
     {
-        self.board.iter().filter(|cell| holds_lion(side, **cell)).count()
+        self.board
+            .iter()
+            .filter(|cell| holds_lion(side, **cell))
+            .count()
     }
 
     /// How many pieces of the kind there are, board and hands together. A hen counts as a chick.
@@ -113,8 +118,14 @@ impl Setup {
     pub fn total(&self, kind: HandKind) -> usize
         ensures { result ≡ total kind self.now }
     {
-        let on_board = self.board.iter().filter(|cell| holds_kind(kind, **cell)).count();
-        on_board + usize::from(self.hands.mover.count(kind)) + usize::from(self.hands.enemy.count(kind))
+        let on_board = self
+            .board
+            .iter()
+            .filter(|cell| holds_kind(kind, **cell))
+            .count();
+        on_board
+            + usize::from(self.hands.mover.count(kind))
+            + usize::from(self.hands.enemy.count(kind))
     }
 }
 

@@ -8,7 +8,8 @@ ghost use Rattle.dob_value.specs.Depths.{SameOutlook};
 ghost use Rattle.dob_value.specs.Graphs.{AreSuccessors, ListedFor, IsNode, AreNodes, setup_of};
 
 use crate::roster::Roster;
-use dob_moves::{Move, Status, apply};
+use dob_moves::listing::moves;
+use dob_moves::{Move, Status, apply, status};
 use dob_pieces::{Memory, Position};
 use std::alloc::Global;
 
@@ -81,16 +82,4 @@ pub(crate) fn graph_of<R: Roster>(alloc: Global, roster: &R) -> Result<Vec<Node>
         nodes.push(node)?;
     }
     Ok(nodes)
-}
-
-fn moves(alloc: Global, position: &Position) -> Result<Vec<Move>, Memory>
-    ensures { IfOk result (λ moves. AreMoves position.now.setup moves.items) }
-{
-    Err(Memory)
-}
-
-fn status(position: &Position) -> Status
-    ensures { HasStatus position.now.setup result }
-{
-    Status::Open
 }

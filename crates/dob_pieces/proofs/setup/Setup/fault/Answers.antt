@@ -2,15 +2,17 @@ use Rattle.std.proofs.lemmas.Bool.{both_ways}
 use Rattle.dob_pieces.proofs.setup.Setup.fault.Goals as goal
 
 pub returns-then-not-has_few_pieces : goal.returns-then-not-has_few_pieces
-returns-then-not-has_few_pieces c =
-    (c.has_lions.ensures.0 c.if-not-has_lions.false,
-    λ few. both_ways _ c.if-not-has_few_pieces.true (c.has_few_pieces.ensures.1 few))
+returns-then-not-has_few_pieces c = (
+  c.has_lions.ensures.0 c.if-not-has_lions.false,
+  λ few. both_ways _ c.if-not-has_few_pieces.true (c.has_few_pieces.ensures.1 few),
+)
 
 pub returns-then-not-has_lion_at_home : goal.returns-then-not-has_lion_at_home
-returns-then-not-has_lion_at_home c =
-    (c.has_lions.ensures.0 c.if-not-has_lions.false,
-    c.has_few_pieces.ensures.0 c.if-not-has_few_pieces.false,
-    λ home. both_ways _ c.if-not-has_lion_at_home.true (c.has_lion_at_home.ensures.answer.1 home))
+returns-then-not-has_lion_at_home c = (
+  c.has_lions.ensures.0 c.if-not-has_lions.false,
+  c.has_few_pieces.ensures.0 c.if-not-has_few_pieces.false,
+  λ home. both_ways _ c.if-not-has_lion_at_home.true (c.has_lion_at_home.ensures.answer.1 home),
+)
 
 pub returns-else-not-has_lion_at_home : goal.returns-else-not-has_lion_at_home
 returns-else-not-has_lion_at_home c = record {

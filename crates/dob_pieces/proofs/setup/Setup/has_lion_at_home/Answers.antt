@@ -10,6 +10,7 @@ pub returns-clause-answer : goal.returns-clause-answer
 returns-clause-answer c =
     let squares : length c.args.self.now.board ≡ 12 = search rules in
     let answer : c.has_mover_lion.result ≡ list_any (holds_lion Mover) (drop 9 c.args.self.now.board)
-        = c.has_mover_lion.ensures ∙ ap (list_any (holds_lion Mover)) (far_row c.args.self.now.board squares) in
-    (λ t. HasLionAtHome-from_test c.args.self.now (sym answer ∙ not-true _ t),
-    λ h. not_from_false _ (answer ∙ test-from_HasLionAtHome c.args.self.now h))
+    = c.has_mover_lion.ensures ∙ ap (list_any (holds_lion Mover)) (far_row c.args.self.now.board squares) in (
+      λ t. HasLionAtHome-from_test c.args.self.now (sym answer ∙ not-true _ t),
+      λ h. not_from_false _ (answer ∙ test-from_HasLionAtHome c.args.self.now h),
+    )

@@ -1,0 +1,300 @@
+-- The lists of steps and of drops have exactly the moves of the rules, in the move order.
+use Rattle.std.proofs.Common.{◌≡◌, ℕ, suc, ◌+◌, ◌*◌, ◌<◌, ◌≤◌, Bool, true, false, cond, nat_lt, List, [], ◌++◌, Option, Some, None, length, refl, sym, ap, subst, inl, inr, arith, option_to_list, Contains}
+use Rattle.std.proofs.lemmas.Bool.{cases_lt, and_parts, ltb-true, lt-ltb}
+use Rattle.std.proofs.lemmas.List.{get_or_past}
+use Rattle.std.proofs.lemmas.List.Elements.{Contains-append_left, Contains-append_right, Contains-append_cases}
+use Rattle.dob_pieces.specs.declared.kind.Kind.{Kind}
+use Rattle.dob_pieces.specs.declared.kind.Kind.TheVariants.{Lion, Giraffe, Elephant, Chick, Hen}
+use Rattle.dob_pieces.specs.declared.kind.HandKind.{HandKind}
+use Rattle.dob_pieces.specs.declared.kind.HandKind.TheVariants as hand
+use Rattle.dob_pieces.specs.declared.kind.Side.{Side}
+use Rattle.dob_pieces.specs.declared.kind.Side.TheVariants.{Mover, Enemy}
+use Rattle.dob_pieces.specs.declared.kind.Piece.{Piece}
+use Rattle.dob_pieces.specs.declared.setup.Setup.{Setup}
+use Rattle.dob_pieces.specs.Pieces.{leads, kind_in_hand}
+use Rattle.dob_pieces.specs.Setups.{Cell, at, held, piece_of}
+use Rattle.dob_moves.specs.declared.moves.Move.{Move}
+use Rattle.dob_moves.specs.declared.moves.Move.TheVariants.{Step, Put}
+use Rattle.dob_moves.specs.declared.search.Aim.{Aim}
+use Rattle.dob_moves.specs.declared.search.Aim.TheVariants.{AtLion, Elsewhere}
+use Rattle.dob_moves.specs.Moves.{grows_at, CanTake, CanGo, CatchesLion, hand_place, place}
+use Rattle.dob_moves.specs.Statuses.{IsFirstCatch}
+use Rattle.dob_moves.specs.Walks.{first, each_below, may_end, step_onto, steps_by, own_kind, own_by_side, steps_if, steps_from, all_steps, put_if, put_on, drops_of, all_drops}
+use Rattle.dob_moves.proofs.Runs.{none_in_empty, each_sound, each_whole, option_sound, option_whole, Rising, rising-lower, rising-append, rising-option, rising-each, first_none, first_some, first_least}
+use Rattle.std.specs.Option.{is_some}
+use Rattle.dob_moves.proofs.Tables.{step_to, steps_by-squares}
+
+-- ---- one step
+
+-- a step that the kind makes from its square
+pub record IsStep (p : Setup) (kind : Kind) (from to : ℕ) : Type 0 where
+  pub own : at p from ≡ Some (piece_of Mover kind)
+  pub leads : leads kind from to ≡ true
+
+-- what a step is, by where it is to end
+abbrev pub Meets : Aim → Setup → Move → Type 0
+Meets AtLion p move = CatchesLion p move
+Meets Elsewhere p move = CanGo p move
+
+go_empty : (p : Setup) (kind : Kind) (from to : ℕ) (grows : Bool) → IsStep p kind from to → at p to ≡ None → grows_at kind to ≡ grows → CanGo p (Step kind from to false grows)
+go_empty p kind from to false s free e = (_, (e, free, record { own = s.own; leads = s.leads; outcome = refl }))
+go_empty p kind from to true s free e = (_, (e, free, record { own = s.own; leads = s.leads; outcome = refl }))
+
+go_catch : (p : Setup) (kind : Kind) (from to : ℕ) (grows : Bool) (taken : HandKind) → IsStep p kind from to → CanTake p to taken → grows_at kind to ≡ grows → CanGo p (Step kind from to true grows)
+go_catch p kind from to false taken s take e = (_, (e, taken, take, record { own = s.own; leads = s.leads; outcome = refl }))
+go_catch p kind from to true taken s take e = (_, (e, taken, take, record { own = s.own; leads = s.leads; outcome = refl }))
+
+piece_sound : (aim : Aim) (p : Setup) (side : Side) (stands kind : Kind) (from to : ℕ) (m : Move) → IsStep p kind from to → at p to ≡ Some (piece_of side stands) → step_onto aim (Some (piece_of side stands)) kind from to ≡ Some m → Meets aim p m
+piece_sound AtLion p Mover stands kind from to m s e h = cc
+piece_sound AtLion p Enemy Lion kind from to m s e h =
+    let same : Step kind from to true (grows_at kind to) ≡ m = cc in
+    subst (λ (x : Move). CatchesLion p x) same (s.own, s.leads, e, refl)
+piece_sound AtLion p Enemy Giraffe kind from to m s e h = cc
+piece_sound AtLion p Enemy Elephant kind from to m s e h = cc
+piece_sound AtLion p Enemy Chick kind from to m s e h = cc
+piece_sound AtLion p Enemy Hen kind from to m s e h = cc
+piece_sound Elsewhere p Mover stands kind from to m s e h = cc
+piece_sound Elsewhere p Enemy Lion kind from to m s e h = cc
+piece_sound Elsewhere p Enemy Giraffe kind from to m s e h =
+    let same : Step kind from to true (grows_at kind to) ≡ m = cc in
+    subst (λ (x : Move). CanGo p x) same (go_catch p kind from to (grows_at kind to) hand.Giraffe s (Giraffe, e, refl) refl)
+piece_sound Elsewhere p Enemy Elephant kind from to m s e h =
+    let same : Step kind from to true (grows_at kind to) ≡ m = cc in
+    subst (λ (x : Move). CanGo p x) same (go_catch p kind from to (grows_at kind to) hand.Elephant s (Elephant, e, refl) refl)
+piece_sound Elsewhere p Enemy Chick kind from to m s e h =
+    let same : Step kind from to true (grows_at kind to) ≡ m = cc in
+    subst (λ (x : Move). CanGo p x) same (go_catch p kind from to (grows_at kind to) hand.Chick s (Chick, e, refl) refl)
+piece_sound Elsewhere p Enemy Hen kind from to m s e h =
+    let same : Step kind from to true (grows_at kind to) ≡ m = cc in
+    subst (λ (x : Move). CanGo p x) same (go_catch p kind from to (grows_at kind to) hand.Chick s (Hen, e, refl) refl)
+
+step_sound : (aim : Aim) (p : Setup) (kind : Kind) (from to : ℕ) (cell : Cell) (m : Move) → IsStep p kind from to → at p to ≡ cell → step_onto aim cell kind from to ≡ Some m → Meets aim p m
+step_sound AtLion p kind from to None m s e h = cc
+step_sound Elsewhere p kind from to None m s e h =
+    let same : Step kind from to false (grows_at kind to) ≡ m = cc in
+    subst (λ (x : Move). CanGo p x) same (go_empty p kind from to (grows_at kind to) s e refl)
+step_sound aim p kind from to (Some piece) m s e h = piece_sound aim p piece.side piece.kind kind from to m s e h
+
+-- its place
+step_place : (aim : Aim) (kind : Kind) (from to : ℕ) (cell : Cell) (m : Move) → step_onto aim cell kind from to ≡ Some m → place m ≡ 12 * from + to
+step_place aim kind from to cell m h = by_end (may_end aim cell) h where
+  by_end : (b : Bool) → cond b (Some (Step kind from to (is_some cell) (grows_at kind to))) None ≡ Some m → place m ≡ 12 * from + to
+  by_end false h = cc
+  by_end true h = let same : Step kind from to (is_some cell) (grows_at kind to) ≡ m = cc in sym (ap place same)
+
+-- each step of the rules is found
+catch_found : (p : Setup) (caught kind : Kind) (taken : HandKind) (from to : ℕ) (grows : Bool) → at p to ≡ Some (piece_of Enemy caught) → kind_in_hand caught ≡ Some taken → grows_at kind to ≡ grows → step_onto Elsewhere (at p to) kind from to ≡ Some (Step kind from to true grows)
+catch_found p Lion kind taken from to grows e t g = cc
+catch_found p Giraffe kind taken from to grows e t g = rw (e, g) refl
+catch_found p Elephant kind taken from to grows e t g = rw (e, g) refl
+catch_found p Chick kind taken from to grows e t g = rw (e, g) refl
+catch_found p Hen kind taken from to grows e t g = rw (e, g) refl
+
+-- a step that is found, and where it starts
+pub record IsFound (aim : Aim) (p : Setup) (kind : Kind) (from to : ℕ) (m : Move) : Type 0 where
+  pub step : IsStep p kind from to
+  pub found : step_onto aim (at p to) kind from to ≡ Some m
+
+pub go_found : (p : Setup) (kind : Kind) (from to : ℕ) (catch grows : Bool) → CanGo p (Step kind from to catch grows) → IsFound Elsewhere p kind from to (Step kind from to catch grows)
+go_found p kind from to false false (q, (g, free, s)) = record { step = record { own = s.own; leads = s.leads }; found = rw (free, g) refl }
+go_found p kind from to false true (q, (g, free, s)) = record { step = record { own = s.own; leads = s.leads }; found = rw (free, g) refl }
+go_found p kind from to true false (q, (g, taken, take, s)) = record { step = record { own = s.own; leads = s.leads }; found = catch_found p take.0 kind taken from to false take.1 take.2 g }
+go_found p kind from to true true (q, (g, taken, take, s)) = record { step = record { own = s.own; leads = s.leads }; found = catch_found p take.0 kind taken from to true take.1 take.2 g }
+
+lion_found : (p : Setup) (kind : Kind) (from to : ℕ) (catch grows : Bool) → CatchesLion p (Step kind from to catch grows) → IsFound AtLion p kind from to (Step kind from to catch grows)
+lion_found p kind from to false grows h = absurd h
+lion_found p kind from to true grows h = record { step = record { own = h.0; leads = h.1 }; found = rw (h.2, h.3) refl }
+
+-- ---- the steps of a piece
+
+steps_by_sound : (aim : Aim) (p : Setup) (kind : Kind) (from : ℕ) (m : Move) → from < 12 → at p from ≡ Some (piece_of Mover kind) → Contains (steps_by aim p kind from) m → Meets aim p m
+steps_by_sound aim p kind from m lt own h =
+    let g : ℕ → List Move = λ to. option_to_list (step_to aim p kind from to) in
+    let w = each_sound g 12 m (subst (λ (ms : List Move). Contains ms m) (steps_by-squares aim p kind from lt) h) in
+    at_square w.0 (leads kind from w.0) refl (option_sound _ m w.2) where
+      at_square : (to : ℕ) (b : Bool) → leads kind from to ≡ b → cond b (step_onto aim (at p to) kind from to) None ≡ Some m → Meets aim p m
+      at_square to false e f = cc
+      at_square to true e f = step_sound aim p kind from to (at p to) m (record { own = own; leads = e }) refl f
+
+steps_by_rising : (aim : Aim) (p : Setup) (kind : Kind) (from : ℕ) → from < 12 → Rising (12 * from) (12 * suc from) (steps_by aim p kind from)
+steps_by_rising aim p kind from lt =
+    let g : ℕ → List Move = λ to. option_to_list (step_to aim p kind from to) in
+    let r : Rising (12 * from + 0) (12 * from + 12) (each_below g 12) = rising-each g (λ to. 12 * from + to) 12 (λ to h. at_square to) in
+    let low : 12 * from ≡ 12 * from + 0 = omega arith in
+    let high : 12 * suc from ≡ 12 * from + 12 = omega arith in
+    rw (low, high, steps_by-squares aim p kind from lt) r where
+      its_place : (to : ℕ) (b : Bool) (m : Move) → cond b (step_onto aim (at p to) kind from to) None ≡ Some m → place m ≡ 12 * from + to
+      its_place to false m e = cc
+      its_place to true m e = step_place aim kind from to (at p to) m e
+
+      at_square : (to : ℕ) → Rising (12 * from + to) (12 * from + suc to) (option_to_list (step_to aim p kind from to))
+      at_square to = subst (λ (high : ℕ). Rising (12 * from + to) high (option_to_list (step_to aim p kind from to))) (let e : suc (12 * from + to) ≡ 12 * from + suc to = omega arith in e) (rising-option (12 * from + to) (step_to aim p kind from to) (λ m e. its_place to (leads kind from to) m e))
+
+near_from_leads : (kind : Kind) (from to : ℕ) → leads kind from to ≡ true → to < 12
+unfolding leads
+near_from_leads kind from to h = ltb-true to 12 (and_parts (nat_lt to 12) _ h).0
+
+found_in_steps_by : (aim : Aim) (p : Setup) (kind : Kind) (from to : ℕ) (m : Move) → from < 12 → IsFound aim p kind from to m → Contains (steps_by aim p kind from) m
+found_in_steps_by aim p kind from to m lt h =
+    let g : ℕ → List Move = λ to. option_to_list (step_to aim p kind from to) in
+    let near = near_from_leads kind from to h.step.leads in
+    let it : step_to aim p kind from to ≡ Some m = rw h.step.leads h.found in
+    subst (λ (ms : List Move). Contains ms m) (sym (steps_by-squares aim p kind from lt)) (each_whole g 12 to m near (option_whole (step_to aim p kind from to) m it))
+
+-- ---- the steps from each square
+
+own_cell : (cell : Cell) (kind : Kind) → own_kind cell ≡ Some kind → cell ≡ Some (piece_of Mover kind)
+own_cell None kind e = cc
+own_cell (Some piece) kind e = by_side piece.side piece.kind e where
+  by_side : (side : Side) (k : Kind) → own_by_side side k ≡ Some kind → Some (piece_of side k) ≡ Some (piece_of Mover kind)
+  by_side Mover k e = ap (λ (x : Kind). Some (piece_of Mover x)) (let same : k ≡ kind = cc in same)
+  by_side Enemy k e = cc
+
+steps_from_sound : (aim : Aim) (p : Setup) (from : ℕ) (m : Move) → from < 12 → Contains (steps_from aim p from) m → Meets aim p m
+unfolding steps_from
+steps_from_sound aim p from m lt h = by_own (own_kind (at p from)) refl h where
+  by_own : (o : Option Kind) → own_kind (at p from) ≡ o → Contains (steps_if aim p from o) m → Meets aim p m
+  by_own None e h = absurd (none_in_empty m h)
+  by_own (Some kind) e h = steps_by_sound aim p kind from m lt (own_cell (at p from) kind e) h
+
+steps_from_rising : (aim : Aim) (p : Setup) (from : ℕ) → from < 12 → Rising (12 * from) (12 * suc from) (steps_from aim p from)
+unfolding steps_from
+steps_from_rising aim p from lt = by_own (own_kind (at p from)) where
+  by_own : (o : Option Kind) → Rising (12 * from) (12 * suc from) (steps_if aim p from o)
+  by_own None = omega arith
+  by_own (Some kind) = steps_by_rising aim p kind from lt
+
+found_in_steps_from : (aim : Aim) (p : Setup) (kind : Kind) (from to : ℕ) (m : Move) → from < 12 → IsFound aim p kind from to m → Contains (steps_from aim p from) m
+unfolding steps_from
+found_in_steps_from aim p kind from to m lt h = rw h.step.own (found_in_steps_by aim p kind from to m lt h)
+
+-- ---- all steps
+
+pub steps_sound : (aim : Aim) (p : Setup) (m : Move) → Contains (all_steps aim p) m → Meets aim p m
+unfolding all_steps
+steps_sound aim p m h =
+    let w = each_sound (steps_from aim p) 12 m h in
+    steps_from_sound aim p w.0 m w.1 w.2
+
+pub steps_rising : (aim : Aim) (p : Setup) → Rising 0 144 (all_steps aim p)
+unfolding all_steps
+steps_rising aim p = rising-each (steps_from aim p) (λ from. 12 * from) 12 (λ from lt. steps_from_rising aim p from lt)
+
+-- what stands on the board stands on one of its squares
+on_board : (p : Setup) (square : ℕ) (piece : Piece) → length p.board ≡ 12 → at p square ≡ Some piece → square < 12
+on_board p square piece len e =
+    elim (cases_lt square 12) [
+      | inl lt ↦ lt
+      | inr ge ↦ let beyond = get_or_past p.board square None (omega (arith, len)) in cc
+    ]
+
+pub found_in_steps : (aim : Aim) (p : Setup) (kind : Kind) (from to : ℕ) (m : Move) → length p.board ≡ 12 → IsFound aim p kind from to m → Contains (all_steps aim p) m
+unfolding all_steps
+found_in_steps aim p kind from to m len h =
+    let lt = on_board p from (piece_of Mover kind) len h.step.own in
+    each_whole (steps_from aim p) 12 from m lt (found_in_steps_from aim p kind from to m lt h)
+
+-- ---- drops
+
+put_sound : (p : Setup) (kind : HandKind) (to : ℕ) (m : Move) → to < 12 → 0 < held p.hands.mover kind → put_on p kind to ≡ Some m → CanGo p m
+put_sound p kind to m lt some e = by_cell (at p to) refl e where
+  by_cell : (cell : Cell) → at p to ≡ cell → put_if cell kind to ≡ Some m → CanGo p m
+  by_cell None free e =
+      let same : Put kind to ≡ m = cc in
+      subst (λ (x : Move). CanGo p x) same (_, record { in_hand = some; on_board = lt; free = free; outcome = refl })
+  by_cell (Some piece) taken e = cc
+
+put_place : (p : Setup) (kind : HandKind) (to : ℕ) (m : Move) → put_on p kind to ≡ Some m → place m ≡ 144 + 12 * hand_place kind + to
+put_place p kind to m e = by_cell (at p to) e where
+  by_cell : (cell : Cell) → put_if cell kind to ≡ Some m → place m ≡ 144 + 12 * hand_place kind + to
+  by_cell None e = let same : Put kind to ≡ m = cc in sym (ap place same)
+  by_cell (Some piece) e = cc
+
+drops_of_sound : (p : Setup) (kind : HandKind) (m : Move) → Contains (drops_of p kind) m → CanGo p m
+unfolding drops_of
+drops_of_sound p kind m h = by_hand (nat_lt 0 (held p.hands.mover kind)) refl h where
+  by_hand : (b : Bool) → nat_lt 0 (held p.hands.mover kind) ≡ b → Contains (cond b (each_below (λ to. option_to_list (put_on p kind to)) 12) []) m → CanGo p m
+  by_hand false e h = absurd (none_in_empty m h)
+  by_hand true e h =
+      let w = each_sound (λ to. option_to_list (put_on p kind to)) 12 m h in
+      put_sound p kind w.0 m w.1 (ltb-true 0 (held p.hands.mover kind) e) (option_sound (put_on p kind w.0) m w.2)
+
+drops_of_rising : (p : Setup) (kind : HandKind) → Rising (144 + 12 * hand_place kind) (144 + 12 * hand_place kind + 12) (drops_of p kind)
+unfolding drops_of
+drops_of_rising p kind = by_hand (nat_lt 0 (held p.hands.mover kind)) where
+  at_square : (to : ℕ) → Rising (144 + 12 * hand_place kind + to) (144 + 12 * hand_place kind + suc to) (option_to_list (put_on p kind to))
+  at_square to = subst (λ (high : ℕ). Rising (144 + 12 * hand_place kind + to) high (option_to_list (put_on p kind to))) (let e : suc (144 + 12 * hand_place kind + to) ≡ 144 + 12 * hand_place kind + suc to = omega arith in e) (rising-option (144 + 12 * hand_place kind + to) (put_on p kind to) (λ m e. put_place p kind to m e))
+
+  by_hand : (b : Bool) → Rising (144 + 12 * hand_place kind) (144 + 12 * hand_place kind + 12) (cond b (each_below (λ to. option_to_list (put_on p kind to)) 12) [])
+  by_hand false = omega arith
+  by_hand true =
+      let r : Rising (144 + 12 * hand_place kind + 0) (144 + 12 * hand_place kind + 12) (each_below (λ to. option_to_list (put_on p kind to)) 12) = rising-each (λ to. option_to_list (put_on p kind to)) (λ to. 144 + 12 * hand_place kind + to) 12 (λ to lt. at_square to) in
+      rising-lower (144 + 12 * hand_place kind) (144 + 12 * hand_place kind + 0) (144 + 12 * hand_place kind + 12) _ (omega arith) r
+
+drops_of_whole : (p : Setup) (kind : HandKind) (to : ℕ) → CanGo p (Put kind to) → Contains (drops_of p kind) (Put kind to)
+unfolding drops_of
+drops_of_whole p kind to (q, d) =
+    let it : put_on p kind to ≡ Some (Put kind to) = rw d.free refl in
+    rw (lt-ltb 0 (held p.hands.mover kind) d.in_hand)
+    (each_whole (λ to. option_to_list (put_on p kind to)) 12 to (Put kind to) d.on_board (option_whole (put_on p kind to) (Put kind to) it))
+
+pub drops_sound : (p : Setup) (m : Move) → Contains (all_drops p) m → CanGo p m
+unfolding all_drops
+drops_sound p m h =
+    elim (Contains-append_cases (drops_of p hand.Chick ++ drops_of p hand.Elephant) (drops_of p hand.Giraffe) m h) [
+      | inl two ↦ elim (Contains-append_cases (drops_of p hand.Chick) (drops_of p hand.Elephant) m two) [
+        | inl chick ↦ drops_of_sound p hand.Chick m chick
+        | inr elephant ↦ drops_of_sound p hand.Elephant m elephant
+      ]
+      | inr giraffe ↦ drops_of_sound p hand.Giraffe m giraffe
+    ]
+
+pub drops_rising : (p : Setup) → Rising 144 180 (all_drops p)
+unfolding all_drops
+drops_rising p =
+    rising-append 144 168 180 (drops_of p hand.Chick ++ drops_of p hand.Elephant) (drops_of p hand.Giraffe)
+    (rising-append 144 156 168 (drops_of p hand.Chick) (drops_of p hand.Elephant) (drops_of_rising p hand.Chick) (drops_of_rising p hand.Elephant))
+    (drops_of_rising p hand.Giraffe)
+
+pub drops_whole : (p : Setup) (kind : HandKind) (to : ℕ) → CanGo p (Put kind to) → Contains (all_drops p) (Put kind to)
+unfolding all_drops
+drops_whole p hand.Chick to h =
+    Contains-append_left (drops_of p hand.Chick ++ drops_of p hand.Elephant) (drops_of p hand.Giraffe) (Put hand.Chick to)
+    (Contains-append_left (drops_of p hand.Chick) (drops_of p hand.Elephant) (Put hand.Chick to) (drops_of_whole p hand.Chick to h))
+drops_whole p hand.Elephant to h =
+    Contains-append_left (drops_of p hand.Chick ++ drops_of p hand.Elephant) (drops_of p hand.Giraffe) (Put hand.Elephant to)
+    (Contains-append_right (drops_of p hand.Chick) (drops_of p hand.Elephant) (Put hand.Elephant to) (drops_of_whole p hand.Elephant to h))
+drops_whole p hand.Giraffe to h =
+    Contains-append_right (drops_of p hand.Chick ++ drops_of p hand.Elephant) (drops_of p hand.Giraffe) (Put hand.Giraffe to) (drops_of_whole p hand.Giraffe to h)
+
+-- ---- what is found says of the position
+
+pub no_catch : (p : Setup) → length p.board ≡ 12 → first (all_steps AtLion p) ≡ None → (m : Move) → CatchesLion p m → ⊥
+no_catch p len none (Step kind from to catch grows) h =
+    first_none (all_steps AtLion p) none (Step kind from to catch grows)
+    (found_in_steps AtLion p kind from to (Step kind from to catch grows) len (lion_found p kind from to catch grows h))
+no_catch p len none (Put kind to) h = h
+
+first_step_least : (p : Setup) → length p.board ≡ 12 → (m : Move) → first (all_steps AtLion p) ≡ Some m → (other : Move) → CatchesLion p other → place m ≤ place other
+first_step_least p len m e (Step kind from to catch grows) h =
+    first_least 0 144 (all_steps AtLion p) m (Step kind from to catch grows) (steps_rising AtLion p) e
+    (found_in_steps AtLion p kind from to (Step kind from to catch grows) len (lion_found p kind from to catch grows h))
+first_step_least p len m e (Put kind to) h = absurd h
+
+pub is_first_catch : (p : Setup) → length p.board ≡ 12 → (m : Move) → first (all_steps AtLion p) ≡ Some m → IsFirstCatch p m
+is_first_catch p len m e = record {
+  catches = steps_sound AtLion p m (first_some (all_steps AtLion p) m e);
+  first = first_step_least p len m e;
+}
+
+pub no_move : (p : Setup) → length p.board ≡ 12 → first (all_steps Elsewhere p) ≡ None → first (all_drops p) ≡ None → (m : Move) → CanGo p m → ⊥
+no_move p len steps drops (Step kind from to catch grows) h =
+    first_none (all_steps Elsewhere p) steps (Step kind from to catch grows)
+    (found_in_steps Elsewhere p kind from to (Step kind from to catch grows) len (go_found p kind from to catch grows h))
+no_move p len steps drops (Put kind to) h = first_none (all_drops p) drops (Put kind to) (drops_whole p kind to h)
+
+pub step_goes : (p : Setup) (m : Move) → first (all_steps Elsewhere p) ≡ Some m → CanGo p m
+step_goes p m e = steps_sound Elsewhere p m (first_some (all_steps Elsewhere p) m e)
+
+pub drop_goes : (p : Setup) (m : Move) → first (all_drops p) ≡ Some m → CanGo p m
+drop_goes p m e = drops_sound p m (first_some (all_drops p) m e)

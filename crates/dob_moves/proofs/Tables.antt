@@ -1,0 +1,92 @@
+-- The directions of each kind lead to exactly the squares to which a step of the kind leads.
+use Rattle.std.proofs.Common.{◌≡◌, ℕ, zero, suc, ◌<◌, Bool, true, false, ◌&&◌, cond, eqb, List, [], ◌∷◌, ◌++◌, Option, Some, None, refl, ap, ◌∙◌, option_to_list}
+use Rattle.std.specs.List.{filter, filter_map, cons_option}
+use Rattle.std.proofs.lemmas.Bool.{and_parts, eqb-true}
+use Rattle.std.proofs.lemmas.List.Elements.{filter_map-append, filter-append}
+use Rattle.dob_pieces.specs.declared.kind.Kind.{Kind}
+use Rattle.dob_pieces.specs.declared.kind.Kind.TheVariants.{Lion, Giraffe, Elephant, Chick, Hen}
+use Rattle.dob_pieces.specs.declared.setup.Setup.{Setup}
+use Rattle.dob_pieces.specs.Pieces.{leads}
+use Rattle.dob_pieces.specs.Setups.{at}
+use Rattle.dob_pieces.proofs.Boards.{all_below, all_below-at}
+use Rattle.dob_moves.specs.declared.moves.Move.{Move}
+use Rattle.dob_moves.specs.declared.search.Aim.{Aim}
+use Rattle.dob_moves.specs.Walks.{each_below, directions_of, square_in, step_onto, step_if, step_in, steps_by}
+
+abbrev same_numbers : List ℕ → List ℕ → Bool
+same_numbers [] [] = true
+same_numbers [] (y ∷ ys) = false
+same_numbers (x ∷ xs) [] = false
+same_numbers (x ∷ xs) (y ∷ ys) = eqb x y && same_numbers xs ys
+
+same_numbers-true : (xs ys : List ℕ) → same_numbers xs ys ≡ true → xs ≡ ys
+same_numbers-true [] [] h = refl
+same_numbers-true [] (y ∷ ys) h = cc
+same_numbers-true (x ∷ xs) [] h = cc
+same_numbers-true (x ∷ xs) (y ∷ ys) h =
+    let parts = and_parts (eqb x y) (same_numbers xs ys) h in
+    let head = eqb-true x y parts.0 in
+    let tail = same_numbers-true xs ys parts.1 in
+    cc
+
+-- the numbers below n
+abbrev numbers : ℕ → List ℕ
+numbers zero = []
+numbers (suc n) = numbers n ++ n ∷ []
+
+-- the squares to which the kind's directions lead
+abbrev targets : Kind → ℕ → List ℕ
+targets kind from = filter_map (square_in from) (directions_of kind)
+
+abbrev targets_agree : Kind → ℕ → Bool
+targets_agree kind from = same_numbers (targets kind from) (filter (leads kind from) (numbers 12))
+
+targets_all : (kind : Kind) → all_below (targets_agree kind) 12 ≡ true
+unfolding leads
+targets_all Lion = refl
+targets_all Giraffe = refl
+targets_all Elephant = refl
+targets_all Chick = refl
+targets_all Hen = refl
+
+targets_are : (kind : Kind) (from : ℕ) → from < 12 → targets kind from ≡ filter (leads kind from) (numbers 12)
+targets_are kind from h = same_numbers-true _ _ (all_below-at (targets_agree kind) 12 from (targets_all kind) h)
+
+-- ---- the steps of a piece, by the square stepped to
+
+-- the step to that square, if the kind leads there and it is where the step is to end
+abbrev pub step_to : Aim → Setup → Kind → ℕ → ℕ → Option Move
+step_to aim p kind from to = cond (leads kind from to) (step_onto aim (at p to) kind from to) None
+
+onto_one : (aim : Aim) (p : Setup) (kind : Kind) (from : ℕ) (o : Option ℕ) (ds : List ℕ) → cons_option (step_if aim p kind from o) (filter_map (λ to. step_onto aim (at p to) kind from to) ds) ≡ filter_map (λ to. step_onto aim (at p to) kind from to) (cons_option o ds)
+onto_one aim p kind from None ds = refl
+onto_one aim p kind from (Some to) ds = refl
+
+by_targets : (aim : Aim) (p : Setup) (kind : Kind) (from : ℕ) (ds : List ℕ) → filter_map (step_in aim p kind from) ds ≡ filter_map (λ to. step_onto aim (at p to) kind from to) (filter_map (square_in from) ds)
+by_targets aim p kind from [] = refl
+by_targets aim p kind from (d ∷ ds) =
+    ap (λ (ms : List Move). cons_option (step_in aim p kind from d) ms) (by_targets aim p kind from ds)
+    ∙ onto_one aim p kind from (square_in from d) (filter_map (square_in from) ds)
+
+last_one : (test : ℕ → Bool) (f : ℕ → Option Move) (k : ℕ) (b : Bool) → filter_map f (cond b (k ∷ []) []) ≡ option_to_list (cond b (f k) None)
+last_one test f k false = refl
+last_one test f k true = only (f k) where
+  only : (o : Option Move) → cons_option o [] ≡ option_to_list o
+  only None = refl
+  only (Some m) = refl
+
+by_squares : (test : ℕ → Bool) (f : ℕ → Option Move) (n : ℕ) → filter_map f (filter test (numbers n)) ≡ each_below (λ k. option_to_list (cond (test k) (f k) None)) n
+by_squares test f zero = refl
+by_squares test f (suc n) =
+    ap (filter_map f) (filter-append test (numbers n) (n ∷ []))
+    ∙ filter_map-append f (filter test (numbers n)) (filter test (n ∷ []))
+    ∙ ap (λ (ms : List Move). ms ++ filter_map f (filter test (n ∷ []))) (by_squares test f n)
+    ∙ ap (λ (ms : List Move). each_below (λ k. option_to_list (cond (test k) (f k) None)) n ++ ms) (last_one test f n (test n))
+
+-- the steps of a piece are those to each square in turn
+pub steps_by-squares : (aim : Aim) (p : Setup) (kind : Kind) (from : ℕ) → from < 12 → steps_by aim p kind from ≡ each_below (λ to. option_to_list (step_to aim p kind from to)) 12
+unfolding steps_by
+steps_by-squares aim p kind from h =
+    by_targets aim p kind from (directions_of kind)
+    ∙ ap (filter_map (λ to. step_onto aim (at p to) kind from to)) (targets_are kind from h)
+    ∙ by_squares (leads kind from) (λ to. step_onto aim (at p to) kind from to) 12

@@ -1,0 +1,75 @@
+-- What the searches say of a position.
+use Rattle.std.proofs.Common.{refl, ◌≡◌, ◌≢◌, List, [], ◌++◌, Contains, inl, inr, subst, arith, Bool, true, false, Option, Some, None, MatchOption, length, sym, ◌∙◌}
+use Rattle.std.specs.Bool.{IsTrue}
+use Rattle.std.specs.Option.{is_some}
+use Rattle.dob_pieces.specs.declared.setup.Setup.{Setup}
+use Rattle.dob_moves.specs.declared.moves.Move.{Move}
+use Rattle.dob_moves.specs.declared.search.Aim.TheVariants.{AtLion, Elsewhere}
+use Rattle.dob_moves.specs.declared.moves.Move.TheVariants.{Step, Put}
+use Rattle.dob_moves.specs.declared.outlook.Status.{Status}
+use Rattle.dob_moves.specs.declared.outlook.Status.TheVariants.{Caught, Tried, Stuck, Open}
+use Rattle.std.proofs.lemmas.List.Elements.{Contains-append_left, Contains-append_right, Contains-append_cases}
+use Rattle.dob_moves.proofs.Runs.{none_in_empty, rising-append, rising-pairs}
+use Rattle.dob_moves.specs.Moves.{CanGo}
+use Rattle.dob_moves.specs.Statuses.{CanCatch, HasStatus, AreMoves, IsFirstCatch}
+use Rattle.dob_moves.specs.Walks.{first, all_steps, all_drops}
+use Rattle.dob_moves.proofs.Firsts.{none_from}
+use Rattle.dob_moves.proofs.Reach.{steps_sound, steps_rising, found_in_steps, drops_sound, drops_rising, drops_whole, go_found, no_catch, is_first_catch, no_move, step_goes, drop_goes}
+
+pub catch_answer : (p : Setup) (o : Option Move) → length p.board ≡ 12 → o ≡ first (all_steps AtLion p) → MatchOption o (¬ CanCatch p) (λ m. IsFirstCatch p m)
+catch_answer p None len e = λ (w : CanCatch p). no_catch p len (sym e) w.0 w.1
+catch_answer p (Some m) len e = is_first_catch p len m (sym e)
+
+pub step_answer : (p : Setup) (b : Bool) (o : Option Move) → o ≡ first (all_steps Elsewhere p) → is_some o ≡ true → b ≡ true → (IsTrue b → (move : Move) × CanGo p move) × (((move : Move) × CanGo p move) → IsTrue b)
+step_answer p b None e h t = cc
+step_answer p b (Some m) e h t = (λ _. (m, step_goes p m (sym e)), λ _. t)
+
+pub drop_answer : (p : Setup) (b : Bool) (o drop : Option Move) → length p.board ≡ 12 → o ≡ first (all_steps Elsewhere p) → is_some o ≡ false → drop ≡ first (all_drops p) → b ≡ is_some drop → (IsTrue b → (move : Move) × CanGo p move) × (((move : Move) × CanGo p move) → IsTrue b)
+drop_answer p b o None len e h d t =
+    (λ (yes : IsTrue b). cc, λ (w : (move : Move) × CanGo p move). absurd (no_move p len (sym e ∙ none_from o h) (sym d) w.0 w.1))
+drop_answer p b o (Some m) len e h d t = (λ _. (m, drop_goes p m (sym d)), λ _. t)
+
+-- ---- the list of the moves
+
+move_listed : (p : Setup) → length p.board ≡ 12 → (m : Move) → CanGo p m → Contains (all_steps Elsewhere p ++ all_drops p) m
+move_listed p len (Step kind from to catch grows) h =
+    Contains-append_left (all_steps Elsewhere p) (all_drops p) (Step kind from to catch grows)
+    (found_in_steps Elsewhere p kind from to (Step kind from to catch grows) len (go_found p kind from to catch grows h))
+move_listed p len (Put kind to) h =
+    Contains-append_right (all_steps Elsewhere p) (all_drops p) (Put kind to) (drops_whole p kind to h)
+
+listed_goes : (p : Setup) (m : Move) → Contains (all_steps Elsewhere p ++ all_drops p) m → CanGo p m
+listed_goes p m h =
+    elim (Contains-append_cases (all_steps Elsewhere p) (all_drops p) m h) [
+      | inl step ↦ steps_sound Elsewhere p m step
+      | inr drop ↦ drops_sound p m drop
+    ]
+
+open_moves : (p : Setup) → length p.board ≡ 12 → HasStatus p Open → AreMoves p (all_steps Elsewhere p ++ all_drops p)
+open_moves p len h = record {
+  sound = λ m here. (h, listed_goes p m here);
+  whole = λ m is_open goes. move_listed p len m goes;
+  ordered = rising-pairs 0 180 (all_steps Elsewhere p ++ all_drops p) (rising-append 0 144 180 (all_steps Elsewhere p) (all_drops p) (steps_rising Elsewhere p) (drops_rising p));
+}
+
+-- the steps and then the drops are the moves of an open position
+pub open_answer : (p : Setup) → length p.board ≡ 12 → HasStatus p Open → (none steps all : List Move) → none ≡ [] → steps ≡ none ++ all_steps Elsewhere p → all ≡ steps ++ all_drops p → AreMoves p all
+open_answer p len h none steps all e f g =
+    let same : all ≡ all_steps Elsewhere p ++ all_drops p = rw (g, f, e) refl in
+    subst (λ (ms : List Move). AreMoves p ms) (sym same) (open_moves p len h)
+
+not_open : (p : Setup) (s : Status) → HasStatus p s → s ≢ Open → HasStatus p Open → ⊥
+not_open p Caught h n o = o.0 h
+not_open p Tried h n o = o.1 h.1
+not_open p Stuck h n o = h.2 o.2.0 o.2.1
+not_open p Open h n o = n refl
+
+-- no other position has moves
+pub other_answer : (p : Setup) (s : Status) → HasStatus p s → s ≢ Open → (none : List Move) → none ≡ [] → AreMoves p none
+other_answer p s h n none e =
+    subst (λ (ms : List Move). AreMoves p ms) (sym e)
+    (record {
+      sound = λ m here. absurd (none_in_empty m here);
+      whole = λ m is_open goes. absurd (not_open p s h n is_open);
+      ordered = rising-pairs 0 0 [] (omega arith);
+    })

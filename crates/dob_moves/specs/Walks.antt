@@ -1,0 +1,111 @@
+-- The order in which steps and drops are looked for: by square, by direction, by kind in hand.
+use Rattle.std.specs.Prelude.{ℕ, zero, suc, ◌+◌, ◌-◌, ◌*◌, ◌/◌, ◌%◌, ◌&&◌, nat_lt, Bool, true, false, not, cond, List, [], ◌∷◌, ◌++◌, Option, Some, None, option_to_list}
+use Rattle.std.specs.List.{filter_map}
+use Rattle.std.specs.Option.{is_some}
+use Rattle.dob_pieces.specs.declared.kind.Kind.{Kind}
+use Rattle.dob_pieces.specs.declared.kind.Kind.TheVariants.{Lion, Giraffe, Elephant, Chick, Hen}
+use Rattle.dob_pieces.specs.declared.kind.HandKind.{HandKind}
+use Rattle.dob_pieces.specs.declared.kind.HandKind.TheVariants as hand
+use Rattle.dob_pieces.specs.declared.kind.Side.{Side}
+use Rattle.dob_pieces.specs.declared.kind.Side.TheVariants.{Mover, Enemy}
+use Rattle.dob_pieces.specs.declared.setup.Setup.{Setup}
+use Rattle.dob_pieces.specs.Squares.{column, row}
+use Rattle.dob_pieces.specs.Pieces.{is_lion}
+use Rattle.dob_pieces.specs.Setups.{Cell, at, held}
+use Rattle.dob_moves.specs.declared.moves.Move.{Move}
+use Rattle.dob_moves.specs.declared.moves.Move.TheVariants.{Step, Put}
+use Rattle.dob_moves.specs.declared.search.Aim.{Aim}
+use Rattle.dob_moves.specs.declared.search.Aim.TheVariants.{AtLion, Elsewhere}
+use Rattle.dob_moves.specs.Moves.{grows_at}
+
+-- what g gives below n, in order
+abbrev pub each_below : (ℕ → List Move) → ℕ → List Move
+each_below g zero = []
+each_below g (suc n) = each_below g n ++ g n
+
+-- the first of the moves, if there is one
+abbrev pub first : List Move → Option Move
+first [] = None
+first (move ∷ moves) = Some move
+
+-- The directions of a kind's steps, ascending: the places of the three by three squares around a piece, row by row, of
+-- which 4 is its own.
+abbrev pub directions_of : Kind → List ℕ
+directions_of Lion = 0 ∷ 1 ∷ 2 ∷ 3 ∷ 5 ∷ 6 ∷ 7 ∷ 8 ∷ []
+directions_of Giraffe = 1 ∷ 3 ∷ 5 ∷ 7 ∷ []
+directions_of Elephant = 0 ∷ 2 ∷ 6 ∷ 8 ∷ []
+directions_of Chick = 7 ∷ []
+directions_of Hen = 1 ∷ 3 ∷ 5 ∷ 6 ∷ 7 ∷ 8 ∷ []
+
+-- the square of that column and row, each with one added, if the board has it
+abbrev pub square_of : ℕ → ℕ → Option ℕ
+square_of column row = cond (nat_lt 0 column && nat_lt column 4 && (nat_lt 0 row && nat_lt row 5)) (Some (3 * (row - 1) + (column - 1))) None
+
+-- the next square in a direction, if the board has it
+abbrev pub square_in : ℕ → ℕ → Option ℕ
+square_in from direction = square_of (column from + direction % 3) (row from + direction / 3)
+
+-- a step at the enemy lion may end on it alone, and a step elsewhere on any other enemy piece
+abbrev pub may_take : Aim → Side → Kind → Bool
+may_take aim Mover kind = false
+may_take AtLion Enemy kind = is_lion kind
+may_take Elsewhere Enemy kind = not (is_lion kind)
+
+-- a step elsewhere may end on an empty square too
+abbrev pub may_end : Aim → Cell → Bool
+may_end AtLion None = false
+may_end Elsewhere None = true
+may_end aim (Some piece) = may_take aim piece.side piece.kind
+
+-- the step that ends on what stands there, if it may end there
+abbrev pub step_onto : Aim → Cell → Kind → ℕ → ℕ → Option Move
+step_onto aim cell kind from to = cond (may_end aim cell) (Some (Step kind from to (is_some cell) (grows_at kind to))) None
+
+abbrev pub step_if : Aim → Setup → Kind → ℕ → Option ℕ → Option Move
+step_if aim p kind from None = None
+step_if aim p kind from (Some to) = step_onto aim (at p to) kind from to
+
+-- the step in a direction
+abbrev pub step_in : Aim → Setup → Kind → ℕ → ℕ → Option Move
+step_in aim p kind from direction = step_if aim p kind from (square_in from direction)
+
+-- the steps of a piece of that kind
+unfoldable pub steps_by : Aim → Setup → Kind → ℕ → List Move
+steps_by aim p kind from = filter_map (step_in aim p kind from) (directions_of kind)
+
+abbrev pub own_by_side : Side → Kind → Option Kind
+own_by_side Mover kind = Some kind
+own_by_side Enemy kind = None
+
+-- the kind of the mover's piece that stands there
+abbrev pub own_kind : Cell → Option Kind
+own_kind None = None
+own_kind (Some piece) = own_by_side piece.side piece.kind
+
+abbrev pub steps_if : Aim → Setup → ℕ → Option Kind → List Move
+steps_if aim p from None = []
+steps_if aim p from (Some kind) = steps_by aim p kind from
+
+-- the mover's steps from that square
+unfoldable pub steps_from : Aim → Setup → ℕ → List Move
+steps_from aim p from = steps_if aim p from (own_kind (at p from))
+
+-- all the mover's steps that end where they are aimed
+unfoldable pub all_steps : Aim → Setup → List Move
+all_steps aim p = each_below (steps_from aim p) 12
+
+abbrev pub put_if : Cell → HandKind → ℕ → Option Move
+put_if None kind to = Some (Put kind to)
+put_if (Some piece) kind to = None
+
+-- the drop of that kind on that square, if it is empty
+abbrev pub put_on : Setup → HandKind → ℕ → Option Move
+put_on p kind to = put_if (at p to) kind to
+
+-- the drops of that kind
+unfoldable pub drops_of : Setup → HandKind → List Move
+drops_of p kind = cond (nat_lt 0 (held p.hands.mover kind)) (each_below (λ to. option_to_list (put_on p kind to)) 12) []
+
+-- all drops
+unfoldable pub all_drops : Setup → List Move
+all_drops p = drops_of p hand.Chick ++ drops_of p hand.Elephant ++ drops_of p hand.Giraffe

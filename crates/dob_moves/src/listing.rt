@@ -1,0 +1,103 @@
+// The list of a position's moves.
+ghost use Rattle.std.specs.Prelude.{◌≡◌, ◌++◌, IfOk, OnOk, option_to_list};
+ghost use Rattle.dob_moves.specs.Statuses.{AreMoves};
+ghost use Rattle.dob_moves.specs.Walks.{steps_by, steps_from, all_steps, put_on, drops_of, all_drops};
+ghost use Rattle.dob_moves.specs.declared.search.Aim.TheVariants.{Elsewhere};
+
+use crate::judge::status;
+use crate::moves::Move;
+use crate::outlook::Status;
+use crate::search::{Aim, own_kind, put_on, step_in};
+use crate::steps::directions;
+use dob_pieces::{HandKind, Kind, Memory, Position, Setup, Square};
+use std::alloc::Global;
+
+/// Appends the move, if there is one.
+fn push_found(moves: &mut Vec<Move>, found: Option<Move>) -> Result<(), Memory>
+    ensures { OnOk result (moves.new.items ≡ moves.old.items ++ option_to_list found) }
+{
+    if let Some(found) = found {
+        moves.push(found)?;
+    }
+    Ok(())
+}
+
+/// Appends the steps of a piece of that kind on that square, other than onto the enemy lion.
+#[tactic(auto, using(crate::proofs::Appends::appends), unfolding(crate::specs::Walks::steps_by))]
+fn push_steps_by(
+    moves: &mut Vec<Move>,
+    setup: &Setup,
+    kind: Kind,
+    from: Square,
+) -> Result<(), Memory>
+    ensures { OnOk result (moves.new.items ≡ moves.old.items ++ steps_by Elsewhere setup.now kind from) }
+{
+    for direction in directions(kind) {
+        let step = step_in(setup, Aim::Elsewhere, kind, from, *direction);
+        push_found(moves, step)?;
+    }
+    Ok(())
+}
+
+/// Appends the mover's steps from that square.
+#[tactic(auto, using(crate::proofs::Appends::appends), unfolding(crate::specs::Walks::steps_from))]
+fn push_steps_from(moves: &mut Vec<Move>, setup: &Setup, from: Square) -> Result<(), Memory>
+    ensures { OnOk result (moves.new.items ≡ moves.old.items ++ steps_from Elsewhere setup.now from) }
+{
+    match own_kind(setup.at(from)) {
+        Some(kind) => push_steps_by(moves, setup, kind, from),
+        None => Ok(()),
+    }
+}
+
+/// Appends the mover's steps.
+#[tactic(auto, using(crate::proofs::Appends::appends), unfolding(crate::specs::Walks::all_steps))]
+fn push_steps(moves: &mut Vec<Move>, setup: &Setup) -> Result<(), Memory>
+    ensures { OnOk result (moves.new.items ≡ moves.old.items ++ all_steps Elsewhere setup.now) }
+{
+    for index in 0..Square::COUNT {
+        push_steps_from(moves, setup, Square::new(index))?;
+    }
+    Ok(())
+}
+
+/// Appends the drops of that kind.
+#[tactic(auto, using(crate::proofs::Appends::appends), unfolding(crate::specs::Walks::drops_of))]
+fn push_drops_of(moves: &mut Vec<Move>, setup: &Setup, kind: HandKind) -> Result<(), Memory>
+    ensures { OnOk result (moves.new.items ≡ moves.old.items ++ drops_of setup.now kind) }
+{
+    if setup.hands.mover.count(kind) == 0 {
+        return Ok(());
+    }
+    for index in 0..Square::COUNT {
+        let put = put_on(setup, kind, Square::new(index));
+        push_found(moves, put)?;
+    }
+    Ok(())
+}
+
+/// Appends the drops.
+#[tactic(auto, using(crate::proofs::Appends::appends), unfolding(crate::specs::Walks::all_drops))]
+fn push_drops(moves: &mut Vec<Move>, setup: &Setup) -> Result<(), Memory>
+    ensures { OnOk result (moves.new.items ≡ moves.old.items ++ all_drops setup.now) }
+{
+    push_drops_of(moves, setup, HandKind::Chick)?;
+    push_drops_of(moves, setup, HandKind::Elephant)?;
+    push_drops_of(moves, setup, HandKind::Giraffe)
+}
+
+/// The moves of an open position, each once, in the move order; no moves of any other position. Fails where memory
+/// runs out.
+pub fn moves(alloc: Global, position: &Position) -> Result<Vec<Move>, Memory>
+    ensures { IfOk result (λ v. AreMoves position.now.setup v.items) }
+{
+    let mut moves = Vec::new(alloc);
+    match status(position) {
+        Status::Open => {
+            push_steps(&mut moves, &position.setup)?;
+            push_drops(&mut moves, &position.setup)?;
+            Ok(moves)
+        }
+        _ => Ok(moves),
+    }
+}
