@@ -31,9 +31,9 @@ last_or_before [] x zero y there = inr (refl, same_Some x y there)
 last_or_before [] x (suc k) y there = absurd (none-some y there)
 last_or_before (z ∷ xs) x zero y there = inl there
 last_or_before (z ∷ xs) x (suc k) y there = elim (last_or_before xs x k y there) [
-    inl earlier ↦ inl earlier
+  | inl earlier ↦ inl earlier
   | inr last ↦ inr (ap suc last.0, last.1)
-  ]
+]
 
 module _ (count : ℕ) (setup_at : ℕ → Setup) (IsMember : Setup → Type 0) where
   pub nodes_none : AreNodesBelow 0 count setup_at IsMember []
@@ -47,11 +47,11 @@ module _ (count : ℕ) (setup_at : ℕ → Setup) (IsMember : Setup → Type 0) 
   nodes_more upto nodes node before here = record {
     same_length = length-append nodes (node ∷ []) ∙ ap (λ n. n + 1) before.same_length;
     nodes_at = λ number other there. elim (last_or_before nodes node number other there) [
-          inl earlier ↦ before.nodes_at number other earlier
-        | inr last ↦
-            subst (λ n. IsNodeAt count setup_at IsMember n other) (sym (last.0 ∙ before.same_length))
-              (subst (λ x. IsNodeAt count setup_at IsMember upto x) last.1 here)
-        ];
+      | inl earlier ↦ before.nodes_at number other earlier
+      | inr last ↦
+          subst (λ n. IsNodeAt count setup_at IsMember n other) (sym (last.0 ∙ before.same_length))
+          (subst (λ x. IsNodeAt count setup_at IsMember upto x) last.1 here)
+    ];
   }
 
   pub nodes_all : (upto : ℕ) (nodes : List Node) → upto ≡ count → AreNodesBelow upto count setup_at IsMember nodes →
@@ -80,11 +80,11 @@ module _ (count : ℕ) (setup_at : ℕ → Setup) (IsMember : Setup → Type 0) 
   values_of_nodes nodes entries are values = record {
     same_length = values.same_length ∙ are.same_length;
     values = λ number below. elim (slice_get_cases nodes number).1 [
-          inl found ↦
-            subst (λ p. HasValue p (slice_index_or entries number Draw)) (are.listed number found.0 found.2)
-              (values.fits number found.0 found.2)
-        | inr past ↦ let same_length : length nodes ≡ count = are.same_length in absurd (omega (arith, past.0))
-        ];
+      | inl found ↦
+          subst (λ p. HasValue p (slice_index_or entries number Draw)) (are.listed number found.0 found.2)
+          (values.fits number found.0 found.2)
+      | inr past ↦ let same_length : length nodes ≡ count = are.same_length in absurd (omega (arith, past.0))
+    ];
   }
 
   pub deep_member : (nodes : List Node) (n : ℕ) → AreNodes count setup_at IsMember nodes → 65534 < n → SomeHasDistance nodes n →

@@ -18,8 +18,8 @@ use std::alloc::{AllocError, Global};
 /// The greatest distance that an entry may have.
 pub const MAX_DISTANCE: u16 = 65_534;
 
-// The entry with that number.
-fn entry_at(values: &[Value], number: usize) -> Value
+/// The entry with that number.
+pub(crate) fn entry_at(values: &[Value], number: usize) -> Value
     requires { number < length values.now }
     ensures { result ≡ slice_index_or values.now number Draw }
 {
