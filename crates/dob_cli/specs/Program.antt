@@ -1,9 +1,10 @@
 -- What the program owes for its words: an exit status, and what it writes.
-use Rattle.std.specs.Prelude.{◌≡◌, ℕ, ◌≤◌, ◌⊎◌, List, [], ◌∷◌, ◌++◌, Option, codes, take, length}
+use Rattle.std.specs.Prelude.{◌≡◌, ℕ, ◌≤◌, ◌<◌, ◌⊎◌, List, [], ◌∷◌, ◌++◌, Option, codes, take, length}
 use Rattle.std.specs.Io.KnownBytes.{Appends, Keeps}
 use Rattle.std.specs.Fmt.{decimal}
 use Rattle.dob_pieces.specs.declared.setup.Setup.{Setup}
-use Rattle.dob_pieces.specs.Setups.{IsLegal}
+use Rattle.dob_pieces.specs.declared.kind.HandKind.{HandKind}
+use Rattle.dob_pieces.specs.Setups.{IsLegal, total}
 use Rattle.dob_text.specs.PositionText.{Spells}
 use Rattle.dob_text.specs.Faults.{HasFault}
 use Rattle.dob_value.specs.declared.value.Value.{Value}
@@ -34,11 +35,15 @@ pub record IsValueOf (text : List ℕ) (value : Value) : Type 0 where
   pub spelled : Spells text position
   pub right : HasValue position value
 
+-- there is some piece besides the lions
+abbrev pub HasPieces : Setup → Type 0
+HasPieces position = (kind : HandKind) × (0 < total kind position)
+
 -- the fault is given only where it is one of the text's, or memory or standard output failed
 abbrev pub IsFaultOf : List ℕ → Fault → Type 0
 IsFaultOf text (Text fault) = HasFault text fault
-IsFaultOf text SetTooLarge = (position : Setup) × IsLegal position × Spells text position × IsBeyondSweeps position
-IsFaultOf text TooDeep = (position : Setup) × IsLegal position × Spells text position × HasEndlessDepth position
+IsFaultOf text SetTooLarge = (position : Setup) × IsLegal position × Spells text position × HasPieces position
+IsFaultOf text TooDeep = (position : Setup) × IsLegal position × Spells text position × SomeTooDeep (HasSamePieces position)
 IsFaultOf text Memory = Unit {0}
 IsFaultOf text Io = Unit {0}
 

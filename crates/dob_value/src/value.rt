@@ -1,4 +1,6 @@
-// Values.
+// Values, and what an entry says up to some depth.
+ghost use Rattle.std.specs.Prelude.{◌≡◌};
+ghost use Rattle.dob_value.specs.Entries.{is_win_within, is_loss_within, is_draw};
 
 /// The value of a position for the side to move, with the least number of plies in which the end can be forced.
 #[derive(Clone, Copy, Debug, PartialEq, Eq)]
@@ -6,4 +8,36 @@ pub enum Value {
     Win(u16),
     Loss(u16),
     Draw,
+}
+
+impl Value {
+    /// Whether this is a win in at most that many plies.
+    pub fn is_win_within(self, depth: u16) -> bool
+        ensures { result ≡ is_win_within depth self }
+    {
+        match self {
+            Value::Win(plies) => plies <= depth,
+            Value::Loss(_) | Value::Draw => false,
+        }
+    }
+
+    /// Whether this is a loss in at most that many plies.
+    pub fn is_loss_within(self, depth: u16) -> bool
+        ensures { result ≡ is_loss_within depth self }
+    {
+        match self {
+            Value::Loss(plies) => plies <= depth,
+            Value::Win(_) | Value::Draw => false,
+        }
+    }
+
+    /// Whether this is a draw.
+    pub fn is_draw(self) -> bool
+        ensures { result ≡ is_draw self }
+    {
+        match self {
+            Value::Draw => true,
+            Value::Win(_) | Value::Loss(_) => false,
+        }
+    }
 }

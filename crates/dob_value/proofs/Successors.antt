@@ -1,0 +1,56 @@
+-- A list of successors' numbers as it grows.
+use Rattle.std.proofs.Common.{◌≡◌, ℕ, ◌+◌, ◌<◌, ◌≤◌, ◌⊎◌, inl, inr, sym, subst, ap, ◌∙◌, arith, List, [], ◌∷◌, ◌++◌, length, get_or, Option, Some, Contains, slice_get}
+use Rattle.std.proofs.lemmas.Bool.{cases_lt}
+use Rattle.std.proofs.lemmas.Option.{slice_get_within, slice_get-get_or, same_Some, slice_get_read}
+use Rattle.std.proofs.lemmas.List.Elements.{Contains-push, Contains-push_cases, Contains-append_left}
+use Rattle.dob_pieces.specs.declared.setup.Setup.{Setup}
+use Rattle.dob_moves.specs.declared.moves.Move.{Move}
+use Rattle.dob_moves.specs.declared.outlook.Status.TheVariants.{Open}
+use Rattle.dob_moves.specs.Moves.{Goes, CanGo}
+use Rattle.dob_moves.specs.Statuses.{HasStatus, AreMoves}
+use Rattle.dob_value.specs.Graphs.{AreSuccessors}
+
+-- the numbers stand for the outcomes of the moves below an index
+pub record AreSuccessorsBelow (StandsFor : ℕ → Setup → Type 0) (p : Setup) (choices : List Move) (upto : ℕ) (numbers : List ℕ) : Type 0 where
+  pub sound : (number : ℕ) → Contains numbers number → (move : Move) × (q : Setup) × Goes p move q × StandsFor number q
+  pub whole : (index : ℕ) (move : Move) (q : Setup) → index < upto → slice_get choices index ≡ Some move → Goes p move q →
+      (number : ℕ) × Contains numbers number × StandsFor number q
+
+module _ (StandsFor : ℕ → Setup → Type 0) (p : Setup) (choices : List Move) where
+  pub successors_none : AreSuccessorsBelow StandsFor p choices 0 []
+  successors_none = record {
+    sound = λ number there. absurd (omega (arith, there.1));
+    whole = λ index move q below there goes. absurd (omega arith);
+  }
+
+  pub successors_more : (upto : ℕ) (numbers : List ℕ) (choice : Move) (number : ℕ) → slice_get choices upto ≡ Some choice →
+      CanGo p choice → ((q : Setup) → Goes p choice q → StandsFor number q) →
+      AreSuccessorsBelow StandsFor p choices upto numbers →
+      AreSuccessorsBelow StandsFor p choices (upto + 1) (numbers ++ number ∷ [])
+  successors_more upto numbers choice number here can_go stands before = record {
+    sound = λ other there. elim (Contains-push_cases numbers number other there) [
+      | inl earlier ↦ before.sound other earlier
+      | inr same ↦ (choice, can_go.0, can_go.1, subst (λ k. StandsFor k can_go.0) same (stands can_go.0 can_go.1))
+    ];
+    whole = λ index move q below there goes. elim (cases_lt index upto) [
+      | inl earlier ↦
+          let step = before.whole index move q earlier there goes in
+          (step.0, Contains-append_left numbers (number ∷ []) step.0 step.1, step.2)
+      | inr later ↦
+          let same : upto ≡ index = omega arith in
+          let here_too : slice_get choices index ≡ Some choice = subst (λ k. slice_get choices k ≡ Some choice) same here in
+          let is_choice : move ≡ choice = same_Some move choice (sym there ∙ here_too) in
+          (number, Contains-push numbers number, stands q (subst (λ m. Goes p m q) is_choice goes))
+    ];
+  }
+
+  pub successors_all : (upto : ℕ) (numbers : List ℕ) → length choices ≤ upto → AreMoves p choices →
+      AreSuccessorsBelow StandsFor p choices upto numbers → AreSuccessors StandsFor p numbers
+  successors_all upto numbers all are_moves below = record {
+    sound = below.sound;
+    whole = λ goes_on move q goes.
+        let there = are_moves.whole move goes_on (q, goes) in
+        let read : slice_get choices there.0 ≡ Some move = slice_get-get_or choices there.0 move there.1 ∙ ap (λ m. let o : Option Move = Some m in o) there.2 in
+        let within : there.0 < length choices = there.1 in
+        below.whole there.0 move q (omega arith) read goes;
+  }

@@ -1,0 +1,261 @@
+-- Tables during the sweeps.
+use Rattle.std.proofs.Common.{◌≡◌, ◌≢◌, ℕ, zero, suc, ◌+◌, ◌≤◌, ◌<◌, ◌⊎◌, inl, inr, refl, sym, subst, ap, arith, ◌∙◌, List, length, get_or, slice_index_or, Bool, true, false, Option, Some, None, All, Contains, slice_get, slice_set, map, get_or-set_other, get_or-set_same, length-set, take, drop, ◌++◌, option_map}
+use Rattle.std.proofs.lemmas.Grind.{common_steps}
+use Rattle.std.proofs.lemmas.List.{length-map}
+use Rattle.std.proofs.lemmas.Bool.{cases_lt, cases_eq, cases_order, leb-true, le-leb}
+use Rattle.std.proofs.lemmas.Option.{slice_get_within, slice_get-get_or, get_or_from_slice_get, same_Some, slice_get-map}
+use Rattle.dob_pieces.specs.declared.setup.Setup.{Setup}
+use Rattle.dob_moves.specs.declared.moves.Move.{Move}
+use Rattle.dob_moves.specs.declared.outlook.Status.{Status}
+use Rattle.dob_moves.specs.declared.outlook.Status.TheVariants.{Caught, Tried, Stuck, Open}
+use Rattle.dob_moves.specs.Moves.{Goes}
+use Rattle.dob_moves.specs.Statuses.{HasStatus}
+use Rattle.dob_value.specs.declared.value.Value.{Value}
+use Rattle.dob_value.specs.declared.value.Value.TheVariants.{Win, Loss, Draw}
+use Rattle.dob_value.specs.declared.graph.Node.{Node}
+use Rattle.dob_value.specs.Values.{HasLost, Won, Lost, HasValue}
+use Rattle.dob_value.specs.Depths.{SameOutlook}
+use Rattle.dob_value.specs.Entries.{is_win_within, is_loss_within, is_draw, IsCutOff, Tells, TellsAt, HasDistance}
+use Rattle.dob_value.specs.Graphs.{IsNode, IsGraph, NodeStandsFor, HasEntries, AreCutOff, AreSwept, AreValues, SomeHasDistance, setup_of, first_value, value_at_start}
+use Rattle.dob_value.proofs.Depths.{won_stays, lost_stays, lost_not_caught, lost_not_open, won_not_lost, won_one_more, lost_one_more}
+
+-- an entry that is cut off at a depth tells of each depth up to it
+pub tells : (n m : ℕ) (p : Setup) (entry : Value) → n ≤ m → IsCutOff m p entry → Tells n p entry
+tells n m p (Win d) upto cut = record {
+  win = λ yes. won_stays d n p (leb-true d n yes) cut.1.0;
+  won = λ won. le-leb d n (cut.1.1 n won);
+  loss = λ false_is_true. absurd (cc);
+  lost = λ lost. absurd (won_not_lost d n p cut.1.0 lost);
+}
+tells n m p (Loss d) upto cut = record {
+  win = λ false_is_true. absurd (cc);
+  won = λ won. absurd (won_not_lost n d p won cut.1.0);
+  loss = λ yes. lost_stays d n p (leb-true d n yes) cut.1.0;
+  lost = λ lost. le-leb d n (cut.1.1 n lost);
+}
+tells n m p Draw upto cut = record {
+  win = λ false_is_true. absurd (cc);
+  won = λ won. absurd (cut.0 (won_stays n m p upto won));
+  loss = λ false_is_true. absurd (cc);
+  lost = λ lost. absurd (cut.1 (lost_stays n m p upto lost));
+}
+
+-- positions with the same outlook: an entry tells the same of both, and they have the same values
+pub tells_same : (n : ℕ) (p q : Setup) (entry : Value) → SameOutlook q p → Tells n p entry → Tells n q entry
+tells_same n p q entry same told = record {
+  win = λ yes. (same.won n).1 (told.win yes);
+  won = λ won. told.won ((same.won n).0 won);
+  loss = λ yes. (same.lost n).1 (told.loss yes);
+  lost = λ lost. told.lost ((same.lost n).0 lost);
+}
+
+pub value_same : (p q : Setup) (v : Value) → SameOutlook q p → HasValue p v → HasValue q v
+value_same p q (Win d) same has = ((same.won d).1 has.0, λ n won. has.1 n ((same.won n).0 won))
+value_same p q (Loss d) same has = ((same.lost d).1 has.0, λ n lost. has.1 n ((same.lost n).0 lost))
+value_same p q Draw same has = λ n. (λ won. (has n).0 ((same.won n).0 won), λ lost. (has n).1 ((same.lost n).0 lost))
+
+-- an entry that is known stays
+pub known_stays : (n : ℕ) (p : Setup) (entry : Value) → is_draw entry ≡ false → IsCutOff n p entry → IsCutOff (n + 1) p entry
+known_stays n p (Win d) known cut = let e : d ≤ n + 1 = omega (arith, cut.0) in (e, cut.1)
+known_stays n p (Loss d) known cut = let e : d ≤ n + 1 = omega (arith, cut.0) in (e, cut.1)
+known_stays n p Draw known cut = absurd (cc)
+
+pub draw_is : (v : Value) → is_draw v ≡ true → v ≡ Draw
+draw_is (Win d) h = absurd (cc)
+draw_is (Loss d) h = absurd (cc)
+draw_is Draw h = refl
+
+-- a node's successors stay so where their numbers stand for positions in another way too
+pub node_standing : (StandsFor Other : ℕ → Setup → Type 0) (node : Node) →
+    ((number : ℕ) (q : Setup) → StandsFor number q → Other number q) → IsNode StandsFor node → IsNode Other node
+node_standing StandsFor Other node stands known = record {
+  status = known.status;
+  successors = record {
+    sound = λ number there. let step = known.successors.sound number there in (step.0, step.1, step.2, stands number step.1 step.3);
+    whole = λ goes_on move q goes. let step = known.successors.whole goes_on move q goes in (step.0, step.1, stands step.0 q step.2);
+  };
+}
+
+-- the entries during a sweep tell, at each node, of what its successors are
+pub successors_told : (n upto : ℕ) (nodes : List Node) (entries : List Value) (node : Node) →
+    AreSwept n upto nodes entries → IsNode (NodeStandsFor nodes) node → IsNode (TellsAt n entries) node
+successors_told n upto nodes entries node swept known =
+    let told : (number : ℕ) (q : Setup) → NodeStandsFor nodes number q → TellsAt n entries number q = λ number q stands.
+    let next = stands.0 in
+    let fits = swept.fits number next stands.1 in
+    let within : number < length nodes = slice_get_within nodes number next stands.1 in
+    let same_length : length entries ≡ length nodes = swept.same_length in
+    let below : number < length entries = omega arith in
+    let told_there : Tells n (setup_of next) (slice_index_or entries number Draw) = elim (cases_lt number upto) [
+      | inl earlier ↦ tells n (n + 1) (setup_of next) _ (omega arith) (fits.0 earlier)
+      | inr later ↦ tells n n (setup_of next) _ (omega arith) (fits.1 later)
+    ] in
+    (below, tells_same n (setup_of next) q _ stands.2 told_there) in
+    node_standing (NodeStandsFor nodes) (TellsAt n entries) node told known
+
+-- before a sweep and after it
+pub swept_none : (n : ℕ) (nodes : List Node) (entries : List Value) → AreCutOff n nodes entries → AreSwept n 0 nodes entries
+swept_none n nodes entries cut = record {
+  same_length = cut.same_length;
+  fits = λ number node there. (λ below. absurd (omega arith), λ upto. cut.fits number node there);
+}
+
+pub swept_all : (n upto : ℕ) (nodes : List Node) (entries : List Value) → length nodes ≤ upto → AreSwept n upto nodes entries →
+    AreCutOff (n + 1) nodes entries
+swept_all n upto nodes entries all swept = record {
+  same_length = swept.same_length;
+  fits = λ number node there.
+      let within : number < length nodes = slice_get_within nodes number node there in
+      (swept.fits number node there).0 (omega arith);
+}
+
+-- one entry more is swept, whether it stays or is written
+pub swept_kept : (n upto : ℕ) (nodes : List Node) (entries : List Value) (node : Node) → slice_get nodes upto ≡ Some node →
+    AreSwept n upto nodes entries → IsCutOff (n + 1) (setup_of node) (slice_index_or entries upto Draw) →
+    AreSwept n (upto + 1) nodes entries
+swept_kept n upto nodes entries node here swept cut = record {
+  same_length = swept.same_length;
+  fits = λ number other there. (
+    λ below. elim (cases_lt number upto) [
+      | inl earlier ↦ (swept.fits number other there).0 earlier
+      | inr later ↦
+          let same : upto ≡ number = omega arith in
+          let other_is : slice_get nodes upto ≡ Some other = subst (λ k. slice_get nodes k ≡ Some other) (sym same) there in
+          let is_node : node ≡ other = same_Some node other (sym here ∙ other_is) in
+          subst (λ k. IsCutOff (n + 1) (setup_of other) (slice_index_or entries k Draw)) same
+          (subst (λ x. IsCutOff (n + 1) (setup_of x) (slice_index_or entries upto Draw)) is_node cut)
+    ],
+    λ above. (swept.fits number other there).1 (omega arith),
+  );
+}
+
+pub swept_written : (n upto : ℕ) (nodes : List Node) (entries : List Value) (node : Node) (v : Value) → slice_get nodes upto ≡ Some node →
+    AreSwept n upto nodes entries → IsCutOff (n + 1) (setup_of node) v →
+    AreSwept n (upto + 1) nodes (slice_set entries upto v)
+swept_written n upto nodes entries node v here swept cut =
+    let within : upto < length nodes = slice_get_within nodes upto node here in
+    let same_length : length entries ≡ length nodes = swept.same_length in
+    let below_length : upto < length entries = omega arith in
+    let written : slice_index_or (slice_set entries upto v) upto Draw ≡ v = rw get_or-set_same in
+    record {
+      same_length = length-set entries upto v ∙ same_length;
+      fits = λ number other there. elim (cases_eq number upto) [
+        | inl same ↦
+            let other_is : slice_get nodes upto ≡ Some other = subst (λ k. slice_get nodes k ≡ Some other) same there in
+            let is_node : node ≡ other = same_Some node other (sym here ∙ other_is) in (
+              λ below. subst (λ k. IsCutOff (n + 1) (setup_of other) (slice_index_or (slice_set entries upto v) k Draw)) (sym same)
+                  (subst (λ x. IsCutOff (n + 1) (setup_of other) x) (sym written)
+                  (subst (λ x. IsCutOff (n + 1) (setup_of x) v) is_node cut)),
+              λ above. absurd (omega arith),
+            )
+        | inr apart ↦
+            let kept = get_or-set_other entries upto number v Draw apart in (
+              λ below.
+                  let earlier : number < upto = elim (cases_order number upto) [
+                    | inl same ↦ absurd (apart same)
+                    | inr order ↦ elim order [ inl first ↦ first | inr last ↦ absurd (omega arith) ]
+                  ] in
+                  subst (λ x. IsCutOff (n + 1) (setup_of other) x) (sym kept) ((swept.fits number other there).0 earlier),
+              λ above. subst (λ x. IsCutOff n (setup_of other) x) (sym kept) ((swept.fits number other there).1 (omega arith)),
+            )
+      ];
+    }
+
+-- an entry that one depth more doesn't change: nothing is won or lost first at that depth
+pub nothing_new : (n : ℕ) (p : Setup) (entry : Value) → IsCutOff n p entry → IsCutOff (n + 1) p entry →
+    (Won (suc n) p → Won n p) × (Lost (suc n) p → Lost n p)
+nothing_new n p (Win d) cut next =
+    (λ won. won_stays d n p cut.0 cut.1.0, λ lost. absurd (won_not_lost d (suc n) p cut.1.0 lost))
+nothing_new n p (Loss d) cut next =
+    (λ won. absurd (won_not_lost (suc n) d p won cut.1.0), λ lost. lost_stays d n p cut.0 cut.1.0)
+nothing_new n p Draw cut next =
+    let e : suc n ≡ n + 1 = omega arith in
+    (λ won. absurd (next.0 (subst (λ k. Won k p) e won)), λ lost. absurd (next.1 (subst (λ k. Lost k p) e lost)))
+
+-- nothing is won or lost first at depth n + 1
+abbrev pub NothingNew : ℕ → List Node → Type 0
+NothingNew n nodes = (number : ℕ) (node : Node) → slice_get nodes number ≡ Some node →
+    (Won (suc n) (setup_of node) → Won n (setup_of node)) × (Lost (suc n) (setup_of node) → Lost n (setup_of node))
+
+-- then nothing is at any greater depth
+pub nothing_later : (n : ℕ) (nodes : List Node) → IsGraph nodes → NothingNew n nodes →
+    (m number : ℕ) (node : Node) → slice_get nodes number ≡ Some node →
+    (Won m (setup_of node) → Won n (setup_of node)) × (Lost m (setup_of node) → Lost n (setup_of node))
+nothing_later n nodes graph nothing zero number node there =
+    (λ won. absurd won, λ over. lost_stays 0 n (setup_of node) (omega arith) over)
+nothing_later n nodes graph nothing (suc m) number node there =
+    let known = graph number node there in (
+      λ won. (nothing number node there).0 (elim won [
+        | inl caught ↦ inl caught
+        | inr open_win ↦
+            let next = known.successors.whole open_win.0 open_win.1 open_win.2 open_win.3 in
+            let later = nothing_later n nodes graph nothing m next.0 next.2.0 next.2.1 in
+            let lost = (next.2.2.lost n).1 (later.1 ((next.2.2.lost m).0 open_win.4)) in
+            inr (open_win.0, open_win.1, open_win.2, open_win.3, lost)
+      ]),
+      λ lost. (nothing number node there).1 (elim lost [
+        | inl over ↦ inl over
+        | inr open_loss ↦ inr (
+          open_loss.0,
+          λ move q goes.
+              let next = known.successors.whole open_loss.0 move q goes in
+              let later = nothing_later n nodes graph nothing m next.0 next.2.0 next.2.1 in
+              (next.2.2.won n).1 (later.0 ((next.2.2.won m).0 (open_loss.1 move q goes))),
+        )
+      ]),
+    )
+
+-- an entry cut off at a depth after which nothing comes is the value
+pub value_of_cut : (n : ℕ) (p : Setup) (entry : Value) → ((m : ℕ) → (Won m p → Won n p) × (Lost m p → Lost n p)) →
+    IsCutOff n p entry → HasValue p entry
+value_of_cut n p (Win d) later cut = cut.1
+value_of_cut n p (Loss d) later cut = cut.1
+value_of_cut n p Draw later cut = λ m. (λ won. cut.0 ((later m).0 won), λ lost. cut.1 ((later m).1 lost))
+
+-- a sweep that changes nothing is the last
+pub unchanged_is_final : (n : ℕ) (nodes : List Node) (entries : List Value) → IsGraph nodes →
+    AreCutOff n nodes entries → AreCutOff (n + 1) nodes entries → AreValues nodes entries
+unchanged_is_final n nodes entries graph cut next =
+    let nothing : NothingNew n nodes = λ number node there.
+    nothing_new n (setup_of node) _ (cut.fits number node there) (next.fits number node there) in
+    record {
+      same_length = cut.same_length;
+      fits = λ number node there.
+          value_of_cut n (setup_of node) _ (λ m. nothing_later n nodes graph nothing m number node there) (cut.fits number node there);
+    }
+
+-- where a sweep finds a draw that it hasn't swept yet, the position is neither won nor lost up to its depth
+pub open_here : (n upto : ℕ) (nodes : List Node) (entries : List Value) (node : Node) (entry : Value) →
+    AreSwept n upto nodes entries → slice_get nodes upto ≡ Some node → entry ≡ slice_index_or entries upto Draw →
+    is_draw entry ≡ true → (¬ Won n (setup_of node)) × (¬ Lost n (setup_of node))
+open_here n upto nodes entries node entry swept here read is_open =
+    let cut : IsCutOff n (setup_of node) (slice_index_or entries upto Draw) = (swept.fits upto node here).1 (omega arith) in
+    let draw : slice_index_or entries upto Draw ≡ Draw = sym read ∙ draw_is entry is_open in
+    let at_draw : IsCutOff n (setup_of node) Draw = subst (λ x. IsCutOff n (setup_of node) x) draw cut in
+    at_draw
+
+-- the table before the first sweep
+pub start_at : (p : Setup) (status : Status) → HasStatus p status → IsCutOff 0 p (value_at_start status)
+start_at p Caught h = (λ won. won, λ over. lost_not_caught p over h)
+start_at p Tried h = (omega arith, (inl h, λ n lost. omega arith))
+start_at p Stuck h = (omega arith, (inr h, λ n lost. omega arith))
+start_at p Open h = (λ won. won, λ over. lost_not_open p over h)
+
+pub start_cut : (node : Node) → HasStatus (setup_of node) node.status → IsCutOff 0 (setup_of node) (first_value node)
+start_cut node status = start_at (setup_of node) node.status status
+
+pub starts_cut : (nodes : List Node) → IsGraph nodes → AreCutOff 0 nodes (map first_value nodes)
+starts_cut nodes graph = record {
+  same_length = length-map nodes first_value;
+  fits = λ number node there.
+      let read : slice_get (map first_value nodes) number ≡ Some (first_value node) =
+      slice_get-map first_value nodes number ∙ ap (option_map first_value) there in
+      let is : slice_index_or (map first_value nodes) number Draw ≡ first_value node =
+      get_or_from_slice_get (map first_value nodes) number (first_value node) Draw read in
+      subst (λ x. IsCutOff 0 (setup_of node) x) (sym is) (start_cut node (graph number node there).status);
+}
+
+-- a slice that is written back whole is all that there is
+pub put_back : {X : Type 0} (n : ℕ) (new old : List X) → length new ≡ length old → n ≡ length old →
+    take n (new ++ drop (length new) old) ≡ new
+put_back n new old same full = grind (arith, common_steps)

@@ -1,0 +1,10 @@
+-- What each refusal is called.
+use Rattle.std.specs.Prelude.{List, ℕ, codes}
+use Rattle.dob_value.specs.declared.fault.Fault.{Fault}
+use Rattle.dob_value.specs.declared.fault.Fault.TheVariants.{SetTooLarge, TooDeep, Memory}
+
+-- the refusal's number and name
+abbrev pub fault_text : Fault → List ℕ
+fault_text SetTooLarge = codes "E8 SetTooLarge"
+fault_text TooDeep = codes "E12 TooDeep"
+fault_text Memory = codes "E23 Memory"

@@ -1,0 +1,59 @@
+// The refusals of this crate.
+ghost use Rattle.std.specs.Prelude.{◌≡◌, Some, codes};
+ghost use Rattle.dob_value.specs.declared.fault.Fault.TheVariants as fault;
+
+use dob_pieces::Memory;
+use std::alloc::{AllocError, AllocFailed};
+use std::error::Error;
+use std::fmt;
+
+/// Why no value is given.
+#[derive(Clone, Copy, Debug, PartialEq, Eq)]
+pub enum Fault {
+    /// E8: the piece set is larger than those that are swept.
+    SetTooLarge,
+    /// E12: some position of the piece set is won or lost in more plies than an entry can hold.
+    TooDeep,
+    /// E23: a growth was refused, since no memory was left for it.
+    Memory,
+}
+
+impl fmt::Display for Fault {
+    ghost use Rattle.dob_value.specs.Faults.{fault_text};
+
+    ghost output = { λ fault. Some (fault_text fault) };
+
+    fn fmt<W: fmt::Write>(&self, f: &mut fmt::Formatter<W>) -> fmt::Result {
+        match self {
+            Fault::SetTooLarge => write!(f, "E8 SetTooLarge"),
+            Fault::TooDeep => write!(f, "E12 TooDeep"),
+            Fault::Memory => write!(f, "E23 Memory"),
+        }
+    }
+}
+
+impl Error for Fault {}
+
+impl From<Memory> for Fault {
+    ghost from_gives = { λ _ given. given ≡ fault.Memory };
+
+    fn from(_refused: Memory) -> Fault {
+        Fault::Memory
+    }
+}
+
+impl From<AllocError> for Fault {
+    ghost from_gives = { λ _ given. given ≡ fault.Memory };
+
+    fn from(_refused: AllocError) -> Fault {
+        Fault::Memory
+    }
+}
+
+impl<T: Drop> From<AllocFailed<T>> for Fault {
+    ghost from_gives = { λ _ given. given ≡ fault.Memory };
+
+    fn from(_refused: AllocFailed<T>) -> Fault {
+        Fault::Memory
+    }
+}
