@@ -1,6 +1,5 @@
 // Questions and their answers.
-use dob_moves::listing::moves;
-use dob_moves::{Status, apply, first_catch, status};
+use dob_moves::{Status, apply, first_catch, moves, status};
 use dob_pieces::{Memory, Position};
 use dob_text::{read_position, write_move, write_position};
 use std::alloc::Global;

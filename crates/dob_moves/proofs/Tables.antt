@@ -9,7 +9,7 @@ use Rattle.dob_pieces.specs.declared.setup.Setup.{Setup}
 use Rattle.dob_pieces.specs.Pieces.{leads}
 use Rattle.dob_pieces.specs.Setups.{at}
 use Rattle.dob_pieces.proofs.Boards.{all_below, all_below-at}
-use Rattle.dob_moves.specs.declared.moves.Move.{Move}
+use Rattle.dob_moves.specs.declared.choice.Move.{Move}
 use Rattle.dob_moves.specs.declared.search.Aim.{Aim}
 use Rattle.dob_moves.specs.Walks.{each_below, directions_of, square_in, step_onto, step_if, step_in, steps_by}
 

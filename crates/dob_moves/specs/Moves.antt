@@ -11,8 +11,8 @@ use Rattle.dob_pieces.specs.declared.setup.Setup.{Setup}
 use Rattle.dob_pieces.specs.Squares.{row}
 use Rattle.dob_pieces.specs.Pieces.{leads, kind_in_hand, kind_on_board}
 use Rattle.dob_pieces.specs.Setups.{at, held, piece_of, turned}
-use Rattle.dob_moves.specs.declared.moves.Move.{Move}
-use Rattle.dob_moves.specs.declared.moves.Move.TheVariants.{Step, Put}
+use Rattle.dob_moves.specs.declared.choice.Move.{Move}
+use Rattle.dob_moves.specs.declared.choice.Move.TheVariants.{Step, Put}
 
 -- a hand with one more of a kind
 abbrev pub with_one_more : Hand → HandKind → Hand

@@ -12,8 +12,8 @@ use Rattle.dob_pieces.specs.declared.setup.Setup.{Setup}
 use Rattle.dob_pieces.specs.Squares.{column, row}
 use Rattle.dob_pieces.specs.Pieces.{is_lion}
 use Rattle.dob_pieces.specs.Setups.{Cell, at, held}
-use Rattle.dob_moves.specs.declared.moves.Move.{Move}
-use Rattle.dob_moves.specs.declared.moves.Move.TheVariants.{Step, Put}
+use Rattle.dob_moves.specs.declared.choice.Move.{Move}
+use Rattle.dob_moves.specs.declared.choice.Move.TheVariants.{Step, Put}
 use Rattle.dob_moves.specs.declared.search.Aim.{Aim}
 use Rattle.dob_moves.specs.declared.search.Aim.TheVariants.{AtLion, Elsewhere}
 use Rattle.dob_moves.specs.Moves.{grows_at}

@@ -6,7 +6,7 @@ ghost use Rattle.dob_moves.specs.Moves.{Goes, CanGo, with_one_more, with_one_les
 ghost use Rattle.dob_moves.specs.Statuses.{HasStatus};
 ghost use Rattle.dob_moves.specs.Outcomes.{arrives_as, with_caught, stepped, dropped, moved};
 
-use crate::moves::Move;
+use crate::choice::Move;
 use dob_pieces::{Hand, HandKind, Hands, Kind, Piece, Position, Setup, Side, Square};
 
 /// The position that a move leads to, seen from the side that moves next. The position must be open and the move

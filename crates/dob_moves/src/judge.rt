@@ -3,9 +3,9 @@ ghost use Rattle.std.specs.Prelude.{◌↔◌, ◌≡◌, IsTrue, MatchOption, i
 ghost use Rattle.dob_moves.specs.Statuses.{CanCatch, HasTried, HasStatus, IsFirstCatch};
 ghost use Rattle.dob_pieces.specs.Setups.{at, piece_of};
 ghost use Rattle.dob_moves.specs.Moves.{CanGo};
-ghost use Rattle.dob_moves.specs.declared.moves.Move.{Move as Moved};
+ghost use Rattle.dob_moves.specs.declared.choice.Move.{Move as Moved};
 
-use crate::moves::Move;
+use crate::choice::Move;
 use crate::outlook::Status;
 use crate::search::{Aim, first_drop, first_step};
 use dob_pieces::{Kind, Piece, Position, Side, Square};

@@ -5,7 +5,7 @@ ghost use Rattle.dob_moves.specs.Walks.{steps_by, steps_from, all_steps, put_on,
 ghost use Rattle.dob_moves.specs.declared.search.Aim.TheVariants.{Elsewhere};
 
 use crate::judge::status;
-use crate::moves::Move;
+use crate::choice::Move;
 use crate::outlook::Status;
 use crate::search::{Aim, own_kind, put_on, step_in};
 use crate::steps::directions;

@@ -2,7 +2,7 @@
 ghost use Rattle.std.specs.Prelude.{◌≡◌};
 ghost use Rattle.dob_moves.specs.Walks.{first, own_kind, may_end, step_onto, step_in, steps_by, steps_from, all_steps, put_on, drops_of, all_drops};
 
-use crate::moves::Move;
+use crate::choice::Move;
 use crate::steps::{directions, square_in};
 use dob_pieces::{HandKind, Kind, Piece, Setup, Side, Square};
 

@@ -1,8 +1,7 @@
 // Statuses and lists of moves of positions that were worked out by hand.
 ghost use Rattle.std.specs.Prelude.{◌<◌};
 
-use crate::listing::moves;
-use crate::{Move, Status, first_catch, status};
+use crate::{Move, Status, first_catch, moves, status};
 use dob_pieces::{Hand, HandKind, Hands, Kind, Memory, Piece, Position, Side, Square};
 use std::process::Abort;
 

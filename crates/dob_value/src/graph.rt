@@ -8,8 +8,7 @@ ghost use Rattle.dob_value.specs.Depths.{SameOutlook};
 ghost use Rattle.dob_value.specs.Graphs.{AreSuccessors, ListedFor, IsNode, AreNodes, setup_of};
 
 use crate::roster::Roster;
-use dob_moves::listing::moves;
-use dob_moves::{Move, Status, apply, status};
+use dob_moves::{Move, Status, apply, moves, status};
 use dob_pieces::{Memory, Position};
 use std::alloc::Global;
 

@@ -1,7 +1,7 @@
 // Lists of positions with numbers, over which a sweep can go.
 ghost use Rattle.std.specs.Prelude.{◌≡◌, ◌<◌, ℕ};
 ghost use Rattle.dob_pieces.specs.declared.setup.Setup.{Setup};
-ghost use Rattle.dob_moves.specs.declared.moves.Move.{Move};
+ghost use Rattle.dob_moves.specs.declared.choice.Move.{Move};
 ghost use Rattle.dob_moves.specs.declared.outlook.Status.TheVariants.{Open};
 ghost use Rattle.dob_moves.specs.Moves.{Goes};
 ghost use Rattle.dob_moves.specs.Statuses.{HasStatus};
