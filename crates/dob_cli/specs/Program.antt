@@ -10,6 +10,7 @@ use Rattle.dob_text.specs.Faults.{HasFault}
 use Rattle.dob_value.specs.declared.value.Value.{Value}
 use Rattle.dob_value.specs.declared.value.Value.TheVariants.{Win, Loss, Draw}
 use Rattle.dob_value.specs.Values.{HasValue}
+use Rattle.dob_value.specs.Rosters.{SomeTooDeep, HasSamePieces}
 use Rattle.dob_cli.specs.declared.fault.Fault.{Fault}
 use Rattle.dob_cli.specs.declared.fault.Fault.TheVariants.{Text, SetTooLarge, TooDeep, Memory, Io}
 use Rattle.dob_cli.specs.Faults.{fault_line, status_of}
@@ -55,7 +56,7 @@ IsValueLineOf text line = (value : Value) × IsValueOf text value × (line ≡ v
 pub record TellsValue (text : List ℕ) (status : ℕ) (out out' err err' : Bytes) : Type 0 where
   pub value : Value
   pub of_text : IsValueOf text value
-  pub status : status ≡ 0
+  pub done : status ≡ 0
   pub told : Appends out out' (value_line value)
   pub silent : Keeps err err'
 
@@ -64,7 +65,7 @@ pub record TellsValue (text : List ℕ) (status : ℕ) (out out' err err' : Byte
 pub record TellsFault (text : List ℕ) (status : ℕ) (out out' err err' : Bytes) : Type 0 where
   pub fault : Fault
   pub of_text : IsFaultOf text fault
-  pub status : status ≡ status_of fault
+  pub ended : status ≡ status_of fault
   pub told : AppendsPart err err' (fault_line fault)
   pub silent : Keeps out out' ⊎ ((value : Value) × IsValueOf text value × AppendsPart out out' (value_line value))
 

@@ -1,8 +1,7 @@
 // The program: from its words to what it prints and its exit status.
-ghost use Rattle.std.specs.Prelude.{◌≡◌, IfOk, IfErr, map, string_bytes};
-ghost use Rattle.dob_cli.specs.Words.{value};
-ghost use Rattle.dob_cli.specs.Words as words_of;
-ghost use Rattle.dob_cli.specs.Faults.{fault_line};
+ghost use Rattle.std.specs.Prelude.{◌≡◌, ◌⊎◌, ℕ, List, IfOk, IfErr, map, string_bytes};
+ghost use Rattle.std.specs.Io.KnownBytes.{Keeps};
+ghost use Rattle.dob_cli.specs.Words.{meaning_of, value as asks_value, help as asks_help, usage as asks_nothing};
 ghost use Rattle.dob_cli.specs.Program.{AnswersValue, IsValueLineOf, IsFaultOf, value_line, Tells, TellsOneFault};
 
 use crate::command::{Order, Reading, read_words};
@@ -29,12 +28,12 @@ pub fn run_words<'a, O: Write, E: Write>(
     err: &mut E,
 ) -> u8
     // Where the words ask for the value of a position: its line, or the line of a fault that holds.
-    ensures value { (text : List ℕ) → meaning_of (map (λ w. w.now) words.now) ≡ words.value text
+    ensures value { (text : List ℕ) → meaning_of (map (λ w. w.now) words.now) ≡ asks_value text
         → AnswersValue text result (O.contents out.old) (O.contents out.new) (E.contents err.old) (E.contents err.new) }
     // Where they ask for help: status 0 and nothing on standard error, or standard output or memory failed.
-    ensures help { meaning_of (map (λ w. w.now) words.now) ≡ words.help → result ≡ 0 ⊎ result ≡ 3 }
+    ensures help { meaning_of (map (λ w. w.now) words.now) ≡ asks_help → result ≡ 0 ⊎ result ≡ 3 }
     // Where they are none that the program knows: status 2 and nothing on standard output, or memory failed.
-    ensures usage { meaning_of (map (λ w. w.now) words.now) ≡ words.usage
+    ensures usage { meaning_of (map (λ w. w.now) words.now) ≡ asks_nothing
         → (result ≡ 2 ⊎ result ≡ 3) × Keeps (O.contents out.old) (O.contents out.new) }
 {
     match read_words(alloc, words) {
