@@ -28,11 +28,12 @@ hand_letters side hand =
     ++ replicate hand.elephants (cased side 69)
     ++ replicate hand.giraffes (cased side 71)
 
--- a dash for nothing
+-- a dash in place of no letters
 abbrev pub or_dash : List ℕ → List ℕ
 or_dash [] = 45 ∷ []
 or_dash (letter ∷ letters) = letter ∷ letters
 
+-- a hand: its letters, or a dash
 abbrev pub hand_text : Side → Hand → List ℕ
 hand_text side hand = or_dash (hand_letters side hand)
 
