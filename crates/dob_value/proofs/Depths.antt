@@ -1,14 +1,11 @@
 -- Won and lost positions at different depths.
-use Rattle.std.proofs.Common.{◌≡◌, ℕ, zero, suc, ◌+◌, ◌-◌, ◌≤◌, ◌<◌, ◌⊎◌, inl, inr, refl, sym, subst, ap, arith, add-zero, add-one, add-suc}
+use Rattle.std.proofs.Common.{◌≡◌, ℕ, zero, suc, ◌+◌, ◌-◌, ◌≤◌, inl, inr, refl, subst, ap, arith}
 use Rattle.dob_pieces.specs.declared.setup.Setup.{Setup}
-use Rattle.dob_moves.specs.declared.choice.Move.{Move}
-use Rattle.dob_moves.specs.declared.outlook.Status.TheVariants.{Caught, Tried, Stuck, Open}
-use Rattle.dob_moves.specs.Moves.{Goes}
+use Rattle.dob_moves.specs.declared.outlook.Status.TheVariants.{Caught, Open}
 use Rattle.dob_moves.specs.Statuses.{HasStatus}
-use Rattle.dob_value.specs.declared.value.Value.{Value}
 use Rattle.dob_value.specs.declared.value.Value.TheVariants.{Win, Loss, Draw}
-use Rattle.dob_value.specs.Values.{HasLost, Won, Lost, HasValue}
-use Rattle.dob_value.specs.Depths.{WonStaysWon, LostStaysLost, NotWonAndLost, OneValue}
+use Rattle.dob_value.specs.Values.{HasLost, Won, Lost}
+use Rattle.dob_value.specs.Depths.{WonStaysWon, LostStaysLost, OneValue}
 
 -- one ply more changes nothing
 mutual

@@ -1,5 +1,5 @@
 -- Mirror images are won and lost at the same depths.
-use Rattle.std.proofs.Common.{◌≡◌, ℕ, zero, suc, ◌⊎◌, inl, inr, length, sym, subst}
+use Rattle.std.proofs.Common.{ℕ, zero, suc, inl, inr, subst}
 use Rattle.dob_pieces.specs.declared.setup.Setup.{Setup}
 use Rattle.dob_pieces.specs.Setups.{IsLegal, mirrored}
 use Rattle.dob_pieces.proofs.Boards.{IsLegal-mirrored}
@@ -8,11 +8,9 @@ use Rattle.dob_moves.specs.declared.choice.Move.{Move}
 use Rattle.dob_moves.specs.declared.outlook.Status.TheVariants.{Caught, Tried, Stuck, Open}
 use Rattle.dob_moves.specs.Moves.{Goes}
 use Rattle.dob_moves.specs.Mirrors.{mirrored_move}
-use Rattle.dob_moves.specs.Statuses.{HasStatus}
 use Rattle.dob_moves.proofs.Mirrors.{Goes-mirrored, HasStatus-mirrored}
 use Rattle.dob_moves.proofs.Outcomes.{IsLegal-Goes}
-use Rattle.dob_value.specs.declared.value.Value.{Value}
-use Rattle.dob_value.specs.Values.{HasLost, Won, Lost, HasValue}
+use Rattle.dob_value.specs.Values.{HasLost, Won, Lost}
 use Rattle.dob_value.specs.Depths.{SameOutlook, MirrorsHaveOneOutlook, MirrorsHaveOneValue}
 use Rattle.dob_value.proofs.Tables.{value_same}
 

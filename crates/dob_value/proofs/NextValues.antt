@@ -1,20 +1,18 @@
 -- The value at one depth more: what the entries of the successors give.
-use Rattle.std.proofs.Common.{◌≡◌, ℕ, suc, ◌+◌, ◌≤◌, ◌<◌, ◌⊎◌, inl, inr, refl, sym, subst, ap, arith, ◌∙◌, List, length, get_or, slice_index_or, Bool, true, false, All, Contains}
-use Rattle.std.specs.List.{list_any, list_all, Any}
+use Rattle.std.proofs.Common.{◌≡◌, ℕ, suc, ◌+◌, ◌≤◌, ◌<◌, ◌⊎◌, inl, inr, sym, subst, arith, ◌∙◌, List, length, get_or, slice_index_or, Bool, true, false, All}
+use Rattle.std.specs.List.{list_any, list_all}
 use Rattle.std.proofs.lemmas.Bool.{cases_lt}
 use Rattle.std.proofs.lemmas.List.Folds.{Any-from_list_any, list_any_at}
 use Rattle.std.proofs.lemmas.List.Sums.{AllPass-from_list_all, list_all-from_AllPass}
 use Rattle.std.proofs.lemmas.List.Elements.{All-contains, Contains-get_or}
 use Rattle.dob_pieces.specs.declared.setup.Setup.{Setup}
-use Rattle.dob_moves.specs.declared.choice.Move.{Move}
 use Rattle.dob_moves.specs.declared.outlook.Status.TheVariants.{Caught, Tried, Stuck, Open}
-use Rattle.dob_moves.specs.Moves.{Goes}
 use Rattle.dob_moves.specs.Statuses.{HasStatus}
 use Rattle.dob_value.specs.declared.value.Value.{Value}
 use Rattle.dob_value.specs.declared.value.Value.TheVariants.{Win, Loss, Draw}
 use Rattle.dob_value.specs.declared.graph.Node.{Node}
 use Rattle.dob_value.specs.Values.{HasLost, Won, Lost, HasValue}
-use Rattle.dob_value.specs.Entries.{is_win_within, is_loss_within, is_draw, IsCutOff, TellsAt, HasDistance}
+use Rattle.dob_value.specs.Entries.{is_win_within, is_loss_within, TellsAt}
 use Rattle.dob_value.specs.Graphs.{IsNode, setup_of}
 use Rattle.dob_value.proofs.Depths.{won_stays, lost_stays, lost_not_open}
 

@@ -1,14 +1,13 @@
 -- The nodes of the positions that are listed.
-use Rattle.std.proofs.Common.{◌≡◌, ℕ, zero, suc, ◌+◌, ◌<◌, ◌≤◌, ◌⊎◌, inl, inr, refl, sym, subst, ap, ◌∙◌, arith, List, [], ◌∷◌, ◌++◌, length, get_or, Option, Some, None, slice_get, slice_index_or, length-append}
-use Rattle.std.proofs.lemmas.Bool.{cases_lt}
-use Rattle.std.proofs.lemmas.Option.{slice_get_within, slice_get-get_or, slice_get_cases, same_Some, none-some}
+use Rattle.std.proofs.Common.{◌≡◌, ℕ, zero, suc, ◌+◌, ◌<◌, ◌⊎◌, inl, inr, refl, sym, subst, ap, ◌∙◌, arith, List, [], ◌∷◌, ◌++◌, length, get_or, Some, slice_get, slice_index_or, length-append}
+use Rattle.std.proofs.lemmas.Option.{slice_get-get_or, slice_get_cases, same_Some, none-some}
 use Rattle.dob_pieces.specs.declared.setup.Setup.{Setup}
 use Rattle.dob_value.specs.declared.value.Value.{Value}
 use Rattle.dob_value.specs.declared.value.Value.TheVariants.{Draw}
 use Rattle.dob_value.specs.declared.graph.Node.{Node}
+use Rattle.dob_value.specs.declared.sweep.TheConstants.{MAX_DISTANCE}
 use Rattle.dob_value.specs.Values.{HasValue}
 use Rattle.dob_value.specs.Depths.{SameOutlook}
-use Rattle.dob_value.specs.Entries.{HasDistance}
 use Rattle.dob_value.specs.Graphs.{IsNode, ListedFor, AreNodes, IsGraph, NodeStandsFor, AreValues, SomeHasDistance, setup_of}
 use Rattle.dob_value.specs.Rosters.{HoldsValues, SomeTooDeep}
 use Rattle.dob_value.proofs.Tables.{node_standing}
@@ -87,6 +86,6 @@ module _ (count : ℕ) (setup_at : ℕ → Setup) (IsMember : Setup → Type 0) 
     ];
   }
 
-  pub deep_member : (nodes : List Node) (n : ℕ) → AreNodes count setup_at IsMember nodes → 65534 < n → SomeHasDistance nodes n →
+  pub deep_member : (nodes : List Node) (n : ℕ) → AreNodes count setup_at IsMember nodes → MAX_DISTANCE < n → SomeHasDistance nodes n →
       SomeTooDeep IsMember
   deep_member nodes n are deep some = (setup_of some.1, are.members some.0 some.1 some.2, n, deep, some.3)

@@ -1,7 +1,7 @@
 -- The positions of lions alone are just the pairs of lions' squares.
-use Rattle.std.proofs.Common.{◌≡◌, ◌≢◌, ℕ, suc, ◌+◌, ◌-◌, ◌*◌, ◌/◌, ◌%◌, ◌≤◌, ◌<◌, ◌⊎◌, inl, inr, refl, sym, subst, ap, ◌∙◌, arith, Bool, true, false, ◌&&◌, ◌||◌, not, eqb, ltb, List, [], ◌∷◌, length, get_or, drop, replicate, set, Option, Some, None, slice_index_or, All}
+use Rattle.std.proofs.Common.{◌≡◌, ◌≢◌, ℕ, ◌≤◌, ◌<◌, inl, inr, refl, sym, subst, ap, ◌∙◌, arith, Bool, true, false, ◌&&◌, ◌||◌, not, eqb, ltb, List, length, drop, replicate, set, Some, None, slice_index_or, All}
 use Rattle.std.specs.List.{count_by, sum_by, list_any}
-use Rattle.std.proofs.lemmas.Bool.{cases_eq, cases_lt, cases_order, eqb-true, ltb-true, not-true, and_parts, false_from_ne_true}
+use Rattle.std.proofs.lemmas.Bool.{cases_eq, cases_lt, eqb-true, ltb-true, not-true, and_parts, false_from_ne_true}
 use Rattle.std.proofs.lemmas.List.{get_or-set_other, get_or-set_same, get_or-replicate, length-set}
 use Rattle.std.proofs.lemmas.List.Elements.{All-from_get_or}
 use Rattle.std.proofs.lemmas.List.Folds.{sum_by-zero}
@@ -12,11 +12,10 @@ use Rattle.dob_pieces.specs.declared.kind.HandKind.{HandKind}
 use Rattle.dob_pieces.specs.declared.kind.HandKind.TheVariants as hand
 use Rattle.dob_pieces.specs.declared.kind.Side.{Side}
 use Rattle.dob_pieces.specs.declared.kind.Side.TheVariants.{Mover, Enemy}
-use Rattle.dob_pieces.specs.declared.kind.Piece.{Piece}
 use Rattle.dob_pieces.specs.declared.hand.Hand.{Hand}
 use Rattle.dob_pieces.specs.declared.hand.Hands.{Hands}
 use Rattle.dob_pieces.specs.declared.setup.Setup.{Setup}
-use Rattle.dob_pieces.specs.Setups.{Cell, at, held, holds_lion, holds_kind, total, HasLions, IsLegal, piece_of, setup_of, board_by}
+use Rattle.dob_pieces.specs.Setups.{Cell, at, holds_lion, holds_kind, total, HasLions, piece_of, setup_of, board_by}
 use Rattle.dob_pieces.proofs.Boards.{all_below, all_below-at, one_if, board_by-from_cells, one_lion}
 use Rattle.dob_pieces.proofs.Legality.{HasLions-from_counts, HasLionAtHome-from_test, mover_lion}
 use Rattle.dob_value.specs.Values.{Won, Lost}

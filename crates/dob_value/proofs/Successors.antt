@@ -1,13 +1,12 @@
 -- A list of successors' numbers as it grows.
-use Rattle.std.proofs.Common.{◌≡◌, ℕ, ◌+◌, ◌<◌, ◌≤◌, ◌⊎◌, inl, inr, sym, subst, ap, ◌∙◌, arith, List, [], ◌∷◌, ◌++◌, length, get_or, Option, Some, Contains, slice_get}
+use Rattle.std.proofs.Common.{◌≡◌, ℕ, ◌+◌, ◌<◌, ◌≤◌, inl, inr, sym, subst, ap, ◌∙◌, arith, List, [], ◌∷◌, ◌++◌, length, Option, Some, Contains, slice_get}
 use Rattle.std.proofs.lemmas.Bool.{cases_lt}
-use Rattle.std.proofs.lemmas.Option.{slice_get_within, slice_get-get_or, same_Some, slice_get_read}
-use Rattle.std.proofs.lemmas.List.Elements.{Contains-push, Contains-push_cases, Contains-append_left}
+use Rattle.std.proofs.lemmas.Option.{slice_get-get_or, same_Some}
+use Rattle.std.proofs.lemmas.List.Elements.{Contains-push, Contains-push_cases, Contains-get_or, Contains-append_left}
 use Rattle.dob_pieces.specs.declared.setup.Setup.{Setup}
 use Rattle.dob_moves.specs.declared.choice.Move.{Move}
-use Rattle.dob_moves.specs.declared.outlook.Status.TheVariants.{Open}
 use Rattle.dob_moves.specs.Moves.{Goes, CanGo}
-use Rattle.dob_moves.specs.Statuses.{HasStatus, AreMoves}
+use Rattle.dob_moves.specs.Statuses.{AreMoves}
 use Rattle.dob_value.specs.Graphs.{AreSuccessors}
 
 -- the numbers stand for the outcomes of the moves below an index
@@ -15,6 +14,12 @@ pub record AreSuccessorsBelow (StandsFor : ℕ → Setup → Type 0) (p : Setup)
   pub sound : (number : ℕ) → Contains numbers number → (move : Move) × (q : Setup) × Goes p move q × StandsFor number q
   pub whole : (index : ℕ) (move : Move) (q : Setup) → index < upto → slice_get choices index ≡ Some move → Goes p move q →
       (number : ℕ) × Contains numbers number × StandsFor number q
+
+-- what the list of moves says of an entry that was read
+pub choice_goes : (p : Setup) (choices : List Move) (index : ℕ) (choice : Move) → AreMoves p choices → index < length choices →
+    choice ≡ get_or choices index choice → HasStatus p Open × CanGo p choice
+choice_goes p choices index choice are_moves within read =
+    are_moves.sound choice (subst (λ m. Contains choices m) (sym read) (Contains-get_or choices index choice within))
 
 module _ (StandsFor : ℕ → Setup → Type 0) (p : Setup) (choices : List Move) where
   pub successors_none : AreSuccessorsBelow StandsFor p choices 0 []

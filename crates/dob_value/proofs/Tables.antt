@@ -1,23 +1,21 @@
 -- Tables during the sweeps.
-use Rattle.std.proofs.Common.{◌≡◌, ◌≢◌, ℕ, zero, suc, ◌+◌, ◌≤◌, ◌<◌, ◌⊎◌, inl, inr, refl, sym, subst, ap, arith, ◌∙◌, List, length, get_or, slice_index_or, Bool, true, false, Option, Some, None, All, Contains, slice_get, slice_set, map, get_or-set_other, get_or-set_same, length-set, take, drop, ◌++◌, option_map}
+use Rattle.std.proofs.Common.{◌≡◌, ℕ, zero, suc, ◌+◌, ◌≤◌, ◌<◌, inl, inr, refl, sym, subst, ap, arith, ◌∙◌, List, length, slice_index_or, true, false, Some, slice_get, slice_set, map, get_or-set_other, get_or-set_same, length-set, take, drop, ◌++◌, option_map}
 use Rattle.std.proofs.lemmas.Grind.{common_steps}
 use Rattle.std.proofs.lemmas.List.{length-map}
 use Rattle.std.proofs.lemmas.Bool.{cases_lt, cases_eq, cases_order, leb-true, le-leb}
-use Rattle.std.proofs.lemmas.Option.{slice_get_within, slice_get-get_or, get_or_from_slice_get, same_Some, slice_get-map}
+use Rattle.std.proofs.lemmas.Option.{slice_get_within, get_or_from_slice_get, same_Some, slice_get-map}
 use Rattle.dob_pieces.specs.declared.setup.Setup.{Setup}
-use Rattle.dob_moves.specs.declared.choice.Move.{Move}
 use Rattle.dob_moves.specs.declared.outlook.Status.{Status}
 use Rattle.dob_moves.specs.declared.outlook.Status.TheVariants.{Caught, Tried, Stuck, Open}
-use Rattle.dob_moves.specs.Moves.{Goes}
 use Rattle.dob_moves.specs.Statuses.{HasStatus}
 use Rattle.dob_value.specs.declared.value.Value.{Value}
 use Rattle.dob_value.specs.declared.value.Value.TheVariants.{Win, Loss, Draw}
 use Rattle.dob_value.specs.declared.graph.Node.{Node}
-use Rattle.dob_value.specs.Values.{HasLost, Won, Lost, HasValue}
+use Rattle.dob_value.specs.Values.{Won, Lost, HasValue}
 use Rattle.dob_value.specs.Depths.{SameOutlook}
-use Rattle.dob_value.specs.Entries.{is_win_within, is_loss_within, is_draw, IsCutOff, Tells, TellsAt, HasDistance}
-use Rattle.dob_value.specs.Graphs.{IsNode, IsGraph, NodeStandsFor, HasEntries, AreCutOff, AreSwept, AreValues, SomeHasDistance, setup_of, first_value, value_at_start}
-use Rattle.dob_value.proofs.Depths.{won_stays, lost_stays, lost_not_caught, lost_not_open, won_not_lost, won_one_more, lost_one_more}
+use Rattle.dob_value.specs.Entries.{is_draw, IsCutOff, Tells, TellsAt}
+use Rattle.dob_value.specs.Graphs.{IsNode, IsGraph, NodeStandsFor, AreCutOff, AreSwept, AreValues, setup_of, first_value, value_at_start}
+use Rattle.dob_value.proofs.Depths.{won_stays, lost_stays, lost_not_caught, lost_not_open, won_not_lost}
 
 -- an entry that is cut off at a depth tells of each depth up to it
 pub tells : (n m : ℕ) (p : Setup) (entry : Value) → n ≤ m → IsCutOff m p entry → Tells n p entry

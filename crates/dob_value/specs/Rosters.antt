@@ -5,6 +5,7 @@ use Rattle.dob_pieces.specs.declared.kind.HandKind.{HandKind}
 use Rattle.dob_pieces.specs.Setups.{IsLegal, total}
 use Rattle.dob_value.specs.declared.value.Value.{Value}
 use Rattle.dob_value.specs.declared.value.Value.TheVariants.{Draw}
+use Rattle.dob_value.specs.declared.sweep.TheConstants.{MAX_DISTANCE}
 use Rattle.dob_value.specs.Values.{HasValue}
 use Rattle.dob_value.specs.Entries.{HasDistance}
 
@@ -15,7 +16,7 @@ pub record HoldsValues (count : ℕ) (setup_at : ℕ → Setup) (entries : List 
 
 -- some member is won or lost, in more plies than a table's entry can say
 abbrev pub SomeTooDeep : (Setup → Type 0) → Type 0
-SomeTooDeep IsMember = (q : Setup) × IsMember q × (n : ℕ) × (65534 < n) × HasDistance q n
+SomeTooDeep IsMember = (q : Setup) × IsMember q × (n : ℕ) × (MAX_DISTANCE < n) × HasDistance q n
 
 -- a position with the same pieces
 pub record HasSamePieces (p q : Setup) : Type 0 where

@@ -14,3 +14,6 @@ pub use fault::Fault;
 pub use position_value::sweep_value;
 pub use sweep::MAX_DISTANCE;
 pub use value::Value;
+
+#[cfg(test)]
+mod tests;

@@ -1,6 +1,6 @@
 // Sweeps over the positions of a graph: after n of them each entry is its position's value cut off at depth n, and a
 // sweep that changes nothing is the last.
-ghost use Rattle.std.specs.Prelude.{◌≡◌, ◌≢◌, ℕ, ◌+◌, ◌<◌, length, All, IfOk, map, slice_index_or, true, false};
+ghost use Rattle.std.specs.Prelude.{◌≡◌, ◌≢◌, ℕ, ◌+◌, ◌<◌, ◌≤◌, length, All, IfOk, map, slice_index_or, true, false};
 ghost use Rattle.std.specs.List.{list_any, list_all};
 ghost use Rattle.dob_value.specs.declared.value.Value.TheVariants.{Draw};
 ghost use Rattle.dob_value.specs.Values.{Won, Lost};
@@ -49,7 +49,7 @@ fn are_won(successors: &[usize], depth: u16, values: &[Value]) -> bool
 // The value at one depth more, from entries that tell of all depths up to this one, of a position that is neither won
 // nor lost within this depth.
 fn next_value(node: &Node, depth: u16, values: &[Value]) -> Value
-    requires below { depth < 65535 }
+    requires below { depth ≤ MAX_DISTANCE }
     requires node { IsNode (TellsAt depth values.now) node.now }
     requires not_won { ¬ Won depth (setup_of node.now) }
     requires not_lost { ¬ Lost depth (setup_of node.now) }
@@ -58,7 +58,7 @@ fn next_value(node: &Node, depth: u16, values: &[Value]) -> Value
 {
     match node.status {
         Status::Caught => Value::Win(depth + 1),
-        Status::Tried | Status::Stuck => Value::Loss(0),
+        Status::Tried | Status::Stuck => first_value(node),
         Status::Open => {
             if has_lost(&node.successors, depth, values) {
                 Value::Win(depth + 1)
@@ -73,7 +73,7 @@ fn next_value(node: &Node, depth: u16, values: &[Value]) -> Value
 
 // Sweeps over one entry, and says whether it has changed.
 fn update(nodes: &[Node], number: usize, depth: u16, values: &mut [Value]) -> bool
-    requires below { depth < 65535 }
+    requires below { depth ≤ MAX_DISTANCE }
     requires within { number < length nodes.now }
     requires graph { IsGraph nodes.now }
     requires swept { AreSwept depth number nodes.now values.old }
@@ -94,7 +94,7 @@ fn update(nodes: &[Node], number: usize, depth: u16, values: &mut [Value]) -> bo
 
 // Sweeps over all entries, which are cut off at that depth, and says whether any has changed.
 fn sweep_once(nodes: &[Node], depth: u16, values: &mut [Value]) -> bool
-    requires below { depth < 65535 }
+    requires below { depth ≤ MAX_DISTANCE }
     requires graph { IsGraph nodes.now }
     requires cut_off { AreCutOff depth nodes.now values.old }
     ensures cut_off { AreCutOff (depth + 1) nodes.now values.new }
@@ -133,7 +133,7 @@ fn first_values(alloc: Global, nodes: &[Node]) -> Result<Vec<Value>, AllocError>
 pub(crate) fn settle(alloc: Global, nodes: &[Node]) -> Result<Vec<Value>, Fault>
     requires { IsGraph nodes.now }
     ensures values { IfOk result (λ values. AreValues nodes.now values.items) }
-    ensures deep { result ≡ Err Fault.TooDeep → (n : ℕ) × (65534 < n) × SomeHasDistance nodes.now n }
+    ensures deep { result ≡ Err Fault.TooDeep → (n : ℕ) × (MAX_DISTANCE < n) × SomeHasDistance nodes.now n }
     ensures set { result ≢ Err Fault.SetTooLarge }
 {
     let mut values = first_values(alloc, nodes)?;

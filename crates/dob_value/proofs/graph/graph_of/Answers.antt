@@ -1,5 +1,5 @@
 -- Each node goes to the end of the list.
-use Rattle.std.proofs.Common.{◌≡◌, ◌≤◌, ◌+◌, sym, subst, ◌∙◌, arith}
+use Rattle.std.proofs.Common.{◌≡◌, ◌+◌, sym, subst, arith}
 use Rattle.dob_value.proofs.Nodes.{AreNodesBelow, nodes_more, nodes_all}
 use Rattle.dob_value.proofs.graph.graph_of.Goals as goal
 

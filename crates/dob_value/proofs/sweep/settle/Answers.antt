@@ -1,5 +1,5 @@
 -- A sweep that changes nothing is the last.
-use Rattle.std.proofs.Common.{sym, ap, length, ◌+◌, subst, ◌∙◌, refl, ◌<◌, arith}
+use Rattle.std.proofs.Common.{sym, ap, length, ◌+◌, subst, ◌∙◌, refl, arith}
 use Rattle.dob_value.specs.Graphs.{AreCutOff, AreValues}
 use Rattle.dob_value.proofs.Tables.{starts_cut, unchanged_is_final, put_back}
 use Rattle.dob_value.proofs.sweep.settle.Goals as goal

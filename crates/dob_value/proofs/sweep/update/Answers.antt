@@ -1,7 +1,7 @@
 -- A draw that stands for a position not yet settled is written over where the position is won or lost one ply later.
 use Rattle.std.proofs.Common.{◌≡◌, refl, sym, slice_get, Some, ◌∙◌}
 use Rattle.std.proofs.lemmas.Option.{slice_get_read}
-use Rattle.dob_value.proofs.Tables.{successors_told, open_here, swept_kept, swept_written}
+use Rattle.dob_value.proofs.Tables.{successors_told, open_here, swept_written}
 use Rattle.dob_value.proofs.sweep.update.Goals as goal
 use Rattle.dob_value.proofs.sweep.update.Goals.{After-index-nodes-number}
 

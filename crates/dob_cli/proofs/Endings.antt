@@ -1,0 +1,34 @@
+-- How the program ends: from what it tells of a line or a fault to what it owes for a text.
+use Rattle.std.proofs.Common.{◌≡◌, ℕ, ◌⊎◌, inl, inr, List, Option, Some, None, refl, sym, subst, ⊎_elim}
+use Rattle.std.specs.Io.KnownBytes.{Appends, Keeps}
+use Rattle.dob_pieces.specs.declared.setup.Setup.{Setup}
+use Rattle.dob_pieces.specs.Setups.{IsLegal}
+use Rattle.dob_text.specs.PositionText.{Spells}
+use Rattle.dob_value.specs.Rosters.{SomeTooDeep, HasSamePieces}
+use Rattle.dob_value.specs.declared.fault.Fault as value
+use Rattle.dob_value.specs.declared.fault.Fault.TheVariants as value_fault
+use Rattle.dob_cli.specs.declared.fault.Fault.{Fault}
+use Rattle.dob_cli.specs.declared.fault.Fault.TheVariants.{Memory, Io}
+use Rattle.dob_cli.specs.Faults.{fault_of_value}
+use Rattle.dob_cli.specs.Program.{Bytes, AnswersValue, AppendsPart, HasPieces, IsFaultOf, IsValueLineOf, Tells, TellsOneFault, value_line}
+
+Keeps-same : (bytes : Bytes) → Keeps bytes bytes
+Keeps-same None = tt
+Keeps-same (Some bytes) = refl
+
+-- a fault of finding a value is one of the text's
+pub value_fault_holds : (text : List ℕ) (p : Setup) (f : value.Fault) → IsLegal p → Spells text p
+    → (f ≡ value_fault.SetTooLarge → HasPieces p) → (f ≡ value_fault.TooDeep → SomeTooDeep (HasSamePieces p))
+    → IsFaultOf text (fault_of_value f)
+value_fault_holds text p value_fault.SetTooLarge legal spelled large deep = (p, legal, spelled, large refl)
+value_fault_holds text p value_fault.TooDeep legal spelled large deep = (p, legal, spelled, deep refl)
+value_fault_holds text p value_fault.Memory legal spelled large deep = tt
+
+-- a fault that was told, or that no memory was left for telling it
+pub fault_told : (text : List ℕ) (fault : Fault) (status : ℕ) (out out' err err' : Bytes) → IsFaultOf text fault
+    → Keeps out out' ⊎ ((v : _) × _ × AppendsPart out out' (value_line v))
+    → TellsOneFault fault status err err' → AnswersValue text status out out' err err'
+fault_told text fault status out out' err err' holds silent (inl t) =
+    inr (record { fault = fault; of_text = holds; ended = t.0; told = t.1; silent = silent })
+fault_told text fault status out out' err err' holds silent (inr t) =
+    inr (record { fault = Memory; of_text = tt; ended = t.0; told = t.1; silent = silent })
