@@ -1,0 +1,9 @@
+-- What is told goes with the value's line, or with the fault.
+use Rattle.dob_cli.proofs.Endings.{answered, refused}
+use Rattle.dob_cli.proofs.program.run_value.Goals as goal
+
+pub returns-in-Ok : goal.returns-in-Ok
+returns-in-Ok g c = answered _ _ _ _ _ _ _ c.in-Ok.ensures.ok ?
+
+pub returns-in-Err : goal.returns-in-Err
+returns-in-Err g c = refused _ _ _ _ _ _ c.in-Err.ensures.err c.tell_fault.ensures
