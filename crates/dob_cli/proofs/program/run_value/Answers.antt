@@ -3,7 +3,7 @@ use Rattle.dob_cli.proofs.Endings.{answered, refused}
 use Rattle.dob_cli.proofs.program.run_value.Goals as goal
 
 pub returns-in-Ok : goal.returns-in-Ok
-returns-in-Ok g c = answered _ _ _ _ _ _ _ c.in-Ok.ensures.ok ?
+returns-in-Ok g c = answered _ _ _ _ _ _ _ c.in-Ok.ensures.ok (rw c.as_str.ensures.value at c.tell.ensures)
 
 pub returns-in-Err : goal.returns-in-Err
 returns-in-Err g c = refused _ _ _ _ _ _ c.in-Err.ensures.err c.tell_fault.ensures
