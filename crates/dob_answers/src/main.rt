@@ -1,7 +1,7 @@
 // Answers questions about positions, one a line, so that this implementation can be compared with another.
 //
 // `moves TEXT` gives the status and the moves, `after I TEXT` the position after the I-th move, `catch TEXT` the
-// first step that catches the enemy lion. A text that is no position gets its refusal, any other line
+// first step that catches the enemy lion, `value TEXT` the value. A text that is no position gets its refusal, any other line
 // `unknown question`.
 #![tactic(auto)]
 

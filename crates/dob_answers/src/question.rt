@@ -2,6 +2,7 @@
 use dob_moves::{Status, apply, first_catch, moves, status};
 use dob_pieces::{Memory, Position};
 use dob_text::{read_position, write_move, write_position};
+use dob_value::{Fault, Value, sweep_value};
 use std::alloc::Global;
 
 /// What a line asks about its position.
@@ -13,6 +14,8 @@ enum Question {
     After(usize),
     /// Which step catches the enemy lion first.
     Catch,
+    /// Which value it has.
+    Value,
 }
 
 /// The answer to a line, without a line feed. Only memory can run out.
@@ -32,6 +35,7 @@ fn question_of(line: &str) -> Option<(Question, &str)> {
     match word {
         "moves" => Some((Question::Moves, rest)),
         "catch" => Some((Question::Catch, rest)),
+        "value" => Some((Question::Value, rest)),
         "after" => {
             let (number, text) = rest.split_once(' ')?;
             let number = number.parse::<usize>().ok()?;
@@ -46,6 +50,7 @@ fn answer(alloc: Global, question: Question, position: &Position) -> Result<Stri
         Question::Moves => tell_moves(alloc, position),
         Question::After(number) => tell_after(alloc, number, position),
         Question::Catch => tell_catch(alloc, position),
+        Question::Value => tell_value(alloc, position),
     }
 }
 
@@ -82,5 +87,16 @@ fn tell_catch(alloc: Global, position: &Position) -> Result<String, Memory> {
     match first_catch(position) {
         None => Ok("none".to_string(alloc)?),
         Some(choice) => write_move(alloc, choice, false),
+    }
+}
+
+/// The value, `win D`, `loss D` or `draw`, or the line of the fault of finding it.
+fn tell_value(alloc: Global, position: &Position) -> Result<String, Memory> {
+    match sweep_value(alloc, position) {
+        Ok(Value::Win(plies)) => Ok(format!(in alloc; "win {plies}")?),
+        Ok(Value::Loss(plies)) => Ok(format!(in alloc; "loss {plies}")?),
+        Ok(Value::Draw) => Ok("draw".to_string(alloc)?),
+        Err(Fault::Memory) => Err(Memory),
+        Err(fault) => Ok(format!(in alloc; "dobutsu: {fault}")?),
     }
 }

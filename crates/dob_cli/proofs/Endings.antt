@@ -45,4 +45,4 @@ pub answered : (text line : List ℕ) (status : ℕ) (out out' err err' : Bytes)
 answered text line status out out' err err' holds (inl t) =
     inl (record { value = holds.0; of_text = holds.1; done = t.0; told = subst (λ l. Appends out out' l) holds.2 t.1; silent = t.2 })
 answered text line status out out' err err' holds (inr t) =
-    fault_told text Io status out out' err err' tt (inr (holds.0, holds.1, subst (λ l. AppendsPart out out' l) holds.2 t.0)) t.1
+    fault_told text Io status out out' err err' (holds.0, holds.1) (inr (holds.0, holds.1, subst (λ l. AppendsPart out out' l) holds.2 t.0)) t.1

@@ -40,13 +40,14 @@ pub record IsValueOf (text : List ℕ) (value : Value) : Type 0 where
 abbrev pub HasPieces : Setup → Type 0
 HasPieces position = (kind : HandKind) × (0 < total kind position)
 
--- the fault is given only where it is one of the text's, or memory or standard output failed
+-- The fault is given only where it is one of the text's, or memory failed, or standard output did where the value
+-- was to be told.
 abbrev pub IsFaultOf : List ℕ → Fault → Type 0
 IsFaultOf text (Text fault) = HasFault text fault
 IsFaultOf text SetTooLarge = (position : Setup) × IsLegal position × Spells text position × HasPieces position
 IsFaultOf text TooDeep = (position : Setup) × IsLegal position × Spells text position × SomeTooDeep (HasSamePieces position)
 IsFaultOf text Memory = Unit {0}
-IsFaultOf text Io = Unit {0}
+IsFaultOf text Io = (value : Value) × IsValueOf text value
 
 -- the bytes are the line of the value that the text's position has
 abbrev pub IsValueLineOf : List ℕ → List ℕ → Type 0

@@ -1,2 +1,5 @@
-// Tests that cross crates: the program's answers against values from outside.
+// Tests that cross crates: what the program prints, against values from outside and values worked out by hand.
 #![tactic(auto)]
+
+#[cfg(test)]
+mod program;
