@@ -1,6 +1,6 @@
 -- What streams hold after one write and another.
-use Rattle.std.proofs.Common.{◌≡◌, ℕ, ◌+◌, ◌≤◌, List, [], ◌∷◌, ◌++◌, Option, Some, None, length, take, drop, refl, sym, ap, ◌∙◌, arith, append_assoc, append-nil, take-add}
-use Rattle.std.specs.Io.KnownBytes.{Appends, Keeps}
+use Rattle.std.proofs.Common.{ℕ, ◌+◌, List, [], ◌++◌, Option, Some, None, take, drop, sym, ap, ◌∙◌, append_assoc, append-nil, take-add}
+use Rattle.std.specs.Io.KnownBytes.{Appends}
 
 -- bytes after bytes
 pub Appends-append : (a b c : Option (List ℕ)) (xs ys : List ℕ) → Appends a b xs → Appends b c ys → Appends a c (xs ++ ys)

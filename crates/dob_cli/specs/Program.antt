@@ -79,10 +79,10 @@ AnswersValue text status out out' err err' = TellsValue text status out out' err
 abbrev pub TellsOneFault : Fault → ℕ → Bytes → Bytes → Type 0
 TellsOneFault fault status err err' =
     ((status ≡ status_of fault) × AppendsPart err err' (fault_line fault))
-  ⊎ ((status ≡ status_of Memory) × AppendsPart err err' (fault_line Memory))
+    ⊎ ((status ≡ status_of Memory) × AppendsPart err err' (fault_line Memory))
 
 -- The line on standard output and status 0; or a beginning of it, and the fault of a failing output.
 abbrev pub Tells : List ℕ → ℕ → Bytes → Bytes → Bytes → Bytes → Type 0
 Tells line status out out' err err' =
     ((status ≡ 0) × Appends out out' line × Keeps err err')
-  ⊎ (AppendsPart out out' line × TellsOneFault Io status err err')
+    ⊎ (AppendsPart out out' line × TellsOneFault Io status err err')

@@ -1,4 +1,4 @@
-use Rattle.std.proofs.Common.{length, arith, ◌≤◌, ◌+◌, length-take, length-drop, ℕ}
+use Rattle.std.proofs.Common.{arith, length-drop}
 use Rattle.std.proofs.lemmas.List.{take_rest}
 use Rattle.dob_cli.proofs.Streams.{Appends-take}
 use Rattle.dob_cli.proofs.output.write_bytes.Goals as goal
