@@ -19,7 +19,7 @@ enum Question {
 }
 
 /// The answer to a line, without a line feed. Only memory can run out.
-pub fn reply(alloc: Global, line: &str) -> Result<String, Memory> {
+pub(crate) fn reply(alloc: Global, line: &str) -> Result<String, Memory> {
     let Some((question, text)) = question_of(line) else {
         return Ok("unknown question".to_string(alloc)?);
     };
