@@ -14,3 +14,6 @@ pub use applied::apply;
 pub use judge::{first_catch, status};
 pub use moves::Move;
 pub use outlook::Status;
+
+#[cfg(test)]
+mod tests;

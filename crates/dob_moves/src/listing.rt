@@ -16,8 +16,8 @@ use std::alloc::Global;
 fn push_found(moves: &mut Vec<Move>, found: Option<Move>) -> Result<(), Memory>
     ensures { OnOk result (moves.new.items ≡ moves.old.items ++ option_to_list found) }
 {
-    if let Some(step) = found {
-        moves.push(step)?;
+    if let Some(found) = found {
+        moves.push(found)?;
     }
     Ok(())
 }
@@ -33,10 +33,8 @@ fn push_steps_by(
     ensures { OnOk result (moves.new.items ≡ moves.old.items ++ steps_by Elsewhere setup.now kind from) }
 {
     for direction in directions(kind) {
-        push_found(
-            moves,
-            step_in(setup, Aim::Elsewhere, kind, from, *direction),
-        )?;
+        let step = step_in(setup, Aim::Elsewhere, kind, from, *direction);
+        push_found(moves, step)?;
     }
     Ok(())
 }
@@ -72,7 +70,8 @@ fn push_drops_of(moves: &mut Vec<Move>, setup: &Setup, kind: HandKind) -> Result
         return Ok(());
     }
     for index in 0..Square::COUNT {
-        push_found(moves, put_on(setup, kind, Square::new(index)))?;
+        let put = put_on(setup, kind, Square::new(index));
+        push_found(moves, put)?;
     }
     Ok(())
 }

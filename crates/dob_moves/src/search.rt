@@ -33,10 +33,10 @@ fn may_end(aim: Aim, cell: Option<Piece>) -> bool
     ensures { result ≡ may_end aim cell }
 {
     match cell {
-        Some(piece) => match (aim, piece.side, piece.kind) {
-            (_, Side::Mover, _) => false,
-            (Aim::AtLion, Side::Enemy, kind) => matches!(kind, Kind::Lion),
-            (Aim::Elsewhere, Side::Enemy, kind) => !matches!(kind, Kind::Lion),
+        Some(piece) => match (aim, piece.side) {
+            (_, Side::Mover) => false,
+            (Aim::AtLion, Side::Enemy) => matches!(piece.kind, Kind::Lion),
+            (Aim::Elsewhere, Side::Enemy) => !matches!(piece.kind, Kind::Lion),
         },
         None => matches!(aim, Aim::Elsewhere),
     }
