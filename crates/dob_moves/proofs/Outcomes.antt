@@ -1,16 +1,14 @@
 -- Every outcome of a move is the turned form of `moved`, and legal where the position was legal and open.
 use Rattle.std.proofs.Common.{◌≡◌, ◌≢◌, ℕ, ◌+◌, ◌<◌, ◌≤◌, Bool, true, false, cond, ◌&&◌, List, Some, None, length, get_or, set, refl, sym, ap, subst, ◌∙◌, ⊎_elim, arith}
 use Rattle.std.specs.List.{count_by}
-use Rattle.std.proofs.lemmas.Bool.{cases_lt, cases_eq, and_parts, and_right, ltb-true, false≢true}
-use Rattle.std.proofs.lemmas.List.{length-set, get_or-set_same, get_or-set_other, get_or_past}
-use Rattle.std.proofs.lemmas.List.Sums.{sum_by-set}
+use Rattle.std.proofs.lemmas.Bool.{cases_eq, and_right, false≢true}
+use Rattle.std.proofs.lemmas.List.{length-set, get_or-set_same, get_or-set_other}
 use Rattle.dob_pieces.specs.declared.kind.Kind.{Kind}
 use Rattle.dob_pieces.specs.declared.kind.Kind.TheVariants.{Lion, Giraffe, Elephant, Chick, Hen}
 use Rattle.dob_pieces.specs.declared.kind.HandKind.{HandKind}
 use Rattle.dob_pieces.specs.declared.kind.HandKind.TheVariants as hand
 use Rattle.dob_pieces.specs.declared.kind.Side.{Side}
 use Rattle.dob_pieces.specs.declared.kind.Side.TheVariants.{Mover, Enemy}
-use Rattle.dob_pieces.specs.declared.kind.Piece.{Piece}
 use Rattle.dob_pieces.specs.declared.hand.Hand.{Hand}
 use Rattle.dob_pieces.specs.declared.hand.Hands.{Hands}
 use Rattle.dob_pieces.specs.declared.setup.Setup.{Setup}
@@ -21,7 +19,7 @@ use Rattle.dob_moves.specs.declared.moves.Move.TheVariants.{Step, Put}
 use Rattle.dob_moves.specs.Moves.{Goes, CanGo, Steps, Drops, CanTake, hands_after_catch, with_one_more, with_one_less, grows_at}
 use Rattle.dob_moves.specs.Statuses.{HasTried}
 use Rattle.dob_moves.specs.Outcomes.{arrives_as, with_caught, stepped, dropped, moved}
-use Rattle.dob_pieces.proofs.Boards.{total-turned}
+use Rattle.dob_pieces.proofs.Boards.{one_if, total-turned, within-from_piece, count-set, count-moved, leads-to_board, leads-apart}
 use Rattle.dob_moves.proofs.Turns.{sides_apart, IsFreeOfTry, IsLegal-turned}
 
 -- a step's hands are those of `stepped`
@@ -35,13 +33,16 @@ stepped_is p kind from to grows hands q same s =
       hands = h;
     })) same
 
+-- a step to an empty square changes no hand
 hands-none : (p : Setup) (to : ℕ) → at p to ≡ None → p.hands ≡ record p.hands { mover = with_caught p.hands.mover (at p to) }
 hands-none p to e = rw e
 
+-- a catch puts the caught piece into the hand
 hands-caught : (p : Setup) (to : ℕ) (taken : HandKind) → CanTake p to taken
     → hands_after_catch p.hands taken ≡ record p.hands { mover = with_caught p.hands.mover (at p to) }
 hands-caught p to taken t = rw (t.1, t.2)
 
+-- a drop goes to `dropped`
 dropped_is : (p : Setup) (kind : HandKind) (to : ℕ) (q : Setup) → Drops p kind to q → q ≡ turned (dropped p kind to)
 unfolding dropped
 dropped_is p kind to q d = d.outcome
@@ -56,11 +57,10 @@ Goes-is p (Step kind from to true true) q g =
     stepped_is p kind from to true (hands_after_catch p.hands g.1) q (hands-caught p to g.1 g.2) g.3
 Goes-is p (Put kind to) q g = dropped_is p kind to q g
 
--- The cell has no lion and nothing of the mover's, and the mover's hand gets what it has.
+-- The cell has no lion, and the mover's hand gets what it has.
 record Yields (c : Cell) : Type 0 where
   no_lion : (side : Side) → holds_lion side c ≡ false
   catch : (h : Hand) (k : HandKind) → held (with_caught h c) k ≡ held h k + cond (holds_kind k c) 1 0
-  others : (kind : Kind) → c ≢ Some (piece_of Mover kind)
 
 -- the kind counts as the other
 record Keeps (kind arrives : Kind) : Type 0 where
@@ -70,21 +70,18 @@ record Keeps (kind arrives : Kind) : Type 0 where
 -- a step's squares, its piece and what it takes
 record IsStep (p : Setup) (kind : Kind) (from to : ℕ) (grows : Bool) : Type 0 where
   own : at p from ≡ Some (piece_of Mover kind)
-  on_board : to < 12
+  leads : leads kind from to ≡ true
   yields : Yields (at p to)
   keeps : Keeps kind (arrives_as kind grows)
 
-leads_on_board : (kind : Kind) (from to : ℕ) → leads kind from to ≡ true → to < 12
-unfolding leads
-leads_on_board kind from to h = ltb-true to 12 (and_parts _ _ h).0
-
+-- an empty square yields nothing
 Yields-none : Yields None
 Yields-none = record {
   no_lion = λ side. refl;
   catch = λ h k. omega arith;
-  others = λ kind e. cc;
 }
 
+-- no lion is taken
 lion_not_taken : (caught : Kind) (taken : HandKind) → kind_in_hand caught ≡ Some taken → is_lion caught ≡ false
 lion_not_taken Lion taken e = cc
 lion_not_taken Giraffe taken e = refl
@@ -106,6 +103,7 @@ counts_as-taken Hen taken e hand.Elephant =
 counts_as-taken Hen taken e hand.Giraffe =
     let t : hand.Chick ≡ taken = cc in ap (λ x. counts_as hand.Giraffe (kind_on_board x)) t
 
+-- what a hand with one more holds
 held-one_more : (h : Hand) (taken k : HandKind)
     → held (with_one_more h taken) k ≡ held h k + cond (counts_as k (kind_on_board taken)) 1 0
 held-one_more h hand.Chick hand.Chick = refl
@@ -118,6 +116,7 @@ held-one_more h hand.Giraffe hand.Chick = omega arith
 held-one_more h hand.Giraffe hand.Elephant = omega arith
 held-one_more h hand.Giraffe hand.Giraffe = refl
 
+-- what a hand with one less holds
 held-one_less : (h : Hand) (put k : HandKind) → 0 < held h put
     → held (with_one_less h put) k + cond (counts_as k (kind_on_board put)) 1 0 ≡ held h k
 held-one_less h hand.Chick hand.Chick some = omega arith
@@ -130,21 +129,24 @@ held-one_less h hand.Giraffe hand.Chick some = omega arith
 held-one_less h hand.Giraffe hand.Elephant some = omega arith
 held-one_less h hand.Giraffe hand.Giraffe some = omega arith
 
+-- a piece with a kind in hand yields it
 Yields-taken : (caught : Kind) (taken : HandKind) → kind_in_hand caught ≡ Some taken → Yields (Some (piece_of Enemy caught))
 Yields-taken caught taken e = record {
   no_lion = λ side. and_right (is_side side Enemy) (is_lion caught) (lion_not_taken caught taken e);
   catch = λ h k. rw (e, counts_as-taken caught taken e k) (held-one_more h taken k);
-  others = λ kind same. sides_apart caught kind same;
 }
 
+-- a kind counts as itself
 Keeps-same : (kind : Kind) → Keeps kind kind
 Keeps-same kind = record { lion = refl; counts = λ k. refl }
 
+-- a hen counts as a chick
 hen_counts : (k : HandKind) → counts_as k Hen ≡ counts_as k Chick
 hen_counts hand.Chick = refl
 hen_counts hand.Elephant = refl
 hen_counts hand.Giraffe = refl
 
+-- and only a chick grows into one
 Keeps-hen : (kind : Kind) (to : ℕ) → grows_at kind to ≡ true → Keeps kind Hen
 Keeps-hen Lion to e = absurd (false≢true e)
 Keeps-hen Giraffe to e = absurd (false≢true e)
@@ -152,18 +154,21 @@ Keeps-hen Elephant to e = absurd (false≢true e)
 Keeps-hen Chick to e = record { lion = refl; counts = hen_counts }
 Keeps-hen Hen to e = absurd (false≢true e)
 
+-- so the last square of a step yields what stands there
 Yields-free : (p : Setup) (to : ℕ) → at p to ≡ None → Yields (at p to)
 Yields-free p to e = subst (λ c. Yields c) (sym e) Yields-none
 
+-- the same where it catches
 Yields-catch : (p : Setup) (to : ℕ) (taken : HandKind) → CanTake p to taken → Yields (at p to)
 Yields-catch p to taken t = subst (λ c. Yields c) (sym t.1) (Yields-taken t.0 taken t.2)
 
+-- the facts of a step, put together
 step_of : (p : Setup) (kind : Kind) (from to : ℕ) (grows : Bool) (hands : Hands) (q : Setup)
     → Steps p kind from to (arrives_as kind grows) hands q → Yields (at p to) → Keeps kind (arrives_as kind grows)
     → IsStep p kind from to grows
 step_of p kind from to grows hands q s yields keeps = record {
   own = s.own;
-  on_board = leads_on_board kind from to s.leads;
+  leads = s.leads;
   yields = yields;
   keeps = keeps;
 }
@@ -179,32 +184,7 @@ IsStep-from p kind from to false true q g =
 IsStep-from p kind from to true true q g =
     step_of p kind from to true _ q g.3 (Yields-catch p to g.1 g.2) (Keeps-hen kind to g.0)
 
--- what stands on a square stands on the board
-on_board : (xs : List Cell) (i : ℕ) (piece : Piece) → get_or xs i None ≡ Some piece → i < length xs
-on_board xs i piece e =
-    ⊎_elim (λ (h : i < length xs). h) (λ (h : length xs ≤ i). let past = get_or_past xs i None h in cc) (cases_lt i (length xs))
-
-abbrev one_if : Bool → ℕ
-one_if b = cond b 1 0
-
--- a count after one write
-count_by-put : (f : Cell → Bool) (xs : List Cell) (i : ℕ) (c : Cell) → i < length xs
-    → count_by f (set xs i c) + one_if (f (get_or xs i None)) ≡ count_by f xs + one_if (f c)
-count_by-put f xs i c h = sum_by-set (λ x. one_if (f x)) xs i c None h
-
--- a count after a step
-count_by-step : (f : Cell → Bool) (xs : List Cell) (from to : ℕ) (c : Cell)
-    → f None ≡ false → from < length xs → to < length xs → to ≢ from
-    → count_by f (set (set xs from None) to c) + one_if (f (get_or xs from None)) + one_if (f (get_or xs to None))
-    ≡ count_by f xs + one_if (f c)
-count_by-step f xs from to c none h k apart =
-    let first = count_by-put f xs from None h in
-    let longer : to < length (set xs from None) = rw length-set k in
-    let second = count_by-put f (set xs from None) to c longer in
-    let left = ap (λ x. one_if (f x)) (get_or-set_other xs from to None None apart) in
-    let nothing = ap one_if none in
-    omega (arith, first, second, left, nothing)
-
+-- an empty square holds no lion
 some_is : None ≢ Some (piece_of Enemy Lion)
 some_is e = cc
 
@@ -217,6 +197,7 @@ free-put xs i kind k free h e =
     ∙ get_or-set_same xs i (Some (piece_of Mover kind)) None h))
     (λ (other : k ≡ i → ⊥). free (sym (get_or-set_other xs i k (Some (piece_of Mover kind)) None other) ∙ e)) (cases_eq k i)
 
+-- nor does a square that is left
 free-lifted : (xs : List Cell) (i k : ℕ) → get_or xs k None ≢ Some (piece_of Enemy Lion) → i < length xs
     → get_or (set xs i None) k None ≢ Some (piece_of Enemy Lion)
 free-lifted xs i k free h e =
@@ -226,8 +207,8 @@ free-lifted xs i k free h e =
     (λ (other : k ≡ i → ⊥). free (sym (get_or-set_other xs i k None None other) ∙ e)) (cases_eq k i)
 
 module _ (p : Setup) (kind : Kind) (from to : ℕ) (grows : Bool) (twelve : length p.board ≡ 12) (s : IsStep p kind from to grows) where
-  apart : to ≢ from
-  apart same = s.yields.others kind (subst (λ k. at p k ≡ Some (piece_of Mover kind)) (sym same) s.own)
+  on_board : to < 12
+  on_board = leads-to_board kind from to s.leads
 
   length-stepped : length (stepped p kind from to grows).board ≡ 12
   unfolding stepped
@@ -238,8 +219,12 @@ module _ (p : Setup) (kind : Kind) (from to : ℕ) (grows : Bool) (twelve : leng
       ≡ count_by f p.board + one_if (f (Some (piece_of Mover (arrives_as kind grows))))
   unfolding stepped
   count_by-stepped f none =
-      rw s.own at (count_by-step f p.board from to (Some (piece_of Mover (arrives_as kind grows))) none
-      (on_board p.board from (piece_of Mover kind) s.own) (omega (arith, s.on_board)) apart)
+      let put = count-moved f p.board from to (Some (piece_of Mover (arrives_as kind grows)))
+      (within-from_piece p from (piece_of Mover kind) s.own) (omega (arith, on_board)) (leads-apart kind from to s.leads)
+      in
+      let own = ap (λ c. one_if (f c)) s.own in
+      let nothing = ap one_if none in
+      omega (arith, put, own, nothing)
 
   total-stepped : (k : HandKind) → total k (stepped p kind from to grows) ≡ total k p
   unfolding total stepped
@@ -259,7 +244,7 @@ module _ (p : Setup) (kind : Kind) (from to : ℕ) (grows : Bool) (twelve : leng
   unfolding stepped
   free-stepped free k low e =
       free-put (set p.board from None) to (arrives_as kind grows) k
-      (free-lifted p.board from k (free k low) (on_board p.board from (piece_of Mover kind) s.own)) (rw length-set (omega (arith, s.on_board))) e
+      (free-lifted p.board from k (free k low) (within-from_piece p from (piece_of Mover kind) s.own)) (rw length-set (omega (arith, on_board))) e
 
   -- a step keeps a position legal
   legal-stepped : IsLegal p → IsFreeOfTry p → IsLegal (turned (stepped p kind from to grows))
@@ -270,10 +255,11 @@ module _ (p : Setup) (kind : Kind) (from to : ℕ) (grows : Bool) (twelve : leng
   same-stepped : (k : HandKind) → total k (turned (stepped p kind from to grows)) ≡ total k p
   same-stepped k = total-turned k (stepped p kind from to grows) length-stepped ∙ total-stepped k
 
-put_lion : (put k : HandKind) → is_lion (kind_on_board put) ≡ false
-put_lion hand.Chick k = refl
-put_lion hand.Elephant k = refl
-put_lion hand.Giraffe k = refl
+-- no lion is dropped
+put_lion : (put : HandKind) → is_lion (kind_on_board put) ≡ false
+put_lion hand.Chick = refl
+put_lion hand.Elephant = refl
+put_lion hand.Giraffe = refl
 
 module _ (p : Setup) (put : HandKind) (to : ℕ) (twelve : length p.board ≡ 12) (some : 0 < held p.hands.mover put) (on : to < 12) (free_to : at p to ≡ None) where
   length-dropped : length (dropped p put to).board ≡ 12
@@ -284,7 +270,7 @@ module _ (p : Setup) (put : HandKind) (to : ℕ) (twelve : length p.board ≡ 12
       → count_by f (dropped p put to).board ≡ count_by f p.board + one_if (f (Some (piece_of Mover (kind_on_board put))))
   unfolding dropped
   count_by-dropped f none =
-      let counts = count_by-put f p.board to (Some (piece_of Mover (kind_on_board put))) (omega arith) in
+      let counts = count-set f p.board to (Some (piece_of Mover (kind_on_board put))) (omega arith) in
       let nothing = ap (λ c. one_if (f c)) free_to ∙ ap one_if none in
       omega (arith, counts, nothing)
 
@@ -297,7 +283,7 @@ module _ (p : Setup) (put : HandKind) (to : ℕ) (twelve : length p.board ≡ 12
   lions-dropped : (side : Side) → count_by (holds_lion side) (dropped p put to).board ≡ count_by (holds_lion side) p.board
   lions-dropped side =
       let counts = count_by-dropped (holds_lion side) refl in
-      let nothing = ap one_if (and_right (is_side side Mover) (is_lion (kind_on_board put)) (put_lion put put)) in
+      let nothing = ap one_if (and_right (is_side side Mover) (is_lion (kind_on_board put)) (put_lion put)) in
       omega (arith, counts, nothing)
 
   free-dropped : IsFreeOfTry p → IsFreeOfTry (dropped p put to)
@@ -313,6 +299,7 @@ module _ (p : Setup) (put : HandKind) (to : ℕ) (twelve : length p.board ≡ 12
   same-dropped : (k : HandKind) → total k (turned (dropped p put to)) ≡ total k p
   same-dropped k = total-turned k (dropped p put to) length-dropped ∙ total-dropped k
 
+-- where the enemy has not tried, no enemy lion is on row 1
 no_try : (p : Setup) → ¬ HasTried p → IsFreeOfTry p
 no_try p not k low e = not (k, low, e)
 

@@ -2,8 +2,8 @@
 #![tactic(auto)]
 
 mod applied;
-pub mod laws;
 mod judge;
+pub mod laws;
 pub mod listing;
 mod moves;
 mod outlook;
