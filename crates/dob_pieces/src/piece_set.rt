@@ -11,9 +11,9 @@ pub struct PieceSet {
     pub chicks: u8,
     pub elephants: u8,
     pub giraffes: u8,
-    ghost few_chicks: { chicks ≤ 2 },
-    ghost few_elephants: { elephants ≤ 2 },
-    ghost few_giraffes: { giraffes ≤ 2 },
+    pub ghost few_chicks: { chicks ≤ 2 },
+    pub ghost few_elephants: { elephants ≤ 2 },
+    pub ghost few_giraffes: { giraffes ≤ 2 },
 }
 
 impl PieceSet {
