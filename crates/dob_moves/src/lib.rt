@@ -2,18 +2,17 @@
 #![tactic(auto)]
 
 mod applied;
-mod choice;
 mod judge;
 pub mod laws;
-mod listing;
+pub mod listing;
+mod moves;
 mod outlook;
 mod search;
 mod steps;
 
 pub use applied::apply;
-pub use choice::Move;
 pub use judge::{first_catch, status};
-pub use listing::moves;
+pub use moves::Move;
 pub use outlook::Status;
 
 #[cfg(test)]

@@ -1,5 +1,5 @@
 // Positions with what the sweeps need of them: their statuses and the numbers of their successors.
-ghost use Rattle.std.specs.Prelude.{◌≡◌, ◌<◌, ℕ, IfOk, Contains};
+ghost use Rattle.std.specs.Prelude.{◌≡◌, ◌<◌, ℕ, IfOk};
 ghost use Rattle.dob_pieces.specs.declared.setup.Setup.{Setup};
 ghost use Rattle.dob_moves.specs.declared.outlook.Status.{Status};
 ghost use Rattle.dob_moves.specs.Moves.{Goes, CanGo};
