@@ -141,6 +141,3 @@ fn with_one_less(hand: Hand, kind: HandKind) -> Hand
         },
     }
 }
-
-#[cfg(test)]
-mod tests;

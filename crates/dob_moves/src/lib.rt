@@ -2,17 +2,18 @@
 #![tactic(auto)]
 
 mod applied;
+mod choice;
 mod judge;
 pub mod laws;
-pub mod listing;
-mod moves;
+mod listing;
 mod outlook;
 mod search;
 mod steps;
 
 pub use applied::apply;
+pub use choice::Move;
 pub use judge::{first_catch, status};
-pub use moves::Move;
+pub use listing::moves;
 pub use outlook::Status;
 
 #[cfg(test)]
