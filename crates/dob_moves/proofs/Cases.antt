@@ -50,6 +50,7 @@ grows_is p kind from to true false can = can.1.0
 grows_is p kind from to false true can = can.1.0
 grows_is p kind from to true true can = can.1.0
 
+-- an empty square has no enemy piece
 none_taken : (p : Setup) (to : ℕ) → at p to ≡ None → ¬ ((kind : Kind) × (at p to ≡ Some (piece_of Enemy kind)))
 none_taken p to none t = let e : None ≡ Some (piece_of Enemy t.0) = sym none ∙ t.1 in cc
 
@@ -58,12 +59,14 @@ abbrev Meets : Setup → ℕ → Bool → Type 0
 Meets p to false = at p to ≡ None
 Meets p to true = (kind : Kind) × (at p to ≡ Some (piece_of Enemy kind))
 
+-- and every step that can go meets it
 meets : (p : Setup) (kind : Kind) (from to : ℕ) (catch grows : Bool) → CanGo p (Step kind from to catch grows) → Meets p to catch
 meets p kind from to false false can = can.1.1
 meets p kind from to true false can = (can.1.2.0, can.1.2.1)
 meets p kind from to false true can = can.1.1
 meets p kind from to true true can = (can.1.2.0, can.1.2.1)
 
+-- a square is met in one way
 one_meeting : (p : Setup) (to : ℕ) (a b : Bool) → Meets p to a → Meets p to b → a ≡ b
 one_meeting p to false false h k = refl
 one_meeting p to false true h k = absurd (none_taken p to h k)

@@ -22,22 +22,28 @@ use Rattle.dob_moves.specs.Mirrors.{mirrored_move}
 
 -- ---- squares
 
+-- the image of a square is one
 mirrored_on_board : (k : ℕ) → k < 12 → mirrored_square k < 12
 mirrored_on_board k h = omega arith
 
+-- on row 1 too
 mirrored_low : (k : ℕ) → k < 3 → mirrored_square k < 3
 mirrored_low k h = omega arith
 
+-- and always on the same row
 row-mirrored : (k : ℕ) → row (mirrored_square k) ≡ row k
 row-mirrored k = omega arith
 
+-- the image of the image is the square, for all twelve
 twice_all : all_below (λ k. mirrored_square (mirrored_square k) == k) 12 ≡ true
 twice_all = refl
 
+-- so for each
 mirrored_twice : (k : ℕ) → k < 12 → mirrored_square (mirrored_square k) ≡ k
 mirrored_twice k h =
     eqb-true (mirrored_square (mirrored_square k)) k (all_below-at (λ k. mirrored_square (mirrored_square k) == k) 12 k twice_all h)
 
+-- other squares have other images
 mirrored_apart : (k i : ℕ) → k < 12 → k ≢ mirrored_square i → mirrored_square k ≢ i
 mirrored_apart k i h apart e = apart (sym (mirrored_twice k h) ∙ ap mirrored_square e)
 
@@ -45,6 +51,7 @@ mirrored_apart k i h apart e = apart (sym (mirrored_twice k h) ∙ ap mirrored_s
 leads_test : Kind → ℕ → Bool
 leads_test kind a = agree_below (λ b. leads kind (mirrored_square a) (mirrored_square b)) (λ b. leads kind a b) 12
 
+-- on all squares
 leads_all : (kind : Kind) → all_below (leads_test kind) 12 ≡ true
 unfolding leads leads_test
 leads_all Lion = refl
@@ -53,12 +60,14 @@ leads_all Elephant = refl
 leads_all Chick = refl
 leads_all Hen = refl
 
+-- so between any two
 leads-mirrored : (kind : Kind) (a b : ℕ) → a < 12 → b < 12 → leads kind (mirrored_square a) (mirrored_square b) ≡ leads kind a b
 unfolding leads_test
 leads-mirrored kind a b h k =
     agree_below_at (λ b. leads kind (mirrored_square a) (mirrored_square b)) (λ b. leads kind a b) 12 b
     (all_below-at (leads_test kind) 12 a (leads_all kind) h) k
 
+-- a chick grows at the image where it grows
 grows_at-mirrored : (kind : Kind) (to : ℕ) → grows_at kind (mirrored_square to) ≡ grows_at kind to
 grows_at-mirrored Lion to = refl
 grows_at-mirrored Giraffe to = refl
@@ -110,11 +119,7 @@ mirrored-turned p = refl
 
 -- ---- moves
 
--- what a piece stands on is on the board
-piece_on_board : (p : Setup) (k : ℕ) (c : Cell) → length p.board ≡ 12 → at p k ≡ c → c ≢ None → k < 12
-piece_on_board p k None twelve e some = absurd (some refl)
-piece_on_board p k (Some piece) twelve e some = let lt = within-from_piece p k piece e in omega arith
-
+-- what a piece of the mover stands on is on the board
 mover_on_board : (p : Setup) (k : ℕ) (kind : Kind) → length p.board ≡ 12 → at p k ≡ Some (piece_of Mover kind) → k < 12
 mover_on_board p k kind twelve e = let lt = within-from_piece p k (piece_of Mover kind) e in omega arith
 
@@ -128,6 +133,7 @@ stepped_image p from to c hands twelve h k =
     (mirrored_put (set p.board from None) to c (length-set p.board from None ∙ twelve) k
     ∙ ap (λ (b : List Cell). set b (mirrored_square to) c) (mirrored_put p.board from None twelve h))
 
+-- the mirror image of what stands after a drop
 dropped_image : (p : Setup) (to : ℕ) (c : Cell) (hands : Hands) → length p.board ≡ 12 → to < 12
     → mirrored (record { board = set p.board to c; hands = hands })
     ≡ record { board = set (mirrored p).board (mirrored_square to) c; hands = hands }
@@ -135,6 +141,7 @@ unfolding mirrored
 dropped_image p to c hands twelve k =
     ap (λ (b : List Cell). record { board = b; hands = hands }) (mirrored_put p.board to c twelve k)
 
+-- a step in the mirror
 Steps-mirrored : (p : Setup) (kind : Kind) (from to : ℕ) (arrives : Kind) (hands : Hands) (q : Setup) → length p.board ≡ 12
     → Steps p kind from to arrives hands q
     → Steps (mirrored p) kind (mirrored_square from) (mirrored_square to) arrives hands (mirrored q)
@@ -149,6 +156,7 @@ Steps-mirrored p kind from to arrives hands q twelve s =
           ∙ ap turned (stepped_image p from to (Some (piece_of Mover arrives)) hands twelve h k);
     }
 
+-- a drop in the mirror
 Drops-mirrored : (p : Setup) (kind : HandKind) (to : ℕ) (q : Setup) → length p.board ≡ 12
     → Drops p kind to q → Drops (mirrored p) kind (mirrored_square to) (mirrored q)
 unfolding mirrored
@@ -162,12 +170,9 @@ Drops-mirrored p kind to q twelve d = record {
       (record p.hands { mover = with_one_less p.hands.mover kind }) twelve d.on_board);
 }
 
+-- a catch in the mirror
 CanTake-mirrored : (p : Setup) (to : ℕ) (taken : HandKind) → to < 12 → CanTake p to taken → CanTake (mirrored p) (mirrored_square to) taken
 CanTake-mirrored p to taken k t = (t.0, at-image p to k ∙ t.1, t.2)
-
-hands-mirrored : (p : Setup) → (mirrored p).hands ≡ p.hands
-unfolding mirrored
-hands-mirrored p = refl
 
 -- a move of the mirror image leads to the mirror image
 pub Goes-mirrored : (p : Setup) (move : Move) (q : Setup) → length p.board ≡ 12
@@ -195,9 +200,11 @@ Goes-mirrored p (Step kind from to true true) q twelve g =
     )
 Goes-mirrored p (Put kind to) q twelve g = Drops-mirrored p kind to q twelve g
 
+-- a move that can go has one that can go for its image
 CanGo-mirrored : (p : Setup) (move : Move) → length p.board ≡ 12 → CanGo p move → CanGo (mirrored p) (mirrored_move move)
 CanGo-mirrored p move twelve can = (mirrored can.0, Goes-mirrored p move can.0 twelve can.1)
 
+-- so has one that catches the lion
 CatchesLion-mirrored : (p : Setup) (move : Move) → length p.board ≡ 12
     → CatchesLion p move → CatchesLion (mirrored p) (mirrored_move move)
 CatchesLion-mirrored p (Step kind from to true grows) twelve c =
@@ -213,6 +220,7 @@ CatchesLion-mirrored p (Put kind to) twelve c = c
 
 -- ---- statuses
 
+-- a catch of the lion, and a try, have images
 CanCatch-mirrored : (p : Setup) → length p.board ≡ 12 → CanCatch p → CanCatch (mirrored p)
 CanCatch-mirrored p twelve c = (mirrored_move c.0, CatchesLion-mirrored p c.0 twelve c.1)
 

@@ -33,13 +33,16 @@ stepped_is p kind from to grows hands q same s =
       hands = h;
     })) same
 
+-- a step to an empty square changes no hand
 hands-none : (p : Setup) (to : ℕ) → at p to ≡ None → p.hands ≡ record p.hands { mover = with_caught p.hands.mover (at p to) }
 hands-none p to e = rw e
 
+-- a catch puts the caught piece into the hand
 hands-caught : (p : Setup) (to : ℕ) (taken : HandKind) → CanTake p to taken
     → hands_after_catch p.hands taken ≡ record p.hands { mover = with_caught p.hands.mover (at p to) }
 hands-caught p to taken t = rw (t.1, t.2)
 
+-- a drop goes to `dropped`
 dropped_is : (p : Setup) (kind : HandKind) (to : ℕ) (q : Setup) → Drops p kind to q → q ≡ turned (dropped p kind to)
 unfolding dropped
 dropped_is p kind to q d = d.outcome
@@ -71,12 +74,14 @@ record IsStep (p : Setup) (kind : Kind) (from to : ℕ) (grows : Bool) : Type 0 
   yields : Yields (at p to)
   keeps : Keeps kind (arrives_as kind grows)
 
+-- an empty square yields nothing
 Yields-none : Yields None
 Yields-none = record {
   no_lion = λ side. refl;
   catch = λ h k. omega arith;
 }
 
+-- no lion is taken
 lion_not_taken : (caught : Kind) (taken : HandKind) → kind_in_hand caught ≡ Some taken → is_lion caught ≡ false
 lion_not_taken Lion taken e = cc
 lion_not_taken Giraffe taken e = refl
@@ -98,6 +103,7 @@ counts_as-taken Hen taken e hand.Elephant =
 counts_as-taken Hen taken e hand.Giraffe =
     let t : hand.Chick ≡ taken = cc in ap (λ x. counts_as hand.Giraffe (kind_on_board x)) t
 
+-- what a hand with one more holds
 held-one_more : (h : Hand) (taken k : HandKind)
     → held (with_one_more h taken) k ≡ held h k + cond (counts_as k (kind_on_board taken)) 1 0
 held-one_more h hand.Chick hand.Chick = refl
@@ -110,6 +116,7 @@ held-one_more h hand.Giraffe hand.Chick = omega arith
 held-one_more h hand.Giraffe hand.Elephant = omega arith
 held-one_more h hand.Giraffe hand.Giraffe = refl
 
+-- what a hand with one less holds
 held-one_less : (h : Hand) (put k : HandKind) → 0 < held h put
     → held (with_one_less h put) k + cond (counts_as k (kind_on_board put)) 1 0 ≡ held h k
 held-one_less h hand.Chick hand.Chick some = omega arith
@@ -122,20 +129,24 @@ held-one_less h hand.Giraffe hand.Chick some = omega arith
 held-one_less h hand.Giraffe hand.Elephant some = omega arith
 held-one_less h hand.Giraffe hand.Giraffe some = omega arith
 
+-- a piece with a kind in hand yields it
 Yields-taken : (caught : Kind) (taken : HandKind) → kind_in_hand caught ≡ Some taken → Yields (Some (piece_of Enemy caught))
 Yields-taken caught taken e = record {
   no_lion = λ side. and_right (is_side side Enemy) (is_lion caught) (lion_not_taken caught taken e);
   catch = λ h k. rw (e, counts_as-taken caught taken e k) (held-one_more h taken k);
 }
 
+-- a kind counts as itself
 Keeps-same : (kind : Kind) → Keeps kind kind
 Keeps-same kind = record { lion = refl; counts = λ k. refl }
 
+-- a hen counts as a chick
 hen_counts : (k : HandKind) → counts_as k Hen ≡ counts_as k Chick
 hen_counts hand.Chick = refl
 hen_counts hand.Elephant = refl
 hen_counts hand.Giraffe = refl
 
+-- and only a chick grows into one
 Keeps-hen : (kind : Kind) (to : ℕ) → grows_at kind to ≡ true → Keeps kind Hen
 Keeps-hen Lion to e = absurd (false≢true e)
 Keeps-hen Giraffe to e = absurd (false≢true e)
@@ -143,12 +154,15 @@ Keeps-hen Elephant to e = absurd (false≢true e)
 Keeps-hen Chick to e = record { lion = refl; counts = hen_counts }
 Keeps-hen Hen to e = absurd (false≢true e)
 
+-- so the last square of a step yields what stands there
 Yields-free : (p : Setup) (to : ℕ) → at p to ≡ None → Yields (at p to)
 Yields-free p to e = subst (λ c. Yields c) (sym e) Yields-none
 
+-- the same where it catches
 Yields-catch : (p : Setup) (to : ℕ) (taken : HandKind) → CanTake p to taken → Yields (at p to)
 Yields-catch p to taken t = subst (λ c. Yields c) (sym t.1) (Yields-taken t.0 taken t.2)
 
+-- the facts of a step, put together
 step_of : (p : Setup) (kind : Kind) (from to : ℕ) (grows : Bool) (hands : Hands) (q : Setup)
     → Steps p kind from to (arrives_as kind grows) hands q → Yields (at p to) → Keeps kind (arrives_as kind grows)
     → IsStep p kind from to grows
@@ -170,6 +184,7 @@ IsStep-from p kind from to false true q g =
 IsStep-from p kind from to true true q g =
     step_of p kind from to true _ q g.3 (Yields-catch p to g.1 g.2) (Keeps-hen kind to g.0)
 
+-- an empty square holds no lion
 some_is : None ≢ Some (piece_of Enemy Lion)
 some_is e = cc
 
@@ -182,6 +197,7 @@ free-put xs i kind k free h e =
     ∙ get_or-set_same xs i (Some (piece_of Mover kind)) None h))
     (λ (other : k ≡ i → ⊥). free (sym (get_or-set_other xs i k (Some (piece_of Mover kind)) None other) ∙ e)) (cases_eq k i)
 
+-- nor does a square that is left
 free-lifted : (xs : List Cell) (i k : ℕ) → get_or xs k None ≢ Some (piece_of Enemy Lion) → i < length xs
     → get_or (set xs i None) k None ≢ Some (piece_of Enemy Lion)
 free-lifted xs i k free h e =
@@ -239,6 +255,7 @@ module _ (p : Setup) (kind : Kind) (from to : ℕ) (grows : Bool) (twelve : leng
   same-stepped : (k : HandKind) → total k (turned (stepped p kind from to grows)) ≡ total k p
   same-stepped k = total-turned k (stepped p kind from to grows) length-stepped ∙ total-stepped k
 
+-- no lion is dropped
 put_lion : (put : HandKind) → is_lion (kind_on_board put) ≡ false
 put_lion hand.Chick = refl
 put_lion hand.Elephant = refl
@@ -282,6 +299,7 @@ module _ (p : Setup) (put : HandKind) (to : ℕ) (twelve : length p.board ≡ 12
   same-dropped : (k : HandKind) → total k (turned (dropped p put to)) ≡ total k p
   same-dropped k = total-turned k (dropped p put to) length-dropped ∙ total-dropped k
 
+-- where the enemy has not tried, no enemy lion is on row 1
 no_try : (p : Setup) → ¬ HasTried p → IsFreeOfTry p
 no_try p not k low e = not (k, low, e)
 

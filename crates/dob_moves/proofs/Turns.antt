@@ -28,18 +28,22 @@ sides_apart kind other e = let s : Enemy ≡ Mover = ap side_of e in cc
 abbrev pub IsFreeOfTry : Setup → Type 0
 IsFreeOfTry p = (k : ℕ) → k < 3 → at p k ≢ Some (piece_of Enemy Lion)
 
+-- a piece that is the mover's lion after turning was the enemy's
 turned_piece : (side : Side) (kind : Kind) → Some (piece_of (other_side side) kind) ≡ Some (piece_of Mover Lion)
     → Some (piece_of side kind) ≡ Some (piece_of Enemy Lion)
 turned_piece Mover kind e = absurd (sides_apart kind Lion e)
 turned_piece Enemy kind e = ap (λ k. Some (piece_of Enemy k)) (ap kind_of e)
 
+-- the same of a cell
 turned_lion : (c : Cell) → turned_cell c ≡ Some (piece_of Mover Lion) → c ≡ Some (piece_of Enemy Lion)
 turned_lion None e = cc
 turned_lion (Some piece) e = turned_piece piece.side piece.kind e
 
+-- nothing stands beyond the turned board
 at-turned_past : (p : Setup) (k : ℕ) → 12 ≤ k → at (turned p) k ≡ None
 at-turned_past p k h = get_or_past (turned p).board k None (omega (arith, length-turned p))
 
+-- with no enemy lion on row 1, the turned mover's lion isn't on row 4
 HasLionAtHome-turned : (p : Setup) → IsFreeOfTry p → HasLionAtHome (turned p)
 HasLionAtHome-turned p free k far is =
     ⊎_elim (λ (h : k < 12). free (11 - k) (omega arith) (turned_lion _ (sym (at-turned p k h) ∙ is)))

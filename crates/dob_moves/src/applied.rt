@@ -141,3 +141,6 @@ fn with_one_less(hand: Hand, kind: HandKind) -> Hand
         },
     }
 }
+
+#[cfg(test)]
+mod tests;

@@ -1,7 +1,6 @@
 // What moves lead to, in positions set up by hand.
 use super::apply;
-use crate::listing::moves;
-use crate::choice::Move;
+use crate::{Move, moves};
 use dob_pieces::{Hand, HandKind, Hands, Kind, Piece, Position, Side, Square};
 use std::alloc::Global;
 use std::process::Abort;
