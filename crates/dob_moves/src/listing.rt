@@ -4,8 +4,8 @@ ghost use Rattle.dob_moves.specs.Statuses.{AreMoves};
 ghost use Rattle.dob_moves.specs.Walks.{steps_by, steps_from, all_steps, put_on, drops_of, all_drops};
 ghost use Rattle.dob_moves.specs.declared.search.Aim.TheVariants.{Elsewhere};
 
-use crate::judge::status;
 use crate::choice::Move;
+use crate::judge::status;
 use crate::outlook::Status;
 use crate::search::{Aim, own_kind, put_on, step_in};
 use crate::steps::directions;
