@@ -74,12 +74,13 @@ pub record TellsFault (text : List ℕ) (status : ℕ) (out out' err err' : Byte
 abbrev pub AnswersValue : List ℕ → ℕ → Bytes → Bytes → Bytes → Bytes → Type 0
 AnswersValue text status out out' err err' = TellsValue text status out out' err err' ⊎ TellsFault text status out out' err err'
 
--- The fault, or that no memory was left for telling it: its status, and its line on standard error as far as that
--- takes it.
+-- the fault's status, and its line on standard error as far as that takes it
+abbrev pub TellsFaultAs : Fault → ℕ → Bytes → Bytes → Type 0
+TellsFaultAs fault status err err' = (status ≡ status_of fault) × AppendsPart err err' (fault_line fault)
+
+-- the fault, or that no memory was left for telling it
 abbrev pub TellsOneFault : Fault → ℕ → Bytes → Bytes → Type 0
-TellsOneFault fault status err err' =
-    ((status ≡ status_of fault) × AppendsPart err err' (fault_line fault))
-    ⊎ ((status ≡ status_of Memory) × AppendsPart err err' (fault_line Memory))
+TellsOneFault fault status err err' = TellsFaultAs fault status err err' ⊎ TellsFaultAs Memory status err err'
 
 -- The line on standard output and status 0; or a beginning of it, and the fault of a failing output.
 abbrev pub Tells : List ℕ → ℕ → Bytes → Bytes → Bytes → Bytes → Type 0

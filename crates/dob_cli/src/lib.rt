@@ -7,4 +7,4 @@ mod output;
 mod program;
 
 pub use fault::Fault;
-pub use program::run_words;
+pub use program::{run_words, tell_memory};

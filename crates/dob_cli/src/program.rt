@@ -2,7 +2,8 @@
 ghost use Rattle.std.specs.Prelude.{◌≡◌, ◌⊎◌, ℕ, List, IfOk, IfErr, map, string_bytes};
 ghost use Rattle.std.specs.Io.KnownBytes.{Keeps};
 ghost use Rattle.dob_cli.specs.Words.{meaning_of, value as asks_value, help as asks_help, usage as asks_nothing};
-ghost use Rattle.dob_cli.specs.Program.{AnswersValue, IsValueLineOf, IsFaultOf, value_line, Tells, TellsOneFault};
+ghost use Rattle.dob_cli.specs.Program.{AnswersValue, IsValueLineOf, IsFaultOf, value_line, Tells, TellsFaultAs, TellsOneFault};
+ghost use Rattle.dob_cli.specs.declared.fault.Fault.TheVariants.{Memory};
 
 use crate::command::{Order, Reading, read_words};
 use crate::fault::Fault;
@@ -100,9 +101,15 @@ fn tell_fault<E: Write>(alloc: Global, fault: Fault, err: &mut E) -> u8
             let _ = write_bytes(err, line.as_bytes());
             fault.status()
         }
-        Err(AllocError) => {
-            let _ = write_bytes(err, b"dobutsu: E23 Memory\n");
-            Fault::Memory.status()
-        }
+        Err(AllocError) => tell_memory(err),
     }
+}
+
+/// Tells on `err` that no memory was left, as where the words themselves can't be kept. It takes no memory itself. The
+/// answer is the exit status.
+pub fn tell_memory<E: Write>(err: &mut E) -> u8
+    ensures { TellsFaultAs Memory result (E.contents err.old) (E.contents err.new) }
+{
+    let _ = write_bytes(err, b"dobutsu: E23 Memory\n");
+    Fault::Memory.status()
 }

@@ -2,16 +2,30 @@
 #![tactic(auto)]
 
 use std::alloc::AllocError;
-use std::io::{self};
+use std::io;
 use std::process::ExitCode;
 
-fn main(rt: HostRuntime) -> io::Result<ExitCode> {
-    let alloc = rt.alloc();
-    let given: Vec<String> = std::env::args(&rt)?.skip(1).collect(alloc)?;
-    let mut words: Vec<&str> = Vec::with_capacity(alloc, given.len())?;
-    for word in &given {
-        words.push(word.as_str())?;
+fn main(rt: HostRuntime) -> ExitCode {
+    let status = match given_words(&rt) {
+        Ok(given) => run(&rt, &given),
+        Err(_) => dob_cli::tell_memory(&mut rt.stderr()),
+    };
+    ExitCode::from(status)
+}
+
+// The words after the program's name.
+fn given_words(rt: &HostRuntime) -> io::Result<Vec<String>> {
+    Ok(std::env::args(rt)?.skip(1).collect(rt.alloc())?)
+}
+
+// Runs the program by its words. The answer is the exit status.
+fn run(rt: &HostRuntime, given: &[String]) -> u8 {
+    match given
+        .iter()
+        .map(|word| word.as_str())
+        .collect::<Vec<&str>>(rt.alloc())
+    {
+        Ok(words) => dob_cli::run_words(rt.alloc(), &words, &mut rt.stdout(), &mut rt.stderr()),
+        Err(AllocError) => dob_cli::tell_memory(&mut rt.stderr()),
     }
-    let status = dob_cli::run_words(alloc, words.as_slice(), &mut rt.stdout(), &mut rt.stderr());
-    Ok(ExitCode::from(status))
 }
