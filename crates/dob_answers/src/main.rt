@@ -1,10 +1,10 @@
-// Answers questions about positions, one a line, so that this implementation can be compared with another.
-//
-// `moves TEXT` gives the status and the moves, `after I TEXT` the position after the I-th move, `catch TEXT` the
-// first step that catches the enemy lion, `value TEXT` the value. A text that is no position gets its refusal, any other line
-// `unknown question`.
+// Answers questions about positions and piece sets, one a line, so that this implementation can be compared with
+// another: `moves TEXT`, `after I TEXT`, `catch TEXT`, `value TEXT`, `rank TEXT`, `class TEXT`, `unrank CEG N`,
+// `classat CEG K`, `size CEG`. A text that is no position and a set that is none get their refusals, and any other
+// line `unknown question`.
 #![tactic(auto)]
 
+mod answer;
 mod question;
 
 use anyhow::Result;
@@ -13,8 +13,9 @@ use std::io::{self, BufRead, BufReader, BufWriter, Write};
 fn main(rt: HostRuntime) -> Result<()> {
     let mut output = BufWriter::new(rt.alloc(), io::writer(&rt))?;
     let input = BufReader::new(rt.alloc(), rt.reader())?;
+    let mut opened = None;
     for line in input.lines(rt.alloc()) {
-        let reply = question::reply(rt.alloc(), line?.as_str())?;
+        let reply = answer::reply(rt.alloc(), &mut opened, line?.as_str())?;
         writeln!(output, "{reply}")?;
     }
     output.flush()?;

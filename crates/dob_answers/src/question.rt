@@ -1,102 +1,67 @@
-// Questions and their answers.
-use dob_moves::{Status, apply, first_catch, moves, status};
-use dob_pieces::{Memory, Position};
-use dob_text::{read_position, write_move, write_position};
-use dob_value::{Fault, Value, sweep_value};
-use std::alloc::Global;
+// The questions that a line can ask.
 
-/// What a line asks about its position.
+/// What a line asks.
 #[derive(Clone, Copy)]
-enum Question {
+pub(crate) enum Question<'a> {
+    /// Something about the position of that text.
+    Position(Matter, &'a str),
+    /// The position of that rank in the piece set.
+    Unrank(&'a str, u64),
+    /// The representative of that class of the piece set.
+    ClassAt(&'a str, u64),
+    /// The numbers of positions and classes of the piece set.
+    Size(&'a str),
+}
+
+/// What is asked about a position.
+#[derive(Clone, Copy)]
+pub(crate) enum Matter {
     /// Which status it has, and which moves.
     Moves,
-    /// What the position is after the move of that number, counted from 0.
+    /// What it is after the move of that number, counted from 0.
     After(usize),
     /// Which step catches the enemy lion first.
     Catch,
     /// Which value it has.
     Value,
+    /// Which rank it has in its piece set.
+    Rank,
+    /// Which class it is in.
+    Class,
 }
 
-/// The answer to a line, without a line feed. Only memory can run out.
-pub(crate) fn reply(alloc: Global, line: &str) -> Result<String, Memory> {
-    let Some((question, text)) = question_of(line) else {
-        return Ok("unknown question".to_string(alloc)?);
-    };
-    match read_position(text) {
-        Err(fault) => Ok(format!(in alloc; "dobutsu: {fault}")?),
-        Ok(position) => answer(alloc, question, &position),
-    }
-}
-
-/// The question of a line and the text of its position; none where the line is no question.
-fn question_of(line: &str) -> Option<(Question, &str)> {
-    let (word, rest) = line.split_once(' ')?;
-    match word {
-        "moves" => Some((Question::Moves, rest)),
-        "catch" => Some((Question::Catch, rest)),
-        "value" => Some((Question::Value, rest)),
-        "after" => {
-            let (number, text) = rest.split_once(' ')?;
-            let number = number.parse::<usize>().ok()?;
-            Some((Question::After(number), text))
+impl<'a> Question<'a> {
+    /// The question of a line; none where the line is no question.
+    pub(crate) fn read(line: &'a str) -> Option<Question<'a>> {
+        let (word, rest) = line.split_once(' ')?;
+        match word {
+            "moves" => Some(Question::Position(Matter::Moves, rest)),
+            "catch" => Some(Question::Position(Matter::Catch, rest)),
+            "value" => Some(Question::Position(Matter::Value, rest)),
+            "rank" => Some(Question::Position(Matter::Rank, rest)),
+            "class" => Some(Question::Position(Matter::Class, rest)),
+            "after" => {
+                let (number, text) = rest.split_once(' ')?;
+                let number = number.parse::<usize>().ok()?;
+                Some(Question::Position(Matter::After(number), text))
+            }
+            "unrank" => {
+                let (set, number) = set_and_number(rest)?;
+                Some(Question::Unrank(set, number))
+            }
+            "classat" => {
+                let (set, number) = set_and_number(rest)?;
+                Some(Question::ClassAt(set, number))
+            }
+            "size" => Some(Question::Size(rest)),
+            _ => None,
         }
-        _ => None,
     }
 }
 
-fn answer(alloc: Global, question: Question, position: &Position) -> Result<String, Memory> {
-    match question {
-        Question::Moves => tell_moves(alloc, position),
-        Question::After(number) => tell_after(alloc, number, position),
-        Question::Catch => tell_catch(alloc, position),
-        Question::Value => tell_value(alloc, position),
-    }
-}
-
-/// `status S moves M1 M2 ..`, in move order.
-fn tell_moves(alloc: Global, position: &Position) -> Result<String, Memory> {
-    let name = match status(position) {
-        Status::Caught => "caught",
-        Status::Tried => "tried",
-        Status::Stuck => "stuck",
-        Status::Open => "open",
-    };
-    let mut text = format!(in alloc; "status {name} moves")?;
-    let choices = moves(alloc, position)?;
-    for choice in &choices {
-        let word = write_move(alloc, *choice, false)?;
-        text.push(' ')?;
-        text.push_str(word.as_str())?;
-    }
-    Ok(text)
-}
-
-/// The text of the position after the move of that number; `none` where there is no such move.
-fn tell_after(alloc: Global, number: usize, position: &Position) -> Result<String, Memory> {
-    let choices = moves(alloc, position)?;
-    if number >= choices.len() {
-        return Ok("none".to_string(alloc)?);
-    }
-    let after = apply(position, choices[number]);
-    write_position(alloc, &after)
-}
-
-/// The first step that catches the enemy lion, or `none`.
-fn tell_catch(alloc: Global, position: &Position) -> Result<String, Memory> {
-    match first_catch(position) {
-        None => Ok("none".to_string(alloc)?),
-        Some(choice) => write_move(alloc, choice, false),
-    }
-}
-
-/// The value, `win D`, `loss D` or `draw`, or the line of the fault of finding it.
-fn tell_value(alloc: Global, position: &Position) -> Result<String, Memory> {
-    match sweep_value(alloc, position) {
-        Ok(Value::Win(plies)) => Ok(format!(in alloc; "win {plies}")?),
-        Ok(Value::Loss(plies)) => Ok(format!(in alloc; "loss {plies}")?),
-        Ok(Value::Draw) => Ok("draw".to_string(alloc)?),
-        Err(Fault::Memory) => Err(Memory),
-        Err(fault) => Ok(format!(in alloc; "dobutsu: {fault}")?),
-    }
+/// A piece set's text, a space and a number.
+fn set_and_number(text: &str) -> Option<(&str, u64)> {
+    let (set, number) = text.split_once(' ')?;
+    let number = number.parse::<u64>().ok()?;
+    Some((set, number))
 }

@@ -1,0 +1,137 @@
+-- What the lists and numbers of the code amount to: the rank of a position, and the position of a rank.
+use Rattle.std.proofs.Common.{◌≡◌, ℕ, zero, suc, ◌+◌, ◌-◌, ◌*◌, ◌<◌, ◌≤◌, List, [], ◌∷◌, replicate, refl, sym, ap, ◌∙◌, subst, inl, inr, arith}
+use Rattle.std.specs.List.{All}
+use Rattle.std.proofs.lemmas.Bool.{cases_eq, cases_lt}
+use Rattle.dob_pieces.specs.declared.piece_set.PieceSet.{PieceSet}
+use Rattle.dob_pieces.specs.declared.setup.Setup.{Setup}
+use Rattle.dob_pieces.specs.Setups.{IsLegal, mirrored}
+use Rattle.dob_pieces.proofs.Boards.{total-mirrored, IsLegal-mirrored}
+use Rattle.dob_pieces.proofs.Symmetries.{mirrored-mirrored}
+use Rattle.dob_rank.specs.Order.{IsPositionOf, Before, RepresentativeOf}
+use Rattle.dob_rank.specs.Numbers.{count, with_first, settle, product, number_of, digits_of, HasDigits, sum_below, block_bases, bases_by, on_board, digits, block_of, block_size, rank_of, setup_by, setup_in}
+use Rattle.dob_rank.proofs.MixedRadix.{number_of-below, HasDigits-digits_of}
+use Rattle.dob_rank.proofs.Settled.{AreLayers, settle_kept, settle_taken, settle_left}
+use Rattle.dob_rank.proofs.Digits.{HasParts-from_position, HasDigits-on_board, HasDigits-digits}
+use Rattle.dob_rank.proofs.Numbering.{HasBlock, HasBlock-setup_in, block_size-product, rank_of-place, place_of, rank_of-block, rank_of-rises}
+use Rattle.dob_rank.proofs.Blocks.{AreBases}
+use Rattle.dob_rank.proofs.Sets.{set_of, IsPositionOf-set_of}
+
+pub HasDigits-same : (bs cs ds es : List ℕ) → bs ≡ cs → ds ≡ es → HasDigits cs es → HasDigits bs ds
+HasDigits-same bs cs ds es p q h = subst (λ (xs : List ℕ). HasDigits xs ds) (sym p) (subst (HasDigits cs) (sym q) h)
+
+-- ---- the rank of a position
+
+pub HasDigits-board : (set : PieceSet) (s : Setup) (nums : List ℕ) → IsPositionOf set s → nums ≡ on_board s → HasDigits (block_bases set) nums
+HasDigits-board set s nums p e = HasDigits-same (block_bases set) (block_bases set) nums (on_board s) refl e (HasDigits-on_board set s (HasParts-from_position set s p))
+
+pub HasDigits-place : (set : PieceSet) (s : Setup) (nums bs ds : List ℕ) → IsPositionOf set s → nums ≡ on_board s → bs ≡ bases_by set nums → ds ≡ digits s → HasDigits bs ds
+HasDigits-place set s nums bs ds p e f g =
+    HasDigits-same bs (bases_by set (on_board s)) ds (digits s) (f ∙ ap (bases_by set) e) g (HasDigits-digits set s (HasParts-from_position set s p))
+
+pub block_within : (set : PieceSet) (bb nums : List ℕ) (block : ℕ) → bb ≡ block_bases set → HasDigits (block_bases set) nums → block ≡ number_of bb nums → block ≤ product (block_bases set)
+block_within set bb nums block e h f = at_most block (number_of (block_bases set) nums) (product (block_bases set)) (f ∙ ap (λ (xs : List ℕ). number_of xs nums) e) (number_of-below (block_bases set) nums h)
+  where
+    at_most : (a b c : ℕ) → a ≡ b → b < c → a ≤ c
+    at_most a b c h k = omega arith
+
+pub rank_fits : (start place : ℕ) (bs ds : List ℕ) → start ≤ 27 * 68719476736 → AreBases bs → HasDigits bs ds → place ≡ number_of bs ds → start + place < 18446744073709551616
+rank_fits start place bs ds h a d e = sum_small start place (number_of bs ds) (product bs) h e (number_of-below bs ds d) a.small_product
+  where
+    sum_small : (start place n p : ℕ) → start ≤ 27 * 68719476736 → place ≡ n → n < p → p ≤ 68719476736 → start + place < 18446744073709551616
+    sum_small start place n p h e k l = omega arith
+
+pub rank_found : (set : PieceSet) (s : Setup) (bb nums bs ds : List ℕ) (block place start : ℕ) → bb ≡ block_bases set → nums ≡ on_board s → bs ≡ bases_by set nums → ds ≡ digits s
+    → block ≡ number_of bb nums → place ≡ number_of bs ds → start ≡ sum_below (block_size set) block → start + place ≡ rank_of set s
+rank_found set s bb nums bs ds block place start a b c d e f g =
+    let block_is : block ≡ block_of set s = e ∙ ap (λ (xs : List ℕ). number_of xs nums) a ∙ ap (number_of (block_bases set)) b in
+    let place_is : place ≡ place_of set s = f ∙ ap (λ (xs : List ℕ). number_of xs ds) (c ∙ ap (bases_by set) b) ∙ ap (number_of (bases_by set (on_board s))) d in
+    ap (λ (x : ℕ). x + place) (g ∙ ap (sum_below (block_size set)) block_is)
+    ∙ ap (λ (x : ℕ). sum_below (block_size set) (block_of set s) + x) place_is
+    ∙ sym (rank_of-place set s)
+
+-- ---- the position of a rank
+
+pub HasDigits-found : (set : PieceSet) (block place : ℕ) (nums bs ds : List ℕ) → place < block_size set block → nums ≡ digits_of (block_bases set) block → bs ≡ bases_by set nums
+    → ds ≡ digits_of bs place → HasDigits (bases_by set nums) ds
+HasDigits-found set block place nums bs ds h e f g =
+    let low : place < product (bases_by set nums) = subst (λ (x : ℕ). place < x) (block_size-product set block ∙ ap (λ (xs : List ℕ). product (bases_by set xs)) (sym e)) h in
+    subst (HasDigits (bases_by set nums)) (sym (g ∙ ap (λ (xs : List ℕ). digits_of xs place) f)) (HasDigits-digits_of (bases_by set nums) place low)
+
+-- the position that the code makes of a rank
+pub record IsUnranked (set : PieceSet) (rank : ℕ) (s : Setup) : Type 0 where
+  pub position : IsPositionOf set s
+  pub rank_is : rank_of set s ≡ rank
+
+pub unrank_found : (set : PieceSet) (rank block place : ℕ) (nums bs ds : List ℕ) (s : Setup) → block < product (block_bases set) → place < block_size set block
+    → sum_below (block_size set) block + place ≡ rank → nums ≡ digits_of (block_bases set) block → bs ≡ bases_by set nums → ds ≡ digits_of bs place → s ≡ setup_by set nums ds
+    → IsUnranked set rank s
+unrank_found set rank block place nums bs ds s a b c d e f g =
+    let same : s ≡ setup_in set block place
+    = g ∙ ap (setup_by set nums) (f ∙ ap (λ (xs : List ℕ). digits_of xs place) e)
+    ∙ ap (λ (xs : List ℕ). setup_by set xs (digits_of (bases_by set xs) place)) d in
+    let h : HasBlock set block place (setup_in set block place) = HasBlock-setup_in set block place (record { block_below = a; place_below = b }) in
+    subst (IsUnranked set rank) (sym same) (record { position = h.position; rank_is = rank_of-block set block place (setup_in set block place) h ∙ c })
+
+pub unrank_same : (set : PieceSet) (rank : ℕ) (s t : Setup) → t ≡ s → IsUnranked set rank s → IsUnranked set rank t
+unrank_same set rank s t e h = subst (IsUnranked set rank) (sym e) h
+
+-- ---- layers settled are layers
+
+pub AreLayers-settle : (t pieces number : ℕ) (ls : List ℕ) → t ≤ 5 → AreLayers ls → AreLayers (settle t pieces number ls)
+AreLayers-settle t pieces number [] h a = tt
+AreLayers-settle t pieces number (l ∷ ls) h a = elim (cases_eq l 5) [
+  | inr n ↦ subst AreLayers (sym (settle_kept t pieces number l ls n)) (a.0, AreLayers-settle t pieces number ls h a.1)
+  | inl e ↦ subst (λ (x : ℕ). AreLayers (settle t pieces number (x ∷ ls))) (sym e) (elim (cases_lt number (with_first (count 5 ls) pieces)) [
+    | inl lt ↦ subst AreLayers (sym (settle_taken t pieces number ls lt)) (h, AreLayers-settle t (pieces - 1) number ls h a.1)
+    | inr le ↦ subst AreLayers (sym (settle_left t pieces number ls le)) ((omega arith), AreLayers-settle t pieces (number - with_first (count 5 ls) pieces) ls h a.1)
+  ])
+]
+
+all_layers : (ls : List ℕ) → AreLayers ls → All (λ (t : ℕ). t ≤ 5) ls
+all_layers [] a k d l = absurd (omega arith)
+all_layers (x ∷ ls) a zero d l = a.0
+all_layers (x ∷ ls) a (suc k) d l = all_layers ls a.1 k d (omega arith)
+
+layers_replicated : (n : ℕ) → AreLayers (replicate n 5)
+layers_replicated zero = tt
+layers_replicated (suc n) = ((omega arith), layers_replicated n)
+
+pub five_layers : (i j k n0 n1 n2 n3 n4 : ℕ) (a b c d e : List ℕ) → a ≡ settle 0 1 n0 (replicate 12 5) → b ≡ settle 1 1 n1 a → c ≡ settle 2 i n2 b → d ≡ settle 3 j n3 c → e ≡ settle 4 k n4 d
+    → All (λ (t : ℕ). t ≤ 5) e
+five_layers i j k n0 n1 n2 n3 n4 a b c d e p q r s t =
+    all_layers e (subst AreLayers (sym t) (AreLayers-settle 4 k n4 d (omega arith)
+    (subst AreLayers (sym s) (AreLayers-settle 3 j n3 c (omega arith)
+    (subst AreLayers (sym r) (AreLayers-settle 2 i n2 b (omega arith)
+    (subst AreLayers (sym q) (AreLayers-settle 1 1 n1 a (omega arith)
+    (subst AreLayers (sym p) (AreLayers-settle 0 1 n0 (replicate 12 5) (omega arith) (layers_replicated 12)))))))))))
+
+-- ---- the earlier of a position and its mirror image
+
+-- the mirror image is a position of the same set
+pub IsPositionOf-mirrored : (set : PieceSet) (s : Setup) → IsPositionOf set s → IsPositionOf set (mirrored s)
+IsPositionOf-mirrored set s p = record { legal = IsLegal-mirrored s p.legal; pieces = λ kind. total-mirrored kind s p.legal.squares ∙ p.pieces kind }
+
+-- a rank under each set of the position
+abbrev pub RankOf : Setup → ℕ → Type 0
+RankOf s n = (set : PieceSet) → IsPositionOf set s → n ≡ rank_of set s
+
+not_before : (set : PieceSet) (p q : Setup) (m n : ℕ) → IsPositionOf set p → IsPositionOf set q → RankOf p m → RankOf q n → n ≤ m → Before p q → ⊥
+not_before set p q m n hp hq rp rq le b =
+    let up : rank_of set p < rank_of set q = rank_of-rises set p q hp hq b in
+    against m n (rank_of set p) (rank_of set q) (rp set hp) (rq set hq) up le
+  where
+    against : (m n a b : ℕ) → m ≡ a → n ≡ b → a < b → n ≤ m → ⊥
+    against m n a b h k l o = omega arith
+
+pub image_first : (s t : Setup) (legal : IsLegal s) (m n : ℕ) → t ≡ mirrored s → RankOf t m → RankOf s n → m < n → RepresentativeOf s t
+image_first s t legal m n e rt rs lt =
+    let ps : IsPositionOf (set_of s legal) s = IsPositionOf-set_of s legal in
+    let pt : IsPositionOf (set_of s legal) t = subst (IsPositionOf (set_of s legal)) (sym e) (IsPositionOf-mirrored (set_of s legal) s ps) in
+    let back : mirrored t ≡ s = ap mirrored e ∙ mirrored-mirrored s legal.squares in
+    (inr e, λ (b : Before (mirrored t) t). not_before (set_of s legal) s t n m ps pt rs rt (omega arith) (subst (λ (x : Setup). Before x t) back b))
+
+pub itself_first : (s t : Setup) (legal : IsLegal s) (m n : ℕ) → t ≡ mirrored s → RankOf t m → RankOf s n → n ≤ m → RepresentativeOf s s
+itself_first s t legal m n e rt rs le =
+    let ps : IsPositionOf (set_of s legal) s = IsPositionOf-set_of s legal in
+    let pt : IsPositionOf (set_of s legal) t = subst (IsPositionOf (set_of s legal)) (sym e) (IsPositionOf-mirrored (set_of s legal) s ps) in
+    (inl refl, λ (b : Before (mirrored s) s). not_before (set_of s legal) t s m n pt ps rt rs le (subst (λ (x : Setup). Before x s) (sym e) b))

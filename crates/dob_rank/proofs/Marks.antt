@@ -1,0 +1,199 @@
+-- Marked places: how many setups there are whose place is marked and below a bound, and the places of first setups.
+use Rattle.std.proofs.Common.{◌≡◌, ◌≢◌, ℕ, zero, suc, ◌+◌, ◌-◌, ◌*◌, ◌/◌, ◌<◌, ◌≤◌, Bool, true, false, ◌&&◌, leb, [], ◌∷◌, ◌++◌, length, get_or, refl, sym, ap, ◌∙◌, subst, inl, inr, arith}
+use Rattle.std.specs.List.{Contains}
+use Rattle.std.proofs.lemmas.Bool.{cases_lt, cases_Bool, le-leb, leb-true, lt-ltb, le-ltb, both_ways}
+use Rattle.std.proofs.lemmas.List.{length_push}
+use Rattle.std.proofs.lemmas.List.Elements.{All-nil, All-push, All-weaker, Contains-push, Contains-append_left}
+use Rattle.std.proofs.lemmas.List.Quantifiers.{all_pairs_push}
+use Rattle.dob_pieces.specs.declared.piece_set.PieceSet.{PieceSet}
+use Rattle.dob_pieces.specs.declared.setup.Setup.{Setup}
+use Rattle.dob_pieces.specs.Setups.{mirrored}
+use Rattle.dob_rank.specs.Order.{IsPositionOf, Before, HasCount, IsFirstOfTwo, IsRepresentative, HasClasses, HasClass}
+use Rattle.dob_rank.specs.Numbers.{size_of, rank_of, nth}
+use Rattle.dob_rank.specs.Marks.{one_if, marks_below, is_first, marked, classes_of}
+use Rattle.dob_rank.proofs.Counts.{IsNumbering}
+use Rattle.dob_rank.proofs.Numbering.{nth-block, nth-rank_of, rank_of-nth, rank_of-below, rank_of-rises, Before-from_rank}
+use Rattle.dob_rank.proofs.Found.{IsPositionOf-mirrored}
+
+-- the same setups are as many
+pub HasCount-same : (P Q : Setup → Type 0) (n : ℕ) → ((s : Setup) → P s → Q s) → ((s : Setup) → Q s → P s) → HasCount P n → HasCount Q n
+HasCount-same P Q n f g h = record {
+  list = h.list;
+  sound = All-weaker P Q f h.list h.sound;
+  whole = λ s q. h.whole s (g s q);
+  once = h.once;
+  counted = h.counted;
+}
+
+-- the setup has the property, its place is marked, and lies below the bound
+abbrev pub IsMarkedBelow : (Setup → Type 0) → (ℕ → Bool) → (Setup → ℕ) → ℕ → Setup → Type 0
+IsMarkedBelow P mark index n s = P s × (mark (index s) ≡ true) × (index s < n)
+
+wider : (P : Setup → Type 0) (mark : ℕ → Bool) (index : Setup → ℕ) (n : ℕ) (s : Setup) → IsMarkedBelow P mark index n s → IsMarkedBelow P mark index (suc n) s
+wider P mark index n s q = (q.0, q.1, (let low : index s < n = q.2 in omega arith))
+
+narrower : (P : Setup → Type 0) (mark : ℕ → Bool) (index : Setup → ℕ) (n : ℕ) (s : Setup) → mark n ≡ false → IsMarkedBelow P mark index (suc n) s → IsMarkedBelow P mark index n s
+narrower P mark index n s off q = elim (cases_lt (index s) n) [
+  | inl lt ↦ (q.0, q.1, lt)
+  | inr le ↦ absurd (let low : index s < suc n = q.2 in let same : index s ≡ n = omega arith in
+      both_ways (mark n) off (ap mark (sym same) ∙ q.1))
+]
+
+none_more : (P : Setup → Type 0) (nth : ℕ → Setup) (index : Setup → ℕ) (mark : ℕ → Bool) (n : ℕ) → HasCount (IsMarkedBelow P mark index n) (marks_below mark n) → mark n ≡ false
+    → HasCount (IsMarkedBelow P mark index (suc n)) (marks_below mark (suc n))
+unfolding marks_below
+none_more P nth index mark n h off =
+    subst (HasCount (IsMarkedBelow P mark index (suc n)))
+    (let zero_more : one_if (mark n) ≡ 0 = ap one_if off in
+    let same : marks_below mark n ≡ marks_below mark n + one_if (mark n) = omega arith in same)
+    (HasCount-same (IsMarkedBelow P mark index n) (IsMarkedBelow P mark index (suc n)) (marks_below mark n)
+    (wider P mark index n) (λ s q. narrower P mark index n s off q) h)
+
+one_more : (P : Setup → Type 0) (size : ℕ) (nth : ℕ → Setup) (index : Setup → ℕ) (mark : ℕ → Bool) → IsNumbering P size nth index
+    → (n : ℕ) → suc n ≤ size → HasCount (IsMarkedBelow P mark index n) (marks_below mark n) → index (nth n) ≡ n → mark n ≡ true
+    → HasCount (IsMarkedBelow P mark index (suc n)) (marks_below mark (suc n))
+unfolding marks_below
+one_more P size nth index mark num n le h place on =
+    let one : one_if (mark n) ≡ 1 = ap one_if on in
+    let len : length h.list ≡ marks_below mark n = h.counted in
+    record {
+      list = h.list ++ nth n ∷ [];
+      sound = All-push (IsMarkedBelow P mark index (suc n)) h.list (nth n)
+          (All-weaker (IsMarkedBelow P mark index n) (IsMarkedBelow P mark index (suc n)) (wider P mark index n) h.list h.sound)
+          (num.sound n le, ap mark place ∙ on, (omega arith));
+      whole = λ s q. elim (cases_lt (index s) n) [
+        | inl lt ↦ Contains-append_left h.list (nth n ∷ []) s (h.whole s (q.0, q.1, lt))
+        | inr ge ↦ (let low : index s < suc n = q.2 in let same : index s ≡ n = omega arith in
+            subst (Contains (h.list ++ nth n ∷ [])) (ap nth (sym same) ∙ num.back s q.0) (Contains-push h.list (nth n)))
+      ];
+      once = all_pairs_push (λ (p q : Setup). p ≢ q) h.list (nth n) h.once
+          (λ k d l e. (let at : IsMarkedBelow P mark index n (get_or h.list k d) = h.sound k d l in
+          let low : index (get_or h.list k d) < n = at.2 in
+          let same : index (get_or h.list k d) ≡ index (nth n) = ap index e in
+          let both : index (get_or h.list k d) ≡ n = same ∙ place in omega arith));
+      counted = length_push h.list (nth n) ∙ (let sum : length h.list + 1 ≡ marks_below mark n + one_if (mark n) = omega arith in sum);
+    }
+
+pub HasCount-marked : (P : Setup → Type 0) (size : ℕ) (nth : ℕ → Setup) (index : Setup → ℕ) (mark : ℕ → Bool) → IsNumbering P size nth index
+    → (n : ℕ) → n ≤ size → HasCount (IsMarkedBelow P mark index n) (marks_below mark n)
+unfolding marks_below
+HasCount-marked P size nth index mark h zero le = record {
+  list = [];
+  sound = All-nil (IsMarkedBelow P mark index 0);
+  whole = λ s q. absurd (let low : index s < 0 = q.2 in omega arith);
+  once = λ i j d lt l. absurd (omega arith);
+  counted = refl;
+}
+HasCount-marked P size nth index mark h (suc n) le =
+    let before : HasCount (IsMarkedBelow P mark index n) (marks_below mark n) = HasCount-marked P size nth index mark h n (omega arith) in
+    let place : index (nth n) ≡ n = h.forth n (omega arith) in
+    elim (cases_Bool (mark n)) [
+      | inl on ↦ one_more P size nth index mark h n le before place on
+      | inr off ↦ none_more P nth index mark n before off
+    ]
+
+-- ---- first setups
+
+pub numbering : (set : PieceSet) → IsNumbering (IsPositionOf set) (size_of set) (nth set) (rank_of set)
+numbering set = record {
+  sound = λ i h. (nth-block set i h).position;
+  below = λ s p. rank_of-below set s p;
+  back = λ s p. nth-rank_of set s p;
+  forth = λ i h. rank_of-nth set i h;
+}
+
+-- a position's rank is marked just where the position is no later than its mirror image
+pub first-marked : (set : PieceSet) (s : Setup) → IsPositionOf set s → IsFirstOfTwo s → is_first set (rank_of set s) ≡ true
+first-marked set s p first =
+    let image : IsPositionOf set (mirrored s) = IsPositionOf-mirrored set s p in
+    ap (λ (x : Setup). leb (rank_of set s) (rank_of set (mirrored x))) (nth-rank_of set s p)
+    ∙ le-leb (rank_of set s) (rank_of set (mirrored s))
+    (elim (cases_lt (rank_of set (mirrored s)) (rank_of set s)) [
+      | inl lt ↦ absurd (first (Before-from_rank set (mirrored s) s image p lt))
+      | inr ge ↦ ge
+    ])
+
+pub marked-first : (set : PieceSet) (s : Setup) → IsPositionOf set s → is_first set (rank_of set s) ≡ true → IsFirstOfTwo s
+marked-first set s p on b =
+    let image : IsPositionOf set (mirrored s) = IsPositionOf-mirrored set s p in
+    let low : rank_of set (mirrored s) < rank_of set s = rank_of-rises set (mirrored s) s image p b in
+    let le : rank_of set s ≤ rank_of set (mirrored s) = leb-true (rank_of set s) (rank_of set (mirrored s))
+    (ap (λ (x : Setup). leb (rank_of set s) (rank_of set (mirrored x))) (sym (nth-rank_of set s p)) ∙ on) in
+    omega arith
+
+-- the classes are the marked ranks
+pub HasClasses-marks : (set : PieceSet) → HasClasses set (marks_below (is_first set) (size_of set))
+HasClasses-marks set =
+    HasCount-same (IsMarkedBelow (IsPositionOf set) (is_first set) (rank_of set) (size_of set)) (IsRepresentative set) (marks_below (is_first set) (size_of set))
+    (λ s q. (q.0, marked-first set s q.0 q.1))
+    (λ s q. (q.0, first-marked set s q.0 q.1, rank_of-below set s q.0))
+    (HasCount-marked (IsPositionOf set) (size_of set) (nth set) (rank_of set) (is_first set) (numbering set) (size_of set) (omega arith))
+
+-- a class number is the number of marked ranks below the representative's
+pub HasClass-marks : (set : PieceSet) (s : Setup) → IsPositionOf set s → HasClass set s (marks_below (is_first set) (rank_of set s))
+HasClass-marks set s p =
+    let low : rank_of set s < size_of set = rank_of-below set s p in
+    HasCount-same (IsMarkedBelow (IsPositionOf set) (is_first set) (rank_of set) (rank_of set s)) (λ (q : Setup). IsRepresentative set q × Before q s) (marks_below (is_first set) (rank_of set s))
+    (λ q h. ((h.0, marked-first set q h.0 h.1), Before-from_rank set q s h.0 p h.2))
+    (λ q h. (h.0.0, first-marked set q h.0.0 h.0.1, rank_of-rises set q s h.0.0 p h.1))
+    (HasCount-marked (IsPositionOf set) (size_of set) (nth set) (rank_of set) (is_first set) (numbering set) (rank_of set s) (omega arith))
+
+-- ---- the marks of a whole set
+
+-- below the size the marks are those of first setups
+pub marked-first_of : (set : PieceSet) (r : ℕ) → r < size_of set → marked set r ≡ is_first set r
+unfolding marked
+marked-first_of set r h = ap (λ (b : Bool). b && is_first set r) (lt-ltb r (size_of set) h)
+
+pub marked_past : (set : PieceSet) (r : ℕ) → size_of set ≤ r → marked set r ≡ false
+unfolding marked
+marked_past set r h = ap (λ (b : Bool). b && is_first set r) (le-ltb r (size_of set) h)
+
+pub marks_below-marked : (set : PieceSet) (n : ℕ) → n ≤ size_of set → marks_below (marked set) n ≡ marks_below (is_first set) n
+unfolding marks_below
+marks_below-marked set zero h = refl
+marks_below-marked set (suc n) h =
+    let rest : marks_below (marked set) n ≡ marks_below (is_first set) n = marks_below-marked set n (omega arith) in
+    let one : one_if (marked set n) ≡ one_if (is_first set n) = ap one_if (marked-first_of set n h) in
+    omega arith
+
+pub HasClasses-classes_of : (set : PieceSet) → HasClasses set (classes_of set)
+unfolding classes_of
+HasClasses-classes_of set = subst (HasClasses set) (sym (marks_below-marked set (size_of set) (omega arith))) (HasClasses-marks set)
+
+pub HasClass-marked : (set : PieceSet) (s : Setup) → IsPositionOf set s → HasClass set s (marks_below (marked set) (rank_of set s))
+HasClass-marked set s p =
+    subst (HasClass set s) (sym (marks_below-marked set (rank_of set s) (let low : rank_of set s < size_of set = rank_of-below set s p in omega arith))) (HasClass-marks set s p)
+
+-- past the size there are no more marks
+pub marks_below-past : (set : PieceSet) (n k : ℕ) → size_of set + k ≡ n → marks_below (marked set) n ≡ classes_of set
+unfolding classes_of marks_below
+marks_below-past set n zero e = ap (marks_below (marked set)) (let same : n ≡ size_of set = omega arith in same)
+marks_below-past set zero (suc k) e = absurd (omega arith)
+marks_below-past set (suc n) (suc k) e =
+    let rest : marks_below (marked set) n ≡ classes_of set = marks_below-past set n k (omega arith) in
+    let off : one_if (marked set n) ≡ 0 = ap one_if (marked_past set n (omega arith)) in
+    omega arith
+
+-- all words of a set have all its marks
+pub all_marked : (set : PieceSet) (size word : ℕ) → size ≡ size_of set → size / 64 + 1 ≤ word → marks_below (marked set) (64 * word) ≡ classes_of set
+all_marked set size word e h =
+    let low : size_of set ≤ 64 * word = at_most size (size_of set) word e h in
+    marks_below-past set (64 * word) (64 * word - size_of set) (let whole : size_of set + (64 * word - size_of set) ≡ 64 * word = omega arith in whole)
+  where
+    at_most : (size count word : ℕ) → size ≡ count → size / 64 + 1 ≤ word → count ≤ 64 * word
+    at_most size count word e h = omega arith
+
+-- ---- the marks of the code
+
+-- a rank under each set of the position, as the code finds it
+abbrev pub FoundRank : Setup → ℕ → Type 0
+FoundRank s n = (set : PieceSet) → IsPositionOf set s → n ≡ rank_of set s
+
+-- the test of a rank against that of the mirror image
+pub first_test : (set : PieceSet) (n m : ℕ) (s t : Setup) → n < size_of set → IsPositionOf set s → rank_of set s ≡ n → t ≡ mirrored s → FoundRank t m → leb n m ≡ marked set n
+first_test set n m s t h p r e f =
+    let image : IsPositionOf set t = subst (IsPositionOf set) (sym e) (IsPositionOf-mirrored set s p) in
+    let same : nth set n ≡ s = ap (nth set) (sym r) ∙ nth-rank_of set s p in
+    let number : m ≡ rank_of set (mirrored (nth set n)) = f set image ∙ ap (rank_of set) (e ∙ ap mirrored (sym same)) in
+    ap (leb n) number ∙ sym (marked-first_of set n h)

@@ -1,0 +1,93 @@
+-- A position and its piece set.
+use Rattle.std.proofs.Common.{◌≡◌, ℕ, zero, suc, ◌+◌, ◌≤◌, List, map, slice_index, refl, sym, ap, ◌∙◌, subst, arith}
+use Rattle.dob_pieces.specs.declared.kind.HandKind.{HandKind}
+use Rattle.dob_pieces.specs.declared.kind.HandKind.TheVariants as hand
+use Rattle.dob_pieces.specs.declared.piece_set.PieceSet.{PieceSet}
+use Rattle.dob_pieces.specs.declared.setup.Setup.{Setup}
+use Rattle.dob_pieces.specs.Setups.{total, IsLegal}
+use Rattle.dob_rank.specs.Order.{IsPositionOf, pieces_of, HasRank}
+use Rattle.dob_rank.specs.Numbers.{layer, count, product, number_of, digits_of, sum_below, block_bases, bases, bases_by, on_board, digits, block_of, block_size, rank_of}
+use Rattle.dob_rank.proofs.Digits.{HasParts, HasParts-from_position}
+use Rattle.dob_rank.proofs.Numbering.{block_size-product, rank_of-place, place_of, HasRank-rank_of}
+
+-- a legal setup with the totals of the set
+pub IsPositionOf-totals : (set : PieceSet) (s : Setup) → IsLegal s → set.chicks ≡ total hand.Chick s → set.elephants ≡ total hand.Elephant s → set.giraffes ≡ total hand.Giraffe s → IsPositionOf set s
+IsPositionOf-totals set s legal c e g = record { legal = legal; pieces = by_kind set s c e g }
+  where
+    by_kind : (set : PieceSet) (s : Setup) → set.chicks ≡ total hand.Chick s → set.elephants ≡ total hand.Elephant s → set.giraffes ≡ total hand.Giraffe s → (kind : HandKind) → total kind s ≡ pieces_of set kind
+    by_kind set s c e g hand.Chick = sym c
+    by_kind set s c e g hand.Elephant = sym e
+    by_kind set s c e g hand.Giraffe = sym g
+
+-- the piece set of a legal setup
+abbrev pub set_of : (s : Setup) → IsLegal s → PieceSet
+set_of s legal = record {
+  chicks = total hand.Chick s;
+  elephants = total hand.Elephant s;
+  giraffes = total hand.Giraffe s;
+  few_chicks = legal.few hand.Chick;
+  few_elephants = legal.few hand.Elephant;
+  few_giraffes = legal.few hand.Giraffe;
+}
+
+pub IsPositionOf-set_of : (s : Setup) (legal : IsLegal s) → IsPositionOf (set_of s legal) s
+IsPositionOf-set_of s legal = IsPositionOf-totals (set_of s legal) s legal refl refl refl
+
+-- no layer of a legal setup has more than two cells but the empty one
+pub record HasFewCells (s : Setup) : Type 0 where
+  pub own_lion : count 0 (map layer s.board) ≤ 2
+  pub other_lion : count 1 (map layer s.board) ≤ 2
+  pub chicks : count 2 (map layer s.board) ≤ 2
+  pub elephants : count 3 (map layer s.board) ≤ 2
+  pub giraffes : count 4 (map layer s.board) ≤ 2
+
+few_left : (n a b c : ℕ) → n + a + b ≡ c → c ≤ 2 → n ≤ 2
+few_left n a b c h l = omega arith
+
+one_few : (n : ℕ) → n ≡ 1 → n ≤ 2
+one_few n h = omega arith
+
+pub HasFewCells-legal : (s : Setup) → IsLegal s → HasFewCells s
+HasFewCells-legal s legal =
+    let h : HasParts (set_of s legal) s = HasParts-from_position (set_of s legal) s (IsPositionOf-set_of s legal) in
+    record {
+      own_lion = one_few (count 0 (map layer s.board)) h.own_lion;
+      other_lion = one_few (count 1 (map layer s.board)) h.other_lion;
+      chicks = few_left (count 2 (map layer s.board)) s.hands.mover.chicks s.hands.enemy.chicks (total hand.Chick s) h.chicks (legal.few hand.Chick);
+      elephants = few_left (count 3 (map layer s.board)) s.hands.mover.elephants s.hands.enemy.elephants (total hand.Elephant s) h.elephants (legal.few hand.Elephant);
+      giraffes = few_left (count 4 (map layer s.board)) s.hands.mover.giraffes s.hands.enemy.giraffes (total hand.Giraffe s) h.giraffes (legal.few hand.Giraffe);
+    }
+
+-- ---- a rank depends on the set's numbers alone
+
+bases-same : (p q : PieceSet) (i j k : ℕ) → p.chicks ≡ q.chicks → p.elephants ≡ q.elephants → p.giraffes ≡ q.giraffes → bases p i j k ≡ bases q i j k
+bases-same p q i j k c e g = cc
+
+block_bases-same : (p q : PieceSet) → p.chicks ≡ q.chicks → p.elephants ≡ q.elephants → p.giraffes ≡ q.giraffes → block_bases p ≡ block_bases q
+block_bases-same p q c e g = cc
+
+block_size-same : (p q : PieceSet) (b : ℕ) → p.chicks ≡ q.chicks → p.elephants ≡ q.elephants → p.giraffes ≡ q.giraffes → block_size p b ≡ block_size q b
+block_size-same p q b c e g =
+    block_size-product p b
+    ∙ ap (λ (xs : List ℕ). product (bases_by p (digits_of xs b))) (block_bases-same p q c e g)
+    ∙ ap product (bases-same p q (slice_index (digits_of (block_bases q) b) 0) (slice_index (digits_of (block_bases q) b) 1) (slice_index (digits_of (block_bases q) b) 2) c e g)
+    ∙ sym (block_size-product q b)
+
+sum_below-same : (f g : ℕ → ℕ) → ((n : ℕ) → f n ≡ g n) → (n : ℕ) → sum_below f n ≡ sum_below g n
+sum_below-same f g h zero = refl
+sum_below-same f g h (suc n) = (let a : sum_below f n ≡ sum_below g n = sum_below-same f g h n in let b : f n ≡ g n = h n in omega arith)
+
+pub rank_of-sets : (p q : PieceSet) (s : Setup) → IsPositionOf p s → IsPositionOf q s → rank_of p s ≡ rank_of q s
+rank_of-sets p q s hp hq =
+    let c : p.chicks ≡ q.chicks = sym (hp.pieces hand.Chick) ∙ hq.pieces hand.Chick in
+    let e : p.elephants ≡ q.elephants = sym (hp.pieces hand.Elephant) ∙ hq.pieces hand.Elephant in
+    let g : p.giraffes ≡ q.giraffes = sym (hp.pieces hand.Giraffe) ∙ hq.pieces hand.Giraffe in
+    rank_of-place p s
+    ∙ ap (λ (xs : List ℕ). sum_below (block_size p) (number_of xs (on_board s)) + place_of p s) (block_bases-same p q c e g)
+    ∙ ap (λ (n : ℕ). n + place_of p s) (sum_below-same (block_size p) (block_size q) (λ n. block_size-same p q n c e g) (block_of q s))
+    ∙ ap (λ (xs : List ℕ). sum_below (block_size q) (block_of q s) + number_of xs (digits s)) (bases-same p q (count 2 (map layer s.board)) (count 3 (map layer s.board)) (count 4 (map layer s.board)) c e g)
+    ∙ sym (rank_of-place q s)
+
+-- the rank found for one set is that of each set of the position
+pub HasRank-sets : (p q : PieceSet) (s : Setup) (n : ℕ) → IsPositionOf p s → IsPositionOf q s → n ≡ rank_of p s → HasRank q s n
+HasRank-sets p q s n hp hq e = subst (HasRank q s) (sym (e ∙ rank_of-sets p q s hp hq)) (HasRank-rank_of q s hq)

@@ -1,0 +1,6 @@
+use Rattle.std.proofs.Common.{◌≡◌, drop}
+use Rattle.dob_rank.specs.Numbers.{product}
+use Rattle.dob_rank.proofs.radix.product.Given as goal
+
+abbrev pub invariant-loop-i : goal.invariant-loop-i
+invariant-loop-i l = l.weight ≡ product (drop l.i l.bases)

@@ -1,0 +1,45 @@
+-- Marked ranks, and their marks as the bits of words.
+use Rattle.std.specs.Prelude.{ℕ, zero, suc, ◌+◌, ◌*◌, ◌&&◌, nat_lt, nat_le, min, Bool, true, false, List, map}
+use Rattle.std.specs.List.{range_with_len}
+use Rattle.dob_rank.specs.declared.classes.Word.{Word}
+use Rattle.dob_pieces.specs.declared.piece_set.PieceSet.{PieceSet}
+use Rattle.dob_pieces.specs.declared.setup.Setup.{Setup}
+use Rattle.dob_pieces.specs.Setups.{mirrored}
+use Rattle.dob_rank.specs.Numbers.{sum_below, size_of, rank_of, nth}
+
+abbrev pub one_if : Bool → ℕ
+one_if true = 1
+one_if false = 0
+
+-- how many places below a bound are marked
+unfoldable pub marks_below : (ℕ → Bool) → ℕ → ℕ
+marks_below mark n = sum_below (λ (r : ℕ). one_if (mark r)) n
+
+-- the marks of so many places from one on, the first as the lowest bit
+unfoldable pub word_of : (ℕ → Bool) → ℕ → ℕ → ℕ
+word_of mark from zero = 0
+word_of mark from (suc n) = word_of mark (suc from) n * 2 + one_if (mark from)
+
+-- the setup of the rank is no later than its mirror image
+abbrev pub is_first : PieceSet → ℕ → Bool
+is_first set r = nat_le r (rank_of set (mirrored (nth set r)))
+
+-- the same, for a rank of the set alone
+unfoldable pub marked : PieceSet → ℕ → Bool
+marked set r = nat_lt r (size_of set) && is_first set r
+
+-- the number of classes of the set
+unfoldable pub classes_of : PieceSet → ℕ
+classes_of set = marks_below (marked set) (size_of set)
+
+-- the number of the setup's class: the marks below its rank or that of its mirror image, whichever is lower
+unfoldable pub class_number : PieceSet → Setup → ℕ
+class_number set setup = marks_below (marked set) (min (rank_of set setup) (rank_of set (mirrored setup)))
+
+-- the word of that number: 64 marks, and the number of marks before them
+unfoldable pub word_at : PieceSet → ℕ → Word
+word_at set number = record { bits = word_of (marked set) (64 * number) 64; before = marks_below (marked set) (64 * number) }
+
+-- the first words of the set
+abbrev pub words_of : PieceSet → ℕ → List Word
+words_of set count = map (word_at set) (range_with_len 0 count)

@@ -1,0 +1,229 @@
+-- The arithmetic that finds a rank: mixed radix numbers, choices of squares, forms, and the blocks of one set.
+use Rattle.std.specs.Prelude.{ℕ, zero, suc, ◌<◌, ◌+◌, ◌-◌, ◌*◌, ◌/◌, ◌%◌, ◌^◌, ◌==◌, nat_lt, cond, List, [], ◌∷◌, Some, None, map, slice_index, replicate}
+use Rattle.std.specs.List.{AllZip}
+use Rattle.dob_pieces.specs.declared.kind.Kind.{Kind}
+use Rattle.dob_pieces.specs.declared.kind.Kind.TheVariants.{Lion, Giraffe, Elephant, Chick, Hen}
+use Rattle.dob_pieces.specs.declared.kind.Side.{Side}
+use Rattle.dob_pieces.specs.declared.kind.Side.TheVariants.{Mover, Enemy}
+use Rattle.dob_pieces.specs.declared.hand.Hand.{Hand}
+use Rattle.dob_pieces.specs.declared.hand.Hands.{Hands}
+use Rattle.dob_pieces.specs.declared.piece_set.PieceSet.{PieceSet}
+use Rattle.dob_pieces.specs.declared.setup.Setup.{Setup}
+use Rattle.dob_pieces.specs.Setups.{Cell, piece_of}
+use Rattle.dob_rank.specs.Order.{form}
+
+-- ---- mixed radix numbers: a list of bases, and for each base a digit below it, the first of most weight
+
+abbrev pub product : List ℕ → ℕ
+product [] = 1
+product (base ∷ bases) = base * product bases
+
+abbrev pub number_of : List ℕ → List ℕ → ℕ
+number_of (base ∷ bases) (digit ∷ digits) = digit * product bases + number_of bases digits
+number_of [] digits = 0
+number_of bases [] = 0
+
+abbrev pub digits_of : List ℕ → ℕ → List ℕ
+digits_of [] number = []
+digits_of (base ∷ bases) number = (number / product bases) ∷ digits_of bases (number % product bases)
+
+-- each base has its digit, which is below it
+abbrev pub HasDigits : List ℕ → List ℕ → Type 0
+HasDigits bases digits = AllZip (λ (base digit : ℕ). digit < base) bases digits
+
+-- the sum of f below a number
+abbrev pub sum_below : (ℕ → ℕ) → ℕ → ℕ
+sum_below f zero = 0
+sum_below f (suc n) = sum_below f n + f n
+
+-- ---- the layers of a board: the mover's lion 0, the enemy's 1, chicks and hens 2, elephants 3, giraffes 4, empty 5
+
+abbrev pub layer_of : Side → Kind → ℕ
+layer_of Mover Lion = 0
+layer_of Enemy Lion = 1
+layer_of _ Chick = 2
+layer_of _ Hen = 2
+layer_of _ Elephant = 3
+layer_of _ Giraffe = 4
+
+abbrev pub layer : Cell → ℕ
+layer None = 5
+layer (Some piece) = layer_of piece.side piece.kind
+
+-- how many cells are of that layer
+abbrev pub count : ℕ → List ℕ → ℕ
+count t [] = 0
+count t (l ∷ ls) = cond (l == t) 1 0 + count t ls
+
+-- how many cells are of that layer or a later one
+abbrev pub count_from : ℕ → List ℕ → ℕ
+count_from t [] = 0
+count_from t (l ∷ ls) = cond (nat_lt l t) 0 1 + count_from t ls
+
+-- ---- choices of squares, in the lexicographic order of their ascending lists
+
+-- in how many ways so many squares are chosen from so many
+abbrev pub choose : ℕ → ℕ → ℕ
+choose squares zero = 1
+choose zero (suc pieces) = 0
+choose (suc squares) (suc pieces) = choose squares pieces + choose squares (suc pieces)
+
+-- in how many of the ways to choose so many squares the first one is chosen, where so many come after it
+abbrev pub with_first : ℕ → ℕ → ℕ
+with_first squares zero = 0
+with_first squares (suc pieces) = choose squares pieces
+
+-- the number of choices before the one that the layer's cells make among the cells that no earlier layer has
+abbrev pub choice : ℕ → List ℕ → ℕ
+choice t [] = 0
+choice t (l ∷ ls) = cond (nat_lt t l) (with_first (count_from t ls) (count t ls)) 0 + choice t ls
+
+-- the empty cells that the choice of that number takes get the layer
+abbrev pub settle : ℕ → ℕ → ℕ → List ℕ → List ℕ
+settle t pieces number [] = []
+settle t pieces number (l ∷ ls) =
+    let first = with_first (count 5 ls) pieces in
+    cond (l == 5)
+    (cond (nat_lt number first) (t ∷ settle t (pieces - 1) number ls) (5 ∷ settle t pieces (number - first) ls))
+    (l ∷ settle t pieces number ls)
+
+-- ---- forms, as digits in the base of their layer
+
+-- how many forms a piece of the layer has
+abbrev pub base_of : ℕ → ℕ
+base_of zero = 1
+base_of (suc zero) = 1
+base_of (suc (suc zero)) = 4
+base_of (suc (suc (suc zero))) = 2
+base_of (suc (suc (suc (suc zero)))) = 2
+base_of _ = 1
+
+-- the number whose digits are the forms of the layer's cells
+abbrev pub forms_number : ℕ → List Cell → ℕ
+forms_number t [] = 0
+forms_number t (cell ∷ cells) =
+    cond (layer cell == t) (form cell * base_of t ^ count t (map layer cells)) 0 + forms_number t cells
+
+-- the piece of a layer and a form
+abbrev pub side_of : ℕ → Side
+side_of zero = Mover
+side_of _ = Enemy
+
+abbrev pub chick_of : ℕ → Cell
+chick_of zero = Some (piece_of Mover Chick)
+chick_of (suc zero) = Some (piece_of Mover Hen)
+chick_of (suc (suc zero)) = Some (piece_of Enemy Chick)
+chick_of _ = Some (piece_of Enemy Hen)
+
+abbrev pub cell_of : ℕ → ℕ → Cell
+cell_of zero f = Some (piece_of Mover Lion)
+cell_of (suc zero) f = Some (piece_of Enemy Lion)
+cell_of (suc (suc zero)) f = chick_of f
+cell_of (suc (suc (suc zero))) f = Some (piece_of (side_of f) Elephant)
+cell_of (suc (suc (suc (suc zero)))) f = Some (piece_of (side_of f) Giraffe)
+cell_of _ f = None
+
+-- the board of these layers on which the forms of layer t have the number `numbers t`
+abbrev pub board_of : (ℕ → ℕ) → List ℕ → List Cell
+board_of numbers [] = []
+board_of numbers (l ∷ ls) =
+    cell_of l (numbers l / base_of l ^ count l ls % base_of l) ∷ board_of numbers ls
+
+-- ---- the blocks of one set: the positions with the same numbers on the board
+
+-- the bases of the numbers of chicks, elephants and giraffes on the board
+abbrev pub block_bases : PieceSet → List ℕ
+block_bases set = (set.chicks + 1) ∷ (set.elephants + 1) ∷ (set.giraffes + 1) ∷ []
+
+-- the bases of a block's digits: the mover's hand, the squares of each layer, the forms of each kind
+abbrev pub bases : PieceSet → ℕ → ℕ → ℕ → List ℕ
+bases set i j k =
+    (set.chicks - i + 1) ∷ (set.elephants - j + 1) ∷ (set.giraffes - k + 1)
+    ∷ 9 ∷ 11 ∷ choose 10 i ∷ choose (10 - i) j ∷ choose (10 - i - j) k
+    ∷ (4 ^ i) ∷ (2 ^ j) ∷ (2 ^ k) ∷ []
+
+-- the bases of the block of those numbers on the board
+abbrev pub bases_by : PieceSet → List ℕ → List ℕ
+bases_by set on_board = bases set (slice_index on_board 0) (slice_index on_board 1) (slice_index on_board 2)
+
+-- the numbers on the board
+abbrev pub on_board : Setup → List ℕ
+on_board setup =
+    let ls = map layer setup.board in
+    count 2 ls ∷ count 3 ls ∷ count 4 ls ∷ []
+
+-- the digits of a setup in its block
+abbrev pub digits : Setup → List ℕ
+digits setup =
+    let ls = map layer setup.board in
+    setup.hands.mover.chicks ∷ setup.hands.mover.elephants ∷ setup.hands.mover.giraffes
+    ∷ choice 0 ls ∷ choice 1 ls ∷ choice 2 ls ∷ choice 3 ls ∷ choice 4 ls
+    ∷ forms_number 2 setup.board ∷ forms_number 3 setup.board ∷ forms_number 4 setup.board ∷ []
+
+-- the numbers of the forms, by layer
+abbrev pub numbers_by : List ℕ → ℕ → ℕ
+numbers_by ds = slice_index (0 ∷ 0 ∷ slice_index ds 8 ∷ slice_index ds 9 ∷ slice_index ds 10 ∷ 0 ∷ [])
+
+-- the layers that the numbers on the board and the digits settle, one after another
+abbrev pub layers_by : List ℕ → List ℕ → List ℕ
+layers_by on_board ds =
+    settle 4 (slice_index on_board 2) (slice_index ds 7)
+    (settle 3 (slice_index on_board 1) (slice_index ds 6)
+    (settle 2 (slice_index on_board 0) (slice_index ds 5)
+    (settle 1 1 (slice_index ds 4) (settle 0 1 (slice_index ds 3) (replicate 12 5)))))
+
+-- the mover's hand that the digits say, and the enemy's with all other pieces of the set
+abbrev pub hand_by : List ℕ → Hand
+hand_by ds = record { chicks = slice_index ds 0; elephants = slice_index ds 1; giraffes = slice_index ds 2 }
+
+abbrev pub hands_by : PieceSet → List ℕ → List ℕ → Hands
+hands_by set on_board ds = record {
+  mover = hand_by ds;
+  enemy = record {
+    chicks = set.chicks - slice_index on_board 0 - slice_index ds 0;
+    elephants = set.elephants - slice_index on_board 1 - slice_index ds 1;
+    giraffes = set.giraffes - slice_index on_board 2 - slice_index ds 2;
+  };
+}
+
+-- the setup of those numbers on the board and those digits
+abbrev pub setup_by : PieceSet → List ℕ → List ℕ → Setup
+setup_by set on_board ds = record {
+  board = board_of (numbers_by ds) (layers_by on_board ds);
+  hands = hands_by set on_board ds;
+}
+
+-- the setup of that place in that block
+abbrev pub setup_in : PieceSet → ℕ → ℕ → Setup
+setup_in set block place =
+    setup_by set (digits_of (block_bases set) block) (digits_of (bases_by set (digits_of (block_bases set) block)) place)
+
+-- the number of positions in that block
+unfoldable pub block_size : PieceSet → ℕ → ℕ
+block_size set block = product (bases_by set (digits_of (block_bases set) block))
+
+-- the number of the setup's block
+abbrev pub block_of : PieceSet → Setup → ℕ
+block_of set setup = number_of (block_bases set) (on_board setup)
+
+-- the number of positions of the set, and the number of those before a setup
+unfoldable pub size_of : PieceSet → ℕ
+size_of set = sum_below (block_size set) (product (block_bases set))
+
+unfoldable pub rank_of : PieceSet → Setup → ℕ
+rank_of set setup =
+    sum_below (block_size set) (block_of set setup)
+    + number_of (bases_by set (on_board setup)) (digits setup)
+
+-- ---- the position of a rank
+
+-- the block in which a number lies, and the place there
+abbrev pub find : (ℕ → ℕ) → ℕ → ℕ → ℕ × ℕ
+find f zero n = (0, n)
+find f (suc b) n = cond (nat_lt n (sum_below f b)) (find f b n) (b, n - sum_below f b)
+
+-- the setup of the place in the block in which the rank lies
+unfoldable pub nth : PieceSet → ℕ → Setup
+nth set n =
+    let at = find (block_size set) (product (block_bases set)) n in
+    setup_in set at.0 at.1

@@ -1,0 +1,123 @@
+// The blocks of a piece set: the positions with the same numbers of chicks, elephants and giraffes on the board.
+// The blocks stand in the order of those numbers.
+ghost use Rattle.std.specs.Prelude.{◌≡◌, ◌<◌, ◌≤◌, ◌+◌, ◌*◌, ◌^◌, slice_index};
+ghost use Rattle.dob_rank.specs.Numbers.{product, digits_of, sum_below, bases_by, block_bases, block_size as size_of_block, size_of};
+
+use crate::{layers, radix};
+use dob_pieces::PieceSet;
+
+/// One number for each kind of piece: chicks (hens counted with them), elephants, giraffes.
+pub(crate) type EachKind = [u64; 3];
+
+/// How many digits tell the place in a block: three numbers in hand, the choices of squares of five layers, the
+/// forms of three kinds.
+pub(crate) const DIGITS: usize = 11;
+
+/// The bases of the numbers on the board.
+pub(crate) fn block_bases_of(set: PieceSet) -> EachKind
+    ensures { result ≡ block_bases set }
+{
+    [
+        u64::from(set.chicks) + 1,
+        u64::from(set.elephants) + 1,
+        u64::from(set.giraffes) + 1,
+    ]
+}
+
+/// How many blocks the set has.
+pub(crate) fn blocks(set: PieceSet) -> u64
+    ensures value { result ≡ product (block_bases set) }
+    ensures bound { result ≤ 27 }
+{
+    radix::product(&block_bases_of(set))
+}
+
+/// The numbers on the board in the block of that number.
+pub(crate) fn numbers_in(set: PieceSet, block: u64) -> EachKind
+    requires { block < product (block_bases set) }
+    ensures { result ≡ digits_of (block_bases set) block }
+{
+    let mut numbers = [0; 3];
+    radix::write_digits(&block_bases_of(set), block, &mut numbers);
+    numbers
+}
+
+/// The bases of the digits in the block of those numbers on the board.
+pub(crate) fn bases_in(set: PieceSet, on_board: &EachKind) -> [u64; DIGITS]
+    requires chicks { slice_index on_board.now 0 ≤ set.chicks }
+    requires elephants { slice_index on_board.now 1 ≤ set.elephants }
+    requires giraffes { slice_index on_board.now 2 ≤ set.giraffes }
+    ensures { result ≡ bases_by set on_board.now }
+{
+    let chicks = on_board[0];
+    let elephants = on_board[1];
+    let giraffes = on_board[2];
+    [
+        u64::from(set.chicks) - chicks + 1,
+        u64::from(set.elephants) - elephants + 1,
+        u64::from(set.giraffes) - giraffes + 1,
+        9,
+        11,
+        layers::choose(10, chicks),
+        layers::choose(10 - chicks, elephants),
+        layers::choose(10 - chicks - elephants, giraffes),
+        power(4, chicks),
+        power(2, elephants),
+        power(2, giraffes),
+    ]
+}
+
+/// The power of a small base, for an exponent of at most 2.
+fn power(base: u64, exponent: u64) -> u64
+    requires small { base ≤ 4 }
+    requires few { exponent ≤ 2 }
+    ensures { result ≡ base ^ exponent }
+{
+    match exponent {
+        0 => 1,
+        1 => base,
+        _ => base * base,
+    }
+}
+
+/// How many positions the block of that number has.
+pub(crate) fn block_size(set: PieceSet, block: u64) -> u64
+    requires { block < product (block_bases set) }
+    ensures value { result ≡ size_of_block set block }
+    ensures bound { result ≤ 2 ^ 36 }
+{
+    let on_board = numbers_in(set, block);
+    radix::product(&bases_in(set, &on_board))
+}
+
+/// How many positions stand before the block of that number.
+pub(crate) fn block_start(set: PieceSet, block: u64) -> u64
+    requires { block ≤ product (block_bases set) }
+    ensures value { result ≡ sum_below (size_of_block set) block }
+    ensures bound { result ≤ 27 * 2 ^ 36 }
+{
+    let mut start = 0;
+    for earlier in 0..block {
+        start += block_size(set, earlier);
+    }
+    start
+}
+
+/// The block in which a rank below the set's size lies, and the place there.
+pub(crate) fn find_block(set: PieceSet, rank: u64) -> (u64, u64)
+    requires { rank < size_of set }
+    ensures block { result.0 < product (block_bases set) }
+    ensures place { result.1 < size_of_block set result.0 }
+    ensures whole { sum_below (size_of_block set) result.0 + result.1 ≡ rank }
+{
+    let mut place = rank;
+    let blocks = blocks(set);
+    for block in 0..blocks {
+        let size = block_size(set, block);
+        if place < size {
+            return (block, place);
+        }
+        place -= size;
+    }
+    (blocks, place)
+}

@@ -1,0 +1,95 @@
+// The forms of the pieces of a layer, as the digits of a number in the layer's base.
+ghost use Rattle.std.specs.Prelude.{◌≡◌, ◌<◌, ◌≤◌, map, length, slice_index};
+ghost use Rattle.std.specs.List.{All};
+ghost use Rattle.dob_rank.specs.Order.{form};
+ghost use Rattle.dob_rank.specs.Numbers.{layer as layer_in, count as number_in, base_of as base_in, forms_number as forms_number_of, cell_of as cell_in, board_of as board_in};
+
+use crate::layers::{Layers, layer_of};
+use dob_pieces::{Kind, Piece, Side, Square};
+
+/// How many forms a piece of that layer has.
+pub(crate) fn base_of(layer: u8) -> u64
+    ensures value { result ≡ base_in layer }
+    ensures low { 0 < result }
+    ensures high { result ≤ 4 }
+{
+    match layer {
+        2 => 4,
+        3 | 4 => 2,
+        _ => 1,
+    }
+}
+
+/// The form of a cell's piece: own chick 0, own hen 1, enemy chick 2, enemy hen 3; of the other kinds own 0 and
+/// enemy 1.
+pub(crate) fn form_of(cell: Option<Piece>) -> u64
+    ensures value { result ≡ form cell }
+    ensures bound { result ≤ 3 }
+{
+    let Some(piece) = cell else {
+        return 0;
+    };
+    match (piece.side, piece.kind) {
+        (Side::Mover, Kind::Hen) => 1,
+        (Side::Mover, _) => 0,
+        (Side::Enemy, Kind::Chick) => 2,
+        (Side::Enemy, Kind::Hen) => 3,
+        (Side::Enemy, Kind::Elephant | Kind::Giraffe) => 1,
+        (Side::Enemy, Kind::Lion) => 0,
+    }
+}
+
+/// The number whose digits are the forms of a layer's pieces, of which there are at most two.
+pub(crate) fn forms_number(board: &[Option<Piece>; Square::COUNT], layer: u8) -> u64
+    requires { number_in layer (map layer_in board.now) ≤ 2 }
+    ensures { result ≡ forms_number_of layer board.now }
+{
+    let base = base_of(layer);
+    let mut number = 0;
+    let mut weight = 1;
+    for square in (0..Square::COUNT).rev() {
+        let cell = board[square];
+        if layer_of(cell) == layer {
+            number += form_of(cell) * weight;
+            weight *= base;
+        }
+    }
+    number
+}
+
+/// The cell of that layer and form.
+pub(crate) fn cell_of(layer: u8, form: u64) -> Option<Piece>
+    ensures { result ≡ cell_in layer form }
+{
+    let (side, kind) = match (layer, form) {
+        (0, _) => (Side::Mover, Kind::Lion),
+        (1, _) => (Side::Enemy, Kind::Lion),
+        (2, 0) => (Side::Mover, Kind::Chick),
+        (2, 1) => (Side::Mover, Kind::Hen),
+        (2, 2) => (Side::Enemy, Kind::Chick),
+        (2, _) => (Side::Enemy, Kind::Hen),
+        (3, 0) => (Side::Mover, Kind::Elephant),
+        (3, _) => (Side::Enemy, Kind::Elephant),
+        (4, 0) => (Side::Mover, Kind::Giraffe),
+        (4, _) => (Side::Enemy, Kind::Giraffe),
+        _ => return None,
+    };
+    Some(Piece { side, kind })
+}
+
+/// The board of these layers on which the forms of each layer have the number that stands in its place.
+pub(crate) fn board_of(layers: &Layers, numbers: &[u64; 6]) -> [Option<Piece>; Square::COUNT]
+    requires { All (λ t. t ≤ 5) layers.now }
+    ensures { result ≡ board_in (slice_index numbers.now) layers.now }
+{
+    let mut rest = *numbers;
+    let mut board = [None; Square::COUNT];
+    for square in (0..Square::COUNT).rev() {
+        let layer = layers[square];
+        let base = base_of(layer);
+        let number = rest[layer as usize];
+        board[square] = cell_of(layer, number % base);
+        rest[layer as usize] = number / base;
+    }
+    board
+}

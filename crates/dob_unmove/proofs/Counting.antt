@@ -1,0 +1,280 @@
+-- The numbers gathered from all ways count the moves that lead into a class.
+use Rattle.std.proofs.Common.{◌≡◌, ◌≢◌, ℕ, zero, suc, ◌+◌, ◌-◌, ◌<◌, ◌≤◌, ◌⊎◌, ◌==◌, Bool, cond, List, [], ◌∷◌, ◌++◌, Option, Some, None, length, get_or, refl, sym, ap, ◌∙◌, subst, inl, inr, arith, All, AllPairs, Contains, option_to_list, length-append}
+use Rattle.std.specs.List.{count_by}
+use Rattle.std.proofs.lemmas.Bool.{cases_lt, cases_eq, eq-eqb, ne_eqb}
+use Rattle.std.proofs.lemmas.List.{append-nil, get_or_append_left, get_or-append_right, get_or_default}
+use Rattle.std.proofs.lemmas.List.Elements.{Contains-append_left, Contains-append_right, Contains-append_cases, All-contains, All-push, All-tail, All-head, All-nil}
+use Rattle.std.proofs.lemmas.List.Kept.{AllPairs-cons}
+use Rattle.std.proofs.lemmas.List.Sums.{sum_by_push}
+use Rattle.dob_pieces.specs.declared.setup.Setup.{Setup}
+use Rattle.dob_pieces.specs.Setups.{turned, mirrored}
+use Rattle.dob_pieces.proofs.Boards.{length-turned, length-mirrored}
+use Rattle.dob_moves.specs.declared.choice.Move.{Move}
+use Rattle.dob_moves.specs.declared.outlook.Status.TheVariants.{Open}
+use Rattle.dob_moves.specs.Moves.{Goes}
+use Rattle.dob_moves.specs.Statuses.{HasStatus}
+use Rattle.dob_moves.proofs.Outcomes.{Goes-is}
+use Rattle.dob_unmove.specs.declared.undo.Undo.{Undo}
+use Rattle.dob_unmove.specs.Undoes.{choice, earlier, CanUndo}
+use Rattle.dob_unmove.specs.Walks.{TakesAll, undoes}
+use Rattle.dob_unmove.specs.Unmoves.{HasEdges, CountEdges, IsNumbering}
+use Rattle.dob_unmove.specs.Gathers.{IsOpenFirst, Finds, Adds}
+use Rattle.dob_unmove.proofs.Undone.{Goes-from_undo, undo_from_Goes, same_undo}
+use Rattle.dob_unmove.proofs.Listed.{undoes_sound, undoes_whole}
+use Rattle.dob_unmove.proofs.Once.{undoes_once}
+
+-- ---- lists
+
+-- an element of a longer list is its first one or stands in the rest
+pub cons_cases : {X : Type 0} (x : X) (xs : List X) (y : X) → Contains (x ∷ xs) y → (x ≡ y) ⊎ Contains xs y
+cons_cases {X} x xs y h = cases h.0 h.1 h.2
+  where
+    cases : (k : ℕ) → k < suc (length xs) → get_or (x ∷ xs) k y ≡ y → (x ≡ y) ⊎ Contains xs y
+    cases zero lt e = inl e
+    cases (suc k) lt e = inr (k, omega arith, e)
+
+pub pairs-head : {X : Type 0} (R : X → X → Type 0) (x : X) (xs : List X) → AllPairs R (x ∷ xs) → All (R x) xs
+pairs-head R x xs h = λ k d lt. h 0 (suc k) d (omega arith) (omega arith)
+
+pub pairs-tail : {X : Type 0} (R : X → X → Type 0) (x : X) (xs : List X) → AllPairs R (x ∷ xs) → AllPairs R xs
+pairs-tail R x xs h = λ i j d lt within. h (suc i) (suc j) d (omega arith) (omega arith)
+
+-- two lists in each of which all pairs are related, and each of the one with each of the other
+pairs-append : {X : Type 0} (R : X → X → Type 0) (xs ys : List X) → AllPairs R xs → AllPairs R ys
+    → ((x y : X) → Contains xs x → Contains ys y → R x y) → AllPairs R (xs ++ ys)
+pairs-append R [] ys p q across = q
+pairs-append {X} R (x ∷ xs) ys p q across =
+    AllPairs-cons R x (xs ++ ys) related
+    (pairs-append R xs ys (pairs-tail R x xs p) q (λ a b in_xs in_ys. across a b (Contains-append_right (x ∷ []) xs a in_xs) in_ys))
+  where
+    related : All (R x) (xs ++ ys)
+    related k d lt =
+        elim (cases_lt k (length xs)) [
+          | inl low ↦ subst (R x) (sym (get_or_append_left xs ys d k low)) (pairs-head R x xs p k d low)
+          | inr high ↦
+              let there : k + 0 < length xs + length ys = omega (arith, length-append xs ys) in
+              subst (R x) (sym (get_or-append_right xs ys (length xs) k d refl high))
+              (across x _ (0, omega arith, refl) (k - length xs, omega arith, default_free k d high there))
+        ]
+      where
+        default_free : (k : ℕ) (d : X) → length xs ≤ k → k + 0 < length xs + length ys → get_or ys (k - length xs) (get_or ys (k - length xs) d) ≡ get_or ys (k - length xs) d
+        default_free k d high there = get_or_default ys (k - length xs) _ d (omega arith)
+
+-- ---- what the walk gathered
+
+-- the numbers added, one way after the other
+abbrev pub Gathers : (Setup → ℕ → Type 0) → Setup → List Undo → List ℕ → List ℕ → Type 0
+Gathers IsFirst t [] old new = old ≡ new
+Gathers IsFirst t (u ∷ us) old new = (found : Option ℕ) × Finds IsFirst (earlier t u) found × Gathers IsFirst t us (old ++ option_to_list found) new
+
+-- one way taken by what gathers numbers, which keeps its classes
+abbrev pub TakesNumber : {S C : Type 0} → (S → C) → (S → List ℕ) → (C → Setup → ℕ → Type 0) → Setup → S → Undo → S → Type 0
+TakesNumber classes found first t old u new =
+    (classes new ≡ classes old) × Adds (first (classes old)) t u (found old) (found new)
+
+pub all_gathered : {S C : Type 0} (classes : S → C) (found : S → List ℕ) (first : C → Setup → ℕ → Type 0) (t : Setup) (us : List Undo) (old new : S)
+    → TakesAll (TakesNumber classes found first t) old us new
+    → (classes new ≡ classes old) × Gathers (first (classes old)) t us (found old) (found new)
+all_gathered classes found first t [] old new e = (ap classes (sym e), ap found e)
+all_gathered classes found first t (u ∷ us) old new h =
+    let rest = all_gathered classes found first t us h.0 new h.2 in
+    let kept = h.1.0 in
+    let more = h.1.1.2 in
+    let later = subst (λ c. Gathers (first c) t us (found h.0) (found new)) kept rest.1 in
+    (rest.0 ∙ kept, (h.1.1.0, h.1.1.1, subst (λ (xs : List ℕ). Gathers (first (classes old)) t us xs (found new)) more later))
+
+module _ (IsFirst : Setup → ℕ → Type 0) (n : IsNumbering IsFirst) where
+  known_more : (p : Setup) (found : Option ℕ) (old : List ℕ) → Finds IsFirst p found → All (λ class. (p : Setup) × IsFirst p class) old → All (λ class. (p : Setup) × IsFirst p class) (old ++ option_to_list found)
+  known_more p None old f h = subst (All (λ class. (p : Setup) × IsFirst p class)) (sym (append-nil old)) h
+  known_more p (Some class) old f h = All-push (λ class. (p : Setup) × IsFirst p class) old class h (p, f.0)
+
+  pub gathered_known : (t : Setup) (us : List Undo) (old new : List ℕ) → Gathers IsFirst t us old new → All (λ class. (p : Setup) × IsFirst p class) old → All (λ class. (p : Setup) × IsFirst p class) new
+  gathered_known t [] old new e h = subst (All (λ class. (p : Setup) × IsFirst p class)) e h
+  gathered_known t (u ∷ us) old new g h = gathered_known t us _ new g.2 (known_more (earlier t u) g.0 old g.1 h)
+
+  module _ (p : Setup) (class : ℕ) (is_first : IsFirst p class) where
+    abbrev number_of : List ℕ → ℕ
+    number_of xs = count_by (λ x. x == class) xs
+
+    abbrev one_if : Bool → ℕ
+    one_if b = cond b 1 0
+
+    count_none : (old : List ℕ) → number_of (old ++ []) ≡ number_of old
+    count_none old = ap number_of (append-nil old)
+
+    count_same : (old : List ℕ) (found : ℕ) → found ≡ class → number_of (old ++ found ∷ []) ≡ number_of old + 1
+    count_same old found e =
+        let one : one_if (found == class) ≡ 1 = ap one_if (eq-eqb found class e) in
+        sum_by_push (λ x. one_if (x == class)) old found ∙ ap (λ k. number_of old + k) one
+
+    count_other : (old : List ℕ) (found : ℕ) → (found ≡ class → ⊥) → number_of (old ++ found ∷ []) ≡ number_of old
+    count_other old found ne =
+        let none : one_if (found == class) ≡ 0 = ap one_if (ne_eqb found class ne) in
+        let pushed = sum_by_push (λ x. one_if (x == class)) old found in
+        omega (arith, pushed, none)
+
+    module _ (q : Setup) (twelve : length q.board ≡ 12) where
+      -- the moves of the ways that lead back to the class's representative
+      record Selects (us : List Undo) (ms : List Move) : Type 0 where
+        sound : (m : Move) → Contains ms m → (u : Undo) × Contains us u × (choice u ≡ m) × IsOpenFirst IsFirst (earlier (turned q) u) class
+        whole : (u : Undo) → Contains us u → IsOpenFirst IsFirst (earlier (turned q) u) class → Contains ms (choice u)
+        once : AllPairs (λ (a b : Move). a ≢ b) ms
+
+      selects_none : Selects [] []
+      selects_none = record {
+        sound = λ m h. absurd (omega (arith, h.1));
+        whole = λ u h first. absurd (omega (arith, h.1));
+        once = λ i j d lt within. absurd (omega (arith, within));
+      }
+
+      -- a way that doesn't lead back there
+      selects_passed : (u : Undo) (us : List Undo) (ms : List Move) → ¬ IsOpenFirst IsFirst (earlier (turned q) u) class → Selects us ms → Selects (u ∷ us) ms
+      selects_passed u us ms other s = record {
+        sound = λ m h. let w = s.sound m h in (w.0, Contains-append_right (u ∷ []) us w.0 w.1, w.2, w.3);
+        whole = λ v h first.
+            elim (cons_cases u us v h) [
+              | inl e ↦ absurd (other (subst (λ (x : Undo). IsOpenFirst IsFirst (earlier (turned q) x) class) (sym e) first))
+              | inr later ↦ s.whole v later first
+            ];
+        once = s.once;
+      }
+
+      -- a way that does
+      selects_taken : (u : Undo) (us : List Undo) (ms : List Move) → CanUndo (turned q) u → All (CanUndo (turned q)) us → All (λ (v : Undo). u ≢ v) us
+          → IsOpenFirst IsFirst (earlier (turned q) u) class → Selects us ms → Selects (u ∷ us) (choice u ∷ ms)
+      selects_taken u us ms can all_can apart first s = record {
+        sound = λ m h.
+            elim (cons_cases (choice u) ms m h) [
+              | inl e ↦ (u, (0, omega arith, refl), e, first)
+              | inr later ↦ let w = s.sound m later in (w.0, Contains-append_right (u ∷ []) us w.0 w.1, w.2, w.3)
+            ];
+        whole = λ v h back.
+            elim (cons_cases u us v h) [
+              | inl e ↦ subst (λ (x : Undo). Contains (choice u ∷ ms) (choice x)) e (0, omega arith, refl)
+              | inr later ↦ Contains-append_right (choice u ∷ []) ms (choice v) (s.whole v later back)
+            ];
+        once = AllPairs-cons (λ (a b : Move). a ≢ b) (choice u) ms
+            (λ k d lt e.
+            let w = s.sound (get_or ms k d) (k, lt, get_or_default ms k _ d lt) in
+            let same : u ≡ w.0 = same_undo q u w.0 twelve can (All-contains (CanUndo (turned q)) us w.0 all_can w.1) (e ∙ sym w.2) (n.one_first _ _ class first.0 w.3.0) in
+            All-contains (λ (v : Undo). u ≢ v) us w.0 apart w.1 same)
+            s.once;
+      }
+
+      -- what was gathered has the class as often as there are such moves
+      abbrev Counted : List Undo → List ℕ → List ℕ → Type 0
+      Counted us old new = (ms : List Move) × Selects us ms × (number_of new ≡ number_of old + length ms)
+
+      select_step : (u : Undo) (us : List Undo) (old new : List ℕ) (found : Option ℕ) → CanUndo (turned q) u → All (CanUndo (turned q)) us → All (λ (v : Undo). u ≢ v) us
+          → Finds IsFirst (earlier (turned q) u) found → Counted us (old ++ option_to_list found) new → Counted (u ∷ us) old new
+      select_step u us old new None can all_can apart none c =
+          (c.0, selects_passed u us c.0 (λ first. none (class, first)) c.1, c.2 ∙ ap (λ k. k + length c.0) (count_none old))
+      select_step u us old new (Some found) can all_can apart is c =
+          elim (cases_eq found class) [
+            | inl same ↦
+                let first : IsOpenFirst IsFirst (earlier (turned q) u) class = subst (IsOpenFirst IsFirst (earlier (turned q) u)) same is in
+                (choice u ∷ c.0, selects_taken u us c.0 can all_can apart first c.1, omega (arith, c.2, count_same old found same))
+            | inr other ↦ (
+              c.0,
+              selects_passed u us c.0 (λ first. other (n.one_number _ _ found class is.0 first.0 (inl refl))) c.1,
+              c.2 ∙ ap (λ k. k + length c.0) (count_other old found other),
+            )
+          ]
+
+      select : (us : List Undo) (old new : List ℕ) → All (CanUndo (turned q)) us → AllPairs (λ (u v : Undo). u ≢ v) us → Gathers IsFirst (turned q) us old new → Counted us old new
+      select [] old new can once e = ([], selects_none, ap number_of (sym e) ∙ omega arith)
+      select (u ∷ us) old new can once g =
+          let tail_can = All-tail (CanUndo (turned q)) u us can in
+          select_step u us old new g.0 (All-head (CanUndo (turned q)) u us can) tail_can (pairs-head (λ (u v : Undo). u ≢ v) u us once) g.1
+          (select us (old ++ option_to_list g.0) new tail_can (pairs-tail (λ (u v : Undo). u ≢ v) u us once) g.2)
+
+      -- the moves of the representative that lead to q itself
+      record Leading (ms : List Move) : Type 0 where
+        sound : (m : Move) → Contains ms m → HasStatus p Open × Goes p m q
+        whole : (m : Move) → HasStatus p Open → Goes p m q → Contains ms m
+        once : AllPairs (λ (a b : Move). a ≢ b) ms
+
+      leading_from : (ms : List Move) → Selects (undoes (turned q)) ms → Leading ms
+      leading_from ms s = record {
+        sound = λ m h.
+            let w = s.sound m h in
+            let back = n.one_first _ p class w.3.0 is_first in
+            let goes = Goes-from_undo q w.0 twelve (undoes_sound (turned q) w.0 w.1) in (
+              subst (λ (x : Setup). HasStatus x Open) back w.3.1,
+              subst (λ (x : Setup). Goes x m q) back (subst (λ (x : Move). Goes (earlier (turned q) w.0) x q) w.2 goes),
+            );
+        whole = λ m can goes.
+            let w = undo_from_Goes p m q (n.legal p class is_first).squares goes in
+            let listed = undoes_whole (turned q) w.0 (length-turned q) w.1.0 in
+            let back = sym w.1.2 in
+            let first : IsOpenFirst IsFirst (earlier (turned q) w.0) class = (subst (λ (x : Setup). IsFirst x class) back is_first, subst (λ (x : Setup). HasStatus x Open) back can) in
+            subst (Contains ms) w.1.1 (s.whole w.0 listed first);
+        once = s.once;
+      }
+
+      can_all : All (CanUndo (turned q)) (undoes (turned q))
+      can_all k d lt = undoes_sound (turned q) (get_or (undoes (turned q)) k d) (k, lt, get_or_default (undoes (turned q)) k _ d lt)
+
+      counted_leading : (old new : List ℕ) → Gathers IsFirst (turned q) (undoes (turned q)) old new → (ms : List Move) × Leading ms × (number_of new ≡ number_of old + length ms)
+      counted_leading old new g =
+          let c = select (undoes (turned q)) old new can_all (undoes_once (turned q)) g in
+          (c.0, leading_from c.0 c.1, c.2)
+
+    one_outcome : (p : Setup) (m : Move) (a b : Setup) → Goes p m a → Goes p m b → a ≡ b
+    one_outcome p m a b g h = Goes-is p m a g ∙ sym (Goes-is p m b h)
+
+    -- the walk over a position that is its own mirror image counts the moves into its class
+    edges_alone : (q : Setup) (new : List ℕ) → length q.board ≡ 12 → mirrored q ≡ q → Gathers IsFirst (turned q) (undoes (turned q)) [] new → HasEdges p q (number_of new)
+    edges_alone q new twelve own g =
+        let c = counted_leading q twelve [] new g in
+        record {
+          moves = c.0;
+          sound = λ m h. let s = c.1.sound m h in (s.0, (q, s.1, inl refl));
+          whole = λ m leads.
+              let there : leads.1.0 ≡ q = elim leads.1.2 [ inl e ↦ e | inr e ↦ e ∙ own ] in
+              c.1.whole m leads.0 (subst (λ (x : Setup). Goes p m x) there leads.1.1);
+          once = c.1.once;
+          counted = omega (arith, c.2);
+        }
+
+    -- and else the walks over both
+    edges_both : (q : Setup) (mid new : List ℕ) → length q.board ≡ 12 → mirrored q ≢ q → Gathers IsFirst (turned q) (undoes (turned q)) [] mid
+        → Gathers IsFirst (turned (mirrored q)) (undoes (turned (mirrored q))) mid new → HasEdges p q (number_of new)
+    edges_both q mid new twelve other g h =
+        let c = counted_leading q twelve [] mid g in
+        let d = counted_leading (mirrored q) (length-mirrored q) mid new h in
+        record {
+          moves = c.0 ++ d.0;
+          sound = λ m found.
+              elim (Contains-append_cases c.0 d.0 m found) [
+                | inl first ↦ let s = c.1.sound m first in (s.0, (q, s.1, inl refl))
+                | inr second ↦ let s = d.1.sound m second in (s.0, (mirrored q, s.1, inr refl))
+              ];
+          whole = λ m leads.
+              elim leads.1.2 [
+                | inl e ↦ Contains-append_left c.0 d.0 m (c.1.whole m leads.0 (subst (λ (x : Setup). Goes p m x) e leads.1.1))
+                | inr e ↦ Contains-append_right c.0 d.0 m (d.1.whole m leads.0 (subst (λ (x : Setup). Goes p m x) e leads.1.1))
+              ];
+          once = pairs-append (λ (a b : Move). a ≢ b) c.0 d.0 c.1.once d.1.once
+              (λ a b first second e.
+              let s = c.1.sound a first in
+              let t = d.1.sound b second in
+              other (one_outcome p b (mirrored q) q t.1 (subst (λ (x : Move). Goes p x q) e s.1)));
+          counted = omega (arith, c.2, d.2, length-append c.0 d.0);
+        }
+
+  nothing_known : All (λ class. (p : Setup) × IsFirst p class) []
+  nothing_known = All-nil (λ class. (p : Setup) × IsFirst p class)
+
+  pub counts_alone : (q : Setup) (new : List ℕ) → length q.board ≡ 12 → mirrored q ≡ q → Gathers IsFirst (turned q) (undoes (turned q)) [] new → CountEdges IsFirst q new
+  counts_alone q new twelve own g = record {
+    known = gathered_known (turned q) (undoes (turned q)) [] new g nothing_known;
+    edges = λ p class is_first. edges_alone p class is_first q new twelve own g;
+  }
+
+  pub counts_both : (q : Setup) (mid new : List ℕ) → length q.board ≡ 12 → mirrored q ≢ q → Gathers IsFirst (turned q) (undoes (turned q)) [] mid
+      → Gathers IsFirst (turned (mirrored q)) (undoes (turned (mirrored q))) mid new → CountEdges IsFirst q new
+  counts_both q mid new twelve other g h = record {
+    known = gathered_known (turned (mirrored q)) (undoes (turned (mirrored q))) mid new h (gathered_known (turned q) (undoes (turned q)) [] mid g nothing_known);
+    edges = λ p class is_first. edges_both p class is_first q mid new twelve other g h;
+  }

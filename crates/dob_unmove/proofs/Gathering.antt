@@ -1,0 +1,98 @@
+-- What the functions that gather classes need, over plain values.
+use Rattle.std.proofs.Common.{◌≡◌, ◌≢◌, ℕ, true, false, List, [], Option, Some, None, sym, ap, ◌∙◌, subst, inr, arith}
+use Rattle.std.specs.Option.{MatchOption, is_some}
+use Rattle.std.specs.List.Sorted.{IsPermutation, IsNonDecreasingBy}
+use Rattle.std.proofs.lemmas.List.Sorted.{sum_by-IsPermutation, All-permutation}
+use Rattle.dob_pieces.specs.declared.setup.Setup.{Setup}
+use Rattle.dob_pieces.specs.Setups.{IsLegal, HasFewPieces, turned, mirrored}
+use Rattle.dob_pieces.proofs.Boards.{HasFewPieces-turned}
+use Rattle.dob_moves.specs.declared.outlook.Status.TheVariants.{Open}
+use Rattle.dob_moves.specs.Statuses.{HasStatus}
+use Rattle.dob_unmove.specs.Unmoves.{IsNumbering, HasEdges, CountEdges, ArePredecessors, IsOpenPosition}
+use Rattle.dob_unmove.specs.Gathers.{Finds, Adds}
+use Rattle.dob_unmove.specs.declared.undo.Undo.{Undo}
+use Rattle.dob_unmove.specs.declared.predecessors.Gathered.{Gathered}
+use Rattle.dob_unmove.specs.Walks.{TakesAll, undoes}
+use Rattle.dob_unmove.proofs.Counting.{Gathers, all_gathered, counts_alone, counts_both}
+
+-- the answer of the numbering, at the position before the move
+pub finds_from : (IsFirst : Setup → ℕ → Type 0) (p s : Setup) (o : Option ℕ) → p ≡ s → HasStatus p Open
+    → MatchOption o (¬ ((class : ℕ) × IsFirst p class)) (IsFirst p) → Finds IsFirst s o
+finds_from IsFirst p s None e has h = λ w. h (w.0, subst (λ (x : Setup). IsFirst x w.0) (sym e) w.1.0)
+finds_from IsFirst p s (Some class) e has h = (subst (λ (x : Setup). IsFirst x class) e h, subst (λ (x : Setup). HasStatus x Open) e has)
+
+-- the walk found no open position, so none that is a representative
+pub finds_none : (IsFirst : Setup → ℕ → Type 0) (s : Setup) → IsNumbering IsFirst → ¬ IsOpenPosition s → Finds IsFirst s None
+finds_none IsFirst s n closed w = closed (record { legal = n.legal s w.0 w.1.0; open_to_move = w.1.1 })
+
+pub few_turned : (s t : Setup) → t ≡ turned s → IsLegal s → HasFewPieces t
+few_turned s t e legal = subst HasFewPieces (sym e) (HasFewPieces-turned s legal.squares legal.few)
+
+-- the mirror image is a representative exactly where it is the position itself
+pub own_image : (IsFirst : Setup → ℕ → Type 0) (q image : Setup) (o : Option ℕ) → IsNumbering IsFirst
+    → ((class : ℕ) × IsFirst q class) → image ≡ mirrored q
+    → MatchOption o (¬ ((class : ℕ) × IsFirst image class)) (IsFirst image) → is_some o ≡ true → mirrored q ≡ q
+own_image IsFirst q image None n w e h some = cc
+own_image IsFirst q image (Some class) n w e h some =
+    let same : w.0 ≡ class = n.one_number q image w.0 class w.1 h (inr e) in
+    sym e ∙ sym (n.one_first q image class (subst (IsFirst q) same w.1) h)
+
+pub other_image : (IsFirst : Setup → ℕ → Type 0) (q image : Setup) (o : Option ℕ)
+    → ((class : ℕ) × IsFirst q class) → image ≡ mirrored q
+    → MatchOption o (¬ ((class : ℕ) × IsFirst image class)) (IsFirst image) → is_some o ≡ false → mirrored q ≢ q
+other_image IsFirst q image None w e h none own = h (w.0, subst (λ (x : Setup). IsFirst x w.0) (sym own ∙ sym e) w.1)
+other_image IsFirst q image (Some class) w e h none own = cc
+
+-- sorting keeps the counts
+pub sorted_counts : (IsFirst : Setup → ℕ → Type 0) (q : Setup) (xs ys : List ℕ) → CountEdges IsFirst q xs → IsPermutation xs ys
+    → IsNonDecreasingBy (λ (x : ℕ). x) ys → ArePredecessors IsFirst q ys
+sorted_counts IsFirst q xs ys c moved rises = record {
+  counts = record {
+    known = All-permutation (λ (class : ℕ). (p : Setup) × IsFirst p class) xs ys moved c.known;
+    edges = λ p class first. subst (HasEdges p q) (sym (sum_by-IsPermutation _ xs ys moved)) (c.edges p class first);
+  };
+  ascending = λ i j d lt within. rises i j d (omega arith) within;
+}
+
+-- ---- the walks
+
+-- what one way adds to the gathered classes
+abbrev pub Gathering : {N : Type 0} → (N → Setup → ℕ → Type 0) → Setup → Gathered N → Undo → Gathered N → Type 0
+Gathering first t old undo new =
+    (new.classes ≡ old.classes) × Adds (first old.classes.now) t undo old.found.items new.found.items
+
+gathered_by : {N : Type 0} (first : N → Setup → ℕ → Type 0) (t : Setup) (us : List Undo) (old new : Gathered N)
+    → TakesAll (Gathering first t) old us new
+    → (new.classes ≡ old.classes) × Gathers (first old.classes.now) t us old.found.items new.found.items
+gathered_by {N} first t us old new h =
+    all_gathered (λ (s : Gathered N). s.classes) (λ (s : Gathered N). s.found.items) (λ c. first c.now) t us old new h
+
+-- a first walk begins with no numbers
+first_walk : {N : Type 0} (first : N → Setup → ℕ → Type 0) (q t : Setup) (old new : Gathered N)
+    → t ≡ turned q → old.found.items ≡ [] → TakesAll (Gathering first t) old (undoes t) new
+    → Gathers (first old.classes.now) (turned q) (undoes (turned q)) [] new.found.items
+first_walk first q t old new e none h =
+    let g = (gathered_by first t (undoes t) old new h).1 in
+    let there = subst (λ (x : Setup). Gathers (first old.classes.now) x (undoes x) old.found.items new.found.items) e g in
+    subst (λ (xs : List ℕ). Gathers (first old.classes.now) (turned q) (undoes (turned q)) xs new.found.items) none there
+
+pub walked_alone : {N : Type 0} (first : N → Setup → ℕ → Type 0) (q t : Setup) (old new : Gathered N)
+    → IsNumbering (first old.classes.now) → IsLegal q → mirrored q ≡ q
+    → t ≡ turned q → old.found.items ≡ [] → TakesAll (Gathering first t) old (undoes t) new
+    → CountEdges (first old.classes.now) q new.found.items
+walked_alone first q t old new n legal own e none h =
+    counts_alone (first old.classes.now) n q new.found.items legal.squares own (first_walk first q t old new e none h)
+
+pub walked_both : {N : Type 0} (first : N → Setup → ℕ → Type 0) (q image t s : Setup) (old mid new : Gathered N)
+    → IsNumbering (first old.classes.now) → IsLegal q → mirrored q ≢ q → image ≡ mirrored q
+    → t ≡ turned q → s ≡ turned image → old.found.items ≡ [] → TakesAll (Gathering first t) old (undoes t) mid
+    → TakesAll (Gathering first s) mid (undoes s) new
+    → CountEdges (first old.classes.now) q new.found.items
+walked_both first q image t s old mid new n legal other im e f none h k =
+    let once = first_walk first q t old mid e none h in
+    let kept = (gathered_by first t (undoes t) old mid h).0 in
+    let second = (gathered_by first s (undoes s) mid new k).1 in
+    let same = subst (λ c. Gathers (first c.now) s (undoes s) mid.found.items new.found.items) kept second in
+    let there : s ≡ turned (mirrored q) = f ∙ ap turned im in
+    counts_both (first old.classes.now) n q mid.found.items new.found.items legal.squares other once
+    (subst (λ (x : Setup). Gathers (first old.classes.now) x (undoes x) mid.found.items new.found.items) there same)

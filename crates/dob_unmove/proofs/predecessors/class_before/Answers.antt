@@ -1,0 +1,15 @@
+-- The position before the move is the one that was asked for.
+use Rattle.dob_unmove.specs.Undoes.{earlier}
+use Rattle.dob_unmove.specs.Classes.{IsFirstIn}
+use Rattle.dob_unmove.proofs.Classes.{IsNumbering-classes}
+use Rattle.dob_unmove.proofs.Gathering.{finds_none, finds_from}
+use Rattle.dob_unmove.proofs.predecessors.class_before.Goals as goal
+
+pub returns-in-None : goal.returns-in-None
+returns-in-None g c =
+    finds_none (IsFirstIn (g.N.Numbering.piece_set c.args.classes.now)) (earlier c.args.after.now c.args.undo) (IsNumbering-classes (g.N.Numbering.piece_set c.args.classes.now)) c.in-None.ensures
+
+pub returns-in-Some : goal.returns-in-Some
+returns-in-Some g c =
+    finds_from (IsFirstIn (g.N.Numbering.piece_set c.args.classes.now)) c.in-Some.position.setup (earlier c.args.after.now c.args.undo)
+    c.class_of_first.result c.in-Some.ensures.0 c.in-Some.ensures.1 c.class_of_first.ensures

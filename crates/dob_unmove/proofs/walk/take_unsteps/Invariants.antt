@@ -1,0 +1,7 @@
+-- The steps from the squares below the index are taken.
+use Rattle.dob_unmove.specs.Walks.{TakesAll, each_below, unsteps_from}
+use Rattle.dob_unmove.proofs.walk.take_unsteps.Given as goal
+
+abbrev pub invariant-loop-index : goal.invariant-loop-index
+invariant-loop-index g l =
+    TakesAll (g.T.Taker.takes l.after) l.fn.taker (each_below (unsteps_from l.after l.kind l.to) l.index) l.taker

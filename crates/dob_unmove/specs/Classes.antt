@@ -1,0 +1,9 @@
+-- The classes of a piece set, and how often moves of one lead into another.
+use Rattle.std.specs.Prelude.{ℕ}
+use Rattle.dob_pieces.specs.declared.piece_set.PieceSet.{PieceSet}
+use Rattle.dob_pieces.specs.declared.setup.Setup.{Setup}
+use Rattle.dob_rank.specs.Order.{IsRepresentative, HasClass}
+
+-- the position is the representative of the class with that number
+abbrev pub IsFirstIn : PieceSet → Setup → ℕ → Type 0
+IsFirstIn set p class = IsRepresentative set p × HasClass set p class

@@ -1,0 +1,20 @@
+-- The numbers that are gathered when the ways to take a move back are gone through.
+use Rattle.std.specs.Prelude.{◌≡◌, ℕ, ◌++◌, List, Option}
+use Rattle.std.specs.Option.{MatchOption, option_to_list}
+use Rattle.dob_pieces.specs.declared.setup.Setup.{Setup}
+use Rattle.dob_moves.specs.declared.outlook.Status.TheVariants.{Open}
+use Rattle.dob_moves.specs.Statuses.{HasStatus}
+use Rattle.dob_unmove.specs.declared.undo.Undo.{Undo}
+use Rattle.dob_unmove.specs.Undoes.{earlier}
+
+-- the setup is an open position, and the representative of that class
+abbrev pub IsOpenFirst : (Setup → ℕ → Type 0) → Setup → ℕ → Type 0
+IsOpenFirst IsFirst p class = IsFirst p class × HasStatus p Open
+
+-- the class of which the setup is the representative, if it is an open position and one
+abbrev pub Finds : (Setup → ℕ → Type 0) → Setup → Option ℕ → Type 0
+Finds IsFirst p found = MatchOption found (¬ ((class : ℕ) × IsOpenFirst IsFirst p class)) (IsOpenFirst IsFirst p)
+
+-- what taking one way back adds to the list of numbers
+abbrev pub Adds : (Setup → ℕ → Type 0) → Setup → Undo → List ℕ → List ℕ → Type 0
+Adds IsFirst after undo old new = (found : Option ℕ) × Finds IsFirst (earlier after undo) found × (new ≡ old ++ option_to_list found)

@@ -1,0 +1,5 @@
+pub mod Undoes
+pub mod Walks
+pub mod Unmoves
+pub mod Gathers
+pub mod Classes

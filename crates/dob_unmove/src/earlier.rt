@@ -1,0 +1,152 @@
+// The position before a move.
+ghost use Rattle.std.specs.Prelude.{◌≡◌, ◌<◌, MatchOption};
+ghost use Rattle.dob_pieces.specs.Setups.{held, HasFewPieces};
+ghost use Rattle.dob_moves.specs.Moves.{with_one_more, with_one_less};
+ghost use Rattle.dob_moves.specs.Statuses.{HasStatus};
+ghost use Rattle.dob_unmove.specs.Undoes.{CanGiveBack, CanUndo, without_caught, enemy_cell, earlier};
+ghost use Rattle.dob_unmove.specs.Unmoves.{IsOpenPosition};
+
+use crate::undo::Undo;
+use dob_moves::{Status, status};
+use dob_pieces::{Hand, HandKind, Hands, Kind, Piece, Position, Setup, Side, Square};
+
+/// The position before the move, where there was one and it was open. In `after` the side that made the move is
+/// still the mover.
+pub(crate) fn open_before(after: &Setup, undo: Undo) -> Option<Position>
+    requires can { CanUndo after.now undo }
+    requires few { HasFewPieces after.now }
+    ensures { MatchOption result (¬ IsOpenPosition (earlier after.now undo)) (λ p. (p.setup ≡ earlier after.now undo) × HasStatus p.setup Status.Open) }
+{
+    let setup = earlier(after, undo);
+    if !setup.is_legal() {
+        return None;
+    }
+    let position = Position::new(setup);
+    match status(&position) {
+        Status::Open => Some(position),
+        _ => None,
+    }
+}
+
+// What stood and lay where before the move.
+fn earlier(after: &Setup, undo: Undo) -> Setup
+    requires can { CanUndo after.now undo }
+    requires few { HasFewPieces after.now }
+    ensures { result ≡ earlier after.now undo }
+{
+    match undo {
+        Undo::Unstep {
+            kind,
+            from,
+            to,
+            caught,
+        } => before_step(after, kind, from, to, caught),
+        Undo::Unput { kind, to } => before_put(after, kind, to),
+    }
+}
+
+// What stood and lay where before a step.
+#[tactic(auto, unfolding(crate::specs::Undoes::earlier))]
+fn before_step(after: &Setup, kind: Kind, from: Square, to: Square, caught: Option<Kind>) -> Setup
+    requires { CanGiveBack after.now.hands.mover caught }
+    ensures { result ≡ earlier after.now (Undo.Unstep kind from to caught) }
+{
+    let mut board = after.board;
+    board[to.index()] = enemy_cell(caught);
+    board[from.index()] = Some(Piece {
+        side: Side::Mover,
+        kind,
+    });
+    let mover = without_caught(after.hands.mover, caught);
+    Setup {
+        board,
+        hands: Hands {
+            mover,
+            enemy: after.hands.enemy,
+        },
+    }
+}
+
+// What stood and lay where before a drop.
+#[tactic(auto, using(crate::proofs::Hands::few_held), unfolding(crate::specs::Undoes::earlier))]
+fn before_put(after: &Setup, kind: HandKind, to: Square) -> Setup
+    requires { HasFewPieces after.now }
+    ensures { result ≡ earlier after.now (Undo.Unput kind to) }
+{
+    let mut board = after.board;
+    board[to.index()] = None;
+    let mover = with_one_more(after.hands.mover, kind);
+    Setup {
+        board,
+        hands: Hands {
+            mover,
+            enemy: after.hands.enemy,
+        },
+    }
+}
+
+// An enemy piece of that kind, if there is one.
+fn enemy_cell(caught: Option<Kind>) -> Option<Piece>
+    ensures { result ≡ enemy_cell caught }
+{
+    caught.map(|kind| Piece {
+        side: Side::Enemy,
+        kind,
+    })
+}
+
+// The hand without the piece that was caught, if there is one.
+fn without_caught(hand: Hand, caught: Option<Kind>) -> Hand
+    requires { CanGiveBack hand caught }
+    ensures { result ≡ without_caught hand caught }
+{
+    match caught {
+        None => hand,
+        Some(kind) => match kind.in_hand() {
+            None => hand,
+            Some(taken) => with_one_less(hand, taken),
+        },
+    }
+}
+
+// The hand with one more of a kind.
+fn with_one_more(hand: Hand, kind: HandKind) -> Hand
+    requires { held hand kind < 255 }
+    ensures { result ≡ with_one_more hand kind }
+{
+    match kind {
+        HandKind::Chick => Hand {
+            chicks: hand.chicks + 1,
+            ..hand
+        },
+        HandKind::Elephant => Hand {
+            elephants: hand.elephants + 1,
+            ..hand
+        },
+        HandKind::Giraffe => Hand {
+            giraffes: hand.giraffes + 1,
+            ..hand
+        },
+    }
+}
+
+// The hand with one less of a kind.
+fn with_one_less(hand: Hand, kind: HandKind) -> Hand
+    requires { 0 < held hand kind }
+    ensures { result ≡ with_one_less hand kind }
+{
+    match kind {
+        HandKind::Chick => Hand {
+            chicks: hand.chicks - 1,
+            ..hand
+        },
+        HandKind::Elephant => Hand {
+            elephants: hand.elephants - 1,
+            ..hand
+        },
+        HandKind::Giraffe => Hand {
+            giraffes: hand.giraffes - 1,
+            ..hand
+        },
+    }
+}

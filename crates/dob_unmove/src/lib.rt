@@ -1,0 +1,15 @@
+// Moves taken back: from which classes of positions, and by how many of their moves, a class is reached.
+#![tactic(auto)]
+
+mod earlier;
+mod first;
+mod numbering;
+mod predecessors;
+mod steps;
+mod undo;
+mod walk;
+
+pub use predecessors::back;
+
+#[cfg(test)]
+mod tests;

@@ -1,0 +1,46 @@
+// The classes of a piece set, as a walk over the moves that lead into one asks for them.
+ghost use Rattle.std.specs.Prelude.{◌<◌, ℕ, MatchOption};
+ghost use Rattle.dob_pieces.specs.declared.piece_set.PieceSet.{PieceSet};
+ghost use Rattle.dob_rank.specs.Marks.{classes_of};
+ghost use Rattle.dob_unmove.specs.Classes.{IsFirstIn};
+
+use crate::first::is_first;
+use dob_pieces::Position;
+use dob_rank::Classes;
+
+/// The classes of a piece set. A class is a position and its mirror image, the earlier of the two is its
+/// representative, and its number is how many representatives stand before that one.
+pub(crate) trait Numbering {
+    /// The piece set.
+    ghost piece_set: { Self → PieceSet };
+
+    /// How many classes there are.
+    ghost count: { Self → ℕ };
+
+    /// The representative of the class.
+    fn first_of(&self, class: u64) -> Position
+        requires { class < count self.now }
+        ensures { IsFirstIn (piece_set self.now) result.setup class };
+
+    /// The class whose representative the position is. `None` where it is no representative, or one of another set.
+    fn class_of_first(&self, position: &Position) -> Option<u64>
+        ensures { MatchOption result (¬ ((class : ℕ) × IsFirstIn (piece_set self.now) position.now.setup class)) (IsFirstIn (piece_set self.now) position.now.setup) };
+}
+
+impl Numbering for Classes {
+    ghost piece_set = { λ classes. classes.set };
+
+    ghost count = { λ classes. classes_of classes.set };
+
+    fn first_of(&self, class: u64) -> Position {
+        self.class_at(class)
+    }
+
+    fn class_of_first(&self, position: &Position) -> Option<u64> {
+        if is_first(self.set, position) {
+            Some(self.class_of(position))
+        } else {
+            None
+        }
+    }
+}

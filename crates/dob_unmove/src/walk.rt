@@ -1,0 +1,199 @@
+// The ways in which the last move may have been made, gone through one after the other.
+ghost use Rattle.std.specs.Prelude.{◌≡◌, true};
+ghost use Rattle.std.specs.Result.{OnOk};
+ghost use Rattle.dob_pieces.specs.declared.setup.Setup.{Setup};
+ghost use Rattle.dob_pieces.specs.Pieces.{leads};
+ghost use Rattle.dob_pieces.specs.Setups.{at, HasFewPieces};
+ghost use Rattle.dob_unmove.specs.declared.undo.Undo.{Undo};
+ghost use Rattle.dob_unmove.specs.Undoes.{arrives_at, CanUndo};
+ghost use Rattle.dob_unmove.specs.Walks.{TakesAll, stands, is_kind, holds_caught, uncatch, unsteps_from, unsteps, unputs, undoes_at, undoes};
+
+use crate::steps::leads;
+use crate::undo::Undo;
+use dob_pieces::{Hand, HandKind, Kind, Memory, Piece, Setup, Side, Square};
+
+/// Takes the ways in which the last move may have been made, one at a time.
+pub(crate) trait Taker {
+    /// By `takes after old undo new` taking that way back leads from the one state to the other.
+    ghost takes: { Setup → Self → Undo → Self → Type 0 };
+
+    /// Takes one way to take the last move back from `after`, in which the side that made it is the mover.
+    fn take(&mut self, after: &Setup, undo: Undo) -> Result<(), Memory>
+        requires can { CanUndo after.now undo }
+        requires few { HasFewPieces after.now }
+        ensures { OnOk result (takes after.now self.old undo self.new) };
+}
+
+/// Takes all the ways in which the last move may have been made, each once, by square of arrival, kind and square of
+/// departure. In `after` the side that made the move is the mover. Memory: none of its own.
+#[tactic(auto, using(crate::proofs::Runs::runs), unfolding(crate::specs::Walks::undoes))]
+pub(crate) fn take_all<T: Taker>(taker: &mut T, after: &Setup) -> Result<(), Memory>
+    requires { HasFewPieces after.now }
+    ensures { OnOk result (TakesAll (T.takes after.now) taker.old (undoes after.now) taker.new) }
+{
+    for index in 0..Square::COUNT {
+        take_at(taker, after, Square::new(index))?;
+    }
+    Ok(())
+}
+
+// Takes the ways in which the last move may have ended on the square.
+#[tactic(auto, using(crate::proofs::Runs::runs), unfolding(crate::specs::Walks::undoes_at))]
+fn take_at<T: Taker>(taker: &mut T, after: &Setup, to: Square) -> Result<(), Memory>
+    requires { HasFewPieces after.now }
+    ensures { OnOk result (TakesAll (T.takes after.now) taker.old (undoes_at after.now to) taker.new) }
+{
+    take_unsteps(taker, after, Kind::Lion, to)?;
+    take_unsteps(taker, after, Kind::Giraffe, to)?;
+    take_unsteps(taker, after, Kind::Elephant, to)?;
+    take_unsteps(taker, after, Kind::Chick, to)?;
+    take_unsteps(taker, after, Kind::Hen, to)?;
+    take_unput(taker, after, HandKind::Chick, to)?;
+    take_unput(taker, after, HandKind::Elephant, to)?;
+    take_unput(taker, after, HandKind::Giraffe, to)
+}
+
+// Takes the steps of pieces of that kind to the square.
+#[tactic(auto, using(crate::proofs::Runs::runs), unfolding(crate::specs::Walks::unsteps))]
+fn take_unsteps<T: Taker>(
+    taker: &mut T,
+    after: &Setup,
+    kind: Kind,
+    to: Square,
+) -> Result<(), Memory>
+    requires { HasFewPieces after.now }
+    ensures { OnOk result (TakesAll (T.takes after.now) taker.old (unsteps after.now kind to) taker.new) }
+{
+    if !stands(after.at(to), arrives_at(kind, to)) {
+        return Ok(());
+    }
+    for index in 0..Square::COUNT {
+        take_unsteps_from(taker, after, kind, Square::new(index), to)?;
+    }
+    Ok(())
+}
+
+// Takes the steps of a piece of that kind, which stands on the one square now, from the other.
+#[tactic(auto, using(crate::proofs::Runs::runs), unfolding(crate::specs::Walks::unsteps_from))]
+fn take_unsteps_from<T: Taker>(
+    taker: &mut T,
+    after: &Setup,
+    kind: Kind,
+    from: Square,
+    to: Square,
+) -> Result<(), Memory>
+    requires stands { stands (at after.now to) (arrives_at kind to) ≡ true }
+    requires few { HasFewPieces after.now }
+    ensures { OnOk result (TakesAll (T.takes after.now) taker.old (unsteps_from after.now kind to from) taker.new) }
+{
+    if after.at(from).is_some() || !leads(kind, from, to) {
+        return Ok(());
+    }
+    taker.take(
+        after,
+        Undo::Unstep {
+            kind,
+            from,
+            to,
+            caught: None,
+        },
+    )?;
+    take_uncatch(taker, after, kind, from, to, Kind::Giraffe)?;
+    take_uncatch(taker, after, kind, from, to, Kind::Elephant)?;
+    take_uncatch(taker, after, kind, from, to, Kind::Chick)?;
+    take_uncatch(taker, after, kind, from, to, Kind::Hen)
+}
+
+// Takes the step that caught a piece of that kind, if the hand has it.
+#[tactic(auto, using(crate::proofs::Runs::runs))]
+fn take_uncatch<T: Taker>(
+    taker: &mut T,
+    after: &Setup,
+    kind: Kind,
+    from: Square,
+    to: Square,
+    caught: Kind,
+) -> Result<(), Memory>
+    requires step { CanUndo after.now (Undo.Unstep kind from to None) }
+    requires few { HasFewPieces after.now }
+    ensures { OnOk result (TakesAll (T.takes after.now) taker.old (uncatch after.now kind from to caught) taker.new) }
+{
+    if !holds_caught(&after.hands.mover, caught) {
+        return Ok(());
+    }
+    taker.take(
+        after,
+        Undo::Unstep {
+            kind,
+            from,
+            to,
+            caught: Some(caught),
+        },
+    )
+}
+
+// Takes the drop of that kind on the square, if the mover's piece of that kind stands there.
+#[tactic(auto, using(crate::proofs::Runs::runs), unfolding(crate::specs::Walks::unputs))]
+fn take_unput<T: Taker>(
+    taker: &mut T,
+    after: &Setup,
+    kind: HandKind,
+    to: Square,
+) -> Result<(), Memory>
+    requires { HasFewPieces after.now }
+    ensures { OnOk result (TakesAll (T.takes after.now) taker.old (unputs after.now kind to) taker.new) }
+{
+    if !stands(after.at(to), kind.on_board()) {
+        return Ok(());
+    }
+    taker.take(after, Undo::Unput { kind, to })
+}
+
+// Whether the mover's piece of that kind stands there.
+fn stands(cell: Option<Piece>, kind: Kind) -> bool
+    ensures { result ≡ stands cell kind }
+{
+    match cell {
+        Some(
+            Piece {
+                side: Side::Mover,
+                kind: own,
+            },
+        ) => is_kind(own, kind),
+        _ => false,
+    }
+}
+
+// Whether the two kinds are the same.
+fn is_kind(own: Kind, kind: Kind) -> bool
+    ensures { result ≡ is_kind own kind }
+{
+    match (own, kind) {
+        (Kind::Lion, Kind::Lion)
+        | (Kind::Giraffe, Kind::Giraffe)
+        | (Kind::Elephant, Kind::Elephant)
+        | (Kind::Chick, Kind::Chick)
+        | (Kind::Hen, Kind::Hen) => true,
+        _ => false,
+    }
+}
+
+// The kind as which a piece of that kind arrives on the square: a chick on its far row as a hen.
+fn arrives_at(kind: Kind, to: Square) -> Kind
+    ensures { result ≡ arrives_at kind to }
+{
+    match kind {
+        Kind::Chick if to.row() == 3 => Kind::Hen,
+        _ => kind,
+    }
+}
+
+// Whether the hand holds what a caught piece of that kind became.
+fn holds_caught(hand: &Hand, caught: Kind) -> bool
+    ensures { result ≡ holds_caught hand.now caught }
+{
+    match caught.in_hand() {
+        None => false,
+        Some(taken) => hand.count(taken) > 0,
+    }
+}
