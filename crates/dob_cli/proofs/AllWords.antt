@@ -12,12 +12,13 @@ use Rattle.clap.specs.Faults.{check_fault, defaults_fault, entered_fault, settle
 use Rattle.clap.specs.declared.error.kind.ErrorKind.TheVariants as kind
 use Rattle.clap.proofs.FaultLemmas.{stopped_fault}
 use Rattle.clap.proofs.WalkLemmas.{walk_stopped}
-use Rattle.dob_cli.specs.Words.{Text, help, is_help_flag, is_text, meaning_of, meaning_of_value, topic, usage}
+use Rattle.dob_cli.specs.Words.{Text, help, is_help_flag, is_text, meaning_of, meaning_of_count, meaning_of_value, topic, usage}
 use Rattle.dob_cli.specs.Shapes.{dobutsu_app}
 use Rattle.dob_cli.proofs.Lexing.{flip_bytes, or_false}
-use Rattle.dob_cli.proofs.Turns.{Fits, KnowsHelp, help_flag, is_usage, or_else_usage}
+use Rattle.dob_cli.proofs.Turns.{Fits, KnowsHelp, help_flag, is_usage, none, or_else_usage}
 use Rattle.dob_cli.proofs.Steps.{help_turn, open_at, other_turn, text_turn}
 use Rattle.dob_cli.proofs.ValueWords.{value_fits, value_kinds, value_shape}
+use Rattle.dob_cli.proofs.CountWords.{count_fits, count_kinds, count_shape}
 
 -- the program's command, built
 abbrev program : App
@@ -29,15 +30,16 @@ top = program.top
 abbrev names : Names
 names = names_of program
 
-subs_are : program.subs ≡ value_shape ∷ Rattle.clap.specs.Simple.built_leaf (Rattle.clap.specs.Simple.help_shape) ∷ []
+subs_are : program.subs ≡ value_shape ∷ count_shape ∷ Rattle.clap.specs.Simple.built_leaf (Rattle.clap.specs.Simple.help_shape) ∷ []
 subs_are = refl
 
 abbrev start : Walk
 start = open_at [] None 1
 
-knows : KnowsHelp top.rules [] None
+knows : KnowsHelp top.rules [] None none
 knows = record {
-  by_long = λ name. ap (λ b. cond b (Some help_flag) None) (or_false (bytes_eq (codes "help") name));
+  no_option = refl;
+  by_long = λ name own. ap (λ b. cond b (Some help_flag) None) (or_false (bytes_eq (codes "help") name));
   by_short = λ x. ap (λ b. cond b (Some help_flag) None) (or_false (104 == x));
   asks = refl;
 }
@@ -67,11 +69,16 @@ refuses w word rest fails =
     or_else_usage (or_else (turn_fault top names w word) (walk_fault top names (walked top.rules names w word) rest)) (ending (fold (walked top.rules names) w (word ∷ rest)))
     (or_else_usage (turn_fault top names w word) (walk_fault top names (walked top.rules names w word) rest) fails)
 
--- the words from `value` on
-abbrev entered_at : List Text → Walk
-entered_at words = record start { stopped = Some (codes "value", words) }
+or_else_nil : (k : Kinds) → or_else k [] ≡ k
+or_else_nil [] = refl
+or_else_nil (k ∷ ks) = refl
 
-value_steps : (rest : List Text) → fold (walked top.rules names) start (codes "value" ∷ rest) ≡ entered_at rest
+-- the words from the name of a subcommand on
+abbrev entered_at : Text → List Text → Walk
+entered_at name words = record start { stopped = Some (name, words) }
+
+-- the words from `value` on
+value_steps : (rest : List Text) → fold (walked top.rules names) start (codes "value" ∷ rest) ≡ entered_at (codes "value") rest
 unfolding walked
 value_steps rest = sym (walk_stopped top.rules names start (codes "value") [] rest)
 
@@ -79,11 +86,7 @@ value_walks : (rest : List Text) → walk_fault top names start (codes "value" �
 unfolding walk_fault walked
 value_walks rest = stopped_fault top names start (codes "value", []) rest
 
-or_else_nil : (k : Kinds) → or_else k [] ≡ k
-or_else_nil [] = refl
-or_else_nil (k ∷ ks) = refl
-
-value_ends : (rest : List Text) → ending (entered_at rest) ≡ or_else (value_kinds rest) []
+value_ends : (rest : List Text) → ending (entered_at (codes "value") rest) ≡ or_else (value_kinds rest) []
 unfolding defaults_fault
 value_ends rest = refl
 
@@ -91,6 +94,24 @@ value_kinds_are : (rest : List Text) → kinds_at start (codes "value" ∷ rest)
 value_kinds_are rest =
     ap (λ k. or_else k (ending (fold (walked top.rules names) start (codes "value" ∷ rest)))) (value_walks rest)
     ∙ (ap ending (value_steps rest) ∙ (value_ends rest ∙ or_else_nil (value_kinds rest)))
+
+-- the words from `count` on
+count_steps : (rest : List Text) → fold (walked top.rules names) start (codes "count" ∷ rest) ≡ entered_at (codes "count") rest
+unfolding walked
+count_steps rest = sym (walk_stopped top.rules names start (codes "count") [] rest)
+
+count_walks : (rest : List Text) → walk_fault top names start (codes "count" ∷ rest) ≡ []
+unfolding walk_fault walked
+count_walks rest = stopped_fault top names start (codes "count", []) rest
+
+count_ends : (rest : List Text) → ending (entered_at (codes "count") rest) ≡ or_else (count_kinds rest) []
+unfolding defaults_fault
+count_ends rest = refl
+
+count_kinds_are : (rest : List Text) → kinds_at start (codes "count" ∷ rest) ≡ count_kinds rest
+count_kinds_are rest =
+    ap (λ k. or_else k (ending (fold (walked top.rules names) start (codes "count" ∷ rest)))) (count_walks rest)
+    ∙ (ap ending (count_steps rest) ∙ (count_ends rest ∙ or_else_nil (count_kinds rest)))
 
 -- the words from `help` on
 help_kinds : (rest : List Text) → kinds_at start (codes "help" ∷ rest) ≡ kind.DisplayHelp ∷ kind.InvalidSubcommand ∷ []
@@ -110,34 +131,41 @@ dashes_more : (word : Text) (rest : List Text) → is_usage (kinds_at start (cod
 unfolding walk_fault walked
 dashes_more word rest = refl
 
-no_subcommand : (word : Text) → bytes_eq (codes "value") word ≡ false → bytes_eq (codes "help") word ≡ false → subcommand_met names idle word ≡ None
-no_subcommand word v h = rw (v, h) refl
+no_subcommand : (word : Text) → bytes_eq (codes "value") word ≡ false → bytes_eq (codes "count") word ≡ false → bytes_eq (codes "help") word ≡ false
+    → subcommand_met names idle word ≡ None
+no_subcommand word v c h = rw (v, c, h) refl
 
 -- a first word that names no subcommand
 other_fits : (word : Text) (rest : List Text) → subcommand_met names idle word ≡ None → Fits (cond (is_help_flag word) help usage) (kinds_at start (word ∷ rest))
-other_fits word rest none = go (is_help_flag word) (is_text word) (bytes_eq (codes "--") word) refl refl refl rest
+other_fits word rest unnamed = go (is_help_flag word) (is_text word) (bytes_eq (codes "--") word) refl refl refl rest
   where
     go : (a b d : Bool) → is_help_flag word ≡ a → is_text word ≡ b → bytes_eq (codes "--") word ≡ d → (more : List Text) → Fits (cond a help usage) (kinds_at start (word ∷ more))
-    go true b d asks text e more = helps start word more (help_turn top names [] None 1 word none refl knows asks)
-    go false true d asks text e more = refuses start word more (rw (text_turn top names [] None 1 word none refl text) refl)
+    go true b d asks text e more = helps start word more (help_turn top names [] None 1 word none unnamed refl knows asks)
+    go false true d asks text e more = refuses start word more (rw (text_turn top names [] None 1 word unnamed refl text) refl)
     go false false true asks text e [] = subst (λ w. is_usage (kinds_at start (w ∷ [])) ≡ true) ((bytes_eq-Decides (codes "--") word).0 e) only_dashes
     go false false true asks text e (v ∷ more) = subst (λ w. is_usage (kinds_at start (w ∷ v ∷ more)) ≡ true) ((bytes_eq-Decides (codes "--") word).0 e) (dashes_more v more)
-    go false false false asks text e more = refuses start word more (other_turn top names [] None 1 word none refl knows text asks (flip_bytes (codes "--") word false e))
+    go false false false asks text e more = refuses start word more (other_turn top names [] None 1 word none unnamed refl knows refl text asks (flip_bytes (codes "--") word false e))
 
 -- the kinds of error go with what the words ask for
 pub words_fit : (words : List Text) → Fits (meaning_of words) (fault_of dobutsu_app words)
 words_fit [] = no_words
-words_fit (word ∷ rest) = go (bytes_eq (codes "value") word) (bytes_eq (codes "help") word) refl refl
+words_fit (word ∷ rest) = go (bytes_eq (codes "value") word) (bytes_eq (codes "count") word) (bytes_eq (codes "help") word) refl refl refl
   where
-    go : (a b : Bool) → bytes_eq (codes "value") word ≡ a → bytes_eq (codes "help") word ≡ b
-        → Fits (cond a (meaning_of_value rest) (cond b topic (cond (is_help_flag word) help usage))) (kinds_at start (word ∷ rest))
-    go true b v h = subst (λ w. Fits (meaning_of_value rest) (kinds_at start (w ∷ rest))) ((bytes_eq-Decides (codes "value") word).0 v)
+    go : (a b d : Bool) → bytes_eq (codes "value") word ≡ a → bytes_eq (codes "count") word ≡ b → bytes_eq (codes "help") word ≡ d
+        → Fits (cond a (meaning_of_value rest) (cond b (meaning_of_count rest) (cond d topic (cond (is_help_flag word) help usage)))) (kinds_at start (word ∷ rest))
+    go true b d v c h = subst (λ w. Fits (meaning_of_value rest) (kinds_at start (w ∷ rest))) ((bytes_eq-Decides (codes "value") word).0 v)
         (rw (value_kinds_are rest) (value_fits rest))
-    go false true v h = subst (λ w. kinds_at start (w ∷ rest) ≡ kind.DisplayHelp ∷ kind.InvalidSubcommand ∷ []) ((bytes_eq-Decides (codes "help") word).0 h) (help_kinds rest)
-    go false false v h = other_fits word rest (no_subcommand word v h)
+    go false true d v c h = subst (λ w. Fits (meaning_of_count rest) (kinds_at start (w ∷ rest))) ((bytes_eq-Decides (codes "count") word).0 c)
+        (rw (count_kinds_are rest) (count_fits rest))
+    go false false true v c h = subst (λ w. kinds_at start (w ∷ rest) ≡ kind.DisplayHelp ∷ kind.InvalidSubcommand ∷ []) ((bytes_eq-Decides (codes "help") word).0 h) (help_kinds rest)
+    go false false false v c h = other_fits word rest (no_subcommand word v c h)
 
 -- ---- the matches
 
 -- the subcommand `value` is entered, with the words after it
 pub value_entered : (rest : List Text) → subcommand_of dobutsu_app (codes "value" ∷ rest) ≡ Some (codes "value", rows_after value_shape.rules [] rest)
 value_entered rest = ap (λ (w : Walk). entered program w.stopped) (value_steps rest)
+
+-- so is `count`
+pub count_entered : (rest : List Text) → subcommand_of dobutsu_app (codes "count" ∷ rest) ≡ Some (codes "count", rows_after count_shape.rules [] rest)
+count_entered rest = ap (λ (w : Walk). entered program w.stopped) (count_steps rest)

@@ -11,15 +11,15 @@ use Rattle.dob_cli.specs.declared.fault.Fault.{Fault}
 use Rattle.dob_cli.specs.declared.fault.Fault.TheVariants.{Memory, Io}
 use Rattle.dob_cli.specs.Faults.{fault_of_value}
 use Rattle.dob_value.specs.declared.value.Value.{Value}
-use Rattle.dob_cli.specs.Program.{Bytes, IsValueOf, AnswersValue, AppendsPart, HasPieces, IsFaultOf, IsValueLineOf, Tells, TellsOneFault, value_line}
+use Rattle.dob_cli.specs.Program.{Bytes, IsValueOf, AnswersValue, AppendsPart, HasManyPieces, IsFaultOf, IsValueLineOf, Tells, TellsOneFault, value_line}
 
-Keeps-same : (bytes : Bytes) → Keeps bytes bytes
+pub Keeps-same : (bytes : Bytes) → Keeps bytes bytes
 Keeps-same None = tt
 Keeps-same (Some bytes) = refl
 
 -- a fault of finding a value is one of the text's
 pub value_fault_holds : (text : List ℕ) (p : Setup) (f : value.Fault) → IsLegal p → Spells text p
-    → (f ≡ value_fault.SetTooLarge → HasPieces p) → (f ≡ value_fault.TooDeep → SomeTooDeep (HasSamePieces p))
+    → (f ≡ value_fault.SetTooLarge → HasManyPieces p) → (f ≡ value_fault.TooDeep → SomeTooDeep (HasSamePieces p))
     → IsFaultOf text (fault_of_value f)
 value_fault_holds text p value_fault.SetTooLarge legal spelled large deep = (p, legal, spelled, large refl)
 value_fault_holds text p value_fault.TooDeep legal spelled large deep = (p, legal, spelled, deep refl)

@@ -1,114 +1,216 @@
--- The lines that ask for the value of a text, and what `clap` finds in them.
-use Rattle.std.proofs.Common.{◌≡◌, ◌∙◌, ◌⊎◌, ℕ, Bool, not, is_some, inl, inr, refl, sym, ap, subst, cond, codes, true, false, [], ◌∷◌, List, Option, Some, true≢false}
+-- The lines that ask for something, and what `clap` finds in them.
+use Rattle.std.proofs.Common.{◌≡◌, ◌∙◌, ◌⊎◌, ℕ, Bool, not, is_some, inl, inr, refl, sym, ap, subst, cond, codes, true, false, [], ◌∷◌, ◌++◌, List, Option, Some, None, true≢false}
 use Rattle.std.specs.Str.{bytes_eq}
+use Rattle.std.specs.Option.{option_map_or}
 use Rattle.std.proofs.lemmas.Slice.Eq.{bytes_eq-Decides}
-use Rattle.clap.specs.Words.{subcommand_of}
-use Rattle.dob_cli.specs.Words.{IsValueLine, Meaning, Text, help, is_dashes, is_help_flag, is_text, meaning_of, meaning_of_bare, meaning_of_rest, meaning_of_value, topic, usage, value}
+use Rattle.clap.specs.Words.{Row, subcommand_of}
+use Rattle.dob_cli.specs.Words.{IsCountLine, IsValueLine, Meaning, Text, count, help, is_dashes, is_help_flag, is_text, meaning_of, meaning_of_bare, meaning_of_count, meaning_of_rest, meaning_of_set, meaning_of_value, set_in, topic, usage, value}
 use Rattle.dob_cli.specs.Shapes.{dobutsu_app, found_in}
-use Rattle.dob_cli.proofs.Lexing.{hyphen_first}
+use Rattle.dob_cli.proofs.Lexing.{hyphen_first, set_in_is}
 use Rattle.dob_cli.proofs.Turns.{Fits}
 use Rattle.dob_cli.proofs.ValueWords.{position_in, text_found, text_found_bare, text_found_before}
-use Rattle.dob_cli.proofs.AllWords.{value_entered}
-
--- ---- a value is asked for only by such a line
-
-abbrev is_value : Meaning → Bool
-is_value (value t) = true
-is_value _ = false
-
-abbrev text_of : Meaning → Text
-text_of (value t) = t
-text_of _ = []
-
-no_value : (m : Meaning) (t : Text) → is_value m ≡ false → m ≡ value t → ⊥
-no_value m t off e = true≢false (sym (ap is_value e) ∙ off)
-
-help_or_usage : (b : Bool) → is_value (cond b help usage) ≡ false
-help_or_usage true = refl
-help_or_usage false = refl
+use Rattle.dob_cli.proofs.CountWords.{one_found, one_found_before, set_given_in, two_found, two_found_before}
+use Rattle.dob_cli.proofs.AllWords.{count_entered, value_entered}
 
 dashes_no_text : is_text (codes "--") ≡ false
 dashes_no_text = ap (λ (o : Option ℕ). not (is_some o)) (hyphen_first [])
 
+-- ---- something is asked for only by such a line
+
+-- no words, or `--` alone
+abbrev Ends : List Text → Type 0
+Ends rest = (rest ≡ []) ⊎ (rest ≡ codes "--" ∷ [])
+
+-- what holds of help, of usage and, at an end, of what was asked holds of what the rest comes to
+by_rest : (P : Meaning → Type 0) (m : Meaning) (rest : List Text) → P help → P usage → (Ends rest → P m) → P (meaning_of_rest m rest)
+by_rest P m [] h u asked = asked (inl refl)
+by_rest P m (word ∷ []) h u asked = go (is_dashes word) (is_help_flag word) refl
+  where
+    go : (a b : Bool) → is_dashes word ≡ a → P (cond a m (cond b help usage))
+    go true b e = asked (inr (ap (λ w. w ∷ []) (sym ((bytes_eq-Decides (codes "--") word).0 e))))
+    go false true e = h
+    go false false e = u
+by_rest P m (word ∷ v ∷ more) h u asked = go (is_help_flag word)
+  where
+    go : (b : Bool) → P (cond b help usage)
+    go true = h
+    go false = u
+
+by_help : (P : Meaning → Type 0) (b : Bool) → P help → P usage → P (cond b help usage)
+by_help P true h u = h
+by_help P false h u = u
+
 -- the words after `value`
-abbrev IsRest : List Text → Text → Type 0
-IsRest rest t = ((rest ≡ t ∷ []) × (is_text t ≡ true)) ⊎ ((rest ≡ codes "--" ∷ t ∷ []) ⊎ ((rest ≡ t ∷ codes "--" ∷ []) × (is_text t ≡ true)))
+abbrev IsValueRest : List Text → Text → Type 0
+IsValueRest rest t = ((rest ≡ t ∷ []) × (is_text t ≡ true)) ⊎ ((rest ≡ codes "--" ∷ t ∷ []) ⊎ ((rest ≡ t ∷ codes "--" ∷ []) × (is_text t ≡ true)))
 
--- after a text u
-rest_after : (u t : Text) (more : List Text) → is_text u ≡ true → meaning_of_rest u more ≡ value t → IsRest (u ∷ more) t
-rest_after u t [] text e =
-    let same : u ≡ t = ap text_of e in
-    inl (ap (λ w. w ∷ []) same, subst (λ w. is_text w ≡ true) same text)
-rest_after u t (v ∷ []) text e = go (is_dashes v) refl e
+abbrev ValueRest : List Text → Meaning → Type 0
+ValueRest rest (value t) = IsValueRest rest t
+ValueRest rest (count t) = ⊥
+ValueRest rest _ = Unit {0}
+
+value_ended : (t : Text) (rest : List Text) → is_text t ≡ true → Ends rest → IsValueRest (t ∷ rest) t
+value_ended t rest text (inl e) = inl (ap (λ r. t ∷ r) e, text)
+value_ended t rest text (inr e) = inr (inr (ap (λ r. t ∷ r) e, text))
+
+bare_rest : (rest : List Text) → ValueRest (codes "--" ∷ rest) (meaning_of_bare rest)
+bare_rest [] = tt
+bare_rest (t ∷ []) = inr (inl refl)
+bare_rest (t ∷ u ∷ more) = tt
+
+value_rest : (rest : List Text) → ValueRest rest (meaning_of_value rest)
+value_rest [] = tt
+value_rest (u ∷ more) = go (is_text u) (is_dashes u) refl refl
   where
-    go : (b : Bool) → is_dashes v ≡ b → cond b (value u) (cond (is_help_flag v) help usage) ≡ value t → IsRest (u ∷ v ∷ []) t
-    go true d h =
-        let same : u ≡ t = ap text_of h in
-        let dashes : codes "--" ≡ v = (bytes_eq-Decides (codes "--") v).0 d in
-        inr (inr (ap (λ w. w ∷ v ∷ []) same ∙ ap (λ w. t ∷ w ∷ []) (sym dashes), subst (λ w. is_text w ≡ true) same text))
-    go false d h = absurd (no_value _ t (help_or_usage (is_help_flag v)) h)
-rest_after u t (v ∷ w ∷ more) text e = absurd (no_value _ t (help_or_usage (is_help_flag v)) e)
+    go : (a b : Bool) → is_text u ≡ a → is_dashes u ≡ b → ValueRest (u ∷ more) (cond a (meaning_of_rest (value u) more) (cond b (meaning_of_bare more) (cond (is_help_flag u) help usage)))
+    go true b text d = by_rest (ValueRest (u ∷ more)) (value u) more tt tt (value_ended u more text)
+    go false true text d = subst (λ w. ValueRest (w ∷ more) (meaning_of_bare more)) ((bytes_eq-Decides (codes "--") u).0 d) (bare_rest more)
+    go false false text d = by_help (ValueRest (u ∷ more)) (is_help_flag u) tt tt
 
--- behind `--`
-rest_bare : (t : Text) (more : List Text) → meaning_of_bare more ≡ value t → IsRest (codes "--" ∷ more) t
-rest_bare t [] e = absurd (no_value usage t refl e)
-rest_bare t (u ∷ []) e = inr (inl (ap (λ w. codes "--" ∷ w ∷ []) (ap text_of e)))
-rest_bare t (u ∷ v ∷ more) e = absurd (no_value usage t refl e)
+-- the words after `count`
+abbrev IsCountRest : List Text → Text → Type 0
+IsCountRest rest t =
+    ((rest ≡ codes "--set" ∷ t ∷ []) × (is_text t ≡ true))
+    ⊎ (((rest ≡ codes "--set" ∷ t ∷ codes "--" ∷ []) × (is_text t ≡ true))
+    ⊎ ((rest ≡ (codes "--set=" ++ t) ∷ []) ⊎ (rest ≡ (codes "--set=" ++ t) ∷ codes "--" ∷ [])))
 
-rest_of : (rest : List Text) (t : Text) → meaning_of_value rest ≡ value t → IsRest rest t
-rest_of [] t e = absurd (no_value usage t refl e)
-rest_of (u ∷ more) t e = go (is_text u) (is_dashes u) refl refl e
+abbrev CountRest : List Text → Meaning → Type 0
+CountRest rest (value t) = ⊥
+CountRest rest (count t) = IsCountRest rest t
+CountRest rest _ = Unit {0}
+
+two_ended : (t : Text) (rest : List Text) → is_text t ≡ true → Ends rest → IsCountRest (codes "--set" ∷ t ∷ rest) t
+two_ended t rest text (inl e) = inl (ap (λ r. codes "--set" ∷ t ∷ r) e, text)
+two_ended t rest text (inr e) = inr (inl (ap (λ r. codes "--set" ∷ t ∷ r) e, text))
+
+one_ended : (u t : Text) (rest : List Text) → codes "--set=" ++ t ≡ u → Ends rest → IsCountRest (u ∷ rest) t
+one_ended u t rest is (inl e) = inr (inr (inl (ap (λ r. u ∷ r) e ∙ ap (λ w. w ∷ []) (sym is))))
+one_ended u t rest is (inr e) = inr (inr (inr (ap (λ r. u ∷ r) e ∙ ap (λ w. w ∷ codes "--" ∷ []) (sym is))))
+
+set_rest : (rest : List Text) → CountRest (codes "--set" ∷ rest) (meaning_of_set rest)
+set_rest [] = tt
+set_rest (t ∷ more) = go (is_text t) refl
   where
-    go : (a b : Bool) → is_text u ≡ a → is_dashes u ≡ b → cond a (meaning_of_rest u more) (cond b (meaning_of_bare more) (cond (is_help_flag u) help usage)) ≡ value t → IsRest (u ∷ more) t
-    go true b text d h = rest_after u t more text h
-    go false true text d h = subst (λ w. IsRest (w ∷ more) t) ((bytes_eq-Decides (codes "--") u).0 d) (rest_bare t more h)
-    go false false text d h = absurd (no_value _ t (help_or_usage (is_help_flag u)) h)
+    go : (a : Bool) → is_text t ≡ a → CountRest (codes "--set" ∷ t ∷ more) (cond a (meaning_of_rest (count t) more) usage)
+    go true text = by_rest (CountRest (codes "--set" ∷ t ∷ more)) (count t) more tt tt (two_ended t more text)
+    go false text = tt
 
--- the first word is `value`
-first_of_line : (word : Text) (rest : List Text) (t : Text) → meaning_of (word ∷ rest) ≡ value t → (codes "value" ≡ word) × (meaning_of_value rest ≡ value t)
-first_of_line word rest t e = go (bytes_eq (codes "value") word) (bytes_eq (codes "help") word) refl e
+count_rest : (rest : List Text) → CountRest rest (meaning_of_count rest)
+count_rest [] = tt
+count_rest (u ∷ more) = go (bytes_eq (codes "--set") u) (set_in u) refl refl
   where
-    go : (a b : Bool) → bytes_eq (codes "value") word ≡ a → cond a (meaning_of_value rest) (cond b topic (cond (is_help_flag word) help usage)) ≡ value t
-        → (codes "value" ≡ word) × (meaning_of_value rest ≡ value t)
-    go true b v h = ((bytes_eq-Decides (codes "value") word).0 v, h)
-    go false true v h = absurd (no_value topic t refl h)
-    go false false v h = absurd (no_value _ t (help_or_usage (is_help_flag word)) h)
+    go : (a : Bool) (o : Option Text) → bytes_eq (codes "--set") u ≡ a → set_in u ≡ o
+        → CountRest (u ∷ more) (cond a (meaning_of_set more) (option_map_or (λ t. meaning_of_rest (count t) more) o (cond (is_help_flag u) help usage)))
+    go true o is e = subst (λ w. CountRest (w ∷ more) (meaning_of_set more)) ((bytes_eq-Decides (codes "--set") u).0 is) (set_rest more)
+    go false (Some t) is e = by_rest (CountRest (u ∷ more)) (count t) more tt tt (one_ended u t more (set_in_is u t e))
+    go false None is e = by_help (CountRest (u ∷ more)) (is_help_flag u) tt tt
 
-line_of_rest : (word t : Text) (rest : List Text) → codes "value" ≡ word → IsRest rest t → IsValueLine (word ∷ rest) t
-line_of_rest word t rest is (inl h) = inl (ap (λ r. word ∷ r) h.0 ∙ ap (λ w. w ∷ t ∷ []) (sym is), h.1)
-line_of_rest word t rest is (inr (inl h)) = inr (inl (ap (λ r. word ∷ r) h ∙ ap (λ w. w ∷ codes "--" ∷ t ∷ []) (sym is)))
-line_of_rest word t rest is (inr (inr h)) = inr (inr (ap (λ r. word ∷ r) h.0 ∙ ap (λ w. w ∷ t ∷ codes "--" ∷ []) (sym is), h.1))
+-- all the words
+abbrev pub Line : List Text → Meaning → Type 0
+Line words (value t) = IsValueLine words t
+Line words (count t) = IsCountLine words t
+Line words _ = Unit {0}
 
-pub line_of : (words : List Text) (t : Text) → meaning_of words ≡ value t → IsValueLine words t
-line_of [] t e = absurd (no_value usage t refl e)
-line_of (word ∷ rest) t e =
-    let f = first_of_line word rest t e in
-    line_of_rest word t rest f.0 (rest_of rest t f.1)
+value_line : (rest : List Text) (t : Text) → IsValueRest rest t → IsValueLine (codes "value" ∷ rest) t
+value_line rest t (inl h) = inl (ap (λ r. codes "value" ∷ r) h.0, h.1)
+value_line rest t (inr (inl h)) = inr (inl (ap (λ r. codes "value" ∷ r) h))
+value_line rest t (inr (inr h)) = inr (inr (ap (λ r. codes "value" ∷ r) h.0, h.1))
 
--- and each such line asks for it
+count_line : (rest : List Text) (t : Text) → IsCountRest rest t → IsCountLine (codes "count" ∷ rest) t
+count_line rest t (inl h) = inl (ap (λ r. codes "count" ∷ r) h.0, h.1)
+count_line rest t (inr (inl h)) = inr (inl (ap (λ r. codes "count" ∷ r) h.0, h.1))
+count_line rest t (inr (inr (inl h))) = inr (inr (inl (ap (λ r. codes "count" ∷ r) h)))
+count_line rest t (inr (inr (inr h))) = inr (inr (inr (ap (λ r. codes "count" ∷ r) h)))
+
+value_line_of : (rest : List Text) (m : Meaning) → ValueRest rest m → Line (codes "value" ∷ rest) m
+value_line_of rest (value t) h = value_line rest t h
+value_line_of rest (count t) h = absurd h
+value_line_of rest help h = tt
+value_line_of rest topic h = tt
+value_line_of rest usage h = tt
+
+count_line_of : (rest : List Text) (m : Meaning) → CountRest rest m → Line (codes "count" ∷ rest) m
+count_line_of rest (value t) h = absurd h
+count_line_of rest (count t) h = count_line rest t h
+count_line_of rest help h = tt
+count_line_of rest topic h = tt
+count_line_of rest usage h = tt
+
+-- the words are a line for what they ask for
+pub line_of : (words : List Text) → Line words (meaning_of words)
+line_of [] = tt
+line_of (word ∷ rest) = go (bytes_eq (codes "value") word) (bytes_eq (codes "count") word) (bytes_eq (codes "help") word) refl refl
+  where
+    go : (a b d : Bool) → bytes_eq (codes "value") word ≡ a → bytes_eq (codes "count") word ≡ b
+        → Line (word ∷ rest) (cond a (meaning_of_value rest) (cond b (meaning_of_count rest) (cond d topic (cond (is_help_flag word) help usage))))
+    go true b d v c = subst (λ w. Line (w ∷ rest) (meaning_of_value rest)) ((bytes_eq-Decides (codes "value") word).0 v) (value_line_of rest (meaning_of_value rest) (value_rest rest))
+    go false true d v c = subst (λ w. Line (w ∷ rest) (meaning_of_count rest)) ((bytes_eq-Decides (codes "count") word).0 c) (count_line_of rest (meaning_of_count rest) (count_rest rest))
+    go false false true v c = tt
+    go false false false v c = by_help (Line (word ∷ rest)) (is_help_flag word) tt tt
+
+-- ---- and each such line asks for it
+
 pub line_means : (words : List Text) (t : Text) → IsValueLine words t → meaning_of words ≡ value t
 line_means words t (inl h) = ap meaning_of h.0 ∙ rw h.1 refl
 line_means words t (inr (inl h)) = ap meaning_of h ∙ rw dashes_no_text refl
 line_means words t (inr (inr h)) = ap meaning_of h.0 ∙ rw h.1 refl
 
+pub count_line_means : (words : List Text) (t : Text) → IsCountLine words t → meaning_of words ≡ count t
+count_line_means words t (inl h) = ap meaning_of h.0 ∙ rw h.1 refl
+count_line_means words t (inr (inl h)) = ap meaning_of h.0 ∙ rw h.1 refl
+count_line_means words t (inr (inr (inl h))) = ap meaning_of h
+count_line_means words t (inr (inr (inr h))) = ap meaning_of h
+
 -- ---- what is found in it
 
-found_rest : (rest : List Text) (t : Text) → IsRest rest t → position_in rest ≡ Some t
-found_rest rest t (inl h) = ap position_in h.0 ∙ text_found t h.1
-found_rest rest t (inr (inl h)) = ap position_in h ∙ text_found_bare t
-found_rest rest t (inr (inr h)) = ap position_in h.0 ∙ text_found_before t h.1
+-- the subcommand that was met, with its text, goes with what the words ask for
+abbrev pub FoundFor : Option (Text × List Row) → Meaning → Type 0
+FoundFor sub (value t) = found_in (codes "POSITION") sub ≡ Some (codes "value", Some t)
+FoundFor sub (count t) = found_in (codes "CEG") sub ≡ Some (codes "count", Some t)
+FoundFor sub _ = Unit {0}
 
-pub found_line : (words : List Text) (t : Text) → meaning_of words ≡ value t → found_in (subcommand_of dobutsu_app words) ≡ Some (codes "value", Some t)
-found_line [] t e = absurd (no_value usage t refl e)
-found_line (word ∷ rest) t e =
-    let f = first_of_line word rest t e in
-    let entered = value_entered rest in
-    subst (λ w. found_in (subcommand_of dobutsu_app (w ∷ rest)) ≡ Some (codes "value", Some t)) f.0
-    (ap found_in entered ∙ ap (λ o. Some (codes "value", o)) (found_rest rest t (rest_of rest t f.1)))
+value_found : (rest : List Text) (t : Text) → IsValueRest rest t → position_in rest ≡ Some t
+value_found rest t (inl h) = ap position_in h.0 ∙ text_found t h.1
+value_found rest t (inr (inl h)) = ap position_in h ∙ text_found_bare t
+value_found rest t (inr (inr h)) = ap position_in h.0 ∙ text_found_before t h.1
 
--- where no kind of error comes, the value of a text is asked for
-pub asked_text : (m : Meaning) → Fits m [] → (t : Text) × (m ≡ value t)
-asked_text (value t) e = (t, refl)
+count_found : (rest : List Text) (t : Text) → IsCountRest rest t → set_given_in rest ≡ Some t
+count_found rest t (inl h) = ap set_given_in h.0 ∙ two_found t h.1
+count_found rest t (inr (inl h)) = ap set_given_in h.0 ∙ two_found_before t h.1
+count_found rest t (inr (inr (inl h))) = ap set_given_in h ∙ one_found t
+count_found rest t (inr (inr (inr h))) = ap set_given_in h ∙ one_found_before t
+
+value_found_for : (rest : List Text) (m : Meaning) → ValueRest rest m → FoundFor (subcommand_of dobutsu_app (codes "value" ∷ rest)) m
+value_found_for rest (value t) h = ap (found_in (codes "POSITION")) (value_entered rest) ∙ ap (λ o. Some (codes "value", o)) (value_found rest t h)
+value_found_for rest (count t) h = absurd h
+value_found_for rest help h = tt
+value_found_for rest topic h = tt
+value_found_for rest usage h = tt
+
+count_found_for : (rest : List Text) (m : Meaning) → CountRest rest m → FoundFor (subcommand_of dobutsu_app (codes "count" ∷ rest)) m
+count_found_for rest (value t) h = absurd h
+count_found_for rest (count t) h = ap (found_in (codes "CEG")) (count_entered rest) ∙ ap (λ o. Some (codes "count", o)) (count_found rest t h)
+count_found_for rest help h = tt
+count_found_for rest topic h = tt
+count_found_for rest usage h = tt
+
+pub found_line : (words : List Text) → FoundFor (subcommand_of dobutsu_app words) (meaning_of words)
+found_line [] = tt
+found_line (word ∷ rest) = go (bytes_eq (codes "value") word) (bytes_eq (codes "count") word) (bytes_eq (codes "help") word) refl refl
+  where
+    go : (a b d : Bool) → bytes_eq (codes "value") word ≡ a → bytes_eq (codes "count") word ≡ b
+        → FoundFor (subcommand_of dobutsu_app (word ∷ rest)) (cond a (meaning_of_value rest) (cond b (meaning_of_count rest) (cond d topic (cond (is_help_flag word) help usage))))
+    go true b d v c = subst (λ w. FoundFor (subcommand_of dobutsu_app (w ∷ rest)) (meaning_of_value rest)) ((bytes_eq-Decides (codes "value") word).0 v)
+        (value_found_for rest (meaning_of_value rest) (value_rest rest))
+    go false true d v c = subst (λ w. FoundFor (subcommand_of dobutsu_app (w ∷ rest)) (meaning_of_count rest)) ((bytes_eq-Decides (codes "count") word).0 c)
+        (count_found_for rest (meaning_of_count rest) (count_rest rest))
+    go false false true v c = tt
+    go false false false v c = by_help (FoundFor (subcommand_of dobutsu_app (word ∷ rest))) (is_help_flag word) tt tt
+
+-- where no kind of error comes, a text is asked for
+pub asked_text : (m : Meaning) → Fits m [] → ((t : Text) × (m ≡ value t)) ⊎ ((t : Text) × (m ≡ count t))
+asked_text (value t) e = inl (t, refl)
+asked_text (count t) e = inr (t, refl)
 asked_text help e = cc
 asked_text topic e = cc
 asked_text usage e = absurd (true≢false (sym e))

@@ -1,47 +1,72 @@
 -- What the matches and the errors of the program's command come to.
-use Rattle.std.proofs.Common.{◌≡◌, ◌∙◌, ◌⊎◌, Bool, not, inl, inr, subst, true, false, sym, ap, refl, codes, List, Option, Some, None, [], ◌∷◌, is_some, true≢false}
+use Rattle.std.proofs.Common.{ap₂, ◌≡◌, ◌∙◌, ◌⊎◌, ◌||◌, Bool, not, inl, inr, subst, true, false, sym, ap, refl, codes, List, Option, Some, None, [], ◌∷◌, is_some, true≢false}
 use Rattle.std.specs.Prelude.{option_map, unwrap_or}
 use Rattle.std.specs.Borrow.{Bor}
-use Rattle.clap.specs.Words.{App, HasKind, IsAmong, Kinds, Row, fault_of, first_of, first_value, found_of, is_simple, is_simple_and_free, kind_of, rows_of, subcommand_of, subcommand_rows_of}
+use Rattle.clap.specs.Words.{AddsSubcommand, App, HasKind, IsAmong, Kinds, Row, fault_of, first_of, first_value, found_of, is_simple, is_simple_and_free, kind_of, rows_of, subcommand_of, subcommand_rows_of, with_subcommand}
+use Rattle.clap.specs.declared.builder.Command.{Command}
 use Rattle.clap.specs.declared.Error.{Error}
 use Rattle.clap.specs.declared.error.ErrorKind.{ErrorKind}
 use Rattle.clap.specs.declared.error.ErrorKind.TheVariants as kind
 use Rattle.clap.specs.declared.parser.ArgMatches.{ArgMatches}
 use Rattle.clap.proofs.WalkLemmas.{both, first_value-rows}
-use Rattle.dob_cli.specs.Words.{IsValueLine, Meaning, Text, help, meaning_of, topic, usage, value}
-use Rattle.dob_cli.specs.Shapes.{dobutsu_app, found_in}
-use Rattle.dob_cli.specs.Readings.{ComesFromLine, IsReadingOf, IsReadingOfKind, IsValueOrder}
+use Rattle.dob_cli.specs.Words.{IsCountLine, IsValueLine, Meaning, Text, count, help, meaning_of, topic, usage, value}
+use Rattle.dob_cli.specs.Shapes.{HasShape, dobutsu_app, found_in}
+use Rattle.dob_cli.specs.Readings.{ComesFromLine, IsCountOrder, IsReadingOf, IsReadingOfKind, IsValueOrder}
 use Rattle.dob_cli.specs.declared.command.Order.{Order}
 use Rattle.dob_cli.specs.declared.command.Order.TheVariants as order
 use Rattle.dob_cli.specs.declared.command.Reading.{Reading}
 use Rattle.dob_cli.specs.declared.command.Reading.TheVariants as reading
 use Rattle.dob_cli.proofs.Turns.{Fits, is_help_kind, is_usage, no_help_kind}
 use Rattle.dob_cli.proofs.AllWords.{words_fit}
-use Rattle.dob_cli.proofs.Lines.{asked_text, found_line, line_means, line_of}
+use Rattle.dob_cli.proofs.Lines.{FoundFor, Line, asked_text, count_line_means, found_line, line_means, line_of}
+
+-- a command with one more subcommand
+pub subcommand_shape : (old sub new : Command) (a b : App) → HasShape a old → HasShape b sub → AddsSubcommand old sub new → HasShape (with_subcommand a b.top) new
+subcommand_shape old sub new a b first second adds =
+    (adds.shape second.1 ∙ ap₂ (λ (x y : App). with_subcommand x y.top) first.0 second.0, adds.globals ∙ ap₂ (λ (x y : Bool). x || y) first.1 second.1)
 
 -- the subcommand's own matches have the text that was found
-pub text_of_matches : (sub : Option (Text × List Row)) (inner : ArgMatches) (o : Option (Bor Text)) (t : Text)
-    → Some (rows_of (found_of inner)) ≡ option_map (λ p. p.1) sub → option_map (λ s. s.now) o ≡ first_value (found_of inner) (codes "POSITION")
-    → found_in sub ≡ Some (codes "value", Some t) → option_map (λ s. s.now) o ≡ Some t
-text_of_matches None inner o t rows got found = absurd (true≢false (ap is_some rows))
-text_of_matches (Some p) inner o t rows got found =
+pub text_of_matches : (id name : Text) (sub : Option (Text × List Row)) (inner : ArgMatches) (o : Option (Bor Text)) (t : Text)
+    → Some (rows_of (found_of inner)) ≡ option_map (λ p. p.1) sub → option_map (λ s. s.now) o ≡ first_value (found_of inner) id
+    → found_in id sub ≡ Some (name, Some t) → option_map (λ s. s.now) o ≡ Some t
+text_of_matches id name None inner o t rows got found = absurd (true≢false (ap is_some rows))
+text_of_matches id name (Some p) inner o t rows got found =
     let same : rows_of (found_of inner) ≡ p.1 = ap (λ (x : Option (List Row)). unwrap_or x []) rows in
-    got ∙ (first_value-rows (found_of inner) (codes "POSITION") ∙ (ap (first_of (codes "POSITION")) same
+    got ∙ (first_value-rows (found_of inner) id ∙ (ap (first_of id) same
     ∙ ap (λ (x : Option (Text × Option Text)). (unwrap_or x ([], None)).1) found))
 
--- matches come only where the value of a text is asked for, and have the text
+-- what is asked for, and found in the matches
+abbrev pub IsAsked : List Text → Option (Text × List Row) → Type 0
+IsAsked words sub =
+    ((t : Text) × (meaning_of words ≡ value t) × (found_in (codes "POSITION") sub ≡ Some (codes "value", Some t)))
+    ⊎ ((t : Text) × (meaning_of words ≡ count t) × (found_in (codes "CEG") sub ≡ Some (codes "count", Some t)))
+
+-- matches come only where something is asked for, and have its text
 pub asked_by_matches : (app : App) (words : List Text) (m : ArgMatches) {X : Type 0} → app ≡ dobutsu_app
     → (is_simple_and_free app ≡ true → fault_of app words ≡ []) → (is_simple app ≡ true → X × (subcommand_rows_of m ≡ subcommand_of app words))
-    → (t : Text) × (meaning_of words ≡ value t) × (found_in (subcommand_rows_of m) ≡ Some (codes "value", Some t))
+    → IsAsked words (subcommand_rows_of m)
 asked_by_matches app words m is kinds matches =
     let clean : fault_of dobutsu_app words ≡ [] = ap (λ a. fault_of a words) (sym is) ∙ kinds (ap is_simple_and_free is) in
-    let asked = asked_text (meaning_of words) (subst (Fits (meaning_of words)) clean (words_fit words)) in
-    let rows = (matches (ap is_simple is)).1 ∙ ap (λ a. subcommand_of a words) is in
-    (asked.0, asked.1, ap found_in rows ∙ found_line words asked.0 asked.1)
+    let rows : subcommand_rows_of m ≡ subcommand_of dobutsu_app words = (matches (ap is_simple is)).1 ∙ ap (λ a. subcommand_of a words) is in
+    let found : FoundFor (subcommand_rows_of m) (meaning_of words) = subst (λ sub. FoundFor sub (meaning_of words)) (sym rows) (found_line words) in
+    elim (asked_text (meaning_of words) (subst (Fits (meaning_of words)) clean (words_fit words))) [
+      | inl asked ↦ inl (asked.0, asked.1, subst (FoundFor (subcommand_rows_of m)) asked.1 found)
+      | inr asked ↦ inr (asked.0, asked.1, subst (FoundFor (subcommand_rows_of m)) asked.1 found)
+    ]
 
--- an order for that text is what the words ask for
-pub order_is_meant : (m : Meaning) (t : Text) (o : Order) → m ≡ value t → IsValueOrder t o → IsReadingOf m (reading.Order o)
-order_is_meant m t o is holds = rw is holds
+-- so there is an order
+pub order_is_there : {X : Type 0} (words : List Text) (sub : Option (Text × List Row)) → IsAsked words sub
+    → ((t : Text) → found_in (codes "POSITION") sub ≡ Some (codes "value", Some t) → X)
+    → ((t : Text) → found_in (codes "CEG") sub ≡ Some (codes "count", Some t) → X) → X
+order_is_there words sub (inl a) by_value by_count = by_value a.0 a.2
+order_is_there words sub (inr a) by_value by_count = by_count a.0 a.2
+
+-- and it is what the words ask for
+pub order_is_meant : (words : List Text) (sub : Option (Text × List Row)) (o : Order) → IsAsked words sub
+    → ((t : Text) → found_in (codes "POSITION") sub ≡ Some (codes "value", Some t) → IsValueOrder t o)
+    → ((t : Text) → found_in (codes "CEG") sub ≡ Some (codes "count", Some t) → IsCountOrder t o) → IsReadingOf (meaning_of words) (reading.Order o)
+order_is_meant words sub o (inl a) by_value by_count = subst (λ m. IsReadingOf m (reading.Order o)) (sym a.1) (by_value a.0 a.2)
+order_is_meant words sub o (inr a) by_value by_count = subst (λ m. IsReadingOf m (reading.Order o)) (sym a.1) (by_count a.0 a.2)
 
 -- ---- refusals
 
@@ -104,6 +129,7 @@ pub refusal_is_meant : (m : Meaning) (kinds : Kinds) (k : ErrorKind) (r : Readin
     → IsReadingOfKind k r → IsReadingOf m r
 refusal_is_meant m kinds k r fits (inl e) h = absurd (subst (λ x. IsReadingOfKind x r) e h)
 refusal_is_meant (value t) kinds k r fits (inr among) h = absurd (subst (IsAmong k) fits among)
+refusal_is_meant (count t) kinds k r fits (inr among) h = absurd (subst (IsAmong k) fits among)
 refusal_is_meant help kinds k r fits (inr among) h = elim (subst (IsAmong k) fits among) [
   | inl e ↦ help_read r (subst (λ x. IsReadingOfKind x r) e h)
   | inr none ↦ absurd none
@@ -118,21 +144,27 @@ refusal_of_words app words e is kinds r h =
     let has : HasKind (fault_of dobutsu_app words) e = subst (λ a. HasKind (fault_of a words) e) is (kinds (ap is_simple_and_free is)) in
     refusal_is_meant (meaning_of words) (fault_of dobutsu_app words) (kind_of e) r (words_fit words) has h
 
--- ---- lines that ask for the value of a text
+-- ---- lines that ask for something
 
 -- what is read at such a line is an order for its text
 pub reading_at_line : (words : List Text) (t : Text) (r : Reading) → IsValueLine words t → IsReadingOf (meaning_of words) r → IsReadingOf (value t) r
 reading_at_line words t r line h = subst (λ m. IsReadingOf m r) (line_means words t line) h
 
--- an order is what only a value is read as
-order_means : (m : Meaning) (s : Bor Text) → IsReadingOf m (reading.Order (order.Value s)) → m ≡ value s.now
-order_means (value t) s h = ap value (sym h)
-order_means help s h = absurd h
-order_means topic s h = absurd h
-order_means usage s h = absurd h
+pub reading_at_count_line : (words : List Text) (t : Text) (r : Reading) → IsCountLine words t → IsReadingOf (meaning_of words) r → IsReadingOf (count t) r
+reading_at_count_line words t r line h = subst (λ m. IsReadingOf m r) (count_line_means words t line) h
+
+-- an order is what only its own meaning is read as
+order_line : (words : List Text) (m : Meaning) (o : Order) → Line words m → IsReadingOf m (reading.Order o) → ComesFromLine words (reading.Order o)
+order_line words (value t) (order.Value s) line h = subst (IsValueLine words) (sym h) line
+order_line words (value t) (order.Count s) line h = absurd h
+order_line words (count t) (order.Value s) line h = absurd h
+order_line words (count t) (order.Count s) line h = subst (IsCountLine words) (sym h) line
+order_line words help o line h = absurd h
+order_line words topic o line h = absurd h
+order_line words usage o line h = absurd h
 
 -- so an order is read only at such a line
 pub order_from_line : (words : List Text) (r : Reading) → IsReadingOf (meaning_of words) r → ComesFromLine words r
-order_from_line words (reading.Order (order.Value s)) h = line_of words s.now (order_means (meaning_of words) s h)
+order_from_line words (reading.Order o) h = order_line words (meaning_of words) o (line_of words) h
 order_from_line words (reading.Help s) h = tt
 order_from_line words (reading.Usage s) h = tt

@@ -12,7 +12,7 @@ use Rattle.clap.specs.declared.error.kind.ErrorKind.TheVariants as kind
 use Rattle.dob_cli.specs.Words.{Text, help, is_dashes, is_help_flag, is_text, meaning_of_bare, meaning_of_rest, meaning_of_value, usage, value}
 use Rattle.dob_cli.specs.Shapes.{dobutsu_app, value_app}
 use Rattle.dob_cli.proofs.Lexing.{flip_bytes, help_dashes, or_false}
-use Rattle.dob_cli.proofs.Turns.{KnowsHelp, help_flag, Fits, is_usage, or_else_usage}
+use Rattle.dob_cli.proofs.Turns.{KnowsHelp, help_flag, Fits, is_usage, none, or_else_usage}
 use Rattle.dob_cli.proofs.Steps.{closed_at, help_turn, open_at, other_turn, text_turn, text_walked}
 
 -- the subcommand `value`, built
@@ -25,17 +25,17 @@ rules = value_shape.rules
 abbrev given : Text → Option (Text × List Text)
 given t = Some (codes "POSITION", t ∷ [])
 
-knows_long : (name : Text) → Rattle.clap.specs.Walk.arg_by_long rules name ≡ cond (bytes_eq (codes "help") name) (Some help_flag) None
-knows_long name = ap (λ b. cond b (Some help_flag) None) (or_false (bytes_eq (codes "help") name))
+knows_long : (name : Text) → none name ≡ false → Rattle.clap.specs.Walk.arg_by_long rules name ≡ cond (bytes_eq (codes "help") name) (Some help_flag) None
+knows_long name own = ap (λ b. cond b (Some help_flag) None) (or_false (bytes_eq (codes "help") name))
 
 knows_short : (x : ℕ) → Rattle.clap.specs.Walk.arg_by_short rules x ≡ cond (104 == x) (Some help_flag) None
 knows_short x = ap (λ b. cond b (Some help_flag) None) (or_false (104 == x))
 
-knows_first : KnowsHelp rules [] None
-knows_first = record { by_long = knows_long; by_short = knows_short; asks = refl }
+knows_first : KnowsHelp rules [] None none
+knows_first = record { no_option = refl; by_long = knows_long; by_short = knows_short; asks = refl }
 
-knows_next : (t : Text) → KnowsHelp rules [] (given t)
-knows_next t = record { by_long = knows_long; by_short = knows_short; asks = refl }
+knows_next : (t : Text) → KnowsHelp rules [] (given t) none
+knows_next t = record { no_option = refl; by_long = knows_long; by_short = knows_short; asks = refl }
 
 -- ---- the walk
 
@@ -145,9 +145,9 @@ word_after : (t u : Text) (more : List Text) → bytes_eq u (codes "--") ≡ fal
 word_after t u more differs = go (is_help_flag u) (is_text u) refl refl
   where
     go : (a b : Bool) → is_help_flag u ≡ a → is_text u ≡ b → Fits (cond a help usage) (kinds_at (after t) (u ∷ more))
-    go true b asks text = helps (after t) u more (help_turn value_shape [] [] (given t) 2 u refl refl (knows_next t) asks)
+    go true b asks text = helps (after t) u more (help_turn value_shape [] [] (given t) 2 u none refl refl (knows_next t) asks)
     go false true asks text = refuses (after t) u more (rw (second_strays t u text) refl)
-    go false false asks text = refuses (after t) u more (other_turn value_shape [] [] (given t) 2 u refl refl (knows_next t) text asks differs)
+    go false false asks text = refuses (after t) u more (other_turn value_shape [] [] (given t) 2 u none refl refl (knows_next t) refl text asks differs)
 
 -- `--` after the text
 dashes_end : (t : Text) → kinds_at (after t) (codes "--" ∷ []) ≡ []
@@ -158,7 +158,7 @@ dashes_more t v more =
     rw (passes (after t) (closed_at [] (given t) 2) (codes "--") (v ∷ more) (dashes_pass_after t) (dashes_close_after t))
     (refuses (closed_at [] (given t) 2) v more (bare_strays t v))
 
-after_text : (t : Text) (rest : List Text) → Fits (meaning_of_rest t rest) (kinds_at (after t) rest)
+after_text : (t : Text) (rest : List Text) → Fits (meaning_of_rest (value t) rest) (kinds_at (after t) rest)
 after_text t [] = ends_open t
 after_text t (u ∷ []) = go (is_dashes u) refl
   where
@@ -178,13 +178,13 @@ value_fits [] = ends_empty
 value_fits (t ∷ rest) = go (is_text t) (is_dashes t) (is_help_flag t) refl refl refl
   where
     go : (a b d : Bool) → is_text t ≡ a → is_dashes t ≡ b → is_help_flag t ≡ d
-        → Fits (cond a (meaning_of_rest t rest) (cond b (meaning_of_bare rest) (cond d help usage))) (kinds_at start (t ∷ rest))
+        → Fits (cond a (meaning_of_rest (value t) rest) (cond b (meaning_of_bare rest) (cond d help usage))) (kinds_at start (t ∷ rest))
     go true b d text e asks = rw (passes start (after t) t rest (text_fits t text) (text_goes t text)) (after_text t rest)
     go false true d text e asks = subst (λ w. Fits (meaning_of_bare rest) (kinds_at start (w ∷ rest))) ((bytes_eq-Decides (codes "--") t).0 e)
         (rw (passes start (closed_at [] None 1) (codes "--") rest dashes_pass dashes_close) (bare rest))
-    go false false true text e asks = helps start t rest (help_turn value_shape [] [] None 1 t refl refl knows_first asks)
+    go false false true text e asks = helps start t rest (help_turn value_shape [] [] None 1 t none refl refl knows_first asks)
     go false false false text e asks =
-        refuses start t rest (other_turn value_shape [] [] None 1 t refl refl knows_first text asks (flip_bytes (codes "--") t false e))
+        refuses start t rest (other_turn value_shape [] [] None 1 t none refl refl knows_first refl text asks (flip_bytes (codes "--") t false e))
 
 -- ---- the matches
 

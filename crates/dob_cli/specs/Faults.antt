@@ -3,11 +3,14 @@ use Rattle.std.specs.Prelude.{ℕ, List, [], ◌∷◌, ◌++◌, codes}
 use Rattle.dob_text.specs.Faults as position
 use Rattle.dob_value.specs.declared.fault.Fault as value
 use Rattle.dob_value.specs.declared.fault.Fault.TheVariants as value_fault
+use Rattle.dob_rank.specs.declared.fault.Fault as rank
+use Rattle.dob_rank.specs.declared.fault.Fault.TheVariants as rank_fault
 use Rattle.dob_cli.specs.declared.fault.Fault.{Fault}
-use Rattle.dob_cli.specs.declared.fault.Fault.TheVariants.{Text, SetTooLarge, TooDeep, Memory, Io}
+use Rattle.dob_cli.specs.declared.fault.Fault.TheVariants.{Text, SetText, SetTooLarge, TooDeep, Memory, Io}
 
 abbrev pub fault_text : Fault → List ℕ
 fault_text (Text fault) = position.fault_text fault
+fault_text SetText = codes "E25 SetText"
 fault_text SetTooLarge = codes "E8 SetTooLarge"
 fault_text TooDeep = codes "E12 TooDeep"
 fault_text Memory = codes "E23 Memory"
@@ -20,6 +23,7 @@ fault_line fault = codes "dobutsu: " ++ fault_text fault ++ 10 ∷ []
 -- 1 where what was asked is refused, 3 where the program failed
 abbrev pub status_of : Fault → ℕ
 status_of (Text _) = 1
+status_of SetText = 1
 status_of SetTooLarge = 1
 status_of TooDeep = 3
 status_of Memory = 3
@@ -30,3 +34,8 @@ abbrev pub fault_of_value : value.Fault → Fault
 fault_of_value value_fault.SetTooLarge = SetTooLarge
 fault_of_value value_fault.TooDeep = TooDeep
 fault_of_value value_fault.Memory = Memory
+
+-- a fault of numbering a piece set
+abbrev pub fault_of_rank : rank.Fault → Fault
+fault_of_rank rank_fault.SetTooLarge = SetTooLarge
+fault_of_rank rank_fault.Memory = Memory

@@ -3,3 +3,4 @@ pub mod Shapes
 pub mod Readings
 pub mod Faults
 pub mod Program
+pub mod Sizes

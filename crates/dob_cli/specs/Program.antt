@@ -1,9 +1,9 @@
 -- What the program owes for its words: an exit status, and what it writes.
-use Rattle.std.specs.Prelude.{◌≡◌, ℕ, ◌≤◌, ◌<◌, ◌⊎◌, List, [], ◌∷◌, ◌++◌, Option, codes, take, length}
+use Rattle.std.specs.Prelude.{◌+◌, ◌≡◌, ℕ, ◌≤◌, ◌<◌, ◌⊎◌, List, [], ◌∷◌, ◌++◌, Option, codes, take, length}
 use Rattle.std.specs.Io.KnownBytes.{Appends, Keeps}
 use Rattle.std.specs.Fmt.{decimal}
 use Rattle.dob_pieces.specs.declared.setup.Setup.{Setup}
-use Rattle.dob_pieces.specs.declared.kind.HandKind.{HandKind}
+use Rattle.dob_pieces.specs.declared.kind.HandKind.TheVariants as hand
 use Rattle.dob_pieces.specs.Setups.{IsLegal, total}
 use Rattle.dob_text.specs.PositionText.{Spells}
 use Rattle.dob_text.specs.Faults.{HasFault}
@@ -12,7 +12,7 @@ use Rattle.dob_value.specs.declared.value.Value.TheVariants.{Win, Loss, Draw}
 use Rattle.dob_value.specs.Values.{HasValue}
 use Rattle.dob_value.specs.Rosters.{SomeTooDeep, HasSamePieces}
 use Rattle.dob_cli.specs.declared.fault.Fault.{Fault}
-use Rattle.dob_cli.specs.declared.fault.Fault.TheVariants.{Text, SetTooLarge, TooDeep, Memory, Io}
+use Rattle.dob_cli.specs.declared.fault.Fault.TheVariants.{Text, SetText, SetTooLarge, TooDeep, Memory, Io}
 use Rattle.dob_cli.specs.Faults.{fault_line, status_of}
 
 -- the bytes that a stream holds, where it tells them
@@ -36,15 +36,16 @@ pub record IsValueOf (text : List ℕ) (value : Value) : Type 0 where
   pub spelled : Spells text position
   pub right : HasValue position value
 
--- there is some piece besides the lions
-abbrev pub HasPieces : Setup → Type 0
-HasPieces position = (kind : HandKind) × (0 < total kind position)
+-- there are more than three pieces besides the lions
+abbrev pub HasManyPieces : Setup → Type 0
+HasManyPieces position = 3 < total hand.Chick position + total hand.Elephant position + total hand.Giraffe position
 
 -- The fault is given only where it is one of the text's, or memory failed, or standard output did where the value
 -- was to be told.
 abbrev pub IsFaultOf : List ℕ → Fault → Type 0
 IsFaultOf text (Text fault) = HasFault text fault
-IsFaultOf text SetTooLarge = (position : Setup) × IsLegal position × Spells text position × HasPieces position
+IsFaultOf text SetText = ⊥
+IsFaultOf text SetTooLarge = (position : Setup) × IsLegal position × Spells text position × HasManyPieces position
 IsFaultOf text TooDeep = (position : Setup) × IsLegal position × Spells text position × SomeTooDeep (HasSamePieces position)
 IsFaultOf text Memory = Unit {0}
 IsFaultOf text Io = (value : Value) × IsValueOf text value

@@ -1,5 +1,5 @@
 -- What `clap` reads of the program's commands.
-use Rattle.std.specs.Prelude.{◌≡◌, List, Option, codes, option_map, false, true}
+use Rattle.std.specs.Prelude.{◌≡◌, List, Option, Some, codes, option_map, false, true}
 use Rattle.clap.specs.declared.builder.Command.{Command}
 use Rattle.clap.specs.declared.builder.Command.TheViews.{out-Command}
 use Rattle.clap.specs.Words.{App, Row, Rule, Text, app_of, first_of, new_app, new_rule, with_rule, with_subcommand}
@@ -16,6 +16,14 @@ position_rule = record (new_rule (codes "POSITION")) { required = true }
 abbrev pub value_app : App
 value_app = with_rule (new_app (codes "value")) position_rule
 
+-- the option `--set CEG`
+abbrev pub set_rule : Rule
+set_rule = record (new_rule (codes "CEG")) { long = Some (codes "set"); required = true }
+
+-- the subcommand `count`
+abbrev pub count_app : App
+count_app = with_rule (new_app (codes "count")) set_rule
+
 -- the program without its subcommands
 abbrev pub bare_app : App
 bare_app = record (new_app (codes "dobutsu")) {
@@ -24,8 +32,8 @@ bare_app = record (new_app (codes "dobutsu")) {
 
 -- the program
 abbrev pub dobutsu_app : App
-dobutsu_app = with_subcommand bare_app value_app.top
+dobutsu_app = with_subcommand (with_subcommand bare_app value_app.top) count_app.top
 
--- the name of the subcommand that was met, and the text that it was given as POSITION
-abbrev pub found_in : Option (Text × List Row) → Option (Text × Option Text)
-found_in = option_map (λ p. (p.0, first_of (codes "POSITION") p.1))
+-- the name of the subcommand that was met, and the text that its argument of this name was given
+abbrev pub found_in : Text → Option (Text × List Row) → Option (Text × Option Text)
+found_in id = option_map (λ p. (p.0, first_of id p.1))

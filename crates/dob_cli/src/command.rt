@@ -1,12 +1,12 @@
 // What the words of the program `dobutsu` ask for, read by `clap`. A further subcommand has a
 // variant of `Order`, a case of `Meaning` and of `meaning_of` (specs/Words.antt), a function that
 // makes its command, an arm in `order_of`, its shape (specs/Shapes.antt) and a file like
-// proofs/ValueWords.antt.
+// proofs/ValueWords.antt, or proofs/CountWords.antt where it has an option.
 ghost use Rattle.std.specs.Prelude.{◌≡◌, IfOk, IsSomeAnd, Some, codes, map};
 ghost use Rattle.clap.specs.Words.{kind_of, subcommand_rows_of};
-ghost use Rattle.dob_cli.specs.Words.{IsValueLine, meaning_of, value};
-ghost use Rattle.dob_cli.specs.Shapes.{HasShape, dobutsu_app, found_in, value_app};
-ghost use Rattle.dob_cli.specs.Readings.{ComesFromLine, IsReadingOf, IsReadingOfKind, IsValueOrder};
+ghost use Rattle.dob_cli.specs.Words.{IsCountLine, IsValueLine, count as asks_count, meaning_of, value};
+ghost use Rattle.dob_cli.specs.Shapes.{HasShape, bare_app, count_app, dobutsu_app, found_in, value_app};
+ghost use Rattle.dob_cli.specs.Readings.{ComesFromLine, IsCountOrder, IsReadingOf, IsReadingOfKind, IsValueOrder};
 
 use clap::error::ErrorKind;
 use clap::{Arg, ArgMatches, Command, Error};
@@ -17,6 +17,8 @@ use std::alloc::{AllocError, Global};
 pub enum Order<'a> {
     /// To print the value of the position that the text names.
     Value(&'a str),
+    /// To print the numbers of positions and of classes of the piece set that the text names.
+    Count(&'a str),
 }
 
 /// What the words come to.
@@ -42,6 +44,15 @@ Answers: `win D`, `loss D` or `draw`, where D is the distance in plies.
 
 Example: dobutsu value \"..l/.../L../... - -\" prints `win 3`.";
 
+const SET_HELP: &str =
+    "A piece set: three digits CEG, each 0, 1 or 2: how many chicks (hens counted with them), elephants
+and giraffes there are besides the lions, on the board and in the hands together. Sets of at most
+three such pieces are counted.
+
+Answers: `positions N` and `classes N`, where a class is a position with its mirror image.
+
+Example: dobutsu count --set 100 prints `positions 4158` and `classes 2124`.";
+
 /// Reads the words after the program's name. `--help`, `-h` and the subcommand `help` give the help.
 /// A word that begins with `-` is an option, but for a lone `-`, the first `--` and what follows it.
 ///
@@ -53,6 +64,8 @@ pub fn read_words<'a>(alloc: Global, words: &'a [&'a str]) -> Result<Reading<'a>
     ensures sound { IfOk result (ComesFromLine (map (λ w. w.now) words.now)) }
     ensures complete { (text : _) → IsValueLine (map (λ w. w.now) words.now) text
         → IfOk result (IsReadingOf (value text)) }
+    ensures complete_count { (text : _) → IsCountLine (map (λ w. w.now) words.now) text
+        → IfOk result (IsReadingOf (asks_count text)) }
 {
     match dobutsu_command(alloc)?.try_get_matches_from(words) {
         Ok(matches) => match order_of(&matches) {
@@ -67,13 +80,22 @@ pub fn read_words<'a>(alloc: Global, words: &'a [&'a str]) -> Result<Reading<'a>
 fn dobutsu_command<'a>(alloc: Global) -> Result<Command<'a>, AllocError>
     ensures { IfOk result (HasShape dobutsu_app) }
 {
-    Command::new(alloc, "dobutsu")
+    bare_command(alloc)?
+        .subcommand(value_command(alloc)?)?
+        .subcommand(count_command(alloc)?)
+}
+
+// The program's command without its subcommands.
+fn bare_command<'a>(alloc: Global) -> Result<Command<'a>, AllocError>
+    ensures { IfOk result (HasShape bare_app) }
+{
+    let command = Command::new(alloc, "dobutsu")
         .bin_name("dobutsu")?
         .no_binary_name(true)
         .subcommand_required(true)
-        .about("Values of positions of Dobutsu shogi")
-        .after_help(POSITION_HELP)
-        .subcommand(value_command(alloc)?)
+        .about("Values of positions of Dobutsu shogi, and the sizes of its piece sets")
+        .after_help(POSITION_HELP);
+    Ok(command)
 }
 
 // The subcommand `value`.
@@ -89,14 +111,31 @@ fn value_command<'a>(alloc: Global) -> Result<Command<'a>, AllocError>
         .arg(position)
 }
 
+// The subcommand `count`.
+fn count_command<'a>(alloc: Global) -> Result<Command<'a>, AllocError>
+    ensures { IfOk result (HasShape count_app) }
+{
+    let set = Arg::new(alloc, "CEG")
+        .long("set")
+        .required(true)
+        .help("The piece set, as three digits");
+    Command::new(alloc, "count")
+        .about("Prints how many positions and classes a piece set has, as `count --set 100`")
+        .after_help(SET_HELP)
+        .arg(set)
+}
+
 // What the matches of the program's command ask for.
 fn order_of<'a>(matches: &ArgMatches<'a>) -> Option<Order<'a>>
-    ensures { (t : _) → found_in (subcommand_rows_of matches.now) ≡ Some (codes "value", Some t)
+    ensures value { (t : _) → found_in (codes "POSITION") (subcommand_rows_of matches.now) ≡ Some (codes "value", Some t)
         → IsSomeAnd result (IsValueOrder t) }
+    ensures count { (t : _) → found_in (codes "CEG") (subcommand_rows_of matches.now) ≡ Some (codes "count", Some t)
+        → IsSomeAnd result (IsCountOrder t) }
 {
     let (name, inner) = matches.subcommand()?;
     match name {
         "value" => Some(Order::Value(inner.get_str("POSITION")?)),
+        "count" => Some(Order::Count(inner.get_str("CEG")?)),
         _ => None,
     }
 }

@@ -2,6 +2,7 @@
 ghost use Rattle.std.specs.Prelude.{◌≡◌, Some};
 ghost use Rattle.dob_cli.specs.declared.fault.Fault.TheVariants as fault;
 
+use dob_pieces::SetText;
 use dob_text::TextFault;
 use std::alloc::AllocError;
 use std::error::Error;
@@ -12,7 +13,9 @@ use std::fmt;
 pub enum Fault {
     /// E1 to E6: the text isn't a position's.
     Text(TextFault),
-    /// E8: the position's piece set is larger than those whose values can be found.
+    /// E25: the text isn't a piece set's.
+    SetText,
+    /// E8: the piece set is larger than those whose values can be found, or whose positions are counted.
     SetTooLarge,
     /// E12: a distance would be above 65,534 plies.
     TooDeep,
@@ -30,7 +33,7 @@ impl Fault {
         ensures { result ≡ status_of self }
     {
         match self {
-            Fault::Text(_) | Fault::SetTooLarge => 1,
+            Fault::Text(_) | Fault::SetText | Fault::SetTooLarge => 1,
             Fault::TooDeep | Fault::Memory | Fault::Io => 3,
         }
     }
@@ -44,6 +47,7 @@ impl fmt::Display for Fault {
     fn fmt<W: fmt::Write>(&self, f: &mut fmt::Formatter<W>) -> fmt::Result {
         match self {
             Fault::Text(fault) => write!(f, "{fault}"),
+            Fault::SetText => write!(f, "E25 SetText"),
             Fault::SetTooLarge => write!(f, "E8 SetTooLarge"),
             Fault::TooDeep => write!(f, "E12 TooDeep"),
             Fault::Memory => write!(f, "E23 Memory"),
@@ -62,6 +66,14 @@ impl From<TextFault> for Fault {
     }
 }
 
+impl From<SetText> for Fault {
+    ghost from_gives = { λ _ result. result ≡ fault.SetText };
+
+    fn from(_given: SetText) -> Fault {
+        Fault::SetText
+    }
+}
+
 impl From<dob_value::Fault> for Fault {
     ghost use Rattle.dob_cli.specs.Faults.{fault_of_value};
 
@@ -72,6 +84,19 @@ impl From<dob_value::Fault> for Fault {
             dob_value::Fault::SetTooLarge => Fault::SetTooLarge,
             dob_value::Fault::TooDeep => Fault::TooDeep,
             dob_value::Fault::Memory => Fault::Memory,
+        }
+    }
+}
+
+impl From<dob_rank::Fault> for Fault {
+    ghost use Rattle.dob_cli.specs.Faults.{fault_of_rank};
+
+    ghost from_gives = { λ given result. result ≡ fault_of_rank given };
+
+    fn from(given: dob_rank::Fault) -> Fault {
+        match given {
+            dob_rank::Fault::SetTooLarge => Fault::SetTooLarge,
+            dob_rank::Fault::Memory => Fault::Memory,
         }
     }
 }

@@ -2,6 +2,7 @@
 #![tactic(auto)]
 
 pub mod command;
+mod counts;
 mod fault;
 mod output;
 mod program;

@@ -1,11 +1,13 @@
 // The program: from its words to what it prints and its exit status.
 ghost use Rattle.std.specs.Prelude.{◌≡◌, ◌⊎◌, ℕ, List, IfOk, IfErr, map, string_bytes};
 ghost use Rattle.std.specs.Io.KnownBytes.{Keeps};
-ghost use Rattle.dob_cli.specs.Words.{meaning_of, value as asks_value, help as asks_help, usage as asks_nothing};
+ghost use Rattle.dob_cli.specs.Words.{meaning_of, value as asks_value, count as asks_count, help as asks_help, usage as asks_nothing};
 ghost use Rattle.dob_cli.specs.Program.{AnswersValue, IsValueLineOf, IsFaultOf, value_line, Tells, TellsFaultAs, TellsOneFault};
+ghost use Rattle.dob_cli.specs.Sizes.{AnswersCount};
 ghost use Rattle.dob_cli.specs.declared.fault.Fault.TheVariants.{Memory};
 
 use crate::command::{Order, Reading, read_words};
+use crate::counts::run_count;
 use crate::fault::Fault;
 use crate::output::write_bytes;
 use dob_text::read_position;
@@ -31,6 +33,10 @@ pub fn run_words<'a, O: Write, E: Write>(
     // Where the words ask for the value of a position: its line, or the line of a fault that holds.
     ensures value { (text : List ℕ) → meaning_of (map (λ w. w.now) words.now) ≡ asks_value text
         → AnswersValue text result (O.contents out.old) (O.contents out.new) (E.contents err.old) (E.contents err.new) }
+    // Where they ask for the numbers of positions and classes of a piece set: their lines, or the line of a fault that
+    // holds.
+    ensures count { (text : List ℕ) → meaning_of (map (λ w. w.now) words.now) ≡ asks_count text
+        → AnswersCount text result (O.contents out.old) (O.contents out.new) (E.contents err.old) (E.contents err.new) }
     // Where they ask for help: status 0 and nothing on standard error, or standard output or memory failed.
     ensures help { meaning_of (map (λ w. w.now) words.now) ≡ asks_help → result ≡ 0 ⊎ result ≡ 3 }
     // Where they are none that the program knows: status 2 and nothing on standard output, or memory failed.
@@ -45,6 +51,7 @@ pub fn run_words<'a, O: Write, E: Write>(
             USAGE
         }
         Ok(Reading::Order(Order::Value(text))) => run_value(alloc, text, out, err),
+        Ok(Reading::Order(Order::Count(text))) => run_count(alloc, text, out, err),
     }
 }
 
@@ -79,8 +86,8 @@ fn line_of(alloc: Global, value: Value) -> Result<String, AllocError>
     }
 }
 
-// Tells a line on standard output.
-fn tell<O: Write, E: Write>(alloc: Global, line: &str, out: &mut O, err: &mut E) -> u8
+// Tells a line, or a few, on standard output.
+pub(crate) fn tell<O: Write, E: Write>(alloc: Global, line: &str, out: &mut O, err: &mut E) -> u8
     ensures { Tells line.now result (O.contents out.old) (O.contents out.new) (E.contents err.old) (E.contents err.new) }
 {
     let is_whole = write_bytes(out, line.as_bytes());
@@ -93,7 +100,7 @@ fn tell<O: Write, E: Write>(alloc: Global, line: &str, out: &mut O, err: &mut E)
 }
 
 // Tells a fault on standard error, or that no memory was left to tell it.
-fn tell_fault<E: Write>(alloc: Global, fault: Fault, err: &mut E) -> u8
+pub(crate) fn tell_fault<E: Write>(alloc: Global, fault: Fault, err: &mut E) -> u8
     ensures { TellsOneFault fault result (E.contents err.old) (E.contents err.new) }
 {
     match format!(in alloc; "dobutsu: {fault}\n") {

@@ -6,3 +6,4 @@ pub mod Hands
 pub mod Counting
 pub mod Gathering
 pub mod Classes
+pub mod Lions

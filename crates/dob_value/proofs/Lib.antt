@@ -3,5 +3,8 @@ pub mod NextValues
 pub mod Tables
 pub mod Images
 pub mod Successors
-pub mod Pairs
 pub mod Nodes
+pub mod ClassNumbers
+pub mod Consistency
+pub mod Parity
+pub mod Rows

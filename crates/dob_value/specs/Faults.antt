@@ -1,5 +1,7 @@
 -- What each refusal is called.
 use Rattle.std.specs.Prelude.{List, ℕ, codes}
+use Rattle.dob_rank.specs.declared.fault.Fault.{Fault as RankFault}
+use Rattle.dob_rank.specs.declared.fault.Fault.TheVariants as rank
 use Rattle.dob_value.specs.declared.fault.Fault.{Fault}
 use Rattle.dob_value.specs.declared.fault.Fault.TheVariants.{SetTooLarge, TooDeep, Memory}
 
@@ -8,3 +10,8 @@ abbrev pub fault_text : Fault → List ℕ
 fault_text SetTooLarge = codes "E8 SetTooLarge"
 fault_text TooDeep = codes "E12 TooDeep"
 fault_text Memory = codes "E23 Memory"
+
+-- a refusal of the classes, as one of the values
+abbrev pub fault_of_rank : RankFault → Fault
+fault_of_rank rank.SetTooLarge = SetTooLarge
+fault_of_rank rank.Memory = Memory

@@ -4,5 +4,7 @@ pub mod Entries
 pub mod Graphs
 pub mod Faults
 pub mod Rosters
-pub mod Lions
-pub mod LionLaws
+pub mod Follows
+pub mod Codes
+pub mod ClassRows
+pub mod ClassLaws

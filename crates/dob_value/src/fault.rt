@@ -1,6 +1,7 @@
 // The refusals of this crate.
 ghost use Rattle.std.specs.Prelude.{◌≡◌, Some, codes};
 ghost use Rattle.dob_value.specs.declared.fault.Fault.TheVariants as fault;
+ghost use Rattle.dob_value.specs.Faults.{fault_of_rank};
 
 use dob_pieces::Memory;
 use std::alloc::{AllocError, AllocFailed};
@@ -55,5 +56,16 @@ impl<T: Drop> From<AllocFailed<T>> for Fault {
 
     fn from(_refused: AllocFailed<T>) -> Fault {
         Fault::Memory
+    }
+}
+
+impl From<dob_rank::Fault> for Fault {
+    ghost from_gives = { λ refused given. given ≡ fault_of_rank refused };
+
+    fn from(refused: dob_rank::Fault) -> Fault {
+        match refused {
+            dob_rank::Fault::SetTooLarge => Fault::SetTooLarge,
+            dob_rank::Fault::Memory => Fault::Memory,
+        }
     }
 }

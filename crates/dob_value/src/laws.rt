@@ -1,5 +1,7 @@
 // Laws of values, each the contract of a function that does nothing.
 ghost use Rattle.dob_value.specs.Depths.{WonStaysWon, LostStaysLost, NotWonAndLost, OneValue, MirrorsHaveOneOutlook, MirrorsHaveOneValue};
+ghost use Rattle.dob_value.specs.Follows.{ConsistentIsRight};
+ghost use Rattle.dob_value.specs.Codes.{ValuesHaveParity};
 
 /// What is won within some number of plies is won within any greater number.
 pub fn won_stays_won()
@@ -29,4 +31,15 @@ pub fn mirrors_have_one_outlook()
 /// The mirror image of a position has the position's value.
 pub fn mirrors_have_one_value()
     ensures { MirrorsHaveOneValue }
+{}
+
+/// A table of a piece set in which each class's value follows from its status and its successors' values is the value
+/// table: each class's entry is the value of each of its positions.
+pub fn law_consistent()
+    ensures { ConsistentIsRight }
+{}
+
+/// Wins come at odd distances and losses at even ones.
+pub fn values_have_parity()
+    ensures { ValuesHaveParity }
 {}

@@ -1,41 +1,48 @@
-// The value of one position.
-ghost use Rattle.std.specs.Prelude.{◌≡◌, ◌<◌, ◌↔◌, IfOk, IsErrOf, true, false};
-ghost use Rattle.dob_pieces.specs.declared.kind.HandKind.{HandKind};
+// The values of a whole piece set, and the value of one position.
+ghost use Rattle.std.specs.Prelude.{◌≡◌, ◌+◌, ◌<◌, ◌↔◌, IfOk, IsErrOf};
+ghost use Rattle.dob_pieces.specs.declared.kind.HandKind.TheVariants as hand;
 ghost use Rattle.dob_pieces.specs.Setups.{total};
+ghost use Rattle.dob_rank.specs.Order.{IsPositionOf};
 ghost use Rattle.dob_value.specs.Values.{HasValue};
 ghost use Rattle.dob_value.specs.Rosters.{SomeTooDeep, HasSamePieces};
-ghost use Rattle.dob_value.specs.Lions.{HasLionsAlone};
+ghost use Rattle.dob_value.specs.Follows.{IsValueTable};
 
+use crate::codes::codes_of_values;
 use crate::fault::Fault;
-use crate::lions::LionPairs;
-use crate::roster::Roster;
-use crate::sweep::{entry_at, sweep};
+use crate::sweep::sweep;
+use crate::table::Table;
 use crate::value::Value;
-use dob_pieces::Position;
+use dob_pieces::{PieceSet, Position};
+use dob_rank::Classes;
 use std::alloc::Global;
 
-/// The value of the position, by sweeps over all positions with the same pieces. For now it takes positions of lions
-/// alone.
+/// The values of all positions of the set, by sweeps over its classes.
 ///
-/// Errors: `SetTooLarge` just where there are pieces besides the lions; `TooDeep`, only where some position with the
-/// same pieces is won or lost in more than `MAX_DISTANCE` plies; `Memory`.
-pub fn sweep_value(alloc: Global, position: &Position) -> Result<Value, Fault>
-    ensures value { IfOk result (λ value. HasValue position.now.setup value) }
-    ensures large { IsErrOf result Fault.SetTooLarge ↔ ((kind : HandKind) × (0 < total kind position.now.setup)) }
-    ensures deep { IsErrOf result Fault.TooDeep → SomeTooDeep (HasSamePieces position.now.setup) }
+/// Errors: `SetTooLarge` just where the set has more than three pieces besides the lions; `TooDeep`, only where some
+/// position of the set is won or lost in more than `MAX_DISTANCE` plies; `Memory`.
+pub fn sweep_table(alloc: Global, set: PieceSet) -> Result<Table, Fault>
+    ensures set { IfOk result (λ table. table.set ≡ set) }
+    ensures values { IfOk result (λ table. IsValueTable set table.values) }
+    ensures large { IsErrOf result Fault.SetTooLarge ↔ (3 < set.chicks + set.elephants + set.giraffes) }
+    ensures deep { IsErrOf result Fault.TooDeep → SomeTooDeep (IsPositionOf set) }
 {
-    if !has_lions_alone(position) {
-        return Err(Fault::SetTooLarge);
-    }
-    let values = sweep(alloc, &LionPairs)?;
-    Ok(entry_at(&values, LionPairs.number_of(position)))
+    let classes = Classes::open(alloc, set)?;
+    let values = sweep(alloc, &classes)?;
+    let codes = codes_of_values(alloc, &values)?;
+    Ok(Table::new(classes, codes))
 }
 
-// Whether there are no pieces besides the lions.
-fn has_lions_alone(position: &Position) -> bool
-    ensures alone { result ≡ true → HasLionsAlone position.now.setup }
-    ensures more { result ≡ false → (kind : HandKind) × (0 < total kind position.now.setup) }
+/// The value of the position, by sweeps over all positions with the same pieces. `sweep_table` gives the values of them
+/// all at once.
+///
+/// Errors: `SetTooLarge` just where there are more than three pieces besides the lions; `TooDeep`, only where some
+/// position with the same pieces is won or lost in more than `MAX_DISTANCE` plies; `Memory`.
+pub fn sweep_value(alloc: Global, position: &Position) -> Result<Value, Fault>
+    ensures value { IfOk result (λ value. HasValue position.now.setup value) }
+    ensures large { IsErrOf result Fault.SetTooLarge
+        ↔ (3 < total hand.Chick position.now.setup + total hand.Elephant position.now.setup + total hand.Giraffe position.now.setup) }
+    ensures deep { IsErrOf result Fault.TooDeep → SomeTooDeep (HasSamePieces position.now.setup) }
 {
-    let set = position.piece_set();
-    set.chicks == 0 && set.elephants == 0 && set.giraffes == 0
+    let table = sweep_table(alloc, position.piece_set())?;
+    Ok(table.value_of(position))
 }

@@ -6,6 +6,8 @@ ghost use Rattle.dob_value.specs.declared.value.Value.TheVariants.{Draw};
 ghost use Rattle.dob_value.specs.Values.{Won, Lost};
 ghost use Rattle.dob_value.specs.Entries.{is_win_within, is_loss_within, is_draw, IsCutOff, TellsAt, HasDistance};
 ghost use Rattle.dob_value.specs.Graphs.{IsNode, IsGraph, AreCutOff, AreSwept, AreValues, SomeHasDistance, first_value, setup_of};
+ghost use Rattle.dob_value.specs.Codes.{IsShort};
+ghost use Rattle.dob_value.specs.Follows.{IsEntry};
 ghost use Rattle.dob_value.specs.Rosters.{HoldsValues, SomeTooDeep};
 
 use crate::fault::Fault;
@@ -133,6 +135,7 @@ fn first_values(alloc: Global, nodes: &[Node]) -> Result<Vec<Value>, AllocError>
 pub(crate) fn settle(alloc: Global, nodes: &[Node]) -> Result<Vec<Value>, Fault>
     requires { IsGraph nodes.now }
     ensures values { IfOk result (λ values. AreValues nodes.now values.items) }
+    ensures short { IfOk result (λ values. All IsShort values.items) }
     ensures deep { result ≡ Err Fault.TooDeep → (n : ℕ) × (MAX_DISTANCE < n) × SomeHasDistance nodes.now n }
     ensures set { result ≢ Err Fault.SetTooLarge }
 {
@@ -152,6 +155,7 @@ pub(crate) fn settle(alloc: Global, nodes: &[Node]) -> Result<Vec<Value>, Fault>
 /// Errors: `TooDeep` where some distance is above `MAX_DISTANCE`, and `Memory`.
 pub(crate) fn sweep<R: Roster>(alloc: Global, roster: &R) -> Result<Vec<Value>, Fault>
     ensures values { IfOk result (λ values. HoldsValues (R.count roster.now) (R.setup_at roster.now) values.items) }
+    ensures entries { IfOk result (λ values. All IsEntry values.items) }
     ensures deep { result ≡ Err Fault.TooDeep → SomeTooDeep (R.has roster.now) }
     ensures set { result ≢ Err Fault.SetTooLarge }
 {

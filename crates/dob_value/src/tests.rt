@@ -1,8 +1,10 @@
 // Values of positions that were worked out by hand or by another program.
 ghost use Rattle.std.specs.Prelude.{◌<◌};
 
-use crate::{Fault, Value, sweep_value};
-use dob_pieces::{Hand, Hands, Kind, Piece, Position, Side, Square};
+use crate::{
+    Fault, MAX_DISTANCE, Table, Value, code_of_value, sweep_table, sweep_value, value_of_code,
+};
+use dob_pieces::{Hand, Hands, Kind, Piece, PieceSet, Position, Side, Square};
 use std::process::Abort;
 
 const EMPTY: Hand = Hand {
@@ -67,16 +69,99 @@ fn values_of_lions_alone(rt: HostRuntime) {
 }
 
 #[test]
+fn values_with_a_piece_in_hand(rt: HostRuntime) {
+    let chick = Hand { chicks: 1, ..EMPTY };
+    let elephant = Hand {
+        elephants: 1,
+        ..EMPTY
+    };
+    let giraffe = Hand {
+        giraffes: 1,
+        ..EMPTY
+    };
+    let table = [
+        (6, 0, chick, Value::Loss(0)),
+        (7, 3, chick, Value::Win(1)),
+        (0, 10, elephant, Value::Win(5)),
+        (3, 5, elephant, Value::Win(3)),
+        (6, 0, giraffe, Value::Loss(0)),
+        (6, 7, giraffe, Value::Win(1)),
+    ];
+    for (mover, enemy, hand, value) in table {
+        assert!(rt; mover < 12 && enemy < 12);
+        let position = lions(&rt, mover, enemy, hand);
+        assert_eq!(rt;
+            sweep_value(rt.alloc(), &position),
+            Ok(value),
+            "at {mover} and {enemy}"
+        );
+    }
+}
+
+// How many classes are won, lost and drawn, and the longest win.
+fn census(table: &Table) -> (u64, u64, u64, u16) {
+    let mut wins = 0u64;
+    let mut losses = 0u64;
+    let mut draws = 0u64;
+    let mut longest = 0;
+    for class in 0..table.class_count() {
+        match table.value(class) {
+            Value::Win(plies) => {
+                wins = wins.wrapping_add(1);
+                longest = longest.max(plies);
+            }
+            Value::Loss(_) => losses = losses.wrapping_add(1),
+            Value::Draw => draws = draws.wrapping_add(1),
+        }
+    }
+    (wins, losses, draws, longest)
+}
+
+#[test]
+fn table_of_one_chick(rt: HostRuntime) -> Result<(), Fault> {
+    let set = PieceSet {
+        chicks: 1,
+        elephants: 0,
+        giraffes: 0,
+    };
+    let table = sweep_table(rt.alloc(), set)?;
+    assert_eq!(rt; table.set(), set);
+    assert_eq!(rt; census(&table), (1553, 527, 44, 19));
+    Ok(())
+}
+
+#[test]
+fn codes_tell_values(rt: HostRuntime) {
+    let values = [
+        (0, Value::Draw),
+        (1, Value::Loss(0)),
+        (2, Value::Win(1)),
+        (48, Value::Win(47)),
+        (65_535, Value::Loss(MAX_DISTANCE)),
+    ];
+    for (code, value) in values {
+        assert_eq!(rt; value_of_code(code), value);
+    }
+    assert_eq!(rt; code_of_value(Value::Win(47)), 48);
+}
+
+#[test]
 fn refuses_larger_sets(rt: HostRuntime) {
     let hands = [
-        Hand { chicks: 1, ..EMPTY },
         Hand {
-            elephants: 1,
-            ..EMPTY
+            chicks: 2,
+            elephants: 2,
+            giraffes: 0,
         },
         Hand {
+            chicks: 2,
+            elephants: 1,
+            giraffes: 1,
+        },
+        Hand {
+            chicks: 2,
+            elephants: 2,
             giraffes: 2,
-            ..EMPTY
         },
     ];
     for hand in hands {

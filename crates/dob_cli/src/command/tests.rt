@@ -4,7 +4,7 @@ use std::alloc::{AllocError, Global};
 use std::process::Abort;
 use std::test::Fail;
 
-const TAUGHT: [&str; 6] = [
+const POSITION_TAUGHT: [&str; 6] = [
     "four rows of three letters, row 4",
     "L lion, G giraffe, E elephant, C chick, H hen",
     "`.` is an empty square",
@@ -13,18 +13,28 @@ const TAUGHT: [&str; 6] = [
     "dobutsu value \"..l/.../L../... - -\" prints `win 3`",
 ];
 
+const SET_TAUGHT: [&str; 6] = [
+    "three digits CEG, each 0, 1 or 2",
+    "chicks (hens counted with them)",
+    "and giraffes there are besides the lions",
+    "on the board and in the hands together",
+    "a class is a position with its mirror image",
+    "dobutsu count --set 100 prints `positions 4158` and `classes 2124`",
+];
+
 fn expect_help<'a>(
     rt: &impl Abort,
     alloc: Global,
     words: &'a [&'a str],
     usage: &str,
+    taught: &[&str],
 ) -> Result<(), AllocError> {
     let Reading::Help(text) = read_words(alloc, words)? else {
         assert!(rt; false, "no help at {words:?}");
         return Ok(());
     };
     assert!(rt; text.as_str().contains(usage), "{text}");
-    for lesson in TAUGHT.as_slice() {
+    for lesson in taught {
         assert!(rt; text.as_str().contains(*lesson), "{lesson} in {text}");
     }
     Ok(())
@@ -49,33 +59,40 @@ fn expect_usage<'a>(
 #[test]
 fn help_teaches_the_position_text(rt: HostRuntime) -> Result<(), Fail> {
     let alloc = rt.alloc();
-    expect_help(&rt, alloc, &["--help"], "Usage: dobutsu <COMMAND>")?;
-    expect_help(&rt, alloc, &["-h"], "Usage: dobutsu <COMMAND>")?;
-    expect_help(&rt, alloc, &["help"], "Usage: dobutsu <COMMAND>")?;
-    expect_help(
-        &rt,
-        alloc,
-        &["value", "--help"],
-        "Usage: dobutsu value <POSITION>",
-    )?;
-    expect_help(
-        &rt,
-        alloc,
-        &["value", "-h"],
-        "Usage: dobutsu value <POSITION>",
-    )?;
-    expect_help(
-        &rt,
-        alloc,
-        &["help", "value"],
-        "Usage: dobutsu value <POSITION>",
-    )?;
-    expect_help(
-        &rt,
-        alloc,
-        &["value", "-", "--help"],
-        "Usage: dobutsu value <POSITION>",
-    )?;
+    let top = "Usage: dobutsu <COMMAND>";
+    let taught = POSITION_TAUGHT.as_slice();
+    expect_help(&rt, alloc, &["--help"], top, taught)?;
+    expect_help(&rt, alloc, &["-h"], top, taught)?;
+    expect_help(&rt, alloc, &["help"], top, taught)?;
+    let usage = "Usage: dobutsu value <POSITION>";
+    expect_help(&rt, alloc, &["value", "--help"], usage, taught)?;
+    expect_help(&rt, alloc, &["value", "-h"], usage, taught)?;
+    expect_help(&rt, alloc, &["help", "value"], usage, taught)?;
+    expect_help(&rt, alloc, &["value", "-", "--help"], usage, taught)?;
+    Ok(())
+}
+
+#[test]
+fn help_teaches_the_piece_set(rt: HostRuntime) -> Result<(), Fail> {
+    let alloc = rt.alloc();
+    let usage = "Usage: dobutsu count --set <CEG>";
+    let taught = SET_TAUGHT.as_slice();
+    expect_help(&rt, alloc, &["count", "--help"], usage, taught)?;
+    expect_help(&rt, alloc, &["count", "-h"], usage, taught)?;
+    expect_help(&rt, alloc, &["help", "count"], usage, taught)?;
+    expect_help(&rt, alloc, &["count", "--set", "100", "-h"], usage, taught)?;
+    expect_help(&rt, alloc, &["count", "--set=100", "--help"], usage, taught)?;
+    Ok(())
+}
+
+#[test]
+fn help_names_each_subcommand(rt: HostRuntime) -> Result<(), Fail> {
+    let alloc = rt.alloc();
+    let about = [
+        "Prints the value of a position",
+        "Prints how many positions and classes a piece set has, as `count --set 100`",
+    ];
+    expect_help(&rt, alloc, &["--help"], "Commands:", about.as_slice())?;
     Ok(())
 }
 
@@ -90,6 +107,35 @@ fn usage_names_the_fault(rt: HostRuntime) -> Result<(), Fail> {
     expect_usage(&rt, alloc, &["value", "-x"], "'-x'")?;
     expect_usage(&rt, alloc, &["value", "--help=x"], "'--help'")?;
     expect_usage(&rt, alloc, &["--", "value", "a"], "'value'")?;
+    Ok(())
+}
+
+#[test]
+fn usage_names_what_is_wrong_with_a_set(rt: HostRuntime) -> Result<(), Fail> {
+    let alloc = rt.alloc();
+    expect_usage(&rt, alloc, &["--set", "100"], "'--set'")?;
+    expect_usage(&rt, alloc, &["count"], "--set <CEG>")?;
+    expect_usage(&rt, alloc, &["count", "100"], "'100'")?;
+    expect_usage(&rt, alloc, &["count", "--set"], "--set <CEG>")?;
+    expect_usage(&rt, alloc, &["count", "--set", "-1"], "'-1'")?;
+    expect_usage(&rt, alloc, &["count", "--set", "--help"], "--set <CEG>")?;
+    expect_usage(&rt, alloc, &["count", "--set", "--"], "--set <CEG>")?;
+    expect_usage(&rt, alloc, &["count", "--set", "100", "200"], "'200'")?;
+    expect_usage(
+        &rt,
+        alloc,
+        &["count", "--set=100", "--set=100"],
+        "--set <CEG>",
+    )?;
+    expect_usage(
+        &rt,
+        alloc,
+        &["count", "--set", "100", "--set", "100"],
+        "--set <CEG>",
+    )?;
+    expect_usage(&rt, alloc, &["count", "--set=100", "--", "x"], "'x'")?;
+    expect_usage(&rt, alloc, &["count", "-s", "100"], "'-s'")?;
+    expect_usage(&rt, alloc, &["count", "--sets=100"], "'--sets'")?;
     Ok(())
 }
 
@@ -120,5 +166,33 @@ fn value_takes_its_text(rt: HostRuntime) -> Result<(), Fail> {
     expect_value(&rt, alloc, &["value", ""], "")?;
     expect_value(&rt, alloc, &["value", "--", "-x"], "-x")?;
     expect_value(&rt, alloc, &["value", "a", "--"], "a")?;
+    Ok(())
+}
+
+fn expect_count<'a>(
+    rt: &impl Abort,
+    alloc: Global,
+    words: &'a [&'a str],
+    wanted: &str,
+) -> Result<(), AllocError> {
+    let Reading::Order(Order::Count(text)) = read_words(alloc, words)? else {
+        assert!(rt; false, "no order at {words:?}");
+        return Ok(());
+    };
+    assert!(rt; text == wanted, "{text}");
+    Ok(())
+}
+
+#[test]
+fn count_takes_its_text(rt: HostRuntime) -> Result<(), Fail> {
+    let alloc = rt.alloc();
+    expect_count(&rt, alloc, &["count", "--set", "100"], "100")?;
+    expect_count(&rt, alloc, &["count", "--set=100"], "100")?;
+    expect_count(&rt, alloc, &["count", "--set", "-"], "-")?;
+    expect_count(&rt, alloc, &["count", "--set", ""], "")?;
+    expect_count(&rt, alloc, &["count", "--set="], "")?;
+    expect_count(&rt, alloc, &["count", "--set=-x=y"], "-x=y")?;
+    expect_count(&rt, alloc, &["count", "--set", "100", "--"], "100")?;
+    expect_count(&rt, alloc, &["count", "--set=--set", "--"], "--set")?;
     Ok(())
 }

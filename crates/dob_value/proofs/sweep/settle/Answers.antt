@@ -1,7 +1,9 @@
 -- A sweep that changes nothing is the last.
-use Rattle.std.proofs.Common.{sym, ap, length, ◌+◌, subst, ◌∙◌, refl, arith}
+use Rattle.std.proofs.Common.{sym, ap, length, ◌+◌, subst, ◌∙◌, refl, arith, All}
 use Rattle.dob_value.specs.Graphs.{AreCutOff, AreValues}
 use Rattle.dob_value.proofs.Tables.{starts_cut, unchanged_is_final, put_back}
+use Rattle.dob_value.specs.Codes.{IsShort}
+use Rattle.dob_value.proofs.Parity.{all_short}
 use Rattle.dob_value.proofs.sweep.settle.Goals as goal
 
 pub loop-depth-init : goal.loop-depth-init
@@ -17,3 +19,10 @@ returns-clause-values c =
     let final = unchanged_is_final c.loop-depth.depth c.args.nodes.now c.loop-depth.values.items c.requires c.loop-depth.invariant.cut_off
     (subst (λ xs. AreCutOff (c.loop-depth.depth + 1) c.args.nodes.now xs) unchanged c.sweep_once.ensures.cut_off) in
     subst (λ xs. AreValues c.args.nodes.now xs) (sym (whole ∙ unchanged)) final
+
+pub returns-clause-short : goal.returns-clause-short
+returns-clause-short c =
+    let unchanged = c.loop-depth-test.ensures.same refl ∙ c.deref_mut.ensures.value in
+    let whole = put_back c.loop-depth.values.len c.sweep_once.new.values c.loop-depth.values.items (ap length unchanged) (c.loop-depth.values.ok.0) in
+    subst (λ xs. All IsShort xs) (sym (whole ∙ unchanged))
+    (all_short c.loop-depth.depth c.args.nodes.now c.loop-depth.values.items c.loop-depth.invariant.below c.loop-depth.invariant.cut_off)

@@ -1,0 +1,74 @@
+-- What the program owes where it is asked for the sizes of a piece set.
+use Rattle.std.specs.Prelude.{◌≡◌, ◌≢◌, ℕ, ◌+◌, ◌≤◌, ◌<◌, ◌⊎◌, List, [], ◌∷◌, ◌++◌, codes}
+use Rattle.std.specs.Io.KnownBytes.{Appends, Keeps}
+use Rattle.std.specs.Fmt.{decimal}
+use Rattle.dob_pieces.specs.declared.piece_set.PieceSet.{PieceSet}
+use Rattle.dob_pieces.specs.Sets.{set_text}
+use Rattle.dob_rank.specs.Order.{HasSize, HasClasses}
+use Rattle.dob_cli.specs.declared.counts.Counts.{Counts}
+use Rattle.dob_cli.specs.declared.fault.Fault.{Fault}
+use Rattle.dob_cli.specs.declared.fault.Fault.TheVariants.{SetText, SetTooLarge, Memory, Io}
+use Rattle.dob_cli.specs.Faults.{fault_line, status_of}
+use Rattle.dob_cli.specs.Program.{AppendsPart, Bytes}
+
+-- how many pieces the set has besides the lions
+abbrev pub pieces : PieceSet → ℕ
+pieces set = set.chicks + set.elephants + set.giraffes
+
+-- the set has at most three pieces besides the lions, and these are its numbers of positions and classes
+pub record HasCounts (set : PieceSet) (counts : Counts) : Type 0 where
+  pub few : pieces set ≤ 3
+  pub positions : HasSize set counts.positions
+  pub classes : HasClasses set counts.classes
+
+-- the text is that of a piece set with these numbers
+abbrev pub AreCountsOf : List ℕ → Counts → Type 0
+AreCountsOf text counts = (set : PieceSet) × (text ≡ set_text set) × HasCounts set counts
+
+-- a line with a name and a number, and its line feed
+abbrev pub count_line : List ℕ → ℕ → List ℕ
+count_line name number = name ++ decimal number ++ 10 ∷ []
+
+-- the two lines that tell the numbers
+abbrev pub count_lines : Counts → List ℕ
+count_lines counts = count_line (codes "positions ") counts.positions ++ count_line (codes "classes ") counts.classes
+
+-- the bytes are the lines of the numbers of the text's piece set
+abbrev pub AreCountLinesOf : List ℕ → List ℕ → Type 0
+AreCountLinesOf text lines = (counts : Counts) × AreCountsOf text counts × (lines ≡ count_lines counts)
+
+-- a fault of counting a set: it has more than three pieces besides the lions, or memory failed
+abbrev pub IsFaultOfSet : PieceSet → Fault → Type 0
+IsFaultOfSet set SetTooLarge = 3 < pieces set
+IsFaultOfSet set Memory = Unit {0}
+IsFaultOfSet set _ = ⊥
+
+-- The fault is given only where no set has the text, or its set is too large, or memory failed, or standard output
+-- did where the numbers were to be told.
+abbrev pub IsCountFaultOf : List ℕ → Fault → Type 0
+IsCountFaultOf text SetText = (set : PieceSet) → text ≢ set_text set
+IsCountFaultOf text SetTooLarge = (set : PieceSet) × (text ≡ set_text set) × (3 < pieces set)
+IsCountFaultOf text Memory = Unit {0}
+IsCountFaultOf text Io = (counts : Counts) × AreCountsOf text counts
+IsCountFaultOf text _ = ⊥
+
+-- It told the numbers: status 0, the two lines on standard output and nothing else.
+pub record TellsCounts (text : List ℕ) (status : ℕ) (out out' err err' : Bytes) : Type 0 where
+  pub counts : Counts
+  pub of_text : AreCountsOf text counts
+  pub done : status ≡ 0
+  pub told : Appends out out' (count_lines counts)
+  pub silent : Keeps err err'
+
+-- It told a fault: the fault's status, and on standard error the fault's line, or a beginning of it where standard
+-- error fails. Standard output has nothing of it, or a beginning of the lines where standard output failed.
+pub record TellsCountFault (text : List ℕ) (status : ℕ) (out out' err err' : Bytes) : Type 0 where
+  pub fault : Fault
+  pub of_text : IsCountFaultOf text fault
+  pub ended : status ≡ status_of fault
+  pub told : AppendsPart err err' (fault_line fault)
+  pub silent : Keeps out out' ⊎ ((counts : Counts) × AreCountsOf text counts × AppendsPart out out' (count_lines counts))
+
+-- what the program does where it is asked for the numbers of the piece set that a text names
+abbrev pub AnswersCount : List ℕ → ℕ → Bytes → Bytes → Bytes → Bytes → Type 0
+AnswersCount text status out out' err err' = TellsCounts text status out out' err err' ⊎ TellsCountFault text status out out' err err'

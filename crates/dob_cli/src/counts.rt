@@ -1,0 +1,65 @@
+// How many positions and classes a piece set has.
+ghost use Rattle.std.specs.Prelude.{◌≡◌, IfOk, IfErr, string_bytes};
+ghost use Rattle.dob_cli.specs.Sizes.{AnswersCount, AreCountLinesOf, HasCounts, IsCountFaultOf, IsFaultOfSet, count_lines};
+
+use crate::fault::Fault;
+use crate::program::{tell, tell_fault};
+use dob_pieces::PieceSet;
+use dob_rank::{Classes, size};
+use std::alloc::{AllocError, Global};
+use std::io::Write;
+
+/// How many positions a piece set has, and how many classes.
+#[derive(Clone, Copy, Debug, PartialEq, Eq)]
+pub(crate) struct Counts {
+    pub(crate) positions: u64,
+    pub(crate) classes: u64,
+}
+
+/// Tells the numbers of positions and of classes of the piece set that the text names: two lines on `out`, or a
+/// fault's line on `err`. The answer is the exit status.
+pub(crate) fn run_count<O: Write, E: Write>(
+    alloc: Global,
+    text: &str,
+    out: &mut O,
+    err: &mut E,
+) -> u8
+    ensures { AnswersCount text.now result (O.contents out.old) (O.contents out.new) (E.contents err.old) (E.contents err.new) }
+{
+    match lines_of(alloc, text) {
+        Ok(lines) => tell(alloc, lines.as_str(), out, err),
+        Err(fault) => tell_fault(alloc, fault, err),
+    }
+}
+
+// The lines that tell the numbers of the piece set that the text names.
+fn lines_of(alloc: Global, text: &str) -> Result<String, Fault>
+    ensures ok { IfOk result (λ lines. AreCountLinesOf text.now (string_bytes lines)) }
+    ensures err { IfErr result (IsCountFaultOf text.now) }
+{
+    let set = PieceSet::read(text)?;
+    let counts = count_of(alloc, set)?;
+    Ok(lines_with(alloc, counts)?)
+}
+
+// The lines that tell the numbers.
+fn lines_with(alloc: Global, counts: Counts) -> Result<String, AllocError>
+    ensures { IfOk result (λ lines. string_bytes lines ≡ count_lines counts) }
+{
+    let positions = counts.positions;
+    let classes = counts.classes;
+    format!(in alloc; "positions {positions}\nclasses {classes}\n")
+}
+
+// The numbers of positions and of classes of the piece set.
+fn count_of(alloc: Global, set: PieceSet) -> Result<Counts, Fault>
+    ensures ok { IfOk result (HasCounts set) }
+    ensures err { IfErr result (IsFaultOfSet set) }
+{
+    let classes = Classes::open(alloc, set)?.class_count();
+    let positions = size(set);
+    Ok(Counts { positions, classes })
+}
+
+#[cfg(test)]
+mod tests;

@@ -1,0 +1,131 @@
+-- Wins come at odd and losses at even distances, and so a number says the value.
+use Rattle.std.proofs.Common.{◌≡◌, ℕ, zero, suc, ◌%◌, ◌<◌, ◌≤◌, inl, inr, refl, sym, subst, ap, ◌∙◌, arith, List, length, get_or, Some, slice_get, option_map, Result, Ok, Err}
+use Rattle.std.specs.Result.{IfOk}
+use Rattle.std.specs.List.{All}
+use Rattle.std.proofs.lemmas.Bool.{cases_eq}
+use Rattle.std.proofs.lemmas.List.{get_or_default, get_or-map, length-map}
+use Rattle.std.proofs.lemmas.Option.{slice_get_cases, slice_get-map}
+use Rattle.dob_pieces.specs.declared.setup.Setup.{Setup}
+use Rattle.dob_value.specs.declared.value.Value.{Value}
+use Rattle.dob_value.specs.declared.value.Value.TheVariants.{Win, Loss, Draw}
+use Rattle.dob_value.specs.declared.sweep.TheConstants.{MAX_DISTANCE}
+use Rattle.dob_value.specs.Values.{Won, Lost, HasValue}
+use Rattle.dob_value.specs.declared.graph.Node.{Node}
+use Rattle.dob_value.specs.Entries.{IsCutOff}
+use Rattle.dob_value.specs.Graphs.{AreCutOff, setup_of}
+use Rattle.dob_value.specs.Rosters.{HoldsValues}
+use Rattle.dob_value.specs.Codes.{value_at_distance, value_of_code, values_of_codes, IsShort, ValuesHaveParity}
+use Rattle.dob_value.specs.Follows.{IsEntry}
+
+-- an even depth wins nothing that the depth before doesn't, and an odd one loses nothing
+mutual
+  pub won_one_less : (n : ℕ) (p : Setup) → suc n % 2 ≡ 0 → Won (suc n) p → Won n p
+  won_one_less zero p even won = absurd (omega (arith, even))
+  won_one_less (suc n) p even won = elim won [
+    | inl caught ↦ inl caught
+    | inr open_win ↦
+        let odd : suc n % 2 ≡ 1 = omega (arith, even) in
+        inr (open_win.0, open_win.1, open_win.2, open_win.3, lost_one_less n open_win.2 odd open_win.4)
+  ]
+
+  pub lost_one_less : (n : ℕ) (p : Setup) → suc n % 2 ≡ 1 → Lost (suc n) p → Lost n p
+  lost_one_less zero p odd lost = elim lost [
+    | inl over ↦ over
+    | inr open_loss ↦
+        let some = open_loss.0.2 in
+        absurd (open_loss.1 some.0 some.1.0 some.1.1)
+  ]
+  lost_one_less (suc n) p odd lost = elim lost [
+    | inl over ↦ inl over
+    | inr open_loss ↦
+        let even : suc n % 2 ≡ 0 = omega (arith, odd) in
+        inr (open_loss.0, λ move q goes. won_one_less n q even (open_loss.1 move q goes))
+  ]
+
+odd_win : (plies : ℕ) (p : Setup) → HasValue p (Win plies) → plies % 2 ≡ 1
+odd_win zero p has = absurd has.0
+odd_win (suc n) p has = elim (cases_eq (suc n % 2) 1) [
+  | inl odd ↦ odd
+  | inr other ↦
+      let even : suc n % 2 ≡ 0 = omega (arith, other) in
+      let less : suc n ≤ n = has.1 n (won_one_less n p even has.0) in
+      absurd (omega arith)
+]
+
+even_loss : (plies : ℕ) (p : Setup) → HasValue p (Loss plies) → plies % 2 ≡ 0
+even_loss zero p has = refl
+even_loss (suc n) p has = elim (cases_eq (suc n % 2) 1) [
+  | inl odd ↦
+      let less : suc n ≤ n = has.1 n (lost_one_less n p odd has.0) in
+      absurd (omega arith)
+  | inr other ↦ omega (arith, other)
+]
+
+pub values_have_parity : ValuesHaveParity
+values_have_parity p (Win plies) has = odd_win plies p has
+values_have_parity p (Loss plies) has = even_loss plies p has
+values_have_parity p Draw has = tt
+
+-- a code of 16 bits is an entry
+entry_of_code : (code : ℕ) → code < 65536 → IsEntry (value_of_code code)
+entry_of_code zero below = tt
+entry_of_code (suc plies) below = elim (cases_eq (plies % 2) 1) [
+  | inl odd ↦ at_odd plies odd below
+  | inr even ↦ at_even plies (omega (arith, even)) below
+]
+  where
+    at_odd : (plies : ℕ) → plies % 2 ≡ 1 → suc plies < 65536 → IsEntry (value_at_distance plies)
+    at_odd plies odd below =
+        let win : value_at_distance plies ≡ Win plies = rw odd refl in
+        subst IsEntry (sym win) (odd, omega arith)
+
+    at_even : (plies : ℕ) → plies % 2 ≡ 0 → suc plies < 65536 → IsEntry (value_at_distance plies)
+    at_even plies even below =
+        let loss : value_at_distance plies ≡ Loss plies = rw even refl in
+        subst IsEntry (sym loss) (even, omega arith)
+
+pub entries_of_codes : (codes : List ℕ) → All (λ code. code < 65536) codes → All IsEntry (values_of_codes codes)
+entries_of_codes codes small k d below =
+    let within : k < length codes = omega (arith, length-map codes value_of_code) in
+    let code = get_or codes k 0 in
+    let read : get_or (values_of_codes codes) k d ≡ value_of_code code = get_or-map value_of_code codes k 0 d within in
+    subst IsEntry (sym read) (entry_of_code code (small k 0 within))
+
+-- an entry that is short, of a position whose value it is
+pub entry_of_value : (p : Setup) (v : Value) → HasValue p v → IsShort v → IsEntry v
+entry_of_value p (Win plies) has short = (odd_win plies p has, short)
+entry_of_value p (Loss plies) has short = (even_loss plies p has, short)
+entry_of_value p Draw has short = tt
+
+-- entries cut off at a depth that isn't too great are short
+pub short_of_cut : (n : ℕ) (p : Setup) (v : Value) → n ≤ MAX_DISTANCE → IsCutOff n p v → IsShort v
+short_of_cut n p (Win plies) upto cut = (let within : plies ≤ n = cut.0 in omega arith)
+short_of_cut n p (Loss plies) upto cut = (let within : plies ≤ n = cut.0 in omega arith)
+short_of_cut n p Draw upto cut = tt
+
+pub all_short : (n : ℕ) (nodes : List Node) (entries : List Value) → n ≤ MAX_DISTANCE → AreCutOff n nodes entries → All IsShort entries
+all_short n nodes entries upto cut k d below = elim (slice_get_cases nodes k).1 [
+  | inl found ↦
+      subst IsShort (get_or_default entries k Draw d below)
+      (short_of_cut n (setup_of found.0) (get_or entries k Draw) upto (cut.fits k found.0 found.2))
+  | inr past ↦ let same_length : length entries ≡ length nodes = cut.same_length in absurd (omega (arith, past.0))
+]
+
+pub all_entries : (count : ℕ) (setup_at : ℕ → Setup) (entries : List Value) → HoldsValues count setup_at entries → All IsShort entries →
+    All IsEntry entries
+all_entries count setup_at entries holds short k d below =
+    let same_length : length entries ≡ count = holds.same_length in
+    let here : HasValue (setup_at k) (get_or entries k d) =
+    subst (HasValue (setup_at k)) (get_or_default entries k Draw d below) (holds.values k (omega arith)) in
+    entry_of_value (setup_at k) (get_or entries k d) here (short k d below)
+
+-- what a code says is the entry that stands at its place
+pub entry_read : (codes : List ℕ) (class code : ℕ) (v : Value) → slice_get codes class ≡ Some code → v ≡ value_of_code code →
+    slice_get (values_of_codes codes) class ≡ Some v
+entry_read codes class code v there is =
+    slice_get-map value_of_code codes class ∙ ap (option_map value_of_code) there ∙ ap Some (sym is)
+
+-- what two facts of an answer give together
+pub IfOk-both : {T E : Type 0} (r : Result T E) (P Q R : T → Type 0) → ((x : T) → P x → Q x → R x) → IfOk r P → IfOk r Q → IfOk r R
+IfOk-both (Ok x) P Q R both p q = both x p q
+IfOk-both (Err e) P Q R both p q = tt

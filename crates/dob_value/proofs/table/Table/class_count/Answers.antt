@@ -1,0 +1,12 @@
+use Rattle.std.proofs.Common.{ap, length, ◌∙◌}
+use Rattle.dob_rank.specs.Order.{IsRepresentative}
+use Rattle.dob_value.specs.Codes.{values_of_codes}
+use Rattle.dob_value.specs.Follows.{ClassTable}
+use Rattle.dob_value.proofs.ClassNumbers.{one_count}
+use Rattle.dob_value.proofs.table.Table.class_count.Goals as goal
+
+pub returns-clause-length : goal.returns-clause-length
+returns-clause-length c =
+    one_count (IsRepresentative c.self.inside.classes.set) c.class_count.result (length (values_of_codes c.self.inside.codes.items))
+    c.class_count.ensures.count c.self.invariant.classes
+    ∙ ap (λ (t : ClassTable). length t.values) c.self.view_is

@@ -1,0 +1,72 @@
+// Tables of a piece set: a value for each of its classes.
+ghost use Rattle.std.specs.Prelude.{◌≡◌, ◌<◌, All, Some, length, vec_len, slice_get};
+ghost use Rattle.dob_rank.specs.Order.{IsPositionOf, HasClasses};
+ghost use Rattle.dob_rank.specs.Marks.{classes_of};
+ghost use Rattle.dob_value.specs.Codes.{values_of_codes};
+ghost use Rattle.dob_value.specs.Follows.{ClassTable, HasInTable, IsTable, class_table};
+
+use crate::codes::value_of_code;
+use crate::value::Value;
+use dob_pieces::{PieceSet, Position};
+use dob_rank::Classes;
+use std::marker::Model;
+
+/// A piece set with one value for each of its classes: wins have odd and losses even distances, at most
+/// `MAX_DISTANCE`. It keeps 2 bytes a class beside the set's `Classes`.
+#[derive(Drop)]
+pub struct Table {
+    classes: Classes,
+    codes: Vec<u16>,
+}
+
+impl Model for Table {
+    ghost Value = { ClassTable };
+
+    ghost view = { λ table. class_table table.classes.set (values_of_codes table.codes.items) };
+
+    ghost invariant = { λ table. IsTable table.classes.set (values_of_codes table.codes.items) };
+}
+
+impl Table {
+    /// The table of those classes with those codes, one for each class in the order of their numbers.
+    pub fn new(classes: Classes, codes: Vec<u16>) -> Table
+        requires whole { vec_len codes ≡ classes_of classes.set }
+        requires codes { All (λ code. code < 65536) codes.items }
+        ensures { result ≡ class_table classes.set (values_of_codes codes.items) }
+    {
+        Table { classes, codes }
+    }
+
+    /// The piece set.
+    pub fn set(&self) -> PieceSet
+        ensures set { result ≡ self.now.set }
+        ensures table { IsTable self.now.set self.now.values }
+    {
+        self.classes.set
+    }
+
+    /// How many classes there are.
+    pub fn class_count(&self) -> u64
+        ensures count { HasClasses self.now.set result }
+        ensures length { result ≡ length self.now.values }
+    {
+        self.classes.class_count()
+    }
+
+    /// The value of the class with that number.
+    pub fn value(&self, class: u64) -> Value
+        requires { class < length self.now.values }
+        ensures { slice_get self.now.values class ≡ Some result }
+    {
+        value_of_code(self.codes[class as usize])
+    }
+
+    /// The value of the position's class.
+    pub fn value_of(&self, position: &Position) -> Value
+        requires { IsPositionOf self.now.set position.now.setup }
+        ensures { HasInTable self.now.set self.now.values position.now.setup result }
+    {
+        let number = self.classes.class_of(position);
+        value_of_code(self.codes[number as usize])
+    }
+}
