@@ -1,6 +1,5 @@
 -- What the program owes where it is asked for the sizes of a piece set.
-use Rattle.std.specs.Prelude.{◌≡◌, ◌≢◌, ℕ, ◌+◌, ◌≤◌, ◌<◌, ◌⊎◌, List, [], ◌∷◌, ◌++◌, codes}
-use Rattle.std.specs.Io.KnownBytes.{Appends, Keeps}
+use Rattle.std.specs.Prelude.{◌≡◌, ◌≢◌, ℕ, ◌+◌, ◌≤◌, ◌<◌, List, [], ◌∷◌, ◌++◌, codes}
 use Rattle.std.specs.Fmt.{decimal}
 use Rattle.dob_pieces.specs.declared.piece_set.PieceSet.{PieceSet}
 use Rattle.dob_pieces.specs.Sets.{set_text}
@@ -8,8 +7,7 @@ use Rattle.dob_rank.specs.Order.{HasSize, HasClasses}
 use Rattle.dob_cli.specs.declared.counts.Counts.{Counts}
 use Rattle.dob_cli.specs.declared.fault.Fault.{Fault}
 use Rattle.dob_cli.specs.declared.fault.Fault.TheVariants.{SetText, SetTooLarge, Memory, Io}
-use Rattle.dob_cli.specs.Faults.{fault_line, status_of}
-use Rattle.dob_cli.specs.Program.{AppendsPart, Bytes}
+use Rattle.dob_cli.specs.Endings.{Bytes, Answers}
 
 -- how many pieces the set has besides the lions
 abbrev pub pieces : PieceSet → ℕ
@@ -49,26 +47,9 @@ abbrev pub IsCountFaultOf : List ℕ → Fault → Type 0
 IsCountFaultOf text SetText = (set : PieceSet) → text ≢ set_text set
 IsCountFaultOf text SetTooLarge = (set : PieceSet) × (text ≡ set_text set) × (3 < pieces set)
 IsCountFaultOf text Memory = Unit {0}
-IsCountFaultOf text Io = (counts : Counts) × AreCountsOf text counts
+IsCountFaultOf text Io = (lines : List ℕ) × AreCountLinesOf text lines
 IsCountFaultOf text _ = ⊥
-
--- It told the numbers: status 0, the two lines on standard output and nothing else.
-pub record TellsCounts (text : List ℕ) (status : ℕ) (out out' err err' : Bytes) : Type 0 where
-  pub counts : Counts
-  pub of_text : AreCountsOf text counts
-  pub done : status ≡ 0
-  pub told : Appends out out' (count_lines counts)
-  pub silent : Keeps err err'
-
--- It told a fault: the fault's status, and on standard error the fault's line, or a beginning of it where standard
--- error fails. Standard output has nothing of it, or a beginning of the lines where standard output failed.
-pub record TellsCountFault (text : List ℕ) (status : ℕ) (out out' err err' : Bytes) : Type 0 where
-  pub fault : Fault
-  pub of_text : IsCountFaultOf text fault
-  pub ended : status ≡ status_of fault
-  pub told : AppendsPart err err' (fault_line fault)
-  pub silent : Keeps out out' ⊎ ((counts : Counts) × AreCountsOf text counts × AppendsPart out out' (count_lines counts))
 
 -- what the program does where it is asked for the numbers of the piece set that a text names
 abbrev pub AnswersCount : List ℕ → ℕ → Bytes → Bytes → Bytes → Bytes → Type 0
-AnswersCount text status out out' err err' = TellsCounts text status out out' err err' ⊎ TellsCountFault text status out out' err err'
+AnswersCount text status out out' err err' = Answers (AreCountLinesOf text) (IsCountFaultOf text) status out out' err err'

@@ -1,7 +1,7 @@
 // Bytes written to standard output and standard error.
 ghost use Rattle.std.specs.Prelude.{◌≡◌, true};
 ghost use Rattle.std.specs.Io.KnownBytes.{Appends};
-ghost use Rattle.dob_cli.specs.Program.{AppendsPart};
+ghost use Rattle.dob_cli.specs.Endings.{AppendsPart};
 
 use std::io::Write;
 

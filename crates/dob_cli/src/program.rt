@@ -2,7 +2,8 @@
 ghost use Rattle.std.specs.Prelude.{◌≡◌, ◌⊎◌, ℕ, List, IfOk, IfErr, map, string_bytes};
 ghost use Rattle.std.specs.Io.KnownBytes.{Keeps};
 ghost use Rattle.dob_cli.specs.Words.{meaning_of, value as asks_value, count as asks_count, help as asks_help, usage as asks_nothing};
-ghost use Rattle.dob_cli.specs.Program.{AnswersValue, IsValueLineOf, IsFaultOf, value_line, Tells, TellsFaultAs, TellsOneFault};
+ghost use Rattle.dob_cli.specs.Endings.{Tells, TellsFaultAs, TellsOneFault};
+ghost use Rattle.dob_cli.specs.Program.{AnswersValue, IsValueLineOf, IsFaultOf, value_line};
 ghost use Rattle.dob_cli.specs.Sizes.{AnswersCount};
 ghost use Rattle.dob_cli.specs.declared.fault.Fault.TheVariants.{Memory};
 

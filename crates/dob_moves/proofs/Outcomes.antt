@@ -13,10 +13,10 @@ use Rattle.dob_pieces.specs.declared.hand.Hand.{Hand}
 use Rattle.dob_pieces.specs.declared.hand.Hands.{Hands}
 use Rattle.dob_pieces.specs.declared.setup.Setup.{Setup}
 use Rattle.dob_pieces.specs.Pieces.{kind_in_hand, kind_on_board, is_lion, is_side, counts_as, leads}
-use Rattle.dob_pieces.specs.Setups.{Cell, at, held, piece_of, turned, total, holds_kind, holds_lion, IsLegal}
+use Rattle.dob_pieces.specs.Setups.{Cell, at, held, piece_of, turned, total, holds_kind, holds_lion, IsLegal, with_one_more, with_one_less}
 use Rattle.dob_moves.specs.declared.choice.Move.{Move}
 use Rattle.dob_moves.specs.declared.choice.Move.TheVariants.{Step, Put}
-use Rattle.dob_moves.specs.Moves.{Goes, CanGo, Steps, Drops, CanTake, hands_after_catch, with_one_more, with_one_less, grows_at}
+use Rattle.dob_moves.specs.Moves.{Goes, CanGo, Steps, Drops, CanTake, hands_after_catch, grows_at}
 use Rattle.dob_moves.specs.Statuses.{HasTried}
 use Rattle.dob_moves.specs.Outcomes.{arrives_as, with_caught, stepped, dropped, moved}
 use Rattle.dob_pieces.proofs.Boards.{one_if, total-turned, within-from_piece, count-set, count-moved, leads-to_board, leads-apart}

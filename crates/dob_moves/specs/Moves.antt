@@ -10,21 +10,9 @@ use Rattle.dob_pieces.specs.declared.hand.Hands.{Hands}
 use Rattle.dob_pieces.specs.declared.setup.Setup.{Setup}
 use Rattle.dob_pieces.specs.Squares.{row}
 use Rattle.dob_pieces.specs.Pieces.{leads, kind_in_hand, kind_on_board}
-use Rattle.dob_pieces.specs.Setups.{at, held, piece_of, turned}
+use Rattle.dob_pieces.specs.Setups.{at, held, with_one_more, with_one_less, piece_of, turned}
 use Rattle.dob_moves.specs.declared.choice.Move.{Move}
 use Rattle.dob_moves.specs.declared.choice.Move.TheVariants.{Step, Put}
-
--- a hand with one more of a kind
-abbrev pub with_one_more : Hand → HandKind → Hand
-with_one_more h hand.Chick = record h { chicks = h.chicks + 1 }
-with_one_more h hand.Elephant = record h { elephants = h.elephants + 1 }
-with_one_more h hand.Giraffe = record h { giraffes = h.giraffes + 1 }
-
--- a hand with one less of a kind
-abbrev pub with_one_less : Hand → HandKind → Hand
-with_one_less h hand.Chick = record h { chicks = h.chicks - 1 }
-with_one_less h hand.Elephant = record h { elephants = h.elephants - 1 }
-with_one_less h hand.Giraffe = record h { giraffes = h.giraffes - 1 }
 
 -- a step of that kind that ends there makes a hen: a chick's onto its far row
 abbrev pub grows_at : Kind → ℕ → Bool

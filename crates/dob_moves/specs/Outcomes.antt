@@ -7,10 +7,9 @@ use Rattle.dob_pieces.specs.declared.kind.Side.TheVariants.{Mover}
 use Rattle.dob_pieces.specs.declared.hand.Hand.{Hand}
 use Rattle.dob_pieces.specs.declared.setup.Setup.{Setup}
 use Rattle.dob_pieces.specs.Pieces.{kind_in_hand, kind_on_board}
-use Rattle.dob_pieces.specs.Setups.{Cell, at, piece_of}
+use Rattle.dob_pieces.specs.Setups.{Cell, at, piece_of, with_one_more, with_one_less}
 use Rattle.dob_moves.specs.declared.choice.Move.{Move}
 use Rattle.dob_moves.specs.declared.choice.Move.TheVariants.{Step, Put}
-use Rattle.dob_moves.specs.Moves.{with_one_more, with_one_less}
 
 -- the kind that a stepping piece has afterwards
 abbrev pub arrives_as : Kind → Bool → Kind

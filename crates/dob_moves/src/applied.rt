@@ -2,7 +2,7 @@
 ghost use Rattle.std.specs.Prelude.{◌≡◌, ◌<◌};
 ghost use Rattle.dob_pieces.specs.Setups.{at, held};
 ghost use Rattle.dob_moves.specs.declared.outlook.Status.{Status};
-ghost use Rattle.dob_moves.specs.Moves.{Goes, CanGo, with_one_more, with_one_less};
+ghost use Rattle.dob_moves.specs.Moves.{Goes, CanGo};
 ghost use Rattle.dob_moves.specs.Statuses.{HasStatus};
 ghost use Rattle.dob_moves.specs.Outcomes.{arrives_as, with_caught, stepped, dropped, moved};
 
@@ -75,7 +75,7 @@ fn dropped(position: &Position, kind: HandKind, to: Square) -> Setup
         side: Side::Mover,
         kind: kind.on_board(),
     });
-    let mover = with_one_less(position.setup.hands.mover, kind);
+    let mover = position.setup.hands.mover.with_one_less(kind);
     Setup {
         board,
         hands: Hands {
@@ -95,49 +95,7 @@ fn with_caught(position: &Position, to: Square) -> Hand
         None => hand,
         Some(caught) => match caught.kind.in_hand() {
             None => hand,
-            Some(taken) => with_one_more(hand, taken),
-        },
-    }
-}
-
-// The hand with one more of a kind.
-fn with_one_more(hand: Hand, kind: HandKind) -> Hand
-    requires { held hand kind < 255 }
-    ensures { result ≡ with_one_more hand kind }
-{
-    match kind {
-        HandKind::Chick => Hand {
-            chicks: hand.chicks + 1,
-            ..hand
-        },
-        HandKind::Elephant => Hand {
-            elephants: hand.elephants + 1,
-            ..hand
-        },
-        HandKind::Giraffe => Hand {
-            giraffes: hand.giraffes + 1,
-            ..hand
-        },
-    }
-}
-
-// The hand with one less of a kind.
-fn with_one_less(hand: Hand, kind: HandKind) -> Hand
-    requires { 0 < held hand kind }
-    ensures { result ≡ with_one_less hand kind }
-{
-    match kind {
-        HandKind::Chick => Hand {
-            chicks: hand.chicks - 1,
-            ..hand
-        },
-        HandKind::Elephant => Hand {
-            elephants: hand.elephants - 1,
-            ..hand
-        },
-        HandKind::Giraffe => Hand {
-            giraffes: hand.giraffes - 1,
-            ..hand
+            Some(taken) => hand.with_one_more(taken),
         },
     }
 }

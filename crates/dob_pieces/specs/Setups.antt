@@ -1,5 +1,5 @@
 -- What stands on the board and lies in the hands; when it is a position; its turned and its mirrored form.
-use Rattle.std.specs.Prelude.{◌≡◌, ◌≢◌, ℕ, ◌+◌, ◌≤◌, Bool, false, ◌&&◌, List, Option, Some, None, map, length, count_by, slice_index_or}
+use Rattle.std.specs.Prelude.{◌≡◌, ◌≢◌, ℕ, ◌+◌, ◌-◌, ◌≤◌, Bool, false, ◌&&◌, List, Option, Some, None, map, length, count_by, slice_index_or}
 use Rattle.std.specs.List.{range_with_len}
 use Rattle.dob_pieces.specs.declared.kind.Kind.{Kind}
 use Rattle.dob_pieces.specs.declared.kind.Kind.TheVariants.{Lion}
@@ -33,6 +33,18 @@ abbrev pub held : Hand → HandKind → ℕ
 held h hand.Chick = h.chicks
 held h hand.Elephant = h.elephants
 held h hand.Giraffe = h.giraffes
+
+-- a hand with one more of a kind
+abbrev pub with_one_more : Hand → HandKind → Hand
+with_one_more h hand.Chick = record h { chicks = h.chicks + 1 }
+with_one_more h hand.Elephant = record h { elephants = h.elephants + 1 }
+with_one_more h hand.Giraffe = record h { giraffes = h.giraffes + 1 }
+
+-- a hand with one less of a kind
+abbrev pub with_one_less : Hand → HandKind → Hand
+with_one_less h hand.Chick = record h { chicks = h.chicks - 1 }
+with_one_less h hand.Elephant = record h { elephants = h.elephants - 1 }
+with_one_less h hand.Giraffe = record h { giraffes = h.giraffes - 1 }
 
 abbrev pub holds_lion : Side → Cell → Bool
 holds_lion side None = false

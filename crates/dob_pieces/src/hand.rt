@@ -1,6 +1,6 @@
 // The pieces in hand.
-ghost use Rattle.std.specs.Prelude.{◌≡◌};
-ghost use Rattle.dob_pieces.specs.Setups.{held};
+ghost use Rattle.std.specs.Prelude.{◌≡◌, ◌<◌};
+ghost use Rattle.dob_pieces.specs.Setups.{held, with_one_more, with_one_less};
 
 use crate::kind::HandKind;
 
@@ -21,6 +21,48 @@ impl Hand {
             HandKind::Chick => self.chicks,
             HandKind::Elephant => self.elephants,
             HandKind::Giraffe => self.giraffes,
+        }
+    }
+
+    /// The hand with one more of that kind.
+    pub fn with_one_more(self, kind: HandKind) -> Hand
+        requires { held self kind < 255 }
+        ensures { result ≡ with_one_more self kind }
+    {
+        match kind {
+            HandKind::Chick => Hand {
+                chicks: self.chicks + 1,
+                ..self
+            },
+            HandKind::Elephant => Hand {
+                elephants: self.elephants + 1,
+                ..self
+            },
+            HandKind::Giraffe => Hand {
+                giraffes: self.giraffes + 1,
+                ..self
+            },
+        }
+    }
+
+    /// The hand with one less of that kind, of which it holds one.
+    pub fn with_one_less(self, kind: HandKind) -> Hand
+        requires { 0 < held self kind }
+        ensures { result ≡ with_one_less self kind }
+    {
+        match kind {
+            HandKind::Chick => Hand {
+                chicks: self.chicks - 1,
+                ..self
+            },
+            HandKind::Elephant => Hand {
+                elephants: self.elephants - 1,
+                ..self
+            },
+            HandKind::Giraffe => Hand {
+                giraffes: self.giraffes - 1,
+                ..self
+            },
         }
     }
 }

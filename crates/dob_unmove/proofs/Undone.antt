@@ -11,12 +11,12 @@ use Rattle.dob_pieces.specs.declared.hand.Hand.{Hand}
 use Rattle.dob_pieces.specs.declared.hand.Hands.{Hands}
 use Rattle.dob_pieces.specs.declared.setup.Setup.{Setup}
 use Rattle.dob_pieces.specs.Pieces.{leads, kind_in_hand, kind_on_board}
-use Rattle.dob_pieces.specs.Setups.{Cell, at, held, piece_of, turned}
+use Rattle.dob_pieces.specs.Setups.{Cell, at, held, piece_of, turned, with_one_more, with_one_less}
 use Rattle.dob_pieces.proofs.Boards.{length-turned, within-from_piece, leads-to_board, leads-apart}
 use Rattle.dob_pieces.proofs.Symmetries.{turned-turned}
 use Rattle.dob_moves.specs.declared.choice.Move.{Move}
 use Rattle.dob_moves.specs.declared.choice.Move.TheVariants.{Step, Put}
-use Rattle.dob_moves.specs.Moves.{Goes, Steps, Drops, CanTake, hands_after_catch, with_one_more, with_one_less, grows_at}
+use Rattle.dob_moves.specs.Moves.{Goes, Steps, Drops, CanTake, hands_after_catch, grows_at}
 use Rattle.dob_unmove.specs.declared.undo.Undo.{Undo}
 use Rattle.dob_unmove.specs.declared.undo.Undo.TheVariants.{Unstep, Unput}
 use Rattle.dob_unmove.specs.Undoes.{choice, arrives_at, enemy_cell, without_caught, earlier, CanGiveBack, CanUnstep, CanUndo}

@@ -8,10 +8,10 @@ use Rattle.dob_pieces.specs.declared.kind.Side.TheVariants.{Mover, Enemy}
 use Rattle.dob_pieces.specs.declared.hand.Hand.{Hand}
 use Rattle.dob_pieces.specs.declared.setup.Setup.{Setup}
 use Rattle.dob_pieces.specs.Pieces.{leads, kind_in_hand, kind_on_board}
-use Rattle.dob_pieces.specs.Setups.{Cell, at, held, piece_of}
+use Rattle.dob_pieces.specs.Setups.{Cell, at, held, piece_of, with_one_more, with_one_less}
 use Rattle.dob_moves.specs.declared.choice.Move.{Move}
 use Rattle.dob_moves.specs.declared.choice.Move.TheVariants.{Step, Put}
-use Rattle.dob_moves.specs.Moves.{grows_at, with_one_more, with_one_less}
+use Rattle.dob_moves.specs.Moves.{grows_at}
 use Rattle.dob_unmove.specs.declared.undo.Undo.{Undo}
 use Rattle.dob_unmove.specs.declared.undo.Undo.TheVariants.{Unstep, Unput}
 

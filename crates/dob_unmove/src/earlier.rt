@@ -1,7 +1,6 @@
 // The position before a move.
-ghost use Rattle.std.specs.Prelude.{◌≡◌, ◌<◌, MatchOption};
-ghost use Rattle.dob_pieces.specs.Setups.{held, HasFewPieces};
-ghost use Rattle.dob_moves.specs.Moves.{with_one_more, with_one_less};
+ghost use Rattle.std.specs.Prelude.{◌≡◌, MatchOption};
+ghost use Rattle.dob_pieces.specs.Setups.{HasFewPieces};
 ghost use Rattle.dob_moves.specs.Statuses.{HasStatus};
 ghost use Rattle.dob_unmove.specs.Undoes.{CanGiveBack, CanUndo, without_caught, enemy_cell, earlier};
 ghost use Rattle.dob_unmove.specs.Unmoves.{IsOpenPosition};
@@ -75,7 +74,7 @@ fn before_put(after: &Setup, kind: HandKind, to: Square) -> Setup
 {
     let mut board = after.board;
     board[to.index()] = None;
-    let mover = with_one_more(after.hands.mover, kind);
+    let mover = after.hands.mover.with_one_more(kind);
     Setup {
         board,
         hands: Hands {
@@ -104,49 +103,7 @@ fn without_caught(hand: Hand, caught: Option<Kind>) -> Hand
         None => hand,
         Some(kind) => match kind.in_hand() {
             None => hand,
-            Some(taken) => with_one_less(hand, taken),
-        },
-    }
-}
-
-// The hand with one more of a kind.
-fn with_one_more(hand: Hand, kind: HandKind) -> Hand
-    requires { held hand kind < 255 }
-    ensures { result ≡ with_one_more hand kind }
-{
-    match kind {
-        HandKind::Chick => Hand {
-            chicks: hand.chicks + 1,
-            ..hand
-        },
-        HandKind::Elephant => Hand {
-            elephants: hand.elephants + 1,
-            ..hand
-        },
-        HandKind::Giraffe => Hand {
-            giraffes: hand.giraffes + 1,
-            ..hand
-        },
-    }
-}
-
-// The hand with one less of a kind.
-fn with_one_less(hand: Hand, kind: HandKind) -> Hand
-    requires { 0 < held hand kind }
-    ensures { result ≡ with_one_less hand kind }
-{
-    match kind {
-        HandKind::Chick => Hand {
-            chicks: hand.chicks - 1,
-            ..hand
-        },
-        HandKind::Elephant => Hand {
-            elephants: hand.elephants - 1,
-            ..hand
-        },
-        HandKind::Giraffe => Hand {
-            giraffes: hand.giraffes - 1,
-            ..hand
+            Some(taken) => hand.with_one_less(taken),
         },
     }
 }
