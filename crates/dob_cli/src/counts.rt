@@ -60,6 +60,3 @@ fn count_of(alloc: Global, set: PieceSet) -> Result<Counts, Fault>
     let positions = size(set);
     Ok(Counts { positions, classes })
 }
-
-#[cfg(test)]
-mod tests;

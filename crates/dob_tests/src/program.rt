@@ -2,6 +2,7 @@
 use dob_cli::run_words;
 use std::alloc::{AllocError, Global};
 use std::io::{self, ErrorKind, Write};
+use std::process::Abort;
 use std::test::Fail;
 
 /// What the program did.
@@ -42,6 +43,22 @@ impl Write for Narrow {
     }
 }
 
+/// The words give just that on standard output, and status 0.
+fn answers(rt: &impl Abort, alloc: Global, words: &[&str], lines: &str) {
+    let told = run(alloc, words);
+    assert_eq!(rt; told.status, 0, "{words:?}");
+    assert_eq!(rt; told.out.as_slice(), lines.as_bytes(), "{words:?}");
+    assert!(rt; told.err.is_empty(), "{words:?}");
+}
+
+/// The words give just that on standard error, and status 1.
+fn refuses(rt: &impl Abort, alloc: Global, words: &[&str], line: &str) {
+    let told = run(alloc, words);
+    assert_eq!(rt; told.status, 1, "{words:?}");
+    assert!(rt; told.out.is_empty(), "{words:?}");
+    assert_eq!(rt; told.err.as_slice(), line.as_bytes(), "{words:?}");
+}
+
 #[test]
 fn values_of_positions(rt: HostRuntime) -> Result<(), Fail> {
     let rows = [
@@ -54,12 +71,26 @@ fn values_of_positions(rt: HostRuntime) -> Result<(), Fail> {
         (".l./.../.../.L. - -", "win 5\n"),
         (".../.l./.../.L. - -", "loss 4\n"),
         (".l./.../.L./... - -", "draw\n"),
+        (".l./.C./.../L.. - -", "win 1\n"),
+        (".../.../.../L.l - g", "loss 0\n"),
     ];
     for (text, line) in rows {
-        let told = run(rt.alloc(), &["value", text]);
-        assert_eq!(rt; told.status, 0, "{text}");
-        assert_eq!(rt; told.out.as_slice(), line.as_bytes(), "{text}");
-        assert!(rt; told.err.is_empty(), "{text}");
+        answers(&rt, rt.alloc(), &["value", text], line);
+    }
+    Ok(())
+}
+
+#[test]
+fn sizes_of_piece_sets(rt: HostRuntime) -> Result<(), Fail> {
+    let rows = [
+        ("000", "positions 99\nclasses 54\n"),
+        ("001", "positions 2178\nclasses 1116\n"),
+        ("010", "positions 2178\nclasses 1116\n"),
+        ("100", "positions 4158\nclasses 2124\n"),
+        ("200", "positions 79497\nclasses 39978\n"),
+    ];
+    for (text, lines) in rows {
+        answers(&rt, rt.alloc(), &["count", "--set", text], lines);
     }
     Ok(())
 }
@@ -71,29 +102,52 @@ fn refused_texts(rt: HostRuntime) -> Result<(), Fail> {
         (".../.../.../L.. - -", "dobutsu: E4 Lions\n"),
         ("..l/.../.../L.. GC -", "dobutsu: E3 Hand\n"),
         ("..l/.../.../L.. CCC -", "dobutsu: E5 Count\n"),
+        ("..l/.../.../L.. CC EG", "dobutsu: E3 Hand\n"),
         ("..l/.../.../L.x - -", "dobutsu: E2 Letter\n"),
         ("", "dobutsu: E1 Shape\n"),
         ("-", "dobutsu: E1 Shape\n"),
         ("gle/.c./.C./ELG - -", "dobutsu: E8 SetTooLarge\n"),
     ];
     for (text, line) in rows {
-        let told = run(rt.alloc(), &["value", text]);
-        assert_eq!(rt; told.status, 1, "{text}");
-        assert!(rt; told.out.is_empty(), "{text}");
-        assert_eq!(rt; told.err.as_slice(), line.as_bytes(), "{text}");
+        refuses(&rt, rt.alloc(), &["value", text], line);
+    }
+    Ok(())
+}
+
+#[test]
+fn refused_sets(rt: HostRuntime) -> Result<(), Fail> {
+    let rows = [
+        ("211", "dobutsu: E8 SetTooLarge\n"),
+        ("022", "dobutsu: E8 SetTooLarge\n"),
+        ("222", "dobutsu: E8 SetTooLarge\n"),
+        ("", "dobutsu: E25 SetText\n"),
+        ("3", "dobutsu: E25 SetText\n"),
+        ("10", "dobutsu: E25 SetText\n"),
+        ("1000", "dobutsu: E25 SetText\n"),
+        ("300", "dobutsu: E25 SetText\n"),
+        ("1 0", "dobutsu: E25 SetText\n"),
+        ("-", "dobutsu: E25 SetText\n"),
+        ("１00", "dobutsu: E25 SetText\n"),
+    ];
+    for (text, line) in rows {
+        refuses(&rt, rt.alloc(), &["count", "--set", text], line);
     }
     Ok(())
 }
 
 #[test]
 fn wrong_words_are_usage(rt: HostRuntime) -> Result<(), Fail> {
-    let rows: [&[&str]; 6] = [
+    let rows: [&[&str]; 10] = [
         &[],
         &["value"],
         &["value", "a", "b"],
         &["value", "-x"],
         &["worth", "a"],
         &["--value"],
+        &["count"],
+        &["count", "100"],
+        &["count", "--set"],
+        &["count", "--set", "100", "100"],
     ];
     for words in rows {
         let told = run(rt.alloc(), words);
@@ -106,7 +160,13 @@ fn wrong_words_are_usage(rt: HostRuntime) -> Result<(), Fail> {
 
 #[test]
 fn help_is_told_on_standard_output(rt: HostRuntime) -> Result<(), Fail> {
-    let rows: [&[&str]; 4] = [&["--help"], &["-h"], &["help"], &["value", "--help"]];
+    let rows: [&[&str]; 5] = [
+        &["--help"],
+        &["-h"],
+        &["help"],
+        &["value", "--help"],
+        &["count", "--help"],
+    ];
     for words in rows {
         let told = run(rt.alloc(), words);
         assert_eq!(rt; told.status, 0);
