@@ -1,19 +1,23 @@
 // Answers questions about positions and piece sets, one a line, so that this implementation can be compared with
 // another: `moves TEXT`, `after I TEXT`, `catch TEXT`, `value TEXT`, `rank TEXT`, `class TEXT`, `unrank CEG N`,
-// `classat CEG K`, `size CEG`. A text that is no position and a set that is none get their refusals, and any other
-// line `unknown question`.
+// `classat CEG K`, `size CEG`, `back CEG K`, `edges CEG P Q`. A text that is no position and a set that is none get
+// their refusals, and any other line `unknown question`.
 #![tactic(auto)]
 
+mod about_position;
+mod about_set;
 mod answer;
+mod opened;
 mod question;
 
+use crate::opened::Opened;
 use anyhow::Result;
 use std::io::{self, BufRead, BufReader, BufWriter, Write};
 
 fn main(rt: HostRuntime) -> Result<()> {
     let mut output = BufWriter::new(rt.alloc(), io::writer(&rt))?;
     let input = BufReader::new(rt.alloc(), rt.reader())?;
-    let mut opened = None;
+    let mut opened = Opened::new();
     for line in input.lines(rt.alloc()) {
         let reply = answer::reply(rt.alloc(), &mut opened, line?.as_str())?;
         writeln!(output, "{reply}")?;

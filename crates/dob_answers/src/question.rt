@@ -4,18 +4,14 @@
 #[derive(Clone, Copy)]
 pub(crate) enum Question<'a> {
     /// Something about the position of that text.
-    Position(Matter, &'a str),
-    /// The position of that rank in the piece set.
-    Unrank(&'a str, u64),
-    /// The representative of that class of the piece set.
-    ClassAt(&'a str, u64),
-    /// The numbers of positions and classes of the piece set.
-    Size(&'a str),
+    Position(OfPosition, &'a str),
+    /// Something about the piece set of that text.
+    Set(OfSet, &'a str),
 }
 
 /// What is asked about a position.
 #[derive(Clone, Copy)]
-pub(crate) enum Matter {
+pub(crate) enum OfPosition {
     /// Which status it has, and which moves.
     Moves,
     /// What it is after the move of that number, counted from 0.
@@ -30,30 +26,54 @@ pub(crate) enum Matter {
     Class,
 }
 
+/// What is asked about a piece set.
+#[derive(Clone, Copy)]
+pub(crate) enum OfSet {
+    /// How many positions and classes it has.
+    Size,
+    /// Which position has that rank.
+    Unrank(u64),
+    /// Which position is the representative of that class.
+    ClassAt(u64),
+    /// From which classes moves lead into that class.
+    Back(u64),
+    /// How many moves lead from one class into another.
+    Edges { from: u64, into: u64 },
+}
+
 impl<'a> Question<'a> {
     /// The question of a line; none where the line is no question.
     pub(crate) fn read(line: &'a str) -> Option<Question<'a>> {
         let (word, rest) = line.split_once(' ')?;
         match word {
-            "moves" => Some(Question::Position(Matter::Moves, rest)),
-            "catch" => Some(Question::Position(Matter::Catch, rest)),
-            "value" => Some(Question::Position(Matter::Value, rest)),
-            "rank" => Some(Question::Position(Matter::Rank, rest)),
-            "class" => Some(Question::Position(Matter::Class, rest)),
+            "moves" => Some(Question::Position(OfPosition::Moves, rest)),
+            "catch" => Some(Question::Position(OfPosition::Catch, rest)),
+            "value" => Some(Question::Position(OfPosition::Value, rest)),
+            "rank" => Some(Question::Position(OfPosition::Rank, rest)),
+            "class" => Some(Question::Position(OfPosition::Class, rest)),
             "after" => {
                 let (number, text) = rest.split_once(' ')?;
                 let number = number.parse::<usize>().ok()?;
-                Some(Question::Position(Matter::After(number), text))
+                Some(Question::Position(OfPosition::After(number), text))
             }
+            "size" => Some(Question::Set(OfSet::Size, rest)),
             "unrank" => {
-                let (set, number) = set_and_number(rest)?;
-                Some(Question::Unrank(set, number))
+                let (set, rank) = set_and_number(rest)?;
+                Some(Question::Set(OfSet::Unrank(rank), set))
             }
             "classat" => {
-                let (set, number) = set_and_number(rest)?;
-                Some(Question::ClassAt(set, number))
+                let (set, class) = set_and_number(rest)?;
+                Some(Question::Set(OfSet::ClassAt(class), set))
             }
-            "size" => Some(Question::Size(rest)),
+            "back" => {
+                let (set, class) = set_and_number(rest)?;
+                Some(Question::Set(OfSet::Back(class), set))
+            }
+            "edges" => {
+                let (set, classes) = rest.split_once(' ')?;
+                let (from, into) = two_numbers(classes)?;
+                Some(Question::Set(OfSet::Edges { from, into }, set))
+            }
             _ => None,
         }
     }
@@ -64,4 +84,12 @@ fn set_and_number(text: &str) -> Option<(&str, u64)> {
     let (set, number) = text.split_once(' ')?;
     let number = number.parse::<u64>().ok()?;
     Some((set, number))
+}
+
+/// Two numbers with a space between them.
+fn two_numbers(text: &str) -> Option<(u64, u64)> {
+    let (first, second) = text.split_once(' ')?;
+    let first = first.parse::<u64>().ok()?;
+    let second = second.parse::<u64>().ok()?;
+    Some((first, second))
 }

@@ -1,58 +1,95 @@
-// What is measured of one piece set.
+// What is measured of one piece set, a function for each thing. Each prints what was done and then, where `timed`, how
+// long it took.
+use crate::counts::{self, Edges, Moves, Outcomes};
+use crate::timer::Timer;
 use anyhow::Result;
 use dob_pieces::PieceSet;
-use dob_rank::{Classes, rank, size, unrank};
+use dob_rank::{Classes, size};
+use dob_value::sweep_table;
 use std::rt::Clock;
-use std::time::Instant;
 
-/// Goes over the set, and prints what it did, with seconds where `timed`.
+/// Measures everything over the set.
 pub(crate) fn run<R: Print + Clock + AllocGlobal>(
     rt: &R,
     set: PieceSet,
     timed: bool,
 ) -> Result<()> {
-    let start = Instant::now(rt)?;
+    let classes = open(rt, set, timed)?;
+    find_ranks(rt, set, timed)?;
+    find_classes(rt, &classes, timed)?;
+    list_moves(rt, &classes, timed)?;
+    list_predecessors(rt, &classes, timed)?;
+    sweep(rt, set, timed)
+}
+
+// Opens the classes of the set.
+fn open<R: Print + Clock + AllocGlobal>(rt: &R, set: PieceSet, timed: bool) -> Result<Classes> {
+    let timer = Timer::start(rt, timed)?;
     let classes = Classes::open(rt.alloc(), set)?;
-    let positions = size(set);
-    let count = classes.class_count();
+    let (positions, count) = (size(set), classes.class_count());
     println!(rt; "opened {count} classes of {positions} positions")?;
-    tell_seconds(rt, start, timed)?;
-    let start = Instant::now(rt)?;
-    let found = ranks_found(set);
+    timer.tell(rt, &[(positions, "position")])?;
+    Ok(classes)
+}
+
+// From each rank to its position and back.
+fn find_ranks<R: Print + Clock>(rt: &R, set: PieceSet, timed: bool) -> Result<()> {
+    let timer = Timer::start(rt, timed)?;
+    let found = counts::ranks_found(set);
     println!(rt; "found {found} ranks again")?;
-    tell_seconds(rt, start, timed)?;
-    let start = Instant::now(rt)?;
-    let found = classes_found(&classes);
+    timer.tell(rt, &[(found, "rank")])
+}
+
+// From each class to its representative and back.
+fn find_classes<R: Print + Clock>(rt: &R, classes: &Classes, timed: bool) -> Result<()> {
+    let timer = Timer::start(rt, timed)?;
+    let found = counts::classes_found(classes);
     println!(rt; "found {found} classes again")?;
-    tell_seconds(rt, start, timed)
+    timer.tell(rt, &[(found, "class")])
 }
 
-// How many ranks are those of the positions that they give: all.
-fn ranks_found(set: PieceSet) -> u64 {
-    let mut found = 0;
-    for number in 0..size(set) {
-        if rank(&unrank(set, number)) == number {
-            found += 1;
-        }
-    }
-    found
+// The moves of each class's representative.
+fn list_moves<R: Print + Clock + AllocGlobal>(
+    rt: &R,
+    classes: &Classes,
+    timed: bool,
+) -> Result<()> {
+    let timer = Timer::start(rt, timed)?;
+    let Moves { in_all, most } = counts::count_moves(rt.alloc(), classes)?;
+    println!(rt; "listed {in_all} moves, at most {most} of one position")?;
+    timer.tell(rt, &[(classes.class_count(), "class"), (in_all, "move")])
 }
 
-// How many classes are those of their representatives: all.
-fn classes_found(classes: &Classes) -> u64 {
-    let mut found = 0;
-    for number in 0..classes.class_count() {
-        if classes.class_of(&classes.class_at(number)) == number {
-            found += 1;
-        }
-    }
-    found
+// The predecessors of each class.
+fn list_predecessors<R: Print + Clock + AllocGlobal>(
+    rt: &R,
+    classes: &Classes,
+    timed: bool,
+) -> Result<()> {
+    let timer = Timer::start(rt, timed)?;
+    let Edges {
+        in_all,
+        most,
+        most_equal,
+    } = counts::count_edges(rt.alloc(), classes)?;
+    println!(rt;
+        "listed {in_all} edges, at most {most} into one class, at most {most_equal} from one class into one"
+    )?;
+    timer.tell(rt, &[(classes.class_count(), "class"), (in_all, "edge")])
 }
 
-fn tell_seconds<R: Print + Clock>(rt: &R, start: Instant, timed: bool) -> Result<()> {
-    if timed {
-        let seconds = start.elapsed(rt)?.as_secs_f64();
-        println!(rt; "    {seconds:.3} seconds")?;
-    }
-    Ok(())
+// The values of all classes.
+fn sweep<R: Print + Clock + AllocGlobal>(rt: &R, set: PieceSet, timed: bool) -> Result<()> {
+    let timer = Timer::start(rt, timed)?;
+    let table = sweep_table(rt.alloc(), set)?;
+    let Outcomes {
+        wins,
+        losses,
+        draws,
+        longest_win,
+    } = counts::count_outcomes(&table);
+    println!(rt;
+        "swept {wins} wins, {losses} losses, {draws} draws, the longest win {longest_win} plies"
+    )?;
+    timer.tell(rt, &[(table.class_count(), "class")])
 }

@@ -1,6 +1,6 @@
 -- The move at a number below the list's length is one of the position's moves.
 use Rattle.std.proofs.Common.{sym, arith}
-use Rattle.dob_answers.proofs.answer.tell_after.Goals as goal
+use Rattle.dob_answers.proofs.about_position.tell_after.Goals as goal
 
 pub apply-after-requires-clause-open : goal.apply-after-requires-clause-open
 apply-after-requires-clause-open c =

@@ -1,0 +1,114 @@
+// What is counted over a whole piece set.
+use dob_moves::moves;
+use dob_pieces::{Memory, PieceSet};
+use dob_rank::{Classes, rank, size, unrank};
+use dob_unmove::back;
+use dob_value::{Table, Value};
+use std::alloc::Global;
+
+/// How many ranks are those of the positions that they give: all.
+pub(crate) fn ranks_found(set: PieceSet) -> u64 {
+    let mut found = 0;
+    for number in 0..size(set) {
+        if rank(&unrank(set, number)) == number {
+            found += 1;
+        }
+    }
+    found
+}
+
+/// How many classes are those of their representatives: all.
+pub(crate) fn classes_found(classes: &Classes) -> u64 {
+    let mut found = 0;
+    for number in 0..classes.class_count() {
+        if classes.class_of(&classes.class_at(number)) == number {
+            found += 1;
+        }
+    }
+    found
+}
+
+/// How many moves the representatives of the classes have.
+#[derive(Clone, Copy)]
+pub(crate) struct Moves {
+    pub(crate) in_all: u64,
+    /// The most of one representative.
+    pub(crate) most: u64,
+}
+
+/// The moves of the representatives.
+pub(crate) fn count_moves(alloc: Global, classes: &Classes) -> Result<Moves, Memory> {
+    let mut in_all: u64 = 0;
+    let mut most = 0;
+    for number in 0..classes.class_count() {
+        let count = moves(alloc, &classes.class_at(number))?.len() as u64;
+        in_all = in_all.saturating_add(count);
+        most = most.max(count);
+    }
+    Ok(Moves { in_all, most })
+}
+
+/// How many classes are won, lost and drawn, and in how many plies the longest win is.
+#[derive(Clone, Copy)]
+pub(crate) struct Outcomes {
+    pub(crate) wins: u64,
+    pub(crate) losses: u64,
+    pub(crate) draws: u64,
+    pub(crate) longest_win: u16,
+}
+
+/// The outcomes of the classes of the table.
+pub(crate) fn count_outcomes(table: &Table) -> Outcomes {
+    let mut outcomes = Outcomes {
+        wins: 0,
+        losses: 0,
+        draws: 0,
+        longest_win: 0,
+    };
+    for number in 0..table.class_count() {
+        match table.value(number) {
+            Value::Win(plies) => {
+                outcomes.wins += 1;
+                outcomes.longest_win = outcomes.longest_win.max(plies);
+            }
+            Value::Loss(_) => outcomes.losses += 1,
+            Value::Draw => outcomes.draws += 1,
+        }
+    }
+    outcomes
+}
+
+/// How many edges there are, one for each move that leads from one class into another.
+#[derive(Clone, Copy)]
+pub(crate) struct Edges {
+    pub(crate) in_all: u64,
+    /// The most that lead into one class.
+    pub(crate) most: u64,
+    /// The most that lead from one class into one class.
+    pub(crate) most_equal: u64,
+}
+
+/// The edges that the lists of predecessors show.
+pub(crate) fn count_edges(alloc: Global, classes: &Classes) -> Result<Edges, Memory> {
+    let mut in_all: u64 = 0;
+    let mut most = 0;
+    let mut most_equal = 0;
+    for number in 0..classes.class_count() {
+        let before = back(alloc, classes, number)?;
+        let count = before.len() as u64;
+        in_all = in_all.saturating_add(count);
+        most = most.max(count);
+        most_equal = most_equal.max(longest_run(&before));
+    }
+    Ok(Edges {
+        in_all,
+        most,
+        most_equal,
+    })
+}
+
+// The length of the longest run of equal numbers.
+fn longest_run(numbers: &[u64]) -> u64 {
+    let runs = numbers.chunk_by(|one, next| one == next);
+    runs.map(|run| run.len() as u64).max().unwrap_or(0)
+}
