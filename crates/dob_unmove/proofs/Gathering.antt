@@ -25,9 +25,6 @@ finds_from IsFirst p s (Some class) e has h = (subst (λ (x : Setup). IsFirst x 
 pub finds_none : (IsFirst : Setup → ℕ → Type 0) (s : Setup) → IsNumbering IsFirst → ¬ IsOpenPosition s → Finds IsFirst s None
 finds_none IsFirst s n closed w = closed (record { legal = n.legal s w.0 w.1.0; open_to_move = w.1.1 })
 
-pub few_turned : (s t : Setup) → t ≡ turned s → IsLegal s → HasFewPieces t
-few_turned s t e legal = subst HasFewPieces (sym e) (HasFewPieces-turned s legal.squares legal.few)
-
 -- the mirror image is a representative exactly where it is the position itself
 pub own_image : (IsFirst : Setup → ℕ → Type 0) (q image : Setup) (o : Option ℕ) → IsNumbering IsFirst
     → ((class : ℕ) × IsFirst q class) → image ≡ mirrored q
