@@ -1,6 +1,8 @@
 // Predecessors against lists of another program, and against the moves of whole small sets.
+ghost use Rattle.dob_moves.specs.Statuses.{AreMoves};
 
 use crate::back;
+use dob_moves::{Move, apply, moves};
 use dob_pieces::{Hand, Hands, Kind, Memory, Piece, PieceSet, Position, Side, Square};
 use dob_rank::Classes;
 use std::alloc::Global;
@@ -55,25 +57,55 @@ fn class_in(rt: &impl Abort, classes: &Classes, position: &Position) -> u64 {
     classes.class_of(position)
 }
 
-#[test]
-fn predecessors_of_lions_alone(rt: HostRuntime) -> Result<(), Memory> {
-    let classes = classes_of(&rt, rt.alloc(), "000");
-    assert!(rt; classes.class_count() == 54);
-    for (class, expected) in [
-        (0, [46].as_slice()),
-        (6, [8, 10, 16, 26, 28, 46].as_slice()),
-        (11, [].as_slice()),
-        (14, [9, 17, 17, 35, 35].as_slice()),
-        (15, [9, 17, 27].as_slice()),
-        (16, [17, 17, 27, 35, 35].as_slice()),
-        (24, [5, 7, 14, 25, 43].as_slice()),
-        (32, [6, 15, 15].as_slice()),
-        (53, [].as_slice()),
-    ] {
-        let found = back(rt.alloc(), &classes, class)?;
-        assert_eq!(rt; found.as_slice(), expected, "of {class}");
+// The predecessors of classes of the set of that name.
+fn has_predecessors(
+    rt: &impl Abort,
+    alloc: Global,
+    name: &str,
+    table: &[(u64, &[u64])],
+) -> Result<(), Memory> {
+    let classes = classes_of(rt, alloc, name);
+    for (class, expected) in table {
+        assert!(rt; *class < classes.class_count());
+        let found = back(alloc, &classes, *class)?;
+        assert_eq!(rt; found.as_slice(), *expected, "of {class}");
     }
     Ok(())
+}
+
+#[test]
+fn predecessors_of_lions_alone(rt: HostRuntime) -> Result<(), Memory> {
+    has_predecessors(
+        &rt,
+        rt.alloc(),
+        "000",
+        &[
+            (0, &[46]),
+            (6, &[8, 10, 16, 26, 28, 46]),
+            (11, &[]),
+            (14, &[9, 17, 17, 35, 35]),
+            (15, &[9, 17, 27]),
+            (16, &[17, 17, 27, 35, 35]),
+            (24, &[5, 7, 14, 25, 43]),
+            (32, &[6, 15, 15]),
+            (53, &[]),
+        ],
+    )
+}
+
+#[test]
+fn predecessors_in_small_sets(rt: HostRuntime) -> Result<(), Memory> {
+    has_predecessors(
+        &rt,
+        rt.alloc(),
+        "100",
+        &[
+            (13, &[81, 89, 1166, 1167, 1446, 1447]),
+            (287, &[1197, 1401, 1857, 1861, 1869]),
+            (383, &[429, 509, 1105, 1185, 1389, 1397, 1857]),
+            (498, &[70, 444, 516, 720, 1116, 1404]),
+        ],
+    )
 }
 
 #[test]
@@ -89,3 +121,65 @@ fn caught_piece_was_a_chick_or_a_hen(rt: HostRuntime) -> Result<(), Memory> {
     Ok(())
 }
 
+// Appends, for each of a class's moves, the class after it and that class.
+fn push_made(
+    rt: &impl Abort,
+    pairs: &mut Vec<(u64, u64)>,
+    classes: &Classes,
+    class: u64,
+    position: &Position,
+    choices: &[Move],
+) -> Result<(), Memory>
+    requires { AreMoves position.now.setup choices.now }
+{
+    for choice in choices {
+        let after = class_in(rt, classes, &apply(position, *choice));
+        pairs.push((after, class))?;
+    }
+    Ok(())
+}
+
+// For each move of each class's representative the class after it and that class, ascending.
+fn pairs_made(
+    rt: &impl Abort,
+    alloc: Global,
+    classes: &Classes,
+) -> Result<Vec<(u64, u64)>, Memory> {
+    let mut pairs = Vec::new(alloc);
+    for class in 0..classes.class_count() {
+        let position = classes.class_at(class);
+        let choices = moves(alloc, &position)?;
+        push_made(rt, &mut pairs, classes, class, &position, &choices)?;
+    }
+    pairs.sort_unstable();
+    Ok(pairs)
+}
+
+// For each class, in order, the class and each of its predecessors.
+fn pairs_taken_back(alloc: Global, classes: &Classes) -> Result<Vec<(u64, u64)>, Memory> {
+    let mut pairs = Vec::new(alloc);
+    for class in 0..classes.class_count() {
+        let found = back(alloc, classes, class)?;
+        for before in found.iter() {
+            pairs.push((class, *before))?;
+        }
+    }
+    Ok(pairs)
+}
+
+// All moves of the set are taken back, each once, and nothing else.
+fn takes_all_back(rt: &impl Abort, alloc: Global, name: &str) -> Result<(), Memory> {
+    let classes = classes_of(rt, alloc, name);
+    let made = pairs_made(rt, alloc, &classes)?;
+    let taken_back = pairs_taken_back(alloc, &classes)?;
+    assert!(rt; !made.is_empty());
+    assert_eq!(rt; taken_back.as_slice(), made.as_slice(), "of {name}");
+    Ok(())
+}
+
+#[test]
+fn moves_of_small_sets_are_taken_back(rt: HostRuntime) -> Result<(), Memory> {
+    takes_all_back(&rt, rt.alloc(), "000")?;
+    takes_all_back(&rt, rt.alloc(), "010")?;
+    takes_all_back(&rt, rt.alloc(), "100")
+}
