@@ -1,5 +1,5 @@
 -- Class numbers: a position's class is found by the lower of two ranks, and classes and their numbers answer each other.
-use Rattle.std.proofs.Common.{◌≡◌, ℕ, zero, suc, ◌+◌, ◌-◌, ◌*◌, ◌/◌, ◌%◌, ◌^◌, ◌<◌, ◌≤◌, ◌⊎◌, min, bit_and, Bool, true, List, get_or, refl, sym, ap, ◌∙◌, subst, inl, inr, arith}
+use Rattle.std.proofs.Common.{◌≡◌, ℕ, zero, suc, ◌+◌, ◌-◌, ◌*◌, ◌/◌, ◌%◌, ◌^◌, ◌<◌, ◌≤◌, ◌⊎◌, ◌==◌, min, bit_and, Bool, true, false, List, get_or, refl, sym, ap, ◌∙◌, subst, inl, inr, arith}
 use Rattle.std.proofs.lemmas.Bool.{cases_lt, cases_order, cases_Bool}
 use Rattle.std.proofs.lemmas.Nat.{and_mask, one_shl}
 use Rattle.std.proofs.lemmas.List.FromFn.{get_or-map-range_with_len}
@@ -16,7 +16,7 @@ use Rattle.dob_rank.specs.Marks.{one_if, marks_below, word_of, marked, classes_o
 use Rattle.dob_rank.proofs.Numbering.{nth-block, rank_of-nth, rank_of-below, rank_of-rises, rank_of-same, Before-from_rank}
 use Rattle.dob_rank.proofs.Found.{RankOf, IsPositionOf-mirrored}
 use Rattle.dob_rank.proofs.Marks.{HasClass-marked, first-marked, marked-first, marked-first_of}
-use Rattle.dob_rank.proofs.Words.{ones-word_of, word_of-low, marks_below_more, marks_below_none, marks_below-le}
+use Rattle.dob_rank.proofs.Words.{ones-word_of, word_of-low, word_of-bit, marks_below_more, marks_below_none, marks_below-le}
 
 -- ---- one lookup
 
@@ -40,18 +40,38 @@ in_word set i p number word e h n =
     = n ∙ ap ones (masked word.bits p h ∙ ap (λ (x : ℕ). x % 2 ^ p) bits ∙ word_of-low (marked set) (64 * i) 64 p (let le : p ≤ 64 = omega arith in le)) in
     ap (λ (x : ℕ). x + number) before ∙ ap (λ (x : ℕ). marks_below (marked set) (64 * i) + x) low ∙ ones-word_of (marked set) (64 * i) p
 
--- the word of a rank, and the ones below the rank's place in it, tell the marks below the rank
-pub looked_up : (set : PieceSet) (rank len number : ℕ) (items : List Word) (word : Word) → items ≡ words_of set len → rank < size_of set → size_of set < 64 * len
-    → word ≡ get_or items (rank / 64) word → number ≡ ones (bit_and word.bits (1 * 2 ^ (rank % 64) % 18446744073709551616 - 1)) → word.before + number ≡ marks_below (marked set) rank
-looked_up set rank len number items word e h k w n =
-    let i : ℕ = rank / 64 in
-    let at : word ≡ word_at set (rank / 64)
-    = w ∙ ap (λ (xs : List Word). get_or xs (rank / 64) word) e ∙ get_or-map-range_with_len (word_at set) 0 len (rank / 64) (rank / 64) word (within rank len (size_of set) h k) (let same : 0 + rank / 64 ≡ rank / 64 = omega arith in same) in
-    in_word set (rank / 64) (rank % 64) number word at (let low : rank % 64 < 64 = omega arith in low) n
-    ∙ ap (marks_below (marked set)) (let whole : 64 * (rank / 64) + rank % 64 ≡ rank = omega arith in whole)
+-- the word in which a rank's mark stands
+word_found : (set : PieceSet) (rank len : ℕ) (items : List Word) (word : Word) → items ≡ words_of set len → rank < size_of set → size_of set < 64 * len
+    → word ≡ get_or items (rank / 64) word → word ≡ word_at set (rank / 64)
+word_found set rank len items word e h k w =
+    w ∙ ap (λ (xs : List Word). get_or xs (rank / 64) word) e ∙ get_or-map-range_with_len (word_at set) 0 len (rank / 64) (rank / 64) word (within rank len (size_of set) h k) (let same : 0 + rank / 64 ≡ rank / 64 = omega arith in same)
   where
     within : (rank len size : ℕ) → rank < size → size < 64 * len → rank / 64 < len
     within rank len size h k = omega arith
+
+-- the ones below the rank's place in it, and the marks before the word, are the marks below the rank
+pub looked_up : (set : PieceSet) (rank len number : ℕ) (items : List Word) (word : Word) → items ≡ words_of set len → rank < size_of set → size_of set < 64 * len
+    → word ≡ get_or items (rank / 64) word → number ≡ ones (bit_and word.bits (1 * 2 ^ (rank % 64) % 18446744073709551616 - 1)) → word.before + number ≡ marks_below (marked set) rank
+looked_up set rank len number items word e h k w n =
+    in_word set (rank / 64) (rank % 64) number word (word_found set rank len items word e h k w) (let low : rank % 64 < 64 = omega arith in low) n
+    ∙ ap (marks_below (marked set)) (let whole : 64 * (rank / 64) + rank % 64 ≡ rank = omega arith in whole)
+
+-- and the bit at its place is the rank's mark
+pub looked_up-mark : (set : PieceSet) (rank len : ℕ) (items : List Word) (word : Word) → items ≡ words_of set len → rank < size_of set → size_of set < 64 * len
+    → word ≡ get_or items (rank / 64) word → (bit_and (word.bits / 2 ^ (rank % 64)) 1 == 1) ≡ marked set rank
+looked_up-mark set rank len items word e h k w =
+    let bits : word.bits ≡ word_of (marked set) (64 * (rank / 64)) 64
+    = ap (λ (w : Word). w.bits) (word_found set rank len items word e h k w) ∙ word_at-bits set (rank / 64) in
+    let whole : 64 * (rank / 64) + rank % 64 ≡ rank = omega arith in
+    let bit : bit_and (word.bits / 2 ^ (rank % 64)) 1 ≡ one_if (marked set rank)
+    = and_mask (word.bits / 2 ^ (rank % 64)) 1 ∙ ap (λ (x : ℕ). x / 2 ^ (rank % 64) % 2) bits
+    ∙ word_of-bit (marked set) (64 * (rank / 64)) 64 (rank % 64) (let low : rank % 64 < 64 = omega arith in low)
+    ∙ ap (λ (x : ℕ). one_if (marked set x)) whole in
+    ap (λ (x : ℕ). x == 1) bit ∙ is_one (marked set rank)
+  where
+    is_one : (b : Bool) → (one_if b == 1) ≡ b
+    is_one true = refl
+    is_one false = refl
 
 pub looked_up-low : (set : PieceSet) (rank sum : ℕ) → sum ≡ marks_below (marked set) rank → sum ≤ rank
 looked_up-low set rank sum e = subst (λ (x : ℕ). x ≤ rank) (sym e) (marks_below-le (marked set) rank)
@@ -246,6 +266,12 @@ at_class set s rank class p e h on n =
       before = subst (HasClass set s) number (HasClass-marked set s p);
       number_is = class_number-first set s p first ∙ number;
     }
+
+-- the position of a rank without a mark is later than its mirror image
+pub later_unmarked : (set : PieceSet) (s : Setup) (rank : ℕ) → IsPositionOf set s → rank ≡ rank_of set s → marked set rank ≡ false → ¬ IsFirstOfTwo s
+later_unmarked set s rank p e off first =
+    let on : marked set rank ≡ true = ap (marked set) e ∙ representative-marked set s (p, first) in
+    cc
 
 -- each number below the number of classes has its representative
 pub place_of_number : (mark : ℕ → Bool) (n number : ℕ) → number < marks_below mark n → (place : ℕ) × (place < n) × IsMarkedAt mark place number

@@ -1,6 +1,6 @@
 -- Words of marks: their ones are the marks, and their low bits the first of them.
 use Rattle.std.proofs.Common.{◌≡◌, ℕ, zero, suc, ◌+◌, ◌-◌, ◌*◌, ◌/◌, ◌%◌, ◌^◌, ◌<◌, ◌≤◌, Bool, true, false, List, [], ◌∷◌, ◌++◌, refl, sym, ap, ◌∙◌, arith}
-use Rattle.std.proofs.lemmas.Nat.{ones_cat, div-mul-add, mod-mul-add}
+use Rattle.std.proofs.lemmas.Nat.{ones_cat, div-mul-add, mod-mul-add, shr-shr}
 use Rattle.std.proofs.Math.Nat.{pow-zero, pow-le-pow_right, pow-suc}
 use Rattle.std.proofs.Math.Arith.{mod-mul}
 use lib.Count.{ones}
@@ -75,6 +75,23 @@ word_of-low mark from (suc n) (suc p) h =
     ∙ ap (λ (x : ℕ). word_of mark (suc from) n % 2 ^ p * 2 + x) (mod-mul-add (word_of mark (suc from) n) 2 (one_if (mark from)) bit)
     ∙ ap (λ (x : ℕ). x * 2 + one_if (mark from)) rest
     ∙ sym (word_of_more mark from p)
+
+-- the bit at a place of a word is the mark of that place
+pub word_of-bit : (mark : ℕ → Bool) (from n p : ℕ) → p < n → word_of mark from n / 2 ^ p % 2 ≡ one_if (mark (from + p))
+word_of-bit mark from zero p h = absurd (omega arith)
+word_of-bit mark from (suc n) zero h =
+    ap (λ (x : ℕ). word_of mark from (suc n) / x % 2) (pow-zero 2) ∙ ap (λ (x : ℕ). x % 2) (whole (word_of mark from (suc n)) ∙ word_of_more mark from n)
+    ∙ mod-mul-add (word_of mark (suc from) n) 2 (one_if (mark from)) (one_if-below (mark from)) ∙ ap (λ (x : ℕ). one_if (mark x)) (let e : from ≡ from + 0 = omega arith in e)
+  where
+    whole : (x : ℕ) → x / 1 ≡ x
+    whole x = omega arith
+word_of-bit mark from (suc n) (suc p) h =
+    ap (λ (x : ℕ). word_of mark from (suc n) / 2 ^ x % 2) (let e : suc p ≡ 1 + p = omega arith in e)
+    ∙ ap (λ (x : ℕ). x % 2) (sym (shr-shr (word_of mark from (suc n)) 1 p))
+    ∙ ap (λ (x : ℕ). x / 2 / 2 ^ p % 2) (word_of_more mark from n)
+    ∙ ap (λ (x : ℕ). x / 2 ^ p % 2) (div-mul-add (word_of mark (suc from) n) 2 (one_if (mark from)) (one_if-below (mark from)))
+    ∙ word_of-bit mark (suc from) n p (omega arith)
+    ∙ ap (λ (x : ℕ). one_if (mark x)) (let e : suc from + p ≡ from + suc p = omega arith in e)
 
 -- one more mark in front of a word
 pub record IsWordStep (mark : ℕ → Bool) (first place word bit : ℕ) : Type 0 where

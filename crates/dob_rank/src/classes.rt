@@ -1,7 +1,7 @@
 // The classes of a piece set: a mark for each rank whose position is the representative of its class, in words of
 // 64 marks with the number of marks before each.
-ghost use Rattle.std.specs.Prelude.{◌≡◌, true, ◌↔◌, ◌<◌, ◌≤◌, ◌+◌, ◌*◌, ◌^◌, IfOk, IsErrOf, vec_len};
-ghost use Rattle.dob_rank.specs.Order.{IsPositionOf, IsRepresentative, HasClasses, HasClass, IsInClass};
+ghost use Rattle.std.specs.Prelude.{◌≡◌, true, ◌↔◌, ◌<◌, ◌≤◌, ◌+◌, ◌*◌, ◌^◌, IfOk, IsErrOf, IfSome, MatchOption, vec_len};
+ghost use Rattle.dob_rank.specs.Order.{IsPositionOf, IsFirstOfTwo, IsRepresentative, HasClasses, HasClass, IsInClass};
 ghost use Rattle.dob_rank.specs.Numbers.{size_of};
 ghost use Rattle.dob_rank.specs.Marks.{marked, word_of, words_of, one_if, marks_below, classes_of, class_number};
 
@@ -86,6 +86,18 @@ impl Classes {
         self.marks_before(own.min(image))
     }
 
+    /// The number of the class whose representative the position of the set is; `None` where its mirror image is
+    /// earlier.
+    pub fn class_of_representative(&self, position: &Position) -> Option<u64>
+        requires { IsPositionOf self.now.set position.now.setup }
+        ensures class { MatchOption result (¬ IsFirstOfTwo position.now.setup) (λ class. IsFirstOfTwo position.now.setup × HasClass self.now.set position.now.setup class) }
+        ensures number { IfSome result (λ class. class ≡ class_number self.now.set position.now.setup) }
+        ensures bound { IfSome result (λ class. class < classes_of self.now.set) }
+    {
+        let (is_first, class) = self.look_up(rank(position));
+        if is_first { Some(class) } else { None }
+    }
+
     /// The representative of the class of that number, which is below the number of classes.
     pub fn class_at(&self, class: u64) -> Position
         requires { class < classes_of self.now.set }
@@ -121,9 +133,20 @@ impl Classes {
         requires { rank < size_of self.now.set }
         ensures { result ≡ marks_below (marked self.now.set) rank }
     {
+        self.look_up(rank).1
+    }
+
+    /// Whether a rank is marked, and how many before it are.
+    fn look_up(&self, rank: u64) -> (bool, u64)
+        requires { rank < size_of self.now.set }
+        ensures mark { result.0 ≡ marked self.now.set rank }
+        ensures before { result.1 ≡ marks_below (marked self.now.set) rank }
+    {
         let word = self.words[(rank / WORD) as usize];
-        let low = word.bits & ((1 << (rank % WORD)) - 1);
-        word.before + u64::from(low.count_ones())
+        let place = rank % WORD;
+        let low = word.bits & ((1 << place) - 1);
+        let is_marked = word.bits >> place & 1 == 1;
+        (is_marked, word.before + u64::from(low.count_ones()))
     }
 }
 

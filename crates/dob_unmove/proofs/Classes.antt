@@ -1,6 +1,7 @@
 -- The classes of a piece set have one number each.
-use Rattle.std.proofs.Common.{◌≡◌, ◌≢◌, ℕ, ◌<◌, ◌≤◌, List, [], ◌∷◌, length, refl, sym, ap, ◌∙◌, subst, inl, inr, arith, AllPairs, Contains}
+use Rattle.std.proofs.Common.{◌≡◌, ◌≢◌, ℕ, ◌<◌, ◌≤◌, List, [], ◌∷◌, Option, Some, None, length, refl, sym, ap, ◌∙◌, subst, inl, inr, arith, AllPairs, Contains}
 use Rattle.std.specs.List.{remove}
+use Rattle.std.specs.Option.{MatchOption}
 use Rattle.std.proofs.lemmas.Bool.{cases_order}
 use Rattle.std.proofs.lemmas.List.{get_or_default}
 use Rattle.std.proofs.lemmas.List.Elements.{All-contains, Contains-append_right}
@@ -10,10 +11,9 @@ use Rattle.dob_pieces.specs.declared.piece_set.PieceSet.{PieceSet}
 use Rattle.dob_pieces.specs.declared.setup.Setup.{Setup}
 use Rattle.dob_pieces.specs.Setups.{mirrored}
 use Rattle.dob_pieces.proofs.Symmetries.{mirrored-mirrored}
-use Rattle.dob_rank.specs.Order.{IsPositionOf, HasCount, Before, IsRepresentative, HasClass, IsInClass}
+use Rattle.dob_rank.specs.Order.{IsPositionOf, HasCount, Before, IsFirstOfTwo, IsRepresentative, HasClass}
 use Rattle.dob_rank.specs.Numbers.{rank_of}
 use Rattle.dob_rank.proofs.Numbering.{rank_of-rises, rank_of-same, Before-from_rank}
-use Rattle.dob_rank.proofs.Found.{IsPositionOf-mirrored}
 use Rattle.dob_unmove.specs.Unmoves.{IsNumbering}
 use Rattle.dob_unmove.specs.Classes.{IsFirstIn}
 use Rattle.dob_unmove.proofs.Counting.{cons_cases, pairs-head, pairs-tail}
@@ -109,13 +109,8 @@ IsNumbering-classes set = record {
   one_first = λ p q class hp hq. rank_of-same set p q hp.0.0 hq.0.0 (same_rank set p q class hp hq);
 }
 
--- the class that a representative is in is the one that it represents
-pub IsFirstIn-in_class : (set : PieceSet) (s : Setup) (class : ℕ) → IsRepresentative set s → IsInClass set s class → IsFirstIn set s class
-IsFirstIn-in_class set s class first of = (
-  first,
-  elim of.representative.0 [
-    | inl e ↦ subst (λ (x : Setup). HasClass set x class) e of.before
-    | inr e ↦ subst (λ (x : Setup). HasClass set x class)
-        (same_image set s of.first first (subst (IsPositionOf set) (sym e) (IsPositionOf-mirrored set s first.0), of.representative.1) e) of.before
-  ],
-)
+-- a position of the set is a representative where it is the earlier of its two
+pub first_of_two : (set : PieceSet) (s : Setup) (o : Option ℕ) → IsPositionOf set s → MatchOption o (¬ IsFirstOfTwo s) (λ (class : ℕ). IsFirstOfTwo s × HasClass set s class)
+    → MatchOption o (¬ ((class : ℕ) × IsFirstIn set s class)) (IsFirstIn set s)
+first_of_two set s None p later = λ first. later first.1.0.1
+first_of_two set s (Some class) p first = ((p, first.0), first.1)

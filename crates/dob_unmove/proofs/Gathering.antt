@@ -4,8 +4,7 @@ use Rattle.std.specs.Option.{MatchOption, is_some}
 use Rattle.std.specs.List.Sorted.{IsPermutation, IsNonDecreasingBy}
 use Rattle.std.proofs.lemmas.List.Sorted.{sum_by-IsPermutation, All-permutation}
 use Rattle.dob_pieces.specs.declared.setup.Setup.{Setup}
-use Rattle.dob_pieces.specs.Setups.{IsLegal, HasFewPieces, turned, mirrored}
-use Rattle.dob_pieces.proofs.Boards.{HasFewPieces-turned}
+use Rattle.dob_pieces.specs.Setups.{IsLegal, turned, mirrored}
 use Rattle.dob_moves.specs.declared.outlook.Status.TheVariants.{Open}
 use Rattle.dob_moves.specs.Statuses.{HasStatus}
 use Rattle.dob_unmove.specs.Unmoves.{IsNumbering, HasEdges, CountEdges, ArePredecessors, IsOpenPosition}
@@ -24,9 +23,6 @@ finds_from IsFirst p s (Some class) e has h = (subst (λ (x : Setup). IsFirst x 
 -- the walk found no open position, so none that is a representative
 pub finds_none : (IsFirst : Setup → ℕ → Type 0) (s : Setup) → IsNumbering IsFirst → ¬ IsOpenPosition s → Finds IsFirst s None
 finds_none IsFirst s n closed w = closed (record { legal = n.legal s w.0 w.1.0; open_to_move = w.1.1 })
-
-pub few_turned : (s t : Setup) → t ≡ turned s → IsLegal s → HasFewPieces t
-few_turned s t e legal = subst HasFewPieces (sym e) (HasFewPieces-turned s legal.squares legal.few)
 
 -- the mirror image is a representative exactly where it is the position itself
 pub own_image : (IsFirst : Setup → ℕ → Type 0) (q image : Setup) (o : Option ℕ) → IsNumbering IsFirst

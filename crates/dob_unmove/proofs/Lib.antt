@@ -3,7 +3,7 @@ pub mod Undone
 pub mod Listed
 pub mod Once
 pub mod Hands
+pub mod Kept
 pub mod Counting
 pub mod Gathering
 pub mod Classes
-pub mod Lions

@@ -2,7 +2,6 @@
 #![tactic(auto)]
 
 mod earlier;
-mod first;
 mod numbering;
 mod predecessors;
 mod steps;

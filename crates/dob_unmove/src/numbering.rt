@@ -1,10 +1,10 @@
 // The classes of a piece set, as a walk over the moves that lead into one asks for them.
 ghost use Rattle.std.specs.Prelude.{◌<◌, ℕ, MatchOption};
 ghost use Rattle.dob_pieces.specs.declared.piece_set.PieceSet.{PieceSet};
+ghost use Rattle.dob_rank.specs.Order.{IsPositionOf};
 ghost use Rattle.dob_rank.specs.Marks.{classes_of};
 ghost use Rattle.dob_unmove.specs.Classes.{IsFirstIn};
 
-use crate::first::is_first;
 use dob_pieces::Position;
 use dob_rank::Classes;
 
@@ -22,8 +22,9 @@ pub(crate) trait Numbering {
         requires { class < count self.now }
         ensures { IsFirstIn (piece_set self.now) result.setup class };
 
-    /// The class whose representative the position is. `None` where it is no representative, or one of another set.
+    /// The class whose representative the position of the set is; `None` where it is none.
     fn class_of_first(&self, position: &Position) -> Option<u64>
+        requires { IsPositionOf (piece_set self.now) position.now.setup }
         ensures { MatchOption result (¬ ((class : ℕ) × IsFirstIn (piece_set self.now) position.now.setup class)) (IsFirstIn (piece_set self.now) position.now.setup) };
 }
 
@@ -37,10 +38,6 @@ impl Numbering for Classes {
     }
 
     fn class_of_first(&self, position: &Position) -> Option<u64> {
-        if is_first(self.set, position) {
-            Some(self.class_of(position))
-        } else {
-            None
-        }
+        self.class_of_representative(position)
     }
 }

@@ -1,8 +1,8 @@
-// Predecessors against lists that were worked out by hand, and against the moves of a whole small set.
+// Predecessors against lists of another program, and against the moves of whole small sets.
+ghost use Rattle.dob_moves.specs.Statuses.{AreMoves};
 
 use crate::back;
-use crate::first::is_of;
-use dob_moves::moves;
+use dob_moves::{Move, apply, moves};
 use dob_pieces::{Hand, Hands, Kind, Memory, Piece, PieceSet, Position, Side, Square};
 use dob_rank::Classes;
 use std::alloc::Global;
@@ -45,21 +45,106 @@ fn class_of(rt: &impl Abort, classes: &Classes, rows: &[u8; 15], mover: Hand, en
         board[index] = piece(rows[4 * (3 - index / 3) + index % 3]);
     }
     let position = Position::of(board, Hands { mover, enemy }).expect(rt, "a position");
-    assert!(rt; is_of(classes.set(), &position));
-    classes.class_of(&position)
+    class_in(rt, classes, &position)
+}
+
+// The class of a position of the set.
+fn class_in(rt: &impl Abort, classes: &Classes, position: &Position) -> u64 {
+    let own = position.piece_set();
+    let set = classes.set();
+    let same = own.chicks == set.chicks && own.elephants == set.elephants;
+    assert!(rt; same && own.giraffes == set.giraffes);
+    classes.class_of(position)
+}
+
+// The predecessors of classes of the set of that name.
+fn has_predecessors(
+    rt: &impl Abort,
+    alloc: Global,
+    name: &str,
+    table: &[(u64, &[u64])],
+) -> Result<(), Memory> {
+    let classes = classes_of(rt, alloc, name);
+    for (class, expected) in table {
+        assert!(rt; *class < classes.class_count());
+        let found = back(alloc, &classes, *class)?;
+        assert_eq!(rt; found.as_slice(), *expected, "of {class}");
+    }
+    Ok(())
 }
 
 #[test]
 fn predecessors_of_lions_alone(rt: HostRuntime) -> Result<(), Memory> {
-    let classes = classes_of(&rt, rt.alloc(), "000");
-    assert!(rt; classes.class_count() == 54);
-    let found = back(rt.alloc(), &classes, 14)?;
-    assert_eq!(rt; found.as_slice(), [9, 17, 17, 35, 35].as_slice());
-    let found = back(rt.alloc(), &classes, 15)?;
-    assert_eq!(rt; found.as_slice(), [9, 17, 27].as_slice());
-    let found = back(rt.alloc(), &classes, 16)?;
-    assert_eq!(rt; found.as_slice(), [17, 17, 27, 35, 35].as_slice());
-    Ok(())
+    has_predecessors(
+        &rt,
+        rt.alloc(),
+        "000",
+        &[
+            (0, &[46]),
+            (6, &[8, 10, 16, 26, 28, 46]),
+            (11, &[]),
+            (14, &[9, 17, 17, 35, 35]),
+            (15, &[9, 17, 27]),
+            (16, &[17, 17, 27, 35, 35]),
+            (24, &[5, 7, 14, 25, 43]),
+            (32, &[6, 15, 15]),
+            (53, &[]),
+        ],
+    )
+}
+
+#[test]
+fn predecessors_in_small_sets(rt: HostRuntime) -> Result<(), Memory> {
+    has_predecessors(
+        &rt,
+        rt.alloc(),
+        "001",
+        &[
+            (409, &[89, 89, 290, 432, 624, 628, 770, 770, 772]),
+            (569, &[226, 262, 398, 598, 934]),
+        ],
+    )?;
+    has_predecessors(
+        &rt,
+        rt.alloc(),
+        "010",
+        &[
+            (387, &[81, 300, 440, 440, 632, 640, 642, 776, 776]),
+            (3, &[80, 82, 88, 100, 617, 657, 761, 993]),
+        ],
+    )?;
+    has_predecessors(
+        &rt,
+        rt.alloc(),
+        "100",
+        &[
+            (13, &[81, 89, 1166, 1167, 1446, 1447]),
+            (287, &[1197, 1401, 1857, 1861, 1869]),
+            (383, &[429, 509, 1105, 1185, 1389, 1397, 1857]),
+            (498, &[70, 444, 516, 720, 1116, 1404]),
+        ],
+    )
+}
+
+#[test]
+fn predecessors_with_two_chicks(rt: HostRuntime) -> Result<(), Memory> {
+    has_predecessors(
+        &rt,
+        rt.alloc(),
+        "200",
+        &[
+            (
+                1088,
+                &[
+                    2398, 2482, 2742, 3154, 3826, 8202, 8206, 9658, 9662, 14338, 14342, 21586,
+                    21590, 33594, 33598,
+                ],
+            ),
+            (33310, &[7531, 19395, 19410, 19411, 19443, 19475, 32187]),
+            (10209, &[10054, 10055, 10215, 10423, 22143, 27215]),
+            (8952, &[3485, 11605, 15109, 21965, 23645, 35573]),
+        ],
+    )
 }
 
 #[test]
@@ -75,16 +160,65 @@ fn caught_piece_was_a_chick_or_a_hen(rt: HostRuntime) -> Result<(), Memory> {
     Ok(())
 }
 
-#[test]
-fn moves_of_a_small_set_are_all_taken_back(rt: HostRuntime) -> Result<(), Memory> {
-    let classes = classes_of(&rt, rt.alloc(), "100");
-    let mut made = 0usize;
-    let mut taken_back = 0usize;
-    for class in 0..classes.class_count() {
-        made = made.saturating_add(moves(rt.alloc(), &classes.class_at(class))?.len());
-        taken_back = taken_back.saturating_add(back(rt.alloc(), &classes, class)?.len());
+// Appends, for each of a class's moves, the class after it and that class.
+fn push_made(
+    rt: &impl Abort,
+    pairs: &mut Vec<(u64, u64)>,
+    classes: &Classes,
+    class: u64,
+    position: &Position,
+    choices: &[Move],
+) -> Result<(), Memory>
+    requires { AreMoves position.now.setup choices.now }
+{
+    for choice in choices {
+        let after = class_in(rt, classes, &apply(position, *choice));
+        pairs.push((after, class))?;
     }
-    assert!(rt; made > 0);
-    assert_eq!(rt; taken_back, made);
     Ok(())
+}
+
+// For each move of each class's representative the class after it and that class, ascending.
+fn pairs_made(
+    rt: &impl Abort,
+    alloc: Global,
+    classes: &Classes,
+) -> Result<Vec<(u64, u64)>, Memory> {
+    let mut pairs = Vec::new(alloc);
+    for class in 0..classes.class_count() {
+        let position = classes.class_at(class);
+        let choices = moves(alloc, &position)?;
+        push_made(rt, &mut pairs, classes, class, &position, &choices)?;
+    }
+    pairs.sort_unstable();
+    Ok(pairs)
+}
+
+// For each class, in order, the class and each of its predecessors.
+fn pairs_taken_back(alloc: Global, classes: &Classes) -> Result<Vec<(u64, u64)>, Memory> {
+    let mut pairs = Vec::new(alloc);
+    for class in 0..classes.class_count() {
+        let found = back(alloc, classes, class)?;
+        for before in found.iter() {
+            pairs.push((class, *before))?;
+        }
+    }
+    Ok(pairs)
+}
+
+// All moves of the set of that name and so many classes are taken back, each once, and nothing else.
+fn takes_all_back(rt: &impl Abort, alloc: Global, name: &str, count: u64) -> Result<(), Memory> {
+    let classes = classes_of(rt, alloc, name);
+    assert_eq!(rt; classes.class_count(), count);
+    let made = pairs_made(rt, alloc, &classes)?;
+    let taken_back = pairs_taken_back(alloc, &classes)?;
+    assert_eq!(rt; taken_back.as_slice(), made.as_slice(), "of {name}");
+    Ok(())
+}
+
+#[test]
+fn moves_of_small_sets_are_taken_back(rt: HostRuntime) -> Result<(), Memory> {
+    takes_all_back(&rt, rt.alloc(), "000", 54)?;
+    takes_all_back(&rt, rt.alloc(), "010", 1116)?;
+    takes_all_back(&rt, rt.alloc(), "100", 2124)
 }

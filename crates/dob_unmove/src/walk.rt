@@ -3,7 +3,7 @@ ghost use Rattle.std.specs.Prelude.{◌≡◌, true};
 ghost use Rattle.std.specs.Result.{OnOk};
 ghost use Rattle.dob_pieces.specs.declared.setup.Setup.{Setup};
 ghost use Rattle.dob_pieces.specs.Pieces.{leads};
-ghost use Rattle.dob_pieces.specs.Setups.{at, HasFewPieces};
+ghost use Rattle.dob_pieces.specs.Setups.{at};
 ghost use Rattle.dob_unmove.specs.declared.undo.Undo.{Undo};
 ghost use Rattle.dob_unmove.specs.Undoes.{arrives_at, CanUndo};
 ghost use Rattle.dob_unmove.specs.Walks.{TakesAll, stands, is_kind, holds_caught, uncatch, unsteps_from, unsteps, unputs, undoes_at, undoes};
@@ -14,22 +14,27 @@ use dob_pieces::{Hand, HandKind, Kind, Memory, Piece, Setup, Side, Square};
 
 /// Takes the ways in which the last move may have been made, one at a time.
 pub(crate) trait Taker {
+    /// What it asks of the setup from which it takes ways back.
+    ghost suits: { Setup → Self → Type 0 };
+
     /// By `takes after old undo new` taking that way back leads from the one state to the other.
     ghost takes: { Setup → Self → Undo → Self → Type 0 };
 
     /// Takes one way to take the last move back from `after`, in which the side that made it is the mover.
     fn take(&mut self, after: &Setup, undo: Undo) -> Result<(), Memory>
         requires can { CanUndo after.now undo }
-        requires few { HasFewPieces after.now }
-        ensures { OnOk result (takes after.now self.old undo self.new) };
+        requires suited { suits after.now self.old }
+        ensures taken { OnOk result (takes after.now self.old undo self.new) }
+        ensures suited { OnOk result (suits after.now self.new) };
 }
 
 /// Takes all the ways in which the last move may have been made, each once, by square of arrival, kind and square of
 /// departure. In `after` the side that made the move is the mover. Memory: none of its own.
 #[tactic(auto, using(crate::proofs::Runs::runs), unfolding(crate::specs::Walks::undoes))]
 pub(crate) fn take_all<T: Taker>(taker: &mut T, after: &Setup) -> Result<(), Memory>
-    requires { HasFewPieces after.now }
-    ensures { OnOk result (TakesAll (T.takes after.now) taker.old (undoes after.now) taker.new) }
+    requires { T.suits after.now taker.old }
+    ensures taken { OnOk result (TakesAll (T.takes after.now) taker.old (undoes after.now) taker.new) }
+    ensures suited { OnOk result (T.suits after.now taker.new) }
 {
     for index in 0..Square::COUNT {
         take_at(taker, after, Square::new(index))?;
@@ -40,8 +45,9 @@ pub(crate) fn take_all<T: Taker>(taker: &mut T, after: &Setup) -> Result<(), Mem
 // Takes the ways in which the last move may have ended on the square.
 #[tactic(auto, using(crate::proofs::Runs::runs), unfolding(crate::specs::Walks::undoes_at))]
 fn take_at<T: Taker>(taker: &mut T, after: &Setup, to: Square) -> Result<(), Memory>
-    requires { HasFewPieces after.now }
-    ensures { OnOk result (TakesAll (T.takes after.now) taker.old (undoes_at after.now to) taker.new) }
+    requires { T.suits after.now taker.old }
+    ensures taken { OnOk result (TakesAll (T.takes after.now) taker.old (undoes_at after.now to) taker.new) }
+    ensures suited { OnOk result (T.suits after.now taker.new) }
 {
     take_unsteps(taker, after, Kind::Lion, to)?;
     take_unsteps(taker, after, Kind::Giraffe, to)?;
@@ -61,8 +67,9 @@ fn take_unsteps<T: Taker>(
     kind: Kind,
     to: Square,
 ) -> Result<(), Memory>
-    requires { HasFewPieces after.now }
-    ensures { OnOk result (TakesAll (T.takes after.now) taker.old (unsteps after.now kind to) taker.new) }
+    requires { T.suits after.now taker.old }
+    ensures taken { OnOk result (TakesAll (T.takes after.now) taker.old (unsteps after.now kind to) taker.new) }
+    ensures suited { OnOk result (T.suits after.now taker.new) }
 {
     if !stands(after.at(to), arrives_at(kind, to)) {
         return Ok(());
@@ -83,8 +90,9 @@ fn take_unsteps_from<T: Taker>(
     to: Square,
 ) -> Result<(), Memory>
     requires stands { stands (at after.now to) (arrives_at kind to) ≡ true }
-    requires few { HasFewPieces after.now }
-    ensures { OnOk result (TakesAll (T.takes after.now) taker.old (unsteps_from after.now kind to from) taker.new) }
+    requires suited { T.suits after.now taker.old }
+    ensures taken { OnOk result (TakesAll (T.takes after.now) taker.old (unsteps_from after.now kind to from) taker.new) }
+    ensures suited { OnOk result (T.suits after.now taker.new) }
 {
     if after.at(from).is_some() || !leads(kind, from, to) {
         return Ok(());
@@ -115,8 +123,9 @@ fn take_uncatch<T: Taker>(
     caught: Kind,
 ) -> Result<(), Memory>
     requires step { CanUndo after.now (Undo.Unstep kind from to None) }
-    requires few { HasFewPieces after.now }
-    ensures { OnOk result (TakesAll (T.takes after.now) taker.old (uncatch after.now kind from to caught) taker.new) }
+    requires suited { T.suits after.now taker.old }
+    ensures taken { OnOk result (TakesAll (T.takes after.now) taker.old (uncatch after.now kind from to caught) taker.new) }
+    ensures suited { OnOk result (T.suits after.now taker.new) }
 {
     if !holds_caught(&after.hands.mover, caught) {
         return Ok(());
@@ -140,8 +149,9 @@ fn take_unput<T: Taker>(
     kind: HandKind,
     to: Square,
 ) -> Result<(), Memory>
-    requires { HasFewPieces after.now }
-    ensures { OnOk result (TakesAll (T.takes after.now) taker.old (unputs after.now kind to) taker.new) }
+    requires { T.suits after.now taker.old }
+    ensures taken { OnOk result (TakesAll (T.takes after.now) taker.old (unputs after.now kind to) taker.new) }
+    ensures suited { OnOk result (T.suits after.now taker.new) }
 {
     if !stands(after.at(to), kind.on_board()) {
         return Ok(());

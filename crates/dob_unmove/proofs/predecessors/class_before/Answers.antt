@@ -3,11 +3,17 @@ use Rattle.dob_unmove.specs.Undoes.{earlier}
 use Rattle.dob_unmove.specs.Classes.{IsFirstIn}
 use Rattle.dob_unmove.proofs.Classes.{IsNumbering-classes}
 use Rattle.dob_unmove.proofs.Gathering.{finds_none, finds_from}
+use Rattle.dob_unmove.proofs.Kept.{position_before}
 use Rattle.dob_unmove.proofs.predecessors.class_before.Goals as goal
 
 pub returns-in-None : goal.returns-in-None
 returns-in-None g c =
     finds_none (IsFirstIn (g.N.Numbering.piece_set c.args.classes.now)) (earlier c.args.after.now c.args.undo) (IsNumbering-classes (g.N.Numbering.piece_set c.args.classes.now)) c.in-None.ensures
+
+pub class_of_first-requires : goal.class_of_first-requires
+class_of_first-requires g c =
+    let p = c.in-Some.position in
+    position_before (g.N.Numbering.piece_set c.args.classes.now) c.args.after.now p.setup c.args.undo c.requires.can c.requires.pieces c.in-Some.ensures.0 p.legal
 
 pub returns-in-Some : goal.returns-in-Some
 returns-in-Some g c =

@@ -3,14 +3,23 @@ use Rattle.std.proofs.Common.{ℕ, sym, ◌∙◌}
 use Rattle.dob_pieces.specs.declared.setup.Setup.{Setup}
 use Rattle.dob_unmove.specs.Classes.{IsFirstIn}
 use Rattle.dob_unmove.proofs.Classes.{IsNumbering-classes}
-use Rattle.dob_unmove.proofs.Gathering.{few_turned, own_image, other_image, walked_alone, walked_both}
+use Rattle.dob_unmove.proofs.Gathering.{own_image, other_image, walked_alone, walked_both}
+use Rattle.dob_unmove.proofs.Kept.{pieces_turned, pieces_mirrored, pieces_image}
 use Rattle.dob_unmove.proofs.predecessors.gather.Goals as goal
 
 pub take_all-requires : goal.take_all-requires
-take_all-requires g c = few_turned c.args.first.now.setup c.turned.result c.turned.ensures c.args.first.now.legal
+take_all-requires g c =
+    pieces_turned (g.N.Numbering.piece_set c.args.classes.now) c.args.first.now.setup c.turned.result c.requires.1.0.0 c.turned.ensures
+
+pub class_of_first-requires : goal.class_of_first-requires
+class_of_first-requires g c =
+    pieces_mirrored (g.N.Numbering.piece_set c.args.classes.now) c.args.first.now.setup c.mirrored-image.result.setup c.requires.1.0.0 c.mirrored-image.ensures
 
 pub take_all-requires-2 : goal.take_all-requires-2
-take_all-requires-2 g c = few_turned c.mirrored-image.result.setup c.turned-2.result c.turned-2.ensures c.mirrored-image.result.legal
+take_all-requires-2 g c =
+    let q = c.args.first.now.setup in
+    pieces_image (g.N.Numbering.piece_set c.take_all.new.taker.classes.now) q c.mirrored-image.result.setup c.turned.result c.turned-2.result c.args.first.now.legal
+    c.mirrored-image.ensures c.turned.ensures c.turned-2.ensures c.in_ok-take_all.ensures.suited
 
 pub returns-then-is_some : goal.returns-then-is_some
 returns-then-is_some g c =
@@ -19,7 +28,7 @@ returns-then-is_some g c =
     let q = c.args.first.now.setup in
     let own = own_image (first c.args.classes.now) q c.mirrored-image.result.setup c.class_of_first.result n c.requires c.mirrored-image.ensures
     c.class_of_first.ensures (sym c.is_some.ensures ∙ c.if-is_some.true) in
-    walked_alone first q c.turned.result _ c.take_all.new.taker n c.args.first.now.legal own c.turned.ensures c.new.ensures.items c.in_ok-take_all.ensures
+    walked_alone first q c.turned.result _ c.take_all.new.taker n c.args.first.now.legal own c.turned.ensures c.new.ensures.items c.in_ok-take_all.ensures.taken
 
 pub returns : goal.returns
 returns g c =
@@ -30,4 +39,4 @@ returns g c =
     let other = other_image (first c.args.classes.now) q image c.class_of_first.result c.requires c.mirrored-image.ensures
     c.class_of_first.ensures (sym c.is_some.ensures ∙ c.if-is_some.false) in
     walked_both first q image c.turned.result c.turned-2.result _ c.take_all.new.taker c.take_all-2.new.taker n c.args.first.now.legal other c.mirrored-image.ensures
-    c.turned.ensures c.turned-2.ensures c.new.ensures.items c.in_ok-take_all.ensures c.in_ok-take_all-2.ensures
+    c.turned.ensures c.turned-2.ensures c.new.ensures.items c.in_ok-take_all.ensures.taken c.in_ok-take_all-2.ensures.taken

@@ -1,7 +1,7 @@
--- A representative's class is the one that it represents.
-use Rattle.dob_unmove.proofs.Classes.{IsFirstIn-in_class}
+-- A position of the set is a representative exactly where it is the earlier of its two.
+use Rattle.dob_unmove.proofs.Classes.{first_of_two}
 use Rattle.dob_unmove.proofs.numbering.ClassesNumbering.class_of_first.Goals as goal
 
-pub returns-then-is_first : goal.returns-then-is_first
-returns-then-is_first c =
-    IsFirstIn-in_class c.args.self.now.set c.args.position.now.setup c.class_of.result (c.is_first.ensures.0 c.if-is_first.true) c.class_of.ensures.class
+pub returns : goal.returns
+returns c =
+    first_of_two c.args.self.now.set c.args.position.now.setup c.class_of_representative.result c.requires c.class_of_representative.ensures.class
