@@ -13,6 +13,24 @@ const EMPTY: Hand = Hand {
     giraffes: 0,
 };
 
+const NO_PIECES: PieceSet = PieceSet {
+    chicks: 0,
+    elephants: 0,
+    giraffes: 0,
+};
+
+const ONE_CHICK: PieceSet = PieceSet {
+    chicks: 1,
+    elephants: 0,
+    giraffes: 0,
+};
+
+// The codes of the values of lions alone, in the order of the classes.
+const CODES_OF_LIONS_ALONE: [u16; 54] = [
+    2, 1, 2, 2, 3, 7, 0, 7, 8, 6, 8, 2, 2, 2, 0, 5, 8, 6, 2, 2, 1, 2, 3, 2, 2, 4, 0, 6, 4, 2, 2, 2,
+    2, 2, 4, 0, 1, 1, 1, 2, 2, 2, 2, 2, 2, 2, 2, 1, 1, 2, 2, 2, 2, 2,
+];
+
 // The position with the lions on those two squares, and with that in the mover's hand.
 fn lions(rt: &impl Abort, mover: usize, enemy: usize, hand: Hand) -> Position
     requires mover_on_board { mover < 12 }
@@ -98,6 +116,34 @@ fn values_with_a_piece_in_hand(rt: HostRuntime) {
     }
 }
 
+#[test]
+fn table_of_lions_alone(rt: HostRuntime) -> Result<(), Fault> {
+    let table = sweep_table(rt.alloc(), NO_PIECES)?;
+    assert_eq!(rt; table.class_count(), 54);
+    for class in 0..table.class_count() {
+        let code = code_of_value(table.value(class));
+        assert_eq!(rt;
+            code,
+            CODES_OF_LIONS_ALONE[class as usize],
+            "of class {class}"
+        );
+    }
+    Ok(())
+}
+
+#[test]
+fn mirror_images_have_one_entry(rt: HostRuntime) -> Result<(), Fault> {
+    let chick = Hand { chicks: 1, ..EMPTY };
+    for (mover, enemy, value) in [(7, 3, Value::Win(1)), (6, 0, Value::Loss(0))] {
+        let seen = lions(&rt, mover, enemy, chick);
+        for position in [seen, seen.mirrored()] {
+            let table = sweep_table(rt.alloc(), position.piece_set())?;
+            assert_eq!(rt; table.value_of(&position), value, "at {mover} and {enemy}");
+        }
+    }
+    Ok(())
+}
+
 // How many classes are won, lost and drawn, and the longest win.
 fn census(table: &Table) -> (u64, u64, u64, u16) {
     let mut wins = 0u64;
@@ -119,13 +165,8 @@ fn census(table: &Table) -> (u64, u64, u64, u16) {
 
 #[test]
 fn table_of_one_chick(rt: HostRuntime) -> Result<(), Fault> {
-    let set = PieceSet {
-        chicks: 1,
-        elephants: 0,
-        giraffes: 0,
-    };
-    let table = sweep_table(rt.alloc(), set)?;
-    assert_eq!(rt; table.set(), set);
+    let table = sweep_table(rt.alloc(), ONE_CHICK)?;
+    assert_eq!(rt; table.set(), ONE_CHICK);
     assert_eq!(rt; census(&table), (1553, 527, 44, 19));
     Ok(())
 }
