@@ -185,7 +185,7 @@ fn open_classes(
     ensures { OnOk result (IsSomeAnd opened.new (λ classes. classes.set ≡ set)) }
 {
     let is_open = match opened {
-        Some(classes) => classes.set() == set,
+        Some(classes) => classes.set == set,
         None => false,
     };
     if !is_open {

@@ -45,7 +45,7 @@ fn class_of(rt: &impl Abort, classes: &Classes, rows: &[u8; 15], mover: Hand, en
         board[index] = piece(rows[4 * (3 - index / 3) + index % 3]);
     }
     let position = Position::of(board, Hands { mover, enemy }).expect(rt, "a position");
-    assert!(rt; is_of(classes.set(), &position));
+    assert!(rt; is_of(classes.set, &position));
     classes.class_of(&position)
 }
 
