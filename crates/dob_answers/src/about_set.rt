@@ -44,7 +44,7 @@ fn tell_unranked(alloc: Global, set: PieceSet, rank: u64) -> Result<String, Memo
 
 /// `positions N classes N`.
 fn tell_size(alloc: Global, classes: &Classes) -> Result<String, AllocError> {
-    let positions = size(classes.set());
+    let positions = size(classes.set);
     let classes = classes.class_count();
     format!(in alloc; "positions {positions} classes {classes}")
 }

@@ -34,7 +34,7 @@ impl Opened {
         ensures { IfOk result (λ classes. classes.now.set ≡ set) }
     {
         let classes = match self.classes.take() {
-            Some(classes) if classes.set() == set => classes,
+            Some(classes) if classes.set == set => classes,
             _ => Classes::open(alloc, set)?,
         };
         Ok(self.classes.insert(classes))

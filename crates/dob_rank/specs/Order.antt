@@ -1,4 +1,5 @@
--- The order of the positions of one piece set, and what it means that there are so many of a kind.
+-- The order of the positions of one piece set, and what it means that there are so many of a kind. A plain program
+-- that walks the positions in this order, src/tests/plain.rt, stands beside it.
 use Rattle.std.specs.Prelude.{◌≡◌, ◌≢◌, ℕ, suc, ◌<◌, ◌⊎◌, Bool, cond, List, [], ◌∷◌, ◌++◌, Some, None, map, length, count_by}
 use Rattle.std.specs.List.{All, AllPairs, Contains, filter}
 use Rattle.dob_pieces.specs.declared.kind.Kind.{Kind}

@@ -66,13 +66,6 @@ impl Classes {
         self.count
     }
 
-    /// The set whose classes these are.
-    pub fn set(&self) -> PieceSet
-        ensures { result ≡ self.now.set }
-    {
-        self.set
-    }
-
     /// The number of the class of a position of the set: how many representatives stand before the earlier of it
     /// and its mirror image.
     pub fn class_of(&self, position: &Position) -> u64

@@ -1,10 +1,17 @@
-// Ranks against values from outside: sizes, positions of ranks, the classes of lions alone, and whole small sets
-// there and back.
-ghost use Rattle.std.specs.Prelude.{◌≤◌};
+// Ranks and classes against values from outside (sizes, positions of ranks, the classes of lions alone), and
+// against a plain program that walks whole sets.
+ghost use Rattle.std.specs.Prelude.{◌<◌, ◌≤◌};
 
+mod key;
+mod plain;
+
+use self::key::{is_first, key};
+use self::plain::starts;
 use crate::{Classes, Fault, rank, representative, size, unrank};
-use dob_pieces::{HandKind, Kind, Piece, PieceSet, Position, Side, Square};
-use std::alloc::{AllocError, Global};
+use dob_pieces::{Kind, Piece, PieceSet, Position, Side, Square};
+use std::alloc::Global;
+use std::process::Abort;
+use std::test::Fail;
 
 // The letter of a cell: upper case for the mover, lower case for the enemy.
 fn letter(cell: Option<Piece>) -> u8 {
@@ -179,22 +186,6 @@ fn classes_of_lions_alone(rt: HostRuntime) {
 }
 
 #[test]
-fn small_sets_there_and_back(rt: HostRuntime) {
-    for (text, want) in [("001", 1116), ("100", 2124)] {
-        let set = PieceSet::read(text).expect(&rt, "a set");
-        let mut classes = 0u32;
-        for number in 0..size(set) {
-            let position = unrank(set, number);
-            assert_eq!(rt; rank(&position), number);
-            if representative(&position) == position {
-                classes = classes.saturating_add(1);
-            }
-        }
-        assert_eq!(rt; classes, want, "classes of {text}");
-    }
-}
-
-#[test]
 fn classes_are_counted(rt: HostRuntime) {
     for (text, want) in [("000", 54), ("001", 1116), ("100", 2124), ("200", 39978)] {
         let set = PieceSet::read(text).expect(&rt, "a set");
@@ -220,99 +211,67 @@ fn a_class_has_its_position(rt: HostRuntime) {
     assert!(rt; shows(&classes.class_at(17), ".l./.../.../.L."));
 }
 
+// Goes over the set as the plain program walks it. The keys must ascend, and each `step`-th position and
+// representative must have the number that it has in the walk.
+fn agrees_with_walk(rt: &impl Abort, alloc: Global, text: &str, step: u64) -> Result<(), Fail>
+    requires { 0 < step }
+{
+    let set = PieceSet::read(text)?;
+    let classes = Classes::open(alloc, set)?;
+    let mut last = Vec::new(alloc);
+    let mut walked = 0u64;
+    let mut firsts = 0u64;
+    for start in starts(alloc, set)? {
+        for position in start.positions(alloc)? {
+            let next = key(alloc, &position)?;
+            assert!(rt; last.as_slice() < next.as_slice(), "{walked} of {text}");
+            last = next;
+            if walked % step == 0 {
+                has_rank(rt, &position, set, walked);
+            }
+            if is_first(alloc, &position)? {
+                if firsts % step == 0 {
+                    has_class(rt, &position, &classes, firsts);
+                }
+                firsts = firsts.saturating_add(1);
+            }
+            walked = walked.saturating_add(1);
+        }
+    }
+    assert_eq!(rt; size(set), walked, "of {text}");
+    assert_eq!(rt; classes.class_count(), firsts, "of {text}");
+    Ok(())
+}
+
+// The position is the one of that rank.
+fn has_rank(rt: &impl Abort, position: &Position, set: PieceSet, number: u64) {
+    assert!(rt; number < size(set));
+    assert_eq!(rt; rank(position), number);
+    assert!(rt; unrank(set, number) == *position, "rank {number}");
+}
+
+// The position is the representative of that class, to which its mirror image belongs too.
+fn has_class(rt: &impl Abort, position: &Position, classes: &Classes, number: u64) {
+    assert!(rt; number < classes.class_count());
+    assert!(rt; classes.class_at(number) == *position, "class {number}");
+    for member in [*position, position.mirrored()] {
+        let first = representative(&member);
+        assert!(rt; first == *position, "class {number}");
+        let own = rank(&member);
+        assert!(rt; own < size(classes.set));
+        assert_eq!(rt; classes.class_of(&unrank(classes.set, own)), number);
+    }
+}
+
 #[test]
-fn classes_there_and_back(rt: HostRuntime) {
-    for text in ["000", "001"] {
-        let set = PieceSet::read(text).expect(&rt, "a set");
-        let classes = Classes::open(rt.alloc(), set).expect(&rt, "memory");
-        let mut seen = 0u64;
-        for number in 0..size(set) {
-            let position = unrank(set, number);
-            let first = representative(&position);
-            let class = classes.class_of(&position);
-            assert!(rt; classes.class_at(class) == first, "rank {number}");
-            if first == position {
-                assert_eq!(rt; class, seen, "rank {number} of {text}");
-                seen = seen.saturating_add(1);
-            }
-        }
-        assert_eq!(rt; seen, classes.class_count());
-    }
-}
-
-// The form of a piece in the key.
-fn form(piece: Piece) -> u8 {
-    match (piece.side, piece.kind) {
-        (Side::Mover, Kind::Hen) | (Side::Enemy, Kind::Elephant | Kind::Giraffe) => 1,
-        (Side::Enemy, Kind::Chick) => 2,
-        (Side::Enemy, Kind::Hen) => 3,
-        _ => 0,
-    }
-}
-
-// Adds the squares of a kind, or their forms.
-fn push_kind(
-    key: &mut Vec<u8>,
-    position: &Position,
-    kind: HandKind,
-    forms: bool,
-) -> Result<(), AllocError> {
-    for square in 0..Square::COUNT {
-        if let Some(piece) = position.setup.board[square] {
-            if piece.kind.in_hand() == Some(kind) {
-                key.push(if forms { form(piece) } else { square as u8 })?;
-            }
-        }
+fn small_sets_as_they_are_walked(rt: HostRuntime) -> Result<(), Fail> {
+    for text in ["000", "001", "010", "100", "002", "020", "200"] {
+        agrees_with_walk(&rt, rt.alloc(), text, 1)?;
     }
     Ok(())
 }
 
-// How many pieces of a kind stand on the board.
-fn on_board(position: &Position, kind: HandKind) -> u8 {
-    let mut count = 0u8;
-    for square in 0..Square::COUNT {
-        if let Some(piece) = position.setup.board[square] {
-            if piece.kind.in_hand() == Some(kind) {
-                count = count.saturating_add(1);
-            }
-        }
-    }
-    count
-}
-
-// The key of a position, written out part by part.
-fn key(alloc: Global, position: &Position) -> Result<Vec<u8>, AllocError> {
-    let kinds = [HandKind::Chick, HandKind::Elephant, HandKind::Giraffe];
-    let mut key = Vec::new(alloc);
-    for kind in kinds {
-        key.push(on_board(position, kind))?;
-    }
-    for kind in kinds {
-        key.push(position.setup.hands.mover.count(kind))?;
-    }
-    key.push(square_of(position, b'L') as u8)?;
-    key.push(square_of(position, b'l') as u8)?;
-    for kind in kinds {
-        push_kind(&mut key, position, kind, false)?;
-    }
-    for kind in kinds {
-        push_kind(&mut key, position, kind, true)?;
-    }
-    Ok(key)
-}
-
 #[test]
-fn keys_ascend_with_ranks(rt: HostRuntime) {
-    for text in ["000", "001", "010", "100"] {
-        let set = PieceSet::read(text).expect(&rt, "a set");
-        let mut last = Vec::new(rt.alloc());
-        for number in 0..size(set) {
-            let next = key(rt.alloc(), &unrank(set, number)).expect(&rt, "memory");
-            assert!(rt;
-                last.as_slice() < next.as_slice(),
-                "rank {number} of {text}"
-            );
-            last = next;
-        }
-    }
+fn one_of_each_kind_as_it_is_walked(rt: HostRuntime) -> Result<(), Fail> {
+    agrees_with_walk(&rt, rt.alloc(), "111", 97)
 }

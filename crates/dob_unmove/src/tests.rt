@@ -51,7 +51,7 @@ fn class_of(rt: &impl Abort, classes: &Classes, rows: &[u8; 15], mover: Hand, en
 // The class of a position of the set.
 fn class_in(rt: &impl Abort, classes: &Classes, position: &Position) -> u64 {
     let own = position.piece_set();
-    let set = classes.set();
+    let set = classes.set;
     let same = own.chicks == set.chicks && own.elephants == set.elephants;
     assert!(rt; same && own.giraffes == set.giraffes);
     classes.class_of(position)
