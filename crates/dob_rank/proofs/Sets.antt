@@ -1,5 +1,5 @@
 -- A position and its piece set.
-use Rattle.std.proofs.Common.{◌≡◌, ℕ, zero, suc, ◌+◌, ◌≤◌, List, map, slice_index, refl, sym, ap, ◌∙◌, subst, arith}
+use Rattle.std.proofs.Common.{◌≡◌, ℕ, zero, suc, ◌+◌, ◌<◌, ◌≤◌, List, map, slice_index, refl, sym, ap, ◌∙◌, subst, arith}
 use Rattle.dob_pieces.specs.declared.kind.HandKind.{HandKind}
 use Rattle.dob_pieces.specs.declared.kind.HandKind.TheVariants as hand
 use Rattle.dob_pieces.specs.declared.piece_set.PieceSet.{PieceSet}
@@ -33,30 +33,25 @@ set_of s legal = record {
 pub IsPositionOf-set_of : (s : Setup) (legal : IsLegal s) → IsPositionOf (set_of s legal) s
 IsPositionOf-set_of s legal = IsPositionOf-totals (set_of s legal) s legal refl refl refl
 
--- no layer of a legal setup has more than two cells but the empty one
-pub record HasFewCells (s : Setup) : Type 0 where
-  pub own_lion : count 0 (map layer s.board) ≤ 2
-  pub other_lion : count 1 (map layer s.board) ≤ 2
-  pub chicks : count 2 (map layer s.board) ≤ 2
-  pub elephants : count 3 (map layer s.board) ≤ 2
-  pub giraffes : count 4 (map layer s.board) ≤ 2
-
 few_left : (n a b c : ℕ) → n + a + b ≡ c → c ≤ 2 → n ≤ 2
 few_left n a b c h l = omega arith
 
 one_few : (n : ℕ) → n ≡ 1 → n ≤ 2
 one_few n h = omega arith
 
-pub HasFewCells-legal : (s : Setup) → IsLegal s → HasFewCells s
-HasFewCells-legal s legal =
-    let h : HasParts (set_of s legal) s = HasParts-from_position (set_of s legal) s (IsPositionOf-set_of s legal) in
-    record {
-      own_lion = one_few (count 0 (map layer s.board)) h.own_lion;
-      other_lion = one_few (count 1 (map layer s.board)) h.other_lion;
-      chicks = few_left (count 2 (map layer s.board)) s.hands.mover.chicks s.hands.enemy.chicks (total hand.Chick s) h.chicks (legal.few hand.Chick);
-      elephants = few_left (count 3 (map layer s.board)) s.hands.mover.elephants s.hands.enemy.elephants (total hand.Elephant s) h.elephants (legal.few hand.Elephant);
-      giraffes = few_left (count 4 (map layer s.board)) s.hands.mover.giraffes s.hands.enemy.giraffes (total hand.Giraffe s) h.giraffes (legal.few hand.Giraffe);
-    }
+-- no layer of a legal setup has more than two cells but the empty one
+pub few_in_layer : (s : Setup) (t : ℕ) → IsLegal s → t < 5 → count t (map layer s.board) ≤ 2
+few_in_layer s t legal below = by_layer t below
+  where
+    parts : HasParts (set_of s legal) s
+    parts = HasParts-from_position (set_of s legal) s (IsPositionOf-set_of s legal)
+    by_layer : (t : ℕ) → t < 5 → count t (map layer s.board) ≤ 2
+    by_layer zero h = one_few (count 0 (map layer s.board)) parts.own_lion
+    by_layer (suc zero) h = one_few (count 1 (map layer s.board)) parts.other_lion
+    by_layer (suc (suc zero)) h = few_left (count 2 (map layer s.board)) s.hands.mover.chicks s.hands.enemy.chicks (total hand.Chick s) parts.chicks (legal.few hand.Chick)
+    by_layer (suc (suc (suc zero))) h = few_left (count 3 (map layer s.board)) s.hands.mover.elephants s.hands.enemy.elephants (total hand.Elephant s) parts.elephants (legal.few hand.Elephant)
+    by_layer (suc (suc (suc (suc zero)))) h = few_left (count 4 (map layer s.board)) s.hands.mover.giraffes s.hands.enemy.giraffes (total hand.Giraffe s) parts.giraffes (legal.few hand.Giraffe)
+    by_layer (suc (suc (suc (suc (suc t))))) h = absurd (omega (arith, h))
 
 -- ---- a rank depends on the set's numbers alone
 

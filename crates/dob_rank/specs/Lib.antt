@@ -1,3 +1,4 @@
 pub mod Order
 pub mod Numbers
 pub mod Marks
+pub mod Faults

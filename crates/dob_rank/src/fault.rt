@@ -1,5 +1,5 @@
 // The refusals of this crate.
-ghost use Rattle.std.specs.Prelude.{◌≡◌};
+ghost use Rattle.std.specs.Prelude.{◌≡◌, Some};
 ghost use Rattle.dob_rank.specs.declared.fault.Fault.TheVariants as fault;
 
 use std::alloc::{AllocError, AllocFailed};
@@ -16,6 +16,10 @@ pub enum Fault {
 }
 
 impl fmt::Display for Fault {
+    ghost use Rattle.dob_rank.specs.Faults.{fault_text};
+
+    ghost output = { λ fault. Some (fault_text fault) };
+
     fn fmt<W: fmt::Write>(&self, f: &mut fmt::Formatter<W>) -> fmt::Result {
         match self {
             Fault::SetTooLarge => write!(f, "E8 SetTooLarge"),

@@ -71,6 +71,7 @@ fn numbers_on_board(position: &Position) -> EachKind
 }
 
 /// The digits of a position in its block.
+#[tactic(auto, using(crate::proofs::Sets::few_in_layer))]
 fn digits_of(position: &Position) -> [u64; DIGITS]
     ensures { result ≡ all_digits_of position.now.setup }
 {
