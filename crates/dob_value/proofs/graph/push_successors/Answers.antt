@@ -36,20 +36,18 @@ loop-choice-preserved c =
     let numbers : List ℕ = c.loop-choice.invariant.0 in
     let here = slice_get_read choices _ index choice refl c.loop-choice-test.true c.choice-item.is in
     let goes = choice_goes setup choices index choice (choices_are (goal.at.loop-choice-preserved c).After-deref-choice-items)
-    c.loop-choice-test.true c.choice-item.is in
-    (
+    c.loop-choice-test.true c.choice-item.is in (
       numbers ++ number ∷ [],
       c.in_ok-push.ensures.items ∙ ap (λ xs. xs ++ number ∷ []) c.loop-choice.invariant.1
-      ∙ append_assoc c.args.successors.now.items numbers (number ∷ []),
+          ∙ append_assoc c.args.successors.now.items numbers (number ∷ []),
       successors_more StandsFor setup choices index numbers choice number here goes.1 c.number_after-number.ensures c.loop-choice.invariant.2,
     )
 
 pub returns : goal.returns
-returns c =
-    (
-      c.loop-choice.invariant.0,
-      c.loop-choice.invariant.1,
-      successors_all (ClassStandsFor c.args.classes.now.set) c.args.position.now.setup c.deref-choice-items.result.now
+returns c = (
+  c.loop-choice.invariant.0,
+  c.loop-choice.invariant.1,
+  successors_all (ClassStandsFor c.args.classes.now.set) c.args.position.now.setup c.deref-choice-items.result.now
       c.loop-choice.choice-index c.loop-choice.invariant.0 c.loop-choice-test.false
       (choices_are (goal.at.returns c).After-deref-choice-items) c.loop-choice.invariant.2,
-    )
+)
