@@ -1,6 +1,5 @@
 -- Each class's status and successors go to the ends of the lists.
-use Rattle.std.proofs.Common.{◌≡◌, ◌<◌, ◌+◌, subst, arith, ◌∙◌}
-use Rattle.dob_moves.specs.Statuses.{HasStatus}
+use Rattle.std.proofs.Common.{◌≡◌, ◌<◌, subst, arith, ◌∙◌}
 use Rattle.dob_rank.specs.Marks.{classes_of}
 use Rattle.dob_rank.proofs.Marks.{HasClasses-classes_of}
 use Rattle.dob_value.specs.ClassRows.{class_setup}

@@ -1,5 +1,5 @@
 -- Each move's number goes to the end of the list.
-use Rattle.std.proofs.Common.{◌+◌, ◌∷◌, ◌++◌, [], ℕ, List, refl, sym, subst, ap, ◌∙◌, append_assoc, append-nil}
+use Rattle.std.proofs.Common.{◌∷◌, ◌++◌, [], ℕ, List, refl, sym, subst, ap, ◌∙◌, append_assoc, append-nil}
 use Rattle.std.proofs.lemmas.Option.{slice_get_read}
 use Rattle.dob_moves.specs.Statuses.{AreMoves}
 use Rattle.dob_value.specs.Graphs.{ClassStandsFor}

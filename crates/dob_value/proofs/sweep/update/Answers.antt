@@ -1,5 +1,5 @@
 -- A draw that stands for a class not yet settled is written over where the class is won or lost one ply later.
-use Rattle.std.proofs.Common.{◌≡◌, sym, ◌∙◌}
+use Rattle.std.proofs.Common.{sym, ◌∙◌}
 use Rattle.dob_value.proofs.Tables.{successors_told, open_here, swept_written}
 use Rattle.dob_value.proofs.sweep.update.Goals as goal
 
