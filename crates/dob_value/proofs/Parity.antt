@@ -13,9 +13,8 @@ use Rattle.dob_value.specs.declared.value.Value.TheVariants.{Win, Loss, Draw}
 use Rattle.dob_value.specs.declared.sweep.TheConstants.{MAX_DISTANCE}
 use Rattle.dob_value.specs.Values.{Won, Lost, HasValue}
 use Rattle.dob_value.specs.Entries.{IsCutOff}
-use Rattle.dob_value.specs.Graphs.{AreCutOff}
+use Rattle.dob_value.specs.Graphs.{AreCutOff, AreValues}
 use Rattle.dob_value.specs.ClassRows.{class_setup}
-use Rattle.dob_value.specs.Rosters.{HoldsValues}
 use Rattle.dob_value.specs.Codes.{value_at_distance, value_of_code, values_of_codes, IsShort, ValuesHaveParity}
 use Rattle.dob_value.specs.Follows.{IsEntry}
 
@@ -112,13 +111,13 @@ all_short n set entries upto cut k d below =
     subst IsShort (get_or_default entries k Draw d below)
     (short_of_cut n (class_setup set k) (get_or entries k Draw) upto (cut.fits k within))
 
-pub all_entries : (count : ℕ) (setup_at : ℕ → Setup) (entries : List Value) → HoldsValues count setup_at entries → All IsShort entries →
-    All IsEntry entries
-all_entries count setup_at entries holds short k d below =
-    let same_length : length entries ≡ count = holds.same_length in
-    let here : HasValue (setup_at k) (get_or entries k d) =
-    subst (HasValue (setup_at k)) (get_or_default entries k Draw d below) (holds.values k (omega arith)) in
-    entry_of_value (setup_at k) (get_or entries k d) here (short k d below)
+pub all_entries : (set : PieceSet) (entries : List Value) → AreValues set entries → All IsShort entries → All IsEntry entries
+all_entries set entries values short k d below =
+    let same_length : length entries ≡ classes_of set = values.same_length in
+    let within : k < classes_of set = omega (arith, below) in
+    let here : HasValue (class_setup set k) (get_or entries k d) =
+    subst (HasValue (class_setup set k)) (get_or_default entries k Draw d below) (values.fits k within) in
+    entry_of_value (class_setup set k) (get_or entries k d) here (short k d below)
 
 -- what a code says is the entry that stands at its place
 pub entry_read : (codes : List ℕ) (class code : ℕ) (v : Value) → slice_get codes class ≡ Some code → v ≡ value_of_code code →

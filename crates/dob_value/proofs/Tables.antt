@@ -15,8 +15,7 @@ use Rattle.dob_value.specs.declared.graph.Graph.{Graph}
 use Rattle.dob_value.specs.Values.{Won, Lost, HasValue}
 use Rattle.dob_value.specs.Depths.{SameOutlook}
 use Rattle.dob_value.specs.Entries.{is_draw, IsCutOff, Tells, TellsAt}
-use Rattle.dob_value.specs.Graphs.{IsNode, IsGraph, ClassStandsFor, AreCutOff, AreSwept, value_at_start, status_at}
-use Rattle.dob_value.specs.Rosters.{HoldsValues}
+use Rattle.dob_value.specs.Graphs.{IsNode, IsGraph, ClassStandsFor, AreCutOff, AreSwept, AreValues, value_at_start, status_at}
 use Rattle.dob_value.specs.ClassRows.{class_setup}
 use Rattle.dob_value.proofs.Depths.{won_stays, lost_stays, lost_not_caught, lost_not_open, won_not_lost}
 
@@ -205,14 +204,13 @@ value_of_cut n p Draw later cut = λ m. (λ won. cut.0 ((later m).0 won), λ los
 
 -- a sweep that changes nothing is the last
 pub unchanged_is_final : (n : ℕ) (graph : Graph) (entries : List Value) → IsGraph graph →
-    AreCutOff n graph.set entries → AreCutOff (n + 1) graph.set entries →
-    HoldsValues (classes_of graph.set) (class_setup graph.set) entries
+    AreCutOff n graph.set entries → AreCutOff (n + 1) graph.set entries → AreValues graph.set entries
 unchanged_is_final n graph entries is cut next =
     let nothing : NothingNew n graph.set = λ number there.
     nothing_new n (class_setup graph.set number) _ (cut.fits number there) (next.fits number there) in
     record {
       same_length = cut.same_length;
-      values = λ number there.
+      fits = λ number there.
           value_of_cut n (class_setup graph.set number) _ (λ m. nothing_later n graph is nothing m number there) (cut.fits number there);
     }
 

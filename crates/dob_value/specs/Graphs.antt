@@ -11,6 +11,7 @@ use Rattle.dob_rank.specs.Marks.{classes_of}
 use Rattle.dob_value.specs.declared.value.Value.{Value}
 use Rattle.dob_value.specs.declared.value.Value.TheVariants.{Loss, Draw}
 use Rattle.dob_value.specs.declared.graph.Graph.{Graph}
+use Rattle.dob_value.specs.Values.{HasValue}
 use Rattle.dob_value.specs.Depths.{SameOutlook}
 use Rattle.dob_value.specs.Entries.{IsCutOff, HasDistance}
 use Rattle.dob_value.specs.ClassRows.{class_setup}
@@ -72,6 +73,10 @@ AreCutOff n = HasEntries (λ number p entry. IsCutOff n p entry)
 abbrev pub AreSwept : ℕ → ℕ → PieceSet → List Value → Type 0
 AreSwept n upto = HasEntries (λ number p entry.
     (number < upto → IsCutOff (n + 1) p entry) × (upto ≤ number → IsCutOff n p entry))
+
+-- each entry is its class's value
+abbrev pub AreValues : PieceSet → List Value → Type 0
+AreValues = HasEntries (λ number p entry. HasValue p entry)
 
 -- some class is won or lost in n plies, and not in fewer
 abbrev pub SomeHasDistance : PieceSet → ℕ → Type 0

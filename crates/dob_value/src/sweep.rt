@@ -8,10 +8,10 @@ ghost use Rattle.dob_value.specs.declared.value.Value.TheVariants.{Draw};
 ghost use Rattle.dob_value.specs.Values.{Won, Lost};
 ghost use Rattle.dob_value.specs.Entries.{is_win_within, is_loss_within, is_draw, IsCutOff, TellsAt, HasDistance};
 ghost use Rattle.dob_value.specs.ClassRows.{class_setup};
-ghost use Rattle.dob_value.specs.Graphs.{IsNode, IsGraph, AreCutOff, AreSwept, SomeHasDistance, value_at_start, status_at, successors_at};
+ghost use Rattle.dob_value.specs.Graphs.{IsNode, IsGraph, AreCutOff, AreSwept, AreValues, SomeHasDistance, value_at_start, status_at, successors_at};
 ghost use Rattle.dob_value.specs.Codes.{IsShort};
 ghost use Rattle.dob_value.specs.Follows.{IsEntry};
-ghost use Rattle.dob_value.specs.Rosters.{HoldsValues, SomeTooDeep};
+ghost use Rattle.dob_value.specs.Rosters.{SomeTooDeep};
 
 use crate::fault::Fault;
 use crate::graph::{Graph, graph_of};
@@ -144,7 +144,7 @@ fn first_values(alloc: Global, statuses: &[Status]) -> Result<Vec<Value>, AllocE
 // Errors: `TooDeep` where some distance is above `MAX_DISTANCE`, and `Memory`.
 fn settle(alloc: Global, graph: &Graph) -> Result<Vec<Value>, Fault>
     requires { IsGraph graph.now }
-    ensures values { IfOk result (λ values. HoldsValues (classes_of graph.now.set) (class_setup graph.now.set) values.items) }
+    ensures values { IfOk result (λ values. AreValues graph.now.set values.items) }
     ensures short { IfOk result (λ values. All IsShort values.items) }
     ensures deep { result ≡ Err Fault.TooDeep → (n : ℕ) × (MAX_DISTANCE < n) × SomeHasDistance graph.now.set n }
     ensures set { result ≢ Err Fault.SetTooLarge }
@@ -164,7 +164,7 @@ fn settle(alloc: Global, graph: &Graph) -> Result<Vec<Value>, Fault>
 ///
 /// Errors: `TooDeep` where some distance is above `MAX_DISTANCE`, and `Memory`.
 pub(crate) fn sweep(alloc: Global, classes: &Classes) -> Result<Vec<Value>, Fault>
-    ensures values { IfOk result (λ values. HoldsValues (classes_of classes.now.set) (class_setup classes.now.set) values.items) }
+    ensures values { IfOk result (λ values. AreValues classes.now.set values.items) }
     ensures entries { IfOk result (λ values. All IsEntry values.items) }
     ensures deep { result ≡ Err Fault.TooDeep → SomeTooDeep (IsPositionOf classes.now.set) }
     ensures set { result ≢ Err Fault.SetTooLarge }

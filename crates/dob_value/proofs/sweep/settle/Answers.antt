@@ -1,9 +1,6 @@
 -- A sweep that changes nothing is the last.
 use Rattle.std.proofs.Common.{sym, ap, length, ◌+◌, subst, ◌∙◌, refl, arith, All, map}
-use Rattle.dob_rank.specs.Marks.{classes_of}
-use Rattle.dob_value.specs.Graphs.{AreCutOff, value_at_start}
-use Rattle.dob_value.specs.Rosters.{HoldsValues}
-use Rattle.dob_value.specs.ClassRows.{class_setup}
+use Rattle.dob_value.specs.Graphs.{AreCutOff, AreValues, value_at_start}
 use Rattle.dob_value.proofs.Tables.{starts_cut, unchanged_is_final, put_back}
 use Rattle.dob_value.specs.Codes.{IsShort}
 use Rattle.dob_value.proofs.Parity.{all_short}
@@ -21,7 +18,7 @@ returns-clause-values c =
     let whole = put_back c.loop-depth.values.len c.sweep_once.new.values c.loop-depth.values.items (ap length unchanged) (c.loop-depth.values.ok.0) in
     let final = unchanged_is_final c.loop-depth.depth c.args.graph.now c.loop-depth.values.items c.requires c.loop-depth.invariant.cut_off
     (subst (λ xs. AreCutOff (c.loop-depth.depth + 1) c.args.graph.now.set xs) unchanged c.sweep_once.ensures.cut_off) in
-    subst (λ xs. HoldsValues (classes_of c.args.graph.now.set) (class_setup c.args.graph.now.set) xs) (sym (whole ∙ unchanged)) final
+    subst (λ xs. AreValues c.args.graph.now.set xs) (sym (whole ∙ unchanged)) final
 
 pub returns-clause-short : goal.returns-clause-short
 returns-clause-short c =

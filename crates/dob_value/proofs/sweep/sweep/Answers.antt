@@ -2,9 +2,8 @@
 use Rattle.std.proofs.Common.{subst, All}
 use Rattle.dob_pieces.specs.declared.piece_set.PieceSet.{PieceSet}
 use Rattle.dob_rank.specs.Order.{IsPositionOf}
-use Rattle.dob_rank.specs.Marks.{classes_of}
-use Rattle.dob_value.specs.ClassRows.{class_setup}
-use Rattle.dob_value.specs.Rosters.{HoldsValues, SomeTooDeep}
+use Rattle.dob_value.specs.Graphs.{AreValues}
+use Rattle.dob_value.specs.Rosters.{SomeTooDeep}
 use Rattle.dob_value.specs.Codes.{IsShort}
 use Rattle.dob_value.specs.Follows.{IsEntry}
 use Rattle.dob_value.proofs.Parity.{IfOk-both, all_entries}
@@ -15,10 +14,10 @@ pub returns-clause-entries : goal.returns-clause-entries
 returns-clause-entries c =
     let set = c.in_ok-graph.graph.set in
     IfOk-both c.settle.result
-    (λ values. HoldsValues (classes_of set) (class_setup set) values.items)
+    (λ values. AreValues set values.items)
     (λ values. All IsShort values.items)
     (λ values. All IsEntry values.items)
-    (λ values holds short. all_entries (classes_of set) (class_setup set) values.items holds short)
+    (λ values are short. all_entries set values.items are short)
     c.settle.ensures.values c.settle.ensures.short
 
 pub returns-clause-deep : goal.returns-clause-deep
