@@ -13,7 +13,7 @@ use Rattle.dob_value.specs.declared.value.Value.{Value}
 use Rattle.dob_value.specs.declared.value.Value.TheVariants.{Win, Loss, Draw}
 use Rattle.dob_value.specs.Values.{HasLost, Won, Lost, HasValue}
 use Rattle.dob_value.specs.Depths.{SameOutlook}
-use Rattle.dob_value.specs.ClassLaws.{moves_keep_the_set}
+use Rattle.dob_value.proofs.Successors.{moves_keep_the_set}
 use Rattle.dob_value.specs.Follows.{HasInTable, FollowsFromSuccessors, FollowsAt, Follows, IsConsistent, ConsistentIsRight}
 use Rattle.dob_value.proofs.Depths.{won_stays}
 use Rattle.dob_value.proofs.ClassNumbers.{has_entry, one_entry, first_is, first_outlook}

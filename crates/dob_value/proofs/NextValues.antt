@@ -6,14 +6,14 @@ use Rattle.std.proofs.lemmas.List.Folds.{Any-from_list_any, list_any_at}
 use Rattle.std.proofs.lemmas.List.Sums.{AllPass-from_list_all, list_all-from_AllPass}
 use Rattle.std.proofs.lemmas.List.Elements.{All-contains, Contains-get_or}
 use Rattle.dob_pieces.specs.declared.setup.Setup.{Setup}
+use Rattle.dob_moves.specs.declared.outlook.Status.{Status}
 use Rattle.dob_moves.specs.declared.outlook.Status.TheVariants.{Caught, Tried, Stuck, Open}
 use Rattle.dob_moves.specs.Statuses.{HasStatus}
 use Rattle.dob_value.specs.declared.value.Value.{Value}
 use Rattle.dob_value.specs.declared.value.Value.TheVariants.{Win, Loss, Draw}
-use Rattle.dob_value.specs.declared.graph.Node.{Node}
 use Rattle.dob_value.specs.Values.{HasLost, Won, Lost, HasValue}
 use Rattle.dob_value.specs.Entries.{is_win_within, is_loss_within, TellsAt}
-use Rattle.dob_value.specs.Graphs.{IsNode, setup_of}
+use Rattle.dob_value.specs.Graphs.{IsNode}
 use Rattle.dob_value.proofs.Depths.{won_stays, lost_stays, lost_not_open}
 
 -- what is won first at depth n + 1 has that distance, and likewise what is lost
@@ -40,102 +40,103 @@ pub not_lost_yet : (n : ℕ) (p : Setup) → ¬ Lost n p → ¬ HasLost p
 not_lost_yet n p not_lost over = not_lost (lost_stays 0 n p (omega arith) over)
 
 -- the entries of the numbers tell of the positions up to depth n
-module _ (n : ℕ) (entries : List Value) (node : Node) (known : IsNode (TellsAt n entries) node) where
-  pub some_lost : HasStatus (setup_of node) Open →
-      list_any (λ number. is_loss_within n (slice_index_or entries number Draw)) node.successors.items ≡ true →
-      Won (suc n) (setup_of node)
+module _ (n : ℕ) (entries : List Value) (p : Setup) (status : Status) (numbers : List ℕ)
+    (known : IsNode (TellsAt n entries) p status numbers) where
+  pub some_lost : HasStatus p Open →
+      list_any (λ number. is_loss_within n (slice_index_or entries number Draw)) numbers ≡ true →
+      Won (suc n) p
   some_lost goes_on any =
-      let found = Any-from_list_any (λ number. is_loss_within n (slice_index_or entries number Draw)) node.successors.items any in
+      let found = Any-from_list_any (λ number. is_loss_within n (slice_index_or entries number Draw)) numbers any in
       let step = known.successors.sound found.1 (found.0, found.2, found.3) in
       inr (goes_on, step.0, step.1, step.2, step.3.1.loss found.4)
 
-  pub all_won : HasStatus (setup_of node) Open →
-      list_all (λ number. is_win_within n (slice_index_or entries number Draw)) node.successors.items ≡ true →
-      Lost (suc n) (setup_of node)
+  pub all_won : HasStatus p Open →
+      list_all (λ number. is_win_within n (slice_index_or entries number Draw)) numbers ≡ true →
+      Lost (suc n) p
   all_won goes_on all =
-      let pass = AllPass-from_list_all (λ number. is_win_within n (slice_index_or entries number Draw)) node.successors.items all in
+      let pass = AllPass-from_list_all (λ number. is_win_within n (slice_index_or entries number Draw)) numbers all in
       inr (
         goes_on,
         λ move q goes.
             let next = known.successors.whole goes_on move q goes in
-            next.2.1.win (All-contains (λ number. is_win_within n (slice_index_or entries number Draw) ≡ true) node.successors.items next.0 pass next.1),
+            next.2.1.win (All-contains (λ number. is_win_within n (slice_index_or entries number Draw) ≡ true) numbers next.0 pass next.1),
       )
 
-  pub none_lost : HasStatus (setup_of node) Open →
-      list_any (λ number. is_loss_within n (slice_index_or entries number Draw)) node.successors.items ≡ false →
-      ¬ Won (suc n) (setup_of node)
+  pub none_lost : HasStatus p Open →
+      list_any (λ number. is_loss_within n (slice_index_or entries number Draw)) numbers ≡ false →
+      ¬ Won (suc n) p
   none_lost goes_on none won = elim won [
     | inl caught ↦ goes_on.0 caught
     | inr open_win ↦
         let next = known.successors.whole goes_on open_win.1 open_win.2 open_win.3 in
         let loss = next.2.1.lost open_win.4 in
-        let there : is_loss_within n (slice_index_or entries (get_or node.successors.items next.1.0 next.0) Draw) ≡ true =
+        let there : is_loss_within n (slice_index_or entries (get_or numbers next.1.0 next.0) Draw) ≡ true =
         rw next.1.2 loss in
-        let some = list_any_at (λ number. is_loss_within n (slice_index_or entries number Draw)) node.successors.items next.1.0 next.0 next.1.1 there in
+        let some = list_any_at (λ number. is_loss_within n (slice_index_or entries number Draw)) numbers next.1.0 next.0 next.1.1 there in
         cc
   ]
 
-  pub not_all_won : HasStatus (setup_of node) Open →
-      list_all (λ number. is_win_within n (slice_index_or entries number Draw)) node.successors.items ≡ false →
-      ¬ Lost (suc n) (setup_of node)
+  pub not_all_won : HasStatus p Open →
+      list_all (λ number. is_win_within n (slice_index_or entries number Draw)) numbers ≡ false →
+      ¬ Lost (suc n) p
   not_all_won goes_on not_all lost = elim lost [
-    | inl over ↦ lost_not_open (setup_of node) over goes_on
+    | inl over ↦ lost_not_open p over goes_on
     | inr open_loss ↦
-        let pass : All (λ number. is_win_within n (slice_index_or entries number Draw) ≡ true) node.successors.items =
+        let pass : All (λ number. is_win_within n (slice_index_or entries number Draw) ≡ true) numbers =
         λ k d below.
-        let step = known.successors.sound (get_or node.successors.items k d) (Contains-get_or node.successors.items k d below) in
+        let step = known.successors.sound (get_or numbers k d) (Contains-get_or numbers k d below) in
         step.3.1.won (open_loss.1 step.0 step.1 step.2) in
-        let all = list_all-from_AllPass (λ number. is_win_within n (slice_index_or entries number Draw)) node.successors.items pass in
+        let all = list_all-from_AllPass (λ number. is_win_within n (slice_index_or entries number Draw)) numbers pass in
         cc
   ]
 
   -- each successor has an entry
-  pub have_entries : All (λ number. number < length entries) node.successors.items
-  have_entries k d below = (known.successors.sound (get_or node.successors.items k d) (Contains-get_or node.successors.items k d below)).3.0
+  pub have_entries : All (λ number. number < length entries) numbers
+  have_entries k d below = (known.successors.sound (get_or numbers k d) (Contains-get_or numbers k d below)).3.0
 
-  -- the value at depth n + 1, by the node's status and what was found among its successors
-  pub value_at_catch : ¬ Won n (setup_of node) → node.status ≡ Caught → HasValue (setup_of node) (Win (n + 1))
+  -- the value at depth n + 1, by the status and what was found among its successors
+  pub value_at_catch : ¬ Won n p → status ≡ Caught → HasValue p (Win (n + 1))
   value_at_catch not_won caught =
-      first_won n (setup_of node) not_won (inl (subst (λ s. HasStatus (setup_of node) s) caught known.status))
+      first_won n p not_won (inl (subst (λ s. HasStatus p s) caught known.status))
 
-  pub not_over : ¬ Lost n (setup_of node) → (node.status ≡ Tried) ⊎ (node.status ≡ Stuck) → ⊥
-  not_over not_lost over = not_lost_yet n (setup_of node) not_lost (elim over [
-    | inl tried ↦ inl (subst (λ s. HasStatus (setup_of node) s) tried known.status)
-    | inr stuck ↦ inr (subst (λ s. HasStatus (setup_of node) s) stuck known.status)
+  pub not_over : ¬ Lost n p → (is : Status) → is ≡ status → (is ≡ Tried) ⊎ (is ≡ Stuck) → ⊥
+  not_over not_lost is same over = not_lost_yet n p not_lost (elim over [
+    | inl tried ↦ inl (subst (λ s. HasStatus p s) (sym same ∙ tried) known.status)
+    | inr stuck ↦ inr (subst (λ s. HasStatus p s) (sym same ∙ stuck) known.status)
   ])
 
-  pub value_of_win : ¬ Won n (setup_of node) → node.status ≡ Open → (successors : List ℕ) → successors ≡ node.successors.items →
+  pub value_of_win : ¬ Won n p → status ≡ Open → (successors : List ℕ) → successors ≡ numbers →
       (found : Bool) → found ≡ list_any (λ number. is_loss_within n (slice_index_or entries number Draw)) successors → found ≡ true →
-      HasValue (setup_of node) (Win (n + 1))
+      HasValue p (Win (n + 1))
   value_of_win not_won is_open successors same found is was =
-      let goes_on = subst (λ s. HasStatus (setup_of node) s) is_open known.status in
-      first_won n (setup_of node) not_won (some_lost goes_on
+      let goes_on = subst (λ s. HasStatus p s) is_open known.status in
+      first_won n p not_won (some_lost goes_on
       (subst (λ xs. list_any (λ number. is_loss_within n (slice_index_or entries number Draw)) xs ≡ true) same (sym is ∙ was)))
 
-  pub value_of_loss : ¬ Lost n (setup_of node) → node.status ≡ Open → (successors : List ℕ) → successors ≡ node.successors.items →
+  pub value_of_loss : ¬ Lost n p → status ≡ Open → (successors : List ℕ) → successors ≡ numbers →
       (all : Bool) → all ≡ list_all (λ number. is_win_within n (slice_index_or entries number Draw)) successors → all ≡ true →
-      HasValue (setup_of node) (Loss (n + 1))
+      HasValue p (Loss (n + 1))
   value_of_loss not_lost is_open successors same all is was =
-      let goes_on = subst (λ s. HasStatus (setup_of node) s) is_open known.status in
-      first_lost n (setup_of node) not_lost (all_won goes_on
+      let goes_on = subst (λ s. HasStatus p s) is_open known.status in
+      first_lost n p not_lost (all_won goes_on
       (subst (λ xs. list_all (λ number. is_win_within n (slice_index_or entries number Draw)) xs ≡ true) same (sym is ∙ was)))
 
-  pub still_not_won : node.status ≡ Open → (successors : List ℕ) → successors ≡ node.successors.items →
+  pub still_not_won : status ≡ Open → (successors : List ℕ) → successors ≡ numbers →
       (found : Bool) → found ≡ list_any (λ number. is_loss_within n (slice_index_or entries number Draw)) successors → found ≡ false →
-      ¬ Won (n + 1) (setup_of node)
+      ¬ Won (n + 1) p
   still_not_won is_open successors same found is no_loss won =
-      let goes_on = subst (λ s. HasStatus (setup_of node) s) is_open known.status in
+      let goes_on = subst (λ s. HasStatus p s) is_open known.status in
       let e : n + 1 ≡ suc n = omega arith in
       none_lost goes_on
       (subst (λ xs. list_any (λ number. is_loss_within n (slice_index_or entries number Draw)) xs ≡ false) same (sym is ∙ no_loss))
-      (subst (λ k. Won k (setup_of node)) e won)
+      (subst (λ k. Won k p) e won)
 
-  pub still_not_lost : node.status ≡ Open → (successors : List ℕ) → successors ≡ node.successors.items →
+  pub still_not_lost : status ≡ Open → (successors : List ℕ) → successors ≡ numbers →
       (all : Bool) → all ≡ list_all (λ number. is_win_within n (slice_index_or entries number Draw)) successors → all ≡ false →
-      ¬ Lost (n + 1) (setup_of node)
+      ¬ Lost (n + 1) p
   still_not_lost is_open successors same all is not_all lost =
-      let goes_on = subst (λ s. HasStatus (setup_of node) s) is_open known.status in
+      let goes_on = subst (λ s. HasStatus p s) is_open known.status in
       let e : n + 1 ≡ suc n = omega arith in
       not_all_won goes_on
       (subst (λ xs. list_all (λ number. is_win_within n (slice_index_or entries number Draw)) xs ≡ false) same (sym is ∙ not_all))
-      (subst (λ k. Lost k (setup_of node)) e lost)
+      (subst (λ k. Lost k p) e lost)

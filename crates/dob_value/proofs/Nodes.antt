@@ -1,91 +1,136 @@
--- The nodes of the positions that are listed.
-use Rattle.std.proofs.Common.{◌≡◌, ℕ, zero, suc, ◌+◌, ◌<◌, ◌⊎◌, inl, inr, refl, sym, subst, ap, ◌∙◌, arith, List, [], ◌∷◌, ◌++◌, length, get_or, Some, slice_get, slice_index_or, length-append}
-use Rattle.std.proofs.lemmas.Option.{slice_get-get_or, slice_get_cases, same_Some, none-some}
-use Rattle.dob_pieces.specs.declared.setup.Setup.{Setup}
-use Rattle.dob_value.specs.declared.value.Value.{Value}
-use Rattle.dob_value.specs.declared.value.Value.TheVariants.{Draw}
-use Rattle.dob_value.specs.declared.graph.Node.{Node}
+-- The lists of a graph as they grow.
+use Rattle.std.proofs.Common.{◌≡◌, ℕ, ◌+◌, ◌-◌, ◌<◌, ◌≤◌, inl, inr, refl, sym, subst, ap, ◌∙◌, arith, List, [], ◌∷◌, ◌++◌, length, take, drop, slice_index_or, length-append}
+use Rattle.std.proofs.Math.Seq.{drop-append_seam, take-length}
+use Rattle.std.proofs.lemmas.List.{take-append-le, drop-append-le, length-drop, get_or_append_left, get_or_push}
+use Rattle.std.proofs.lemmas.Bool.{cases_lt}
+use Rattle.dob_pieces.specs.declared.piece_set.PieceSet.{PieceSet}
+use Rattle.dob_moves.specs.declared.outlook.Status.{Status}
+use Rattle.dob_moves.specs.declared.outlook.Status.TheVariants.{Open}
+use Rattle.dob_rank.specs.Order.{IsPositionOf}
+use Rattle.dob_rank.specs.Marks.{classes_of}
+use Rattle.dob_rank.proofs.Marks.{HasClasses-classes_of}
 use Rattle.dob_value.specs.declared.sweep.TheConstants.{MAX_DISTANCE}
-use Rattle.dob_value.specs.Values.{HasValue}
-use Rattle.dob_value.specs.Depths.{SameOutlook}
-use Rattle.dob_value.specs.Graphs.{IsNode, ListedFor, AreNodes, IsGraph, NodeStandsFor, AreValues, SomeHasDistance, setup_of}
-use Rattle.dob_value.specs.Rosters.{HoldsValues, SomeTooDeep}
-use Rattle.dob_value.proofs.Tables.{node_standing}
+use Rattle.dob_value.specs.ClassRows.{class_setup}
+use Rattle.dob_value.specs.Graphs.{IsNode, ClassStandsFor, run_at, AreNodes, SomeHasDistance}
+use Rattle.dob_value.specs.Rosters.{SomeTooDeep}
+use Rattle.dob_value.proofs.Rows.{class_setup_is}
 
--- what is known of one node
-pub record IsNodeAt (count : ℕ) (setup_at : ℕ → Setup) (IsMember : Setup → Type 0) (number : ℕ) (node : Node) : Type 0 where
-  pub listed : setup_of node ≡ setup_at number
-  pub member : IsMember (setup_of node)
-  pub known : IsNode (ListedFor count setup_at) node
+-- a run stays where the list grows, and what is appended is the run from the old end to the new one
+earlier_run : (from to : ℕ) (xs ys : List ℕ) → from ≤ to → to ≤ length xs →
+    take (to - from) (drop from (xs ++ ys)) ≡ take (to - from) (drop from xs)
+earlier_run from to xs ys ordered within =
+    let inside : from ≤ length xs = omega arith in
+    let short : to - from ≤ length (drop from xs) = omega (arith, length-drop from xs) in
+    ap (take (to - from)) (drop-append-le from xs ys inside) ∙ take-append-le (to - from) (drop from xs) ys short
 
--- the nodes with the numbers below that one
-pub record AreNodesBelow (upto count : ℕ) (setup_at : ℕ → Setup) (IsMember : Setup → Type 0) (nodes : List Node) : Type 0 where
-  pub same_length : length nodes ≡ upto
-  pub nodes_at : (number : ℕ) (node : Node) → slice_get nodes number ≡ Some node → IsNodeAt count setup_at IsMember number node
+last_run : (from to : ℕ) (xs ys : List ℕ) → from ≡ length xs → to ≡ length (xs ++ ys) → take (to - from) (drop from (xs ++ ys)) ≡ ys
+last_run from to xs ys starts ends =
+    let long : to - from ≡ length ys = omega (arith, length-append xs ys) in
+    ap (λ n. take n (drop from (xs ++ ys))) long
+    ∙ ap (take (length ys)) (ap (λ n. drop n (xs ++ ys)) starts ∙ drop-append_seam xs ys)
+    ∙ take-length ys
 
--- an element of a list with one more at its end
-last_or_before : {X : Type 0} (xs : List X) (x : X) (k : ℕ) (y : X) → slice_get (xs ++ x ∷ []) k ≡ Some y →
-    (slice_get xs k ≡ Some y) ⊎ ((k ≡ length xs) × (x ≡ y))
-last_or_before [] x zero y there = inr (refl, same_Some x y there)
-last_or_before [] x (suc k) y there = absurd (none-some y there)
-last_or_before (z ∷ xs) x zero y there = inl there
-last_or_before (z ∷ xs) x (suc k) y there = elim (last_or_before xs x k y there) [
-  | inl earlier ↦ inl earlier
-  | inr last ↦ inr (ap suc last.0, last.1)
-]
+-- the graph of no class, and of one class more
+pub nodes_none : (set : PieceSet) → AreNodes set 0 [] (0 ∷ []) []
+nodes_none set = record {
+  statuses_whole = refl;
+  starts_whole = refl;
+  end = refl;
+  ordered = λ number below. absurd (omega arith);
+  within = λ number below. absurd (omega arith);
+  known = λ number below. absurd (omega arith);
+}
 
-module _ (count : ℕ) (setup_at : ℕ → Setup) (IsMember : Setup → Type 0) where
-  pub nodes_none : AreNodesBelow 0 count setup_at IsMember []
-  nodes_none = record {
-    same_length = refl;
-    nodes_at = λ number node there. absurd (none-some node there);
-  }
+module _ (set : PieceSet) (upto : ℕ) (statuses : List Status) (starts successors : List ℕ) (before : AreNodes set upto statuses starts successors)
+    (status : Status) (numbers : List ℕ) (known : IsNode (ClassStandsFor set) (class_setup set upto) status numbers) where
+  abbrev all : List ℕ
+  all = successors ++ numbers
 
-  pub nodes_more : (upto : ℕ) (nodes : List Node) (node : Node) → AreNodesBelow upto count setup_at IsMember nodes →
-      IsNodeAt count setup_at IsMember upto node → AreNodesBelow (upto + 1) count setup_at IsMember (nodes ++ node ∷ [])
-  nodes_more upto nodes node before here = record {
-    same_length = length-append nodes (node ∷ []) ∙ ap (λ n. n + 1) before.same_length;
-    nodes_at = λ number other there. elim (last_or_before nodes node number other there) [
-      | inl earlier ↦ before.nodes_at number other earlier
-      | inr last ↦
-          subst (λ n. IsNodeAt count setup_at IsMember n other) (sym (last.0 ∙ before.same_length))
-          (subst (λ x. IsNodeAt count setup_at IsMember upto x) last.1 here)
+  abbrev starts_now : List ℕ
+  starts_now = starts ++ length all ∷ []
+
+  start_before : (number : ℕ) → number < upto + 1 → slice_index_or starts_now number 0 ≡ slice_index_or starts number 0
+  start_before number below =
+      get_or_append_left starts (length all ∷ []) 0 number (let whole : length starts ≡ upto + 1 = before.starts_whole in omega arith)
+
+  end_now : slice_index_or starts_now (upto + 1) 0 ≡ length all
+  end_now = get_or_push starts (length all) 0 (upto + 1) before.starts_whole
+
+  last_start : slice_index_or starts_now upto 0 ≡ length successors
+  last_start = start_before upto (omega arith) ∙ before.end
+
+  known_before : (number : ℕ) → number < upto →
+      IsNode (ClassStandsFor set) (class_setup set number) (slice_index_or (statuses ++ status ∷ []) number Open) (run_at starts_now all number)
+  known_before number below =
+      let whole : length statuses ≡ upto = before.statuses_whole in
+      let same_status = get_or_append_left statuses (status ∷ []) Open number (omega arith) in
+      let from = start_before number (omega arith) in
+      let to = start_before (number + 1) (omega arith) in
+      let same_run : run_at starts_now all number ≡ run_at starts successors number =
+      ap (λ n. take (slice_index_or starts_now (number + 1) 0 - n) (drop n all)) from
+      ∙ ap (λ n. take (n - slice_index_or starts number 0) (drop (slice_index_or starts number 0) all)) to
+      ∙ earlier_run (slice_index_or starts number 0) (slice_index_or starts (number + 1) 0) successors numbers (before.ordered number below)
+      (before.within number below) in
+      subst (λ s. IsNode (ClassStandsFor set) (class_setup set number) s (run_at starts_now all number)) (sym same_status)
+      (subst (λ run. IsNode (ClassStandsFor set) (class_setup set number) (slice_index_or statuses number Open) run) (sym same_run)
+      (before.known number below))
+
+  known_now : IsNode (ClassStandsFor set) (class_setup set upto) (slice_index_or (statuses ++ status ∷ []) upto Open) (run_at starts_now all upto)
+  known_now =
+      subst (λ s. IsNode (ClassStandsFor set) (class_setup set upto) s (run_at starts_now all upto))
+      (sym (get_or_push statuses status Open upto before.statuses_whole))
+      (subst (λ run. IsNode (ClassStandsFor set) (class_setup set upto) status run)
+      (sym (last_run (slice_index_or starts_now upto 0) (slice_index_or starts_now (upto + 1) 0) successors numbers last_start end_now)) known)
+
+  pub nodes_more : AreNodes set (upto + 1) (statuses ++ status ∷ []) (starts ++ length (successors ++ numbers) ∷ []) (successors ++ numbers)
+  nodes_more = record {
+    statuses_whole = length-append statuses (status ∷ []) ∙ ap (λ n. n + 1) before.statuses_whole;
+    starts_whole = length-append starts (length all ∷ []) ∙ ap (λ n. n + 1) before.starts_whole;
+    end = end_now;
+    ordered = λ number below. elim (cases_lt number upto) [
+      | inl earlier ↦
+          let from = start_before number (omega arith) in
+          let to = start_before (number + 1) (omega arith) in
+          let there = before.ordered number earlier in
+          omega (arith, from, to, there)
+      | inr later ↦
+          let same : upto ≡ number = omega arith in
+          subst (λ n. slice_index_or starts_now n 0 ≤ slice_index_or starts_now (n + 1) 0) same
+          (omega (arith, last_start, end_now, length-append successors numbers))
+    ];
+    within = λ number below. elim (cases_lt number upto) [
+      | inl earlier ↦
+          let to = start_before (number + 1) (omega arith) in
+          let there = before.within number earlier in
+          omega (arith, to, there, length-append successors numbers)
+      | inr later ↦
+          let same : upto ≡ number = omega arith in
+          subst (λ n. slice_index_or starts_now (n + 1) 0 ≤ length all) same (omega (arith, end_now))
+    ];
+    known = λ number below. elim (cases_lt number upto) [
+      | inl earlier ↦ known_before number earlier
+      | inr later ↦
+          let same : upto ≡ number = omega arith in
+          subst (λ n. IsNode (ClassStandsFor set) (class_setup set n) (slice_index_or (statuses ++ status ∷ []) n Open) (run_at starts_now all n))
+          same known_now
     ];
   }
 
-  pub nodes_all : (upto : ℕ) (nodes : List Node) → upto ≡ count → AreNodesBelow upto count setup_at IsMember nodes →
-      AreNodes count setup_at IsMember nodes
-  nodes_all upto nodes all before = record {
-    same_length = before.same_length ∙ all;
-    listed = λ number node there. (before.nodes_at number node there).listed;
-    members = λ number node there. (before.nodes_at number node there).member;
-    known = λ number node there. (before.nodes_at number node there).known;
-  }
+-- the same, for lists that are known to be these
+pub nodes_grown : (set : PieceSet) (upto : ℕ) (statuses : List Status) (starts successors : List ℕ) (status : Status) (numbers : List ℕ)
+    (statuses_now : List Status) (starts_now successors_now : List ℕ) (last : ℕ) → AreNodes set upto statuses starts successors →
+    IsNode (ClassStandsFor set) (class_setup set upto) status numbers → statuses_now ≡ statuses ++ status ∷ [] →
+    starts_now ≡ starts ++ last ∷ [] → last ≡ length successors_now → successors_now ≡ successors ++ numbers →
+    AreNodes set (upto + 1) statuses_now starts_now successors_now
+nodes_grown set upto statuses starts successors status numbers statuses_now starts_now successors_now last before known is_statuses is_starts is_last
+    is_successors =
+    subst (λ xs. AreNodes set (upto + 1) xs starts_now successors_now) (sym is_statuses)
+    (subst (λ xs. AreNodes set (upto + 1) (statuses ++ status ∷ []) xs successors_now)
+    (sym (is_starts ∙ ap (λ n. starts ++ n ∷ []) (is_last ∙ ap length is_successors)))
+    (subst (λ xs. AreNodes set (upto + 1) (statuses ++ status ∷ []) (starts ++ length (successors ++ numbers) ∷ []) xs) (sym is_successors)
+    (nodes_more set upto statuses starts successors before status numbers known)))
 
-  -- the number under which a position is listed is that of its node
-  pub graph_of_nodes : (nodes : List Node) → AreNodes count setup_at IsMember nodes → IsGraph nodes
-  graph_of_nodes nodes are number node there =
-      node_standing (ListedFor count setup_at) (NodeStandsFor nodes) node
-      (λ next q stands.
-      let same_length : length nodes ≡ count = are.same_length in
-      let within : next < length nodes = omega (arith, stands.0) in
-      let next_node = get_or nodes next node in
-      let read : slice_get nodes next ≡ Some next_node = slice_get-get_or nodes next node within in
-      (next_node, read, subst (λ s. SameOutlook q s) (sym (are.listed next next_node read)) stands.1))
-      (are.known number node there)
-
-  pub values_of_nodes : (nodes : List Node) (entries : List Value) → AreNodes count setup_at IsMember nodes →
-      AreValues nodes entries → HoldsValues count setup_at entries
-  values_of_nodes nodes entries are values = record {
-    same_length = values.same_length ∙ are.same_length;
-    values = λ number below. elim (slice_get_cases nodes number).1 [
-      | inl found ↦
-          subst (λ p. HasValue p (slice_index_or entries number Draw)) (are.listed number found.0 found.2)
-          (values.fits number found.0 found.2)
-      | inr past ↦ let same_length : length nodes ≡ count = are.same_length in absurd (omega (arith, past.0))
-    ];
-  }
-
-  pub deep_member : (nodes : List Node) (n : ℕ) → AreNodes count setup_at IsMember nodes → MAX_DISTANCE < n → SomeHasDistance nodes n →
-      SomeTooDeep IsMember
-  deep_member nodes n are deep some = (setup_of some.1, are.members some.0 some.1 some.2, n, deep, some.3)
+-- a class too deep is a position of its set too deep
+pub deep_position : (set : PieceSet) (n : ℕ) → MAX_DISTANCE < n → SomeHasDistance set n → SomeTooDeep (IsPositionOf set)
+deep_position set n deep some =
+    (class_setup set some.0, (class_setup_is set some.0 (classes_of set) (HasClasses-classes_of set) some.1).0.0, n, deep, some.2)

@@ -4,16 +4,17 @@ use Rattle.std.specs.Result.{IfOk}
 use Rattle.std.specs.List.{All}
 use Rattle.std.proofs.lemmas.Bool.{cases_eq}
 use Rattle.std.proofs.lemmas.List.{get_or_default, get_or-map, length-map}
-use Rattle.std.proofs.lemmas.Option.{slice_get_cases, slice_get-map}
+use Rattle.std.proofs.lemmas.Option.{slice_get-map}
+use Rattle.dob_pieces.specs.declared.piece_set.PieceSet.{PieceSet}
 use Rattle.dob_pieces.specs.declared.setup.Setup.{Setup}
+use Rattle.dob_rank.specs.Marks.{classes_of}
 use Rattle.dob_value.specs.declared.value.Value.{Value}
 use Rattle.dob_value.specs.declared.value.Value.TheVariants.{Win, Loss, Draw}
 use Rattle.dob_value.specs.declared.sweep.TheConstants.{MAX_DISTANCE}
 use Rattle.dob_value.specs.Values.{Won, Lost, HasValue}
-use Rattle.dob_value.specs.declared.graph.Node.{Node}
 use Rattle.dob_value.specs.Entries.{IsCutOff}
-use Rattle.dob_value.specs.Graphs.{AreCutOff, setup_of}
-use Rattle.dob_value.specs.Rosters.{HoldsValues}
+use Rattle.dob_value.specs.Graphs.{AreCutOff, AreValues}
+use Rattle.dob_value.specs.ClassRows.{class_setup}
 use Rattle.dob_value.specs.Codes.{value_at_distance, value_of_code, values_of_codes, IsShort, ValuesHaveParity}
 use Rattle.dob_value.specs.Follows.{IsEntry}
 
@@ -103,21 +104,20 @@ short_of_cut n p (Win plies) upto cut = (let within : plies ≤ n = cut.0 in ome
 short_of_cut n p (Loss plies) upto cut = (let within : plies ≤ n = cut.0 in omega arith)
 short_of_cut n p Draw upto cut = tt
 
-pub all_short : (n : ℕ) (nodes : List Node) (entries : List Value) → n ≤ MAX_DISTANCE → AreCutOff n nodes entries → All IsShort entries
-all_short n nodes entries upto cut k d below = elim (slice_get_cases nodes k).1 [
-  | inl found ↦
-      subst IsShort (get_or_default entries k Draw d below)
-      (short_of_cut n (setup_of found.0) (get_or entries k Draw) upto (cut.fits k found.0 found.2))
-  | inr past ↦ let same_length : length entries ≡ length nodes = cut.same_length in absurd (omega (arith, past.0))
-]
+pub all_short : (n : ℕ) (set : PieceSet) (entries : List Value) → n ≤ MAX_DISTANCE → AreCutOff n set entries → All IsShort entries
+all_short n set entries upto cut k d below =
+    let same_length : length entries ≡ classes_of set = cut.same_length in
+    let within : k < classes_of set = omega (arith, below) in
+    subst IsShort (get_or_default entries k Draw d below)
+    (short_of_cut n (class_setup set k) (get_or entries k Draw) upto (cut.fits k within))
 
-pub all_entries : (count : ℕ) (setup_at : ℕ → Setup) (entries : List Value) → HoldsValues count setup_at entries → All IsShort entries →
-    All IsEntry entries
-all_entries count setup_at entries holds short k d below =
-    let same_length : length entries ≡ count = holds.same_length in
-    let here : HasValue (setup_at k) (get_or entries k d) =
-    subst (HasValue (setup_at k)) (get_or_default entries k Draw d below) (holds.values k (omega arith)) in
-    entry_of_value (setup_at k) (get_or entries k d) here (short k d below)
+pub all_entries : (set : PieceSet) (entries : List Value) → AreValues set entries → All IsShort entries → All IsEntry entries
+all_entries set entries values short k d below =
+    let same_length : length entries ≡ classes_of set = values.same_length in
+    let within : k < classes_of set = omega (arith, below) in
+    let here : HasValue (class_setup set k) (get_or entries k d) =
+    subst (HasValue (class_setup set k)) (get_or_default entries k Draw d below) (values.fits k within) in
+    entry_of_value (class_setup set k) (get_or entries k d) here (short k d below)
 
 -- what a code says is the entry that stands at its place
 pub entry_read : (codes : List ℕ) (class code : ℕ) (v : Value) → slice_get codes class ≡ Some code → v ≡ value_of_code code →

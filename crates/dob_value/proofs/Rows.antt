@@ -15,7 +15,7 @@ use Rattle.dob_value.specs.declared.value.Value.{Value}
 use Rattle.dob_value.specs.declared.value.Value.TheVariants.{Draw}
 use Rattle.dob_value.specs.Values.{HasValue}
 use Rattle.dob_value.specs.Depths.{SameOutlook}
-use Rattle.dob_value.specs.Rosters.{HoldsValues}
+use Rattle.dob_value.specs.Graphs.{AreValues}
 use Rattle.dob_value.specs.Codes.{value_of_code, values_of_codes}
 use Rattle.dob_value.specs.Follows.{IsEntry, IsValueTable}
 use Rattle.dob_value.specs.ClassRows.{marked_place, class_setup}
@@ -98,10 +98,10 @@ class_has_code set codes class all below =
     ∙ length-map codes value_of_code) below
 
 -- a list with the value of what stands at each place is the value table
-pub swept_is_table : (set : PieceSet) (values : List Value) → HoldsValues (classes_of set) (class_setup set) values → All IsEntry values →
+pub swept_is_table : (set : PieceSet) (values : List Value) → AreValues set values → All IsEntry values →
     IsValueTable set values
-swept_is_table set values holds entries =
-    let classes : HasClasses set (length values) = subst (HasClasses set) (sym holds.same_length) (HasClasses-classes_of set) in
+swept_is_table set values are entries =
+    let classes : HasClasses set (length values) = subst (HasClasses set) (sym are.same_length) (HasClasses-classes_of set) in
     record {
       table = record { classes = classes; entries = entries };
       known = λ p is. has_entry set values p classes is;
@@ -109,7 +109,7 @@ swept_is_table set values holds entries =
           let within : has.class < length values = slice_get_within values has.class v has.entry in
           let here : HasValue (class_setup set has.class) v =
           subst (HasValue (class_setup set has.class)) (get_or_from_slice_get values has.class v Draw has.entry)
-          (holds.values has.class (subst (λ n. has.class < n) holds.same_length within)) in
+          (are.fits has.class (subst (λ n. has.class < n) are.same_length within)) in
           value_same (class_setup set has.class) p v
           (class_outlook set p has.number.first has.class (length values) classes within is has.number.representative has.number.before)
           here;

@@ -8,7 +8,18 @@ use Rattle.dob_moves.specs.declared.choice.Move.{Move}
 use Rattle.dob_moves.specs.Moves.{Goes, CanGo}
 use Rattle.dob_moves.specs.declared.outlook.Status.TheVariants.{Open}
 use Rattle.dob_moves.specs.Statuses.{HasStatus, AreMoves}
+use Rattle.dob_moves.proofs.Outcomes.{IsLegal-Goes, total-Goes}
+use Rattle.dob_pieces.specs.declared.piece_set.PieceSet.{PieceSet}
+use Rattle.dob_rank.specs.Order.{IsPositionOf}
 use Rattle.dob_value.specs.Graphs.{AreSuccessors}
+
+-- moves lead from positions of a piece set to such positions
+pub moves_keep_the_set : (set : PieceSet) (p : Setup) (move : Move) (q : Setup) → IsPositionOf set p → HasStatus p Open → Goes p move q →
+    IsPositionOf set q
+moves_keep_the_set set p move q is goes_on goes = record {
+  legal = IsLegal-Goes p move q goes is.legal goes_on.1;
+  pieces = λ kind. total-Goes p move q goes is.legal kind ∙ is.pieces kind;
+}
 
 -- the numbers stand for the outcomes of the moves below an index
 pub record AreSuccessorsBelow (StandsFor : ℕ → Setup → Type 0) (p : Setup) (choices : List Move) (upto : ℕ) (numbers : List ℕ) : Type 0 where

@@ -1,20 +1,22 @@
 -- Tables during the sweeps.
-use Rattle.std.proofs.Common.{◌≡◌, ℕ, zero, suc, ◌+◌, ◌≤◌, ◌<◌, inl, inr, refl, sym, subst, ap, arith, ◌∙◌, List, length, slice_index_or, true, false, Some, slice_get, slice_set, map, get_or-set_other, get_or-set_same, length-set, take, drop, ◌++◌, option_map}
+use Rattle.std.proofs.Common.{◌≡◌, ℕ, zero, suc, ◌+◌, ◌≤◌, ◌<◌, inl, inr, refl, sym, subst, arith, ◌∙◌, List, length, slice_index_or, true, false, slice_set, map, get_or-set_other, get_or-set_same, length-set, take, drop, ◌++◌}
 use Rattle.std.proofs.lemmas.Grind.{common_steps}
-use Rattle.std.proofs.lemmas.List.{length-map}
+use Rattle.std.proofs.lemmas.List.{length-map, get_or-map}
 use Rattle.std.proofs.lemmas.Bool.{cases_lt, cases_eq, cases_order, leb-true, le-leb}
-use Rattle.std.proofs.lemmas.Option.{slice_get_within, get_or_from_slice_get, same_Some, slice_get-map}
+use Rattle.dob_pieces.specs.declared.piece_set.PieceSet.{PieceSet}
 use Rattle.dob_pieces.specs.declared.setup.Setup.{Setup}
+use Rattle.dob_rank.specs.Marks.{classes_of}
 use Rattle.dob_moves.specs.declared.outlook.Status.{Status}
 use Rattle.dob_moves.specs.declared.outlook.Status.TheVariants.{Caught, Tried, Stuck, Open}
 use Rattle.dob_moves.specs.Statuses.{HasStatus}
 use Rattle.dob_value.specs.declared.value.Value.{Value}
 use Rattle.dob_value.specs.declared.value.Value.TheVariants.{Win, Loss, Draw}
-use Rattle.dob_value.specs.declared.graph.Node.{Node}
+use Rattle.dob_value.specs.declared.graph.Graph.{Graph}
 use Rattle.dob_value.specs.Values.{Won, Lost, HasValue}
 use Rattle.dob_value.specs.Depths.{SameOutlook}
 use Rattle.dob_value.specs.Entries.{is_draw, IsCutOff, Tells, TellsAt}
-use Rattle.dob_value.specs.Graphs.{IsNode, IsGraph, NodeStandsFor, AreCutOff, AreSwept, AreValues, setup_of, first_value, value_at_start}
+use Rattle.dob_value.specs.Graphs.{IsNode, IsGraph, ClassStandsFor, AreCutOff, AreSwept, AreValues, value_at_start, status_at}
+use Rattle.dob_value.specs.ClassRows.{class_setup}
 use Rattle.dob_value.proofs.Depths.{won_stays, lost_stays, lost_not_caught, lost_not_open, won_not_lost}
 
 -- an entry that is cut off at a depth tells of each depth up to it
@@ -64,9 +66,9 @@ draw_is (Loss d) h = absurd (cc)
 draw_is Draw h = refl
 
 -- a node's successors stay so where their numbers stand for positions in another way too
-pub node_standing : (StandsFor Other : ℕ → Setup → Type 0) (node : Node) →
-    ((number : ℕ) (q : Setup) → StandsFor number q → Other number q) → IsNode StandsFor node → IsNode Other node
-node_standing StandsFor Other node stands known = record {
+pub node_standing : (StandsFor Other : ℕ → Setup → Type 0) (p : Setup) (status : Status) (numbers : List ℕ) →
+    ((number : ℕ) (q : Setup) → StandsFor number q → Other number q) → IsNode StandsFor p status numbers → IsNode Other p status numbers
+node_standing StandsFor Other p status numbers stands known = record {
   status = known.status;
   successors = record {
     sound = λ number there. let step = known.successors.sound number there in (step.0, step.1, step.2, stands number step.1 step.3);
@@ -75,77 +77,66 @@ node_standing StandsFor Other node stands known = record {
 }
 
 -- the entries during a sweep tell, at each node, of what its successors are
-pub successors_told : (n upto : ℕ) (nodes : List Node) (entries : List Value) (node : Node) →
-    AreSwept n upto nodes entries → IsNode (NodeStandsFor nodes) node → IsNode (TellsAt n entries) node
-successors_told n upto nodes entries node swept known =
-    let told : (number : ℕ) (q : Setup) → NodeStandsFor nodes number q → TellsAt n entries number q = λ number q stands.
-    let next = stands.0 in
-    let fits = swept.fits number next stands.1 in
-    let within : number < length nodes = slice_get_within nodes number next stands.1 in
-    let same_length : length entries ≡ length nodes = swept.same_length in
-    let below : number < length entries = omega arith in
-    let told_there : Tells n (setup_of next) (slice_index_or entries number Draw) = elim (cases_lt number upto) [
-      | inl earlier ↦ tells n (n + 1) (setup_of next) _ (omega arith) (fits.0 earlier)
-      | inr later ↦ tells n n (setup_of next) _ (omega arith) (fits.1 later)
+pub successors_told : (n upto : ℕ) (set : PieceSet) (entries : List Value) (p : Setup) (status : Status) (numbers : List ℕ) →
+    AreSwept n upto set entries → IsNode (ClassStandsFor set) p status numbers → IsNode (TellsAt n entries) p status numbers
+successors_told n upto set entries p status numbers swept known =
+    let told : (number : ℕ) (q : Setup) → ClassStandsFor set number q → TellsAt n entries number q = λ number q stands.
+    let fits = swept.fits number stands.0 in
+    let same_length : length entries ≡ classes_of set = swept.same_length in
+    let below : number < length entries = omega (arith, stands.0) in
+    let told_there : Tells n (class_setup set number) (slice_index_or entries number Draw) = elim (cases_lt number upto) [
+      | inl earlier ↦ tells n (n + 1) (class_setup set number) _ (omega arith) (fits.0 earlier)
+      | inr later ↦ tells n n (class_setup set number) _ (omega arith) (fits.1 later)
     ] in
-    (below, tells_same n (setup_of next) q _ stands.2 told_there) in
-    node_standing (NodeStandsFor nodes) (TellsAt n entries) node told known
+    (below, tells_same n (class_setup set number) q _ stands.1 told_there) in
+    node_standing (ClassStandsFor set) (TellsAt n entries) p status numbers told known
 
 -- before a sweep and after it
-pub swept_none : (n : ℕ) (nodes : List Node) (entries : List Value) → AreCutOff n nodes entries → AreSwept n 0 nodes entries
-swept_none n nodes entries cut = record {
+pub swept_none : (n : ℕ) (set : PieceSet) (entries : List Value) → AreCutOff n set entries → AreSwept n 0 set entries
+swept_none n set entries cut = record {
   same_length = cut.same_length;
-  fits = λ number node there. (λ below. absurd (omega arith), λ upto. cut.fits number node there);
+  fits = λ number there. (λ below. absurd (omega arith), λ upto. cut.fits number there);
 }
 
-pub swept_all : (n upto : ℕ) (nodes : List Node) (entries : List Value) → length nodes ≤ upto → AreSwept n upto nodes entries →
-    AreCutOff (n + 1) nodes entries
-swept_all n upto nodes entries all swept = record {
+pub swept_all : (n upto : ℕ) (set : PieceSet) (entries : List Value) → length entries ≤ upto → AreSwept n upto set entries →
+    AreCutOff (n + 1) set entries
+swept_all n upto set entries all swept = record {
   same_length = swept.same_length;
-  fits = λ number node there.
-      let within : number < length nodes = slice_get_within nodes number node there in
-      (swept.fits number node there).0 (omega arith);
+  fits = λ number there.
+      let same_length : length entries ≡ classes_of set = swept.same_length in
+      (swept.fits number there).0 (omega arith);
 }
 
 -- one entry more is swept, whether it stays or is written
-pub swept_kept : (n upto : ℕ) (nodes : List Node) (entries : List Value) (node : Node) → slice_get nodes upto ≡ Some node →
-    AreSwept n upto nodes entries → IsCutOff (n + 1) (setup_of node) (slice_index_or entries upto Draw) →
-    AreSwept n (upto + 1) nodes entries
-swept_kept n upto nodes entries node here swept cut = record {
+pub swept_kept : (n upto : ℕ) (set : PieceSet) (entries : List Value) → AreSwept n upto set entries →
+    IsCutOff (n + 1) (class_setup set upto) (slice_index_or entries upto Draw) → AreSwept n (upto + 1) set entries
+swept_kept n upto set entries swept cut = record {
   same_length = swept.same_length;
-  fits = λ number other there. (
+  fits = λ number there. (
     λ below. elim (cases_lt number upto) [
-      | inl earlier ↦ (swept.fits number other there).0 earlier
+      | inl earlier ↦ (swept.fits number there).0 earlier
       | inr later ↦
           let same : upto ≡ number = omega arith in
-          let other_is : slice_get nodes upto ≡ Some other = subst (λ k. slice_get nodes k ≡ Some other) (sym same) there in
-          let is_node : node ≡ other = same_Some node other (sym here ∙ other_is) in
-          subst (λ k. IsCutOff (n + 1) (setup_of other) (slice_index_or entries k Draw)) same
-          (subst (λ x. IsCutOff (n + 1) (setup_of x) (slice_index_or entries upto Draw)) is_node cut)
+          subst (λ k. IsCutOff (n + 1) (class_setup set k) (slice_index_or entries k Draw)) same cut
     ],
-    λ above. (swept.fits number other there).1 (omega arith),
+    λ above. (swept.fits number there).1 (omega arith),
   );
 }
 
-pub swept_written : (n upto : ℕ) (nodes : List Node) (entries : List Value) (node : Node) (v : Value) → slice_get nodes upto ≡ Some node →
-    AreSwept n upto nodes entries → IsCutOff (n + 1) (setup_of node) v →
-    AreSwept n (upto + 1) nodes (slice_set entries upto v)
-swept_written n upto nodes entries node v here swept cut =
-    let within : upto < length nodes = slice_get_within nodes upto node here in
-    let same_length : length entries ≡ length nodes = swept.same_length in
+pub swept_written : (n upto : ℕ) (set : PieceSet) (entries : List Value) (v : Value) → upto < classes_of set →
+    AreSwept n upto set entries → IsCutOff (n + 1) (class_setup set upto) v → AreSwept n (upto + 1) set (slice_set entries upto v)
+swept_written n upto set entries v within swept cut =
+    let same_length : length entries ≡ classes_of set = swept.same_length in
     let below_length : upto < length entries = omega arith in
     let written : slice_index_or (slice_set entries upto v) upto Draw ≡ v = rw get_or-set_same in
     record {
       same_length = length-set entries upto v ∙ same_length;
-      fits = λ number other there. elim (cases_eq number upto) [
-        | inl same ↦
-            let other_is : slice_get nodes upto ≡ Some other = subst (λ k. slice_get nodes k ≡ Some other) same there in
-            let is_node : node ≡ other = same_Some node other (sym here ∙ other_is) in (
-              λ below. subst (λ k. IsCutOff (n + 1) (setup_of other) (slice_index_or (slice_set entries upto v) k Draw)) (sym same)
-                  (subst (λ x. IsCutOff (n + 1) (setup_of other) x) (sym written)
-                  (subst (λ x. IsCutOff (n + 1) (setup_of x) v) is_node cut)),
-              λ above. absurd (omega arith),
-            )
+      fits = λ number there. elim (cases_eq number upto) [
+        | inl same ↦ (
+          λ below. subst (λ k. IsCutOff (n + 1) (class_setup set k) (slice_index_or (slice_set entries upto v) k Draw)) (sym same)
+              (subst (λ x. IsCutOff (n + 1) (class_setup set upto) x) (sym written) cut),
+          λ above. absurd (omega arith),
+        )
         | inr apart ↦
             let kept = get_or-set_other entries upto number v Draw apart in (
               λ below.
@@ -153,8 +144,8 @@ swept_written n upto nodes entries node v here swept cut =
                     | inl same ↦ absurd (apart same)
                     | inr order ↦ elim order [ inl first ↦ first | inr last ↦ absurd (omega arith) ]
                   ] in
-                  subst (λ x. IsCutOff (n + 1) (setup_of other) x) (sym kept) ((swept.fits number other there).0 earlier),
-              λ above. subst (λ x. IsCutOff n (setup_of other) x) (sym kept) ((swept.fits number other there).1 (omega arith)),
+                  subst (λ x. IsCutOff (n + 1) (class_setup set number) x) (sym kept) ((swept.fits number there).0 earlier),
+              λ above. subst (λ x. IsCutOff n (class_setup set number) x) (sym kept) ((swept.fits number there).1 (omega arith)),
             )
       ];
     }
@@ -171,34 +162,35 @@ nothing_new n p Draw cut next =
     (λ won. absurd (next.0 (subst (λ k. Won k p) e won)), λ lost. absurd (next.1 (subst (λ k. Lost k p) e lost)))
 
 -- nothing is won or lost first at depth n + 1
-abbrev pub NothingNew : ℕ → List Node → Type 0
-NothingNew n nodes = (number : ℕ) (node : Node) → slice_get nodes number ≡ Some node →
-    (Won (suc n) (setup_of node) → Won n (setup_of node)) × (Lost (suc n) (setup_of node) → Lost n (setup_of node))
+abbrev pub NothingNew : ℕ → PieceSet → Type 0
+NothingNew n set = (number : ℕ) → number < classes_of set →
+    (Won (suc n) (class_setup set number) → Won n (class_setup set number))
+    × (Lost (suc n) (class_setup set number) → Lost n (class_setup set number))
 
 -- then nothing is at any greater depth
-pub nothing_later : (n : ℕ) (nodes : List Node) → IsGraph nodes → NothingNew n nodes →
-    (m number : ℕ) (node : Node) → slice_get nodes number ≡ Some node →
-    (Won m (setup_of node) → Won n (setup_of node)) × (Lost m (setup_of node) → Lost n (setup_of node))
-nothing_later n nodes graph nothing zero number node there =
-    (λ won. absurd won, λ over. lost_stays 0 n (setup_of node) (omega arith) over)
-nothing_later n nodes graph nothing (suc m) number node there =
-    let known = graph number node there in (
-      λ won. (nothing number node there).0 (elim won [
+pub nothing_later : (n : ℕ) (graph : Graph) → IsGraph graph → NothingNew n graph.set → (m number : ℕ) → number < classes_of graph.set →
+    (Won m (class_setup graph.set number) → Won n (class_setup graph.set number))
+    × (Lost m (class_setup graph.set number) → Lost n (class_setup graph.set number))
+nothing_later n graph is nothing zero number there =
+    (λ won. absurd won, λ over. lost_stays 0 n (class_setup graph.set number) (omega arith) over)
+nothing_later n graph is nothing (suc m) number there =
+    let known = is.known number there in (
+      λ won. (nothing number there).0 (elim won [
         | inl caught ↦ inl caught
         | inr open_win ↦
             let next = known.successors.whole open_win.0 open_win.1 open_win.2 open_win.3 in
-            let later = nothing_later n nodes graph nothing m next.0 next.2.0 next.2.1 in
-            let lost = (next.2.2.lost n).1 (later.1 ((next.2.2.lost m).0 open_win.4)) in
+            let later = nothing_later n graph is nothing m next.0 next.2.0 in
+            let lost = (next.2.1.lost n).1 (later.1 ((next.2.1.lost m).0 open_win.4)) in
             inr (open_win.0, open_win.1, open_win.2, open_win.3, lost)
       ]),
-      λ lost. (nothing number node there).1 (elim lost [
+      λ lost. (nothing number there).1 (elim lost [
         | inl over ↦ inl over
         | inr open_loss ↦ inr (
           open_loss.0,
           λ move q goes.
               let next = known.successors.whole open_loss.0 move q goes in
-              let later = nothing_later n nodes graph nothing m next.0 next.2.0 next.2.1 in
-              (next.2.2.won n).1 (later.0 ((next.2.2.won m).0 (open_loss.1 move q goes))),
+              let later = nothing_later n graph is nothing m next.0 next.2.0 in
+              (next.2.1.won n).1 (later.0 ((next.2.1.won m).0 (open_loss.1 move q goes))),
         )
       ]),
     )
@@ -211,25 +203,25 @@ value_of_cut n p (Loss d) later cut = cut.1
 value_of_cut n p Draw later cut = λ m. (λ won. cut.0 ((later m).0 won), λ lost. cut.1 ((later m).1 lost))
 
 -- a sweep that changes nothing is the last
-pub unchanged_is_final : (n : ℕ) (nodes : List Node) (entries : List Value) → IsGraph nodes →
-    AreCutOff n nodes entries → AreCutOff (n + 1) nodes entries → AreValues nodes entries
-unchanged_is_final n nodes entries graph cut next =
-    let nothing : NothingNew n nodes = λ number node there.
-    nothing_new n (setup_of node) _ (cut.fits number node there) (next.fits number node there) in
+pub unchanged_is_final : (n : ℕ) (graph : Graph) (entries : List Value) → IsGraph graph →
+    AreCutOff n graph.set entries → AreCutOff (n + 1) graph.set entries → AreValues graph.set entries
+unchanged_is_final n graph entries is cut next =
+    let nothing : NothingNew n graph.set = λ number there.
+    nothing_new n (class_setup graph.set number) _ (cut.fits number there) (next.fits number there) in
     record {
       same_length = cut.same_length;
-      fits = λ number node there.
-          value_of_cut n (setup_of node) _ (λ m. nothing_later n nodes graph nothing m number node there) (cut.fits number node there);
+      fits = λ number there.
+          value_of_cut n (class_setup graph.set number) _ (λ m. nothing_later n graph is nothing m number there) (cut.fits number there);
     }
 
--- where a sweep finds a draw that it hasn't swept yet, the position is neither won nor lost up to its depth
-pub open_here : (n upto : ℕ) (nodes : List Node) (entries : List Value) (node : Node) (entry : Value) →
-    AreSwept n upto nodes entries → slice_get nodes upto ≡ Some node → entry ≡ slice_index_or entries upto Draw →
-    is_draw entry ≡ true → (¬ Won n (setup_of node)) × (¬ Lost n (setup_of node))
-open_here n upto nodes entries node entry swept here read is_open =
-    let cut : IsCutOff n (setup_of node) (slice_index_or entries upto Draw) = (swept.fits upto node here).1 (omega arith) in
+-- where a sweep finds a draw that it hasn't swept yet, the class is neither won nor lost up to its depth
+pub open_here : (n upto : ℕ) (set : PieceSet) (entries : List Value) (entry : Value) →
+    AreSwept n upto set entries → upto < classes_of set → entry ≡ slice_index_or entries upto Draw →
+    is_draw entry ≡ true → (¬ Won n (class_setup set upto)) × (¬ Lost n (class_setup set upto))
+open_here n upto set entries entry swept within read is_open =
+    let cut : IsCutOff n (class_setup set upto) (slice_index_or entries upto Draw) = (swept.fits upto within).1 (omega arith) in
     let draw : slice_index_or entries upto Draw ≡ Draw = sym read ∙ draw_is entry is_open in
-    let at_draw : IsCutOff n (setup_of node) Draw = subst (λ x. IsCutOff n (setup_of node) x) draw cut in
+    let at_draw : IsCutOff n (class_setup set upto) Draw = subst (λ x. IsCutOff n (class_setup set upto) x) draw cut in
     at_draw
 
 -- the table before the first sweep
@@ -239,18 +231,16 @@ start_at p Tried h = (omega arith, (inl h, λ n lost. omega arith))
 start_at p Stuck h = (omega arith, (inr h, λ n lost. omega arith))
 start_at p Open h = (λ won. won, λ over. lost_not_open p over h)
 
-pub start_cut : (node : Node) → HasStatus (setup_of node) node.status → IsCutOff 0 (setup_of node) (first_value node)
-start_cut node status = start_at (setup_of node) node.status status
-
-pub starts_cut : (nodes : List Node) → IsGraph nodes → AreCutOff 0 nodes (map first_value nodes)
-starts_cut nodes graph = record {
-  same_length = length-map nodes first_value;
-  fits = λ number node there.
-      let read : slice_get (map first_value nodes) number ≡ Some (first_value node) =
-      slice_get-map first_value nodes number ∙ ap (option_map first_value) there in
-      let is : slice_index_or (map first_value nodes) number Draw ≡ first_value node =
-      get_or_from_slice_get (map first_value nodes) number (first_value node) Draw read in
-      subst (λ x. IsCutOff 0 (setup_of node) x) (sym is) (start_cut node (graph number node there).status);
+pub starts_cut : (graph : Graph) → IsGraph graph → AreCutOff 0 graph.set (map value_at_start graph.statuses.items)
+starts_cut graph is = record {
+  same_length = length-map graph.statuses.items value_at_start ∙ is.statuses_whole;
+  fits = λ number there.
+      let whole : length graph.statuses.items ≡ classes_of graph.set = is.statuses_whole in
+      let within : number < length graph.statuses.items = omega arith in
+      let read : slice_index_or (map value_at_start graph.statuses.items) number Draw ≡ value_at_start (status_at graph number) =
+      get_or-map value_at_start graph.statuses.items number Open Draw within in
+      subst (λ x. IsCutOff 0 (class_setup graph.set number) x) (sym read)
+      (start_at (class_setup graph.set number) (status_at graph number) (is.known number there).status);
 }
 
 -- a slice that is written back whole is all that there is

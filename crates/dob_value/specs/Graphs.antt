@@ -1,21 +1,20 @@
--- Positions with their statuses and the numbers of their successors, and tables of values for them.
-use Rattle.std.specs.Prelude.{◌≡◌, ℕ, ◌+◌, ◌≤◌, ◌<◌, List, length, Some, Contains, slice_get, slice_index_or}
+-- The classes of a piece set as a graph in flat lists, and tables of values for them.
+use Rattle.std.specs.Prelude.{◌≡◌, ℕ, ◌+◌, ◌-◌, ◌≤◌, ◌<◌, List, length, take, drop, Contains, slice_index_or}
+use Rattle.dob_pieces.specs.declared.piece_set.PieceSet.{PieceSet}
 use Rattle.dob_pieces.specs.declared.setup.Setup.{Setup}
 use Rattle.dob_moves.specs.declared.choice.Move.{Move}
 use Rattle.dob_moves.specs.declared.outlook.Status.{Status}
 use Rattle.dob_moves.specs.declared.outlook.Status.TheVariants.{Caught, Tried, Stuck, Open}
 use Rattle.dob_moves.specs.Moves.{Goes}
 use Rattle.dob_moves.specs.Statuses.{HasStatus}
+use Rattle.dob_rank.specs.Marks.{classes_of}
 use Rattle.dob_value.specs.declared.value.Value.{Value}
 use Rattle.dob_value.specs.declared.value.Value.TheVariants.{Loss, Draw}
-use Rattle.dob_value.specs.declared.graph.Node.{Node}
+use Rattle.dob_value.specs.declared.graph.Graph.{Graph}
 use Rattle.dob_value.specs.Values.{HasValue}
 use Rattle.dob_value.specs.Depths.{SameOutlook}
 use Rattle.dob_value.specs.Entries.{IsCutOff, HasDistance}
-
--- the node's position
-abbrev pub setup_of : Node → Setup
-setup_of node = node.position.setup
+use Rattle.dob_value.specs.ClassRows.{class_setup}
 
 -- The numbers stand for the positions to which the moves of p lead, for each at least one, and for no other.
 -- StandsFor says which number stands for which position.
@@ -24,41 +23,64 @@ pub record AreSuccessors (StandsFor : ℕ → Setup → Type 0) (p : Setup) (num
   pub whole : HasStatus p Open → (move : Move) (q : Setup) → Goes p move q →
       (number : ℕ) × Contains numbers number × StandsFor number q
 
--- the node has its position's status and successors
-pub record IsNode (StandsFor : ℕ → Setup → Type 0) (node : Node) : Type 0 where
-  pub status : HasStatus (setup_of node) node.status
-  pub successors : AreSuccessors StandsFor (setup_of node) node.successors.items
+-- the position's status and successors
+pub record IsNode (StandsFor : ℕ → Setup → Type 0) (p : Setup) (found : Status) (numbers : List ℕ) : Type 0 where
+  pub status : HasStatus p found
+  pub successors : AreSuccessors StandsFor p numbers
 
--- some node has that number, and its position is won and lost at the same depths as this one
-abbrev pub NodeStandsFor : List Node → ℕ → Setup → Type 0
-NodeStandsFor nodes number q = (node : Node) × (slice_get nodes number ≡ Some node) × SameOutlook q (setup_of node)
+-- the class with that number stands for the positions with its representative's outlook
+abbrev pub ClassStandsFor : PieceSet → ℕ → Setup → Type 0
+ClassStandsFor set number q = (number < classes_of set) × SameOutlook q (class_setup set number)
 
--- the list is closed: each successor is among its nodes
-abbrev pub IsGraph : List Node → Type 0
-IsGraph nodes = (number : ℕ) (node : Node) → slice_get nodes number ≡ Some node → IsNode (NodeStandsFor nodes) node
+-- the run of the list from the number's start to the next number's
+abbrev pub run_at : List ℕ → List ℕ → ℕ → List ℕ
+run_at starts successors number =
+    take (slice_index_or starts (number + 1) 0 - slice_index_or starts number 0) (drop (slice_index_or starts number 0) successors)
 
--- a table with an entry for each node, of which each meets the fact
-pub record HasEntries (Fits : ℕ → Setup → Value → Type 0) (nodes : List Node) (entries : List Value) : Type 0 where
-  pub same_length : length entries ≡ length nodes
-  pub fits : (number : ℕ) (node : Node) → slice_get nodes number ≡ Some node →
-      Fits number (setup_of node) (slice_index_or entries number Draw)
+-- The statuses of the first classes, and their successors in runs, one after the other, of which the last ends where
+-- the list does.
+pub record AreNodes (set : PieceSet) (upto : ℕ) (statuses : List Status) (starts successors : List ℕ) : Type 0 where
+  pub statuses_whole : length statuses ≡ upto
+  pub starts_whole : length starts ≡ upto + 1
+  pub end : slice_index_or starts upto 0 ≡ length successors
+  pub ordered : (number : ℕ) → number < upto → slice_index_or starts number 0 ≤ slice_index_or starts (number + 1) 0
+  pub within : (number : ℕ) → number < upto → slice_index_or starts (number + 1) 0 ≤ length successors
+  pub known : (number : ℕ) → number < upto →
+      IsNode (ClassStandsFor set) (class_setup set number) (slice_index_or statuses number Open) (run_at starts successors number)
 
--- each entry is its position's value cut off at depth n
-abbrev pub AreCutOff : ℕ → List Node → List Value → Type 0
+-- the graph of all classes of its set
+abbrev pub IsGraph : Graph → Type 0
+IsGraph graph = AreNodes graph.set (classes_of graph.set) graph.statuses.items graph.starts.items graph.successors.items
+
+-- the status of the class with that number
+abbrev pub status_at : Graph → ℕ → Status
+status_at graph number = slice_index_or graph.statuses.items number Open
+
+-- the numbers of its successors
+abbrev pub successors_at : Graph → ℕ → List ℕ
+successors_at graph number = run_at graph.starts.items graph.successors.items number
+
+-- a table with an entry for each class, of which each meets the fact at its representative
+pub record HasEntries (Fits : ℕ → Setup → Value → Type 0) (set : PieceSet) (entries : List Value) : Type 0 where
+  pub same_length : length entries ≡ classes_of set
+  pub fits : (number : ℕ) → number < classes_of set → Fits number (class_setup set number) (slice_index_or entries number Draw)
+
+-- each entry is its class's value cut off at depth n
+abbrev pub AreCutOff : ℕ → PieceSet → List Value → Type 0
 AreCutOff n = HasEntries (λ number p entry. IsCutOff n p entry)
 
 -- the entries below that number are cut off at depth n + 1, the others at depth n
-abbrev pub AreSwept : ℕ → ℕ → List Node → List Value → Type 0
+abbrev pub AreSwept : ℕ → ℕ → PieceSet → List Value → Type 0
 AreSwept n upto = HasEntries (λ number p entry.
     (number < upto → IsCutOff (n + 1) p entry) × (upto ≤ number → IsCutOff n p entry))
 
--- each entry is its position's value
-abbrev pub AreValues : List Node → List Value → Type 0
+-- each entry is its class's value
+abbrev pub AreValues : PieceSet → List Value → Type 0
 AreValues = HasEntries (λ number p entry. HasValue p entry)
 
--- some node's position is won or lost in n plies, and not in fewer
-abbrev pub SomeHasDistance : List Node → ℕ → Type 0
-SomeHasDistance nodes n = (number : ℕ) × (node : Node) × (slice_get nodes number ≡ Some node) × HasDistance (setup_of node) n
+-- some class is won or lost in n plies, and not in fewer
+abbrev pub SomeHasDistance : PieceSet → ℕ → Type 0
+SomeHasDistance set n = (number : ℕ) × (number < classes_of set) × HasDistance (class_setup set number) n
 
 -- the value at depth 0, by the status
 abbrev pub value_at_start : Status → Value
@@ -66,17 +88,3 @@ value_at_start Tried = Loss 0
 value_at_start Stuck = Loss 0
 value_at_start Caught = Draw
 value_at_start Open = Draw
-
-abbrev pub first_value : Node → Value
-first_value node = value_at_start node.status
-
--- below count each number stands for the positions with the same outlook as the one listed there
-abbrev pub ListedFor : ℕ → (ℕ → Setup) → ℕ → Setup → Type 0
-ListedFor count setup_at number q = (number < count) × SameOutlook q (setup_at number)
-
--- the nodes of the positions that are listed, which are members
-pub record AreNodes (count : ℕ) (setup_at : ℕ → Setup) (IsMember : Setup → Type 0) (nodes : List Node) : Type 0 where
-  pub same_length : length nodes ≡ count
-  pub listed : (number : ℕ) (node : Node) → slice_get nodes number ≡ Some node → setup_of node ≡ setup_at number
-  pub members : (number : ℕ) (node : Node) → slice_get nodes number ≡ Some node → IsMember (setup_of node)
-  pub known : (number : ℕ) (node : Node) → slice_get nodes number ≡ Some node → IsNode (ListedFor count setup_at) node

@@ -7,4 +7,3 @@ pub mod Rosters
 pub mod Follows
 pub mod Codes
 pub mod ClassRows
-pub mod ClassLaws

@@ -1,18 +1,10 @@
--- Tables with the values of positions in a row.
-use Rattle.std.specs.Prelude.{ℕ, ◌<◌, List, length, slice_index_or, ◌≡◌}
+-- Positions with the same pieces, and those that are too deep for a table.
+use Rattle.std.specs.Prelude.{ℕ, ◌<◌, ◌≡◌}
 use Rattle.dob_pieces.specs.declared.setup.Setup.{Setup}
 use Rattle.dob_pieces.specs.declared.kind.HandKind.{HandKind}
 use Rattle.dob_pieces.specs.Setups.{IsLegal, total}
-use Rattle.dob_value.specs.declared.value.Value.{Value}
-use Rattle.dob_value.specs.declared.value.Value.TheVariants.{Draw}
 use Rattle.dob_value.specs.declared.sweep.TheConstants.{MAX_DISTANCE}
-use Rattle.dob_value.specs.Values.{HasValue}
 use Rattle.dob_value.specs.Entries.{HasDistance}
-
--- a table with the value of each position listed
-pub record HoldsValues (count : ℕ) (setup_at : ℕ → Setup) (entries : List Value) : Type 0 where
-  pub same_length : length entries ≡ count
-  pub values : (number : ℕ) → number < count → HasValue (setup_at number) (slice_index_or entries number Draw)
 
 -- some member is won or lost, in more plies than a table's entry can say
 abbrev pub SomeTooDeep : (Setup → Type 0) → Type 0

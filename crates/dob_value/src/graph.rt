@@ -1,84 +1,106 @@
-// Positions with what the sweeps need of them: their statuses and the numbers of their successors.
-ghost use Rattle.std.specs.Prelude.{◌≡◌, ◌<◌, ℕ, IfOk};
+// The classes of a piece set with what the sweeps need of them: their statuses and the numbers of their successors.
+ghost use Rattle.std.specs.Prelude.{◌≡◌, ◌<◌, ◌++◌, ℕ, List, IfOk};
 ghost use Rattle.dob_pieces.specs.declared.setup.Setup.{Setup};
 ghost use Rattle.dob_moves.specs.declared.outlook.Status.{Status};
 ghost use Rattle.dob_moves.specs.Moves.{Goes, CanGo};
-ghost use Rattle.dob_moves.specs.Statuses.{HasStatus, AreMoves};
-ghost use Rattle.dob_value.specs.Depths.{SameOutlook};
-ghost use Rattle.dob_value.specs.Graphs.{AreSuccessors, ListedFor, IsNode, AreNodes, setup_of};
+ghost use Rattle.dob_moves.specs.Statuses.{HasStatus};
+ghost use Rattle.dob_rank.specs.Order.{IsPositionOf};
+ghost use Rattle.dob_rank.specs.Marks.{classes_of};
+ghost use Rattle.dob_value.specs.Graphs.{ClassStandsFor, AreSuccessors, IsGraph, status_at, successors_at};
 
-use crate::roster::Roster;
 use dob_moves::{Move, Status, apply, moves, status};
-use dob_pieces::{Memory, Position};
+use dob_pieces::{Memory, PieceSet, Position};
+use dob_rank::Classes;
 use std::alloc::Global;
 
-/// A position, its status, and the numbers of the positions to which its moves lead.
+/// The statuses of the classes of a set, and the numbers of their successors in one list: those of a class stand from
+/// its start to the next one's.
 #[derive(Drop)]
-pub(crate) struct Node {
-    pub position: Position,
-    pub status: Status,
+pub(crate) struct Graph {
+    pub set: PieceSet,
+    pub statuses: Vec<Status>,
+    pub starts: Vec<usize>,
     pub successors: Vec<usize>,
 }
 
-// The number of the position to which the move leads.
-fn number_after<R: Roster>(roster: &R, position: &Position, choice: Move) -> usize
-    requires member { R.has roster.now position.now.setup }
+impl Graph {
+    /// The status of the class with that number.
+    pub(crate) fn status_of(&self, number: usize) -> Status
+        requires graph { IsGraph self.now }
+        requires within { number < classes_of self.now.set }
+        ensures { result ≡ status_at self.now number }
+    {
+        self.statuses[number]
+    }
+
+    /// The numbers of the classes to which its moves lead.
+    pub(crate) fn successors_of(&self, number: usize) -> &[usize]
+        requires graph { IsGraph self.now }
+        requires within { number < classes_of self.now.set }
+        ensures { result.now ≡ successors_at self.now number }
+    {
+        &self.successors[self.starts[number]..self.starts[number + 1]]
+    }
+}
+
+// The number of the position's class.
+fn number_of(classes: &Classes, position: &Position) -> usize
+    requires { IsPositionOf classes.now.set position.now.setup }
+    ensures { ClassStandsFor classes.now.set result position.now.setup }
+{
+    classes.class_of(position) as usize
+}
+
+// The number of the class to which the move leads.
+fn number_after(classes: &Classes, position: &Position, choice: Move) -> usize
+    requires member { IsPositionOf classes.now.set position.now.setup }
     requires open { HasStatus position.now.setup Status.Open }
     requires can_go { CanGo position.now.setup choice }
-    ensures within { result < R.count roster.now }
-    ensures stands { (q : Setup) → Goes position.now.setup choice q → SameOutlook q (R.setup_at roster.now result) }
+    ensures { (q : Setup) → Goes position.now.setup choice q → ClassStandsFor classes.now.set result q }
 {
-    roster.number_of(&apply(position, choice))
+    number_of(classes, &apply(position, choice))
 }
 
-// The numbers of the positions to which the moves lead.
-fn successors<R: Roster>(
+// Appends the numbers of the classes to which the position's moves lead.
+fn push_successors(
     alloc: Global,
-    roster: &R,
+    classes: &Classes,
     position: &Position,
-    choices: &[Move],
-) -> Result<Vec<usize>, Memory>
-    requires member { R.has roster.now position.now.setup }
-    requires choices { AreMoves position.now.setup choices.now }
-    ensures { IfOk result (λ numbers.
-        AreSuccessors (ListedFor (R.count roster.now) (R.setup_at roster.now)) position.now.setup numbers.items) }
+    successors: &mut Vec<usize>,
+) -> Result<(), Memory>
+    requires { IsPositionOf classes.now.set position.now.setup }
+    ensures { IfOk result (λ _. (numbers : List ℕ) × (successors.new.items ≡ successors.old.items ++ numbers)
+        × AreSuccessors (ClassStandsFor classes.now.set) position.now.setup numbers) }
 {
-    let mut numbers = Vec::new(alloc);
-    for choice in choices {
-        let number = number_after(roster, position, *choice);
-        numbers.push(number)?;
+    let choices = moves(alloc, position)?;
+    for choice in &choices {
+        let number = number_after(classes, position, *choice);
+        successors.push(number)?;
     }
-    Ok(numbers)
+    Ok(())
 }
 
-// The node of the position that is listed under the number.
-fn node_of<R: Roster>(alloc: Global, roster: &R, number: usize) -> Result<Node, Memory>
-    requires { number < R.count roster.now }
-    ensures listed { IfOk result (λ node. setup_of node ≡ R.setup_at roster.now number) }
-    ensures member { IfOk result (λ node. R.has roster.now (setup_of node)) }
-    ensures known { IfOk result (λ node. IsNode (ListedFor (R.count roster.now) (R.setup_at roster.now)) node) }
-{
-    let position = roster.position_at(number);
-    let choices = moves(alloc, &position)?;
-    let successors = successors(alloc, roster, &position, &choices)?;
-    Ok(Node {
-        position,
-        status: status(&position),
-        successors,
-    })
-}
-
-/// The nodes of all positions that are listed.
+/// The graph of the classes.
 ///
 /// Error: `Memory`.
-pub(crate) fn graph_of<R: Roster>(alloc: Global, roster: &R) -> Result<Vec<Node>, Memory>
-    ensures { IfOk result (λ nodes.
-        AreNodes (R.count roster.now) (R.setup_at roster.now) (R.has roster.now) nodes.items) }
+pub(crate) fn graph_of(alloc: Global, classes: &Classes) -> Result<Graph, Memory>
+    ensures set { IfOk result (λ graph. graph.set ≡ classes.now.set) }
+    ensures graph { IfOk result (λ graph. IsGraph graph) }
 {
-    let mut nodes = Vec::new(alloc);
-    for number in 0..roster.len() {
-        let node = node_of(alloc, roster, number)?;
-        nodes.push(node)?;
+    let mut statuses = Vec::new(alloc);
+    let mut starts = Vec::new(alloc);
+    let mut successors = Vec::new(alloc);
+    starts.push(0)?;
+    for number in 0..classes.class_count() {
+        let position = classes.class_at(number);
+        push_successors(alloc, classes, &position, &mut successors)?;
+        statuses.push(status(&position))?;
+        starts.push(successors.len())?;
     }
-    Ok(nodes)
+    Ok(Graph {
+        set: classes.set,
+        statuses,
+        starts,
+        successors,
+    })
 }

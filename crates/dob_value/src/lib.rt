@@ -1,13 +1,11 @@
 // The value of a position: who wins, and in how many plies.
 #![tactic(auto)]
 
-mod classes;
 mod codes;
 mod fault;
 mod graph;
 pub mod laws;
 mod position_value;
-mod roster;
 mod sweep;
 mod table;
 mod value;

@@ -1,9 +1,11 @@
 // Values of positions that were worked out by hand or by another program.
 ghost use Rattle.std.specs.Prelude.{◌<◌};
 
+use crate::sweep::first_value;
 use crate::{
     Fault, MAX_DISTANCE, Table, Value, code_of_value, sweep_table, sweep_value, value_of_code,
 };
+use dob_moves::{Status, status};
 use dob_pieces::{Hand, Hands, Kind, Piece, PieceSet, Position, Side, Square};
 use std::process::Abort;
 
@@ -142,6 +144,49 @@ fn mirror_images_have_one_entry(rt: HostRuntime) -> Result<(), Fault> {
         }
     }
     Ok(())
+}
+
+// The position with those pieces alone, at those squares and none of them in hand.
+fn placed(rt: &impl Abort, pieces: &[(usize, Side, Kind)]) -> Position {
+    let mut board = [None; Square::COUNT];
+    for (square, side, kind) in pieces {
+        assert!(rt; *square < 12);
+        board[*square] = Some(Piece {
+            side: *side,
+            kind: *kind,
+        });
+    }
+    Position::of(
+        board,
+        Hands {
+            mover: EMPTY,
+            enemy: EMPTY,
+        },
+    )
+    .expect(rt, "a position")
+}
+
+// The board is `GEx/LGE/CCy/...`, with the enemy's lion as x or as y.
+#[test]
+fn stuck_is_lost(rt: HostRuntime) {
+    for lion in [11, 5] {
+        let position = placed(
+            &rt,
+            &[
+                (9, Side::Mover, Kind::Giraffe),
+                (10, Side::Mover, Kind::Elephant),
+                (6, Side::Mover, Kind::Lion),
+                (7, Side::Mover, Kind::Giraffe),
+                (8, Side::Mover, Kind::Elephant),
+                (3, Side::Mover, Kind::Chick),
+                (4, Side::Mover, Kind::Chick),
+                (lion, Side::Enemy, Kind::Lion),
+            ],
+        );
+        let found = status(&position);
+        assert_eq!(rt; found, Status::Stuck);
+        assert_eq!(rt; first_value(found), Value::Loss(0));
+    }
 }
 
 // How many classes are won, lost and drawn, and the longest win.

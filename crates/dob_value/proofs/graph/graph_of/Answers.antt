@@ -1,21 +1,25 @@
--- Each node goes to the end of the list.
-use Rattle.std.proofs.Common.{◌≡◌, ◌+◌, sym, subst, arith}
-use Rattle.dob_value.proofs.Nodes.{AreNodesBelow, nodes_more, nodes_all}
+-- Each class's status and successors go to the ends of the lists.
+use Rattle.std.proofs.Common.{◌≡◌, ◌<◌, subst, arith, ◌∙◌}
+use Rattle.dob_rank.specs.Marks.{classes_of}
+use Rattle.dob_rank.proofs.Marks.{HasClasses-classes_of}
+use Rattle.dob_value.specs.ClassRows.{class_setup}
+use Rattle.dob_value.specs.Graphs.{ClassStandsFor, IsNode}
+use Rattle.dob_value.proofs.Nodes.{nodes_grown}
+use Rattle.dob_value.proofs.Rows.{class_setup_only}
 use Rattle.dob_value.proofs.graph.graph_of.Goals as goal
 
 pub loop-number-preserved : goal.loop-number-preserved
-loop-number-preserved g c =
-    let r = g.R.Roster in
-    subst (λ xs. AreNodesBelow (c.loop-number.number + 1) (r.count c.args.roster.now) (r.setup_at c.args.roster.now) (r.has c.args.roster.now) xs)
-    (sym c.in_ok-push.ensures.items)
-    (nodes_more (r.count c.args.roster.now) (r.setup_at c.args.roster.now) (r.has c.args.roster.now) c.loop-number.number
-    c.loop-number.nodes.items c.in_ok-node.node c.loop-number.invariant
-    (record { listed = c.in_ok-node.ensures.listed; member = c.in_ok-node.ensures.member; known = c.in_ok-node.ensures.known }))
-
-pub returns : goal.returns
-returns g c =
-    let r = g.R.Roster in
-    let count = r.count c.args.roster.now in
-    let all : c.loop-number.number ≡ count = omega (arith, c.len-number-end.ensures) in
-    nodes_all count (r.setup_at c.args.roster.now) (r.has c.args.roster.now) c.loop-number.number c.loop-number.nodes.items all
-    c.loop-number.invariant
+loop-number-preserved c =
+    let set = c.args.classes.now.set in
+    let number = c.loop-number.number in
+    let found = c.in_ok-push_successors.ensures in
+    let within : number < classes_of set = omega (arith, c.class_count-number-end.ensures.number) in
+    let is : c.class_at-position.result.setup ≡ class_setup set number =
+    class_setup_only set c.class_at-position.result.setup number (classes_of set) (HasClasses-classes_of set) within
+    c.class_at-position.ensures.representative c.class_at-position.ensures.class in
+    let known : IsNode (ClassStandsFor set) (class_setup set number) c.status.result found.0 =
+    subst (λ p. IsNode (ClassStandsFor set) p c.status.result found.0) is
+    (record { status = c.status.ensures; successors = found.2 }) in
+    nodes_grown set number c.loop-number.statuses.items c.loop-number.starts.items c.loop-number.successors.items c.status.result found.0
+    _ _ _ _ c.loop-number.invariant known c.in_ok-push-2.ensures.items c.in_ok-push-3.ensures.items
+    (c.len.ensures ∙ c.push_successors.new.successors.ok.0) found.1

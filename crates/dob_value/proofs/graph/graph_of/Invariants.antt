@@ -1,7 +1,5 @@
-use Rattle.dob_value.proofs.Nodes.{AreNodesBelow}
+use Rattle.dob_value.specs.Graphs.{AreNodes}
 use Rattle.dob_value.proofs.graph.graph_of.Given as goal
 
 abbrev pub invariant-loop-number : goal.invariant-loop-number
-invariant-loop-number g l =
-    let r = g.R.Roster in
-    AreNodesBelow l.number (r.count l.roster) (r.setup_at l.roster) (r.has l.roster) l.nodes.items
+invariant-loop-number l = AreNodes l.classes.set l.number l.statuses.items l.starts.items l.successors.items

@@ -1,9 +1,7 @@
 -- What was swept, in codes and out of them again, is the value table.
 use Rattle.std.proofs.Common.{sym, subst, ap, ◌∙◌}
 use Rattle.dob_pieces.specs.declared.piece_set.PieceSet.{PieceSet}
-use Rattle.dob_rank.specs.Marks.{classes_of}
-use Rattle.dob_value.specs.ClassRows.{class_setup}
-use Rattle.dob_value.specs.Rosters.{HoldsValues}
+use Rattle.dob_value.specs.Graphs.{AreValues}
 use Rattle.dob_value.specs.Follows.{ClassTable, IsValueTable}
 use Rattle.dob_value.proofs.Rows.{swept_is_table}
 use Rattle.dob_value.proofs.position_value.sweep_table.Goals as goal
@@ -11,8 +9,7 @@ use Rattle.dob_value.proofs.position_value.sweep_table.Goals as goal
 pub returns-clause-values : goal.returns-clause-values
 returns-clause-values c =
     let values = c.in_ok-values.values.items in
-    let holds = subst (λ (set : PieceSet). HoldsValues (classes_of set) (class_setup set) values) c.in_ok-classes.ensures.set
-    c.in_ok-values.ensures.values in
+    let are = subst (λ (set : PieceSet). AreValues set values) c.in_ok-classes.ensures.set c.in_ok-values.ensures.values in
     subst (λ vs. IsValueTable c.args.set vs)
     (sym (ap (λ (t : ClassTable). t.values) c.new.ensures ∙ c.in_ok-codes.ensures.values ∙ c.deref.ensures.value))
-    (swept_is_table c.args.set values holds c.in_ok-values.ensures.entries)
+    (swept_is_table c.args.set values are c.in_ok-values.ensures.entries)

@@ -1,6 +1,6 @@
 -- A sweep that changes nothing is the last.
-use Rattle.std.proofs.Common.{sym, ap, length, ◌+◌, subst, ◌∙◌, refl, arith, All}
-use Rattle.dob_value.specs.Graphs.{AreCutOff, AreValues}
+use Rattle.std.proofs.Common.{sym, ap, length, ◌+◌, subst, ◌∙◌, refl, arith, All, map}
+use Rattle.dob_value.specs.Graphs.{AreCutOff, AreValues, value_at_start}
 use Rattle.dob_value.proofs.Tables.{starts_cut, unchanged_is_final, put_back}
 use Rattle.dob_value.specs.Codes.{IsShort}
 use Rattle.dob_value.proofs.Parity.{all_short}
@@ -8,7 +8,7 @@ use Rattle.dob_value.proofs.sweep.settle.Goals as goal
 
 pub loop-depth-init : goal.loop-depth-init
 loop-depth-init c = record {
-  cut_off = subst (λ xs. AreCutOff 0 c.args.nodes.now xs) (sym c.in_ok-values.ensures) (starts_cut c.args.nodes.now c.requires);
+  cut_off = subst (λ xs. AreCutOff 0 c.args.graph.now.set xs) (sym (c.in_ok-values.ensures ∙ ap (map value_at_start) c.deref.ensures.value)) (starts_cut c.args.graph.now c.requires);
   below = omega arith;
 }
 
@@ -16,13 +16,13 @@ pub returns-clause-values : goal.returns-clause-values
 returns-clause-values c =
     let unchanged = c.loop-depth-test.ensures.same refl ∙ c.deref_mut.ensures.value in
     let whole = put_back c.loop-depth.values.len c.sweep_once.new.values c.loop-depth.values.items (ap length unchanged) (c.loop-depth.values.ok.0) in
-    let final = unchanged_is_final c.loop-depth.depth c.args.nodes.now c.loop-depth.values.items c.requires c.loop-depth.invariant.cut_off
-    (subst (λ xs. AreCutOff (c.loop-depth.depth + 1) c.args.nodes.now xs) unchanged c.sweep_once.ensures.cut_off) in
-    subst (λ xs. AreValues c.args.nodes.now xs) (sym (whole ∙ unchanged)) final
+    let final = unchanged_is_final c.loop-depth.depth c.args.graph.now c.loop-depth.values.items c.requires c.loop-depth.invariant.cut_off
+    (subst (λ xs. AreCutOff (c.loop-depth.depth + 1) c.args.graph.now.set xs) unchanged c.sweep_once.ensures.cut_off) in
+    subst (λ xs. AreValues c.args.graph.now.set xs) (sym (whole ∙ unchanged)) final
 
 pub returns-clause-short : goal.returns-clause-short
 returns-clause-short c =
     let unchanged = c.loop-depth-test.ensures.same refl ∙ c.deref_mut.ensures.value in
     let whole = put_back c.loop-depth.values.len c.sweep_once.new.values c.loop-depth.values.items (ap length unchanged) (c.loop-depth.values.ok.0) in
     subst (λ xs. All IsShort xs) (sym (whole ∙ unchanged))
-    (all_short c.loop-depth.depth c.args.nodes.now c.loop-depth.values.items c.loop-depth.invariant.below c.loop-depth.invariant.cut_off)
+    (all_short c.loop-depth.depth c.args.graph.now.set c.loop-depth.values.items c.loop-depth.invariant.below c.loop-depth.invariant.cut_off)

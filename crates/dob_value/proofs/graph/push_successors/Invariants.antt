@@ -1,0 +1,9 @@
+use Rattle.std.proofs.Common.{◌≡◌, ℕ, ◌++◌, List}
+use Rattle.dob_value.specs.Graphs.{ClassStandsFor}
+use Rattle.dob_value.proofs.Successors.{AreSuccessorsBelow}
+use Rattle.dob_value.proofs.graph.push_successors.Given as goal
+
+abbrev pub invariant-loop-choice : goal.invariant-loop-choice
+invariant-loop-choice l =
+    (numbers : List ℕ) × (l.successors.items ≡ l.initial.successors.items ++ numbers)
+    × AreSuccessorsBelow (ClassStandsFor l.classes.set) l.position.setup l.choice-items l.choice-index numbers
