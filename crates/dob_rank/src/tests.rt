@@ -259,7 +259,10 @@ fn has_class(rt: &impl Abort, position: &Position, classes: &Classes, number: u6
         assert!(rt; first == *position, "class {number}");
         let own = rank(&member);
         assert!(rt; own < size(classes.set));
-        assert_eq!(rt; classes.class_of(&unrank(classes.set, own)), number);
+        let ranked = unrank(classes.set, own);
+        assert_eq!(rt; classes.class_of(&ranked), number);
+        let named = if member == first { Some(number) } else { None };
+        assert_eq!(rt; classes.class_of_representative(&ranked), named);
     }
 }
 
