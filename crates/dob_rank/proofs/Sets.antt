@@ -45,6 +45,7 @@ few_in_layer s t legal below = by_layer t below
   where
     parts : HasParts (set_of s legal) s
     parts = HasParts-from_position (set_of s legal) s (IsPositionOf-set_of s legal)
+
     by_layer : (t : ℕ) → t < 5 → count t (map layer s.board) ≤ 2
     by_layer zero h = one_few (count 0 (map layer s.board)) parts.own_lion
     by_layer (suc zero) h = one_few (count 1 (map layer s.board)) parts.other_lion
