@@ -12,14 +12,14 @@ use Rattle.dob_pieces.specs.declared.kind.Side.TheVariants.{Mover, Enemy}
 use Rattle.dob_pieces.specs.declared.hand.Hand.{Hand}
 use Rattle.dob_pieces.specs.declared.hand.Hands.{Hands}
 use Rattle.dob_pieces.specs.declared.setup.Setup.{Setup}
-use Rattle.dob_pieces.specs.Pieces.{kind_in_hand, kind_on_board, is_lion, is_side, counts_as, leads}
+use Rattle.dob_pieces.specs.Pieces.{kind_in_hand, kind_on_board, is_lion, is_side, other_side, counts_as, leads}
 use Rattle.dob_pieces.specs.Setups.{Cell, at, held, piece_of, turned, total, holds_kind, holds_lion, IsLegal, with_one_more, with_one_less}
 use Rattle.dob_moves.specs.declared.choice.Move.{Move}
 use Rattle.dob_moves.specs.declared.choice.Move.TheVariants.{Step, Put}
 use Rattle.dob_moves.specs.Moves.{Goes, CanGo, Steps, Drops, CanTake, hands_after_catch, grows_at}
 use Rattle.dob_moves.specs.Statuses.{HasTried}
 use Rattle.dob_moves.specs.Outcomes.{arrives_as, with_caught, stepped, dropped, moved}
-use Rattle.dob_pieces.proofs.Boards.{one_if, total-turned, within-from_piece, count-set, count-moved, leads-to_board, leads-apart}
+use Rattle.dob_pieces.proofs.Boards.{one_if, total-turned, lions-turned, within-from_piece, count-set, count-moved, leads-to_board, leads-apart}
 use Rattle.dob_moves.proofs.Turns.{sides_apart, IsFreeOfTry, IsLegal-turned}
 
 -- a step's hands are those of `stepped`
@@ -313,13 +313,26 @@ IsLegal-Goes p (Put put to) q g legal not =
     (legal-dropped p put to legal.squares g.in_hand g.on_board g.free legal (no_try p not))
 
 -- no move changes how many pieces of a kind there are
-pub total-Goes : (p : Setup) (m : Move) (q : Setup) → Goes p m q → IsLegal p → (k : HandKind) → total k q ≡ total k p
-total-Goes p (Step kind from to catch grows) q g legal k =
+pub total-Goes : (p : Setup) (m : Move) (q : Setup) → Goes p m q → length p.board ≡ 12 → (k : HandKind) → total k q ≡ total k p
+total-Goes p (Step kind from to catch grows) q g twelve k =
     ap (total k) (Goes-is p (Step kind from to catch grows) q g)
-    ∙ same-stepped p kind from to grows legal.squares (IsStep-from p kind from to catch grows q g) k
-total-Goes p (Put put to) q g legal k =
+    ∙ same-stepped p kind from to grows twelve (IsStep-from p kind from to catch grows q g) k
+total-Goes p (Put put to) q g twelve k =
     ap (total k) (Goes-is p (Put put to) q g)
-    ∙ same-dropped p put to legal.squares g.in_hand g.on_board g.free k
+    ∙ same-dropped p put to twelve g.in_hand g.on_board g.free k
+
+-- nor how many lions a side has, which is the other side after it
+pub lions-Goes : (p : Setup) (m : Move) (q : Setup) → Goes p m q → length p.board ≡ 12 → (side : Side)
+    → count_by (holds_lion side) q.board ≡ count_by (holds_lion (other_side side)) p.board
+lions-Goes p (Step kind from to catch grows) q g twelve side =
+    let step = IsStep-from p kind from to catch grows q g in
+    ap (λ (r : Setup). count_by (holds_lion side) r.board) (Goes-is p (Step kind from to catch grows) q g)
+    ∙ lions-turned side (stepped p kind from to grows) (length-stepped p kind from to grows twelve step)
+    ∙ lions-stepped p kind from to grows twelve step (other_side side)
+lions-Goes p (Put put to) q g twelve side =
+    ap (λ (r : Setup). count_by (holds_lion side) r.board) (Goes-is p (Put put to) q g)
+    ∙ lions-turned side (dropped p put to) (length-dropped p put to twelve g.in_hand g.on_board g.free)
+    ∙ lions-dropped p put to twelve g.in_hand g.on_board g.free (other_side side)
 
 -- a hand has few pieces
 pub held_few : (p : Setup) → IsLegal p → (k : HandKind) → held p.hands.mover k ≤ 2

@@ -1,5 +1,5 @@
 // What stands on the board and lies in the hands, a position or not.
-ghost use Rattle.std.specs.Prelude.{◌≡◌, ◌↔◌, IsTrue, length, count_by};
+ghost use Rattle.std.specs.Prelude.{◌≡◌, ◌↔◌, IsTrue, count_by};
 ghost use Rattle.std.specs.List.{list_any};
 ghost use Rattle.dob_pieces.specs.Faults.{HasFault};
 ghost use Rattle.dob_pieces.specs.Setups.{at, turned_cell, turned, mirrored, holds_lion, holds_kind, total, HasLions, HasFewPieces, HasLionAtHome, IsLegal};
@@ -95,10 +95,9 @@ impl Setup {
             && self.total(HandKind::Giraffe) <= 2
     }
 
-    // Whether the mover's lion isn't on row 4.
-    fn has_lion_at_home(&self) -> bool
-        ensures answer { IsTrue result ↔ HasLionAtHome self.now }
-        ensures squares { length self.now.board ≡ 12 }
+    /// Whether the mover's lion isn't on row 4.
+    pub fn has_lion_at_home(&self) -> bool
+        ensures { IsTrue result ↔ HasLionAtHome self.now }
     {
         !has_mover_lion(&self.board[Square::FAR_ROW..])
     }

@@ -1,20 +1,23 @@
--- Taking a move back keeps the pieces.
-use Rattle.std.proofs.Common.{◌≡◌, length, sym, ap, ◌∙◌, subst}
+-- Taking a move back keeps the lions and the other pieces.
+use Rattle.std.proofs.Common.{◌≡◌, length, sym, ap, ◌∙◌, subst, arith}
+use Rattle.std.specs.List.{count_by}
 use Rattle.std.proofs.lemmas.List.{length-set}
 use Rattle.dob_pieces.specs.declared.piece_set.PieceSet.{PieceSet}
 use Rattle.dob_pieces.specs.declared.kind.HandKind.{HandKind}
+use Rattle.dob_pieces.specs.declared.kind.Side.{Side}
+use Rattle.dob_pieces.specs.declared.kind.Side.TheVariants.{Mover, Enemy}
 use Rattle.dob_pieces.specs.declared.setup.Setup.{Setup}
-use Rattle.dob_pieces.specs.Setups.{IsLegal, total, turned, mirrored}
-use Rattle.dob_pieces.proofs.Boards.{length-turned, length-mirrored, total-turned, total-mirrored}
+use Rattle.dob_pieces.specs.Pieces.{other_side}
+use Rattle.dob_pieces.specs.Setups.{holds_lion, HasLions, HasFewPieces, HasLionAtHome, IsLegal, total, turned, mirrored}
+use Rattle.dob_pieces.proofs.Boards.{length-turned, HasFewPieces-turned}
 use Rattle.dob_pieces.proofs.Symmetries.{turned-turned}
-use Rattle.dob_moves.specs.Moves.{Goes}
-use Rattle.dob_moves.proofs.Outcomes.{total-Goes}
+use Rattle.dob_moves.proofs.Outcomes.{total-Goes, lions-Goes}
 use Rattle.dob_rank.specs.Order.{IsPositionOf}
 use Rattle.dob_rank.proofs.Found.{IsPositionOf-mirrored}
 use Rattle.dob_unmove.specs.declared.undo.Undo.{Undo}
 use Rattle.dob_unmove.specs.declared.undo.Undo.TheVariants.{Unstep, Unput}
 use Rattle.dob_unmove.specs.Undoes.{choice, earlier, CanUndo}
-use Rattle.dob_unmove.specs.Classes.{HasPiecesOf}
+use Rattle.dob_unmove.specs.Classes.{IsTurned}
 use Rattle.dob_unmove.proofs.Undone.{Goes-from_undo}
 
 length-earlier : (after : Setup) (u : Undo) → length (earlier after u).board ≡ length after.board
@@ -22,30 +25,57 @@ unfolding earlier
 length-earlier after (Unstep kind from to caught) = length-set _ from _ ∙ length-set after.board to _
 length-earlier after (Unput kind to) = length-set after.board to _
 
-total-earlier : (after : Setup) (u : Undo) (kind : HandKind) → CanUndo after u → IsLegal (earlier after u) → total kind (earlier after u) ≡ total kind after
-total-earlier after u kind can legal =
-    let twelve : length after.board ≡ 12 = sym (length-earlier after u) ∙ legal.squares in
-    let back : turned (turned after) ≡ after = turned-turned after twelve in
-    let goes = Goes-from_undo (turned after) u (length-turned after) (subst (λ (t : Setup). CanUndo t u) (sym back) can) in
-    let went : Goes (earlier after u) (choice u) (turned after) = subst (λ (t : Setup). Goes (earlier t u) (choice u) (turned after)) back goes in
-    sym (total-Goes (earlier after u) (choice u) (turned after) went legal kind) ∙ total-turned kind after twelve
+module _ (q : Setup) (u : Undo) (twelve : length q.board ≡ 12) (can : CanUndo (turned q) u) where
+  squares-earlier : length (earlier (turned q) u).board ≡ 12
+  squares-earlier = length-earlier (turned q) u ∙ length-turned q
 
--- the position before a move has the pieces that are there after it
-pub position_before : (set : PieceSet) (after p : Setup) (u : Undo) → CanUndo after u → HasPiecesOf set after → p ≡ earlier after u → IsLegal p → IsPositionOf set p
-position_before set after p u can pieces e legal =
-    subst (IsPositionOf set) (sym e) (record {
-      legal = subst IsLegal e legal;
-      pieces = λ kind. total-earlier after u kind can (subst IsLegal e legal) ∙ pieces kind;
-    })
+  total-earlier : (kind : HandKind) → total kind q ≡ total kind (earlier (turned q) u)
+  total-earlier = total-Goes (earlier (turned q) u) (choice u) q (Goes-from_undo q u twelve can) squares-earlier
 
-pub pieces_turned : (set : PieceSet) (q t : Setup) → IsPositionOf set q → t ≡ turned q → HasPiecesOf set t
-pieces_turned set q t p e kind = ap (total kind) e ∙ total-turned kind q p.legal.squares ∙ p.pieces kind
+  lions-earlier : (side : Side) → count_by (holds_lion side) q.board ≡ count_by (holds_lion (other_side side)) (earlier (turned q) u).board
+  lions-earlier = lions-Goes (earlier (turned q) u) (choice u) q (Goes-from_undo q u twelve can) squares-earlier
 
-pub pieces_mirrored : (set : PieceSet) (q image : Setup) → IsPositionOf set q → image ≡ mirrored q → IsPositionOf set image
-pieces_mirrored set q image p e = subst (IsPositionOf set) (sym e) (IsPositionOf-mirrored set q p)
+  HasLions-earlier : HasLions q → HasLions (earlier (turned q) u)
+  HasLions-earlier lions Mover = sym (lions-earlier Enemy) ∙ lions Enemy
+  HasLions-earlier lions Enemy = sym (lions-earlier Mover) ∙ lions Mover
+
+  IsLegal-earlier : IsLegal q → HasLionAtHome (earlier (turned q) u) → IsLegal (earlier (turned q) u)
+  IsLegal-earlier legal home = record {
+    squares = squares-earlier;
+    lions = HasLions-earlier legal.lions;
+    few = λ kind. omega (arith, total-earlier kind, legal.few kind);
+    home = home;
+  }
+
+-- what stood before a move that led to a position is one too, unless the mover's lion stood on row 4
+pub legal_before : (after s : Setup) (u : Undo) → CanUndo after u → IsTurned IsLegal after → s ≡ earlier after u → HasLionAtHome s → IsLegal s
+legal_before after s u can t e home =
+    let before : s ≡ earlier (turned t.0) u = e ∙ ap (λ (x : Setup). earlier x u) t.2 in
+    subst IsLegal (sym before)
+    (IsLegal-earlier t.0 u t.1.squares (subst (λ (x : Setup). CanUndo x u) t.2 can) t.1 (subst HasLionAtHome before home))
+
+-- and it has the same pieces
+pub position_before : (set : PieceSet) (after p : Setup) (u : Undo) → CanUndo after u → IsTurned (IsPositionOf set) after → p ≡ earlier after u → IsLegal p → IsPositionOf set p
+position_before set after p u can t e legal = record {
+  legal = legal;
+  pieces = λ kind.
+      ap (total kind) (e ∙ ap (λ (x : Setup). earlier x u) t.2)
+      ∙ sym (total-earlier t.0 u t.1.legal.squares (subst (λ (x : Setup). CanUndo x u) t.2 can) kind)
+      ∙ t.1.pieces kind;
+}
+
+pub few_turned : (after : Setup) → IsTurned IsLegal after → HasFewPieces after
+few_turned after t = subst HasFewPieces (sym t.2) (HasFewPieces-turned t.0 t.1.squares t.1.few)
+
+pub legal_turned : (set : PieceSet) (after : Setup) → IsTurned (IsPositionOf set) after → IsTurned IsLegal after
+legal_turned set after t = (t.0, t.1.legal, t.2)
+
+pub position_mirrored : (set : PieceSet) (q image : Setup) → IsPositionOf set q → image ≡ mirrored q → IsPositionOf set image
+position_mirrored set q image is e = subst (IsPositionOf set) (sym e) (IsPositionOf-mirrored set q is)
 
 -- after a walk over the one position, for the walk over its mirror image
-pub pieces_image : (set : PieceSet) (q image t s : Setup) → IsLegal q → image ≡ mirrored q → t ≡ turned q → s ≡ turned image → HasPiecesOf set t → HasPiecesOf set s
-pieces_image set q image t s legal im e f h kind =
-    ap (total kind) (f ∙ ap turned im) ∙ total-turned kind (mirrored q) (length-mirrored q) ∙ total-mirrored kind q legal.squares
-    ∙ sym (total-turned kind q legal.squares) ∙ sym (ap (total kind) e) ∙ h kind
+pub turned_image : (set : PieceSet) (q image t s : Setup) → IsLegal q → image ≡ mirrored q → t ≡ turned q → s ≡ turned image → IsTurned (IsPositionOf set) t → IsTurned (IsPositionOf set) s
+turned_image set q image t s legal im e f walked =
+    let same : walked.0 ≡ q
+    = sym (turned-turned walked.0 walked.1.legal.squares) ∙ ap turned (sym walked.2 ∙ e) ∙ turned-turned q legal.squares in
+    (image, position_mirrored set q image (subst (IsPositionOf set) same walked.1) im, f)

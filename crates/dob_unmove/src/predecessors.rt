@@ -1,11 +1,12 @@
 // The classes from which a class is reached.
 ghost use Rattle.std.specs.Prelude.{◌≡◌, ◌<◌, ℕ, IfOk};
 ghost use Rattle.dob_pieces.specs.declared.setup.Setup.{Setup};
+ghost use Rattle.dob_rank.specs.Order.{IsPositionOf};
 ghost use Rattle.dob_rank.specs.Marks.{classes_of};
 ghost use Rattle.dob_unmove.specs.declared.undo.Undo.{Undo};
 ghost use Rattle.dob_unmove.specs.Undoes.{CanUndo, earlier};
 ghost use Rattle.dob_unmove.specs.Unmoves.{CountEdges, ArePredecessors};
-ghost use Rattle.dob_unmove.specs.Classes.{HasPiecesOf, IsFirstIn};
+ghost use Rattle.dob_unmove.specs.Classes.{IsTurned, IsFirstIn};
 ghost use Rattle.dob_unmove.specs.Gathers.{Finds, Adds};
 
 use crate::earlier::open_before;
@@ -24,7 +25,7 @@ struct Gathered<'a, N> {
 }
 
 impl<N: Numbering> Taker for Gathered<'_, N> {
-    ghost suits = { λ after gathered. HasPiecesOf (N.piece_set gathered.classes.now) after };
+    ghost suits = { λ after gathered. IsTurned (IsPositionOf (N.piece_set gathered.classes.now)) after };
 
     ghost takes = { λ after old undo new. (new.classes ≡ old.classes) × Adds (IsFirstIn (N.piece_set old.classes.now)) after undo old.found.items new.found.items };
 
@@ -39,7 +40,7 @@ impl<N: Numbering> Taker for Gathered<'_, N> {
 // The class whose representative stood there before the move, if a representative did and was open.
 fn class_before<N: Numbering>(classes: &N, after: &Setup, undo: Undo) -> Option<u64>
     requires can { CanUndo after.now undo }
-    requires pieces { HasPiecesOf (N.piece_set classes.now) after.now }
+    requires of_set { IsTurned (IsPositionOf (N.piece_set classes.now)) after.now }
     ensures { Finds (IsFirstIn (N.piece_set classes.now)) (earlier after.now undo) result }
 {
     match open_before(after, undo) {

@@ -18,7 +18,7 @@ pub moves_keep_the_set : (set : PieceSet) (p : Setup) (move : Move) (q : Setup) 
     IsPositionOf set q
 moves_keep_the_set set p move q is goes_on goes = record {
   legal = IsLegal-Goes p move q goes is.legal goes_on.1;
-  pieces = λ kind. total-Goes p move q goes is.legal kind ∙ is.pieces kind;
+  pieces = λ kind. total-Goes p move q goes is.legal.squares kind ∙ is.pieces kind;
 }
 
 -- the numbers stand for the outcomes of the moves below an index

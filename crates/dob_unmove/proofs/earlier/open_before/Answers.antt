@@ -1,4 +1,4 @@
--- A position of another status isn't open.
+-- The position before a move; one of another status isn't open.
 use Rattle.std.proofs.Common.{◌≡◌, ◌∙◌, subst}
 use Rattle.dob_pieces.specs.declared.setup.Setup.{Setup}
 use Rattle.dob_moves.specs.declared.outlook.Status.{Status}
@@ -7,7 +7,16 @@ use Rattle.dob_moves.specs.Statuses.{HasStatus}
 use Rattle.dob_moves.proofs.Cases.{one_status}
 use Rattle.dob_unmove.specs.Undoes.{earlier}
 use Rattle.dob_unmove.specs.Unmoves.{IsOpenPosition}
+use Rattle.dob_unmove.proofs.Kept.{few_turned, legal_before}
 use Rattle.dob_unmove.proofs.earlier.open_before.Goals as goal
+
+pub earlier-setup-requires-clause-few : goal.earlier-setup-requires-clause-few
+earlier-setup-requires-clause-few c = few_turned c.args.after.now c.requires.legal
+
+pub new-position-requires : goal.new-position-requires
+new-position-requires c =
+    legal_before c.args.after.now c.earlier-setup.result c.args.undo c.requires.can c.requires.legal c.earlier-setup.ensures
+    (c.has_lion_at_home.ensures.0 c.if-not-has_lion_at_home.false)
 
 not_open : (s built : Setup) (status : Status) → built ≡ s → HasStatus built status → (status ≡ Open → ⊥) → IsOpenPosition s → ⊥
 not_open s built status e has other h =

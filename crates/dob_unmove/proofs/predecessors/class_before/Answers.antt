@@ -3,8 +3,11 @@ use Rattle.dob_unmove.specs.Undoes.{earlier}
 use Rattle.dob_unmove.specs.Classes.{IsFirstIn}
 use Rattle.dob_unmove.proofs.Classes.{IsNumbering-classes}
 use Rattle.dob_unmove.proofs.Gathering.{finds_none, finds_from}
-use Rattle.dob_unmove.proofs.Kept.{position_before}
+use Rattle.dob_unmove.proofs.Kept.{legal_turned, position_before}
 use Rattle.dob_unmove.proofs.predecessors.class_before.Goals as goal
+
+pub open_before-requires-clause-legal : goal.open_before-requires-clause-legal
+open_before-requires-clause-legal g c = legal_turned (g.N.Numbering.piece_set c.args.classes.now) c.args.after.now c.requires.of_set
 
 pub returns-in-None : goal.returns-in-None
 returns-in-None g c =
@@ -13,7 +16,7 @@ returns-in-None g c =
 pub class_of_first-requires : goal.class_of_first-requires
 class_of_first-requires g c =
     let p = c.in-Some.position in
-    position_before (g.N.Numbering.piece_set c.args.classes.now) c.args.after.now p.setup c.args.undo c.requires.can c.requires.pieces c.in-Some.ensures.0 p.legal
+    position_before (g.N.Numbering.piece_set c.args.classes.now) c.args.after.now p.setup c.args.undo c.requires.can c.requires.of_set c.in-Some.ensures.0 p.legal
 
 pub returns-in-Some : goal.returns-in-Some
 returns-in-Some g c =

@@ -4,21 +4,20 @@ use Rattle.dob_pieces.specs.declared.setup.Setup.{Setup}
 use Rattle.dob_unmove.specs.Classes.{IsFirstIn}
 use Rattle.dob_unmove.proofs.Classes.{IsNumbering-classes}
 use Rattle.dob_unmove.proofs.Gathering.{own_image, other_image, walked_alone, walked_both}
-use Rattle.dob_unmove.proofs.Kept.{pieces_turned, pieces_mirrored, pieces_image}
+use Rattle.dob_unmove.proofs.Kept.{position_mirrored, turned_image}
 use Rattle.dob_unmove.proofs.predecessors.gather.Goals as goal
 
 pub take_all-requires : goal.take_all-requires
-take_all-requires g c =
-    pieces_turned (g.N.Numbering.piece_set c.args.classes.now) c.args.first.now.setup c.turned.result c.requires.1.0.0 c.turned.ensures
+take_all-requires g c = (c.args.first.now.setup, c.requires.1.0.0, c.turned.ensures)
 
 pub class_of_first-requires : goal.class_of_first-requires
 class_of_first-requires g c =
-    pieces_mirrored (g.N.Numbering.piece_set c.args.classes.now) c.args.first.now.setup c.mirrored-image.result.setup c.requires.1.0.0 c.mirrored-image.ensures
+    position_mirrored (g.N.Numbering.piece_set c.args.classes.now) c.args.first.now.setup c.mirrored-image.result.setup c.requires.1.0.0 c.mirrored-image.ensures
 
 pub take_all-requires-2 : goal.take_all-requires-2
 take_all-requires-2 g c =
     let q = c.args.first.now.setup in
-    pieces_image (g.N.Numbering.piece_set c.take_all.new.taker.classes.now) q c.mirrored-image.result.setup c.turned.result c.turned-2.result c.args.first.now.legal
+    turned_image (g.N.Numbering.piece_set c.take_all.new.taker.classes.now) q c.mirrored-image.result.setup c.turned.result c.turned-2.result c.args.first.now.legal
     c.mirrored-image.ensures c.turned.ensures c.turned-2.ensures c.in_ok-take_all.ensures.suited
 
 pub returns-then-is_some : goal.returns-then-is_some

@@ -1,3 +1,4 @@
+use Rattle.std.proofs.Common.{rules}
 use Rattle.std.proofs.lemmas.Bool.{both_ways}
 use Rattle.dob_pieces.proofs.setup.Setup.fault.Goals as goal
 
@@ -11,13 +12,13 @@ pub returns-then-not-has_lion_at_home : goal.returns-then-not-has_lion_at_home
 returns-then-not-has_lion_at_home c = (
   c.has_lions.ensures.0 c.if-not-has_lions.false,
   c.has_few_pieces.ensures.0 c.if-not-has_few_pieces.false,
-  λ home. both_ways _ c.if-not-has_lion_at_home.true (c.has_lion_at_home.ensures.answer.1 home),
+  λ home. both_ways _ c.if-not-has_lion_at_home.true (c.has_lion_at_home.ensures.1 home),
 )
 
 pub returns-else-not-has_lion_at_home : goal.returns-else-not-has_lion_at_home
 returns-else-not-has_lion_at_home c = record {
-  squares = c.has_lion_at_home.ensures.squares;
+  squares = search rules;
   lions = c.has_lions.ensures.0 c.if-not-has_lions.false;
   few = c.has_few_pieces.ensures.0 c.if-not-has_few_pieces.false;
-  home = c.has_lion_at_home.ensures.answer.0 c.if-not-has_lion_at_home.false;
+  home = c.has_lion_at_home.ensures.0 c.if-not-has_lion_at_home.false;
 }

@@ -6,8 +6,8 @@ use Rattle.dob_pieces.specs.Setups.{holds_lion}
 use Rattle.dob_pieces.proofs.Legality.{HasLionAtHome-from_test, test-from_HasLionAtHome, far_row}
 use Rattle.dob_pieces.proofs.setup.Setup.has_lion_at_home.Goals as goal
 
-pub returns-clause-answer : goal.returns-clause-answer
-returns-clause-answer c =
+pub returns : goal.returns
+returns c =
     let squares : length c.args.self.now.board ≡ 12 = search rules in
     let answer : c.has_mover_lion.result ≡ list_any (holds_lion Mover) (drop 9 c.args.self.now.board)
     = c.has_mover_lion.ensures ∙ ap (list_any (holds_lion Mover)) (far_row c.args.self.now.board squares) in (
