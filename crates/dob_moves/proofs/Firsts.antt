@@ -3,8 +3,9 @@ use Rattle.std.proofs.Common.{◌≡◌, ℕ, zero, suc, ◌+◌, ◌<◌, true,
 use Rattle.std.specs.Option.{is_some}
 use Rattle.std.specs.List.{filter_map, cons_option}
 use Rattle.std.proofs.lemmas.Bool.{cases_lt}
+use Rattle.dob_pieces.specs.Lists.{each_below}
 use Rattle.dob_moves.specs.declared.choice.Move.{Move}
-use Rattle.dob_moves.specs.Walks.{first, each_below}
+use Rattle.dob_moves.specs.Walks.{first}
 
 -- a value that is there comes first
 first-cons_some : (o : Option Move) (rest : List Move) → is_some o ≡ true → first (cons_option o rest) ≡ o

@@ -1,5 +1,5 @@
 -- The lists of steps and of drops have exactly the moves of the rules, in the move order.
-use Rattle.std.proofs.Common.{◌≡◌, ℕ, suc, ◌+◌, ◌*◌, ◌<◌, ◌≤◌, Bool, true, false, cond, nat_lt, List, [], ◌++◌, Option, Some, None, length, refl, sym, ap, subst, inl, inr, arith, option_to_list, Contains}
+use Rattle.std.proofs.Common.{◌≡◌, ℕ, suc, ◌+◌, ◌*◌, ◌<◌, ◌≤◌, Bool, true, false, cond, nat_lt, List, ◌++◌, Option, Some, None, length, refl, sym, ap, subst, inl, inr, arith, option_to_list, Contains}
 use Rattle.std.proofs.lemmas.Bool.{cases_lt, and_parts, ltb-true, lt-ltb}
 use Rattle.std.proofs.lemmas.List.{get_or_past}
 use Rattle.std.proofs.lemmas.List.Elements.{Contains-append_left, Contains-append_right, Contains-append_cases}
@@ -11,16 +11,18 @@ use Rattle.dob_pieces.specs.declared.kind.Side.{Side}
 use Rattle.dob_pieces.specs.declared.kind.Side.TheVariants.{Mover, Enemy}
 use Rattle.dob_pieces.specs.declared.kind.Piece.{Piece}
 use Rattle.dob_pieces.specs.declared.setup.Setup.{Setup}
+use Rattle.dob_pieces.specs.Lists.{each_below}
 use Rattle.dob_pieces.specs.Pieces.{leads, kind_in_hand}
 use Rattle.dob_pieces.specs.Setups.{Cell, at, held, piece_of}
+use Rattle.dob_pieces.proofs.Lists.{none_in_empty, cond_sound, cond_whole, each_sound, each_whole, Rising, rising-lower, rising-append, rising-cond, rising-each}
 use Rattle.dob_moves.specs.declared.choice.Move.{Move}
 use Rattle.dob_moves.specs.declared.choice.Move.TheVariants.{Step, Put}
 use Rattle.dob_moves.specs.declared.search.Aim.{Aim}
 use Rattle.dob_moves.specs.declared.search.Aim.TheVariants.{AtLion, Elsewhere}
 use Rattle.dob_moves.specs.Moves.{grows_at, CanTake, CanGo, CatchesLion, hand_place, place}
 use Rattle.dob_moves.specs.Statuses.{IsFirstCatch}
-use Rattle.dob_moves.specs.Walks.{first, each_below, may_end, step_onto, steps_by, own_kind, own_by_side, steps_if, steps_from, all_steps, put_if, put_on, drops_of, all_drops}
-use Rattle.dob_moves.proofs.Runs.{none_in_empty, each_sound, each_whole, option_sound, option_whole, Rising, rising-lower, rising-append, rising-option, rising-each, first_none, first_some, first_least}
+use Rattle.dob_moves.specs.Walks.{first, may_end, step_onto, steps_by, own_kind, own_by_side, steps_if, steps_from, all_steps, put_if, put_on, drops_of, all_drops}
+use Rattle.dob_moves.proofs.Runs.{option_sound, option_whole, rising-option, first_none, first_some, first_least}
 use Rattle.std.specs.Option.{is_some}
 use Rattle.dob_moves.proofs.Tables.{step_to, steps_by-squares}
 
@@ -116,10 +118,10 @@ steps_by_sound aim p kind from m lt own h =
       at_square to false e f = cc
       at_square to true e f = step_sound aim p kind from to (at p to) m (record { own = own; leads = e }) refl f
 
-steps_by_rising : (aim : Aim) (p : Setup) (kind : Kind) (from : ℕ) → from < 12 → Rising (12 * from) (12 * suc from) (steps_by aim p kind from)
+steps_by_rising : (aim : Aim) (p : Setup) (kind : Kind) (from : ℕ) → from < 12 → Rising place (12 * from) (12 * suc from) (steps_by aim p kind from)
 steps_by_rising aim p kind from lt =
     let g : ℕ → List Move = λ to. option_to_list (step_to aim p kind from to) in
-    let r : Rising (12 * from + 0) (12 * from + 12) (each_below g 12) = rising-each g (λ to. 12 * from + to) 12 (λ to h. at_square to) in
+    let r : Rising place (12 * from + 0) (12 * from + 12) (each_below g 12) = rising-each place g (λ to. 12 * from + to) 12 (λ to h. at_square to) in
     let low : 12 * from ≡ 12 * from + 0 = omega arith in
     let high : 12 * suc from ≡ 12 * from + 12 = omega arith in
     rw (low, high, steps_by-squares aim p kind from lt) r where
@@ -127,8 +129,8 @@ steps_by_rising aim p kind from lt =
       its_place to false m e = cc
       its_place to true m e = step_place aim kind from to (at p to) m e
 
-      at_square : (to : ℕ) → Rising (12 * from + to) (12 * from + suc to) (option_to_list (step_to aim p kind from to))
-      at_square to = subst (λ (high : ℕ). Rising (12 * from + to) high (option_to_list (step_to aim p kind from to))) (let e : suc (12 * from + to) ≡ 12 * from + suc to = omega arith in e) (rising-option (12 * from + to) (step_to aim p kind from to) (λ m e. its_place to (leads kind from to) m e))
+      at_square : (to : ℕ) → Rising place (12 * from + to) (12 * from + suc to) (option_to_list (step_to aim p kind from to))
+      at_square to = subst (λ (high : ℕ). Rising place (12 * from + to) high (option_to_list (step_to aim p kind from to))) (let e : suc (12 * from + to) ≡ 12 * from + suc to = omega arith in e) (rising-option (12 * from + to) (step_to aim p kind from to) (λ m e. its_place to (leads kind from to) m e))
 
 near_from_leads : (kind : Kind) (from to : ℕ) → leads kind from to ≡ true → to < 12
 unfolding leads
@@ -157,10 +159,10 @@ steps_from_sound aim p from m lt h = by_own (own_kind (at p from)) refl h where
   by_own None e h = absurd (none_in_empty m h)
   by_own (Some kind) e h = steps_by_sound aim p kind from m lt (own_cell (at p from) kind e) h
 
-steps_from_rising : (aim : Aim) (p : Setup) (from : ℕ) → from < 12 → Rising (12 * from) (12 * suc from) (steps_from aim p from)
+steps_from_rising : (aim : Aim) (p : Setup) (from : ℕ) → from < 12 → Rising place (12 * from) (12 * suc from) (steps_from aim p from)
 unfolding steps_from
 steps_from_rising aim p from lt = by_own (own_kind (at p from)) where
-  by_own : (o : Option Kind) → Rising (12 * from) (12 * suc from) (steps_if aim p from o)
+  by_own : (o : Option Kind) → Rising place (12 * from) (12 * suc from) (steps_if aim p from o)
   by_own None = omega arith
   by_own (Some kind) = steps_by_rising aim p kind from lt
 
@@ -176,9 +178,9 @@ steps_sound aim p m h =
     let w = each_sound (steps_from aim p) 12 m h in
     steps_from_sound aim p w.0 m w.1 w.2
 
-pub steps_rising : (aim : Aim) (p : Setup) → Rising 0 144 (all_steps aim p)
+pub steps_rising : (aim : Aim) (p : Setup) → Rising place 0 144 (all_steps aim p)
 unfolding all_steps
-steps_rising aim p = rising-each (steps_from aim p) (λ from. 12 * from) 12 (λ from lt. steps_from_rising aim p from lt)
+steps_rising aim p = rising-each place (steps_from aim p) (λ from. 12 * from) 12 (λ from lt. steps_from_rising aim p from lt)
 
 -- what stands on the board stands on one of its squares
 on_board : (p : Setup) (square : ℕ) (piece : Piece) → length p.board ≡ 12 → at p square ≡ Some piece → square < 12
@@ -212,30 +214,26 @@ put_place p kind to m e = by_cell (at p to) e where
 
 drops_of_sound : (p : Setup) (kind : HandKind) (m : Move) → Contains (drops_of p kind) m → CanGo p m
 unfolding drops_of
-drops_of_sound p kind m h = by_hand (nat_lt 0 (held p.hands.mover kind)) refl h where
-  by_hand : (b : Bool) → nat_lt 0 (held p.hands.mover kind) ≡ b → Contains (cond b (each_below (λ to. option_to_list (put_on p kind to)) 12) []) m → CanGo p m
-  by_hand false e h = absurd (none_in_empty m h)
-  by_hand true e h =
-      let w = each_sound (λ to. option_to_list (put_on p kind to)) 12 m h in
-      put_sound p kind w.0 m w.1 (ltb-true 0 (held p.hands.mover kind) e) (option_sound (put_on p kind w.0) m w.2)
+drops_of_sound p kind m h =
+    let found = cond_sound _ _ m h in
+    let w = each_sound (λ to. option_to_list (put_on p kind to)) 12 m found.1 in
+    put_sound p kind w.0 m w.1 (ltb-true 0 (held p.hands.mover kind) found.0) (option_sound (put_on p kind w.0) m w.2)
 
-drops_of_rising : (p : Setup) (kind : HandKind) → Rising (144 + 12 * hand_place kind) (144 + 12 * hand_place kind + 12) (drops_of p kind)
+drops_of_rising : (p : Setup) (kind : HandKind) → Rising place (144 + 12 * hand_place kind) (144 + 12 * hand_place kind + 12) (drops_of p kind)
 unfolding drops_of
-drops_of_rising p kind = by_hand (nat_lt 0 (held p.hands.mover kind)) where
-  at_square : (to : ℕ) → Rising (144 + 12 * hand_place kind + to) (144 + 12 * hand_place kind + suc to) (option_to_list (put_on p kind to))
-  at_square to = subst (λ (high : ℕ). Rising (144 + 12 * hand_place kind + to) high (option_to_list (put_on p kind to))) (let e : suc (144 + 12 * hand_place kind + to) ≡ 144 + 12 * hand_place kind + suc to = omega arith in e) (rising-option (144 + 12 * hand_place kind + to) (put_on p kind to) (λ m e. put_place p kind to m e))
-
-  by_hand : (b : Bool) → Rising (144 + 12 * hand_place kind) (144 + 12 * hand_place kind + 12) (cond b (each_below (λ to. option_to_list (put_on p kind to)) 12) [])
-  by_hand false = omega arith
-  by_hand true =
-      let r : Rising (144 + 12 * hand_place kind + 0) (144 + 12 * hand_place kind + 12) (each_below (λ to. option_to_list (put_on p kind to)) 12) = rising-each (λ to. option_to_list (put_on p kind to)) (λ to. 144 + 12 * hand_place kind + to) 12 (λ to lt. at_square to) in
-      rising-lower (144 + 12 * hand_place kind) (144 + 12 * hand_place kind + 0) (144 + 12 * hand_place kind + 12) _ (omega arith) r
+drops_of_rising p kind =
+    let low = 144 + 12 * hand_place kind in
+    let g : ℕ → List Move = λ to. option_to_list (put_on p kind to) in
+    rising-cond place _ low (low + 12) (each_below g 12) (omega arith)
+    (rising-lower place low (low + 0) (low + 12) _ (omega arith) (rising-each place g (λ to. low + to) 12 (λ to lt. at_square to))) where
+      at_square : (to : ℕ) → Rising place (144 + 12 * hand_place kind + to) (144 + 12 * hand_place kind + suc to) (option_to_list (put_on p kind to))
+      at_square to = subst (λ (high : ℕ). Rising place (144 + 12 * hand_place kind + to) high (option_to_list (put_on p kind to))) (let e : suc (144 + 12 * hand_place kind + to) ≡ 144 + 12 * hand_place kind + suc to = omega arith in e) (rising-option (144 + 12 * hand_place kind + to) (put_on p kind to) (λ m e. put_place p kind to m e))
 
 drops_of_whole : (p : Setup) (kind : HandKind) (to : ℕ) → CanGo p (Put kind to) → Contains (drops_of p kind) (Put kind to)
 unfolding drops_of
 drops_of_whole p kind to (q, d) =
     let it : put_on p kind to ≡ Some (Put kind to) = rw d.free refl in
-    rw (lt-ltb 0 (held p.hands.mover kind) d.in_hand)
+    cond_whole _ _ _ (lt-ltb 0 (held p.hands.mover kind) d.in_hand)
     (each_whole (λ to. option_to_list (put_on p kind to)) 12 to (Put kind to) d.on_board (option_whole (put_on p kind to) (Put kind to) it))
 
 pub drops_sound : (p : Setup) (m : Move) → Contains (all_drops p) m → CanGo p m
@@ -249,11 +247,11 @@ drops_sound p m h =
       | inr giraffe ↦ drops_of_sound p hand.Giraffe m giraffe
     ]
 
-pub drops_rising : (p : Setup) → Rising 144 180 (all_drops p)
+pub drops_rising : (p : Setup) → Rising place 144 180 (all_drops p)
 unfolding all_drops
 drops_rising p =
-    rising-append 144 168 180 (drops_of p hand.Chick ++ drops_of p hand.Elephant) (drops_of p hand.Giraffe)
-    (rising-append 144 156 168 (drops_of p hand.Chick) (drops_of p hand.Elephant) (drops_of_rising p hand.Chick) (drops_of_rising p hand.Elephant))
+    rising-append place 144 168 180 (drops_of p hand.Chick ++ drops_of p hand.Elephant) (drops_of p hand.Giraffe)
+    (rising-append place 144 156 168 (drops_of p hand.Chick) (drops_of p hand.Elephant) (drops_of_rising p hand.Chick) (drops_of_rising p hand.Elephant))
     (drops_of_rising p hand.Giraffe)
 
 pub drops_whole : (p : Setup) (kind : HandKind) (to : ℕ) → CanGo p (Put kind to) → Contains (all_drops p) (Put kind to)

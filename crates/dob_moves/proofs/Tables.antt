@@ -6,12 +6,13 @@ use Rattle.std.proofs.lemmas.List.Elements.{filter_map-append, filter-append}
 use Rattle.dob_pieces.specs.declared.kind.Kind.{Kind}
 use Rattle.dob_pieces.specs.declared.kind.Kind.TheVariants.{Lion, Giraffe, Elephant, Chick, Hen}
 use Rattle.dob_pieces.specs.declared.setup.Setup.{Setup}
+use Rattle.dob_pieces.specs.Lists.{each_below}
 use Rattle.dob_pieces.specs.Pieces.{leads}
 use Rattle.dob_pieces.specs.Setups.{at}
 use Rattle.dob_pieces.proofs.Boards.{all_below, all_below-at}
 use Rattle.dob_moves.specs.declared.choice.Move.{Move}
 use Rattle.dob_moves.specs.declared.search.Aim.{Aim}
-use Rattle.dob_moves.specs.Walks.{each_below, directions_of, square_in, step_onto, step_if, step_in, steps_by}
+use Rattle.dob_moves.specs.Walks.{directions_of, square_in, step_onto, step_if, step_in, steps_by}
 
 abbrev same_numbers : List ℕ → List ℕ → Bool
 same_numbers [] [] = true

@@ -3,14 +3,14 @@ use Rattle.std.proofs.Common.{refl, ◌≡◌, ◌≢◌, List, [], ◌++◌, Co
 use Rattle.std.specs.Bool.{IsTrue}
 use Rattle.std.specs.Option.{is_some}
 use Rattle.dob_pieces.specs.declared.setup.Setup.{Setup}
+use Rattle.dob_pieces.proofs.Lists.{none_in_empty, rising-append, rising-pairs}
 use Rattle.dob_moves.specs.declared.choice.Move.{Move}
 use Rattle.dob_moves.specs.declared.search.Aim.TheVariants.{AtLion, Elsewhere}
 use Rattle.dob_moves.specs.declared.choice.Move.TheVariants.{Step, Put}
 use Rattle.dob_moves.specs.declared.outlook.Status.{Status}
 use Rattle.dob_moves.specs.declared.outlook.Status.TheVariants.{Caught, Tried, Stuck, Open}
 use Rattle.std.proofs.lemmas.List.Elements.{Contains-append_left, Contains-append_right, Contains-append_cases}
-use Rattle.dob_moves.proofs.Runs.{none_in_empty, rising-append, rising-pairs}
-use Rattle.dob_moves.specs.Moves.{CanGo}
+use Rattle.dob_moves.specs.Moves.{CanGo, place}
 use Rattle.dob_moves.specs.Statuses.{CanCatch, HasStatus, AreMoves, IsFirstCatch}
 use Rattle.dob_moves.specs.Walks.{first, all_steps, all_drops}
 use Rattle.dob_moves.proofs.Firsts.{none_from}
@@ -49,7 +49,7 @@ open_moves : (p : Setup) → length p.board ≡ 12 → HasStatus p Open → AreM
 open_moves p len h = record {
   sound = λ m here. (h, listed_goes p m here);
   whole = λ m is_open goes. move_listed p len m goes;
-  ordered = rising-pairs 0 180 (all_steps Elsewhere p ++ all_drops p) (rising-append 0 144 180 (all_steps Elsewhere p) (all_drops p) (steps_rising Elsewhere p) (drops_rising p));
+  ordered = rising-pairs place 0 180 (all_steps Elsewhere p ++ all_drops p) (rising-append place 0 144 180 (all_steps Elsewhere p) (all_drops p) (steps_rising Elsewhere p) (drops_rising p));
 }
 
 -- the steps and then the drops are the moves of an open position
@@ -71,5 +71,5 @@ other_answer p s h n none e =
     (record {
       sound = λ m here. absurd (none_in_empty m here);
       whole = λ m is_open goes. absurd (not_open p s h n is_open);
-      ordered = rising-pairs 0 0 [] (omega arith);
+      ordered = rising-pairs place 0 0 [] (omega arith);
     })

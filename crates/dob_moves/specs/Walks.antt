@@ -1,5 +1,5 @@
 -- The order in which steps and drops are looked for: by square, by direction, by kind in hand.
-use Rattle.std.specs.Prelude.{ℕ, zero, suc, ◌+◌, ◌-◌, ◌*◌, ◌/◌, ◌%◌, ◌&&◌, nat_lt, Bool, true, false, not, cond, List, [], ◌∷◌, ◌++◌, Option, Some, None, option_to_list}
+use Rattle.std.specs.Prelude.{ℕ, ◌+◌, ◌-◌, ◌*◌, ◌/◌, ◌%◌, ◌&&◌, nat_lt, Bool, true, false, not, cond, List, [], ◌∷◌, ◌++◌, Option, Some, None, option_to_list}
 use Rattle.std.specs.List.{filter_map}
 use Rattle.std.specs.Option.{is_some}
 use Rattle.dob_pieces.specs.declared.kind.Kind.{Kind}
@@ -9,6 +9,7 @@ use Rattle.dob_pieces.specs.declared.kind.HandKind.TheVariants as hand
 use Rattle.dob_pieces.specs.declared.kind.Side.{Side}
 use Rattle.dob_pieces.specs.declared.kind.Side.TheVariants.{Mover, Enemy}
 use Rattle.dob_pieces.specs.declared.setup.Setup.{Setup}
+use Rattle.dob_pieces.specs.Lists.{each_below}
 use Rattle.dob_pieces.specs.Squares.{column, row}
 use Rattle.dob_pieces.specs.Pieces.{is_lion}
 use Rattle.dob_pieces.specs.Setups.{Cell, at, held}
@@ -17,11 +18,6 @@ use Rattle.dob_moves.specs.declared.choice.Move.TheVariants.{Step, Put}
 use Rattle.dob_moves.specs.declared.search.Aim.{Aim}
 use Rattle.dob_moves.specs.declared.search.Aim.TheVariants.{AtLion, Elsewhere}
 use Rattle.dob_moves.specs.Moves.{grows_at}
-
--- what g gives below n, in order
-abbrev pub each_below : (ℕ → List Move) → ℕ → List Move
-each_below g zero = []
-each_below g (suc n) = each_below g n ++ g n
 
 -- the first of the moves, if there is one
 abbrev pub first : List Move → Option Move

@@ -1,3 +1,4 @@
+pub mod Lists
 pub mod Boards
 pub mod Legality
 pub mod Symmetries

@@ -1,3 +1,4 @@
+pub mod Lists
 pub mod Squares
 pub mod Pieces
 pub mod Setups

@@ -11,12 +11,13 @@ use Rattle.dob_pieces.specs.declared.piece_set.PieceSet.{PieceSet}
 use Rattle.dob_pieces.specs.declared.setup.Setup.{Setup}
 use Rattle.dob_pieces.specs.Setups.{mirrored}
 use Rattle.dob_pieces.proofs.Symmetries.{mirrored-mirrored}
+use Rattle.dob_pieces.proofs.Lists.{cons_cases}
 use Rattle.dob_rank.specs.Order.{IsPositionOf, HasCount, Before, IsFirstOfTwo, IsRepresentative, HasClass}
 use Rattle.dob_rank.specs.Numbers.{rank_of}
 use Rattle.dob_rank.proofs.Numbering.{rank_of-rises, rank_of-same, Before-from_rank}
 use Rattle.dob_unmove.specs.Unmoves.{IsNumbering}
 use Rattle.dob_unmove.specs.Classes.{IsFirstIn}
-use Rattle.dob_unmove.proofs.Counting.{cons_cases, pairs-head, pairs-tail}
+use Rattle.dob_unmove.proofs.Counting.{pairs-head, pairs-tail}
 
 -- ---- lists without repeats
 

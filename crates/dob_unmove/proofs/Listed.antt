@@ -1,7 +1,7 @@
 -- The list of the ways has each way that can undo the last move, once, and no other.
-use Rattle.std.proofs.Common.{◌≡◌, ℕ, zero, suc, ◌<◌, ◌⊎◌, ◌&&◌, Bool, true, false, cond, not, List, [], ◌∷◌, ◌++◌, Option, Some, None, length, get_or, refl, sym, ap, ◌∙◌, subst, inl, inr, arith, Contains}
+use Rattle.std.proofs.Common.{◌≡◌, ℕ, ◌<◌, ◌&&◌, Bool, true, not, List, [], ◌∷◌, ◌++◌, Option, Some, None, length, refl, ap, ◌∙◌, subst, inl, inr, Contains}
 use Rattle.std.specs.Option.{is_some}
-use Rattle.std.proofs.lemmas.Bool.{cases_lt, and_parts, ltb-true, lt-ltb}
+use Rattle.std.proofs.lemmas.Bool.{and_parts, ltb-true, lt-ltb}
 use Rattle.std.proofs.lemmas.List.Elements.{Contains-append_left, Contains-append_right, Contains-append_cases}
 use Rattle.dob_pieces.specs.declared.kind.Kind.{Kind}
 use Rattle.dob_pieces.specs.declared.kind.Kind.TheVariants.{Lion, Giraffe, Elephant, Chick, Hen}
@@ -13,11 +13,12 @@ use Rattle.dob_pieces.specs.declared.hand.Hand.{Hand}
 use Rattle.dob_pieces.specs.declared.setup.Setup.{Setup}
 use Rattle.dob_pieces.specs.Pieces.{leads, kind_in_hand, kind_on_board}
 use Rattle.dob_pieces.specs.Setups.{Cell, at, held, piece_of}
+use Rattle.dob_pieces.proofs.Lists.{none_in_empty, head_in, cons_cases, cond_sound, cond_whole, each_sound, each_whole}
 use Rattle.dob_pieces.proofs.Boards.{within-from_piece, leads-to_board}
 use Rattle.dob_unmove.specs.declared.undo.Undo.{Undo}
 use Rattle.dob_unmove.specs.declared.undo.Undo.TheVariants.{Unstep, Unput}
 use Rattle.dob_unmove.specs.Undoes.{arrives_at, CanGiveBack, CanUnstep, CanUndo}
-use Rattle.dob_unmove.specs.Walks.{each_below, if_so, is_kind, is_movers, stands, holds_any, holds_caught, uncatch, unsteps_between, unsteps_from, unsteps, unputs, undoes_at, undoes}
+use Rattle.dob_unmove.specs.Walks.{if_so, is_kind, is_movers, stands, holds_any, holds_caught, uncatch, unsteps_between, unsteps_from, unsteps, unputs, undoes_at, undoes}
 
 -- ---- the tests
 
@@ -86,49 +87,12 @@ empty-true : (cell : Cell) → not (is_some cell) ≡ true → cell ≡ None
 empty-true None e = refl
 empty-true (Some piece) e = cc
 
--- ---- lists made piece by piece
-
-pub none_in_empty : (u : Undo) → Contains [] u → ⊥
-none_in_empty u h = absurd (omega (arith, h.1))
-
-pub each_sound : (g : ℕ → List Undo) (n : ℕ) (u : Undo) → Contains (each_below g n) u → (k : ℕ) × (k < n) × Contains (g k) u
-each_sound g zero u h = absurd (none_in_empty u h)
-each_sound g (suc n) u h =
-    elim (Contains-append_cases (each_below g n) (g n) u h) [
-      | inl before ↦ let w = each_sound g n u before in (w.0, omega (arith, w.1), w.2)
-      | inr here ↦ (n, omega arith, here)
-    ]
-
-pub each_whole : (g : ℕ → List Undo) (n k : ℕ) (u : Undo) → k < n → Contains (g k) u → Contains (each_below g n) u
-each_whole g zero k u h here = absurd (omega arith)
-each_whole g (suc n) k u h here =
-    elim (cases_lt k n) [
-      | inl lt ↦ Contains-append_left (each_below g n) (g n) u (each_whole g n k u lt here)
-      | inr ge ↦
-          let e : k ≡ n = omega arith in
-          Contains-append_right (each_below g n) (g n) u (subst (λ (i : ℕ). Contains (g i) u) e here)
-    ]
-
-pub head_in : (u : Undo) (us : List Undo) → Contains (u ∷ us) u
-head_in u us = (0, omega arith, refl)
-
-pub cons_sound : (x : Undo) (xs : List Undo) (u : Undo) → Contains (x ∷ xs) u → (x ≡ u) ⊎ Contains xs u
-cons_sound x xs u h = cases h.0 h.1 h.2 where
-  cases : (k : ℕ) → k < suc (length xs) → get_or (x ∷ xs) k u ≡ u → (x ≡ u) ⊎ Contains xs u
-  cases zero lt e = inl e
-  cases (suc k) lt e = inr (k, omega arith, e)
-
-cond_sound : (b : Bool) (xs : List Undo) (u : Undo) → Contains (cond b xs []) u → (b ≡ true) × Contains xs u
-cond_sound true xs u h = (refl, h)
-cond_sound false xs u h = absurd (none_in_empty u h)
-
-cond_whole : (b : Bool) (xs : List Undo) (u : Undo) → b ≡ true → Contains xs u → Contains (cond b xs []) u
-cond_whole b xs u e h = subst (λ (v : Bool). Contains (cond v xs []) u) (sym e) h
+-- ---- the way alone, if a test is met
 
 if_so_sound : (b : Bool) (x u : Undo) → Contains (if_so b x) u → (b ≡ true) × (x ≡ u)
 if_so_sound b x u h =
     let found = cond_sound b (x ∷ []) u h in
-    elim (cons_sound x [] u found.1) [ inl e ↦ (found.0, e) | inr none ↦ absurd (none_in_empty u none) ]
+    elim (cons_cases x [] u found.1) [ inl e ↦ (found.0, e) | inr none ↦ absurd (none_in_empty u none) ]
 
 if_so_whole : (b : Bool) (x : Undo) → b ≡ true → Contains (if_so b x) x
 if_so_whole b x e = cond_whole b (x ∷ []) x e (head_in x [])
@@ -192,7 +156,7 @@ module _ (t : Setup) where
 
   between_sound : (kind : Kind) (from to : ℕ) (u : Undo) → CanUnstep t kind from to None → Contains (unsteps_between t kind from to) u → CanUndo t u
   between_sound kind from to u step h =
-      elim (cons_sound _ _ u h) [
+      elim (cons_cases _ _ u h) [
         | inl e ↦ subst (CanUndo t) e step
         | inr rest ↦
             append_sound _ _ u rest (uncatch_sound kind from to Giraffe u step)

@@ -1,15 +1,15 @@
 -- The list of the ways has no way twice: their places in the walk ascend.
-use Rattle.std.proofs.Common.{◌≡◌, ◌≢◌, ℕ, zero, suc, ◌+◌, ◌*◌, ◌<◌, ◌≤◌, Bool, true, false, cond, List, [], ◌∷◌, ◌++◌, Option, Some, None, sym, ap, arith, All, AllPairs}
-use Rattle.std.proofs.lemmas.List.Elements.{All-nil, All-cons}
-use Rattle.std.proofs.lemmas.List.Kept.{AllPairs-cons}
+use Rattle.std.proofs.Common.{◌≡◌, ◌≢◌, ℕ, suc, ◌+◌, ◌*◌, ◌<◌, ◌≤◌, List, [], ◌∷◌, ◌++◌, Option, Some, None, sym, ap, arith, AllPairs}
 use Rattle.dob_pieces.specs.declared.kind.Kind.{Kind}
 use Rattle.dob_pieces.specs.declared.kind.Kind.TheVariants.{Lion, Giraffe, Elephant, Chick, Hen}
 use Rattle.dob_pieces.specs.declared.kind.HandKind.{HandKind}
 use Rattle.dob_pieces.specs.declared.kind.HandKind.TheVariants as hand
 use Rattle.dob_pieces.specs.declared.setup.Setup.{Setup}
+use Rattle.dob_pieces.specs.Lists.{each_below}
+use Rattle.dob_pieces.proofs.Lists.{Rising, rising-lower, rising-append, rising-cond, rising-each, rising-pairs}
 use Rattle.dob_unmove.specs.declared.undo.Undo.{Undo}
 use Rattle.dob_unmove.specs.declared.undo.Undo.TheVariants.{Unstep, Unput}
-use Rattle.dob_unmove.specs.Walks.{each_below, uncatch, unsteps_between, unsteps_from, unsteps, unputs, undoes_at, undoes}
+use Rattle.dob_unmove.specs.Walks.{uncatch, unsteps_between, unsteps_from, unsteps, unputs, undoes_at, undoes}
 
 -- ---- the place of a way in the walk
 
@@ -33,58 +33,27 @@ place : Undo → ℕ
 place (Unstep kind from to caught) = 1000 * to + (100 * kind_place kind + (5 * from + caught_place caught))
 place (Unput kind to) = 1000 * to + (500 + hand_place kind)
 
--- the places ascend from low on, and end below high
-abbrev Rising : ℕ → ℕ → List Undo → Type 0
-Rising low high [] = low ≤ high
-Rising low high (u ∷ us) = (low ≤ place u) × Rising (suc (place u)) high us
-
-rising-lower : (low least high : ℕ) (us : List Undo) → low ≤ least → Rising least high us → Rising low high us
-rising-lower low least high [] h r = omega arith
-rising-lower low least high (u ∷ us) h r = (omega (arith, r.0), r.1)
-
-rising-append : (low mid high : ℕ) (xs ys : List Undo) → Rising low mid xs → Rising mid high ys → Rising low high (xs ++ ys)
-rising-append low mid high [] ys r s = rising-lower low mid high ys r s
-rising-append low mid high (x ∷ xs) ys r s = (r.0, rising-append (suc (place x)) mid high xs ys r.1 s)
-
-rising-higher : (low high more : ℕ) (us : List Undo) → high ≤ more → Rising low high us → Rising low more us
+rising-higher : (low high more : ℕ) (us : List Undo) → high ≤ more → Rising place low high us → Rising place low more us
 rising-higher low high more [] h r = omega arith
 rising-higher low high more (u ∷ us) h r = (r.0, rising-higher (suc (place u)) high more us h r.1)
 
-rising-cond : (b : Bool) (low high : ℕ) (us : List Undo) → low ≤ high → Rising low high us → Rising low high (cond b us [])
-rising-cond true low high us h r = r
-rising-cond false low high us h r = h
-
-rising-one : (u : Undo) (low : ℕ) → place u ≡ low → Rising low (suc low) (u ∷ [])
+rising-one : (u : Undo) (low : ℕ) → place u ≡ low → Rising place low (suc low) (u ∷ [])
 rising-one u low e = (omega (arith, e), omega (arith, e))
-
-rising-each : (g : ℕ → List Undo) (b : ℕ → ℕ) (n : ℕ) → ((k : ℕ) → k < n → Rising (b k) (b (suc k)) (g k)) → Rising (b 0) (b n) (each_below g n)
-rising-each g b zero h = omega arith
-rising-each g b (suc n) h =
-    rising-append (b 0) (b n) (b (suc n)) (each_below g n) (g n) (rising-each g b n (λ k lt. h k (omega arith))) (h n (omega arith))
-
-rising-after : (low high : ℕ) (us : List Undo) → Rising low high us → All (λ u. low ≤ place u) us
-rising-after low high [] r = All-nil (λ (u : Undo). low ≤ place u)
-rising-after low high (u ∷ us) r =
-    All-cons (λ (x : Undo). low ≤ place x) u us r.0 (rising-after low high us (rising-lower low (suc (place u)) high us (omega (arith, r.0)) r.1))
 
 apart-place : (u v : Undo) → place u < place v → u ≢ v
 apart-place u v lt e = let same : place u ≡ place v = ap place e in absurd (omega arith)
 
--- so no way stands there twice
-rising-once : (low high : ℕ) (us : List Undo) → Rising low high us → AllPairs (λ u v. u ≢ v) us
-rising-once low high [] r = λ i j d h k. absurd (omega (arith, k))
-rising-once low high (u ∷ us) r =
-    AllPairs-cons (λ (a b : Undo). a ≢ b) u us
-    (λ k d h. apart-place u _ (omega (arith, rising-after (suc (place u)) high us r.1 k d h)))
-    (rising-once (suc (place u)) high us r.1)
+-- no way stands twice in a list whose places ascend
+rising-once : (low high : ℕ) (us : List Undo) → Rising place low high us → AllPairs (λ u v. u ≢ v) us
+rising-once low high us r = λ i j d before within. apart-place _ _ (rising-pairs place low high us r i j d before within)
 
 -- ---- the places in the walk
 
 module _ (t : Setup) where
-  rising-uncatch : (kind : Kind) (from to : ℕ) (caught : Kind) (low : ℕ) → place (Unstep kind from to (Some caught)) ≡ low → Rising low (suc low) (uncatch t kind from to caught)
-  rising-uncatch kind from to caught low e = rising-cond _ low (suc low) (Unstep kind from to (Some caught) ∷ []) (omega arith) (rising-one (Unstep kind from to (Some caught)) low e)
+  rising-uncatch : (kind : Kind) (from to : ℕ) (caught : Kind) (low : ℕ) → place (Unstep kind from to (Some caught)) ≡ low → Rising place low (suc low) (uncatch t kind from to caught)
+  rising-uncatch kind from to caught low e = rising-cond place _ low (suc low) (Unstep kind from to (Some caught) ∷ []) (omega arith) (rising-one (Unstep kind from to (Some caught)) low e)
 
-  rising-between : (kind : Kind) (from to low : ℕ) → low ≡ 1000 * to + (100 * kind_place kind + 5 * from) → Rising low (low + 5) (unsteps_between t kind from to)
+  rising-between : (kind : Kind) (from to low : ℕ) → low ≡ 1000 * to + (100 * kind_place kind + 5 * from) → Rising place low (low + 5) (unsteps_between t kind from to)
   unfolding place caught_place kind_place
   rising-between kind from to low e =
       let first = rising-uncatch kind from to Giraffe (low + 1) (omega arith) in
@@ -95,28 +64,28 @@ module _ (t : Setup) where
       let elephant = uncatch t kind from to Elephant in
       let chick = uncatch t kind from to Chick in
       let hen = uncatch t kind from to Hen in
-      let rest = rising-append (low + 3) (low + 4) (low + 5) chick hen (rising-higher _ _ _ chick (omega arith) third) (rising-higher _ _ _ hen (omega arith) last) in
-      let more = rising-append (low + 2) (low + 3) (low + 5) elephant (chick ++ hen) (rising-higher _ _ _ elephant (omega arith) second) rest in
-      let all = rising-append (low + 1) (low + 2) (low + 5) giraffe (elephant ++ (chick ++ hen)) (rising-higher _ _ _ giraffe (omega arith) first) more in
-      (omega arith, rising-lower _ (low + 1) (low + 5) _ (omega arith) all)
+      let rest = rising-append place (low + 3) (low + 4) (low + 5) chick hen (rising-higher _ _ _ chick (omega arith) third) (rising-higher _ _ _ hen (omega arith) last) in
+      let more = rising-append place (low + 2) (low + 3) (low + 5) elephant (chick ++ hen) (rising-higher _ _ _ elephant (omega arith) second) rest in
+      let all = rising-append place (low + 1) (low + 2) (low + 5) giraffe (elephant ++ (chick ++ hen)) (rising-higher _ _ _ giraffe (omega arith) first) more in
+      (omega arith, rising-lower place _ (low + 1) (low + 5) _ (omega arith) all)
 
-  rising-from : (kind : Kind) (from to low : ℕ) → low ≡ 1000 * to + (100 * kind_place kind + 5 * from) → Rising low (low + 5) (unsteps_from t kind to from)
+  rising-from : (kind : Kind) (from to low : ℕ) → low ≡ 1000 * to + (100 * kind_place kind + 5 * from) → Rising place low (low + 5) (unsteps_from t kind to from)
   unfolding unsteps_from
-  rising-from kind from to low e = rising-cond _ low (low + 5) (unsteps_between t kind from to) (omega arith) (rising-between kind from to low e)
+  rising-from kind from to low e = rising-cond place _ low (low + 5) (unsteps_between t kind from to) (omega arith) (rising-between kind from to low e)
 
-  rising-unsteps : (kind : Kind) (to low : ℕ) → low ≡ 1000 * to + 100 * kind_place kind → Rising low (low + 60) (unsteps t kind to)
+  rising-unsteps : (kind : Kind) (to low : ℕ) → low ≡ 1000 * to + 100 * kind_place kind → Rising place low (low + 60) (unsteps t kind to)
   unfolding unsteps
   rising-unsteps kind to low e =
-      let step : (k : ℕ) → k < 12 → Rising (low + 5 * k) (low + 5 * suc k) (unsteps_from t kind to k)
+      let step : (k : ℕ) → k < 12 → Rising place (low + 5 * k) (low + 5 * suc k) (unsteps_from t kind to k)
       = λ k lt. rising-higher _ _ _ _ (omega arith) (rising-from kind k to (low + 5 * k) (omega arith)) in
-      rising-cond _ low (low + 60) (each_below (unsteps_from t kind to) 12) (omega arith)
-      (rising-lower _ _ _ _ (omega arith) (rising-each (unsteps_from t kind to) (λ k. low + 5 * k) 12 step))
+      rising-cond place _ low (low + 60) (each_below (unsteps_from t kind to) 12) (omega arith)
+      (rising-lower place _ _ _ _ (omega arith) (rising-each place (unsteps_from t kind to) (λ k. low + 5 * k) 12 step))
 
-  rising-unputs : (kind : HandKind) (to low : ℕ) → low ≡ 1000 * to + (500 + hand_place kind) → Rising low (suc low) (unputs t kind to)
+  rising-unputs : (kind : HandKind) (to low : ℕ) → low ≡ 1000 * to + (500 + hand_place kind) → Rising place low (suc low) (unputs t kind to)
   unfolding unputs place
-  rising-unputs kind to low e = rising-cond _ low (suc low) (Unput kind to ∷ []) (omega arith) (rising-one (Unput kind to) low (sym e))
+  rising-unputs kind to low e = rising-cond place _ low (suc low) (Unput kind to ∷ []) (omega arith) (rising-one (Unput kind to) low (sym e))
 
-  rising-at : (to : ℕ) → Rising (1000 * to) (1000 * suc to) (undoes_at t to)
+  rising-at : (to : ℕ) → Rising place (1000 * to) (1000 * suc to) (undoes_at t to)
   unfolding undoes_at kind_place hand_place
   rising-at to =
       let b = 1000 * to in
@@ -129,14 +98,14 @@ module _ (t : Setup) where
       let put_elephant = rising-unputs hand.Elephant to (b + 501) (omega arith) in
       let put_giraffe = rising-unputs hand.Giraffe to (b + 502) (omega arith) in
       let eighth = rising-higher _ _ (1000 * suc to) _ (omega arith) put_giraffe in
-      let seventh = rising-append _ _ _ _ _ (rising-higher _ _ (b + 502) _ (omega arith) put_elephant) eighth in
-      let sixth = rising-append _ _ _ _ _ (rising-higher _ _ (b + 501) _ (omega arith) put_chick) seventh in
-      let fifth = rising-append _ _ _ _ _ (rising-higher _ _ (b + 500) _ (omega arith) hen) sixth in
-      let fourth = rising-append _ _ _ _ _ (rising-higher _ _ (b + 400) _ (omega arith) chick) fifth in
-      let third = rising-append _ _ _ _ _ (rising-higher _ _ (b + 300) _ (omega arith) elephant) fourth in
-      let second = rising-append _ _ _ _ _ (rising-higher _ _ (b + 200) _ (omega arith) giraffe) third in
-      rising-append _ _ _ _ _ (rising-higher _ _ (b + 100) _ (omega arith) lion) second
+      let seventh = rising-append place _ _ _ _ _ (rising-higher _ _ (b + 502) _ (omega arith) put_elephant) eighth in
+      let sixth = rising-append place _ _ _ _ _ (rising-higher _ _ (b + 501) _ (omega arith) put_chick) seventh in
+      let fifth = rising-append place _ _ _ _ _ (rising-higher _ _ (b + 500) _ (omega arith) hen) sixth in
+      let fourth = rising-append place _ _ _ _ _ (rising-higher _ _ (b + 400) _ (omega arith) chick) fifth in
+      let third = rising-append place _ _ _ _ _ (rising-higher _ _ (b + 300) _ (omega arith) elephant) fourth in
+      let second = rising-append place _ _ _ _ _ (rising-higher _ _ (b + 200) _ (omega arith) giraffe) third in
+      rising-append place _ _ _ _ _ (rising-higher _ _ (b + 100) _ (omega arith) lion) second
 
   pub undoes_once : AllPairs (λ u v. u ≢ v) (undoes t)
   unfolding undoes
-  undoes_once = rising-once _ _ (each_below (undoes_at t) 12) (rising-each (undoes_at t) (λ k. 1000 * k) 12 (λ k lt. rising-at k))
+  undoes_once = rising-once _ _ (each_below (undoes_at t) 12) (rising-each place (undoes_at t) (λ k. 1000 * k) 12 (λ k lt. rising-at k))

@@ -1,7 +1,8 @@
 -- Ways taken in turn: nothing, one, and one list after the other.
 use Rattle.std.proofs.Common.{ℕ, ◌+◌, List, [], ◌∷◌, ◌++◌, refl, sym, subst, add-one}
+use Rattle.dob_pieces.specs.Lists.{each_below}
 use Rattle.dob_unmove.specs.declared.undo.Undo.{Undo}
-use Rattle.dob_unmove.specs.Walks.{TakesAll, each_below}
+use Rattle.dob_unmove.specs.Walks.{TakesAll}
 
 pub takes_none : {S : Type 0} (R : S → Undo → S → Type 0) (a : S) → TakesAll R a [] a
 takes_none R a = refl

@@ -1,5 +1,5 @@
 -- The order in which the ways to take the last move back are gone through, and what is done with each.
-use Rattle.std.specs.Prelude.{◌≡◌, ℕ, zero, suc, ◌&&◌, nat_lt, Bool, true, false, cond, not, List, [], ◌∷◌, ◌++◌, Option, Some, None}
+use Rattle.std.specs.Prelude.{◌≡◌, ℕ, ◌&&◌, nat_lt, Bool, true, false, cond, not, List, [], ◌∷◌, ◌++◌, Option, Some, None}
 use Rattle.std.specs.Option.{is_some}
 use Rattle.dob_pieces.specs.declared.kind.Kind.{Kind}
 use Rattle.dob_pieces.specs.declared.kind.Kind.TheVariants.{Lion, Giraffe, Elephant, Chick, Hen}
@@ -9,6 +9,7 @@ use Rattle.dob_pieces.specs.declared.kind.Side.{Side}
 use Rattle.dob_pieces.specs.declared.kind.Side.TheVariants.{Mover, Enemy}
 use Rattle.dob_pieces.specs.declared.hand.Hand.{Hand}
 use Rattle.dob_pieces.specs.declared.setup.Setup.{Setup}
+use Rattle.dob_pieces.specs.Lists.{each_below}
 use Rattle.dob_pieces.specs.Pieces.{leads, kind_in_hand, kind_on_board}
 use Rattle.dob_pieces.specs.Setups.{Cell, at, held}
 use Rattle.dob_unmove.specs.declared.undo.Undo.{Undo}
@@ -19,11 +20,6 @@ use Rattle.dob_unmove.specs.Undoes.{arrives_at}
 abbrev pub TakesAll : {S : Type 0} → (S → Undo → S → Type 0) → S → List Undo → S → Type 0
 TakesAll R old [] new = old ≡ new
 TakesAll {S} R old (undo ∷ undoes) new = (next : S) × R old undo next × TakesAll R next undoes new
-
--- what g gives below n, in order
-abbrev pub each_below : (ℕ → List Undo) → ℕ → List Undo
-each_below g zero = []
-each_below g (suc n) = each_below g n ++ g n
 
 -- the way alone, if the test is met
 abbrev pub if_so : Bool → Undo → List Undo

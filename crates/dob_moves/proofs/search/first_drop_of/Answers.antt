@@ -4,8 +4,9 @@ use Rattle.std.proofs.lemmas.Bool.{lt-ltb}
 use Rattle.std.specs.Option.{is_some}
 use Rattle.dob_pieces.specs.declared.kind.HandKind.{HandKind}
 use Rattle.dob_pieces.specs.declared.setup.Setup.{Setup}
+use Rattle.dob_pieces.specs.Lists.{each_below}
 use Rattle.dob_pieces.specs.Setups.{held}
-use Rattle.dob_moves.specs.Walks.{first, each_below, put_on, drops_of}
+use Rattle.dob_moves.specs.Walks.{first, put_on, drops_of}
 use Rattle.dob_moves.proofs.Firsts.{below_found, first-option}
 use Rattle.dob_moves.proofs.search.first_drop_of.Goals as goal
 

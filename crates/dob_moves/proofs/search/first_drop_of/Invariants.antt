@@ -1,6 +1,7 @@
 -- Nothing was found so far.
 use Rattle.std.proofs.Common.{◌≡◌, None, option_to_list}
-use Rattle.dob_moves.specs.Walks.{first, each_below, put_on}
+use Rattle.dob_pieces.specs.Lists.{each_below}
+use Rattle.dob_moves.specs.Walks.{first, put_on}
 use Rattle.dob_moves.proofs.search.first_drop_of.Given as goal
 
 abbrev pub invariant-loop-index : goal.invariant-loop-index
