@@ -20,3 +20,5 @@ pub mod Words
 pub mod ClassNumbers
 pub mod Counted
 pub mod Representatives
+pub mod Lions
+pub mod RunPlaces

@@ -2,5 +2,6 @@ pub mod Order
 pub mod Numbers
 pub mod Marks
 pub mod ClassRows
+pub mod Runs
 pub mod Laws
 pub mod Faults

@@ -15,6 +15,7 @@ pub mod laws;
 mod layers;
 mod radix;
 mod ranks;
+mod runs;
 
 pub use classes::Classes;
 pub use fault::Fault;
