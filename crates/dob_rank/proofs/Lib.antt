@@ -22,3 +22,6 @@ pub mod Counted
 pub mod Representatives
 pub mod Lions
 pub mod RunPlaces
+pub mod RunMarks
+pub mod RunTables
+pub mod BlockTables

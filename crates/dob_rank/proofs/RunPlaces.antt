@@ -1,10 +1,11 @@
 -- A place in a block is a run and a place in that run, and the lions of a run compare its positions with their mirror
 -- images.
-use Rattle.std.proofs.Common.{◌≡◌, ℕ, zero, suc, ◌+◌, ◌-◌, ◌*◌, ◌/◌, ◌%◌, ◌<◌, ◌≤◌, Bool, true, false, cond, eqb, List, [], ◌∷◌, ◌++◌, length, get_or, map, refl, sym, ap, ◌∙◌, subst, inl, inr, arith}
-use Rattle.std.proofs.lemmas.Bool.{cases_Bool, both_ways}
+use Rattle.std.proofs.Common.{◌≡◌, ℕ, zero, suc, ◌+◌, ◌-◌, ◌*◌, ◌/◌, ◌%◌, ◌<◌, ◌≤◌, Bool, true, false, cond, eqb, List, [], ◌∷◌, ◌++◌, length, get_or, take, drop, map, refl, sym, ap, ◌∙◌, subst, inl, inr, arith}
+use Rattle.std.specs.List.{All}
+use Rattle.std.proofs.lemmas.Bool.{cases_Bool, cases_lt}
 use Rattle.std.proofs.lemmas.List.{length-map}
 use Rattle.std.proofs.lemmas.Nat.{div-mul-add}
-use Rattle.std.proofs.Math.Nat.{mul_assoc, add-mul}
+use Rattle.std.proofs.Math.Nat.{mul_assoc, add-mul, mul-pos, mul-le-mul}
 use Rattle.dob_pieces.specs.declared.piece_set.PieceSet.{PieceSet}
 use Rattle.dob_pieces.specs.declared.setup.Setup.{Setup}
 use Rattle.dob_pieces.specs.Setups.{mirrored}
@@ -13,6 +14,7 @@ use Rattle.dob_rank.specs.Order.{IsPositionOf}
 use Rattle.dob_rank.specs.Numbers.{layer, count, choice, forms_number, product, number_of, digits_of, HasDigits, sum_below, block_bases, bases_by, on_board, digits, block_of, block_size, size_of, rank_of, setup_in, nth}
 use Rattle.dob_rank.specs.Marks.{is_first, marked}
 use Rattle.dob_rank.specs.Runs.{run_bases, local_bases, runs_in, run_size, run_start, lions_of, run_kind}
+use Rattle.dob_rank.proofs.Blocks.{AreBases-by, few_in_block, block_size-small}
 use Rattle.dob_rank.proofs.MixedRadix.{digit_below, number_of-below}
 use Rattle.dob_rank.proofs.Digits.{HasParts, HasParts-from_position, HasDigits-digits}
 use Rattle.dob_rank.proofs.Numbering.{place_of, rank_of-place, block_size-product, on_board-block, HasBlock, HasBlock-setup_in, IsPlace, rank_of-block, rank_of-below, nth-rank_of}
@@ -79,7 +81,7 @@ run_of-lions : (set : PieceSet) (s : Setup) → run_of set s ≡ hand_of set s *
 unfolding run_of hand_of
 run_of-lions set s =
     let split : number_of (run_bases set (on_board s)) (hand_digits s ++ lions_digits s)
-        ≡ number_of (hand_bases set (on_board s)) (hand_digits s) * 99 + number_of (9 ∷ 11 ∷ []) (lions_digits s) =
+    ≡ number_of (hand_bases set (on_board s)) (hand_digits s) * 99 + number_of (9 ∷ 11 ∷ []) (lions_digits s) =
     number_of-append (hand_bases set (on_board s)) (9 ∷ 11 ∷ []) (hand_digits s) (lions_digits s) refl in
     omega (arith, split)
 
@@ -173,7 +175,7 @@ pub record StandsIn (set : PieceSet) (block run local : ℕ) (s : Setup) : Type 
   pub rank_is : rank_of set s ≡ run_start set block run + local
   pub lions_are : lions_of s ≡ run % 99
 
-block_size-runs : (set : PieceSet) (block : ℕ) → block_size set block ≡ runs_in set block * run_size set block
+pub block_size-runs : (set : PieceSet) (block : ℕ) → block_size set block ≡ runs_in set block * run_size set block
 unfolding runs_in run_size
 block_size-runs set block =
     let ob = digits_of (block_bases set) block in
@@ -194,7 +196,7 @@ place_in_run set block run local h =
     let below = digit_below run (runs_in set block) (run_size set block) local h.run_below h.local_below in
     omega (arith, sizes, below)
 
-run_start-is : (set : PieceSet) (block run : ℕ) → run_start set block run ≡ sum_below (block_size set) block + run * run_size set block
+pub run_start-is : (set : PieceSet) (block run : ℕ) → run_start set block run ≡ sum_below (block_size set) block + run * run_size set block
 unfolding run_start
 run_start-is set block run = refl
 
@@ -261,3 +263,120 @@ marked_later set block run local h kind =
     subst (λ n. local_of (mirrored s) < n) (local_size-mirrored s p.legal.squares) (local_of-below set (mirrored s) (IsPositionOf-mirrored set s p)) in
     let apart = runs_apart (hand_of set s) (image_lions (lions_of s)) (lions_of s) (local_size s) (local_of (mirrored s)) (local_of s) lions below in
     mark_at set block run local s false at.1 (later_by_place set s p (omega (arith, own, image, apart)))
+
+-- ---- how many runs, and of which size
+
+positive_locals : (set : PieceSet) (ob : List ℕ) → All (λ (n : ℕ). 0 < n) (bases_by set ob) → All (λ (n : ℕ). 0 < n) (local_bases ob)
+positive_locals set ob all k other below = all (suc (suc (suc (suc (suc k))))) other (omega arith)
+
+positive_runs : (set : PieceSet) (ob : List ℕ) → All (λ (n : ℕ). 0 < n) (bases_by set ob) → All (λ (n : ℕ). 0 < n) (run_bases set ob)
+positive_runs set ob all zero other below = all 0 other (omega arith)
+positive_runs set ob all (suc zero) other below = all 1 other (omega arith)
+positive_runs set ob all (suc (suc zero)) other below = all 2 other (omega arith)
+positive_runs set ob all (suc (suc (suc zero))) other below = all 3 other (omega arith)
+positive_runs set ob all (suc (suc (suc (suc zero)))) other below = all 4 other (omega arith)
+positive_runs set ob all (suc (suc (suc (suc (suc k))))) other below = absurd (omega arith)
+
+product-positive : (bs : List ℕ) → All (λ (n : ℕ). 0 < n) bs → 0 < product bs
+product-positive [] all = omega arith
+product-positive (b ∷ bs) all =
+    let rest = product-positive bs (λ k other below. all (suc k) other (omega arith)) in
+    let here : 0 < b = all 0 b (omega arith) in
+    mul_positive b (product bs) here rest
+  where
+    mul_positive : (a b : ℕ) → 0 < a → 0 < b → 0 < a * b
+    mul_positive a b p q = mul-pos p q
+
+-- what the code finds of a block's bases
+pub record AreRunBases (set : PieceSet) (block : ℕ) (bs : List ℕ) : Type 0 where
+  pub runs_are : get_or bs 0 0 * (get_or bs 1 0 * (get_or bs 2 0 * (get_or bs 3 0 * get_or bs 4 0))) ≡ runs_in set block
+  pub size_is : product (take 6 (drop 5 bs)) ≡ run_size set block
+  pub positive : All (λ (n : ℕ). 0 < n) (take 6 (drop 5 bs))
+
+pub AreRunBases-by : (set : PieceSet) (block : ℕ) (nums bs : List ℕ) → block < product (block_bases set) → nums ≡ digits_of (block_bases set) block →
+    bs ≡ bases_by set nums → AreRunBases set block bs
+unfolding runs_in run_size
+AreRunBases-by set block nums bs within is bases_are =
+    let whole : bs ≡ bases_by set (digits_of (block_bases set) block) = bases_are ∙ ap (bases_by set) is in
+    let ob = digits_of (block_bases set) block in
+    subst (AreRunBases set block) (sym whole) (record {
+      runs_are = refl;
+      size_is = refl;
+      positive = positive_locals set ob (AreBases-by set ob (bases_by set ob) (few_in_block set block within) refl).positive;
+    })
+
+pub runs_few : (set : PieceSet) (block : ℕ) → block < product (block_bases set) → runs_in set block ≤ 4096
+unfolding runs_in
+runs_few set block within =
+    few_hands (set.chicks - get_or (digits_of (block_bases set) block) 0 0 + 1) (set.elephants - get_or (digits_of (block_bases set) block) 1 0 + 1)
+    (set.giraffes - get_or (digits_of (block_bases set) block) 2 0 + 1)
+    (let few = set.few_chicks in omega arith) (let few = set.few_elephants in omega arith) (let few = set.few_giraffes in omega arith)
+  where
+    few_hands : (a b c : ℕ) → a ≤ 3 → b ≤ 3 → c ≤ 3 → a * (b * (c * (9 * (11 * 1)))) ≤ 4096
+    few_hands a b c p q r =
+        let first : c * 99 ≤ 3 * 99 = omega arith in
+        let second : b * (c * 99) ≤ 3 * (3 * 99) = mul-le-mul q first in
+        let third : a * (b * (c * 99)) ≤ 3 * (3 * (3 * 99)) = mul-le-mul p second in
+        omega (arith, third)
+
+pub run_size-positive : (set : PieceSet) (block : ℕ) (bs : List ℕ) → AreRunBases set block bs → 0 < run_size set block
+run_size-positive set block bs are = subst (λ n. 0 < n) are.size_is (product-positive (take 6 (drop 5 bs)) are.positive)
+
+no_runs : (set : PieceSet) (block : ℕ) → block < product (block_bases set) → runs_in set block ≤ 0 → ⊥
+unfolding runs_in
+no_runs set block within none =
+    let ob = digits_of (block_bases set) block in
+    let all = (AreBases-by set ob (bases_by set ob) (few_in_block set block within) refl).positive in
+    let some : 0 < product (run_bases set ob) = product-positive (run_bases set ob) (positive_runs set ob all) in
+    none_but_some (product (run_bases set ob)) none some
+  where
+    none_but_some : (n : ℕ) → n ≤ 0 → 0 < n → ⊥
+    none_but_some n p q = omega arith
+
+pub run_size-small : (set : PieceSet) (block : ℕ) → block < product (block_bases set) → run_size set block ≤ 68719476736
+run_size-small set block within =
+    let whole = block_size-runs set block in
+    let small = block_size-small set block within in
+    elim (cases_lt 0 (runs_in set block)) [
+      | inl some ↦ (let upto = times_at_least (runs_in set block) (run_size set block) some in omega (arith, whole, small, upto))
+      | inr none ↦ absurd (no_runs set block within none)
+    ]
+  where
+    times_at_least : (a b : ℕ) → 0 < a → b ≤ a * b
+    times_at_least (zero) b h = absurd (omega arith)
+    times_at_least (suc a) b h = omega arith
+
+pub word_size : (n size : ℕ) → n ≡ size → size ≤ 68719476736 → n < 18446744073709551616
+word_size n size is small = omega arith
+
+-- ---- the mark of a place
+
+mark_of_place : (set : PieceSet) (block place : ℕ) (s : Setup) (on : Bool) → HasBlock set block place s → is_first set (rank_of set s) ≡ on →
+    marked set (sum_below (block_size set) block + place) ≡ on
+mark_of_place set block place s on there is =
+    ap (marked set) (sym (rank_of-block set block place s there)) ∙ marked-first_of set (rank_of set s) (rank_of-below set s there.position) ∙ is
+
+pub marked_by_place : (set : PieceSet) (block place other : ℕ) (s t : Setup) → HasBlock set block place s → t ≡ mirrored s → other ≡ place_of set t →
+    place ≤ other → marked set (sum_below (block_size set) block + place) ≡ true
+marked_by_place set block place other s t there image is le =
+    let same : other ≡ place_of set (mirrored s) = is ∙ ap (place_of set) image in
+    let own : place_of set s ≡ place = there.place_is in
+    mark_of_place set block place s true there (first_by_place set s there.position (ordered (place_of set s) (place_of set (mirrored s)) place other own same le))
+  where
+    ordered : (own image place other : ℕ) → own ≡ place → other ≡ image → place ≤ other → own ≤ image
+    ordered own image place other p q le = omega arith
+
+pub unmarked_by_place : (set : PieceSet) (block place other : ℕ) (s t : Setup) → HasBlock set block place s → t ≡ mirrored s → other ≡ place_of set t →
+    other < place → marked set (sum_below (block_size set) block + place) ≡ false
+unmarked_by_place set block place other s t there image is lt =
+    let same : other ≡ place_of set (mirrored s) = is ∙ ap (place_of set) image in
+    let own : place_of set s ≡ place = there.place_is in
+    mark_of_place set block place s false there (later_by_place set s there.position (ordered (place_of set s) (place_of set (mirrored s)) place other own same lt))
+  where
+    ordered : (own image place other : ℕ) → own ≡ place → other ≡ image → other < place → image < own
+    ordered own image place other p q lt = omega arith
+
+pub run_size-some : (set : PieceSet) (block : ℕ) → block < product (block_bases set) → 0 < run_size set block
+run_size-some set block within =
+    let ob = digits_of (block_bases set) block in
+    run_size-positive set block (bases_by set ob) (AreRunBases-by set block ob (bases_by set ob) within refl refl)

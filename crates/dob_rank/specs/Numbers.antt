@@ -202,6 +202,10 @@ setup_in set block place =
 unfoldable pub block_size : PieceSet → ℕ → ℕ
 block_size set block = product (bases_by set (digits_of (block_bases set) block))
 
+-- how many positions stand before that block
+abbrev pub start_of : PieceSet → ℕ → ℕ
+start_of set block = sum_below (block_size set) block
+
 -- the number of the setup's block
 abbrev pub block_of : PieceSet → Setup → ℕ
 block_of set setup = number_of (block_bases set) (on_board setup)

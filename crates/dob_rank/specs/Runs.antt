@@ -3,7 +3,7 @@
 use Rattle.std.specs.Prelude.{ℕ, zero, suc, ◌+◌, ◌-◌, ◌*◌, ◌/◌, ◌%◌, ◌^◌, nat_lt, if◌then◌else◌, List, [], ◌∷◌, map, slice_index}
 use Rattle.dob_pieces.specs.declared.piece_set.PieceSet.{PieceSet}
 use Rattle.dob_pieces.specs.declared.setup.Setup.{Setup}
-use Rattle.dob_rank.specs.Numbers.{product, number_of, digits_of, sum_below, layer, choose, choice, forms_number, block_bases, block_size, on_board}
+use Rattle.dob_rank.specs.Numbers.{product, number_of, digits_of, layer, choose, choice, block_bases, start_of}
 use Rattle.dob_rank.specs.declared.runs.RunKind.{RunKind}
 use Rattle.dob_rank.specs.declared.runs.RunKind.TheVariants.{First, Later, Mixed}
 
@@ -29,7 +29,7 @@ unfoldable pub run_size : PieceSet → ℕ → ℕ
 run_size set block = product (local_bases (digits_of (block_bases set) block))
 
 unfoldable pub run_start : PieceSet → ℕ → ℕ → ℕ
-run_start set block run = sum_below (block_size set) block + run * run_size set block
+run_start set block run = start_of set block + run * run_size set block
 
 -- the number of the lions' squares, below 99
 abbrev pub lions_of : Setup → ℕ

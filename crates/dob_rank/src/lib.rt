@@ -8,6 +8,7 @@
 #![tactic(auto)]
 
 mod block;
+mod block_classes;
 mod classes;
 mod fault;
 mod forms;

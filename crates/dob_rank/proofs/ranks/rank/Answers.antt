@@ -19,8 +19,11 @@ pub overflow_add-result : goal.overflow_add-result
 overflow_add-result c =
     let of_set = c.piece_set-set.ensures in
     let is = IsPositionOf-totals c.piece_set-set.result c.args.position.now.setup c.args.position.now.legal of_set.chicks of_set.elephants of_set.giraffes in
-    omega (arith, rank_small c.piece_set-set.result c.args.position.now.setup c.block_start.result c.place_of-block.result.1 is
-    c.block_start.ensures.bound c.place_of-block.ensures.place)
+    omega (
+      arith,
+      rank_small c.piece_set-set.result c.args.position.now.setup c.block_start.result c.place_of-block.result.1 is
+          c.block_start.ensures.bound c.place_of-block.ensures.place,
+    )
 
 pub returns-clause-count : goal.returns-clause-count
 returns-clause-count c = λ set is_of.
