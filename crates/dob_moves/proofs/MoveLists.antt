@@ -1,5 +1,5 @@
 -- The list of a position's moves has just its moves.
-use Rattle.std.proofs.Common.{◌≡◌, ℕ, zero, suc, ◌<◌, ◌||◌, if◌then◌else◌, Bool, true, false, List, [], ◌++◌, Option, Some, None, length, refl, sym, ap, ◌∙◌, subst, inl, inr, arith, Contains}
+use Rattle.std.proofs.Common.{◌≡◌, ℕ, zero, suc, ◌<◌, ◌||◌, if◌then◌else◌, Bool, true, false, [], ◌++◌, Option, Some, None, length, refl, ap, inl, inr, arith, Contains}
 use Rattle.std.specs.Option.{is_some}
 use Rattle.std.proofs.lemmas.List.Elements.{Contains-append_cases}
 use Rattle.dob_pieces.specs.declared.kind.Kind.{Kind}
@@ -13,7 +13,7 @@ use Rattle.dob_moves.specs.declared.choice.Move.{Move}
 use Rattle.dob_moves.specs.declared.outlook.Status.TheVariants.{Caught, Tried}
 use Rattle.dob_moves.specs.declared.search.Aim.TheVariants.{AtLion, Elsewhere}
 use Rattle.dob_moves.specs.Moves.{CanGo, place}
-use Rattle.dob_moves.specs.Statuses.{CanCatch, HasTried, HasStatus, AreMoves}
+use Rattle.dob_moves.specs.Statuses.{CanCatch, HasTried, AreMoves}
 use Rattle.dob_moves.specs.Walks.{first, all_steps, all_drops}
 use Rattle.dob_moves.specs.MoveLists.{has_tried, moves_of}
 use Rattle.dob_moves.proofs.Reach.{steps_sound, steps_rising, drops_sound, drops_rising}

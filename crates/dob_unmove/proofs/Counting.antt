@@ -33,7 +33,7 @@ pub pairs-tail : {X : Type 0} (R : X → X → Type 0) (x : X) (xs : List X) →
 pairs-tail R x xs h = λ i j d lt within. h (suc i) (suc j) d (omega arith) (omega arith)
 
 -- two lists in each of which all pairs are related, and each of the one with each of the other
-pairs-append : {X : Type 0} (R : X → X → Type 0) (xs ys : List X) → AllPairs R xs → AllPairs R ys
+pub pairs-append : {X : Type 0} (R : X → X → Type 0) (xs ys : List X) → AllPairs R xs → AllPairs R ys
     → ((x y : X) → Contains xs x → Contains ys y → R x y) → AllPairs R (xs ++ ys)
 pairs-append R [] ys p q across = q
 pairs-append {X} R (x ∷ xs) ys p q across =
