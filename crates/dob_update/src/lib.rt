@@ -3,10 +3,12 @@
 #![tactic(auto)]
 
 mod batch;
+mod items;
 mod outbox;
 mod part;
 
 pub use batch::Batch;
+pub use items::{item_for, push_items};
 pub use outbox::Outbox;
 pub use part::Part;
 
