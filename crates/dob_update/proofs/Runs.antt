@@ -1,7 +1,6 @@
 -- Runs of items, and the parts that they belong to.
-use Rattle.std.proofs.Common.{◌≡◌, ℕ, zero, suc, ◌+◌, ◌-◌, ◌^◌, ◌<◌, ◌≤◌, ◌==◌, min, Bool, true, false, cond, List, [], ◌∷◌, ◌++◌, length, take, drop, refl, sym, ap, ◌∙◌, subst, inl, inr, arith, length-append, length-drop, length-take-le}
-use Rattle.std.specs.Prelude.{map}
-use Rattle.std.proofs.lemmas.Bool.{cases_lt, cases_eq, eqb-true, ne_eqb, eq-eqb}
+use Rattle.std.proofs.Common.{◌≡◌, ℕ, ◌+◌, ◌-◌, ◌^◌, ◌<◌, ◌≤◌, ◌==◌, min, Bool, true, false, cond, List, [], ◌∷◌, ◌++◌, length, take, drop, refl, sym, ap, ◌∙◌, subst, inl, inr, arith, length-append, length-drop, length-take-le}
+use Rattle.std.proofs.lemmas.Bool.{cases_lt, cases_eq, eqb-true, eq-eqb}
 use Rattle.std.proofs.lemmas.List.{append_assoc, append-nil, length-map, map-append, take-append-le, drop-append-le, take_min, drop_min, take-take, drop-drop, drop_at}
 use Rattle.dob_pieces.specs.declared.piece_set.PieceSet.{PieceSet}
 use Rattle.dob_share.specs.declared.news.Settlement.{Settlement}
@@ -10,18 +9,21 @@ use Rattle.dob_unmove.specs.Edges.{predecessors}
 use Rattle.dob_update.specs.declared.part.Part.{Part}
 use Rattle.dob_update.specs.Items.{items_of}
 use Rattle.dob_update.specs.Parts.{settlement_of, settlements_of, with_number, total, front, behind, skip_behind, AreParts, AreWhole}
-use Rattle.dob_update.specs.Batches.{BatchView, OutboxView, HasItemIn, EachHasItemIn, items_for, IsBatch, IsOutbox, IsFront, IsCut}
+use Rattle.dob_update.specs.Batches.{BatchView, OutboxView, HasItemIn, items_for, IsBatch, IsOutbox, IsFront, IsCut}
 use Rattle.dob_update.specs.Runs.{count_for, IsRun, IsRest}
-use Rattle.dob_update.proofs.PartLists.{front-zero, behind-within, behind-past, skip-within, skip-past}
+use Rattle.dob_update.proofs.PartLists.{behind-within, behind-past, skip-within, skip-past}
 
 -- ---- parts and their numbers of items
 
 some_in_front : (k : ℕ) (parts : List Part) → 0 < length (front k parts) → (0 < k) × (0 < length parts)
 some_in_front k [] some = absurd (omega (arith, some))
-some_in_front k (part ∷ parts) some = (elim (cases_eq k 0) [
-  | inl none ↦ (let e : length (front k (part ∷ parts)) ≡ 0 = ap (λ m. length (front m (part ∷ parts))) none in absurd (omega (arith, some, e)))
-  | inr ne ↦ omega (arith, ne)
-], omega arith)
+some_in_front k (part ∷ parts) some = (
+  elim (cases_eq k 0) [
+    | inl none ↦ (let e : length (front k (part ∷ parts)) ≡ 0 = ap (λ m. length (front m (part ∷ parts))) none in absurd (omega (arith, some, e)))
+    | inr ne ↦ omega (arith, ne)
+  ],
+  omega arith,
+)
 
 total-front : (parts : List Part) (k : ℕ) → k ≤ total parts → total (front k parts) ≡ k
 total-front [] k within = omega (arith, within)
@@ -57,9 +59,9 @@ module _ (count : Settlement → ℕ) where
           (let s = h.0 in omega arith),
           (let le = h.1 in omega arith),
           (λ more.
-          let in_both = some_in_front (k - part.items) parts more in
-          let exact = h.2 in_both.1 in
-          omega (arith, exact, in_both.0)),
+              let in_both = some_in_front (k - part.items) parts more in
+              let exact = h.2 in_both.1 in
+              omega (arith, exact, in_both.0)),
           later,
         )
 

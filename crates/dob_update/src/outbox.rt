@@ -76,6 +76,13 @@ impl Outbox {
         self.items.len()
     }
 
+    /// How many batches were cut.
+    pub fn cut_count(&self) -> u64
+        ensures { result ≡ self.now.next }
+    {
+        self.next
+    }
+
     /// Adds a settlement with its items for the receiver; one without items isn't listed. After `Memory` the outbox is
     /// unchanged.
     pub fn add(&mut self, settlement: Settlement, items: &[Item]) -> Result<(), Memory>

@@ -1,8 +1,8 @@
 -- By induction over the calls, with what waited before them.
-use Rattle.std.proofs.Common.{◌≡◌, List, [], ◌∷◌, ◌++◌, sym, ap, ◌∙◌, refl}
+use Rattle.std.proofs.Common.{◌≡◌, List, [], ◌∷◌, ◌++◌, sym, ap, ◌∙◌}
 use Rattle.std.proofs.lemmas.List.{append-nil, append_assoc}
 use Rattle.dob_update.specs.Batches.{BatchView}
-use Rattle.dob_link.specs.Links.{Call, Taken, Refused, Handed, Nothing, Runs, taken, handed, LinksKeepOrder}
+use Rattle.dob_link.specs.Links.{Call, Taken, Refused, Handed, Nothing, Runs, taken, handed}
 use Rattle.dob_link.proofs.laws.links_keep_order.Goals as goal
 
 kept_order : (calls : List Call) (old new : List BatchView) → Runs old calls new → old ++ taken calls ≡ handed calls ++ new

@@ -1,5 +1,5 @@
 -- One settlement more, with its items.
-use Rattle.std.proofs.Common.{◌≡◌, ◌<◌, ◌^◌, length, sym, subst, arith, rules}
+use Rattle.std.proofs.Common.{◌≡◌, ◌<◌, ◌^◌, length, sym, subst, rules}
 use Rattle.dob_unmove.specs.Edges.{predecessors}
 use Rattle.dob_update.specs.Items.{items_of}
 use Rattle.dob_update.specs.Batches.{OutboxView}
