@@ -2,3 +2,5 @@ pub mod Order
 pub mod Numbers
 pub mod Marks
 pub mod Faults
+pub mod Segmented
+pub mod SegmentsLeft
