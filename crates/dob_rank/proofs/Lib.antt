@@ -9,7 +9,7 @@ pub mod Choices  -- the numbers of choices of squares
 pub mod Settled  -- a choice settles its layer again
 pub mod FormDigits  -- forms as digits
 pub mod LayerCounts  -- what the layers of a position count
-pub mod Segments  -- squares and forms, layer by layer
+pub mod KeyParts  -- squares and forms, layer by layer
 -- Ranks.
 pub mod Digits  -- a position's digits, and back
 pub mod Made  -- digits make a position
@@ -30,3 +30,5 @@ pub mod RunPlaces  -- a place is a run and a place in it
 pub mod RunMarks  -- the marks of runs
 pub mod RunTables  -- the tables of runs and words grow
 pub mod BlockTables  -- the blocks of a set
+-- Long lists.
+pub mod Segmentation  -- lists in segments

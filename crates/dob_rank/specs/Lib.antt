@@ -7,3 +7,5 @@ pub mod RunTables
 pub mod BlockTables
 pub mod Laws
 pub mod Faults
+pub mod Segmented
+pub mod SegmentsLeft

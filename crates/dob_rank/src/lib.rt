@@ -17,10 +17,12 @@ mod layers;
 mod radix;
 mod ranks;
 mod runs;
+mod segmented;
 
 pub use classes::Classes;
 pub use fault::Fault;
 pub use ranks::{rank, representative, size, unrank};
+pub use segmented::{Segments, SegmentsIter};
 
 #[cfg(test)]
 mod tests;

@@ -1,0 +1,6 @@
+pub mod Tallies
+pub mod Changing
+pub mod Keeping
+pub mod Applied
+pub mod Laws
+pub mod Owning
