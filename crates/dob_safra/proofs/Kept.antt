@@ -14,14 +14,14 @@ use Rattle.dob_safra.specs.Laws.{IsSize, HasFew, IsQuiet, Fits}
 use Rattle.dob_safra.proofs.Counts.{flipped, posted_below, taken_below, counters_are, rows_stay, flipped_stay, rows_before, rows_raised, flipped_raises, flight_is, flight_at_least, posted_bound, taken_bound}
 use Rattle.dob_safra.proofs.Quiet.{quiet, none_in_flight}
 
-same_or_not : (k i : ℕ) → (k ≡ i) ⊎ (k ≢ i)
+pub same_or_not : (k i : ℕ) → (k ≡ i) ⊎ (k ≢ i)
 same_or_not k i =
     ⊎_elim (λ below. inr (λ e. omega (arith, e)))
     (λ le. ⊎_elim (λ above. inr (λ e. omega (arith, e))) (λ ge. inl (omega arith)) (cases_lt i k))
     (cases_lt k i)
 
 -- a raised count is one more, and no count falls
-raised_at_least : (n i j k l : ℕ) (f g : ℕ → ℕ → ℕ) → k < n → l < n → Raises n f g i j → f k l ≤ g k l
+pub raised_at_least : (n i j k l : ℕ) (f g : ℕ → ℕ → ℕ) → k < n → l < n → Raises n f g i j → f k l ≤ g k l
 raised_at_least n i j k l f g k_in l_in raises =
     elim (same_or_not k i) [
       | inr apart ↦ omega (arith, raises.others k l k_in l_in (inl apart))
@@ -32,7 +32,7 @@ raised_at_least n i j k l f g k_in l_in raises =
     ]
 
 -- where one count was below another, raising it leaves it at most that
-raised_at_most : (n i j k l : ℕ) (f g : ℕ → ℕ → ℕ) (bound : ℕ → ℕ → ℕ) → k < n → l < n → Raises n f g i j → f i j < bound i j → f k l ≤ bound k l → g k l ≤ bound k l
+pub raised_at_most : (n i j k l : ℕ) (f g : ℕ → ℕ → ℕ) (bound : ℕ → ℕ → ℕ) → k < n → l < n → Raises n f g i j → f i j < bound i j → f k l ≤ bound k l → g k l ≤ bound k l
 raised_at_most n i j k l f g bound k_in l_in raises below least =
     elim (same_or_not k i) [
       | inr apart ↦ omega (arith, raises.others k l k_in l_in (inl apart))
