@@ -1,0 +1,7 @@
+pub mod Words
+pub mod Views
+pub mod Histories
+pub mod Rule
+pub mod Plays
+pub mod Seats
+pub mod Boards

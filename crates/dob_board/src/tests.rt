@@ -1,0 +1,1 @@
+// Boards of two nodes.
