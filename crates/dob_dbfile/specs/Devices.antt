@@ -26,6 +26,13 @@ pub record GivesFirst (stream : Stream) (count : ℕ) (room : List ℕ) : Type 0
   pub same : take count room ≡ take count stream.bytes
   pub end : count ≡ 0 → 0 < length room → stream ≡ whole []
 
+-- The front of the room is the front of the stream, so many bytes; where there is more room, they are all up to the
+-- stream's end.
+pub record Fills (stream : Stream) (count : ℕ) (room : List ℕ) : Type 0 where
+  pub within : count ≤ length stream.bytes
+  pub same : take count room ≡ take count stream.bytes
+  pub end : count < length room → stream ≡ whole (take count room)
+
 -- the place of the flush, where the sink's bytes are known, comes to those of the flushes before
 abbrev pub AddsFlush : Option (List ℕ) → Option (List ℕ) → Option (List ℕ) → Type 0
 AddsFlush received old new = (bytes : List ℕ) → received ≡ Some bytes → Appends old new (length bytes ∷ [])
