@@ -4,7 +4,6 @@
 mod earlier;
 mod numbering;
 mod predecessors;
-mod steps;
 mod undo;
 mod walk;
 
