@@ -1,6 +1,7 @@
 // Moves taken back: from which classes of positions, and by how many of their moves, a class is reached.
 #![tactic(auto)]
 
+mod attackers;
 mod earlier;
 mod numbering;
 mod predecessors;
