@@ -8,7 +8,6 @@ pub mod laws;
 mod listing;
 mod outlook;
 mod search;
-mod steps;
 
 pub use applied::apply;
 pub use choice::Move;

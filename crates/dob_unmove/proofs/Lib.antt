@@ -1,3 +1,4 @@
+pub mod Threats
 pub mod Runs
 pub mod Undone
 pub mod Listed

@@ -4,3 +4,4 @@ pub mod Unmoves
 pub mod Edges
 pub mod Gathers
 pub mod Classes
+pub mod Threats
