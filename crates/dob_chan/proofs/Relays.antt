@@ -1,12 +1,12 @@
 -- Each step of a pass keeps the channel's rule.
-use Rattle.std.proofs.Common.{◌≡◌, ◌≢◌, ◌≤◌, ◌<◌, ℕ, zero, suc, ◌+◌, true, false, true≢false, List, [], ◌∷◌, ◌++◌, length, set, sym, refl, ap, ◌∙◌, subst, ⊎_elim, append_assoc, length-append, arith}
+use Rattle.std.proofs.Common.{◌≡◌, ◌≢◌, ◌≤◌, ◌<◌, ℕ, zero, suc, true, false, true≢false, List, [], ◌∷◌, ◌++◌, length, set, sym, refl, ap, ◌∙◌, subst, ⊎_elim, append_assoc, length-append, arith}
 use mathlib.Core.Option.{some, some-ne-none}
 use lib.ListN.{get_elem?}
 use Rattle.crossbeam_channel.specs.Fifo.{Pushes, Pops, Forks, Merges, Learns}
 use Rattle.crossbeam_queue.proofs.Lists.{at_set, at_snoc}
-use Rattle.dob_chan.specs.declared.batch.Batch.{Batch}
+use Rattle.dob_update.specs.Batches.{BatchView}
 use Rattle.dob_chan.specs.declared.rule.Log.{Log}
-use Rattle.dob_chan.specs.Channels.{log, most_batches, IsLawful, AreLast, AreNext, Fits, IsRelayed}
+use Rattle.dob_chan.specs.Channels.{log, most_batches, AreLast, AreNext, Fits, IsRelayed}
 
 at_end : (l : List Log) (a b : Log) (j : ℕ) → get_elem? l j ≢ some b → get_elem? (l ++ a ∷ []) j ≡ some b → j ≡ length l
 at_end [] a b zero n e = refl
@@ -27,7 +27,7 @@ pub begins : IsRelayed [] (log true true [] [] ∷ [])
 begins = (0, 0, [], [], refl, omega arith, each_set (Fits 0 0 [] []) (log true true [] [] ∷ []) 0 (log true true [] []) ((λ _. (refl, refl)), λ _. (refl, refl)) (λ j u other e. absurd (other (at_end [] _ u j (λ x. some-ne-none u (sym x)) e))))
 
 -- the sender sends one more
-pub sends : (n port : ℕ) (v : Log) (x : Batch) → v.sends ≡ true → length v.sent < most_batches →
+pub sends : (n port : ℕ) (v : Log) (x : BatchView) → v.sends ≡ true → length v.sent < most_batches →
     Pushes IsRelayed n port v x (λ w. w ≡ log v.sends v.takes (v.sent ++ x ∷ []) v.taken)
 sends n port v x may few items views _ h at = let w : Log = log v.sends v.takes (v.sent ++ x ∷ []) v.taken in let mine = h.6 port v at in let sent = h.2 ++ x ∷ [] in (
   w,
@@ -49,7 +49,7 @@ pub last : (port : ℕ) (v : Log) → v.sends ≡ true → Learns IsRelayed port
 last port v may items views h at = (h.3, ((h.6 port v at).0 may).1 ∙ h.4)
 
 -- what is left in the list of what the taker has taken is at most what was sent
-taken_few : (sent taken items : List Batch) (x : Batch) → sent ≡ taken ++ x ∷ items → length sent ≤ most_batches → length (taken ++ x ∷ []) ≤ most_batches
+taken_few : (sent taken items : List BatchView) (x : BatchView) → sent ≡ taken ++ x ∷ items → length sent ≤ most_batches → length (taken ++ x ∷ []) ≤ most_batches
 taken_few sent taken items x same few = let sum = ap length same in
     omega (arith, length-append taken (x ∷ items), length-append taken (x ∷ []))
 

@@ -5,29 +5,42 @@ ghost use Rattle.crossbeam_channel.specs.Ends.{receives_on};
 ghost use Rattle.dob_chan.specs.Channels.{log, most_batches, IsLawful, HasBothRoles};
 ghost use Rattle.dob_chan.specs.Ends.{sent_by, taken_by, capacity_of, ArePaired, SendsOnSame, TakesOnSame, WasFull, WasEmpty};
 
-use crate::batch::Batch;
 use crate::ends::{Full, SendEnd, TakeEnd};
 use crate::rule::{InOrder, Left, Log, Parts, Sends, Takes, Whole};
 use crossbeam_channel::{Pass, RuledReceiver, TrySendError, bounded_with};
-use std::alloc::{AllocError, Global};
+use dob_pieces::Memory;
+use dob_update::Batch;
+use std::alloc::Global;
 use std::sync::Wait;
 
-/// The two ends of a new channel that holds at most `capacity` batches, which is above 0.
-pub fn pair(alloc: Global, capacity: usize) -> Result<(SendEnd, TakeEnd), AllocError>
+/// The two ends of a new channel that holds at most `capacity` batches, which is above 0. `Memory` where there is none
+/// for them.
+pub fn pair(alloc: Global, capacity: usize) -> Result<(SendEnd, TakeEnd), Memory>
     requires { 0 < capacity }
     ensures paired { IfOk result (λ ends. ArePaired ends.0 ends.1) }
     ensures capacity { IfOk result (λ ends. capacity_of ends.0 ≡ capacity) }
     ensures nothing { IfOk result (λ ends. (sent_by ends.0 ≡ []) × (taken_by ends.1 ≡ [])) }
 {
-    let (sender, receiver, mut pass) = bounded_with::<Batch, Log, InOrder, Global>(alloc, capacity)?;
+    let (sender, receiver, mut pass) = bounded_with::<Batch, Log, InOrder, Global>(
+        alloc, capacity,
+    )?;
     let taking = sender.another::<Parts>(&mut pass);
-    let send = SendEnd { end: sender, pass, sent: 0 };
-    let take = TakeEnd { end: receiver, pass: taking, taken: 0 };
+    let send = SendEnd {
+        end: sender,
+        pass,
+        sent: 0,
+    };
+    let take = TakeEnd {
+        end: receiver,
+        pass: taking,
+        taken: 0,
+    };
     Ok((send, take))
 }
 
 impl SendEnd {
-    /// Sends a batch, if the channel has room.
+    /// Sends a batch, if the channel has room; tries once. `Full` with the batch where it held its capacity at some moment
+    /// of the call, or answered that its taking end is gone; then nothing is sent. Its promises hold if it returns.
     pub fn offer<R: Wait>(&mut self, rt: &R, batch: Batch) -> Result<(), Full>
         requires { length (sent_by self.old) < most_batches }
         ensures same { SendsOnSame self.old self.new }
@@ -40,14 +53,21 @@ impl SendEnd {
                 self.sent += 1;
                 Ok(())
             }
-            Err(TrySendError::Full(batch)) => Err(Full { batch, taker_is_gone: false }),
-            Err(refused) => Err(Full { batch: refused.into_inner(), taker_is_gone: true }),
+            Err(TrySendError::Full(batch)) => Err(Full {
+                batch,
+                taker_is_gone: false,
+            }),
+            Err(refused) => Err(Full {
+                batch: refused.into_inner(),
+                taker_is_gone: true,
+            }),
         }
     }
 }
 
 impl TakeEnd {
-    /// Takes the next batch, if the channel has one.
+    /// Takes the next batch, if the channel has one; tries once. `None` only where it was empty at some moment of the
+    /// call. Its promises hold if it returns.
     pub fn next<R: Wait>(&mut self, rt: &R) -> Option<Batch>
         ensures same { TakesOnSame self.old self.new }
         ensures next { MatchOption result
@@ -121,8 +141,14 @@ fn take_left<R: Wait>(
     }
 }
 
-/// Ends a channel: what was sent is what was received and then what is left. Both ends are of one channel.
-pub fn rejoin<R: Wait>(rt: &R, alloc: Global, send: SendEnd, take: TakeEnd) -> Result<Rejoined, RejoinFault>
+/// Ends a channel: what was sent is what was received and then what is left. Both ends are of one channel. Where there is
+/// no memory for what is left, both come back as they were. Its promises hold if it returns.
+pub fn rejoin<R: Wait>(
+    rt: &R,
+    alloc: Global,
+    send: SendEnd,
+    take: TakeEnd,
+) -> Result<Rejoined, RejoinFault>
     requires { ArePaired send take }
     ensures joined { IfOk result (λ joined. (joined.sent ≡ length (sent_by send)) × (joined.received ≡ length (taken_by take))
         × IsLawful (sent_by send) (taken_by take) joined.waiting.items) }
@@ -132,11 +158,23 @@ pub fn rejoin<R: Wait>(rt: &R, alloc: Global, send: SendEnd, take: TakeEnd) -> R
     let Ok(mut waiting) = Vec::with_capacity(alloc, left as usize) else {
         return Err(RejoinFault { send, take });
     };
-    let SendEnd { end: sender, mut pass, sent } = send;
-    let TakeEnd { end: receiver, pass: taking, taken } = take;
+    let SendEnd {
+        end: sender,
+        mut pass,
+        sent,
+    } = send;
+    let TakeEnd {
+        end: receiver,
+        pass: taking,
+        taken,
+    } = take;
     sender.absorb::<Whole>(&mut pass, taking);
     sender.learn_as::<Left>(&mut pass);
     take_left(rt, &receiver, &mut pass, &mut waiting, left);
     sender.learn_as::<Left>(&mut pass);
-    Ok(Rejoined { sent, received: taken, waiting })
+    Ok(Rejoined {
+        sent,
+        received: taken,
+        waiting,
+    })
 }

@@ -4,9 +4,9 @@ ghost use Rattle.crossbeam_channel.specs.Claims.{view, IsSeatAt};
 ghost use Rattle.crossbeam_channel.specs.Ends.{sends_on, receives_on};
 ghost use Rattle.dob_chan.specs.Channels.{log, most_batches};
 
-use crate::batch::Batch;
 use crate::rule::{InOrder, Log};
 use crossbeam_channel::{Pass, RuledReceiver, RuledSender};
+use dob_update::Batch;
 
 /// The sending end of a channel. It counts the batches that it has sent.
 #[derive(Drop)]

@@ -2,9 +2,8 @@
 ghost use Rattle.std.specs.Prelude.{◌≡◌, true, false, [], ◌∷◌, ◌++◌};
 ghost use Rattle.dob_chan.specs.Channels.{log};
 
-use crate::batch::Batch;
-use crossbeam_channel::protocol::{Join, Lesson, Outcome, Protocol};
-use crossbeam_channel::protocol::Split;
+use crossbeam_channel::protocol::{Join, Lesson, Outcome, Protocol, Split};
+use dob_update::Batch;
 use std::collections::LinkedList;
 
 /// What a pass of a channel may do, send or take, and what it has sent and taken. No value of it is made.

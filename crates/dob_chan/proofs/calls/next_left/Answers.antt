@@ -1,5 +1,5 @@
 -- the taker of all that is left keeps the rule, and an empty channel has nothing left
-use Rattle.std.proofs.Common.{ap, rules}
+use Rattle.std.proofs.Common.{ap}
 use Rattle.dob_chan.proofs.Relays.{takes_left, left}
 use Rattle.dob_chan.proofs.calls.next_left.Goals as goal
 

@@ -1,6 +1,6 @@
 -- the two ends' passes become one, which knows what is left
 use Rattle.std.proofs.Common.{ap}
-use Rattle.dob_chan.proofs.Relays.{merges, left}
+use Rattle.dob_chan.proofs.Relays.{merges}
 use Rattle.dob_chan.proofs.calls.rejoin.Goals as goal
 
 pub absorb-requires-clause-rule : goal.absorb-requires-clause-rule

@@ -1,5 +1,5 @@
 -- what was taken since the loop began is what waits now, as many as the turns
-use Rattle.std.proofs.Common.{◌≡◌, ◌≤◌, ◌++◌, true, length, vec_len, vec_capacity}
+use Rattle.std.proofs.Common.{◌≡◌, ◌≤◌, ◌++◌, true, vec_len, vec_capacity}
 use Rattle.crossbeam_channel.specs.Claims.{view, IsSeatAt}
 use Rattle.crossbeam_channel.specs.Ends.{receives_on}
 use Rattle.dob_chan.specs.Channels.{log}

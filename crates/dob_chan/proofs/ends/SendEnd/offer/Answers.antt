@@ -1,5 +1,5 @@
 -- a send keeps the rule, and a full channel holds the last that was sent
-use Rattle.std.proofs.Common.{ap, rules}
+use Rattle.std.proofs.Common.{rules}
 use Rattle.dob_chan.proofs.Relays.{sends, last}
 use Rattle.dob_chan.proofs.ends.SendEnd.offer.Goals as goal
 

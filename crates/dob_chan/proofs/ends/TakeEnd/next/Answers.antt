@@ -1,5 +1,5 @@
 -- a receipt keeps the rule, and an empty channel holds nothing next
-use Rattle.std.proofs.Common.{ap, rules}
+use Rattle.std.proofs.Common.{rules}
 use Rattle.dob_chan.proofs.Relays.{takes, next}
 use Rattle.dob_chan.proofs.ends.TakeEnd.next.Goals as goal
 

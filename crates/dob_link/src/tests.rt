@@ -1,0 +1,1 @@
+// Links at their capacity.

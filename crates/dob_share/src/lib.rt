@@ -1,0 +1,10 @@
+// The cells of one owner's classes: what the settlements of other classes, told item by item, make of their values.
+#![tactic(auto)]
+
+mod news;
+mod opening;
+mod owners;
+
+pub use news::{Item, Settlement};
+pub use opening::Opening;
+pub use owners::owner;
