@@ -1,5 +1,6 @@
 -- Of a stream one fault holds at most, and none where it passes all tests.
-use Rattle.std.proofs.Common.{◌≡◌, ◌≢◌, ℕ, zero, suc, ◌+◌, ◌≤◌, ◌<◌, ◌⊎◌, Bool, cond, false, true, List, [], ◌∷◌, take, drop, length, arith, inl, inr, refl, sym, subst, ap, ◌∙◌}
+use Rattle.std.proofs.Common.{◌≡◌, ◌≢◌, ℕ, zero, suc, ◌+◌, ◌≤◌, ◌<◌, ◌⊎◌, Bool, cond, false, true, List, [], ◌∷◌, take, drop, length, arith, inl, inr, refl, sym, subst, ap, ◌∙◌, Result, Ok, Err}
+use Rattle.std.specs.Result.{IfOk, IfErr, MatchResult}
 use Rattle.std.proofs.lemmas.Bool.{cases_lt, cases_order}
 use Rattle.std.proofs.Math.Bridge.{le_prop}
 use Rattle.dob_pieces.specs.declared.piece_set.PieceSet.{PieceSet}
@@ -100,51 +101,79 @@ place_of s fault.Truncated h =
     let is : fault.Truncated ≡ cut_fault s.fails (length s.bytes) = sym (ap (λ (b : Bool). cut_fault b (length s.bytes)) h.1) in
     elim h.0 [
       | inl none ↦ (0, record { within = omega arith; passed = tt; fails = none }, is)
-      | inr part ↦ (5, record {
-        within = omega arith;
-        passed = (part.0, part.1);
-        fails = λ x. part.2 (subst (λ (q : PieceSet). IsWhole q s) (same_set x.0 part.0 (header s) x.1.0.1.0.0 part.1.1.0.0) x.1);
-      }, is)
+      | inr part ↦ (
+        5,
+        record {
+          within = omega arith;
+          passed = (part.0, part.1);
+          fails = λ x. part.2 (subst (λ (q : PieceSet). IsWhole q s) (same_set x.0 part.0 (header s) x.1.0.1.0.0 part.1.1.0.0) x.1);
+        },
+        is,
+      )
     ]
 place_of s fault.Magic h = (1, record { within = omega arith; passed = h.0; fails = λ x. h.1 x.1 }, refl)
 place_of s fault.SetByte h = (2, record { within = omega arith; passed = (h.0, h.1.0); fails = λ x. h.1.1 x.1.0 x.1.1 }, refl)
-place_of s fault.SetTooLarge h = (3, record {
-  within = omega arith;
-  passed = (h.0, (h.1.0, h.1.1));
-  fails = λ x. h.1.2 (subst (λ (q : PieceSet). IsSmall q) (same_set x.1.0 h.1.0 (header s) x.1.1.0 h.1.1) x.1.1.1);
-}, refl)
-place_of s fault.ClassCount h = (4, record {
-  within = omega arith;
-  passed = (h.0, (h.1.0, h.1.1));
-  fails = λ x. h.1.2 (subst (λ (q : PieceSet). CountsClasses q (header s)) (same_set x.0 h.1.0 (header s) x.1.1.0.0 h.1.1.0) x.1.1);
-}, refl)
-place_of s fault.Trailing h = (6, record {
-  within = omega arith;
-  passed = (h.0, h.1);
-  fails = λ x. h.2 (subst (λ (q : PieceSet). IsNoLonger q s) (same_set x.0 h.0 (header s) x.1.0.0.1.0.0 h.1.0.1.0.0) x.1);
-}, refl)
-place_of s fault.Digest h = (8, record {
-  within = omega arith;
-  passed = (h.0, h.1);
-  fails = λ x. h.2 (subst (λ (q : PieceSet). HasDigest q s) (same_set x.0 h.0 (header s) x.1.0.0.0.0.1.0.0 h.1.0.0.0.1.0.0) x.1);
-}, refl)
+place_of s fault.SetTooLarge h = (
+  3,
+  record {
+    within = omega arith;
+    passed = (h.0, (h.1.0, h.1.1));
+    fails = λ x. h.1.2 (subst (λ (q : PieceSet). IsSmall q) (same_set x.1.0 h.1.0 (header s) x.1.1.0 h.1.1) x.1.1.1);
+  },
+  refl,
+)
+place_of s fault.ClassCount h = (
+  4,
+  record {
+    within = omega arith;
+    passed = (h.0, (h.1.0, h.1.1));
+    fails = λ x. h.1.2 (subst (λ (q : PieceSet). CountsClasses q (header s)) (same_set x.0 h.1.0 (header s) x.1.1.0.0 h.1.1.0) x.1.1);
+  },
+  refl,
+)
+place_of s fault.Trailing h = (
+  6,
+  record {
+    within = omega arith;
+    passed = (h.0, h.1);
+    fails = λ x. h.2 (subst (λ (q : PieceSet). IsNoLonger q s) (same_set x.0 h.0 (header s) x.1.0.0.1.0.0 h.1.0.1.0.0) x.1);
+  },
+  refl,
+)
+place_of s fault.Digest h = (
+  8,
+  record {
+    within = omega arith;
+    passed = (h.0, h.1);
+    fails = λ x. h.2 (subst (λ (q : PieceSet). HasDigest q s) (same_set x.0 h.0 (header s) x.1.0.0.0.0.1.0.0 h.1.0.0.0.1.0.0) x.1);
+  },
+  refl,
+)
 place_of s (fault.Io bytes) h =
     let is : fault.Io bytes ≡ cut_fault s.fails (length s.bytes) =
     ap (λ (n : ℕ). fault.Io n) h.0 ∙ sym (ap (λ (b : Bool). cut_fault b (length s.bytes)) h.1) in
     elim h.2 [
       | inl short ↦ elim short [
         | inl none ↦ (0, record { within = omega arith; passed = tt; fails = none }, is)
-        | inr part ↦ (5, record {
-          within = omega arith;
-          passed = (part.0, part.1);
-          fails = λ x. part.2 (subst (λ (q : PieceSet). IsWhole q s) (same_set x.0 part.0 (header s) x.1.0.1.0.0 part.1.1.0.0) x.1);
-        }, is)
+        | inr part ↦ (
+          5,
+          record {
+            within = omega arith;
+            passed = (part.0, part.1);
+            fails = λ x. part.2 (subst (λ (q : PieceSet). IsWhole q s) (same_set x.0 part.0 (header s) x.1.0.1.0.0 part.1.1.0.0) x.1);
+          },
+          is,
+        )
       ]
-      | inr end ↦ (7, record {
-        within = omega arith;
-        passed = (end.0, end.1);
-        fails = λ x. let never : false ≡ true = sym x.1.1 ∙ h.1 in absurd (cc);
-      }, ap (λ (n : ℕ). fault.Io n) h.0)
+      | inr end ↦ (
+        7,
+        record {
+          within = omega arith;
+          passed = (end.0, end.1);
+          fails = λ x. let never : false ≡ true = sym x.1.1 ∙ h.1 in absurd (cc);
+        },
+        ap (λ (n : ℕ). fault.Io n) h.0,
+      )
     ]
 place_of s fault.Memory h = absurd h
 
@@ -161,3 +190,11 @@ no_fault s set f right at_f =
     let a = place_of s f at_f in
     let all : level s 9 = (set, right) in
     a.1.fails (upto s (suc a.0) 9 (omega (arith, a.1.within)) all)
+
+-- what reading gives says so of each fault
+pub exact_as : {X : Type 0} (s : Stream) (result : Result X Fault) (Passes : X → PieceSet) → IfOk result (λ x. HasDigest (Passes x) s)
+    → IfErr result (λ given. (given ≡ fault.Memory) ⊎ HasFault s given) → (f : Fault) → HasFault s f
+    → MatchResult result (λ _. ⊥) (λ given. (given ≡ fault.Memory) ⊎ (given ≡ f))
+exact_as s (Ok x) Passes right wrong f at_f = no_fault s (Passes x) f right at_f
+exact_as s (Err given) Passes right (inl none) f at_f = inl none
+exact_as s (Err given) Passes right (inr at_given) f at_f = inr (one_fault s given f at_given at_f)
