@@ -4,6 +4,7 @@ mod Cuts
 mod Endings
 mod FileBytes
 mod Pieces
+mod Places
 mod Refused
 mod Filled
 mod Streams

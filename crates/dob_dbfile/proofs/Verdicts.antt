@@ -129,3 +129,13 @@ right_file stream set codes there counts counted ends =
     let same : Stream = record { bytes = stream.bytes; fails = false } in
     ap (λ (f : Bool). let s : Stream = record { bytes = stream.bytes; fails = f } in s) ends.ends
     ∙ ap (λ (b : List ℕ). whole b) bytes
+
+-- and passes all tests
+pub right_digest : (stream : Stream) (set : PieceSet) (codes : List ℕ) → HasHeader stream → CountsClasses set (header stream) → length codes ≡ classes_of set
+    → EndsWith (header stream) codes (after 20 stream) → HasDigest set stream
+right_digest stream set codes there counts counted ends =
+    let whole_len : length (drop 20 stream.bytes) ≡ 2 * classes_of set + 32 =
+    ends.whole ∙ ap (λ (n : ℕ). 2 * n + 32) counted in
+    let found : drop (2 * classes_of set) (drop 20 stream.bytes) ≡ sha256 (header stream ++ take (2 * classes_of set) (drop 20 stream.bytes)) =
+    subst (λ (n : ℕ). drop (2 * n) (drop 20 stream.bytes) ≡ sha256 (header stream ++ take (2 * n) (drop 20 stream.bytes))) counted ends.digest in
+    ((no_longer stream set (there, counts) whole_len, ends.ends), sym (digest_at stream set) ∙ found ∙ ap sha256 (before_digest stream set))

@@ -1,10 +1,11 @@
 // Reading a table from a file.
-ghost use Rattle.std.specs.Prelude.{◌≡◌, ◌⊎◌, ◌↔◌, ℕ, List, ◌+◌, ◌*◌, ◌%◌, ◌^◌, ◌<◌, ◌≤◌, ◌||◌, [], false, length, vec_len, All, IfOk, IfErr, IsTrue, OnOk};
+ghost use Rattle.std.specs.Prelude.{◌≡◌, ◌⊎◌, ◌↔◌, ℕ, List, ◌+◌, ◌*◌, ◌%◌, ◌^◌, ◌<◌, ◌≤◌, ◌||◌, [], false, length, vec_len, All, IfOk, IfErr, IsTrue, OnOk, MatchResult};
 ghost use Rattle.dob_rank.specs.Marks.{classes_of};
+ghost use Rattle.dob_dbfile.specs.declared.fault.Fault.{Fault as AnyFault};
 ghost use Rattle.sha2.specs.Hashers.{Holds256};
 ghost use Rattle.dob_dbfile.specs.Devices.{Stream, after, whole};
 ghost use Rattle.dob_dbfile.specs.Format.{bytes_of};
-ghost use Rattle.dob_dbfile.specs.Faults.{is_io_error, CountsClasses, HasHeaderFault, HasFault};
+ghost use Rattle.dob_dbfile.specs.Faults.{is_io_error, CountsClasses, HasHeaderFault, HasDigest, HasFault};
 ghost use Rattle.dob_dbfile.specs.Reading.{Takes, IsCut, IsNoEnd, ReadsCodes, HashesNext, EndsWith, IsDigest, HasDigestFault, HasRestFault};
 
 use crate::device::{Failed, Source};
@@ -24,14 +25,34 @@ const DIGEST_LEN: usize = 32;
 /// How many bytes of records are read at a time.
 const PIECE_LEN: usize = 4096;
 
-/// Reads the table of a file: of just the bytes that `write_table` writes of it.
+/// Reads the table of a file: of just the bytes that `write_table` writes of it, up to the source's end.
+///
+/// Errors, the first of these that holds: `Truncated`, fewer than 20 bytes; `Magic`, `SetByte`, `SetTooLarge`,
+/// `ClassCount`, what the header says; `Truncated`, fewer bytes than the set's records and digest have; `Trailing`, a byte
+/// more; `Digest`. `Io` only where the source fails in this call, with how many bytes it gave before. `Memory`. The source
+/// has lost what was read.
 pub fn read_table<R: Source>(alloc: Global, source: &mut R) -> Result<Table, Fault>
     requires { R.has_failed source.old ≡ false }
     // A table is read only where the source gives just its file and ends.
     ensures read { (stream : Stream) → R.gives source.old stream → IfOk result (λ table. stream ≡ whole (bytes_of table)) }
     // A fault is given only where it is the first that holds.
     ensures refused { (stream : Stream) → R.gives source.old stream
-        → IfErr result (λ fault. (fault ≡ Fault.Memory) ⊎ HasFault stream fault) }
+        → IfErr result (λ given. (given ≡ Fault.Memory) ⊎ HasFault stream given) }
+    // Where a fault holds it is given, or memory was refused.
+    ensures exact { (stream : Stream) (fault : AnyFault) → R.gives source.old stream → HasFault stream fault
+        → MatchResult result (λ _. ⊥) (λ given. (given ≡ Fault.Memory) ⊎ (given ≡ fault)) }
+    ensures failed { R.has_failed source.new ≡ is_io_error result }
+{
+    read_file(alloc, source)
+}
+
+// Reads the table of a file, which has its digest.
+fn read_file<R: Source>(alloc: Global, source: &mut R) -> Result<Table, Fault>
+    requires { R.has_failed source.old ≡ false }
+    ensures read { (stream : Stream) → R.gives source.old stream
+        → IfOk result (λ table. (stream ≡ whole (bytes_of table)) × HasDigest table.set stream) }
+    ensures refused { (stream : Stream) → R.gives source.old stream
+        → IfErr result (λ given. (given ≡ Fault.Memory) ⊎ HasFault stream given) }
     ensures failed { R.has_failed source.new ≡ is_io_error result }
 {
     let mut header = [0; HEADER_LEN];
