@@ -1,3 +1,4 @@
+pub mod Forms
 pub mod Words
 pub mod Shapes
 pub mod Readings
