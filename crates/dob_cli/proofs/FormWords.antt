@@ -79,11 +79,11 @@ short_placed : (i : ℕ) (labels : List Text) (more : List Rule) (x : ℕ) → a
 short_placed i [] more x = refl
 short_placed i (label ∷ labels) more x = short_placed (min (i + 1) usize_max) labels more x
 
-abbrev ForFound : (Text × Text → Type 0) → Option (Text × Text) → Type 0
+abbrev pub ForFound : (Text × Text → Type 0) → Option (Text × Text) → Type 0
 ForFound P None = Unit {0}
 ForFound P (Some o) = P o
 
-each_found : (P : Text × Text → Type 0) (p : Text × Text → Bool) (os : List (Text × Text)) (o : Text × Text) → Each P os → find p os ≡ Some o → P o
+pub each_found : (P : Text × Text → Type 0) (p : Text × Text → Bool) (os : List (Text × Text)) (o : Text × Text) → Each P os → find p os ≡ Some o → P o
 each_found P p [] o each e = absurd (true≢false (sym (ap is_some e)))
 each_found P p (x ∷ xs) o each e = go (p x) e (each_found P p xs o each.1)
   where

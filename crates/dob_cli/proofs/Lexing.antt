@@ -70,7 +70,7 @@ long_short y ys t = rw t refl
 pub short_short : (y : ℕ) (ys : Text) → (y == 45) ≡ false → short_of (45 ∷ y ∷ ys) ≡ Some (y ∷ ys)
 short_short y ys t = rw t refl
 
-take_one : (n x : ℕ) (xs : Text) → take (1 + n) (x ∷ xs) ≡ x ∷ take n xs
+pub take_one : (n x : ℕ) (xs : Text) → take (1 + n) (x ∷ xs) ≡ x ∷ take n xs
 take_one n x xs = let e : 1 + n ≡ suc n = omega arith in rw e refl
 
 -- a text without `=` (61) is all that stands before one

@@ -2,7 +2,8 @@
 use Rattle.std.specs.Prelude.{◌≡◌, List, [], ◌∷◌, codes}
 use Rattle.clap.specs.declared.error.kind.ErrorKind.{ErrorKind}
 use Rattle.clap.specs.declared.error.kind.ErrorKind.TheVariants as kind
-use Rattle.dob_cli.specs.Forms.{Text}
+use Rattle.dob_cli.specs.Forms.{Form, Text, forms}
+use Rattle.dob_cli.specs.Lines.{IsAmong, IsLine}
 use Rattle.dob_cli.specs.Words.{Meaning, asks, help, topic, usage}
 use Rattle.dob_cli.specs.declared.command.Order.{Order}
 use Rattle.dob_cli.specs.declared.command.Order.TheVariants as order
@@ -31,6 +32,15 @@ IsReadingOf topic (reading.Help _) = Unit {0}
 IsReadingOf topic (reading.Usage _) = Unit {0}
 IsReadingOf usage (reading.Usage _) = Unit {0}
 IsReadingOf _ _ = ⊥
+
+-- the words are a line for the subcommand of this name and these texts
+abbrev pub SomeLine : List Text → Text → List Text → Type 0
+SomeLine words name texts = (form : Form) × IsAmong form forms × (form.name ≡ name) × IsLine form words texts
+
+-- an order is read only from a line that asks for it
+abbrev pub ComesFromLine : List Text → Reading → Type 0
+ComesFromLine words (reading.Order o) = SomeLine words (name_of_order o) (texts_of_order o)
+ComesFromLine words _ = Unit {0}
 
 -- what a refusal of this kind is read as
 abbrev pub IsReadingOfKind : ErrorKind → Reading → Type 0

@@ -4,15 +4,17 @@
 // - a form in specs/Forms.antt, also in `forms`, and the name of what it asks for at the end of specs/Words.antt;
 // - a variant of `Order` here, with its case in both functions of specs/Readings.antt;
 // - a function that makes its command, which `dobutsu_command` adds, and an arm and a clause in `order_of`;
-// - in proofs/Taken.antt and proofs/AllWords.antt a record each, all by `refl`, and a line in `all_fit`;
+// - a record in proofs/Taken.antt, proofs/AllWords.antt and proofs/Lines.antt, by `refl`, and a line each in `all_fit` and
+//   `all_known`;
 // - its cases in the answers of `dobutsu_command`, `order_of` and `read_words`, as those of `count`;
 // - in program.rt an arm and a clause of `run_words`, with what it owes by a definition like `AnswersCount`.
 ghost use Rattle.std.specs.Prelude.{◌≡◌, IfOk, IsSomeAnd, List, codes, map};
 ghost use Rattle.clap.specs.Words.{kind_of, subcommand_rows_of};
-ghost use Rattle.dob_cli.specs.Forms.{Text, count_form, value_form};
-ghost use Rattle.dob_cli.specs.Words.{meaning_of};
+ghost use Rattle.dob_cli.specs.Forms.{Form, Text, count_form, forms, value_form};
+ghost use Rattle.dob_cli.specs.Lines.{IsAmong, IsLine};
+ghost use Rattle.dob_cli.specs.Words.{asks, meaning_of};
 ghost use Rattle.dob_cli.specs.Shapes.{Finds, HasShape, bare_app, dobutsu_app, form_app};
-ghost use Rattle.dob_cli.specs.Readings.{IsOrder, IsReadingOf, IsReadingOfKind};
+ghost use Rattle.dob_cli.specs.Readings.{ComesFromLine, IsOrder, IsReadingOf, IsReadingOfKind};
 
 use clap::error::ErrorKind;
 use clap::{Arg, ArgMatches, Command, Error};
@@ -66,7 +68,10 @@ Example: dobutsu count --set 100 prints `positions 4158` and `classes 2124`.";
 ///
 /// `AllocError` where memory runs out, and for no other cause.
 pub fn read_words<'a>(alloc: Global, words: &'a [&'a str]) -> Result<Reading<'a>, AllocError>
-    ensures { IfOk result (IsReadingOf (meaning_of (map (λ w. w.now) words.now))) }
+    ensures meaning { IfOk result (IsReadingOf (meaning_of (map (λ w. w.now) words.now))) }
+    ensures sound { IfOk result (ComesFromLine (map (λ w. w.now) words.now)) }
+    ensures complete { (form : Form) (texts : List Text) → IsAmong form forms
+        → IsLine form (map (λ w. w.now) words.now) texts → IfOk result (IsReadingOf (asks form.name texts)) }
 {
     match dobutsu_command(alloc)?.try_get_matches_from(words) {
         Ok(matches) => match order_of(&matches) {

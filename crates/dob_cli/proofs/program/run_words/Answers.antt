@@ -30,14 +30,14 @@ pub returns-in-Ok-Order-Value-clause-value : goal.returns-in-Ok-Order-Value-clau
 returns-in-Ok-Order-Value-clause-value g c text asked =
     subst (λ (t : List ℕ). AnswersValue t c.run_value.result (g.O.Write.contents c.args.out.now) (g.O.Write.contents c.run_value.new.out)
     (g.E.Write.contents c.args.err.now) (g.E.Write.contents c.run_value.new.err))
-    (asked_value _ text _ _ _ c.in-Ok-Order-Value.field-0-is c.in-Ok-Order-Value.field-0-0-is asked c.in-Ok-Order-Value.ensures)
+    (asked_value _ text _ _ _ c.in-Ok-Order-Value.field-0-is c.in-Ok-Order-Value.field-0-0-is asked c.in-Ok-Order-Value.ensures.meaning)
     c.run_value.ensures
 
 pub returns-in-Ok-Order-Count-clause-count : goal.returns-in-Ok-Order-Count-clause-count
 returns-in-Ok-Order-Count-clause-count g c text asked =
     subst (λ (t : List ℕ). AnswersCount t c.run_count.result (g.O.Write.contents c.args.out.now) (g.O.Write.contents c.run_count.new.out)
     (g.E.Write.contents c.args.err.now) (g.E.Write.contents c.run_count.new.err))
-    (asked_count _ text _ _ _ c.in-Ok-Order-Count.field-0-is c.in-Ok-Order-Count.field-0-0-is asked c.in-Ok-Order-Count.ensures)
+    (asked_count _ text _ _ _ c.in-Ok-Order-Count.field-0-is c.in-Ok-Order-Count.field-0-0-is asked c.in-Ok-Order-Count.ensures.meaning)
     c.run_count.ensures
 
 pub returns-in-Err-clause-value : goal.returns-in-Err-clause-value
