@@ -7,6 +7,8 @@ use Rattle.dob_cli.specs.declared.command.Reading.{Reading}
 use Rattle.dob_cli.specs.declared.command.Reading.TheVariants as reading
 use Rattle.dob_cli.specs.Words.{Meaning, Text}
 use Rattle.dob_cli.specs.Words.{value as asks_value, count as asks_count}
+use Rattle.dob_cli.specs.Streams.{change}
+use Rattle.dob_cli.specs.Endings.{ended}
 use Rattle.dob_cli.specs.Readings.{IsOrder, IsReadingOf}
 use Rattle.dob_cli.specs.Program.{AnswersValue, IsValueLineOf, IsFaultOf}
 use Rattle.dob_cli.specs.Sizes.{AnswersCount, AreCountLinesOf, IsCountFaultOf}
@@ -28,22 +30,22 @@ asked_count m text r o t is order asked read =
 
 pub returns-in-Ok-Order-Value-clause-value : goal.returns-in-Ok-Order-Value-clause-value
 returns-in-Ok-Order-Value-clause-value g c text asked =
-    subst (λ (t : List ℕ). AnswersValue t c.run_value.result (g.O.Write.contents c.args.out.now) (g.O.Write.contents c.run_value.new.out)
-    (g.E.Write.contents c.args.err.now) (g.E.Write.contents c.run_value.new.err))
+    subst (λ (t : List ℕ). AnswersValue t (ended c.run_value.result (change (g.O.Output.state c.args.out.now) (g.O.Output.state c.run_value.new.out))
+    (change (g.E.Output.state c.args.err.now) (g.E.Output.state c.run_value.new.err))))
     (asked_value _ text _ _ _ c.in-Ok-Order-Value.field-0-is c.in-Ok-Order-Value.field-0-0-is asked c.in-Ok-Order-Value.ensures.meaning)
     c.run_value.ensures
 
 pub returns-in-Ok-Order-Count-clause-count : goal.returns-in-Ok-Order-Count-clause-count
 returns-in-Ok-Order-Count-clause-count g c text asked =
-    subst (λ (t : List ℕ). AnswersCount t c.run_count.result (g.O.Write.contents c.args.out.now) (g.O.Write.contents c.run_count.new.out)
-    (g.E.Write.contents c.args.err.now) (g.E.Write.contents c.run_count.new.err))
+    subst (λ (t : List ℕ). AnswersCount t (ended c.run_count.result (change (g.O.Output.state c.args.out.now) (g.O.Output.state c.run_count.new.out))
+    (change (g.E.Output.state c.args.err.now) (g.E.Output.state c.run_count.new.err))))
     (asked_count _ text _ _ _ c.in-Ok-Order-Count.field-0-is c.in-Ok-Order-Count.field-0-0-is asked c.in-Ok-Order-Count.ensures.meaning)
     c.run_count.ensures
 
 pub returns-in-Err-clause-value : goal.returns-in-Err-clause-value
 returns-in-Err-clause-value g c text asked =
-    refused (IsValueLineOf text) (IsFaultOf text) Memory _ _ _ _ tt tt c.tell_fault.ensures
+    refused (IsValueLineOf text) (IsFaultOf text) Memory _ _ _ tt tt c.tell_fault.ensures
 
 pub returns-in-Err-clause-count : goal.returns-in-Err-clause-count
 returns-in-Err-clause-count g c text asked =
-    refused (AreCountLinesOf text) (IsCountFaultOf text) Memory _ _ _ _ tt tt c.tell_fault.ensures
+    refused (AreCountLinesOf text) (IsCountFaultOf text) Memory _ _ _ tt tt c.tell_fault.ensures
