@@ -4,3 +4,5 @@ pub mod Keeping
 pub mod Applied
 pub mod Laws
 pub mod Owning
+pub mod Opened
+pub mod OwnOpened

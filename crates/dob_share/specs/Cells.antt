@@ -96,3 +96,7 @@ pub record Changes (known after : List Value) (was now : Value) : Type 0 where
   pub behind : List Value
   pub known_is : known ≡ before ++ was ∷ behind
   pub after_is : after ≡ before ++ now ∷ behind
+
+-- the cell of a class with that many moves, of which nothing is known
+abbrev pub fresh : ℕ → Cell
+fresh moves = record { left = moves; wins = λ _. 0; least = None }

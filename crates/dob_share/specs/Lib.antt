@@ -5,4 +5,5 @@ pub mod Pools
 pub mod Slots
 pub mod Steps
 pub mod Shares
+pub mod Openings
 pub mod Faults

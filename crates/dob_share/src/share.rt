@@ -1,16 +1,25 @@
 // The cells of one owner's classes, and the items applied to them.
-ghost use Rattle.std.specs.Prelude.{◌≡◌, ℕ, ◌≢◌, ◌+◌, ◌*◌, ◌/◌, ◌<◌, ◌≤◌, ◌↔◌, ◌^◌, Some, None, Ok, Err, true, false, length, IfOk, OnErr, OnOk, IfSome, MatchOption};
+ghost use Rattle.std.specs.Prelude.{◌≡◌, ℕ, ◌≢◌, ◌+◌, ◌*◌, ◌/◌, ◌<◌, ◌≤◌, ◌↔◌, ◌^◌, Some, None, Ok, Err, true, false, length, slice_index_or, [], ◌∷◌, ◌++◌, ◌%◌, IfOk, OnErr, OnOk, IfSome, MatchOption};
 ghost use Rattle.dob_share.specs.declared.fault.Fault.TheVariants as fault;
 ghost use Rattle.dob_share.specs.Values.{Better};
+ghost use Rattle.dob_share.specs.Owners.{class_of_place};
+ghost use Rattle.dob_share.specs.Pools.{vacant};
 ghost use Rattle.dob_share.specs.Slots.{ArePooled, start_at, room_at};
+ghost use Rattle.dob_share.specs.Openings.{opening_of, settles, settled_among, new_slot};
 
 use crate::cells::{Count, Run, Slot};
 use crate::fault::Fault;
 use crate::news::{Item, Settlement};
+use crate::opening::Opening;
 use crate::steps::{apply_at, value_in};
 use dob_moves::Status;
+use dob_pieces::Memory;
 use dob_rank::Segments;
 use dob_value::Value;
+use std::alloc::Global;
+
+// The shift of a share's segments: 2 to the power of 20 cells, or counts, in each.
+const SHIFT: u32 = 20;
 
 /// The cells of the classes k * n + id, for k from 0 on, of one owner `id` among `n`.
 #[derive(Drop)]
@@ -25,8 +34,39 @@ pub struct Share {
 }
 
 impl Share {
-    ghost use Rattle.dob_share.specs.Cells.{SameCell, changed};
+    ghost use Rattle.dob_share.specs.Cells.{SameCell, changed, fresh};
     ghost use Rattle.dob_share.specs.Shares.{places_of, IsOwn, status_at, cell_at, HasValueNow, Fits, GoesTooDeep, SameClasses, IsOwnOpen, HasSettled};
+
+    /// The share of owner `id` among `n`, at most 16, of the classes that are listed, with what each is at the start. It
+    /// makes all the room that `apply` will need.
+    ///
+    /// Error: `Memory`, also where its classes have 2 to the power of 32 moves or more.
+    pub fn open(alloc: Global, openings: &[Opening], id: usize, n: usize) -> Result<Share, Memory>
+        requires owner { id < n }
+        requires owners { n ≤ 16 }
+        ensures who { IfOk result (λ share. (share.id ≡ id) × (share.n ≡ n)) }
+        ensures owned { IfOk result (λ share. (class : ℕ) → IsOwn share class ↔ ((class % n ≡ id) × (class < length openings.now))) }
+        ensures statuses { IfOk result (λ share. (class : ℕ) → IsOwn share class → status_at share class ≡ (opening_of openings.now class).status) }
+        ensures cells { IfOk result (λ share. (class : ℕ) → IsOwn share class → SameCell (cell_at share class) (fresh (opening_of openings.now class).moves)) }
+        ensures settled { IfOk result (λ share. share.settled ≡ settled_among (λ place. (opening_of openings.now (class_of_place n id place)).status) (places_of share)) }
+    {
+        let places = places_among(openings.len() as u64, id as u64, n as u64);
+        let mut slots = Segments::new(alloc, SHIFT);
+        let mut pool = Segments::new(alloc, SHIFT);
+        let mut settled = 0;
+        for place in 0..places {
+            let opening = opening_at(openings, place as usize * n + id);
+            open_cell(&mut slots, &mut pool, opening)?;
+            settled += settlements_of(opening.status);
+        }
+        Ok(Share {
+            id,
+            n,
+            settled,
+            slots,
+            pool,
+        })
+    }
 
     /// How many classes it owns.
     #[tactic(auto, unfolding(crate::specs::Shares::places_of))]
@@ -149,4 +189,66 @@ fn is_same(one: Value, other: Value) -> bool
     ensures no { result ≡ false → one ≢ other }
 {
     one == other
+}
+
+// How many of that many classes an owner has: those with the numbers k * n + id.
+#[tactic(auto, using(crate::proofs::OwnOpened::places_count))]
+fn places_among(count: u64, id: u64, n: u64) -> u64
+    requires { id < n }
+    ensures { (place : ℕ) → (place < result) ↔ (place * n + id < count) }
+{
+    if count <= id {
+        return 0;
+    }
+    (count - 1 - id) / n + 1
+}
+
+// How many settlements the opening of a class with that status makes.
+fn settlements_of(status: Status) -> u64
+    ensures { result ≡ settles status }
+{
+    match status {
+        Status::Open => 0,
+        Status::Caught | Status::Tried | Status::Stuck => 1,
+    }
+}
+
+// Appends a cell that knows nothing, and its run of free entries.
+#[tactic(auto, using(crate::proofs::Opened::free_push))]
+fn open_cell(
+    slots: &mut Segments<Slot>,
+    pool: &mut Segments<Count>,
+    opening: Opening,
+) -> Result<(), Memory>
+    requires { (place : ℕ) → slice_index_or pool.old place vacant ≡ vacant }
+    ensures few { opening.moves < 256 }
+    ensures slots { OnOk result (slots.new ≡ slots.old ++ new_slot (length pool.old) opening ∷ []) }
+    ensures longer { OnOk result (length pool.new ≡ length pool.old + opening.moves) }
+    ensures free { OnOk result ((place : ℕ) → slice_index_or pool.new place vacant ≡ vacant) }
+{
+    let start = pool.len();
+    if start > u64::from(u32::MAX) {
+        return Err(Memory);
+    }
+    slots.push(Slot {
+        start: start as u32,
+        win: 0,
+        left: opening.moves,
+        status: opening.status,
+    })?;
+    for _entry in 0..opening.moves {
+        pool.push(Count {
+            distance: 0,
+            moves: 0,
+        })?;
+    }
+    Ok(())
+}
+
+// What is listed of the class.
+fn opening_at(openings: &[Opening], class: usize) -> Opening
+    requires { class < length openings.now }
+    ensures { result ≡ opening_of openings.now class }
+{
+    openings[class]
 }
