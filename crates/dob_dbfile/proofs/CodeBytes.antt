@@ -1,13 +1,12 @@
 -- Records and the codes that they are.
-use Rattle.std.proofs.Common.{◌≡◌, ℕ, zero, suc, ◌+◌, ◌*◌, ◌/◌, ◌%◌, ◌^◌, ◌≤◌, ◌<◌, List, [], ◌∷◌, ◌++◌, take, drop, length, get_or, slice_get, slice_index, Some, map, arith, refl, sym, subst, ap, ◌∙◌, inl, inr, append-nil, append_assoc, take-add, length-drop}
-use Rattle.std.specs.List.{All, flat_map}
+use Rattle.std.proofs.Common.{◌≡◌, ℕ, zero, suc, ◌+◌, ◌*◌, ◌/◌, ◌%◌, ◌≤◌, ◌<◌, List, [], ◌∷◌, ◌++◌, take, drop, length, get_or, slice_get, slice_index, Some, arith, refl, sym, subst, ap, ◌∙◌, inl, inr, append-nil, take-add, length-drop}
+use Rattle.std.specs.List.{All}
 use Rattle.std.proofs.lemmas.Bool.{cases_eq}
 use Rattle.std.proofs.lemmas.List.{take_more, get_or-drop}
 use Rattle.std.proofs.lemmas.List.Concat.{flat_map-append}
 use Rattle.std.proofs.lemmas.Option.{slice_get-get_or, same_Some}
 use Rattle.byteorder.specs.Endian.{little_bytes, little_number}
 use Rattle.dob_value.specs.declared.value.Value.{Value}
-use Rattle.dob_value.specs.declared.value.Value.TheVariants.{Win, Loss, Draw}
 use Rattle.dob_value.specs.Codes.{value_at_distance, value_of_code, values_of_codes, code_of_value}
 use Rattle.dob_value.specs.Follows.{IsEntry}
 use Rattle.dob_dbfile.specs.Format.{code_bytes, records}

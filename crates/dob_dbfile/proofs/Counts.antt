@@ -2,7 +2,7 @@
 use Rattle.std.proofs.Common.{◌≤◌}
 use Rattle.dob_pieces.specs.declared.piece_set.PieceSet.{PieceSet}
 use Rattle.dob_rank.specs.Numbers.{size_of}
-use Rattle.dob_rank.specs.Marks.{marked, marks_below, classes_of}
+use Rattle.dob_rank.specs.Marks.{marked, classes_of}
 use Rattle.dob_rank.proofs.Words.{marks_below-le}
 
 -- no more classes than positions

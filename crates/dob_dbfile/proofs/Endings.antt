@@ -1,5 +1,5 @@
 -- What the end of a file shows.
-use Rattle.std.proofs.Common.{◌≡◌, ◌≢◌, ℕ, ◌+◌, ◌*◌, ◌-◌, ◌≤◌, ◌<◌, Bool, false, List, [], ◌++◌, take, drop, length, arith, refl, sym, subst, ap, ◌∙◌, length-drop, length-take, take_all}
+use Rattle.std.proofs.Common.{◌≡◌, ℕ, ◌*◌, ◌-◌, ◌≤◌, false, List, [], ◌++◌, take, drop, length, arith, sym, subst, ap, ◌∙◌, length-drop, take_all}
 use Rattle.sha2.specs.Sha256.{sha256}
 use Rattle.dob_dbfile.specs.declared.fault.Fault.{Fault}
 use Rattle.dob_dbfile.specs.declared.fault.Fault.TheVariants.{SetTooLarge, Truncated, Magic, SetByte, ClassCount, Trailing, Digest, Memory, Io}

@@ -1,5 +1,5 @@
 -- The bytes of a table's file.
-use Rattle.std.specs.Prelude.{ℕ, ◌+◌, ◌*◌, List, [], ◌∷◌, ◌++◌, length, codes}
+use Rattle.std.specs.Prelude.{ℕ, List, [], ◌∷◌, ◌++◌, length, codes}
 use Rattle.std.specs.List.{flat_map}
 use Rattle.byteorder.specs.Endian.{little_bytes}
 use Rattle.sha2.specs.Sha256.{sha256}
@@ -7,7 +7,6 @@ use Rattle.dob_pieces.specs.declared.piece_set.PieceSet.{PieceSet}
 use Rattle.dob_value.specs.declared.value.Value.{Value}
 use Rattle.dob_value.specs.Codes.{code_of_value}
 use Rattle.dob_value.specs.Follows.{ClassTable}
-use Rattle.dob_rank.specs.Marks.{classes_of}
 
 -- what each file begins with
 abbrev pub title : List ℕ

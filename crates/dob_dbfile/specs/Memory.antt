@@ -1,5 +1,5 @@
 -- What the devices in memory give and hold.
-use Rattle.std.specs.Prelude.{ℕ, ◌<◌, ◌+◌, nat_lt, if◌then◌else◌, List, length, take, drop}
+use Rattle.std.specs.Prelude.{ℕ, nat_lt, if◌then◌else◌, length, take, drop}
 use Rattle.dob_dbfile.specs.Devices.{Stream, broken}
 use Rattle.dob_dbfile.specs.declared.mem_source.MemSource.{MemSource}
 

@@ -1,4 +1,4 @@
-use Rattle.std.proofs.Common.{◌≡◌, ◌∙◌, ◌*◌, ◌++◌, [], ℕ, sym, subst, length, vec_len, take}
+use Rattle.std.proofs.Common.{◌∙◌, [], sym}
 use Rattle.dob_dbfile.proofs.Endings.{ends_with}
 use Rattle.dob_dbfile.proofs.read.read_codes.Goals as goal
 

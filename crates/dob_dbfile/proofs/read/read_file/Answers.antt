@@ -1,9 +1,8 @@
-use Rattle.std.proofs.Common.{◌≡◌, ◌∙◌, ◌≤◌, ◌⊎◌, ℕ, List, arith, sym, subst, ap, length, vec_len, take}
+use Rattle.std.proofs.Common.{◌≡◌, ◌∙◌, ◌⊎◌, ℕ, List, arith, sym, subst, ap, length, take}
 use Rattle.std.proofs.lemmas.Result.{err_from_is_err_and}
-use Rattle.dob_rank.specs.Marks.{classes_of}
 use Rattle.dob_value.specs.Follows.{ClassTable}
 use Rattle.dob_dbfile.specs.declared.fault.Fault.TheVariants as fault
-use Rattle.dob_dbfile.specs.Devices.{Stream, after, whole}
+use Rattle.dob_dbfile.specs.Devices.{after, whole}
 use Rattle.dob_dbfile.specs.Format.{bytes_of}
 use Rattle.dob_dbfile.specs.Faults.{header, HasHeader, HasHeaderFault, HasDigest, CountsClasses}
 use Rattle.dob_dbfile.specs.Reading.{EndsWith, HasRestFault}

@@ -1,10 +1,8 @@
-use Rattle.std.proofs.Common.{◌≡◌, ◌∙◌, ◌+◌, ◌*◌, ◌-◌, ◌≤◌, ℕ, [], arith, rules, sym, refl, subst, vec_len, length, length-take, min}
-use Rattle.std.specs.List.{All}
+use Rattle.std.proofs.Common.{◌≡◌, ◌∙◌, ◌*◌, ℕ, [], arith, rules, sym, refl, subst, vec_len}
 use Rattle.std.proofs.Math.Bool.{or-false}
-use Rattle.std.proofs.lemmas.List.Elements.{All-nil}
 use Rattle.std.proofs.lemmas.Result.{err_from_is_err_and}
 use Rattle.dob_dbfile.specs.Devices.{after}
-use Rattle.dob_dbfile.specs.Reading.{ReadsCodes, HashesNext, IsCut}
+use Rattle.dob_dbfile.specs.Reading.{ReadsCodes, HashesNext}
 use Rattle.dob_dbfile.proofs.Filled.{after-after}
 use Rattle.dob_dbfile.proofs.Pieces.{reads_none, reads_more, hashes_none, hashes_more, cut_later, few_more}
 use Rattle.dob_dbfile.proofs.read.read_records.Goals as goal

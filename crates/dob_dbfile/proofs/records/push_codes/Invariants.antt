@@ -1,4 +1,4 @@
-use Rattle.std.proofs.Common.{◌≡◌, ◌+◌, ◌*◌, ◌<◌, ◌++◌, ℕ, List, take, length}
+use Rattle.std.proofs.Common.{◌≡◌, ◌*◌, ◌<◌, ◌++◌, ℕ, List, take, length}
 use Rattle.std.specs.List.{All}
 use Rattle.dob_dbfile.specs.Format.{code_bytes}
 use Rattle.dob_dbfile.proofs.records.push_codes.Given as goal

@@ -1,6 +1,5 @@
-use Rattle.std.proofs.Common.{◌∙◌, ◌+◌, ◌-◌, arith, rules, subst, length}
+use Rattle.std.proofs.Common.{◌∙◌, ◌-◌, rules, subst, length}
 use Rattle.std.proofs.Math.Bool.{or-false}
-use Rattle.dob_dbfile.specs.Devices.{Stream}
 use Rattle.dob_dbfile.proofs.Filled.{filled_more, after-after}
 use Rattle.dob_dbfile.proofs.transfer.read_full.Goals as goal
 

@@ -1,4 +1,4 @@
-use Rattle.std.proofs.Common.{arith, ◌≤◌, ◌-◌, length}
+use Rattle.std.proofs.Common.{arith}
 use Rattle.dob_dbfile.proofs.Cuts.{cut-front}
 use Rattle.dob_dbfile.proofs.mem_source.MemSource.failing_after.Goals as goal
 
