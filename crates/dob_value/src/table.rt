@@ -49,6 +49,7 @@ impl Table {
     pub fn classes(&self) -> &Classes
         ensures set { result.now.set ≡ self.now.set }
         ensures count { classes_of self.now.set ≡ length self.now.values }
+        ensures table { IsTable self.now.set self.now.values }
     {
         &self.classes
     }
