@@ -1,4 +1,6 @@
+pub mod Forms
 pub mod Words
+pub mod Lines
 pub mod Shapes
 pub mod Readings
 pub mod Faults
