@@ -1,0 +1,4 @@
+pub mod Runs
+pub mod Counts
+pub mod Copies
+pub mod Rest

@@ -1,0 +1,4 @@
+// One node of a build: the history of the classes that it owns, and what it has to tell and to apply.
+#![tactic(auto)]
+
+pub mod laws;
