@@ -55,7 +55,7 @@ full_after targets n node p before (s ∷ ss) own = (
       (full_after targets n node p (before ++ items_of targets n node s) ss own),
 )
 
-full_agree : (targets : ℕ → List ℕ) (items : List Item) (p q copy : ℕ) (ss : List Settlement) → copy < edges targets p q →
+pub full_agree : (targets : ℕ → List ℕ) (items : List Item) (p q copy : ℕ) (ss : List Settlement) → copy < edges targets p q →
     AreFull targets items p ss →
     Agree (λ s. eqb s.class q && ltb copy (items_to items s.number p)) (λ s. eqb s.class q) ss
 full_agree targets items p q copy [] below full = tt

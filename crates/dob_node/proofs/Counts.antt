@@ -49,12 +49,12 @@ items_to-items_of targets n node s p own =
     items_to-block (λ to. eqb (owner_of n to) node) s p (targets s.class) (eq-eqb (owner_of n p) node own)
 
 -- and none of another number
-pub no_other : (test : ℕ → Bool) (s : Settlement) (number p : ℕ) (ts : List ℕ) → s.number ≢ number → items_to (map (item_for s) ts) number p ≡ 0
-no_other test s number p [] other = refl
-no_other test s number p (t ∷ ts) other =
+pub no_other : (s : Settlement) (number p : ℕ) (ts : List ℕ) → s.number ≢ number → items_to (map (item_for s) ts) number p ≡ 0
+no_other s number p [] other = refl
+no_other s number p (t ∷ ts) other =
     items_to-cons (item_for s t) (map (item_for s) ts) number p
     ∙ subst (λ b. cond (b && eqb t p) 1 0 + items_to (map (item_for s) ts) number p ≡ 0)
-    (sym (ne_eqb s.number number other)) (zero_more (items_to (map (item_for s) ts) number p) (no_other test s number p ts other))
+    (sym (ne_eqb s.number number other)) (zero_more (items_to (map (item_for s) ts) number p) (no_other s number p ts other))
   where
     zero_more : (m : ℕ) → m ≡ 0 → 0 + m ≡ 0
     zero_more m is = omega arith

@@ -1,11 +1,12 @@
 -- What a history says of its classes, and what the copies of an edge know of it.
-use Rattle.std.specs.Prelude.{ℕ, ◌&&◌, ◌==◌, nat_lt, Bool, cond, List, [], ◌∷◌, count_by}
+use Rattle.std.specs.Prelude.{◌≡◌, ℕ, ◌<◌, ◌&&◌, ◌==◌, nat_lt, Bool, cond, List, [], ◌∷◌, ◌++◌, length, count_by}
 use Rattle.dob_pieces.specs.Lists.{each_below}
 use Rattle.dob_value.specs.declared.value.Value.{Value}
 use Rattle.dob_value.specs.declared.value.Value.TheVariants.{Draw}
 use Rattle.dob_share.specs.declared.news.Settlement.{Settlement}
 use Rattle.dob_share.specs.declared.news.Item.{Item}
 use Rattle.dob_share.specs.Owners.{owner_of}
+use Rattle.dob_share.specs.Values.{Better}
 
 -- how many edges lead from the class p into the class q
 abbrev pub edges : (ℕ → List ℕ) → ℕ → ℕ → ℕ
@@ -35,3 +36,17 @@ known history applied p q copy =
 unfoldable pub all_known : (ℕ → List ℕ) → ℕ → ℕ → (ℕ → List Settlement) → (ℕ → List Item) → ℕ → List Value
 all_known targets classes n histories applied p = each_below (λ (q : ℕ).
     each_below (λ (copy : ℕ). known (histories (owner_of n q)) (applied (owner_of n q)) p q copy ∷ []) (edges targets p q)) classes
+
+-- A settlement that can come next in the history of a node: it has its place's number and tells of one of the node's
+-- classes that its value has become better.
+pub record IsNext (classes n node : ℕ) (history : List Settlement) (s : Settlement) : Type 0 where
+  pub number : s.number ≡ length history
+  pub below : s.class < classes
+  pub own : owner_of n s.class ≡ node
+  pub was : s.was ≡ value_of history s.class
+  pub better : Better s.was s.now
+
+-- each settlement of a node's history could come next after those before it
+abbrev pub IsChained : ℕ → ℕ → ℕ → List Settlement → Type 0
+IsChained classes n node history = (before : List Settlement) (s : Settlement) (behind : List Settlement) →
+    history ≡ before ++ s ∷ behind → IsNext classes n node before s
