@@ -8,3 +8,4 @@ pub mod Tables
 pub mod Reach
 pub mod Verdicts
 pub mod Appends
+pub mod MoveLists

@@ -144,6 +144,7 @@ pub IsInClass-class_number : (set : PieceSet) (s : Setup) → IsPositionOf set s
 IsInClass-class_number set s p =
     let e = earlier set s p in
     record {
+      position = p;
       first = e.0;
       representative = e.1.representative;
       before = subst (HasClass set e.0) (sym (class_number-is set s ∙ ap (marks_below (marked set)) e.1.rank_is)) (HasClass-marked set e.0 e.1.position);

@@ -18,3 +18,5 @@ pub mod Found
 pub mod Marks
 pub mod Words
 pub mod ClassNumbers
+pub mod Counted
+pub mod Representatives

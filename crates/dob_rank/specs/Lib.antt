@@ -1,4 +1,6 @@
 pub mod Order
 pub mod Numbers
 pub mod Marks
+pub mod ClassRows
+pub mod Laws
 pub mod Faults

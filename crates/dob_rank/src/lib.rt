@@ -11,6 +11,7 @@ mod block;
 mod classes;
 mod fault;
 mod forms;
+pub mod laws;
 mod layers;
 mod radix;
 mod ranks;

@@ -7,3 +7,5 @@ pub mod Kept
 pub mod Counting
 pub mod Gathering
 pub mod Classes
+pub mod Ascending
+pub mod Edges

@@ -6,6 +6,7 @@ ghost use Rattle.dob_rank.specs.Marks.{classes_of};
 ghost use Rattle.dob_unmove.specs.declared.undo.Undo.{Undo};
 ghost use Rattle.dob_unmove.specs.Undoes.{CanUndo, earlier};
 ghost use Rattle.dob_unmove.specs.Unmoves.{CountEdges, ArePredecessors};
+ghost use Rattle.dob_unmove.specs.Edges.{predecessors};
 ghost use Rattle.dob_unmove.specs.Classes.{IsTurned, IsFirstIn};
 ghost use Rattle.dob_unmove.specs.Gathers.{Finds, Adds};
 
@@ -71,7 +72,8 @@ fn gather<N: Numbering>(alloc: Global, classes: &N, first: &Position) -> Result<
 /// there. Err where no memory was left for the list.
 pub fn back(alloc: Global, classes: &Classes, class: u64) -> Result<Vec<u64>, Memory>
     requires { class < classes_of classes.now.set }
-    ensures { IfOk result (λ list. (q : Setup) → IsFirstIn classes.now.set q class → ArePredecessors (IsFirstIn classes.now.set) q list.items) }
+    ensures counts { IfOk result (λ list. (q : Setup) → IsFirstIn classes.now.set q class → ArePredecessors (IsFirstIn classes.now.set) q list.items) }
+    ensures list { IfOk result (λ list. list.items ≡ predecessors classes.now.set class) }
 {
     predecessors(alloc, classes, class)
 }
