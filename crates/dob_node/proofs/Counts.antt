@@ -7,7 +7,7 @@ use Rattle.dob_share.specs.declared.news.Settlement.{Settlement}
 use Rattle.dob_share.specs.declared.news.Item.{Item}
 use Rattle.dob_share.specs.Owners.{owner_of}
 use Rattle.dob_node.specs.Items.{item_for, items_of}
-use Rattle.dob_node.specs.Histories.{edges, items_to}
+use Rattle.dob_node.specs.Histories.{copies, items_to}
 
 pub items_to-append : (xs ys : List Item) (number to : ℕ) → items_to (xs ++ ys) number to ≡ items_to xs number to + items_to ys number to
 items_to-append xs ys number to = sum_by-append (λ (item : Item). cond (eqb item.number number && eqb item.to to) 1 0) xs ys
@@ -44,7 +44,7 @@ items_to-block test s p (t ∷ ts) own =
 
 -- a settlement makes an item for each edge
 pub items_to-items_of : (targets : ℕ → List ℕ) (n node : ℕ) (s : Settlement) (p : ℕ) → owner_of n p ≡ node →
-    items_to (items_of targets n node s) s.number p ≡ edges targets p s.class
+    items_to (items_of targets n node s) s.number p ≡ copies targets p s.class
 items_to-items_of targets n node s p own =
     items_to-block (λ to. eqb (owner_of n to) node) s p (targets s.class) (eq-eqb (owner_of n p) node own)
 

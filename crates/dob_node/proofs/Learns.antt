@@ -10,7 +10,7 @@ use Rattle.dob_share.specs.declared.news.Item.{Item}
 use Rattle.dob_share.specs.Owners.{owner_of}
 use Rattle.dob_share.specs.Cells.{Changes}
 use Rattle.dob_node.specs.Items.{item_for, items_of, items_from}
-use Rattle.dob_node.specs.Histories.{edges, items_to, last_now, value_of, known, all_known, IsNext, IsChained}
+use Rattle.dob_node.specs.Histories.{copies, items_to, last_now, value_of, known, all_known, IsNext, IsChained}
 use Rattle.dob_node.proofs.Runs.{Changes-one, Changes-each_below, each_below-same}
 use Rattle.dob_node.proofs.Counts.{items_to-append, items_to-cons, items_to-items_of, no_other}
 use Rattle.dob_node.proofs.Copies.{AreFull, NonePass, last_now-agree, last_now-none, last_now-append, full_after, full_agree}
@@ -21,7 +21,7 @@ more_full : (targets : ℕ → List ℕ) (items more : List Item) (p : ℕ) (ss 
 more_full targets items more p [] full = tt
 more_full targets items more p (s ∷ ss) full = (
   (let sum : items_to (items ++ more) s.number p ≡ items_to items s.number p + items_to more s.number p = items_to-append items more s.number p in
-  let enough : edges targets p s.class ≤ items_to items s.number p = full.0 in
+  let enough : copies targets p s.class ≤ items_to items s.number p = full.0 in
   omega arith),
   more_full targets items more p ss full.1,
 )
@@ -44,7 +44,7 @@ pub record IsAround (before : List Settlement) (s : Settlement) (behind : List S
 
 -- what a copy knows then
 known_at : (targets : ℕ → List ℕ) (n node : ℕ) (before : List Settlement) (s : Settlement) (behind : List Settlement)
-    (part : List Item) (p q copy : ℕ) → IsAround before s behind part → owner_of n p ≡ node → copy < edges targets p q →
+    (part : List Item) (p q copy : ℕ) → IsAround before s behind part → owner_of n p ≡ node → copy < copies targets p q →
     known (before ++ s ∷ behind) (items_from targets n node before ++ part) p q copy
     ≡ cond (eqb s.class q && ltb copy (items_to part s.number p)) s.now (value_of before q)
 known_at targets n node before s behind part p q copy around own below =
@@ -121,7 +121,7 @@ module _ (targets : ℕ → List ℕ) (classes n : ℕ) (histories : ℕ → Lis
   numbered = subst (AreNumbered 0) made.history_is (chained_numbered classes n i (histories i) chained)
 
   -- what a copy knows before and after
-  knows_before : (p q copy : ℕ) → owner_of n p ≡ j → owner_of n q ≡ i → copy < edges targets p q →
+  knows_before : (p q copy : ℕ) → owner_of n p ≡ j → owner_of n q ≡ i → copy < copies targets p q →
       known (histories (owner_of n q)) (applied (owner_of n q)) p q copy
       ≡ cond (eqb s.class q && ltb copy (items_to made.part s.number p)) s.now (value_of made.before q)
   knows_before p q copy own owned below =
@@ -134,7 +134,7 @@ module _ (targets : ℕ → List ℕ) (classes n : ℕ) (histories : ℕ → Lis
         alone = part_alone targets n j s made.part (item ∷ made.rest) made.block_is;
       }) own below
 
-  knows_after : (p q copy : ℕ) → owner_of n p ≡ j → owner_of n q ≡ i → copy < edges targets p q →
+  knows_after : (p q copy : ℕ) → owner_of n p ≡ j → owner_of n q ≡ i → copy < copies targets p q →
       known (histories (owner_of n q)) (after (owner_of n q)) p q copy
       ≡ cond (eqb s.class q && ltb copy (items_to more s.number p)) s.now (value_of made.before q)
   knows_after p q copy own owned below =
@@ -150,10 +150,10 @@ module _ (targets : ℕ → List ℕ) (classes n : ℕ) (histories : ℕ → Lis
 
   -- the two rows of a class
   abbrev row : (ℕ → List Item) → ℕ → ℕ → List Value
-  row items p q = each_below (λ (copy : ℕ). known (histories (owner_of n q)) (items (owner_of n q)) p q copy ∷ []) (edges targets p q)
+  row items p q = each_below (λ (copy : ℕ). known (histories (owner_of n q)) (items (owner_of n q)) p q copy ∷ []) (copies targets p q)
 
   -- where the item is for another class, or the edge goes into another class, nothing changes
-  same_copy : (p q copy : ℕ) → owner_of n p ≡ j → owner_of n q ≡ i → copy < edges targets p q →
+  same_copy : (p q copy : ℕ) → owner_of n p ≡ j → owner_of n q ≡ i → copy < copies targets p q →
       (eqb s.class q && ltb copy (items_to made.part s.number p)) ≡ (eqb s.class q && ltb copy (items_to more s.number p)) →
       known (histories (owner_of n q)) (applied (owner_of n q)) p q copy ≡ known (histories (owner_of n q)) (after (owner_of n q)) p q copy
   same_copy p q copy own owned below same =
@@ -164,9 +164,9 @@ module _ (targets : ℕ → List ℕ) (classes n : ℕ) (histories : ℕ → Lis
   same_row : (p q : ℕ) → owner_of n p ≡ j → (p ≢ item.to) ⊎ (q ≢ s.class) → row applied p q ≡ row after p q
   same_row p q own other = elim (cases_eq (owner_of n q) i) [
     | inl owned ↦ each_below-same (λ (copy : ℕ). known (histories (owner_of n q)) (applied (owner_of n q)) p q copy ∷ [])
-        (λ (copy : ℕ). known (histories (owner_of n q)) (after (owner_of n q)) p q copy ∷ []) (edges targets p q)
+        (λ (copy : ℕ). known (histories (owner_of n q)) (after (owner_of n q)) p q copy ∷ []) (copies targets p q)
         (λ copy below. ap (λ v. v ∷ []) (same_copy p q copy own owned below (tests copy)))
-    | inr elsewhere ↦ ap (λ items. each_below (λ (copy : ℕ). known (histories (owner_of n q)) items p q copy ∷ []) (edges targets p q))
+    | inr elsewhere ↦ ap (λ items. each_below (λ (copy : ℕ). known (histories (owner_of n q)) items p q copy ∷ []) (copies targets p q))
         (sym (same_else (owner_of n q) elsewhere))
   ]
     where
@@ -197,9 +197,9 @@ module _ (targets : ℕ → List ℕ) (classes n : ℕ) (histories : ℕ → Lis
       one_item s item item.to number_is ∙ ap (λ b. cond b 1 0) (eq-eqb item.to item.to refl) in
       omega arith
 
-  has_copy : taught < edges targets item.to s.class
+  has_copy : taught < copies targets item.to s.class
   has_copy =
-      let whole : items_to (items_of targets n j s) s.number item.to ≡ edges targets item.to s.class =
+      let whole : items_to (items_of targets n j s) s.number item.to ≡ copies targets item.to s.class =
       items_to-items_of targets n j s item.to source.own in
       let split_is : items_to (items_of targets n j s) s.number item.to ≡ items_to (more ++ made.rest) s.number item.to =
       ap (λ items. items_to items s.number item.to) longer in
@@ -215,7 +215,7 @@ module _ (targets : ℕ → List ℕ) (classes n : ℕ) (histories : ℕ → Lis
       let own = source.own in
       let is_class : eqb s.class q ≡ true = eq-eqb s.class q refl in
       Changes-each_below (λ (copy : ℕ). known (histories (owner_of n q)) (applied (owner_of n q)) p q copy ∷ [])
-      (λ (copy : ℕ). known (histories (owner_of n q)) (after (owner_of n q)) p q copy ∷ []) (edges targets p q) taught item.was item.now has_copy
+      (λ (copy : ℕ). known (histories (owner_of n q)) (after (owner_of n q)) p q copy ∷ []) (copies targets p q) taught item.was item.now has_copy
       (Changes-one (known (histories (owner_of n q)) (applied (owner_of n q)) p q taught) (known (histories (owner_of n q)) (after (owner_of n q)) p q taught)
       item.was item.now
       (knows_before p q taught own next.own has_copy

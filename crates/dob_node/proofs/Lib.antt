@@ -4,3 +4,4 @@ pub mod Copies
 pub mod Rest
 pub mod Splits
 pub mod Learns
+pub mod Takes

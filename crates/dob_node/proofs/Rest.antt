@@ -29,7 +29,7 @@ use Rattle.dob_share.specs.declared.news.Settlement.{Settlement}
 use Rattle.dob_share.specs.declared.news.Item.{Item}
 use Rattle.dob_share.specs.Owners.{owner_of}
 use Rattle.dob_node.specs.Items.{items_from}
-use Rattle.dob_node.specs.Histories.{edges, value_of, known, all_known}
+use Rattle.dob_node.specs.Histories.{copies, value_of, known, all_known}
 use Rattle.dob_node.specs.Quiet.{FollowsFromKnown, FollowsAtStatus, AreTargets, IsQuiet, AreGathered, QuietIsRight}
 use Rattle.dob_node.proofs.Runs.{in_each_below, from_each_below, only_one, the_one}
 use Rattle.dob_node.proofs.Copies.{all_applied}
@@ -62,7 +62,7 @@ module _ (set : PieceSet) (targets : ℕ → List ℕ) (n : ℕ) (histories : �
   copy_of p q copy = known (histories (owner_of n q)) (applied (owner_of n q) (owner_of n p)) p q copy
 
   -- each copy knows the value
-  copy_knows : (p q copy : ℕ) → copy < edges targets p q → copy_of p q copy ≡ value q
+  copy_knows : (p q copy : ℕ) → copy < copies targets p q → copy_of p q copy ≡ value q
   copy_knows p q copy below =
       let i = owner_of n q in
       let j = owner_of n p in
@@ -85,13 +85,13 @@ module _ (set : PieceSet) (targets : ℕ → List ℕ) (n : ℕ) (histories : �
       (below, same_Some u (value q) (sym entry ∙ gathered.each q below))
 
   -- a class with an edge is that of a successor
-  successor : (p : Setup) (a : ℕ) → IsFirstIn set p a → (q : ℕ) (u : Value) → q < classes_of set → 0 < edges targets a q → u ≡ value q →
+  successor : (p : Setup) (a : ℕ) → IsFirstIn set p a → (q : ℕ) (u : Value) → q < classes_of set → 0 < copies targets a q → u ≡ value q →
       HasSuccessor Has p u
   successor p a first q u below above same =
       let rep = class_setup set q in
       let is : IsFirstIn set rep q = class_setup_is set q (classes_of set) (HasClasses-classes_of set) below in
       let edge = (are_targets rep q is).counts.edges p a first in
-      let move = some_of edge.moves (edges targets a q) edge.counted above in
+      let move = some_of edge.moves (copies targets a q) edge.counted above in
       let leads = edge.sound move.0 move.1 in
       let o = leads.1.0 in (
         move.0,
@@ -114,11 +114,11 @@ module _ (set : PieceSet) (targets : ℕ → List ℕ) (n : ℕ) (histories : �
   heard : (p : Setup) (a : ℕ) → IsFirstIn set p a → (u : Value) → Contains (knows a) u → HasSuccessor Has p u
   unfolding all_known
   heard p a first u there =
-      let at = from_each_below (λ (q : ℕ). each_below (λ (copy : ℕ). copy_of a q copy ∷ []) (edges targets a q)) (classes_of set) u there in
+      let at = from_each_below (λ (q : ℕ). each_below (λ (copy : ℕ). copy_of a q copy ∷ []) (copies targets a q)) (classes_of set) u there in
       let q = at.0 in
-      let row = from_each_below (λ (copy : ℕ). copy_of a q copy ∷ []) (edges targets a q) u at.2 in
+      let row = from_each_below (λ (copy : ℕ). copy_of a q copy ∷ []) (copies targets a q) u at.2 in
       let is : copy_of a q row.0 ≡ u = only_one (copy_of a q row.0) u row.2 in
-      let below : row.0 < edges targets a q = row.1 in
+      let below : row.0 < copies targets a q = row.1 in
       successor p a first q u at.1 (omega arith) (sym is ∙ copy_knows a q row.0 below)
 
   -- and the value of each successor is known to a copy
@@ -133,9 +133,9 @@ module _ (set : PieceSet) (targets : ℕ → List ℕ) (n : ℕ) (histories : �
       let is_rep = first_is set o rep position has.number.representative in
       let edge = (are_targets rep q (is_rep, has.number.before)).counts.edges p a first in
       let leads : LeadsInto p rep move = (goes_on, (o, goes, turn rep o is_rep.0 position has.number.representative.0)) in
-      let above : 0 < edges targets a q = none_of edge.moves (edges targets a q) move edge.counted (edge.whole move leads) in
-      in_each_below (λ (q : ℕ). each_below (λ (copy : ℕ). copy_of a q copy ∷ []) (edges targets a q)) (classes_of set) q u there.0
-      (in_each_below (λ (copy : ℕ). copy_of a q copy ∷ []) (edges targets a q) 0 u above
+      let above : 0 < copies targets a q = none_of edge.moves (copies targets a q) move edge.counted (edge.whole move leads) in
+      in_each_below (λ (q : ℕ). each_below (λ (copy : ℕ). copy_of a q copy ∷ []) (copies targets a q)) (classes_of set) q u there.0
+      (in_each_below (λ (copy : ℕ). copy_of a q copy ∷ []) (copies targets a q) 0 u above
       (the_one (copy_of a q 0) u (copy_knows a q 0 above ∙ sym there.1)))
     where
       turn : (rep o : Setup) → IsPositionOf set rep → IsPositionOf set o → (rep ≡ o) ⊎ (rep ≡ mirrored o) → IsEither rep o

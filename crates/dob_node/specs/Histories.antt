@@ -8,9 +8,9 @@ use Rattle.dob_share.specs.declared.news.Item.{Item}
 use Rattle.dob_share.specs.Owners.{owner_of}
 use Rattle.dob_share.specs.Values.{Better}
 
--- how many edges lead from the class p into the class q
-abbrev pub edges : (ℕ → List ℕ) → ℕ → ℕ → ℕ
-edges targets p q = count_by (λ to. to == p) (targets q)
+-- how many edges lead from the class p into the class q, which is how often p stands among the targets of q
+abbrev pub copies : (ℕ → List ℕ) → ℕ → ℕ → ℕ
+copies targets p q = count_by (λ to. to == p) (targets q)
 
 -- the `now` of the last settlement that passes the test, or else the value before
 abbrev pub last_now : (Settlement → Bool) → Value → List Settlement → Value
@@ -35,7 +35,7 @@ known history applied p q copy =
 -- node, and `applied` the items from each node that p's owner has applied.
 unfoldable pub all_known : (ℕ → List ℕ) → ℕ → ℕ → (ℕ → List Settlement) → (ℕ → List Item) → ℕ → List Value
 all_known targets classes n histories applied p = each_below (λ (q : ℕ).
-    each_below (λ (copy : ℕ). known (histories (owner_of n q)) (applied (owner_of n q)) p q copy ∷ []) (edges targets p q)) classes
+    each_below (λ (copy : ℕ). known (histories (owner_of n q)) (applied (owner_of n q)) p q copy ∷ []) (copies targets p q)) classes
 
 -- A settlement that can come next in the history of a node: it has its place's number and tells of one of the node's
 -- classes that its value has become better.
