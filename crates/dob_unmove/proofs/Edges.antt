@@ -1,7 +1,7 @@
 -- The predecessors of a class are the one ascending list that counts the moves into it.
-use Rattle.std.proofs.Common.{◌≡◌, ℕ, zero, suc, ◌+◌, ◌<◌, ◌≤◌, ◌&&◌, ◌⊎◌, Bool, true, false, cond, eqb, if◌then◌else◌, List, [], ◌∷◌, refl, sym, ap, ◌∙◌, subst, inl, inr, arith, All, AllPairs, Contains}
+use Rattle.std.proofs.Common.{◌≡◌, ℕ, ◌<◌, ◌≤◌, ◌⊎◌, Bool, true, false, cond, List, [], ◌∷◌, refl, sym, ap, ◌∙◌, subst, inl, inr, arith, All, AllPairs, Contains}
 use Rattle.std.specs.List.{count_by, filter}
-use Rattle.std.proofs.lemmas.Bool.{cases_lt, cases_eq, eqb-true, eq-eqb}
+use Rattle.std.proofs.lemmas.Bool.{cases_lt, eqb-true, eq-eqb}
 use Rattle.std.proofs.lemmas.List.Elements.{All-contains, All-weaker, All-filter, All-contains_itself, Contains-append_right, filter_passes}
 use Rattle.std.proofs.lemmas.List.Kept.{AllPairs-filter}
 use Rattle.std.proofs.lemmas.List.Sums.{length-filter}
@@ -17,72 +17,22 @@ use Rattle.dob_moves.specs.declared.outlook.Status.TheVariants.{Open}
 use Rattle.dob_moves.specs.Statuses.{HasStatus, AreMoves}
 use Rattle.dob_moves.proofs.MoveLists.{AreMoves-moves_of}
 use Rattle.dob_moves.proofs.Outcomes.{Goes-is, Goes-moved, IsLegal-Goes, total-Goes}
-use Rattle.dob_rank.specs.Order.{IsPositionOf, HasClass}
-use Rattle.dob_rank.specs.Numbers.{size_of, rank_of, nth}
-use Rattle.dob_rank.specs.Marks.{one_if, marks_below, is_first, classes_of, class_number}
-use Rattle.dob_rank.proofs.Marks.{numbering, marked-first, HasClass-marks, HasClass-marked, marks_below-marked}
-use Rattle.dob_rank.proofs.Words.{marks_below_more}
+use Rattle.dob_rank.specs.Order.{IsPositionOf, HasClass, IsEither, IsFirstIn}
+use Rattle.dob_rank.specs.ClassRows.{class_setup}
+use Rattle.dob_rank.specs.Marks.{classes_of, class_number}
+use Rattle.dob_rank.proofs.Counted.{no_longer}
+use Rattle.dob_rank.proofs.Marks.{HasClass-marked, HasClasses-classes_of}
 use Rattle.dob_rank.proofs.ClassNumbers.{class_number-below, class_number-first, class_number-mirrored, class_once}
-use Rattle.dob_unmove.specs.Unmoves.{IsEither, LeadsInto, HasEdges, CountEdges, ArePredecessors}
-use Rattle.dob_unmove.specs.Classes.{IsFirstIn}
-use Rattle.dob_unmove.specs.Edges.{marked_place, class_setup, leads_into, edges, predecessors}
-use Rattle.dob_unmove.proofs.Classes.{IsNumbering-classes, length-from_contained}
+use Rattle.dob_rank.proofs.Representatives.{class_setup_is}
+use Rattle.dob_unmove.specs.Unmoves.{LeadsInto, HasEdges, CountEdges, ArePredecessors}
+use Rattle.dob_unmove.specs.Edges.{leads_into, edges, predecessors}
+use Rattle.dob_unmove.proofs.Classes.{IsNumbering-classes}
 use Rattle.dob_unmove.proofs.Ascending.{times, ascending_same, each-below, each-ascends, times-each, times-absent}
 
--- ---- the representative of each class number
-
--- a marked place with so many before it
-record IsPlaceOf (mark : ℕ → Bool) (number bound place : ℕ) : Type 0 where
-  below : place < bound
-  marked : mark place ≡ true
-  before : marks_below mark place ≡ number
-
-one_place : (mark : ℕ → Bool) (number n : ℕ) (on same : Bool) → mark n ≡ on → eqb (marks_below mark n) number ≡ same
-    → number < marks_below mark n + one_if on → (number < marks_below mark n → IsPlaceOf mark number n (marked_place mark number n))
-    → IsPlaceOf mark number (suc n) (if on && same then n else marked_place mark number n)
-one_place mark number n true true is is_same below earlier = record {
-  below = omega arith;
-  marked = is;
-  before = eqb-true (marks_below mark n) number is_same;
-}
-one_place mark number n true false is is_same below earlier = wider (earlier (elim (cases_eq (marks_below mark n) number) [
-  | inl same ↦ absurd (differ (marks_below mark n) number same is_same)
-  | inr other ↦ omega (arith, below, other)
-]))
-  where
-    differ : (a b : ℕ) → a ≡ b → eqb a b ≡ false → ⊥
-    differ a b same other = search (arith, same, other)
-
-    wider : IsPlaceOf mark number n (marked_place mark number n) → IsPlaceOf mark number (suc n) (marked_place mark number n)
-    wider at = record { below = (let low = at.below in omega arith); marked = at.marked; before = at.before }
-one_place mark number n false same is is_same below earlier =
-    let at = earlier (omega (arith, below)) in
-    record { below = (let low = at.below in omega arith); marked = at.marked; before = at.before }
-
-place_found : (mark : ℕ → Bool) (number n : ℕ) → number < marks_below mark n → IsPlaceOf mark number n (marked_place mark number n)
-unfolding marks_below
-place_found mark number zero below = absurd (omega arith)
-place_found mark number (suc n) below =
-    one_place mark number n (mark n) (eqb (marks_below mark n) number) refl refl
-    (let more = marks_below_more mark n in omega (arith, more, below)) (place_found mark number n)
-
-classes_of-marks : (set : PieceSet) → classes_of set ≡ marks_below (is_first set) (size_of set)
-unfolding classes_of
-classes_of-marks set = marks_below-marked set (size_of set) (omega arith)
+-- ---- class numbers
 
 pub IsFirstIn-class_setup : (set : PieceSet) (class : ℕ) → class < classes_of set → IsFirstIn set (class_setup set class) class
-unfolding class_setup
-IsFirstIn-class_setup set class below =
-    let rank = marked_place (is_first set) class (size_of set) in
-    let found : IsPlaceOf (is_first set) class (size_of set) rank =
-    place_found (is_first set) class (size_of set) (subst (λ n. class < n) (classes_of-marks set) below) in
-    let is = (numbering set).sound rank found.below in
-    let back : rank_of set (nth set rank) ≡ rank = (numbering set).forth rank found.below in (
-      (is, marked-first set (nth set rank) is (ap (is_first set) back ∙ found.marked)),
-      subst (HasClass set (nth set rank)) (ap (marks_below (is_first set)) back ∙ found.before) (HasClass-marks set (nth set rank) is),
-    )
-
--- ---- class numbers
+IsFirstIn-class_setup set class below = class_setup_is set class (classes_of set) (HasClasses-classes_of set) below
 
 -- the representative's number is that of its class
 number_of_first : (set : PieceSet) (q : Setup) (class : ℕ) → IsFirstIn set q class → class_number set q ≡ class
@@ -177,8 +127,8 @@ module _ (set : PieceSet) (p q : Setup) (from class : ℕ) (is_p : IsFirstIn set
 -- two numbers of the moves from one to another are one
 same_edges : (p q : Setup) (m n : ℕ) → HasEdges p q m → HasEdges p q n → m ≡ n
 same_edges p q m n a b =
-    let up = length-from_contained a.moves b.moves a.once (λ x here. b.whole x (a.sound x here)) in
-    let down = length-from_contained b.moves a.moves b.once (λ x here. a.whole x (b.sound x here)) in
+    let up = no_longer a.moves b.moves a.once (λ x here. b.whole x (a.sound x here)) in
+    let down = no_longer b.moves a.moves b.once (λ x here. a.whole x (b.sound x here)) in
     omega (arith, up, down, a.counted, b.counted)
 
 -- ---- the list

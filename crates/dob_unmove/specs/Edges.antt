@@ -1,5 +1,5 @@
 -- The predecessors of a class as one list: each class as often as moves of its representative lead there.
-use Rattle.std.specs.Prelude.{ℕ, zero, suc, ◌==◌, ◌&&◌, if◌then◌else◌, Bool, List, count_by, replicate}
+use Rattle.std.specs.Prelude.{ℕ, ◌==◌, Bool, List, count_by, replicate}
 use Rattle.dob_pieces.specs.declared.piece_set.PieceSet.{PieceSet}
 use Rattle.dob_pieces.specs.declared.setup.Setup.{Setup}
 use Rattle.dob_pieces.specs.Lists.{each_below}
@@ -7,21 +7,8 @@ use Rattle.dob_pieces.specs.Setups.{turned}
 use Rattle.dob_moves.specs.declared.choice.Move.{Move}
 use Rattle.dob_moves.specs.Outcomes.{moved}
 use Rattle.dob_moves.specs.MoveLists.{moves_of}
-use Rattle.dob_rank.specs.Numbers.{size_of, nth}
-use Rattle.dob_rank.specs.Marks.{marks_below, is_first, classes_of, class_number}
-
--- ---- the representative of each class number
-
--- the marked place, below a bound, with so many marked places before it
-abbrev pub marked_place : (ℕ → Bool) → ℕ → ℕ → ℕ
-marked_place mark number zero = 0
-marked_place mark number (suc n) = if mark n && (marks_below mark n == number) then n else marked_place mark number n
-
--- the representative with so many representatives before it
-unfoldable pub class_setup : PieceSet → ℕ → Setup
-class_setup set class = nth set (marked_place (is_first set) class (size_of set))
-
--- ---- the moves from class to class
+use Rattle.dob_rank.specs.ClassRows.{class_setup}
+use Rattle.dob_rank.specs.Marks.{classes_of, class_number}
 
 -- the move leads from the position into the class
 abbrev pub leads_into : PieceSet → Setup → ℕ → Move → Bool

@@ -1,6 +1,6 @@
 -- The list that counts the moves into the class is the list of its predecessors.
 use Rattle.std.proofs.lemmas.Result.{IfOk-weaker}
-use Rattle.dob_unmove.specs.Edges.{class_setup}
+use Rattle.dob_rank.specs.ClassRows.{class_setup}
 use Rattle.dob_unmove.proofs.Edges.{IsFirstIn-class_setup, same_predecessors}
 use Rattle.dob_unmove.proofs.predecessors.back.Goals as goal
 
