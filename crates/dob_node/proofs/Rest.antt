@@ -24,13 +24,15 @@ use Rattle.dob_value.proofs.ClassNumbers.{has_entry, one_entry, first_is}
 use Rattle.dob_value.proofs.Rows.{class_setup_is}
 use Rattle.dob_value.proofs.Consistency.{consistent_is_right}
 use Rattle.dob_unmove.specs.Classes.{IsFirstIn}
-use Rattle.dob_unmove.specs.Unmoves.{IsEither, LeadsInto}
+use Rattle.dob_unmove.specs.Edges.{predecessors}
+use Rattle.dob_unmove.proofs.Edges.{ArePredecessors-predecessors}
+use Rattle.dob_unmove.specs.Unmoves.{ArePredecessors, IsEither, LeadsInto}
 use Rattle.dob_share.specs.declared.news.Settlement.{Settlement}
 use Rattle.dob_share.specs.declared.news.Item.{Item}
 use Rattle.dob_share.specs.Owners.{owner_of}
 use Rattle.dob_node.specs.Items.{items_from}
 use Rattle.dob_node.specs.Histories.{copies, value_of, known, all_known}
-use Rattle.dob_node.specs.Quiet.{FollowsFromKnown, FollowsAtStatus, AreTargets, IsQuiet, AreGathered, QuietIsRight}
+use Rattle.dob_node.specs.Quiet.{FollowsFromKnown, FollowsAtStatus, IsQuiet, AreGathered, QuietIsRight}
 use Rattle.dob_node.proofs.Runs.{in_each_below, from_each_below, only_one, the_one}
 use Rattle.dob_node.proofs.Copies.{all_applied}
 
@@ -44,6 +46,10 @@ none_of xs number x whole there = let below : there.0 < length xs = there.1 in o
 
 below_owner : (n class : ℕ) → 0 < n → owner_of n class < n
 below_owner n class some = omega arith
+
+-- each class has its predecessors as targets
+abbrev pub AreTargets : PieceSet → (ℕ → List ℕ) → Type 0
+AreTargets set targets = (q : Setup) (class : ℕ) → IsFirstIn set q class → ArePredecessors (IsFirstIn set) q (targets class)
 
 module _ (set : PieceSet) (targets : ℕ → List ℕ) (n : ℕ) (histories : ℕ → List Settlement) (expanded : ℕ → ℕ)
     (sent applied : ℕ → ℕ → List Item) (values : List Value) (some : 0 < n) (are_targets : AreTargets set targets)
@@ -99,7 +105,7 @@ module _ (set : PieceSet) (targets : ℕ → List ℕ) (n : ℕ) (histories : �
         leads.1.1,
         record {
           class = q;
-          number = record { first = rep; representative = (turn rep o is.0.0 leads.1.2, is.0.1); before = is.1 };
+          number = record { position = moves_keep_the_set set p move.0 o first.0.0 leads.0 leads.1.1; first = rep; representative = (turn rep o is.0.0 leads.1.2, is.0.1); before = is.1 };
           entry = gathered.each q below ∙ ap Some (sym same);
         },
       )
@@ -188,6 +194,10 @@ module _ (set : PieceSet) (targets : ℕ → List ℕ) (n : ℕ) (histories : �
         );
   }
 
+are_predecessors : (set : PieceSet) → AreTargets set (predecessors set)
+are_predecessors set q class is = ArePredecessors-predecessors set q class is
+
 pub quiet_is_right : QuietIsRight
-quiet_is_right set targets n histories expanded sent applied values some are_targets quiet gathered =
-    consistent_is_right set values (consistent set targets n histories expanded sent applied values some are_targets quiet gathered)
+quiet_is_right set n histories expanded sent applied values some quiet gathered =
+    consistent_is_right set values
+    (consistent set (predecessors set) n histories expanded sent applied values some (are_predecessors set) quiet gathered)

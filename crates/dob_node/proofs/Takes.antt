@@ -23,7 +23,7 @@ counted p (x ∷ xs) above = elim (cases_Bool (p x)) [
   | inl is ↦ (x, head_in x xs, is)
   | inr isnt ↦
       let sum : count_by p (x ∷ xs) ≡ cond (p x) 1 0 + count_by p xs = count_cons p x xs in
-      let none : cond (p x) 1 0 ≡ 0 = ap (λ b. cond b 1 0) isnt in
+      let none : cond {A = ℕ} (p x) 1 0 ≡ 0 = ap (λ b. cond b 1 0) isnt in
       let rest = counted p xs (omega arith) in
       (rest.0, Contains-append_right (x ∷ []) xs rest.0 rest.1, rest.2)
 ]
@@ -34,7 +34,7 @@ counts p (y ∷ xs) x there is =
     let sum : count_by p (y ∷ xs) ≡ cond (p y) 1 0 + count_by p xs = count_cons p y xs in
     elim (cons_cases y xs x there) [
       | inl same ↦
-          let one : cond (p y) 1 0 ≡ 1 = ap (λ b. cond b 1 0) (ap p same ∙ is) in
+          let one : cond {A = ℕ} (p y) 1 0 ≡ 1 = ap (λ b. cond b 1 0) (ap p same ∙ is) in
           omega arith
       | inr later ↦
           let rest = counts p xs x later is in

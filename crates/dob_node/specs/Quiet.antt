@@ -10,7 +10,7 @@ use Rattle.dob_value.specs.declared.value.Value.{Value}
 use Rattle.dob_value.specs.declared.value.Value.TheVariants.{Win, Loss, Draw}
 use Rattle.dob_value.specs.Follows.{IsEntry, IsValueTable}
 use Rattle.dob_unmove.specs.Classes.{IsFirstIn}
-use Rattle.dob_unmove.specs.Unmoves.{ArePredecessors}
+use Rattle.dob_unmove.specs.Edges.{predecessors}
 use Rattle.dob_share.specs.declared.news.Settlement.{Settlement}
 use Rattle.dob_share.specs.declared.news.Item.{Item}
 use Rattle.dob_share.specs.Owners.{owner_of}
@@ -37,10 +37,6 @@ FollowsAtStatus Tried known v = v ≡ Loss 0
 FollowsAtStatus Stuck known v = v ≡ Loss 0
 FollowsAtStatus Open known v = FollowsFromKnown known v
 
--- each class has its predecessors as targets
-abbrev pub AreTargets : PieceSet → (ℕ → List ℕ) → Type 0
-AreTargets set targets = (q : Setup) (class : ℕ) → IsFirstIn set q class → ArePredecessors (IsFirstIn set) q (targets class)
-
 -- Nothing is left to do: each history is wholly expanded, all items of the settlements expanded are sent (those for
 -- the node itself, those for the others), all that was sent is applied, and each class has the value that follows from
 -- what the copies of its moves know.
@@ -61,7 +57,6 @@ pub record AreGathered (set : PieceSet) (n : ℕ) (histories : ℕ → List Sett
 
 -- quiet nodes hold the value table
 abbrev pub QuietIsRight : Type 0
-QuietIsRight = (set : PieceSet) (targets : ℕ → List ℕ) (n : ℕ) (histories : ℕ → List Settlement) (expanded : ℕ → ℕ)
-    (sent applied : ℕ → ℕ → List Item) (values : List Value) →
-    0 < n → AreTargets set targets → IsQuiet set targets n histories expanded sent applied →
+QuietIsRight = (set : PieceSet) (n : ℕ) (histories : ℕ → List Settlement) (expanded : ℕ → ℕ) (sent applied : ℕ → ℕ → List Item)
+    (values : List Value) → 0 < n → IsQuiet set (predecessors set) n histories expanded sent applied →
     AreGathered set n histories values → IsValueTable set values
