@@ -12,7 +12,7 @@ use Rattle.dob_rank.specs.Order.{IsPositionOf, Precedes, Before, key, forms, for
 use Rattle.dob_rank.specs.Numbers.{layer, count, choice, forms_number, on_board, digits}
 use Rattle.dob_rank.proofs.Choices.{Alike, Alike-next, choice-rises, layer_squares}
 use Rattle.dob_rank.proofs.LayerCounts.{holds_mover_lion, holds_enemy_lion, holds_kind-layer, count-layer, squares-layer}
-use Rattle.dob_rank.proofs.Segments.{length-layer_squares, Alike-start, choice-alike, layer_forms, length-layer_forms, forms_number-rises, forms_number-alike}
+use Rattle.dob_rank.proofs.KeyParts.{length-layer_squares, Alike-start, choice-alike, layer_forms, length-layer_forms, forms_number-rises, forms_number-alike}
 use Rattle.dob_rank.proofs.Order.{Precedes-split, Precedes-left, append-same}
 use Rattle.dob_rank.proofs.Digits.{HasParts, HasParts-from_position}
 

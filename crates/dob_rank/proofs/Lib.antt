@@ -6,7 +6,7 @@ pub mod Settled
 pub mod FormDigits
 pub mod LayerCounts
 pub mod Order
-pub mod Segments
+pub mod KeyParts
 pub mod Digits
 pub mod Made
 pub mod Keys
@@ -20,3 +20,4 @@ pub mod Words
 pub mod ClassNumbers
 pub mod Counted
 pub mod Representatives
+pub mod Segmentation

@@ -4,3 +4,5 @@ pub mod Marks
 pub mod ClassRows
 pub mod Laws
 pub mod Faults
+pub mod Segmented
+pub mod SegmentsLeft

@@ -15,10 +15,12 @@ pub mod laws;
 mod layers;
 mod radix;
 mod ranks;
+mod segmented;
 
 pub use classes::Classes;
 pub use fault::Fault;
 pub use ranks::{rank, representative, size, unrank};
+pub use segmented::{Segments, SegmentsIter};
 
 #[cfg(test)]
 mod tests;

@@ -3,6 +3,7 @@
 ghost use Rattle.std.specs.Prelude.{◌<◌, ◌≤◌};
 
 mod key;
+mod lists;
 mod plain;
 
 use self::key::{is_first, key};

@@ -1,0 +1,206 @@
+// Lists in segments: a list that grows without moving what it has, in vectors of 2 to the power of `shift` items, of
+// which only the last may be shorter.
+ghost use Rattle.std.specs.Prelude.{◌≡◌, ◌≢◌, ◌+◌, ◌*◌, ◌/◌, ◌%◌, ◌^◌, ◌<◌, ◌≤◌, ◌==◌, List, [], ◌∷◌, ◌++◌, length, replicate, Some, IfOk, OnOk, OnErr, vec_len, slice_set, slice_get, slice_index_or};
+ghost use Rattle.dob_rank.specs.Segmented.{joined, AreSegments};
+ghost use Rattle.dob_rank.specs.SegmentsLeft.{rest_of};
+
+use dob_pieces::Memory;
+use std::alloc::Global;
+use std::marker::Model;
+use std::ops::{Index, IndexMut};
+
+/// The greatest number of items: more than any memory holds, so that numbers of items always fit.
+pub const MAX_ITEMS: u64 = 1 << 56;
+
+/// A list of items in segments of 2 to the power of `shift` items each.
+#[derive(Drop)]
+pub struct Segments<T> {
+    segments: Vec<Vec<T>>,
+    shift: u32,
+    count: u64,
+    alloc: Global,
+}
+
+impl<T> Model for Segments<T> {
+    ghost use Rattle.std.specs.Prelude.{◌≡◌, ◌^◌, ◌≤◌, List, length};
+    ghost use Rattle.std.specs.Coded.{coded_list};
+    ghost use Rattle.dob_rank.specs.Segmented.{joined, AreSegments};
+
+    ghost Value = { List T };
+
+    ghost coded = { coded_list T.code };
+
+    ghost view = { λ list. joined list.segments.items };
+
+    ghost invariant = { λ list. (list.shift ≤ 20) × (list.count ≤ 2 ^ 56) × (list.count ≡ length (joined list.segments.items)) × AreSegments (2 ^ list.shift) list.segments.items };
+}
+
+impl<T> Segments<T> {
+    /// An empty list in segments of 2 to the power of `shift` items, at most 20. It takes no memory.
+    pub fn new(alloc: Global, shift: u32) -> Segments<T>
+        requires { shift ≤ 20 }
+        ensures { result ≡ [] }
+    {
+        Segments {
+            segments: Vec::new(alloc),
+            shift,
+            count: 0,
+            alloc,
+        }
+    }
+
+    /// How many items it has.
+    pub fn len(&self) -> u64
+        ensures count { result ≡ length self.now }
+        ensures bound { result ≤ 2 ^ 56 }
+    {
+        self.count
+    }
+
+    /// Whether it has no item.
+    pub fn is_empty(&self) -> bool
+        ensures { result ≡ (length self.now == 0) }
+    {
+        self.count == 0
+    }
+}
+
+impl<T: Copy> Segments<T> {
+    /// A list of that many items, each the given one, in segments of 2 to the power of `shift` items, at most 20.
+    ///
+    /// Error: `Memory`.
+    pub fn filled(alloc: Global, shift: u32, count: u64, item: T) -> Result<Segments<T>, Memory>
+        requires { shift ≤ 20 }
+        ensures { IfOk result (λ list. list ≡ replicate count item) }
+    {
+        let mut list = Segments::new(alloc, shift);
+        for _done in 0..count {
+            list.push(item)?;
+        }
+        Ok(list)
+    }
+
+    /// The item at that place.
+    pub fn get(&self, place: u64) -> T
+        requires { place < length self.now }
+        ensures get { slice_get self.now place ≡ Some result }
+        ensures index { result ≡ slice_index_or self.now place result }
+    {
+        let (number, within) = split(place, self.shift);
+        self.segments[number][within]
+    }
+
+    /// Appends the item.
+    ///
+    /// Error: `Memory`, which leaves the list as it was.
+    pub fn push(&mut self, item: T) -> Result<(), Memory>
+        ensures appended { OnOk result (self.new ≡ self.old ++ item ∷ []) }
+        ensures unchanged { OnErr result (self.new ≡ self.old) }
+    {
+        if self.count == MAX_ITEMS {
+            return Err(Memory);
+        }
+        let number = split(self.count, self.shift).0;
+        open_segment(self.alloc, &mut self.segments, self.shift, number)?;
+        let segment = &mut self.segments[number];
+        segment.push(item)?;
+        self.count += 1;
+        Ok(())
+    }
+}
+
+impl<T> Index<usize> for Segments<T> {
+    type Output = T;
+
+    ghost can_index = { λ list place. place < length list };
+
+    ghost index_gives = { λ list place item. item ≡ slice_index_or list place item };
+
+    fn index(&self, index: usize) -> &T
+        requires { index < length self.now }
+        ensures { result.now ≡ slice_index_or self.now index result.now }
+    {
+        let (number, within) = split(index as u64, self.shift);
+        &self.segments[number][within]
+    }
+}
+
+impl<T> IndexMut<usize> for Segments<T> {
+    ghost use Rattle.std.specs.Borrow.{Lends, sem};
+    ghost use Rattle.dob_rank.specs.contracts.segmented.Segments.{the_row};
+
+    fn index_mut(&mut self, index: usize) -> &mut T
+        requires { index < length self.old }
+        ensures* writes_back { sem 𝓛 (Lends (the_row T.row) T.row self.entry result (slice_set self.old index)) }
+        ensures value { result.now ≡ slice_index_or self.old index result.now }
+    {
+        let (number, within) = split(index as u64, self.shift);
+        let segment = &mut self.segments[number];
+        &mut segment[within]
+    }
+}
+
+// Where an item stands: the number of its segment, and its place there.
+fn split(place: u64, shift: u32) -> (usize, usize)
+    requires { shift ≤ 20 }
+    ensures number { result.0 ≡ place / 2 ^ shift }
+    ensures within { result.1 ≡ place % 2 ^ shift }
+{
+    let mask = (1 << shift) - 1;
+    ((place >> shift) as usize, (place & mask) as usize)
+}
+
+// Opens the segment of that number where the last one is full. The first grows with its items; each further one is
+// reserved whole.
+fn open_segment<T: Copy>(alloc: Global, segments: &mut Vec<Vec<T>>, shift: u32, number: usize) -> Result<(), Memory>
+    requires small { shift ≤ 20 }
+    requires whole { AreSegments (2 ^ shift) segments.old.items }
+    requires end { number ≡ length (joined segments.old.items) / 2 ^ shift }
+    ensures same { joined segments.new.items ≡ joined segments.old.items }
+    ensures whole { AreSegments (2 ^ shift) segments.new.items }
+    ensures opened { OnOk result (number < vec_len segments.new) }
+{
+    if number == segments.len() {
+        let reserved = if number == 0 { 0 } else { 1 << shift };
+        segments.push(Vec::with_capacity(alloc, reserved)?)?;
+    }
+    Ok(())
+}
+
+/// The items of a list in segments, from some place on.
+#[derive(Drop)]
+pub struct SegmentsIter<'a, T> {
+    list: &'a Segments<T>,
+    next: u64,
+}
+
+impl<'a, T> Segments<T> {
+    /// The items in their order.
+    pub fn iter(&'a self) -> SegmentsIter<'a, T>
+        ensures { rest_of result ≡ self.now }
+    {
+        SegmentsIter {
+            list: self,
+            next: 0,
+        }
+    }
+}
+
+impl<'a, T: Copy> Iterator for SegmentsIter<'a, T> {
+    type Item = T;
+
+    ghost use Rattle.std.specs.Iterator.{YieldsFirst, item_count};
+
+    ghost next_gives = { YieldsFirst rest_of };
+
+    ghost remaining = { item_count rest_of };
+
+    fn next(&mut self) -> Option<T> {
+        if self.next >= self.list.len() {
+            return None;
+        }
+        let item = self.list.get(self.next);
+        self.next += 1;
+        Some(item)
+    }
+}
