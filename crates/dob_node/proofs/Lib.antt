@@ -5,3 +5,5 @@ pub mod Rest
 pub mod Splits
 pub mod Learns
 pub mod Takes
+pub mod Starts
+pub mod Settles

@@ -1,3 +1,4 @@
 pub mod Items
 pub mod Histories
 pub mod Quiet
+pub mod Openings

@@ -2,3 +2,7 @@
 #![tactic(auto)]
 
 pub mod laws;
+mod openings;
+
+pub use dob_share::Opening;
+pub use openings::opening;
