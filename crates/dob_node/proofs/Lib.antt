@@ -7,3 +7,4 @@ pub mod Learns
 pub mod Takes
 pub mod Starts
 pub mod Settles
+pub mod Totals
