@@ -1,0 +1,1 @@
+// Outboxes and batches on sets of lions alone.
