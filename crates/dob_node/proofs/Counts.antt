@@ -6,7 +6,7 @@ use Rattle.std.proofs.lemmas.List.Sums.{sum_by-cons, sum_by-append}
 use Rattle.dob_share.specs.declared.news.Settlement.{Settlement}
 use Rattle.dob_share.specs.declared.news.Item.{Item}
 use Rattle.dob_share.specs.Owners.{owner_of}
-use Rattle.dob_node.specs.Items.{item_for, items_of}
+use Rattle.dob_update.specs.Items.{item_for, items_of}
 use Rattle.dob_node.specs.Histories.{copies, items_to}
 
 pub items_to-append : (xs ys : List Item) (number to : ℕ) → items_to (xs ++ ys) number to ≡ items_to xs number to + items_to ys number to

@@ -30,7 +30,7 @@ use Rattle.dob_unmove.specs.Unmoves.{ArePredecessors, IsEither, LeadsInto}
 use Rattle.dob_share.specs.declared.news.Settlement.{Settlement}
 use Rattle.dob_share.specs.declared.news.Item.{Item}
 use Rattle.dob_share.specs.Owners.{owner_of}
-use Rattle.dob_node.specs.Items.{items_from}
+use Rattle.dob_update.specs.Items.{items_from}
 use Rattle.dob_node.specs.Histories.{copies, value_of, known, all_known}
 use Rattle.dob_node.specs.Quiet.{FollowsFromKnown, FollowsAtStatus, IsQuiet, AreGathered, QuietIsRight}
 use Rattle.dob_node.proofs.Runs.{in_each_below, from_each_below, only_one, the_one}

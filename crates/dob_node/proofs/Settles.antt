@@ -8,7 +8,7 @@ use Rattle.dob_value.specs.declared.value.Value.TheVariants.{Draw}
 use Rattle.dob_share.specs.declared.news.Settlement.{Settlement}
 use Rattle.dob_share.specs.declared.news.Item.{Item}
 use Rattle.dob_share.specs.Owners.{owner_of}
-use Rattle.dob_node.specs.Items.{items_of, items_from}
+use Rattle.dob_update.specs.Items.{items_of, items_from}
 use Rattle.dob_node.specs.Histories.{copies, items_to, last_now, value_of, known, all_known, IsNext, IsChained}
 use Rattle.dob_node.proofs.Runs.{each_below-same}
 use Rattle.dob_node.proofs.Counts.{items_to-append}

@@ -5,7 +5,7 @@ use Rattle.std.proofs.lemmas.Bool.{eqb-true, eq-eqb}
 use Rattle.dob_share.specs.declared.news.Settlement.{Settlement}
 use Rattle.dob_share.specs.declared.news.Item.{Item}
 use Rattle.dob_share.specs.Owners.{owner_of}
-use Rattle.dob_node.specs.Items.{item_for, items_of, items_from}
+use Rattle.dob_update.specs.Items.{item_for, items_of, items_from}
 use Rattle.dob_node.specs.Histories.{copies, items_to, IsChained}
 use Rattle.dob_node.proofs.Counts.{block, items_to-append, items_to-cons, items_to-items_of, no_other}
 

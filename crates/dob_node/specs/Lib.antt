@@ -1,4 +1,3 @@
-pub mod Items
 pub mod Histories
 pub mod Quiet
 pub mod Openings
