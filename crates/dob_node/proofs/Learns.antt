@@ -99,16 +99,16 @@ other_copy copy at other = elim (cases_order copy at) [
 module _ (targets : ℕ → List ℕ) (classes n : ℕ) (histories : ℕ → List Settlement) (applied after : ℕ → List Item) (i j : ℕ) (item : Item)
     (chained : IsChained classes n i (histories i)) (made : IsMade targets n j (histories i) (applied i) item)
     (grown : after i ≡ applied i ++ item ∷ []) (same_else : (k : ℕ) → k ≢ i → after k ≡ applied k) where
-  abbrev s : Settlement
+  abbrev pub s : Settlement
   s = made.s
 
   abbrev more : List Item
   more = made.part ++ item ∷ []
 
-  next : IsNext classes n i made.before s
+  pub next : IsNext classes n i made.before s
   next = chained made.before s made.behind made.history_is
 
-  source : IsFrom n j s item
+  pub source : IsFrom n j s item
   source = made_from targets n j s made.part item made.rest made.block_is
 
   number_is : item.number ≡ s.number
@@ -186,7 +186,7 @@ module _ (targets : ℕ → List ℕ) (classes n : ℕ) (histories : ℕ → Lis
       ]
 
   -- in the row of the settled class one copy learns
-  abbrev taught : ℕ
+  abbrev pub taught : ℕ
   taught = items_to made.part s.number item.to
 
   one_more : items_to more s.number item.to ≡ suc taught
@@ -197,7 +197,7 @@ module _ (targets : ℕ → List ℕ) (classes n : ℕ) (histories : ℕ → Lis
       one_item s item item.to number_is ∙ ap (λ b. cond b 1 0) (eq-eqb item.to item.to refl) in
       omega arith
 
-  has_copy : taught < copies targets item.to s.class
+  pub has_copy : taught < copies targets item.to s.class
   has_copy =
       let whole : items_to (items_of targets n j s) s.number item.to ≡ copies targets item.to s.class =
       items_to-items_of targets n j s item.to source.own in
@@ -230,13 +230,13 @@ module _ (targets : ℕ → List ℕ) (classes n : ℕ) (histories : ℕ → Lis
       (ap (λ b. eqb s.class q && b) (other_copy copy taught apart) ∙ ap (λ m. eqb s.class q && ltb copy m) (sym one_more))))
 
   -- the class that the item is for learns what it says
-  learnt : Changes (all_known targets classes n histories applied item.to) (all_known targets classes n histories after item.to) item.was item.now
+  pub learnt : Changes (all_known targets classes n histories applied item.to) (all_known targets classes n histories after item.to) item.was item.now
   unfolding all_known
   learnt = Changes-each_below (λ (q : ℕ). row applied item.to q) (λ (q : ℕ). row after item.to q) classes s.class item.was item.now next.below
       row_learns (λ q below apart. same_row item.to q source.own (inr apart))
 
   -- and no other class of the node learns anything
-  nothing_learnt : (p : ℕ) → owner_of n p ≡ j → p ≢ item.to →
+  pub nothing_learnt : (p : ℕ) → owner_of n p ≡ j → p ≢ item.to →
       all_known targets classes n histories applied p ≡ all_known targets classes n histories after p
   unfolding all_known
   nothing_learnt p own apart =

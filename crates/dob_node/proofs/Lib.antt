@@ -8,3 +8,5 @@ pub mod Takes
 pub mod Starts
 pub mod Settles
 pub mod Totals
+pub mod Kept
+pub mod Steps

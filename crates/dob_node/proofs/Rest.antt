@@ -37,14 +37,14 @@ use Rattle.dob_node.proofs.Runs.{in_each_below, from_each_below, only_one, the_o
 use Rattle.dob_node.proofs.Copies.{all_applied}
 
 -- what a list of an edge's moves has
-some_of : {X : Type 0} (xs : List X) (number : ℕ) → length xs ≡ number → 0 < number → (x : X) × Contains xs x
+pub some_of : {X : Type 0} (xs : List X) (number : ℕ) → length xs ≡ number → 0 < number → (x : X) × Contains xs x
 some_of [] number whole above = let none : 0 ≡ number = whole in absurd (omega arith)
 some_of (x ∷ xs) number whole above = (x, (0, omega arith, refl))
 
 none_of : {X : Type 0} (xs : List X) (number : ℕ) (x : X) → length xs ≡ number → Contains xs x → 0 < number
 none_of xs number x whole there = let below : there.0 < length xs = there.1 in omega arith
 
-below_owner : (n class : ℕ) → 0 < n → owner_of n class < n
+pub below_owner : (n class : ℕ) → 0 < n → owner_of n class < n
 below_owner n class some = omega arith
 
 -- each class has its predecessors as targets

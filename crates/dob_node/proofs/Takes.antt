@@ -14,10 +14,10 @@ use Rattle.dob_node.specs.Quiet.{AreWins, FollowsFromKnown}
 
 -- ---- what is counted is there, and what is there is counted
 
-count_cons : (p : Value → Bool) (x : Value) (xs : List Value) → count_by p (x ∷ xs) ≡ cond (p x) 1 0 + count_by p xs
+count_cons : {X : Type 0} (p : X → Bool) (x : X) (xs : List X) → count_by p (x ∷ xs) ≡ cond (p x) 1 0 + count_by p xs
 count_cons p x xs = sum_by-cons (λ y. cond (p y) 1 0) x xs
 
-pub counted : (p : Value → Bool) (xs : List Value) → 0 < count_by p xs → (x : Value) × Contains xs x × (p x ≡ true)
+pub counted : {X : Type 0} (p : X → Bool) (xs : List X) → 0 < count_by p xs → (x : X) × Contains xs x × (p x ≡ true)
 counted p [] above = absurd (omega arith)
 counted p (x ∷ xs) above = elim (cases_Bool (p x)) [
   | inl is ↦ (x, head_in x xs, is)

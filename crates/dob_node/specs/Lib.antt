@@ -1,3 +1,4 @@
 pub mod Histories
 pub mod Quiet
 pub mod Openings
+pub mod Lawful
