@@ -21,8 +21,8 @@ more_full : (targets : ℕ → List ℕ) (items more : List Item) (p : ℕ) (ss 
 more_full targets items more p [] full = tt
 more_full targets items more p (s ∷ ss) full = (
   (let sum : items_to (items ++ more) s.number p ≡ items_to items s.number p + items_to more s.number p = items_to-append items more s.number p in
-  let enough : copies targets p s.class ≤ items_to items s.number p = full.0 in
-  omega arith),
+      let enough : copies targets p s.class ≤ items_to items s.number p = full.0 in
+      omega arith),
   more_full targets items more p ss full.1,
 )
 
@@ -31,8 +31,8 @@ none_behind : (items : List Item) (p q copy number : ℕ) (ss : List Settlement)
 none_behind items p q copy number [] numbered none = tt
 none_behind items p q copy number (s ∷ ss) numbered none = (
   (let own : s.number ≡ number = numbered.0 in
-  let nothing : items_to items s.number p ≡ 0 = none s.number (omega arith) in
-  and_right (eqb s.class q) (ltb copy (items_to items s.number p)) (le-ltb copy (items_to items s.number p) (omega arith))),
+      let nothing : items_to items s.number p ≡ 0 = none s.number (omega arith) in
+      and_right (eqb s.class q) (ltb copy (items_to items s.number p)) (le-ltb copy (items_to items s.number p) (omega arith))),
   none_behind items p q copy (suc number) ss numbered.1 (λ m above. none m (omega arith)),
 )
 
@@ -141,7 +141,7 @@ module _ (targets : ℕ → List ℕ) (classes n : ℕ) (histories : ℕ → Lis
       ap (λ k. known (histories k) (after k) p q copy) owned
       ∙ ap (λ h. known h (after i) p q copy) made.history_is
       ∙ ap (λ items. known (made.before ++ s ∷ made.behind) items p q copy)
-        (grown ∙ ap (λ items. items ++ item ∷ []) made.applied_is ∙ append_assoc (items_from targets n j made.before) made.part (item ∷ []))
+      (grown ∙ ap (λ items. items ++ item ∷ []) made.applied_is ∙ append_assoc (items_from targets n j made.before) made.part (item ∷ []))
       ∙ known_at targets n j made.before s made.behind more p q copy (record {
         numbered = numbered;
         place = next.number;

@@ -91,7 +91,7 @@ known_more : (history : List Settlement) (s : Settlement) (applied : List Item) 
 known_more history s applied p q copy none =
     last_now-append (λ r. eqb r.class q && ltb copy (items_to applied r.number p)) Draw history (s ∷ [])
     ∙ ap (λ b. cond b s.now (known history applied p q copy))
-      (and_right (eqb s.class q) (ltb copy (items_to applied s.number p)) (le-ltb copy (items_to applied s.number p) (omega arith)))
+    (and_right (eqb s.class q) (ltb copy (items_to applied s.number p)) (le-ltb copy (items_to applied s.number p) (omega arith)))
 
 -- A settlement that comes next in the history of node i changes nothing of what the copies of p, of node j, know.
 pub known_still : (targets : ℕ → List ℕ) (classes n : ℕ) (histories after : ℕ → List Settlement) (applied : ℕ → List Item) (i j : ℕ) (s : Settlement)

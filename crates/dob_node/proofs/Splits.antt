@@ -130,7 +130,7 @@ numbered_behind classes n node history before [] chained is = tt
 numbered_behind classes n node history before (s ∷ ss) chained is = (
   (chained before s ss is).number,
   subst (λ k. AreNumbered k ss) (one_more before s)
-  (numbered_behind classes n node history (before ++ s ∷ []) ss chained (is ∙ sym (append_assoc before (s ∷ []) ss))),
+      (numbered_behind classes n node history (before ++ s ∷ []) ss chained (is ∙ sym (append_assoc before (s ∷ []) ss))),
 )
   where
     one_more : (xs : List Settlement) (x : Settlement) → length (xs ++ x ∷ []) ≡ suc (length xs)
@@ -148,7 +148,7 @@ none_of_later targets n node from number p [] numbered below = refl
 none_of_later targets n node from number p (s ∷ ss) numbered below =
     let own : s.number ≡ from = numbered.0 in
     let whole : items_to (items_of targets n node s ++ items_from targets n node ss) number p
-        ≡ items_to (items_of targets n node s) number p + items_to (items_from targets n node ss) number p =
+    ≡ items_to (items_of targets n node s) number p + items_to (items_from targets n node ss) number p =
     items_to-append (items_of targets n node s) (items_from targets n node ss) number p in
     let here : items_to (items_of targets n node s) number p ≡ 0 =
     no_other s number p (filter (λ to. eqb (owner_of n to) node) (targets s.class))

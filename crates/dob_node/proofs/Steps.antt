@@ -2,7 +2,7 @@
 use Rattle.std.proofs.Common.{◌≡◌, ◌≢◌, ℕ, zero, suc, ◌+◌, ◌%◌, ◌<◌, ◌≤◌, ◌⊎◌, inl, inr, eqb, Bool, true, false, cond, refl, sym, subst, ap, ◌∙◌, arith, List, [], ◌∷◌, ◌++◌, length, Contains, append_assoc}
 use Rattle.std.specs.List.{All, count_by}
 use Rattle.std.proofs.lemmas.Bool.{eqb-true, eq-eqb, ne_eqb, cases_eq}
-use Rattle.std.proofs.lemmas.List.Elements.{All-contains}
+use Rattle.std.proofs.lemmas.List.Elements.{All-contains, All-nil, All-cons, All-append}
 use Rattle.dob_pieces.specs.declared.piece_set.PieceSet.{PieceSet}
 use Rattle.dob_pieces.specs.declared.setup.Setup.{Setup}
 use Rattle.dob_moves.specs.declared.outlook.Status.{Status}
@@ -31,6 +31,9 @@ use Rattle.dob_node.specs.Lawful.{known_of, IsLawful, IsNextItem, CanApply, AreA
 use Rattle.dob_node.proofs.Rest.{some_of, below_owner}
 use Rattle.dob_node.proofs.Splits.{IsMade, IsFrom, split, made_from}
 use Rattle.dob_node.proofs.Learns.{next, source, has_copy, learnt, nothing_learnt, taught}
+use Rattle.dob_moves.proofs.Cases.{one_status}
+use Rattle.dob_node.proofs.Settles.{chained_more, value_of-more, still_begun, known_still}
+use Rattle.dob_node.proofs.Totals.{some_known}
 use Rattle.dob_node.proofs.Kept.{all_known-same, known_entries, follows_entry, better_apart}
 use Rattle.dob_node.proofs.Takes.{counted, takes_next, value_follows}
 
@@ -108,3 +111,168 @@ module _ (set : PieceSet) (n : ℕ) (histories : ℕ → List Settlement) (appli
         item.was item.now (cell item.to) better (class_learns one_more grown_one else_one)
         (subst (λ known. SumsUp known (cell item.to)) (known_here applied) (lawful.sums item.to there_is.0 there_is.1));
   }
+
+  module _ (after : ℕ → ℕ → List Item) (is_applied : IsApplied i j item applied after) (cells : ℕ → Cell) (worth : ℕ → Value)
+      (are_after : AreAfter item cell cells value worth) (grown : ℕ → List Settlement)
+      (settled : AreSettled j item.to (value item.to) (worth item.to) histories grown) where
+    -- ---- with the item, before its settlement
+
+    known_now : (p : ℕ) → p < classes → HasStatus (class_setup set p) Open → SumsUp (known_of set n histories after p) (cells p)
+    known_now p low is_open = elim (cases_eq p item.to) [
+      | inl same ↦ subst (λ k. SumsUp (known_of set n histories after k) (cells k)) (sym same) here
+      | inr other ↦ subst (λ c. SumsUp (known_of set n histories after p) c) (sym (are_after.others p other).0)
+          (subst (λ known. SumsUp known (cell p)) (sym (still p other)) (lawful.sums p low is_open))
+    ]
+      where
+        here : SumsUp (known_of set n histories after item.to) (cells item.to)
+        here = are_after.learns (known_of set n histories applied item.to) (known_of set n histories after item.to)
+            (subst (λ known. Changes (known_of set n histories applied item.to) known item.was item.now) (sym (known_here after))
+            (subst (λ known. Changes known (all_known targets classes n histories (λ k. after k j) item.to) item.was item.now) (sym (known_here applied))
+            (class_learns (λ k. after k j) is_applied.one_more is_applied.same_sender)))
+            (lawful.sums item.to there_is.0 there_is.1)
+
+        still : (p : ℕ) → p ≢ item.to → known_of set n histories after p ≡ known_of set n histories applied p
+        still p other = elim (cases_eq (owner_of n p) j) [
+          | inl own ↦
+              ap (λ m. all_known targets classes n histories (λ k. after k m) p) own
+              ∙ sym (nothing_learnt targets classes n histories items (λ k. after k j) i j item (lawful.chained i low_i) made is_applied.one_more
+              is_applied.same_sender p own other)
+              ∙ sym (ap (λ m. all_known targets classes n histories (λ k. applied k m) p) own)
+          | inr elsewhere ↦ all_known-same targets classes n histories histories (λ k. applied k (owner_of n p)) (λ k. after k (owner_of n p)) p
+              (λ k. refl) (λ k. is_applied.same_receiver k (owner_of n p) elsewhere)
+        ]
+
+    begun_now : (k m : ℕ) → k < n → m < n → (rest : List Item) × (items_from targets n m (histories k) ≡ after k m ++ rest)
+    begun_now k m low_k low_m = elim (cases_eq m j) [
+      | inl own ↦ elim (cases_eq k i) [
+        | inl sender ↦ (
+          is_next.0,
+          subst (λ r. items_from targets n r (histories k) ≡ after k r ++ is_next.0) (sym own)
+              (subst (λ s. items_from targets n j (histories s) ≡ after s j ++ is_next.0) (sym sender)
+              (is_next.1 ∙ sym (append_assoc (applied i j) (item ∷ []) is_next.0) ∙ ap (λ a. a ++ is_next.0) (sym is_applied.one_more))),
+        )
+        | inr other ↦ (
+          (lawful.begun k j low_k low_j).0,
+          subst (λ r. items_from targets n r (histories k) ≡ after k r ++ (lawful.begun k j low_k low_j).0) (sym own)
+              ((lawful.begun k j low_k low_j).1 ∙ ap (λ a. a ++ (lawful.begun k j low_k low_j).0) (sym (is_applied.same_sender k other))),
+        )
+      ]
+      | inr elsewhere ↦ (
+        (lawful.begun k m low_k low_m).0,
+        (lawful.begun k m low_k low_m).1 ∙ ap (λ a. a ++ (lawful.begun k m low_k low_m).0) (sym (is_applied.same_receiver k m elsewhere)),
+      )
+    ]
+
+    -- ---- the settlement
+
+    abbrev to : ℕ
+    to = item.to
+
+    abbrev news : Settlement
+    news = record { number = length (histories j); class = to; was = value to; now = worth to }
+
+    value_is : value to ≡ value_of (histories j) to
+    value_is = lawful.values to there_is.0 ∙ ap (λ k. value_of (histories k) to) from.own
+
+    news_next : Better (value to) (worth to) → IsNext classes n j (histories j) news
+    news_next is_better = record { number = refl; below = there_is.0; own = from.own; was = value_is; better = is_better }
+
+    news_entry : IsEntry (worth to)
+    news_entry =
+        let known = known_of set n histories after to in
+        follows_entry known (worth to)
+        (known_entries targets classes n histories (λ k. after k (owner_of n to)) to some lawful.entries)
+        (value_follows known (cells to) (worth to) (known_now to there_is.0 there_is.1)
+        (some_known set to there_is.0 n histories (λ k. after k (owner_of n to)) there_is.1) are_after.gives)
+        are_after.short
+
+    -- the histories are the same, or one has the settlement
+    abbrev Kept : Type 0
+    Kept = ((k : ℕ) → grown k ≡ histories k) × (value to ≡ worth to)
+
+    abbrev Settles : Type 0
+    Settles = (grown j ≡ histories j ++ news ∷ []) × Better (value to) (worth to)
+
+    which : Kept ⊎ Settles
+    which = elim are_after.better [
+      | inl same ↦ inl (all_same same, same)
+      | inr is_better ↦ inr (settled.more (λ same. better_apart (value to) (worth to) is_better same), is_better)
+    ]
+      where
+        all_same : value to ≡ worth to → (k : ℕ) → grown k ≡ histories k
+        all_same same k = elim (cases_eq k j) [
+          | inl own ↦ subst (λ m. grown m ≡ histories m) (sym own) (settled.same same)
+          | inr other ↦ settled.others k other
+        ]
+
+    -- what holds of each history as it was, and of that of node j with the settlement, holds of each now
+    for_each : (P : ℕ → List Settlement → Type 0) → ((k : ℕ) → k < n → P k (histories k)) → (Settles → P j (histories j ++ news ∷ [])) →
+        (k : ℕ) → k < n → P k (grown k)
+    for_each P before more k low = elim which [
+      | inl kept ↦ subst (P k) (sym (kept.0 k)) (before k low)
+      | inr settles ↦ elim (cases_eq k j) [
+        | inl own ↦ subst (λ m. P m (grown m)) (sym own) (subst (P j) (sym settles.0) (more settles))
+        | inr other ↦ subst (P k) (sym (settled.others k other)) (before k low)
+      ]
+    ]
+
+    known_same : (p : ℕ) → known_of set n grown after p ≡ known_of set n histories after p
+    known_same p = elim which [
+      | inl kept ↦ all_known-same targets classes n histories grown (λ k. after k (owner_of n p)) (λ k. after k (owner_of n p)) p kept.0 (λ k. refl)
+      | inr settles ↦ known_still targets classes n histories grown (λ k. after k (owner_of n p)) j (owner_of n p) news
+          (begun_now j (owner_of n p) low_j (below_owner n p some)).0 p (lawful.chained j low_j) (news_next settles.1)
+          (begun_now j (owner_of n p) low_j (below_owner n p some)).1 settles.0 settled.others
+    ]
+
+    value_now : (p : ℕ) → p < classes → worth p ≡ value_of (grown (owner_of n p)) p
+    value_now p low = elim (cases_eq p to) [
+      | inl same ↦ subst (λ k. worth k ≡ value_of (grown (owner_of n k)) k) (sym same) (at_class from.own)
+      | inr other ↦ (are_after.others p other).1 ∙ lawful.values p low ∙ sym (elsewhere other)
+    ]
+      where
+        at_class : owner_of n to ≡ j → worth to ≡ value_of (grown (owner_of n to)) to
+        at_class own = elim which [
+          | inl kept ↦ sym kept.1 ∙ lawful.values to there_is.0 ∙ ap (λ h. value_of h to) (sym (kept.0 (owner_of n to)))
+          | inr settles ↦
+              ap (λ b. cond b (worth to) (value_of (histories j) to)) (sym (eq-eqb to to refl))
+              ∙ sym (value_of-more (histories j) news to)
+              ∙ ap (λ h. value_of h to) (sym settles.0)
+              ∙ ap (λ k. value_of (grown k) to) (sym own)
+        ]
+
+        elsewhere : p ≢ to → value_of (grown (owner_of n p)) p ≡ value_of (histories (owner_of n p)) p
+        elsewhere other = for_each (λ k h. value_of h p ≡ value_of (histories k) p) (λ k low. refl)
+            (λ settles. value_of-more (histories j) news p
+            ∙ ap (λ b. cond b (worth to) (value_of (histories j) p)) (ne_eqb to p (λ same. other (sym same))))
+            (owner_of n p) (below_owner n p some)
+
+    -- the nodes are lawful again
+    pub lawful_after : IsLawful set n grown after cells worth
+    lawful_after = record {
+      chained = for_each (λ k h. IsChained classes n k h) lawful.chained
+          (λ settles. chained_more classes n j (histories j) news (lawful.chained j low_j) (news_next settles.1));
+      entries = for_each (λ k h. All (λ (s : Settlement). IsEntry s.now) h) lawful.entries
+          (λ settles. All-append (λ (s : Settlement). IsEntry s.now) (histories j) (news ∷ []) (lawful.entries j low_j)
+          (All-cons (λ (s : Settlement). IsEntry s.now) news [] news_entry (All-nil (λ (s : Settlement). IsEntry s.now))));
+      begun = λ k m low_k low_m. for_each
+          (λ l h. l ≡ k → (rest : List Item) × (items_from targets n m h ≡ after k m ++ rest))
+          (λ l low_l same. subst (λ r. (rest : List Item) × (items_from targets n m (histories r) ≡ after k m ++ rest)) (sym same) (begun_now k m low_k low_m))
+          (λ settles same.
+          let before = begun_now j m low_j low_m in
+          subst (λ r. (rest : List Item) × (items_from targets n m (histories j ++ news ∷ []) ≡ after r m ++ rest)) same (
+            before.0 ++ items_from targets n m (news ∷ []),
+            still_begun targets n m (histories j) (news ∷ []) (after j m) before.0 before.1,
+          ))
+          k low_k refl;
+      sums = λ p low is_open. subst (λ known. SumsUp known (cells p)) (sym (known_same p)) (known_now p low is_open);
+      cell_values = λ p low is_open. elim (cases_eq p to) [
+        | inl same ↦ subst (λ k. CellValue (cells k) (worth k)) (sym same) are_after.gives
+        | inr other ↦ subst (λ v. CellValue (cells p) v) (sym (are_after.others p other).1)
+            (subst (λ c. CellValue c (value p)) (sym (are_after.others p other).0) (lawful.cell_values p low is_open))
+      ];
+      over = λ p status low is closed. subst (λ v. FollowsAtStatus status [] v)
+          (sym (are_after.others p (λ same. closed (one_status (class_setup set p) status Open is
+          (subst (λ k. HasStatus (class_setup set k) Open) (sym same) there_is.1)))).1)
+          (lawful.over p status low is closed);
+      values = value_now;
+    }

@@ -68,8 +68,8 @@ takes_next known after Draw (Loss plies) cell better change sums =
 takes_next known after (Win was) (Win now) cell better change sums = (
   better,
   (let some = counts (is_win_in was) known (Win was) (was_known known after (Win was) (Win now) change) (eq-eqb was was refl) in
-  let wins : cell.wins was ≡ count_by (λ value. is_win_in was value) known = sums.wins was in
-  omega arith),
+      let wins : cell.wins was ≡ count_by (λ value. is_win_in was value) known = sums.wins was in
+      omega arith),
 )
 takes_next known after (Loss was) (Loss now) cell better change sums = (
   better,
@@ -118,8 +118,7 @@ value_follows known cell (Loss plies) sums above value =
     let most : IsGreatest cell.wins greatest = value.3 in
     let count : cell.wins greatest ≡ count_by (λ value. is_win_in greatest value) known = sums.wins greatest in
     let found = counted (is_win_in greatest) known (let some = most.0 in omega arith) in
-    let none : IsLeastLoss known None = subst (IsLeastLoss known) value.0 sums.least in
-    (
+    let none : IsLeastLoss known None = subst (IsLeastLoss known) value.0 sums.least in (
       greatest,
       value.4,
       subst (Contains known) (is_that_win greatest found.0 found.2) found.1,

@@ -136,8 +136,8 @@ module _ (set : PieceSet) (p : ℕ) (low : p < classes_of set) where
       λ q. each_below (λ (copy : ℕ). known (histories (owner_of n q)) (applied (owner_of n q)) p q copy ∷ []) (copies (predecessors set) p q) in
       length-each_below row (classes_of set)
       ∙ sum_below-same (λ q. length (row q)) (λ q. edges set p q) (classes_of set)
-        (λ q below. length-row (λ copy. known (histories (owner_of n q)) (applied (owner_of n q)) p q copy) (copies (predecessors set) p q)
-        ∙ copies-edges q below)
+      (λ q below. length-row (λ copy. known (histories (owner_of n q)) (applied (owner_of n q)) p q copy) (copies (predecessors set) p q)
+      ∙ copies-edges q below)
       ∙ edges-all
 
   -- an open class has a copy at least
