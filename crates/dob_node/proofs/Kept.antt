@@ -33,7 +33,7 @@ all_known-same targets classes n histories after applied items p same_h same_a =
 
 -- ---- values that a table can have
 
-last_now-entry : (test : Settlement → Bool) (v : Value) (ss : List Settlement) → IsEntry v → All (λ (s : Settlement). IsEntry s.now) ss →
+pub last_now-entry : (test : Settlement → Bool) (v : Value) (ss : List Settlement) → IsEntry v → All (λ (s : Settlement). IsEntry s.now) ss →
     IsEntry (last_now test v ss)
 last_now-entry test v [] is all = is
 last_now-entry test v (s ∷ ss) is all =

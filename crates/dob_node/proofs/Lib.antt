@@ -10,3 +10,4 @@ pub mod Settles
 pub mod Totals
 pub mod Kept
 pub mod Steps
+pub mod Ends

@@ -35,7 +35,7 @@ use Rattle.dob_moves.proofs.Cases.{one_status}
 use Rattle.dob_node.proofs.Settles.{chained_more, value_of-more, still_begun, known_still}
 use Rattle.dob_node.proofs.Totals.{some_known}
 use Rattle.dob_node.proofs.Kept.{all_known-same, known_entries, follows_entry, better_apart}
-use Rattle.dob_node.proofs.Takes.{counted, takes_next, value_follows}
+use Rattle.dob_node.proofs.Takes.{counted, takes_next, value_follows, SumsUp-same, CellValue-same}
 
 -- ---- a class that has a copy is open
 
@@ -112,6 +112,26 @@ module _ (set : PieceSet) (n : ℕ) (histories : ℕ → List Settlement) (appli
         (subst (λ known. SumsUp known (cell item.to)) (known_here applied) (lawful.sums item.to there_is.0 there_is.1));
   }
 
+  module _ (after : ℕ → ℕ → List Item) (is_applied : IsApplied i j item applied after) where
+    -- the class of the item learns what it says
+    pub learns_here : Changes (known_of set n histories applied item.to) (known_of set n histories after item.to) item.was item.now
+    learns_here =
+        subst (λ known. Changes (known_of set n histories applied item.to) known item.was item.now) (sym (known_here after))
+        (subst (λ known. Changes known (all_known targets classes n histories (λ k. after k j) item.to) item.was item.now) (sym (known_here applied))
+        (class_learns (λ k. after k j) is_applied.one_more is_applied.same_sender))
+
+    -- no other class learns anything
+    pub still : (p : ℕ) → p ≢ item.to → known_of set n histories after p ≡ known_of set n histories applied p
+    still p other = elim (cases_eq (owner_of n p) j) [
+      | inl own ↦
+          ap (λ m. all_known targets classes n histories (λ k. after k m) p) own
+          ∙ sym (nothing_learnt targets classes n histories items (λ k. after k j) i j item (lawful.chained i low_i) made is_applied.one_more
+          is_applied.same_sender p own other)
+          ∙ sym (ap (λ m. all_known targets classes n histories (λ k. applied k m) p) own)
+      | inr elsewhere ↦ all_known-same targets classes n histories histories (λ k. applied k (owner_of n p)) (λ k. after k (owner_of n p)) p
+          (λ k. refl) (λ k. is_applied.same_receiver k (owner_of n p) elsewhere)
+    ]
+
   module _ (after : ℕ → ℕ → List Item) (is_applied : IsApplied i j item applied after) (cells : ℕ → Cell) (worth : ℕ → Value)
       (are_after : AreAfter item cell cells value worth) (grown : ℕ → List Settlement)
       (settled : AreSettled j item.to (value item.to) (worth item.to) histories grown) where
@@ -120,27 +140,14 @@ module _ (set : PieceSet) (n : ℕ) (histories : ℕ → List Settlement) (appli
     known_now : (p : ℕ) → p < classes → HasStatus (class_setup set p) Open → SumsUp (known_of set n histories after p) (cells p)
     known_now p low is_open = elim (cases_eq p item.to) [
       | inl same ↦ subst (λ k. SumsUp (known_of set n histories after k) (cells k)) (sym same) here
-      | inr other ↦ subst (λ c. SumsUp (known_of set n histories after p) c) (sym (are_after.others p other).0)
-          (subst (λ known. SumsUp known (cell p)) (sym (still p other)) (lawful.sums p low is_open))
+      | inr other ↦ SumsUp-same (known_of set n histories after p) (cells p) (cell p) (are_after.others p other).0
+          (subst (λ known. SumsUp known (cell p)) (sym (still after is_applied p other)) (lawful.sums p low is_open))
     ]
       where
         here : SumsUp (known_of set n histories after item.to) (cells item.to)
         here = are_after.learns (known_of set n histories applied item.to) (known_of set n histories after item.to)
-            (subst (λ known. Changes (known_of set n histories applied item.to) known item.was item.now) (sym (known_here after))
-            (subst (λ known. Changes known (all_known targets classes n histories (λ k. after k j) item.to) item.was item.now) (sym (known_here applied))
-            (class_learns (λ k. after k j) is_applied.one_more is_applied.same_sender)))
+            (learns_here after is_applied)
             (lawful.sums item.to there_is.0 there_is.1)
-
-        still : (p : ℕ) → p ≢ item.to → known_of set n histories after p ≡ known_of set n histories applied p
-        still p other = elim (cases_eq (owner_of n p) j) [
-          | inl own ↦
-              ap (λ m. all_known targets classes n histories (λ k. after k m) p) own
-              ∙ sym (nothing_learnt targets classes n histories items (λ k. after k j) i j item (lawful.chained i low_i) made is_applied.one_more
-              is_applied.same_sender p own other)
-              ∙ sym (ap (λ m. all_known targets classes n histories (λ k. applied k m) p) own)
-          | inr elsewhere ↦ all_known-same targets classes n histories histories (λ k. applied k (owner_of n p)) (λ k. after k (owner_of n p)) p
-              (λ k. refl) (λ k. is_applied.same_receiver k (owner_of n p) elsewhere)
-        ]
 
     begun_now : (k m : ℕ) → k < n → m < n → (rest : List Item) × (items_from targets n m (histories k) ≡ after k m ++ rest)
     begun_now k m low_k low_m = elim (cases_eq m j) [
@@ -268,7 +275,7 @@ module _ (set : PieceSet) (n : ℕ) (histories : ℕ → List Settlement) (appli
       cell_values = λ p low is_open. elim (cases_eq p to) [
         | inl same ↦ subst (λ k. CellValue (cells k) (worth k)) (sym same) are_after.gives
         | inr other ↦ subst (λ v. CellValue (cells p) v) (sym (are_after.others p other).1)
-            (subst (λ c. CellValue c (value p)) (sym (are_after.others p other).0) (lawful.cell_values p low is_open))
+            (CellValue-same (cells p) (cell p) (value p) (are_after.others p other).0 (lawful.cell_values p low is_open))
       ];
       over = λ p status low is closed. subst (λ v. FollowsAtStatus status [] v)
           (sym (are_after.others p (λ same. closed (one_status (class_setup set p) status Open is

@@ -9,7 +9,7 @@ use Rattle.dob_value.specs.declared.value.Value.{Value}
 use Rattle.dob_value.specs.declared.value.Value.TheVariants.{Win, Loss, Draw}
 use Rattle.dob_value.specs.Entries.{is_draw}
 use Rattle.dob_share.specs.Values.{Better, is_win_in}
-use Rattle.dob_share.specs.Cells.{Cell, Takes, KnowsLossWithin, IsGreatest, CellValue, IsLeastLoss, SumsUp, Changes}
+use Rattle.dob_share.specs.Cells.{Cell, SameCell, Takes, KnowsLossWithin, IsGreatest, CellValue, IsLeastLoss, SumsUp, Changes}
 use Rattle.dob_node.specs.Quiet.{AreWins, FollowsFromKnown}
 
 -- ---- what is counted is there, and what is there is counted
@@ -144,3 +144,29 @@ value_follows known cell Draw sums above value = (
   where
     draw_isnt_win : (plies : ℕ) → ¬ (let v : Value = Draw in v ≡ Win plies)
     draw_isnt_win plies e = absurd (cc)
+
+-- ---- cells that say the same
+
+pub SumsUp-same : (known : List Value) (a b : Cell) → SameCell a b → SumsUp known b → SumsUp known a
+SumsUp-same known a b same sums = record {
+  left = same.left ∙ sums.left;
+  wins = λ plies. same.wins plies ∙ sums.wins plies;
+  least = subst (IsLeastLoss known) (sym same.least) sums.least;
+}
+
+pub CellValue-same : (a b : Cell) (v : Value) → SameCell a b → CellValue b v → CellValue a v
+CellValue-same a b (Win plies) same value = (value.0, same.least ∙ value.1, value.2)
+CellValue-same a b (Loss plies) same value = (
+  same.least ∙ value.0,
+  same.left ∙ value.1,
+  value.2,
+  (
+    subst (λ m. 0 < m) (sym (same.wins value.2)) value.3.0,
+    λ other some. value.3.1 other (subst (λ m. 0 < m) (same.wins other) some),
+  ),
+  value.4,
+)
+CellValue-same a b Draw same value = (
+  same.least ∙ value.0,
+  elim value.1 [ inl left ↦ inl (subst (λ m. 0 < m) (sym same.left) left) | inr none ↦ inr (λ plies. same.wins plies ∙ none plies) ],
+)

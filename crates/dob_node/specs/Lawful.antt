@@ -15,7 +15,7 @@ use Rattle.dob_share.specs.declared.news.Settlement.{Settlement}
 use Rattle.dob_share.specs.declared.news.Item.{Item}
 use Rattle.dob_share.specs.Owners.{owner_of}
 use Rattle.dob_share.specs.Values.{NoWorse}
-use Rattle.dob_share.specs.Cells.{Cell, Takes, CellValue, SumsUp, Changes}
+use Rattle.dob_share.specs.Cells.{Cell, SameCell, Takes, CellValue, SumsUp, Changes}
 use Rattle.dob_update.specs.Items.{items_from}
 use Rattle.dob_node.specs.Histories.{value_of, all_known, IsNext, IsChained}
 use Rattle.dob_node.specs.Quiet.{FollowsAtStatus}
@@ -57,7 +57,7 @@ pub record AreAfter (item : Item) (cell after : ℕ → Cell) (value values : �
   pub gives : CellValue (after item.to) (values item.to)
   pub short : IsShort (values item.to)
   pub better : NoWorse (value item.to) (values item.to)
-  pub others : (p : ℕ) → p ≢ item.to → (after p ≡ cell p) × (values p ≡ value p)
+  pub others : (p : ℕ) → p ≢ item.to → SameCell (after p) (cell p) × (values p ≡ value p)
 
 -- what is applied after an item from node i at node j
 pub record IsApplied (i j : ℕ) (item : Item) (applied after : ℕ → ℕ → List Item) : Type 0 where

@@ -2,3 +2,4 @@ pub mod Histories
 pub mod Quiet
 pub mod Openings
 pub mod Lawful
+pub mod Laws

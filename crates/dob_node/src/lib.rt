@@ -6,3 +6,6 @@ mod openings;
 
 pub use dob_share::Opening;
 pub use openings::opening;
+
+#[cfg(test)]
+mod tests;
