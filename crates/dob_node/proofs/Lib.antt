@@ -11,3 +11,4 @@ pub mod Totals
 pub mod Kept
 pub mod Steps
 pub mod Ends
+pub mod Stored

@@ -3,3 +3,4 @@ pub mod Quiet
 pub mod Openings
 pub mod Lawful
 pub mod Laws
+pub mod Stores

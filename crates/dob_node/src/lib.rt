@@ -1,6 +1,7 @@
 // One node of a build: the history of the classes that it owns, and what it has to tell and to apply.
 #![tactic(auto)]
 
+mod history;
 pub mod laws;
 mod openings;
 
