@@ -4,6 +4,7 @@
 mod history;
 pub mod laws;
 mod openings;
+mod telling;
 
 pub use dob_share::Opening;
 pub use openings::opening;
