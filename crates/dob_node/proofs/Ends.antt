@@ -1,14 +1,11 @@
 -- Lawful nodes that have applied all their items hold the value table.
-use Rattle.std.proofs.Common.{◌≡◌, ◌≢◌, ℕ, zero, suc, ◌+◌, ◌<◌, ◌≤◌, inl, inr, refl, sym, subst, ap, ◌∙◌, arith, List, [], ◌∷◌, ◌++◌, length, Some, take, slice_get, get_or, eqb}
-use Rattle.std.specs.List.{All}
-use Rattle.std.proofs.lemmas.Option.{slice_get-get_or, same_Some, slice_get_within}
+use Rattle.std.proofs.Common.{◌≡◌, ℕ, ◌<◌, refl, sym, subst, ap, ◌∙◌, arith, List, [], ◌∷◌, length, Some, slice_get, get_or, eqb}
+use Rattle.std.proofs.lemmas.Option.{slice_get-get_or, same_Some}
 use Rattle.std.proofs.lemmas.List.{take_all}
 use Rattle.dob_pieces.specs.declared.piece_set.PieceSet.{PieceSet}
-use Rattle.dob_pieces.specs.declared.setup.Setup.{Setup}
 use Rattle.dob_moves.specs.declared.outlook.Status.{Status}
 use Rattle.dob_moves.specs.declared.outlook.Status.TheVariants.{Caught, Tried, Stuck, Open}
 use Rattle.dob_moves.specs.Statuses.{HasStatus}
-use Rattle.dob_rank.specs.Order.{IsFirstIn}
 use Rattle.dob_rank.specs.Marks.{classes_of}
 use Rattle.dob_rank.specs.ClassRows.{class_setup}
 use Rattle.dob_rank.proofs.Marks.{HasClasses-classes_of}
@@ -67,8 +64,7 @@ module _ (set : PieceSet) (n : ℕ) (histories : ℕ → List Settlement) (appli
     values = λ p class first.
         let below = first_below set p class first in
         let given = some_opening set openings class are below in
-        let same = class_setup_only set p class (classes_of set) (HasClasses-classes_of set) below first.0 first.1 in
-        (
+        let same = class_setup_only set p class (classes_of set) (HasClasses-classes_of set) below first.0 first.1 in (
           given.0.status,
           subst (λ s. HasStatus s given.0.status) (sym same) given.1.status,
           open_follows class below given.0.status given.1.status,

@@ -1,7 +1,7 @@
 -- The next item of a history teaches one copy of an edge, and no other.
-use Rattle.std.proofs.Common.{◌≡◌, ◌≢◌, ℕ, zero, suc, ◌+◌, ◌<◌, ◌≤◌, ◌⊎◌, ◌&&◌, inl, inr, eqb, ltb, Bool, true, false, cond, refl, sym, subst, ap, ◌∙◌, arith, List, [], ◌∷◌, ◌++◌, length, append_assoc}
-use Rattle.std.specs.List.{filter, count_by}
-use Rattle.std.proofs.lemmas.Bool.{eqb-true, eq-eqb, ne_eqb, cases_Bool, cases_eq, cases_order, lt-ltb, le-ltb, cond-true, cond-false, and_right, and_left}
+use Rattle.std.proofs.Common.{◌≡◌, ◌≢◌, ℕ, suc, ◌+◌, ◌<◌, ◌≤◌, ◌⊎◌, ◌&&◌, inl, inr, eqb, ltb, Bool, true, cond, refl, sym, subst, ap, ◌∙◌, arith, List, [], ◌∷◌, ◌++◌, length, append_assoc}
+use Rattle.std.specs.List.{filter}
+use Rattle.std.proofs.lemmas.Bool.{eq-eqb, ne_eqb, cases_eq, cases_order, lt-ltb, le-ltb, and_right, and_left}
 use Rattle.dob_pieces.specs.Lists.{each_below}
 use Rattle.dob_value.specs.declared.value.Value.{Value}
 use Rattle.dob_value.specs.declared.value.Value.TheVariants.{Draw}
@@ -9,12 +9,12 @@ use Rattle.dob_share.specs.declared.news.Settlement.{Settlement}
 use Rattle.dob_share.specs.declared.news.Item.{Item}
 use Rattle.dob_share.specs.Owners.{owner_of}
 use Rattle.dob_share.specs.Cells.{Changes}
-use Rattle.dob_update.specs.Items.{item_for, items_of, items_from}
+use Rattle.dob_update.specs.Items.{items_of, items_from}
 use Rattle.dob_node.specs.Histories.{copies, items_to, last_now, value_of, known, all_known, IsNext, IsChained}
 use Rattle.dob_node.proofs.Runs.{Changes-one, Changes-each_below, each_below-same}
 use Rattle.dob_node.proofs.Counts.{items_to-append, items_to-cons, items_to-items_of, no_other}
 use Rattle.dob_node.proofs.Copies.{AreFull, NonePass, last_now-agree, last_now-none, last_now-append, full_after, full_agree}
-use Rattle.dob_node.proofs.Splits.{IsMade, IsFrom, split, made_from, AreNumbered, AreNumbered-left, AreNumbered-right, chained_numbered, none_of_later}
+use Rattle.dob_node.proofs.Splits.{IsMade, IsFrom, made_from, AreNumbered, AreNumbered-left, AreNumbered-right, chained_numbered, none_of_later}
 
 more_full : (targets : ℕ → List ℕ) (items more : List Item) (p : ℕ) (ss : List Settlement) → AreFull targets items p ss →
     AreFull targets (items ++ more) p ss

@@ -1,19 +1,17 @@
 -- One more settlement of a history: what it leaves, and what it makes.
-use Rattle.std.proofs.Common.{◌≡◌, ◌≢◌, ℕ, zero, suc, ◌+◌, ◌<◌, ◌≤◌, ◌⊎◌, ◌&&◌, inl, inr, eqb, ltb, Bool, true, false, cond, refl, sym, subst, ap, ◌∙◌, arith, List, [], ◌∷◌, ◌++◌, length, append_assoc}
-use Rattle.std.proofs.lemmas.Bool.{eqb-true, eq-eqb, ne_eqb, cases_eq, le-ltb, and_right}
-use Rattle.std.proofs.lemmas.List.{append-nil}
+use Rattle.std.proofs.Common.{◌≡◌, ◌≢◌, ℕ, ◌+◌, ◌⊎◌, ◌&&◌, inl, inr, eqb, ltb, cond, refl, sym, subst, ap, ◌∙◌, arith, List, [], ◌∷◌, ◌++◌, length, append_assoc}
+use Rattle.std.proofs.lemmas.Bool.{cases_eq, le-ltb, and_right}
 use Rattle.dob_pieces.specs.Lists.{each_below}
-use Rattle.dob_value.specs.declared.value.Value.{Value}
 use Rattle.dob_value.specs.declared.value.Value.TheVariants.{Draw}
 use Rattle.dob_share.specs.declared.news.Settlement.{Settlement}
 use Rattle.dob_share.specs.declared.news.Item.{Item}
 use Rattle.dob_share.specs.Owners.{owner_of}
 use Rattle.dob_update.specs.Items.{items_of, items_from}
-use Rattle.dob_node.specs.Histories.{copies, items_to, last_now, value_of, known, all_known, IsNext, IsChained}
+use Rattle.dob_node.specs.Histories.{copies, items_to, value_of, known, all_known, IsNext, IsChained}
 use Rattle.dob_node.proofs.Runs.{each_below-same}
 use Rattle.dob_node.proofs.Counts.{items_to-append}
 use Rattle.dob_node.proofs.Copies.{last_now-append}
-use Rattle.dob_node.proofs.Splits.{AreNumbered, chained_numbered, none_of_later}
+use Rattle.dob_node.proofs.Splits.{chained_numbered, none_of_later}
 
 -- ---- a history with one more settlement is chained
 

@@ -1,11 +1,10 @@
 -- What is lawful stays so: the next item fits its cell, and after it the cells and histories are lawful again.
-use Rattle.std.proofs.Common.{◌≡◌, ◌≢◌, ℕ, zero, suc, ◌+◌, ◌%◌, ◌<◌, ◌≤◌, ◌⊎◌, inl, inr, eqb, Bool, true, false, cond, refl, sym, subst, ap, ◌∙◌, arith, List, [], ◌∷◌, ◌++◌, length, Contains, append_assoc}
-use Rattle.std.specs.List.{All, count_by}
+use Rattle.std.proofs.Common.{◌≡◌, ◌≢◌, ℕ, ◌<◌, ◌⊎◌, inl, inr, eqb, cond, refl, sym, subst, ap, ◌∙◌, arith, List, [], ◌∷◌, ◌++◌, length, append_assoc}
+use Rattle.std.specs.List.{All}
 use Rattle.std.proofs.lemmas.Bool.{eqb-true, eq-eqb, ne_eqb, cases_eq}
 use Rattle.std.proofs.lemmas.List.Elements.{All-contains, All-nil, All-cons, All-append}
 use Rattle.dob_pieces.specs.declared.piece_set.PieceSet.{PieceSet}
 use Rattle.dob_pieces.specs.declared.setup.Setup.{Setup}
-use Rattle.dob_moves.specs.declared.outlook.Status.{Status}
 use Rattle.dob_moves.specs.declared.outlook.Status.TheVariants.{Open}
 use Rattle.dob_moves.specs.Statuses.{HasStatus}
 use Rattle.dob_rank.specs.Order.{IsFirstIn}
@@ -14,23 +13,21 @@ use Rattle.dob_rank.specs.ClassRows.{class_setup}
 use Rattle.dob_rank.proofs.Marks.{HasClasses-classes_of}
 use Rattle.dob_rank.proofs.Representatives.{class_setup_is}
 use Rattle.dob_value.specs.declared.value.Value.{Value}
-use Rattle.dob_value.specs.declared.value.Value.TheVariants.{Win, Loss, Draw}
-use Rattle.dob_value.specs.Codes.{IsShort}
 use Rattle.dob_value.specs.Follows.{IsEntry}
 use Rattle.dob_unmove.specs.Edges.{predecessors}
 use Rattle.dob_unmove.proofs.Edges.{ArePredecessors-predecessors, first_below}
 use Rattle.dob_share.specs.declared.news.Settlement.{Settlement}
 use Rattle.dob_share.specs.declared.news.Item.{Item}
 use Rattle.dob_share.specs.Owners.{owner_of}
-use Rattle.dob_share.specs.Values.{Better, NoWorse}
-use Rattle.dob_share.specs.Cells.{Cell, Takes, CellValue, SumsUp, Changes}
-use Rattle.dob_update.specs.Items.{item_for, items_of, items_from}
-use Rattle.dob_node.specs.Histories.{copies, items_to, value_of, all_known, IsNext, IsChained}
-use Rattle.dob_node.specs.Quiet.{FollowsFromKnown, FollowsAtStatus}
+use Rattle.dob_share.specs.Values.{Better}
+use Rattle.dob_share.specs.Cells.{Cell, CellValue, SumsUp, Changes}
+use Rattle.dob_update.specs.Items.{items_from}
+use Rattle.dob_node.specs.Histories.{copies, value_of, all_known, IsNext, IsChained}
+use Rattle.dob_node.specs.Quiet.{FollowsAtStatus}
 use Rattle.dob_node.specs.Lawful.{known_of, IsLawful, IsNextItem, CanApply, AreAfter, IsApplied, AreSettled}
 use Rattle.dob_node.proofs.Rest.{some_of, below_owner}
 use Rattle.dob_node.proofs.Splits.{IsMade, IsFrom, split, made_from}
-use Rattle.dob_node.proofs.Learns.{next, source, has_copy, learnt, nothing_learnt, taught}
+use Rattle.dob_node.proofs.Learns.{has_copy, learnt, nothing_learnt}
 use Rattle.dob_moves.proofs.Cases.{one_status}
 use Rattle.dob_node.proofs.Settles.{chained_more, value_of-more, still_begun, known_still}
 use Rattle.dob_node.proofs.Totals.{some_known}

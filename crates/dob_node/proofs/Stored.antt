@@ -19,7 +19,7 @@ settlements_from-push n id number (t ∷ stored) s =
     ap (λ rest. settlement_of n id number t ∷ rest)
     (settlements_from-push n id (suc number) stored s
     ∙ ap (λ k. settlements_from n id (suc number) stored ++ settlement_of n id k s ∷ [])
-      (let e : suc number + length stored ≡ number + length (t ∷ stored) = omega arith in e))
+    (let e : suc number + length stored ≡ number + length (t ∷ stored) = omega arith in e))
 
 get_or-settlements_from : (n id number k : ℕ) (stored : List Stored) (d : Settlement) (e : Stored) → k < length stored →
     get_or (settlements_from n id number stored) k d ≡ settlement_of n id (number + k) (get_or stored k e)
@@ -39,8 +39,8 @@ settlements_from-at n id k stored s there =
     let longer : length (settlements_from n id 0 stored) ≡ length stored = length-settlements_from n id 0 stored in
     slice_get-get_or (settlements_from n id 0 stored) k d (omega arith)
     ∙ ap Some (get_or-settlements_from n id 0 k stored d s within
-      ∙ ap (λ m. settlement_of n id m (get_or stored k s)) (let same : 0 + k ≡ k = omega arith in same)
-      ∙ ap (settlement_of n id k) (get_or_from_slice_get stored k s s there))
+    ∙ ap (λ m. settlement_of n id m (get_or stored k s)) (let same : 0 + k ≡ k = omega arith in same)
+    ∙ ap (settlement_of n id k) (get_or_from_slice_get stored k s s there))
 
 -- a class is found again at its place among the owner's
 pub class_again : (class n id : ℕ) → 0 < n → class % n ≡ id → class / n * n + id ≡ class

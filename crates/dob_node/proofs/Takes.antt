@@ -1,8 +1,8 @@
 -- Cells that sum up what is known: they take what is learnt next, and their value follows.
-use Rattle.std.proofs.Common.{◌≡◌, ◌≢◌, ℕ, zero, suc, ◌+◌, ◌<◌, ◌≤◌, ◌⊎◌, inl, inr, eqb, Bool, true, false, cond, refl, sym, subst, ap, ◌∙◌, arith, List, [], ◌∷◌, ◌++◌, length, Contains, Option, Some, None}
+use Rattle.std.proofs.Common.{◌≡◌, ℕ, ◌+◌, ◌<◌, inl, inr, Bool, true, cond, refl, sym, subst, ap, ◌∙◌, arith, List, [], ◌∷◌, ◌++◌, length, Contains, Option, Some, None}
 use Rattle.std.specs.List.{count_by}
 use Rattle.std.proofs.lemmas.Bool.{cases_Bool, eqb-true, eq-eqb}
-use Rattle.std.proofs.lemmas.List.Sums.{sum_by-cons, sum_by-append}
+use Rattle.std.proofs.lemmas.List.Sums.{sum_by-cons}
 use Rattle.std.proofs.lemmas.List.Elements.{Contains-append_right}
 use Rattle.dob_pieces.proofs.Lists.{none_in_empty, head_in, cons_cases}
 use Rattle.dob_value.specs.declared.value.Value.{Value}
@@ -10,7 +10,7 @@ use Rattle.dob_value.specs.declared.value.Value.TheVariants.{Win, Loss, Draw}
 use Rattle.dob_value.specs.Entries.{is_draw}
 use Rattle.dob_share.specs.Values.{Better, is_win_in}
 use Rattle.dob_share.specs.Cells.{Cell, SameCell, Takes, KnowsLossWithin, IsGreatest, CellValue, IsLeastLoss, SumsUp, Changes}
-use Rattle.dob_node.specs.Quiet.{AreWins, FollowsFromKnown}
+use Rattle.dob_node.specs.Quiet.{FollowsFromKnown}
 
 -- ---- what is counted is there, and what is there is counted
 

@@ -1,10 +1,10 @@
 -- How many copies a class's moves have in all: one each. Before anything is settled they know nothing.
-use Rattle.std.proofs.Common.{◌≡◌, ◌≢◌, ℕ, zero, suc, ◌+◌, ◌<◌, ◌≤◌, ◌&&◌, inl, inr, eqb, ltb, Bool, true, false, cond, refl, sym, subst, ap, ◌∙◌, arith, List, [], ◌∷◌, ◌++◌, length, Contains, Some, None}
+use Rattle.std.proofs.Common.{◌≡◌, ℕ, zero, suc, ◌+◌, ◌<◌, ◌≤◌, ◌&&◌, inl, inr, eqb, ltb, Bool, true, false, cond, refl, sym, ap, ◌∙◌, arith, List, [], ◌∷◌, ◌++◌, length, Contains, None}
 use Rattle.std.specs.List.{count_by, All}
-use Rattle.std.proofs.lemmas.Bool.{eqb-true, eq-eqb, ne_eqb, cases_eq, cases_order, le-ltb, and_right}
+use Rattle.std.proofs.lemmas.Bool.{eq-eqb, ne_eqb, cases_eq, le-ltb, and_right}
 use Rattle.std.proofs.lemmas.List.{length-append}
 use Rattle.std.proofs.lemmas.List.Elements.{All-head, All-tail, All-contains_itself, Contains-append_right}
-use Rattle.std.proofs.lemmas.List.Sums.{sum_by-cons, sum_by-append}
+use Rattle.std.proofs.lemmas.List.Sums.{sum_by-cons}
 use Rattle.dob_pieces.specs.declared.piece_set.PieceSet.{PieceSet}
 use Rattle.dob_pieces.specs.declared.setup.Setup.{Setup}
 use Rattle.dob_pieces.specs.Lists.{each_below}
@@ -12,13 +12,12 @@ use Rattle.dob_pieces.specs.Setups.{turned}
 use Rattle.dob_pieces.proofs.Lists.{head_in}
 use Rattle.dob_moves.specs.declared.choice.Move.{Move}
 use Rattle.dob_moves.specs.declared.outlook.Status.TheVariants.{Open}
-use Rattle.dob_moves.specs.Moves.{Goes}
 use Rattle.dob_moves.specs.MoveLists.{moves_of}
 use Rattle.dob_moves.specs.Outcomes.{moved}
 use Rattle.dob_moves.specs.Statuses.{HasStatus}
 use Rattle.dob_moves.proofs.MoveLists.{AreMoves-moves_of}
 use Rattle.dob_moves.proofs.Outcomes.{Goes-moved}
-use Rattle.dob_rank.specs.Order.{IsPositionOf, IsFirstIn}
+use Rattle.dob_rank.specs.Order.{IsFirstIn}
 use Rattle.dob_rank.specs.Numbers.{sum_below}
 use Rattle.dob_rank.specs.Marks.{classes_of, class_number}
 use Rattle.dob_rank.specs.ClassRows.{class_setup}
@@ -26,20 +25,20 @@ use Rattle.dob_rank.proofs.Marks.{HasClasses-classes_of}
 use Rattle.dob_rank.proofs.ClassNumbers.{class_number-below}
 use Rattle.dob_rank.proofs.Representatives.{class_setup_is}
 use Rattle.dob_value.specs.declared.value.Value.{Value}
-use Rattle.dob_value.specs.declared.value.Value.TheVariants.{Win, Loss, Draw}
+use Rattle.dob_value.specs.declared.value.Value.TheVariants.{Loss, Draw}
 use Rattle.dob_value.specs.Entries.{is_draw}
 use Rattle.dob_value.proofs.Successors.{moves_keep_the_set}
-use Rattle.dob_unmove.specs.Edges.{leads_into, edges, predecessors}
+use Rattle.dob_unmove.specs.Edges.{edges, predecessors}
 use Rattle.dob_unmove.proofs.Edges.{times-predecessors}
 use Rattle.dob_share.specs.declared.news.Settlement.{Settlement}
 use Rattle.dob_share.specs.declared.news.Item.{Item}
 use Rattle.dob_share.specs.Owners.{owner_of}
 use Rattle.dob_share.specs.Values.{is_win_in}
-use Rattle.dob_share.specs.Cells.{Cell, SumsUp}
-use Rattle.dob_node.specs.Histories.{copies, items_to, last_now, known, all_known}
+use Rattle.dob_share.specs.Cells.{SumsUp}
+use Rattle.dob_node.specs.Histories.{copies, items_to, known, all_known}
 use Rattle.dob_node.proofs.Runs.{from_each_below, only_one}
 use Rattle.dob_node.proofs.Copies.{NonePass, last_now-none}
-use Rattle.dob_node.proofs.Takes.{counted, counts}
+use Rattle.dob_node.proofs.Takes.{counted}
 
 -- ---- each move leads into one class
 

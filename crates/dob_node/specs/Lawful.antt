@@ -17,7 +17,7 @@ use Rattle.dob_share.specs.Owners.{owner_of}
 use Rattle.dob_share.specs.Values.{NoWorse}
 use Rattle.dob_share.specs.Cells.{Cell, SameCell, Takes, CellValue, SumsUp, Changes}
 use Rattle.dob_update.specs.Items.{items_from}
-use Rattle.dob_node.specs.Histories.{value_of, all_known, IsNext, IsChained}
+use Rattle.dob_node.specs.Histories.{value_of, all_known, IsChained}
 use Rattle.dob_node.specs.Quiet.{FollowsAtStatus}
 
 -- what the copies of the moves of p know, where `applied i j` are the items from node i that node j has applied

@@ -10,7 +10,6 @@ use Rattle.dob_unmove.specs.Edges.{predecessors}
 use Rattle.dob_share.specs.declared.news.Settlement.{Settlement}
 use Rattle.dob_share.specs.declared.news.Item.{Item}
 use Rattle.dob_share.specs.declared.opening.Opening.{Opening}
-use Rattle.dob_share.specs.Owners.{owner_of}
 use Rattle.dob_share.specs.Cells.{Cell, SumsUp, Changes}
 use Rattle.dob_update.specs.Items.{items_from}
 use Rattle.dob_node.specs.Openings.{AreOpenings}

@@ -18,7 +18,10 @@ fn lions_alone_open(rt: HostRuntime) {
         panic!(rt; "no openings");
     };
     assert_eq!(rt; openings.len(), 54);
-    let closed = openings.iter().filter(|given| given.status != Status::Open).count();
+    let closed = openings
+        .iter()
+        .filter(|given| given.status != Status::Open)
+        .count();
     assert_eq!(rt; closed, 33);
     let open = openings[17];
     assert!(rt; open.status == Status::Open);

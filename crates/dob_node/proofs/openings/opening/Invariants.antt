@@ -1,5 +1,4 @@
 -- The classes so far have their openings.
-use Rattle.std.proofs.Common.{◌≡◌}
 use Rattle.dob_node.specs.Openings.{AreOpeningsBelow}
 use Rattle.dob_node.proofs.openings.opening.Given as goal
 

@@ -1,6 +1,5 @@
 -- The position of a class is the one that stands for it.
-use Rattle.std.proofs.Common.{sym, subst}
-use Rattle.dob_rank.specs.ClassRows.{class_setup}
+use Rattle.std.proofs.Common.{subst}
 use Rattle.dob_rank.specs.Marks.{classes_of}
 use Rattle.dob_rank.proofs.Marks.{HasClasses-classes_of}
 use Rattle.dob_rank.proofs.Representatives.{class_setup_only}

@@ -1,5 +1,5 @@
 -- What is stored at the place is read as the settlement of that number.
-use Rattle.std.proofs.Common.{◌≡◌, ◌+◌, ◌*◌, ◌<◌, refl, ap, sym, subst}
+use Rattle.std.proofs.Common.{◌+◌, ◌*◌, ◌<◌, refl, ap, sym, subst}
 use Rattle.dob_value.specs.Codes.{value_of_code}
 use Rattle.dob_node.proofs.Stored.{seen_length, seen_at, same_settlement}
 use Rattle.dob_node.proofs.history.History.get.Goals as goal

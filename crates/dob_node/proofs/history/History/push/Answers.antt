@@ -1,5 +1,5 @@
 -- What is stored is seen as the settlement at the end.
-use Rattle.std.proofs.Common.{◌≡◌, ℕ, ◌/◌, ◌%◌, ◌<◌, [], ◌∷◌, ◌++◌, length, ap, ◌∙◌, sym, arith}
+use Rattle.std.proofs.Common.{◌≡◌, ◌/◌, ◌%◌, ◌<◌, [], ◌∷◌, ◌++◌, length, ap, ◌∙◌, sym, arith}
 use Rattle.std.proofs.lemmas.Result.{on_ok_weaker}
 use Rattle.dob_node.specs.declared.history.Stored.{Stored}
 use Rattle.dob_node.specs.Stores.{HistoryView}
