@@ -5,6 +5,7 @@ pub mod Rest
 pub mod Splits
 pub mod Learns
 pub mod Takes
+pub mod Sums
 pub mod Starts
 pub mod Settles
 pub mod Totals
