@@ -20,7 +20,7 @@ use Rattle.dob_share.specs.declared.news.Settlement.{Settlement}
 use Rattle.dob_share.specs.declared.news.Item.{Item}
 use Rattle.dob_share.specs.Owners.{owner_of}
 use Rattle.dob_share.specs.Values.{Better}
-use Rattle.dob_share.specs.Cells.{Cell, CellValue, SumsUp, Changes}
+use Rattle.dob_share.specs.Cells.{Cell, CellValue, SumsUp, Changes, changed}
 use Rattle.dob_update.specs.Items.{items_from}
 use Rattle.dob_node.specs.Histories.{copies, value_of, all_known, IsNext, IsChained}
 use Rattle.dob_node.specs.Quiet.{FollowsAtStatus}
@@ -32,6 +32,7 @@ use Rattle.dob_moves.proofs.Cases.{one_status}
 use Rattle.dob_node.proofs.Settles.{chained_more, value_of-more, still_begun, known_still}
 use Rattle.dob_node.proofs.Totals.{some_known}
 use Rattle.dob_node.proofs.Kept.{all_known-same, known_entries, follows_entry, better_apart}
+use Rattle.dob_node.proofs.Sums.{sums_up_after}
 use Rattle.dob_node.proofs.Takes.{counted, takes_next, value_follows, SumsUp-same, CellValue-same}
 
 -- ---- a class that has a copy is open
@@ -142,9 +143,9 @@ module _ (set : PieceSet) (n : ℕ) (histories : ℕ → List Settlement) (appli
     ]
       where
         here : SumsUp (known_of set n histories after item.to) (cells item.to)
-        here = are_after.learns (known_of set n histories applied item.to) (known_of set n histories after item.to)
-            (learns_here after is_applied)
-            (lawful.sums item.to there_is.0 there_is.1)
+        here = SumsUp-same (known_of set n histories after item.to) (cells item.to) (changed item.was item.now (cell item.to)) are_after.cell_is
+            (sums_up_after (known_of set n histories applied item.to) (known_of set n histories after item.to) item.was item.now (cell item.to)
+            better (learns_here after is_applied) (lawful.sums item.to there_is.0 there_is.1))
 
     begun_now : (k m : ℕ) → k < n → m < n → (rest : List Item) × (items_from targets n m (histories k) ≡ after k m ++ rest)
     begun_now k m low_k low_m = elim (cases_eq m j) [

@@ -1,5 +1,5 @@
 -- A cell that sums up what is known sums up what is known after a change, once it is changed likewise.
-use Rattle.std.proofs.Common.{◌≡◌, ◌≢◌, ℕ, zero, suc, ◌+◌, ◌-◌, ◌<◌, ◌≤◌, ◌⊎◌, inl, inr, min, eqb, if◌then◌else◌, Bool, true, false, cond, refl, sym, subst, ap, ◌∙◌, arith, List, [], ◌∷◌, ◌++◌, Contains, Option, Some, None}
+use Rattle.std.proofs.Common.{◌≡◌, ◌≢◌, ℕ, ◌+◌, ◌-◌, ◌<◌, ◌≤◌, ◌⊎◌, inl, inr, min, eqb, if◌then◌else◌, Bool, cond, refl, sym, subst, ap, ◌∙◌, arith, List, [], ◌∷◌, ◌++◌, Contains, Option, Some, None}
 use Rattle.std.specs.List.{count_by}
 use Rattle.std.proofs.lemmas.Bool.{cases_eq, cases_lt, eq-eqb, ne_eqb}
 use Rattle.std.proofs.lemmas.List.Sums.{sum_by-cons, sum_by-append}
@@ -87,9 +87,9 @@ least_more known after was plies change (Some least) greater is = (
         subst (λ k. Contains after (Loss k)) e (now_there known after was (Loss plies) change))
     | inr upto ↦ (let e : least ≡ min least plies = omega arith in
         subst (λ k. Contains after (Loss k)) e (elim (before_cases known after was (Loss plies) change (Loss least) is.0) [
-      | inl same ↦ (let more : plies < least = greater least same in absurd (omega arith))
-      | inr left ↦ left
-    ]))
+          | inl same ↦ (let more : plies < least = greater least same in absurd (omega arith))
+          | inr left ↦ left
+        ]))
   ],
   λ other there. elim (after_cases known after was (Loss plies) change (Loss other) there) [
     | inl same ↦ (let e : plies ≡ other = cc in omega arith)

@@ -15,7 +15,7 @@ use Rattle.dob_share.specs.declared.news.Settlement.{Settlement}
 use Rattle.dob_share.specs.declared.news.Item.{Item}
 use Rattle.dob_share.specs.Owners.{owner_of}
 use Rattle.dob_share.specs.Values.{NoWorse}
-use Rattle.dob_share.specs.Cells.{Cell, SameCell, Takes, CellValue, SumsUp, Changes}
+use Rattle.dob_share.specs.Cells.{Cell, SameCell, Takes, changed, CellValue, SumsUp}
 use Rattle.dob_update.specs.Items.{items_from}
 use Rattle.dob_node.specs.Histories.{value_of, all_known, IsChained}
 use Rattle.dob_node.specs.Quiet.{FollowsAtStatus}
@@ -50,10 +50,10 @@ pub record CanApply (set : PieceSet) (n j : ℕ) (cell : ℕ → Cell) (item : I
   pub is_open : HasStatus (class_setup set item.to) Open
   pub takes : Takes item.was item.now (cell item.to)
 
--- The cells after an item: that of its class sums up what is known with it, gives a value that is short and no worse, and
--- the others are as they were.
+-- The cells after an item: that of its class is changed as the item says, and gives a value that is short and no worse;
+-- the others say what they said.
 pub record AreAfter (item : Item) (cell after : ℕ → Cell) (value values : ℕ → Value) : Type 0 where
-  pub learns : (known more : List Value) → Changes known more item.was item.now → SumsUp known (cell item.to) → SumsUp more (after item.to)
+  pub cell_is : SameCell (after item.to) (changed item.was item.now (cell item.to))
   pub gives : CellValue (after item.to) (values item.to)
   pub short : IsShort (values item.to)
   pub better : NoWorse (value item.to) (values item.to)
