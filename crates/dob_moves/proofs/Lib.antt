@@ -9,3 +9,4 @@ pub mod Reach
 pub mod Verdicts
 pub mod Appends
 pub mod MoveLists
+pub mod MoveCounts

@@ -32,7 +32,7 @@ enemy_lion (Some piece) h = lion_piece piece.side piece.kind h
     lion_piece Enemy Hen h = cc
     lion_piece Mover kind h = cc
 
-tried_at : (p : Setup) (a b c : Bool) → holds_lion Enemy (at p 0) ≡ a → holds_lion Enemy (at p 1) ≡ b → holds_lion Enemy (at p 2) ≡ c
+pub tried_at : (p : Setup) (a b c : Bool) → holds_lion Enemy (at p 0) ≡ a → holds_lion Enemy (at p 1) ≡ b → holds_lion Enemy (at p 2) ≡ c
     → a || (b || c) ≡ true → HasTried p
 tried_at p true b c at_a at_b at_c h = (0, omega arith, enemy_lion (at p 0) at_a)
 tried_at p false true c at_a at_b at_c h = (1, omega arith, enemy_lion (at p 1) at_b)

@@ -3,6 +3,7 @@
 
 mod applied;
 mod choice;
+mod count;
 mod judge;
 pub mod laws;
 mod listing;
@@ -11,6 +12,7 @@ mod search;
 
 pub use applied::apply;
 pub use choice::Move;
+pub use count::count_moves;
 pub use judge::{first_catch, status};
 pub use listing::moves;
 pub use outlook::Status;

@@ -137,7 +137,7 @@ module _ (set : PieceSet) (q : Setup) (class : ℕ) (is_q : IsFirstIn set q clas
   abbrev number : ℕ → ℕ
   number from = edges set from class
 
-  times-predecessors : (from : ℕ) → from < classes_of set → times from (predecessors set class) ≡ edges set from class
+  pub times-predecessors : (from : ℕ) → from < classes_of set → times from (predecessors set class) ≡ edges set from class
   unfolding predecessors
   times-predecessors from below = times-each number (classes_of set) from below
 
