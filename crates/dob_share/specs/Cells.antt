@@ -1,5 +1,5 @@
 -- What a class's cell says of its moves, and how an item changes it.
-use Rattle.std.specs.Prelude.{◌≡◌, ℕ, ◌+◌, ◌-◌, ◌<◌, ◌≤◌, ◌⊎◌, ◌==◌, if◌then◌else◌, min, List, ◌++◌, ◌∷◌, Contains, count_by, Option, None, Some}
+use Rattle.std.specs.Prelude.{◌≡◌, ℕ, ◌+◌, ◌-◌, ◌<◌, ◌≤◌, ◌⊎◌, ◌==◌, if◌then◌else◌, min, max, List, ◌++◌, ◌∷◌, Contains, count_by, Option, None, Some}
 use Rattle.dob_value.specs.declared.value.Value.{Value}
 use Rattle.dob_value.specs.declared.value.Value.TheVariants.{Win, Loss, Draw}
 use Rattle.dob_value.specs.Entries.{is_draw}
@@ -54,6 +54,16 @@ Takes _ _ _ = ⊥
 abbrev pub IsGreatest : (ℕ → ℕ) → ℕ → Type 0
 IsGreatest wins plies = (0 < wins plies) × ((other : ℕ) → 0 < wins other → other ≤ plies)
 
+-- the greatest distance that is counted, where one is
+abbrev pub IsGreatestIn : (ℕ → ℕ) → Option ℕ → Type 0
+IsGreatestIn wins None = (plies : ℕ) → wins plies ≡ 0
+IsGreatestIn wins (Some plies) = IsGreatest wins plies
+
+-- the greater of a distance, where there is one, and another
+abbrev pub greater : Option ℕ → ℕ → ℕ
+greater None plies = plies
+greater (Some greatest) plies = max greatest plies
+
 -- The cell's value: a win in one ply more than the least known loss of the enemy; where there is none and no move is
 -- left, a loss in one ply more than the greatest counted win of the enemy; else a draw.
 abbrev pub CellValue : Cell → Value → Type 0
@@ -86,3 +96,7 @@ pub record Changes (known after : List Value) (was now : Value) : Type 0 where
   pub behind : List Value
   pub known_is : known ≡ before ++ was ∷ behind
   pub after_is : after ≡ before ++ now ∷ behind
+
+-- the cell of a class with that many moves, of which nothing is known
+abbrev pub fresh : ℕ → Cell
+fresh moves = record { left = moves; wins = λ _. 0; least = None }

@@ -1,10 +1,16 @@
 // The cells of one owner's classes: what the settlements of other classes, told item by item, make of their values.
 #![tactic(auto)]
 
+mod cells;
+mod fault;
 mod news;
 mod opening;
 mod owners;
+mod share;
+mod steps;
 
+pub use fault::Fault;
 pub use news::{Item, Settlement};
 pub use opening::Opening;
 pub use owners::owner;
+pub use share::Share;

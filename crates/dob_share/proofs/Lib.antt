@@ -1,0 +1,8 @@
+pub mod Tallies
+pub mod Changing
+pub mod Keeping
+pub mod Applied
+pub mod Laws
+pub mod Owning
+pub mod Opened
+pub mod OwnOpened

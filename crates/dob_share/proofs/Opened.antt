@@ -1,0 +1,197 @@
+-- What has been opened: it grows by a slot with its run, and is in order.
+use Rattle.std.proofs.Common.{◌≡◌, ℕ, zero, suc, ◌+◌, ◌-◌, ◌*◌, ◌<◌, ◌≤◌, ◌⊎◌, List, [], ◌∷◌, ◌++◌, length, refl, sym, ap, ◌∙◌, subst, inl, inr, arith, get_or, eqb, Bool, true, false, cond, Some, None, Option}
+use Rattle.std.proofs.lemmas.List.{get_or_append_left, get_or_push, get_or_past, get_or_default, length_push}
+use Rattle.std.proofs.lemmas.Bool.{cases_eq, cases_lt}
+use Rattle.dob_share.specs.declared.cells.Slot.{Slot}
+use Rattle.dob_share.specs.declared.cells.Count.{Count}
+use Rattle.dob_share.specs.declared.opening.Opening.{Opening}
+use Rattle.dob_share.specs.Cells.{Cell, SameCell, fresh}
+use Rattle.dob_share.specs.Pools.{vacant, tally, moves_of, moves_at, wins_in}
+use Rattle.dob_share.specs.Slots.{beyond, slot_at, start_at, room_at, least_of, cell_of, cell_in, IsShortCell, ArePooled}
+use Rattle.std.proofs.Common.{add-one}
+use Rattle.dob_moves.specs.declared.outlook.Status.{Status}
+use Rattle.dob_moves.specs.declared.outlook.Status.TheVariants.{Caught, Tried, Stuck, Open}
+use Rattle.dob_share.specs.Openings.{opening_of, AreOpened, settles, settled_among}
+use Rattle.dob_share.proofs.Keeping.{cell_is, same_short}
+
+-- a run of free entries counts nothing
+tally_free : (f : Count → ℕ) (pool : List Count) (start room : ℕ) → f vacant ≡ 0 → ((place : ℕ) → get_or pool place vacant ≡ vacant) →
+    tally f pool start room ≡ 0
+tally_free f pool start zero none free = refl
+tally_free f pool start (suc room) none free =
+    let rest : tally f pool start room ≡ 0 = tally_free f pool start room none free in
+    let last : f (get_or pool (start + room) vacant) ≡ 0 = ap f (free (start + room)) ∙ none in
+    omega arith
+
+zero_either : (b : Bool) → cond {A = ℕ} b 0 0 ≡ 0
+zero_either true = refl
+zero_either false = refl
+
+vacant_at : (plies : ℕ) → moves_at plies vacant ≡ 0
+vacant_at plies = zero_either (eqb 0 plies)
+
+wins_free : (pool : List Count) (start room plies : ℕ) → ((place : ℕ) → get_or pool place vacant ≡ vacant) → wins_in pool start room plies ≡ 0
+unfolding wins_in
+wins_free pool start room plies free = tally_free (moves_at plies) pool start room (vacant_at plies) free
+
+module _ (openings : List Opening) (n id : ℕ) (slots : List Slot) (pool : List Count) (opened : AreOpened openings n id slots pool) where
+  past_end : (place : ℕ) → length slots ≤ place → slot_at slots (length pool) place ≡ beyond (length pool)
+  past_end place after = get_or_past slots place (beyond (length pool)) after
+
+  step_on : (place : ℕ) → start_at slots (length pool) place ≤ start_at slots (length pool) (place + 1)
+  step_on place = elim (cases_lt place (length slots)) [
+    | inl inside ↦ let run = opened.runs place inside in omega arith
+    | inr after ↦
+        let here : start_at slots (length pool) place ≡ length pool = ap (λ s. s.start) (past_end place after) in
+        let next : start_at slots (length pool) (place + 1) ≡ length pool = ap (λ s. s.start) (past_end (place + 1) (omega arith)) in
+        omega arith
+  ]
+
+  ordered_by : (gap place : ℕ) → start_at slots (length pool) place ≤ start_at slots (length pool) (place + gap)
+  ordered_by zero place = let same : start_at slots (length pool) (place + 0) ≡ start_at slots (length pool) place = ap (λ (k : ℕ). start_at slots (length pool) k) (omega arith) in omega arith
+  ordered_by (suc gap) place =
+      let rest : start_at slots (length pool) place ≤ start_at slots (length pool) (place + gap) = ordered_by gap place in
+      let last : start_at slots (length pool) (place + gap) ≤ start_at slots (length pool) (place + gap + 1) = step_on (place + gap) in
+      let same : start_at slots (length pool) (place + gap + 1) ≡ start_at slots (length pool) (place + suc gap)
+      = ap (λ (k : ℕ). start_at slots (length pool) k) (let e : place + gap + 1 ≡ place + suc gap = omega arith in e) in
+      omega arith
+
+  pub in_order : (place later : ℕ) → place ≤ later → start_at slots (length pool) place ≤ start_at slots (length pool) later
+  in_order place later before =
+      subst (λ (k : ℕ). start_at slots (length pool) place ≤ start_at slots (length pool) k) (let e : place + (later - place) ≡ later = omega arith in e)
+      (ordered_by (later - place) place)
+
+  room_is : (place : ℕ) → room_at slots (length pool) place ≡ (slot_at slots (length pool) place).left
+  room_is place = elim (cases_lt place (length slots)) [
+    | inl inside ↦ let run = opened.runs place inside in omega arith
+    | inr after ↦
+        let here : start_at slots (length pool) place ≡ length pool = ap (λ s. s.start) (past_end place after) in
+        let next : start_at slots (length pool) (place + 1) ≡ length pool = ap (λ s. s.start) (past_end (place + 1) (omega arith)) in
+        let none : (slot_at slots (length pool) place).left ≡ 0 = ap (λ s. s.left) (past_end place after) in
+        omega arith
+  ]
+
+  pub cell_fresh : (place : ℕ) → SameCell (cell_in slots pool place) (fresh (slot_at slots (length pool) place).left)
+  cell_fresh place = subst (λ c. SameCell c (fresh (slot_at slots (length pool) place).left)) (sym (cell_is slots pool place)) (record {
+    left = refl;
+    wins = λ plies. wins_free pool (start_at slots (length pool) place) (room_at slots (length pool) place) plies opened.free;
+    least = ap least_of (opened.no_win place);
+  })
+
+  fresh_short : (moves : ℕ) → IsShortCell (fresh moves)
+  fresh_short moves = record { loss = λ plies e. absurd (cc); win = λ _ _ plies some. absurd (omega arith) }
+
+  pub pooled_open : ArePooled slots pool
+  pooled_open = record {
+    ordered = in_order;
+    within = λ place.
+        let end : start_at slots (length pool) (place + length slots) ≡ length pool = ap (λ s. s.start) (past_end (place + length slots) (omega arith)) in
+        let up : start_at slots (length pool) place ≤ start_at slots (length pool) (place + length slots) = ordered_by (length slots) place in omega arith;
+    small = λ place. subst (λ (k : ℕ). k < 256) (sym (room_is place)) (opened.few place);
+    room = λ place inside.
+        let none : tally moves_of pool (start_at slots (length pool) place) (room_at slots (length pool) place) ≡ 0
+        = tally_free moves_of pool (start_at slots (length pool) place) (room_at slots (length pool) place) refl opened.free in
+        let room : room_at slots (length pool) place ≡ (slot_at slots (length pool) place).left = room_is place in omega arith;
+    short = λ place inside. same_short (cell_in slots pool place) (fresh (slot_at slots (length pool) place).left) (cell_fresh place) (fresh_short (slot_at slots (length pool) place).left);
+  }
+
+  -- one more slot, whose run begins at the pool's end, and its run
+  module _ (next : Slot) (new_pool : List Count) (at_end : next.start ≡ length pool) (longer : length new_pool ≡ length pool + next.left)
+      (few : next.left < 256) (no_win : next.win ≡ 0) (free : (place : ℕ) → get_or new_pool place vacant ≡ vacant)
+      (status : next.status ≡ (opening_of openings (length slots * n + id)).status) (moves : next.left ≡ (opening_of openings (length slots * n + id)).moves) where
+    before : (place : ℕ) → place < length slots → slot_at (slots ++ next ∷ []) (length new_pool) place ≡ slot_at slots (length pool) place
+    before place inside = get_or_append_left slots (next ∷ []) (beyond (length new_pool)) place inside
+        ∙ get_or_default slots place (beyond (length new_pool)) (beyond (length pool)) inside
+
+    here : (place : ℕ) → length slots ≡ place → slot_at (slots ++ next ∷ []) (length new_pool) place ≡ next
+    here place e = get_or_push slots next (beyond (length new_pool)) place e
+
+    behind : (place : ℕ) → length slots < place → slot_at (slots ++ next ∷ []) (length new_pool) place ≡ beyond (length new_pool)
+    behind place after = get_or_past (slots ++ next ∷ []) place (beyond (length new_pool)) (let e : length (slots ++ next ∷ []) ≡ length slots + 1 = length_push slots next in omega arith)
+
+    old_start : (place : ℕ) → place ≤ length slots → start_at (slots ++ next ∷ []) (length new_pool) place ≡ start_at slots (length pool) place
+    old_start place upto = elim (cases_lt place (length slots)) [
+      | inl inside ↦ ap (λ s. s.start) (before place inside)
+      | inr after ↦
+          let e : length slots ≡ place = omega arith in
+          ap (λ s. s.start) (here place e) ∙ at_end ∙ sym (ap (λ s. s.start) (past_end place (omega arith)))
+    ]
+
+    pub one_more : AreOpened openings n id (slots ++ next ∷ []) new_pool
+    one_more = record {
+      runs = λ place inside. elim (cases_lt place (length slots)) [
+        | inl old ↦
+            let x : start_at (slots ++ next ∷ []) (length new_pool) place ≡ start_at slots (length pool) place = old_start place (omega arith) in
+            let y : start_at (slots ++ next ∷ []) (length new_pool) (place + 1) ≡ start_at slots (length pool) (place + 1) = old_start (place + 1) (omega arith) in
+            let z : (slot_at (slots ++ next ∷ []) (length new_pool) place).left ≡ (slot_at slots (length pool) place).left = ap (λ s. s.left) (before place old) in
+            let run = opened.runs place old in omega arith
+        | inr last ↦
+            let long : length (slots ++ next ∷ []) ≡ length slots + 1 = length_push slots next in
+            let e : length slots ≡ place = omega arith in
+            let x : start_at (slots ++ next ∷ []) (length new_pool) place ≡ length pool = ap (λ s. s.start) (here place e) ∙ at_end in
+            let y : start_at (slots ++ next ∷ []) (length new_pool) (place + 1) ≡ length new_pool = ap (λ s. s.start) (behind (place + 1) (omega arith)) in
+            let z : (slot_at (slots ++ next ∷ []) (length new_pool) place).left ≡ next.left = ap (λ s. s.left) (here place e) in
+            omega arith
+      ];
+      statuses = λ place inside. elim (cases_lt place (length slots)) [
+        | inl old ↦ ap (λ s. s.status) (before place old) ∙ opened.statuses place old
+        | inr last ↦
+            let long : length (slots ++ next ∷ []) ≡ length slots + 1 = length_push slots next in
+            let e : length slots ≡ place = omega arith in
+            ap (λ s. s.status) (here place e) ∙ status ∙ ap (λ (k : ℕ). (opening_of openings (k * n + id)).status) e
+      ];
+      moves = λ place inside. elim (cases_lt place (length slots)) [
+        | inl old ↦ ap (λ s. s.left) (before place old) ∙ opened.moves place old
+        | inr last ↦
+            let long : length (slots ++ next ∷ []) ≡ length slots + 1 = length_push slots next in
+            let e : length slots ≡ place = omega arith in
+            ap (λ s. s.left) (here place e) ∙ moves ∙ ap (λ (k : ℕ). (opening_of openings (k * n + id)).moves) e
+      ];
+      few = λ place. elim (cases_lt place (length slots)) [
+        | inl old ↦ subst (λ s. s.left < 256) (sym (before place old)) (opened.few place)
+        | inr after ↦ elim (cases_eq place (length slots)) [
+          | inl e ↦ subst (λ s. s.left < 256) (sym (here place (sym e))) few
+          | inr n ↦ subst (λ s. s.left < 256) (sym (behind place (omega arith))) (omega arith)
+        ]
+      ];
+      no_win = λ place. elim (cases_lt place (length slots)) [
+        | inl old ↦ ap (λ s. s.win) (before place old) ∙ opened.no_win place
+        | inr after ↦ elim (cases_eq place (length slots)) [
+          | inl e ↦ ap (λ s. s.win) (here place (sym e)) ∙ no_win
+          | inr n ↦ ap (λ s. s.win) (behind place (omega arith))
+        ]
+      ];
+      free = free;
+    }
+
+-- one more free entry
+pub free_push : (pool : List Count) → ((place : ℕ) → get_or pool place vacant ≡ vacant) → (place : ℕ) → get_or (pool ++ vacant ∷ []) place vacant ≡ vacant
+free_push pool free place = elim (cases_lt place (length pool)) [
+  | inl inside ↦ get_or_append_left pool (vacant ∷ []) vacant place inside ∙ free place
+  | inr after ↦ elim (cases_eq place (length pool)) [
+    | inl e ↦ get_or_push pool vacant vacant place (sym e)
+    | inr n ↦ get_or_past (pool ++ vacant ∷ []) place vacant (let e : length (pool ++ vacant ∷ []) ≡ length pool + 1 = length_push pool vacant in omega arith)
+  ]
+]
+
+pub none_opened : (openings : List Opening) (n id : ℕ) (slots : List Slot) (pool : List Count) → slots ≡ [] → pool ≡ [] → AreOpened openings n id slots pool
+none_opened openings n id slots pool no_slot no_count =
+    let none : length slots ≡ 0 = ap length no_slot in
+    let empty : length pool ≡ 0 = ap length no_count in record {
+      runs = λ place inside. absurd (omega arith);
+      statuses = λ place inside. absurd (omega arith);
+      moves = λ place inside. absurd (omega arith);
+      few = λ place. subst (λ s. s.left < 256) (sym (get_or_past slots place (beyond (length pool)) (omega arith))) (omega arith);
+      no_win = λ place. ap (λ s. s.win) (get_or_past slots place (beyond (length pool)) (omega arith));
+      free = λ place. get_or_past pool place vacant (omega arith);
+    }
+
+pub settles_most : (status : Status) → settles status ≤ 1
+settles_most Open = omega arith
+settles_most Caught = omega arith
+settles_most Tried = omega arith
+settles_most Stuck = omega arith
+
+pub settled_more : (status : ℕ → Status) (place settled more : ℕ) → settled ≡ settled_among status place → more ≡ settles (status place) →
+    settled + more ≡ settled_among status (place + 1)
+settled_more status place settled more so_far last = rw add-one (let e : settled_among status (suc place) ≡ settled_among status place + settles (status place) = refl in omega arith)

@@ -1,0 +1,11 @@
+use Rattle.std.proofs.Common.{◌≡◌, ◌≤◌, ℕ, subst, arith}
+use Rattle.dob_share.specs.Cells.{IsGreatestIn}
+use Rattle.dob_share.specs.Pools.{tally, moves_at}
+use Rattle.dob_share.proofs.Tallies.{greatest_in}
+use Rattle.dob_share.proofs.cells.greatest_win.Goals as goal
+
+pub returns : goal.returns
+returns c =
+    let whole : c.loop-offset.offset ≡ c.args.run.room = omega arith in
+    greatest_in c.args.pool.now c.args.run.start c.args.run.room c.loop-offset.greatest
+    (subst (λ (k : ℕ). IsGreatestIn (λ plies. tally (moves_at plies) c.args.pool.now c.args.run.start k) c.loop-offset.greatest) whole c.loop-offset.invariant)

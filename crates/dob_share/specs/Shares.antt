@@ -1,0 +1,69 @@
+-- The cells of one owner's classes: what a share says of each class.
+use Rattle.std.specs.Prelude.{◌≡◌, ℕ, zero, suc, ◌+◌, ◌/◌, ◌%◌, ◌<◌, ◌≤◌, List, length, Option, None, Some}
+use Rattle.dob_moves.specs.declared.outlook.Status.{Status}
+use Rattle.dob_moves.specs.declared.outlook.Status.TheVariants.{Caught, Tried, Stuck, Open}
+use Rattle.dob_value.specs.declared.value.Value.{Value}
+use Rattle.dob_value.specs.declared.value.Value.TheVariants.{Win, Loss, Draw}
+use Rattle.dob_share.specs.declared.news.Item.{Item}
+use Rattle.dob_share.specs.declared.news.Settlement.{Settlement}
+use Rattle.dob_share.specs.Values.{Better}
+use Rattle.dob_share.specs.declared.share.Share.{Share}
+use Rattle.dob_share.specs.Cells.{Cell, CellValue, SameCell, Takes, changed}
+use Rattle.dob_share.specs.Slots.{slot_at, cell_in}
+use Rattle.dob_share.specs.Steps.{IsTooDeep}
+
+-- how many classes the share owns
+unfoldable pub places_of : Share → ℕ
+places_of share = length share.slots
+
+-- the class is the share's own: it has a place in it
+unfoldable pub IsOwn : Share → ℕ → Type 0
+IsOwn share class = (class % share.n ≡ share.id) × (class / share.n < length share.slots)
+
+-- the status of an own class
+unfoldable pub status_at : Share → ℕ → Status
+status_at share class = (slot_at share.slots (length share.pool) (class / share.n)).status
+
+-- the cell of an own class
+unfoldable pub cell_at : Share → ℕ → Cell
+cell_at share class = cell_in share.slots share.pool (class / share.n)
+
+-- the value of a class with that status and cell
+abbrev pub IsValue : Status → Cell → Value → Type 0
+IsValue Caught cell value = value ≡ Win 1
+IsValue Tried cell value = value ≡ Loss 0
+IsValue Stuck cell value = value ≡ Loss 0
+IsValue Open cell value = CellValue cell value
+
+-- the present value of an own class
+abbrev pub HasValueNow : Share → ℕ → Value → Type 0
+HasValueNow share class value = IsValue (status_at share class) (cell_at share class) value
+
+-- the item fits: it goes to an open class of the share's own, whose cell takes the change
+unfoldable pub Fits : Share → Item → Type 0
+Fits share item = IsOwn share item.to × (status_at share item.to ≡ Open) × Takes item.was item.now (cell_at share item.to)
+
+-- the item would give the class a value whose distance is above the greatest that is kept
+unfoldable pub GoesTooDeep : Share → Item → Type 0
+GoesTooDeep share item = IsTooDeep (changed item.was item.now (cell_at share item.to))
+
+-- the two shares own the same classes, and know the same status of each
+pub record SameClasses (old new : Share) : Type 0 where
+  pub id : new.id ≡ old.id
+  pub n : new.n ≡ old.n
+  pub places : places_of new ≡ places_of old
+  pub owned : (class : ℕ) → IsOwn old class → IsOwn new class
+  pub statuses : (class : ℕ) → status_at new class ≡ status_at old class
+
+-- the class is the share's own, and open
+unfoldable pub IsOwnOpen : Share → ℕ → Type 0
+IsOwnOpen share class = IsOwn share class × (status_at share class ≡ Open)
+
+-- What the share gives for an item to the class: nothing where its value has stayed, else its settlement, from the value
+-- that it had to a better one, with the next number.
+abbrev pub HasSettled : Share → Share → ℕ → Option Settlement → Type 0
+HasSettled old new class None = (new.settled ≡ old.settled)
+    × (value : Value) × HasValueNow old class value × HasValueNow new class value
+HasSettled old new class (Some settlement) = (new.settled ≡ old.settled + 1) × (settlement.number ≡ old.settled)
+    × (settlement.class ≡ class) × HasValueNow old class settlement.was × HasValueNow new class settlement.now
+    × Better settlement.was settlement.now
