@@ -14,7 +14,7 @@ use Rattle.clap.specs.declared.error.kind.ErrorKind.TheVariants as kind
 use Rattle.clap.proofs.FaultLemmas.{stopped_fault}
 use Rattle.clap.proofs.WalkLemmas.{walk_stopped}
 use Rattle.dob_cli.specs.Forms.{Form, Text, count_form, forms, value_form}
-use Rattle.dob_cli.specs.Words.{Meaning, asks, help, is_dashes, is_help_flag, is_text, meaning_of, meaning_of_form, meaning_of_other, topic, usage}
+use Rattle.dob_cli.specs.Words.{Meaning, asks, help, is_dashes, is_help_flag, is_text, meaning_of_command, meaning_of_form, meaning_of_other, topic, usage, version}
 use Rattle.dob_cli.specs.Shapes.{Finds, dobutsu_app}
 use Rattle.dob_cli.proofs.Lexing.{flip_bytes, or_false}
 use Rattle.dob_cli.proofs.Turns.{KnowsHelp, help_flag, is_usage, none, or_else_usage}
@@ -108,6 +108,7 @@ Fits (asks name texts) kinds met = (kinds ≡ []) × IsMet forms name texts met
 Fits help kinds met = kinds ≡ kind.DisplayHelp ∷ []
 Fits topic kinds met = kinds ≡ kind.DisplayHelp ∷ kind.InvalidSubcommand ∷ []
 Fits usage kinds met = is_usage kinds ≡ true
+Fits version kinds met = ⊥
 
 abbrev FitsAt : Meaning → List Text → Type 0
 FitsAt m words = Fits m (kinds_at start words) (subcommand_of dobutsu_app words)
@@ -133,6 +134,7 @@ module _ (f : Form) (is : IsTaken f) (enters : IsEntered f) (among : (name : Tex
   comes_fit help rest c = kinds_below rest ∙ c
   comes_fit topic rest c = kinds_below rest ∙ c
   comes_fit usage rest c = rw (kinds_below rest) c
+  comes_fit version rest c = absurd c
 
   form_fits : (rest : List Text) → FitsAt (meaning_of_form f rest) (f.name ∷ rest)
   form_fits rest = comes_fit (meaning_of_form f rest) rest (form_comes f is rest)
@@ -201,7 +203,7 @@ other_fits word rest differs = go (bytes_eq (codes "help") word) (is_help_flag w
         (other_turn top names [] None 1 word none (no_subcommand word differs names_help) refl knows refl text asks_help (flip_bytes (codes "--") word false e))
 
 -- what the words ask for goes with the kinds of error, and with the subcommand that was met
-pub words_fit : (words : List Text) → Fits (meaning_of words) (fault_of dobutsu_app words) (subcommand_of dobutsu_app words)
+pub words_fit : (words : List Text) → Fits (meaning_of_command words) (fault_of dobutsu_app words) (subcommand_of dobutsu_app words)
 words_fit [] = no_words
 words_fit (word ∷ rest) = go forms all_fit (other_fits word rest)
   where

@@ -15,7 +15,7 @@ use Rattle.clap.specs.Kinds.{Kinds, or_else}
 use Rattle.clap.specs.Faults.{check_fault, defaults_fault, level_fault, settle_fault, step_fault, turn_fault, walk_fault}
 use Rattle.clap.specs.declared.error.kind.ErrorKind.TheVariants as kind
 use Rattle.dob_cli.specs.Forms.{Form, labels}
-use Rattle.dob_cli.specs.Words.{Given, Meaning, Stand, Text, after_dashes, after_part, after_word, asked, asks, at_end, behind, between, call, dashes, ended, help, is_dashes, is_help_flag, is_text, label_of, meaning_of_form, name_in, once, option, option_part, placed, text, text_of, texts_of, topic, unknown, usage, valued, wants}
+use Rattle.dob_cli.specs.Words.{Given, Meaning, Stand, Text, after_dashes, after_part, after_word, asked, asks, at_end, behind, between, call, dashes, ended, help, is_dashes, is_help_flag, is_text, label_of, meaning_of_form, name_in, once, option, option_part, placed, text, text_of, texts_of, topic, unknown, usage, valued, version, wants}
 use Rattle.dob_cli.specs.Shapes.{bare_app, form_app}
 use Rattle.dob_cli.proofs.Lexing.{View, empty as no_byte, letter as a_letter, hyphen as one_hyphen, dashes as two_hyphens, long as a_long, short as a_short, flip_bytes, long_name, long_short, no_first, flag_letter, or_false, view}
 use Rattle.dob_cli.proofs.Turns.{KnowsHelp, help_flag, held, is_usage, or_else_usage}
@@ -180,6 +180,7 @@ module _ (f : Form) (is : IsTaken f) where
   Comes help kinds rows = kinds ≡ kind.DisplayHelp ∷ []
   Comes topic kinds rows = kinds ≡ kind.DisplayHelp ∷ kind.InvalidSubcommand ∷ []
   Comes usage kinds rows = is_usage kinds ≡ true
+  Comes version kinds rows = ⊥
 
   abbrev Reached : Meaning → Walk → List Text → Type 0
   Reached m w words = Comes m (kinds_at w words) (rows_at w words)

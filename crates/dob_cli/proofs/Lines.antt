@@ -8,7 +8,7 @@ use Rattle.std.proofs.lemmas.Slice.Eq.{bytes_eq-Decides}
 use Rattle.std.proofs.lemmas.Bool.Decides.{Decides-eqb}
 use Rattle.clap.specs.Lexer.{has_byte}
 use Rattle.dob_cli.specs.Forms.{Form, Text, count_form, forms, labels, value_form}
-use Rattle.dob_cli.specs.Words.{Given, Meaning, Stand, after_dashes, after_part, after_word, asked, asks, at_end, behind, between, call, dashes, ended, help, is_dashes, is_help_flag, is_text, label_of, meaning_of, meaning_of_form, meaning_of_other, name_in, option, option_part, part_of, placed, text, text_of, texts_of, topic, unknown, usage, valued, wants}
+use Rattle.dob_cli.specs.Words.{Given, Meaning, Stand, after_dashes, after_part, after_word, asked, asks, at_end, behind, between, call, dashes, ended, help, is_dashes, is_help_flag, is_text, label_of, meaning_of, meaning_of_form, meaning_of_other, name_in, option, option_part, part_of, placed, text, text_of, texts_of, topic, unknown, usage, valued, version, wants}
 use Rattle.dob_cli.specs.Lines.{AreNew, Behind, Gives, IsAmong, IsLine, by_dashes, by_option, by_place, by_value, next, none, nothing}
 use Rattle.dob_cli.specs.Readings.{ComesFromLine, IsReadingOf, SomeLine, texts_of_order}
 use Rattle.dob_cli.specs.declared.command.Reading.{Reading}
@@ -90,6 +90,10 @@ module _ (f : Form) (name : Text) (texts : List Text) where
   not_usage : {X : Type 0} → usage ≡ asks name texts → X
   unfolding is_asked
   not_usage e = absurd (true≢false (sym (ap is_asked e)))
+
+  versions_ask : {X : Type 0} → version ≡ asks name texts → X
+  unfolding is_asked
+  versions_ask e = absurd (true≢false (sym (ap is_asked e)))
 
   not_topic : {X : Type 0} → topic ≡ asks name texts → X
   unfolding is_asked
@@ -302,8 +306,11 @@ form_line f rest name texts e =
 
 pub line_of : (words : List Text) (name : Text) (texts : List Text) → meaning_of words ≡ asks name texts → SomeLine words name texts
 line_of [] name texts e = not_usage value_form name texts e
-line_of (word ∷ rest) name texts e = go forms (λ f h. h) e
+line_of (word ∷ rest) name texts e = first (bytes_eq (codes "--version") word) e
   where
+    not_version : {X : Type 0} → version ≡ asks name texts → X
+    not_version h = versions_ask value_form name texts h
+
     other : meaning_of_other word ≡ asks name texts → SomeLine (word ∷ rest) name texts
     other e = by (bytes_eq (codes "help") word) (is_help_flag word) e
       where
@@ -324,6 +331,11 @@ line_of (word ∷ rest) name texts e = go forms (λ f h. h) e
             (f, among f (inl refl), l.0, subst (λ w. IsLine f (w ∷ rest) texts) ((bytes_eq-Decides f.name word).0 is) l.1)
         by false is e later = later e
 
+    first : (b : Bool) → cond b version (option_map_or (λ f. meaning_of_form f rest) (find (λ f. bytes_eq f.name word) forms) (meaning_of_other word)) ≡ asks name texts
+        → SomeLine (word ∷ rest) name texts
+    first true e = not_version e
+    first false e = go forms (λ f h. h) e
+
 -- an order is read only where the words are a line of it
 pub order_from_line : (words : List Text) (r : Reading) → IsReadingOf (meaning_of words) r → ComesFromLine words r
 order_from_line words (reading.Order o) h = go (meaning_of words) refl h
@@ -334,6 +346,8 @@ order_from_line words (reading.Order o) h = go (meaning_of words) refl h
     go help e h = absurd h
     go topic e h = absurd h
     go usage e h = absurd h
+    go version e h = absurd h
+order_from_line words reading.Version h = tt
 order_from_line words (reading.Help s) h = tt
 order_from_line words (reading.Usage s) h = tt
 

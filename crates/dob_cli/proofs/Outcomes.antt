@@ -11,7 +11,7 @@ use Rattle.clap.specs.declared.error.ErrorKind.TheVariants as kind
 use Rattle.clap.specs.declared.parser.ArgMatches.{ArgMatches}
 use Rattle.clap.proofs.WalkLemmas.{both, first_value-rows}
 use Rattle.dob_cli.specs.Forms.{Form, Text, forms}
-use Rattle.dob_cli.specs.Words.{Meaning, asks, help, meaning_of, topic, usage}
+use Rattle.dob_cli.specs.Words.{Meaning, asks, help, is_version, meaning_of, meaning_of_command, topic, usage, version}
 use Rattle.dob_cli.specs.Shapes.{Finds, HasShape, dobutsu_app}
 use Rattle.dob_cli.specs.Readings.{IsOrder, IsReadingOf, IsReadingOfKind}
 use Rattle.dob_cli.specs.declared.command.Order.{Order}
@@ -53,18 +53,19 @@ found_texts ys texts e = sym (back ys) ∙ (ap (map (λ (o : Option Text). unwra
 pub record IsAsked (words : List Text) (met : Option (Text × List Row)) : Type 0 where
   pub name : Text
   pub texts : List Text
-  pub meant : meaning_of words ≡ asks name texts
+  pub meant : meaning_of_command words ≡ asks name texts
   pub found : IsMet forms name texts met
 
 no_kinds : (k : ErrorKind) (ks : Kinds) → [] ≡ k ∷ ks → ⊥
 no_kinds k ks e = true≢false (ap (λ (l : Kinds). elim l as (λ _. Bool) [ [] ↦ true | _ ∷ _ ↦ false ]) e)
 
 -- where no kind of error comes, something is asked for
-asked_for : (words : List Text) (m : Meaning) (met : Option (Text × List Row)) → meaning_of words ≡ m → Fits m [] met → IsAsked words met
+asked_for : (words : List Text) (m : Meaning) (met : Option (Text × List Row)) → meaning_of_command words ≡ m → Fits m [] met → IsAsked words met
 asked_for words (asks name texts) met e fits = record { name = name; texts = texts; meant = e; found = fits.1 }
 asked_for words help met e fits = absurd (no_kinds _ _ fits)
 asked_for words topic met e fits = absurd (no_kinds _ _ fits)
 asked_for words usage met e fits = absurd (true≢false (sym fits))
+asked_for words version met e fits = absurd fits
 
 -- matches come only where something is asked for, and have its texts
 pub asked_by_matches : (app : App) (words : List Text) (m : ArgMatches) {X : Type 0} → app ≡ dobutsu_app
@@ -73,8 +74,8 @@ pub asked_by_matches : (app : App) (words : List Text) (m : ArgMatches) {X : Typ
 asked_by_matches app words m is kinds matches =
     let clean : fault_of dobutsu_app words ≡ [] = ap (λ a. fault_of a words) (sym is) ∙ kinds (ap is_simple_and_free is) in
     let rows : subcommand_rows_of m ≡ subcommand_of dobutsu_app words = (matches (ap is_simple is)).1 ∙ ap (λ a. subcommand_of a words) is in
-    let fits : Fits (meaning_of words) [] (subcommand_of dobutsu_app words) = subst (λ k. Fits (meaning_of words) k (subcommand_of dobutsu_app words)) clean (words_fit words) in
-    asked_for words (meaning_of words) (subcommand_rows_of m) refl (subst (Fits (meaning_of words) []) (sym rows) fits)
+    let fits : Fits (meaning_of_command words) [] (subcommand_of dobutsu_app words) = subst (λ k. Fits (meaning_of_command words) k (subcommand_of dobutsu_app words)) clean (words_fit words) in
+    asked_for words (meaning_of_command words) (subcommand_rows_of m) refl (subst (Fits (meaning_of_command words) []) (sym rows) fits)
 
 -- what is known for each form
 abbrev pub EachForm : (Form → Type 0) → List Form → Type 0
@@ -93,7 +94,7 @@ order_is_there {X} words met is each = go forms each is.found
 
 -- and it is what the words ask for
 pub order_is_meant : (words : List Text) (met : Option (Text × List Row)) (o : Order) → IsAsked words met
-    → EachForm (λ f. (texts : List Text) → Finds f texts met → IsOrder f.name texts o) forms → IsReadingOf (meaning_of words) (reading.Order o)
+    → EachForm (λ f. (texts : List Text) → Finds f texts met → IsOrder f.name texts o) forms → IsReadingOf (meaning_of_command words) (reading.Order o)
 order_is_meant words met o is each = subst (λ m. IsReadingOf m (reading.Order o)) (sym is.meant) (go forms each is.found)
   where
     go : (fs : List Form) → EachForm (λ f. (texts : List Text) → Finds f texts met → IsOrder f.name texts o) fs → IsMet fs is.name is.texts met → IsOrder is.name is.texts o
@@ -140,9 +141,11 @@ by_kind kind.OutOfMemory r h = absurd h
 by_kind kind.DisplayHelp (reading.Help s) h = inl tt
 by_kind kind.DisplayHelp (reading.Usage s) h = absurd h
 by_kind kind.DisplayHelp (reading.Order o) h = absurd h
+by_kind kind.DisplayHelp reading.Version h = absurd h
 by_kind k (reading.Usage s) h = inr (refl, tt)
 by_kind k (reading.Help s) h = absurd h
 by_kind k (reading.Order o) h = absurd h
+by_kind k reading.Version h = absurd h
 
 not_help : (k : ErrorKind) (r : Reading) → is_help_kind k ≡ false → IsReadingOfKind k r → IsUsage r
 not_help kind.OutOfMemory r e h = absurd h
@@ -150,21 +153,25 @@ not_help kind.DisplayHelp r e h = absurd (true≢false e)
 not_help k (reading.Usage s) e h = tt
 not_help k (reading.Help s) e h = absurd h
 not_help k (reading.Order o) e h = absurd h
+not_help k reading.Version e h = absurd h
 
 help_read : (r : Reading) → IsReadingOfKind kind.DisplayHelp r → IsReadingOf help r
 help_read (reading.Help s) h = tt
 help_read (reading.Usage s) h = absurd h
 help_read (reading.Order o) h = absurd h
+help_read reading.Version h = absurd h
 
 topic_read : (k : ErrorKind) (r : Reading) → IsReadingOfKind k r → IsReadingOf topic r
 topic_read k (reading.Help s) h = tt
 topic_read k (reading.Usage s) h = tt
 topic_read k (reading.Order o) h = elim (by_kind k (reading.Order o) h) [ inl x ↦ absurd x | inr x ↦ absurd x.1 ]
+topic_read k reading.Version h = elim (by_kind k reading.Version h) [ inl x ↦ absurd x | inr x ↦ absurd x.1 ]
 
 usage_read : (r : Reading) → IsUsage r → IsReadingOf usage r
 usage_read (reading.Usage s) h = tt
 usage_read (reading.Help s) h = absurd h
 usage_read (reading.Order o) h = absurd h
+usage_read reading.Version h = absurd h
 
 -- a refusal comes to what the words ask for
 pub refusal_is_meant : (m : Meaning) (kinds : Kinds) (met : Option (Text × List Row)) (k : ErrorKind) (r : Reading) → Fits m kinds met → (k ≡ kind.OutOfMemory) ⊎ IsAmong k kinds
@@ -176,11 +183,21 @@ refusal_is_meant help kinds met k r fits (inr among) h = elim (subst (IsAmong k)
   | inr none ↦ absurd none
 ]
 refusal_is_meant topic kinds met k r fits (inr among) h = topic_read k r h
+refusal_is_meant version kinds met k r fits (inr among) h = absurd fits
 refusal_is_meant usage kinds met k r fits (inr among) h = usage_read r (not_help k r (usage_kind kinds k (usage_list kinds fits) among) h)
 
 -- the same of the words
 pub refusal_of_words : (app : App) (words : List Text) (e : Error) → app ≡ dobutsu_app → (is_simple_and_free app ≡ true → HasKind (fault_of app words) e)
-    → (r : Reading) → IsReadingOfKind (kind_of e) r → IsReadingOf (meaning_of words) r
+    → (r : Reading) → IsReadingOfKind (kind_of e) r → IsReadingOf (meaning_of_command words) r
 refusal_of_words app words e is kinds r h =
     let has : HasKind (fault_of dobutsu_app words) e = subst (λ a. HasKind (fault_of a words) e) is (kinds (ap is_simple_and_free is)) in
-    refusal_is_meant (meaning_of words) (fault_of dobutsu_app words) _ (kind_of e) r (words_fit words) has h
+    refusal_is_meant (meaning_of_command words) (fault_of dobutsu_app words) _ (kind_of e) r (words_fit words) has h
+
+-- ---- words that ask for the version
+
+-- other words mean what the command makes of them
+pub command_meaning : (words : List Text) → is_version words ≡ false → meaning_of_command words ≡ meaning_of words
+command_meaning words e = rw e refl
+
+pub version_meaning : (words : List Text) → is_version words ≡ true → meaning_of words ≡ version
+version_meaning words e = rw e refl

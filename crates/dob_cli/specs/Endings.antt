@@ -1,5 +1,5 @@
 -- How the program ends: an exit status, and what it writes on standard output and standard error.
-use Rattle.std.specs.Prelude.{◌≡◌, ℕ, ◌⊎◌, List}
+use Rattle.std.specs.Prelude.{◌≡◌, ℕ, ◌⊎◌, List, [], ◌∷◌, ◌++◌, codes}
 use Rattle.dob_cli.specs.declared.fault.Fault.{Fault}
 use Rattle.dob_cli.specs.declared.fault.Fault.TheVariants.{Memory, Io}
 use Rattle.dob_cli.specs.Faults.{fault_line, status_of}
@@ -64,6 +64,14 @@ TellsMemory e = TellsFaultAs Memory e.status e.err × IsUntouched e.out
 -- what it does where help is asked for: a text on standard output, which tests compare
 abbrev pub AnswersHelp : Ending → Type 0
 AnswersHelp e = ((text : List ℕ) × Tells text e) ⊎ TellsMemory e
+
+-- the line of the version
+abbrev pub version_line : List ℕ
+version_line = codes "dobutsu 0.1.0" ++ 10 ∷ []
+
+-- what it does where its version is asked for
+abbrev pub AnswersVersion : Ending → Type 0
+AnswersVersion e = Tells version_line e ⊎ TellsMemory e
 
 -- what it does with words that it doesn't know: status 2 and a text on standard error
 abbrev pub AnswersUsage : Ending → Type 0

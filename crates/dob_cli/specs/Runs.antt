@@ -1,8 +1,8 @@
 -- What the program does with its words, whatever they are.
 use Rattle.std.specs.Prelude.{◌≡◌, ◌⊎◌, List, [], ◌∷◌, ◌++◌, codes}
-use Rattle.dob_cli.specs.Words.{Text, line_feed, count, help, meaning_of, topic, usage, value}
+use Rattle.dob_cli.specs.Words.{Text, line_feed, count, help, meaning_of, topic, usage, value, version}
 use Rattle.dob_cli.specs.Streams.{Says}
-use Rattle.dob_cli.specs.Endings.{AnswersHelp, AnswersUsage, Ending, IsUntouched, TellsMemory}
+use Rattle.dob_cli.specs.Endings.{AnswersHelp, AnswersUsage, AnswersVersion, Ending, IsUntouched, TellsMemory}
 use Rattle.dob_cli.specs.Program.{AnswersValue}
 use Rattle.dob_cli.specs.Sizes.{AnswersCount}
 
@@ -11,6 +11,7 @@ pub record Ran (words : List Text) (e : Ending) : Type 0 where
   pub value : (position : Text) → meaning_of words ≡ value position → AnswersValue position e
   pub count : (set : Text) → meaning_of words ≡ count set → AnswersCount set e
   pub help : meaning_of words ≡ help → AnswersHelp e
+  pub version : meaning_of words ≡ version → AnswersVersion e
   pub topic : meaning_of words ≡ topic → AnswersHelp e ⊎ AnswersUsage e
   pub usage : meaning_of words ≡ usage → AnswersUsage e
 

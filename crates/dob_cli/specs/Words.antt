@@ -93,6 +93,8 @@ pub data Meaning : Type 0 where
   asks : Text → List Text → Meaning
   -- the help text
   help : Meaning
+  -- the program's version
+  version : Meaning
   -- the subcommand `help` and what follows it: a help text, or usage where nothing has that name
   topic : Meaning
   -- nothing that the program knows
@@ -166,11 +168,20 @@ abbrev pub meaning_of_other : Text → Meaning
 meaning_of_other word =
     if bytes_eq (codes "help") word then topic else (if is_help_flag word then help else usage)
 
+-- the first word is `--version`
+abbrev pub is_version : List Text → Bool
+is_version [] = false
+is_version (word ∷ rest) = bytes_eq (codes "--version") word
+
+-- of words that don't ask for the version
+abbrev pub meaning_of_command : List Text → Meaning
+meaning_of_command [] = usage
+meaning_of_command (word ∷ rest) =
+    option_map_or (λ form. meaning_of_form form rest) (find (λ form. bytes_eq form.name word) forms) (meaning_of_other word)
+
 -- of all the words
 abbrev pub meaning_of : List Text → Meaning
-meaning_of [] = usage
-meaning_of (word ∷ rest) =
-    option_map_or (λ form. meaning_of_form form rest) (find (λ form. bytes_eq form.name word) forms) (meaning_of_other word)
+meaning_of words = if is_version words then version else meaning_of_command words
 
 -- ---- what is asked for, by name
 

@@ -12,7 +12,7 @@ ghost use Rattle.std.specs.Prelude.{◌≡◌, IfOk, IsSomeAnd, List, codes, map
 ghost use Rattle.clap.specs.Words.{kind_of, subcommand_rows_of};
 ghost use Rattle.dob_cli.specs.Forms.{Form, Text, count_form, forms, value_form};
 ghost use Rattle.dob_cli.specs.Lines.{IsAmong, IsLine};
-ghost use Rattle.dob_cli.specs.Words.{asks, meaning_of};
+ghost use Rattle.dob_cli.specs.Words.{asks, is_version, meaning_of};
 ghost use Rattle.dob_cli.specs.Shapes.{Finds, HasShape, bare_app, dobutsu_app, form_app};
 ghost use Rattle.dob_cli.specs.Readings.{ComesFromLine, IsOrder, IsReadingOf, IsReadingOfKind};
 
@@ -36,6 +36,8 @@ pub enum Reading<'a> {
     Order(Order<'a>),
     /// The help that was asked for, for standard output.
     Help(String),
+    /// That the program's version was asked for.
+    Version,
     /// What is wrong with the words, for standard error.
     Usage(String),
 }
@@ -62,7 +64,7 @@ Answers: `positions N` and `classes N`, where a class is a position with its mir
 Example: dobutsu count --set 100 prints `positions 4158` and `classes 2124`.";
 
 /// Reads the words after the program's name. `--help`, `-h` and the subcommand `help` give the help.
-/// A word that begins with `-` is an option, but for a lone `-`, the first `--` and what follows it.
+/// As the first word `--version` asks for the version. A word that begins with `-` is an option, but for a lone `-`, the first `--` and what follows it.
 ///
 /// # Errors
 ///
@@ -73,12 +75,25 @@ pub fn read_words<'a>(alloc: Global, words: &'a [&'a str]) -> Result<Reading<'a>
     ensures complete { (form : Form) (texts : List Text) → IsAmong form forms
         → IsLine form (map (λ w. w.now) words.now) texts → IfOk result (IsReadingOf (asks form.name texts)) }
 {
+    if asks_version(words) {
+        return Ok(Reading::Version);
+    }
     match dobutsu_command(alloc)?.try_get_matches_from(words) {
         Ok(matches) => match order_of(&matches) {
             Some(order) => Ok(Reading::Order(order)),
             None => unreachable!(),
         },
         Err(error) => read_refusal(alloc, &error),
+    }
+}
+
+// Whether the first word is `--version`.
+fn asks_version(words: &[&str]) -> bool
+    ensures { result ≡ is_version (map (λ w. w.now) words.now) }
+{
+    match words {
+        [] => false,
+        [word, ..] => *word == "--version",
     }
 }
 

@@ -3,10 +3,10 @@ ghost use Rattle.std.specs.Prelude.{◌≡◌, ◌≢◌, ◌⊎◌, ℕ, List, 
 ghost use Rattle.std.specs.IoError.{error_kind};
 ghost use Rattle.std.specs.declared.io.ErrorKind.TheVariants.{OutOfMemory};
 ghost use Rattle.std.specs.Vec.Iter.{into_iter_items};
-ghost use Rattle.dob_cli.specs.Words.{meaning_of, value as asks_value, count as asks_count, help as asks_help, topic as asks_topic, usage as asks_nothing};
+ghost use Rattle.dob_cli.specs.Words.{meaning_of, value as asks_value, count as asks_count, help as asks_help, version as asks_version, topic as asks_topic, usage as asks_nothing};
 ghost use Rattle.dob_cli.specs.Streams.{change};
 ghost use Rattle.dob_cli.specs.Runs.{RanOn, TellsNoText};
-ghost use Rattle.dob_cli.specs.Endings.{AnswersHelp, AnswersUsage, Tells, TellsFaultAs, TellsMemory, TellsOneFault, ended};
+ghost use Rattle.dob_cli.specs.Endings.{AnswersHelp, AnswersUsage, AnswersVersion, Tells, TellsFaultAs, TellsMemory, TellsOneFault, ended};
 ghost use Rattle.dob_cli.specs.Program.{AnswersValue, IsValueLineOf, IsFaultOf, value_line};
 ghost use Rattle.dob_cli.specs.Sizes.{AnswersCount};
 ghost use Rattle.dob_cli.specs.declared.fault.Fault.TheVariants.{Memory};
@@ -23,6 +23,9 @@ use std::io;
 
 /// The exit status for words that the program doesn't know.
 const USAGE: u8 = 2;
+
+/// The program's name and version.
+const VERSION: &str = "dobutsu 0.1.0\n";
 
 /// What is said where an argument isn't UTF-8.
 const NO_TEXT: &[u8] = b"error: an argument is not UTF-8\n\nFor more information, try '--help'.\n";
@@ -50,6 +53,9 @@ pub fn run_words<'a, O: Output, E: Output>(
     // Where they ask for help: its text and status 0; or standard output failed, or memory did.
     ensures help { meaning_of (map (λ w. w.now) words.now) ≡ asks_help
         → AnswersHelp (ended result (change (O.state out.old) (O.state out.new)) (change (E.state err.old) (E.state err.new))) }
+    // Where they ask for the version: its line; or standard output failed, or memory did.
+    ensures version { meaning_of (map (λ w. w.now) words.now) ≡ asks_version
+        → AnswersVersion (ended result (change (O.state out.old) (O.state out.new)) (change (E.state err.old) (E.state err.new))) }
     // Where they are the word `help` and more: as for help, or, where nothing has that name, as for unknown words.
     ensures topic { meaning_of (map (λ w. w.now) words.now) ≡ asks_topic
         → AnswersHelp (ended result (change (O.state out.old) (O.state out.new)) (change (E.state err.old) (E.state err.new)))
@@ -61,6 +67,7 @@ pub fn run_words<'a, O: Output, E: Output>(
     match read_words(alloc, words) {
         Err(AllocError) => tell_fault(alloc, Fault::Memory, err),
         Ok(Reading::Help(text)) => tell(alloc, text.as_str(), out, err),
+        Ok(Reading::Version) => tell(alloc, VERSION, out, err),
         Ok(Reading::Usage(text)) => {
             say(err, text.as_bytes());
             USAGE

@@ -259,3 +259,9 @@ fn arguments_that_cannot_be_had(rt: HostRuntime) -> Result<(), Fail> {
     assert_eq!(rt; refused.err.as_slice(), b"dobutsu: E23 Memory\n".as_slice());
     Ok(())
 }
+
+#[test]
+fn version_is_told(rt: HostRuntime) -> Result<(), Fail> {
+    answers(&rt, rt.alloc(), &["--version"], "dobutsu 0.1.0\n");
+    Ok(())
+}

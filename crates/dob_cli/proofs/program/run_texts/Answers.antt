@@ -9,6 +9,7 @@ returns-in-Ok g c = ran_on _ _ _ (ap (map (Î» w. w.now)) c.deref.ensures.value â
       value = c.run_words.ensures.value;
       count = c.run_words.ensures.count;
       help = c.run_words.ensures.help;
+      version = c.run_words.ensures.version;
       topic = c.run_words.ensures.topic;
       usage = c.run_words.ensures.usage;
     })

@@ -1,5 +1,5 @@
 -- The text that was read is the one that the words ask about; and where no memory was left for reading them.
-use Rattle.std.proofs.Common.{◌≡◌, ℕ, List, [], ◌∷◌, Bor, codes, subst}
+use Rattle.std.proofs.Common.{inl, ◌≡◌, ℕ, List, [], ◌∷◌, Bor, codes, subst}
 use Rattle.dob_cli.specs.declared.fault.Fault.TheVariants.{Memory}
 use Rattle.dob_cli.specs.declared.command.Order.{Order}
 use Rattle.dob_cli.specs.declared.command.Order.TheVariants as order
@@ -49,3 +49,6 @@ returns-in-Err-clause-value g c text asked =
 pub returns-in-Err-clause-count : goal.returns-in-Err-clause-count
 returns-in-Err-clause-count g c text asked =
     refused (AreCountLinesOf text) (IsCountFaultOf text) Memory _ _ _ tt tt c.tell_fault.ensures
+
+pub returns-in-Ok-Version-clause-version : goal.returns-in-Ok-Version-clause-version
+returns-in-Ok-Version-clause-version g c = λ _. inl c.tell-in-Ok-Version.ensures
