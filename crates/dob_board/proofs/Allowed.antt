@@ -1,9 +1,8 @@
 -- What the steps of a seat ask of the table, and what they tell.
-use Rattle.std.proofs.Common.{◌≡◌, ◌≢◌, ℕ, zero, suc, ◌+◌, ◌*◌, ◌^◌, ◌%◌, ◌<◌, ◌≤◌, List, [], ◌∷◌, ◌++◌, length, set, get_or, Bool, true, refl, sym, ap, ◌∙◌, subst, arith}
+use Rattle.std.proofs.Common.{◌≡◌, ℕ, zero, suc, ◌+◌, ◌^◌, ◌%◌, ◌<◌, ◌≤◌, List, [], ◌∷◌, length, set, get_or, true, refl, sym, ap, subst, arith}
 use Rattle.std.specs.Prelude.{slice_index, slice_set}
-use mathlib.Core.Option.{none, some}
-use lib.ListN.{get_elem?}
-use Rattle.atomic_table.specs.Table.{State, Me, Step, step, keeps, Allows}
+use mathlib.Core.Option.{none}
+use Rattle.atomic_table.specs.Table.{State, Me, step, keeps, Allows}
 use Rattle.dob_safra.specs.declared.event.RingEvent.{RingEvent}
 use Rattle.dob_safra.specs.declared.event.RingEvent.TheVariants.{Post, Take}
 use Rattle.dob_board.specs.declared.view.Stand.{Stand}
@@ -13,7 +12,7 @@ use Rattle.dob_board.specs.Views.{one, posts_more, takes_more, sees}
 use Rattle.dob_board.specs.Histories.{Makes, Hears}
 use Rattle.dob_board.specs.Rule.{IsHeld}
 use Rattle.dob_board.specs.Plays.{Posted, Looked, Took}
-use Rattle.dob_board.proofs.Places.{posted_in, taken_in, posted_place, taken_place}
+use Rattle.dob_board.proofs.Places.{posted_place, taken_place}
 use Rattle.dob_board.proofs.Kept.{own_node}
 use Rattle.dob_board.proofs.Steps.{posts, looks, takes}
 

@@ -1,19 +1,18 @@
 -- What a seat's fields are after its steps.
-use Rattle.std.proofs.Common.{◌≡◌, ◌≢◌, ℕ, zero, suc, ◌+◌, ◌*◌, ◌^◌, ◌%◌, ◌<◌, ◌≤◌, List, [], ◌∷◌, ◌++◌, length, set, get_or, Bool, true, Option, refl, sym, ap, ◌∙◌, subst, arith, append_assoc}
-use Rattle.std.specs.Prelude.{slice_index, slice_set}
-use mathlib.Core.Option.{none, some}
+use Rattle.std.proofs.Common.{◌≡◌, ℕ, suc, ◌+◌, ◌^◌, ◌<◌, ◌≤◌, List, ◌++◌, length, set, get_or, Bool, true, Option, sym, ap, ◌∙◌, subst, arith, append_assoc}
+use Rattle.std.specs.Prelude.{slice_index}
+use mathlib.Core.Option.{none}
 use Rattle.atomic_table.specs.Table.{step}
 use Rattle.dob_safra.specs.declared.token.Token.{Token}
 use Rattle.dob_safra.specs.declared.event.RingEvent.{RingEvent}
 use Rattle.dob_safra.specs.declared.event.RingEvent.TheVariants.{Post, Take}
 use Rattle.dob_board.specs.declared.halt.Halt.{Halt}
 use Rattle.dob_board.specs.declared.view.Stand.{Stand}
-use Rattle.dob_board.specs.declared.view.View.{View}
 use Rattle.dob_board.specs.Words.{posted_word, taken_word}
-use Rattle.dob_board.specs.Views.{one, posts_more, takes_more, sees, stand_from, Shows}
-use Rattle.dob_board.specs.Histories.{GoesOn, Makes, Hears}
-use Rattle.dob_board.specs.Plays.{Posted, Looked, Took}
-use Rattle.dob_board.proofs.Allowed.{Seated, seated, posts_tell, looks_tell, takes_tell, one_more, same_default}
+use Rattle.dob_board.specs.Views.{sees, stand_from}
+use Rattle.dob_board.specs.Histories.{GoesOn, Makes}
+use Rattle.dob_board.specs.Plays.{Posted, Took}
+use Rattle.dob_board.proofs.Allowed.{Seated, seated, posts_tell, takes_tell, one_more, same_default}
 
 -- the counts of a node that made an event are at most 2^40
 pub record FewCounts (n : ℕ) (stand : Stand) : Type 0 where

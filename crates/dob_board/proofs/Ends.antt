@@ -1,19 +1,17 @@
 -- How seats come back, and what is read at the end.
-use Rattle.std.proofs.Common.{◌≡◌, ◌≢◌, ℕ, zero, suc, ◌+◌, ◌-◌, ◌*◌, ◌<◌, ◌≤◌, ◌⊎◌, List, [], ◌∷◌, ◌++◌, length, set, get_or, Some, None, Option, Bool, true, false, cond, eqb, eq-eqb, refl, sym, ap, ◌∙◌, subst, ⊎_elim, inl, inr, arith, map, append-nil, append_assoc, length-append, length-set, get_or-set_same, get_or-set_other}
+use Rattle.std.proofs.Common.{◌≡◌, ◌≢◌, ℕ, zero, suc, ◌+◌, ◌-◌, ◌<◌, List, [], ◌∷◌, ◌++◌, length, set, get_or, Some, true, eq-eqb, refl, sym, ap, ◌∙◌, subst, ⊎_elim, inl, inr, arith, map, append-nil, append_assoc, length-append, get_or-set_same, get_or-set_other}
 use Rattle.std.specs.Prelude.{slice_index, slice_set, slice_get, replicate}
 use mathlib.Core.Option.{none, some, some-ne-none, some-injective}
 use lib.ListN.{get_elem?}
-use Rattle.atomic_table.specs.Table.{State, Me, step, keeps, Allows, Joins}
+use Rattle.atomic_table.specs.Table.{State, step, keeps, Allows, Joins}
 use Rattle.atomic_table.proofs.Lists.{at_set, set_again, set_else}
-use Rattle.dob_safra.specs.declared.token.Token.{Token}
 use Rattle.dob_safra.specs.declared.event.RingEvent.{RingEvent}
 use Rattle.dob_safra.specs.Tokens.{IsPacked}
 use Rattle.dob_safra.specs.Rings.{Ring}
 use Rattle.dob_board.specs.declared.view.Stand.{Stand}
 use Rattle.dob_board.specs.declared.view.View.{View}
-use Rattle.dob_board.specs.Words.{posted_word, taken_word, word_count, ring_of}
+use Rattle.dob_board.specs.Words.{posted_word, taken_word, ring_of}
 use Rattle.dob_board.specs.Views.{one, IsStand}
-use Rattle.dob_board.specs.Histories.{GoesOn}
 use Rattle.dob_board.specs.Rule.{IsNode, IsView, IsHeld}
 use Rattle.atomic_table.specs.Seated.{TableId}
 use Rattle.dob_board.specs.declared.seat.NodeSeat.{NodeSeat}

@@ -1,5 +1,5 @@
 -- A step of one node's seat keeps the rule, where it leaves to the other nodes what they know.
-use Rattle.std.proofs.Common.{◌≡◌, ◌≢◌, ℕ, zero, suc, ◌+◌, ◌*◌, ◌<◌, ◌≤◌, ◌⊎◌, List, [], ◌∷◌, ◌++◌, length, set, get_or, Some, Bool, true, false, refl, sym, ap, ◌∙◌, subst, ⊎_elim, inl, inr, arith, append_assoc}
+use Rattle.std.proofs.Common.{◌≡◌, ◌≢◌, ℕ, zero, suc, ◌+◌, ◌<◌, ◌≤◌, List, [], ◌∷◌, ◌++◌, length, Bool, refl, sym, ap, ◌∙◌, subst, ⊎_elim, arith, append_assoc}
 use Rattle.std.specs.Prelude.{slice_index, slice_set}
 use mathlib.Core.Option.{some, some-ne-none, some-injective}
 use lib.ListN.{get_elem?}
@@ -10,8 +10,8 @@ use Rattle.dob_safra.specs.Tokens.{IsPacked}
 use Rattle.dob_safra.specs.Rings.{Ring, IsLawful}
 use Rattle.dob_board.specs.declared.view.Stand.{Stand}
 use Rattle.dob_board.specs.declared.view.View.{View}
-use Rattle.dob_board.specs.Words.{word_count, ring_of}
-use Rattle.dob_board.specs.Views.{one, Shows, IsStand}
+use Rattle.dob_board.specs.Words.{ring_of}
+use Rattle.dob_board.specs.Views.{one, IsStand}
 use Rattle.dob_board.specs.Histories.{Runs, GoesOn}
 use Rattle.dob_board.specs.Rule.{IsNode, IsView, IsHeld}
 

@@ -1,11 +1,10 @@
 -- The start of a board, and how the view of all nodes is split.
-use Rattle.std.proofs.Common.{◌≡◌, ◌≢◌, ℕ, zero, suc, ◌+◌, ◌-◌, ◌*◌, ◌<◌, ◌≤◌, ◌⊎◌, List, [], ◌∷◌, ◌++◌, length, set, get_or, Some, None, Option, Bool, true, false, cond, eqb, eq-eqb, ne_eqb, refl, sym, ap, ◌∙◌, subst, ⊎_elim, inl, inr, arith, rules, map, append_assoc, length-set, length-append, get_or-set_same, get_or-set_other}
-use Rattle.std.specs.Prelude.{slice_index, slice_set, slice_get, replicate, pos}
+use Rattle.std.proofs.Common.{◌≡◌, ◌≢◌, ℕ, zero, suc, ◌+◌, ◌-◌, ◌<◌, ◌⊎◌, List, [], ◌∷◌, ◌++◌, length, set, get_or, Some, true, false, cond, eqb, eq-eqb, ne_eqb, refl, sym, ap, ◌∙◌, subst, ⊎_elim, inl, inr, arith, rules, map, length-set, length-append, get_or-set_same, get_or-set_other}
+use Rattle.std.specs.Prelude.{slice_index, slice_set, slice_get, replicate}
 use mathlib.Core.Option.{some, some-ne-none, some-injective}
 use lib.ListN.{get_elem?}
-use Rattle.atomic_table.specs.Table.{State, Me, Splits}
+use Rattle.atomic_table.specs.Table.{Splits}
 use Rattle.atomic_table.proofs.Lists.{at_set}
-use Rattle.dob_safra.specs.declared.token.Token.{Token}
 use Rattle.dob_safra.specs.declared.event.RingEvent.{RingEvent}
 use Rattle.dob_safra.specs.Tokens.{IsPacked}
 use Rattle.dob_safra.specs.Rings.{Ring, IsLawful, IsStart, black_token}
@@ -13,8 +12,7 @@ use Rattle.dob_safra.specs.Laws.{IsSize}
 use Rattle.dob_board.specs.declared.view.Stand.{Stand}
 use Rattle.dob_board.specs.declared.view.View.{View}
 use Rattle.dob_board.specs.Words.{posted_word, taken_word, word_count, ring_of}
-use Rattle.dob_board.specs.Views.{one, Shows, IsStand}
-use Rattle.dob_board.specs.Histories.{Runs, GoesOn}
+use Rattle.dob_board.specs.Views.{one, IsStand}
 use Rattle.dob_board.specs.Rule.{IsNode, IsView, IsHeld, fresh, whole}
 use Rattle.dob_board.specs.Plays.{others_of, first_of}
 use Rattle.dob_board.specs.Boards.{first_token, first_words, behind}

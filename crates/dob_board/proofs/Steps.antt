@@ -1,23 +1,22 @@
 -- The steps of a seat.
-use Rattle.std.proofs.Common.{◌≡◌, ◌≢◌, ℕ, zero, suc, ◌+◌, ◌*◌, ◌^◌, ◌%◌, ◌<◌, ◌≤◌, ◌⊎◌, List, [], ◌∷◌, ◌++◌, length, set, get_or, Some, Bool, true, false, cond, eqb, eq-eqb, ne_eqb, refl, sym, ap, ◌∙◌, subst, ⊎_elim, inl, inr, arith, length-set, get_or-set_same, get_or-set_other}
+use Rattle.std.proofs.Common.{◌≡◌, ◌≢◌, ℕ, suc, ◌^◌, ◌<◌, ◌≤◌, List, [], ◌∷◌, length, set, get_or, Bool, true, false, cond, eqb, eq-eqb, ne_eqb, refl, sym, ap, ◌∙◌, subst, inl, inr, arith, length-set, get_or-set_same, get_or-set_other}
 use Rattle.std.specs.Prelude.{slice_index, slice_set}
 use mathlib.Core.Option.{some}
 use lib.ListN.{get_elem?}
-use Rattle.std.proofs.lemmas.Bool.{cases_lt}
 use Rattle.dob_safra.specs.declared.token.Token.{Token}
 use Rattle.dob_safra.specs.declared.event.RingEvent.{RingEvent}
 use Rattle.dob_safra.specs.declared.event.RingEvent.TheVariants.{Post, Take}
 use Rattle.dob_safra.specs.Tokens.{IsPacked}
-use Rattle.dob_safra.specs.Rings.{Ring, IsLawful, Raises, CountsStay, Colours, Posts, Takes}
+use Rattle.dob_safra.specs.Rings.{Ring, IsLawful, Colours, Posts, Takes}
 use Rattle.dob_safra.specs.Laws.{HasFew}
 use Rattle.dob_safra.proofs.Kept.{moved_kept, raised_at_least, raised_at_most, same_or_not}
 use Rattle.dob_board.specs.declared.view.Stand.{Stand}
 use Rattle.dob_board.specs.declared.view.View.{View}
 use Rattle.dob_board.specs.Words.{posted_word, taken_word, word_count, ring_of}
-use Rattle.dob_board.specs.Views.{one, posts_more, takes_more, sees, Shows, IsStand}
-use Rattle.dob_board.specs.Histories.{Runs, GoesOn, Makes, Hears}
-use Rattle.dob_board.specs.Rule.{IsNode, IsView, IsHeld}
-use Rattle.dob_board.proofs.Places.{posted_within, taken_within, posted_in, taken_in, posted_raised, taken_raised, taken_stays, posted_stays, head_stays}
+use Rattle.dob_board.specs.Views.{one, posts_more, takes_more, sees, IsStand}
+use Rattle.dob_board.specs.Histories.{Makes, Hears}
+use Rattle.dob_board.specs.Rule.{IsHeld}
+use Rattle.dob_board.proofs.Places.{posted_in, taken_in, posted_raised, taken_raised, taken_stays, posted_stays, head_stays}
 use Rattle.dob_board.proofs.Kept.{Leaves, own_node, kept}
 
 -- a list with one number changed

@@ -1,5 +1,5 @@
 -- The history of a board: the events so far, the newest first, and what calls tell of it.
-use Rattle.std.specs.Prelude.{◌≡◌, ℕ, ◌≤◌, List, [], ◌∷◌, ◌++◌}
+use Rattle.std.specs.Prelude.{◌≡◌, ℕ, List, [], ◌∷◌, ◌++◌}
 use Rattle.dob_safra.specs.declared.event.RingEvent.{RingEvent}
 use Rattle.dob_safra.specs.Rings.{Ring, IsStart, IsLawful, Moved}
 use Rattle.dob_board.specs.declared.view.Stand.{Stand}

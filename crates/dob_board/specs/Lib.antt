@@ -5,3 +5,4 @@ pub mod Rule
 pub mod Plays
 pub mod Seats
 pub mod Boards
+pub mod Faults

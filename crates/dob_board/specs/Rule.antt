@@ -1,5 +1,5 @@
 -- The rule of the board, which each step keeps.
-use Rattle.std.specs.Prelude.{◌≡◌, ℕ, zero, suc, ◌+◌, ◌<◌, Bool, List, [], ◌∷◌, slice_index, length, false, true, None, replicate}
+use Rattle.std.specs.Prelude.{◌≡◌, ℕ, ◌+◌, ◌<◌, Bool, List, [], slice_index, length, true, None, replicate}
 use mathlib.Core.Option.{some}
 use lib.ListN.{get_elem?}
 use Rattle.dob_safra.specs.declared.token.Token.{Token}

@@ -1,5 +1,5 @@
 // What the calls of a board refuse.
-ghost use Rattle.std.specs.Prelude.{◌≡◌};
+ghost use Rattle.std.specs.Prelude.{◌≡◌, Some};
 ghost use Rattle.dob_board.specs.declared.fault.Fault.TheVariants as fault;
 
 use std::alloc::{AllocError, AllocFailed};
@@ -16,6 +16,10 @@ pub enum Fault {
 }
 
 impl fmt::Display for Fault {
+    ghost use Rattle.dob_board.specs.Faults.{fault_text};
+
+    ghost output = { λ given. Some (fault_text given) };
+
     fn fmt<W: fmt::Write>(&self, f: &mut fmt::Formatter<W>) -> fmt::Result {
         match self {
             Fault::Nodes => write!(f, "E9 Nodes"),
@@ -48,11 +52,3 @@ pub struct NotPosted {
     /// How many batches were seen posted.
     pub seen: u64,
 }
-
-impl fmt::Display for NotPosted {
-    fn fmt<W: fmt::Write>(&self, f: &mut fmt::Formatter<W>) -> fmt::Result {
-        write!(f, "E22 NotPosted {}", self.seen)
-    }
-}
-
-impl Error for NotPosted {}

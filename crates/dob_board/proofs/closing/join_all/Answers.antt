@@ -1,6 +1,6 @@
-use Rattle.std.proofs.Common.{rules, arith, map, ◌∙◌}
+use Rattle.std.proofs.Common.{map, ◌∙◌}
 use Rattle.dob_board.specs.Seats.{stand_of}
-use Rattle.dob_board.proofs.Ends.{one_less, last_seat}
+use Rattle.dob_board.proofs.Ends.{one_less}
 use Rattle.dob_board.proofs.closing.join_all.Goals as goal
 
 pub loop-seat-preserved : goal.loop-seat-preserved

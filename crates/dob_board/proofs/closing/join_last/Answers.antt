@@ -1,4 +1,4 @@
-use Rattle.std.proofs.Common.{rules, arith, sym, ◌∙◌}
+use Rattle.std.proofs.Common.{rules, arith}
 use Rattle.dob_board.specs.Seats.{stand_of}
 use Rattle.dob_board.proofs.Ends.{joins_call}
 use Rattle.dob_board.proofs.closing.join_last.Goals as goal

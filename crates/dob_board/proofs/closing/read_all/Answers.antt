@@ -1,4 +1,4 @@
-use Rattle.std.proofs.Common.{rules, arith, ℕ, List, ap, sym, subst, ◌∙◌}
+use Rattle.std.proofs.Common.{rules, arith, ℕ, List, ap, subst, ◌∙◌}
 use Rattle.dob_board.specs.declared.view.Stand.{Stand}
 use Rattle.dob_board.specs.Boards.{IsWord}
 use Rattle.dob_board.proofs.Allowed.{Seated}

@@ -1,8 +1,7 @@
-use Rattle.std.proofs.Common.{◌≡◌, ℕ, suc, ◌+◌, [], arith, ap, subst, sym, ◌∙◌}
+use Rattle.std.proofs.Common.{◌≡◌, ℕ, suc, ◌+◌, [], arith, ap, subst, ◌∙◌}
 use Rattle.atomic_table.specs.Seated.{TableId}
 use Rattle.dob_board.specs.Boards.{behind}
 use Rattle.dob_board.specs.Seats.{IsSeatOf}
-use Rattle.dob_board.proofs.Allowed.{Seated}
 use Rattle.dob_board.proofs.Starts.{AreFirst, push_first}
 use Rattle.dob_board.proofs.opening.all_seats.Goals as goal
 

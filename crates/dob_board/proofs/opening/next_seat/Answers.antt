@@ -1,4 +1,4 @@
-use Rattle.std.proofs.Common.{rules, arith, ap, sym, ◌∙◌, []}
+use Rattle.std.proofs.Common.{rules, arith, ap, ◌∙◌, []}
 use Rattle.dob_board.specs.declared.view.View.{View}
 use Rattle.dob_board.specs.Plays.{others_of}
 use Rattle.dob_board.proofs.Allowed.{Seated}

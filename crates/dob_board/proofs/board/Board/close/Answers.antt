@@ -1,6 +1,5 @@
-use Rattle.std.proofs.Common.{ap, map, subst, List}
+use Rattle.std.proofs.Common.{ap, subst, List}
 use Rattle.dob_board.specs.declared.view.Stand.{Stand}
-use Rattle.dob_board.specs.Seats.{stand_of}
 use Rattle.dob_board.specs.Boards.{AreRead}
 use Rattle.dob_board.proofs.Allowed.{Seated}
 use Rattle.dob_board.proofs.Ends.{are_words}

@@ -1,7 +1,5 @@
-use Rattle.std.proofs.Common.{rules, arith, ℕ, List, length, set, ap, sym, subst, true, ◌∙◌}
-use Rattle.dob_safra.specs.declared.event.RingEvent.TheVariants.{Take}
+use Rattle.std.proofs.Common.{rules, arith}
 use Rattle.dob_board.specs.Views.{stand_from}
-use Rattle.dob_board.specs.Histories.{Makes}
 use Rattle.dob_board.proofs.Allowed.{takes_call, same_default}
 use Rattle.dob_board.proofs.Done.{takes_done}
 use Rattle.dob_board.proofs.Places.{taken_within}

@@ -1,4 +1,4 @@
-use Rattle.std.proofs.Common.{rules, arith, ℕ, List, length, set, ap, sym, subst, ◌∙◌}
+use Rattle.std.proofs.Common.{rules}
 use Rattle.dob_board.specs.Views.{stand_from}
 use Rattle.dob_board.proofs.Allowed.{looks_call, looks_tell}
 use Rattle.dob_board.proofs.Places.{posted_within}

@@ -1,7 +1,5 @@
-use Rattle.std.proofs.Common.{rules, arith, ℕ, List, length, set, ap, sym, subst, ◌∙◌}
-use Rattle.dob_safra.specs.declared.event.RingEvent.TheVariants.{Post}
+use Rattle.std.proofs.Common.{rules}
 use Rattle.dob_board.specs.Views.{stand_from}
-use Rattle.dob_board.specs.Histories.{Makes}
 use Rattle.dob_board.proofs.Allowed.{posts_call}
 use Rattle.dob_board.proofs.Done.{posts_done}
 use Rattle.dob_board.proofs.Places.{posted_within}
