@@ -1,11 +1,12 @@
 // Reading a table from a file.
 ghost use Rattle.std.specs.Prelude.{◌≡◌, ◌⊎◌, ◌↔◌, ℕ, List, ◌+◌, ◌*◌, ◌%◌, ◌^◌, ◌<◌, ◌≤◌, ◌||◌, [], false, length, vec_len, All, IfOk, IfErr, IsTrue, OnOk, MatchResult};
 ghost use Rattle.dob_rank.specs.Marks.{classes_of};
+ghost use Rattle.dob_value.specs.Follows.{ClassTable, IsTable};
 ghost use Rattle.dob_dbfile.specs.declared.fault.Fault.{Fault as AnyFault};
 ghost use Rattle.sha2.specs.Hashers.{Holds256};
 ghost use Rattle.dob_dbfile.specs.Devices.{Stream, after, whole};
 ghost use Rattle.dob_dbfile.specs.Format.{bytes_of};
-ghost use Rattle.dob_dbfile.specs.Faults.{is_io_error, CountsClasses, HasHeaderFault, HasDigest, HasFault};
+ghost use Rattle.dob_dbfile.specs.Faults.{is_io_error, IsSmall, CountsClasses, HasHeaderFault, HasDigest, HasFault};
 ghost use Rattle.dob_dbfile.specs.Reading.{Takes, IsCut, IsNoEnd, ReadsCodes, HashesNext, EndsWith, IsDigest, HasDigestFault, HasRestFault};
 
 use crate::device::{Failed, Source};
@@ -41,6 +42,9 @@ pub fn read_table<R: Source>(alloc: Global, source: &mut R) -> Result<Table, Fau
     // Where a fault holds it is given, or memory was refused.
     ensures exact { (stream : Stream) (fault : AnyFault) → R.gives source.old stream → HasFault stream fault
         → MatchResult result (λ _. ⊥) (λ given. (given ≡ Fault.Memory) ⊎ (given ≡ fault)) }
+    // The file of a table is read as that table, unless memory is refused.
+    ensures whole { (table : ClassTable) → IsSmall table.set → IsTable table.set table.values → R.gives source.old (whole (bytes_of table))
+        → MatchResult result (λ found. found ≡ table) (λ given. given ≡ Fault.Memory) }
     ensures failed { R.has_failed source.new ≡ is_io_error result }
 {
     read_file(alloc, source)
@@ -50,7 +54,7 @@ pub fn read_table<R: Source>(alloc: Global, source: &mut R) -> Result<Table, Fau
 fn read_file<R: Source>(alloc: Global, source: &mut R) -> Result<Table, Fault>
     requires { R.has_failed source.old ≡ false }
     ensures read { (stream : Stream) → R.gives source.old stream
-        → IfOk result (λ table. (stream ≡ whole (bytes_of table)) × HasDigest table.set stream) }
+        → IfOk result (λ table. (stream ≡ whole (bytes_of table)) × HasDigest table.set stream × IsTable table.set table.values) }
     ensures refused { (stream : Stream) → R.gives source.old stream
         → IfErr result (λ given. (given ≡ Fault.Memory) ⊎ HasFault stream given) }
     ensures failed { R.has_failed source.new ≡ is_io_error result }

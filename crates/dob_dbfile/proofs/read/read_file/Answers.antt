@@ -1,12 +1,13 @@
 use Rattle.std.proofs.Common.{◌≡◌, ◌∙◌, ◌⊎◌, ℕ, List, arith, sym, subst, ap, length, take}
 use Rattle.std.proofs.lemmas.Result.{err_from_is_err_and}
-use Rattle.dob_value.specs.Follows.{ClassTable}
+use Rattle.dob_value.specs.Follows.{ClassTable, IsTable}
 use Rattle.dob_dbfile.specs.declared.fault.Fault.TheVariants as fault
 use Rattle.dob_dbfile.specs.Devices.{after, whole}
 use Rattle.dob_dbfile.specs.Format.{bytes_of}
 use Rattle.dob_dbfile.specs.Faults.{header, HasHeader, HasHeaderFault, HasDigest, CountsClasses}
 use Rattle.dob_dbfile.specs.Reading.{EndsWith, HasRestFault}
 use Rattle.dob_dbfile.proofs.Verdicts.{header_refused, rest_refused, right_file, right_digest}
+use Rattle.dob_dbfile.proofs.Written.{table_of_codes}
 use Rattle.dob_dbfile.proofs.read.read_file.Goals as goal
 
 pub returns-in_err-classes-clause-refused : goal.returns-in_err-classes-clause-refused
@@ -47,5 +48,8 @@ returns-clause-read g c = λ stream gives.
     let later = subst (λ (n : ℕ). g.R.Source.gives c.fill.new.source (after n stream)) len taken.1 in
     let ends = subst (λ (h : List ℕ). EndsWith h codes.items (after 20 stream)) front (c.in_ok-codes.ensures.read (after 20 stream) later) in
     let counted = sym codes.ok.0 ∙ c.in_ok-codes.ensures.counted ∙ c.count_of.ensures.count in
-    subst (λ (t : ClassTable). (stream ≡ whole (bytes_of t)) × HasDigest t.set stream) (sym c.new.ensures)
-    (right_file stream set codes.items there counts counted ends, right_digest stream set codes.items there counts counted ends)
+    subst (λ (t : ClassTable). (stream ≡ whole (bytes_of t)) × HasDigest t.set stream × IsTable t.set t.values) (sym c.new.ensures) (
+      right_file stream set codes.items there counts counted ends,
+      right_digest stream set codes.items there counts counted ends,
+      table_of_codes set codes.items counted c.in_ok-codes.ensures.fit,
+    )
