@@ -1,5 +1,5 @@
 -- The file of a table passes all tests, and is that of no other table.
-use Rattle.std.proofs.Common.{◌≡◌, ℕ, ◌+◌, ◌*◌, ◌<◌, ◌≤◌, ◌⊎◌, List, ◌++◌, take, drop, length, arith, inl, inr, refl, sym, subst, ap, ◌∙◌, Result, Ok, Err}
+use Rattle.std.proofs.Common.{◌≡◌, ℕ, ◌+◌, ◌*◌, ◌<◌, ◌⊎◌, List, ◌++◌, take, drop, length, arith, inl, inr, refl, sym, subst, ap, ◌∙◌, Result, Ok, Err}
 use Rattle.std.specs.Result.{IfOk, IfErr, MatchResult}
 use Rattle.std.specs.List.{All}
 use Rattle.std.proofs.lemmas.List.{length-append, length-map, take_at, drop_at}

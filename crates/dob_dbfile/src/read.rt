@@ -32,8 +32,7 @@ const PIECE_LEN: usize = 4096;
 /// Errors, the first of these that holds: `Truncated`, fewer than 20 bytes; `Magic`, `SetByte`, `SetTooLarge`,
 /// `ClassCount`, what the header says; `Truncated`, fewer bytes than the set's records and digest have; `Trailing`, a byte
 /// more; `Digest`. `Io` only where the source fails in this call, with how many bytes it gave before. `Memory`, in place of
-/// what is tested after `SetTooLarge`, or of the table. The source
-/// has lost what was read.
+/// what is tested after `SetTooLarge`, or of the table. The source has lost what was read.
 pub fn read_table<R: Source>(alloc: Global, source: &mut R) -> Result<Table, Fault>
     requires { R.has_failed source.old ≡ false }
     // A table is read only where the source gives just its file and ends.
