@@ -1,11 +1,13 @@
 mod CodeBytes
 mod Counts
 mod Cuts
+mod Decoded
 mod Endings
 mod FileBytes
+mod Filled
 mod Pieces
 mod Places
 mod Refused
-mod Filled
 mod Streams
 mod Verdicts
+mod Written

@@ -58,6 +58,10 @@ file_len set = contents_len set + 32
 abbrev pub HasHeader : Stream → Type 0
 HasHeader stream = 20 ≤ length stream.bytes
 
+-- the header is there and names a set of at most three pieces besides the lions
+abbrev pub NamesClasses : Stream → Type 0
+NamesClasses stream = HasHeader stream × ((set : PieceSet) × NamesSmallSet set (header stream))
+
 abbrev pub IsOfSet : PieceSet → Stream → Type 0
 IsOfSet set stream = HasHeader stream × CountsClasses set (header stream)
 

@@ -1,11 +1,13 @@
 // Reading a table from a file.
-ghost use Rattle.std.specs.Prelude.{◌≡◌, ◌⊎◌, ◌↔◌, ℕ, List, ◌+◌, ◌*◌, ◌%◌, ◌^◌, ◌<◌, ◌≤◌, ◌||◌, [], false, length, vec_len, All, IfOk, IfErr, IsTrue, OnOk, MatchResult};
+ghost use Rattle.std.specs.Prelude.{◌≡◌, ◌≢◌, ◌⊎◌, ◌↔◌, ℕ, List, ◌+◌, ◌*◌, ◌%◌, ◌^◌, ◌<◌, ◌≤◌, ◌||◌, [], false, length, vec_len, All, IfOk, IfErr, IsTrue, OnOk, MatchResult};
+ghost use Rattle.dob_pieces.specs.declared.piece_set.PieceSet.{PieceSet as AnySet};
 ghost use Rattle.dob_rank.specs.Marks.{classes_of};
+ghost use Rattle.dob_value.specs.Follows.{ClassTable, IsTable};
 ghost use Rattle.dob_dbfile.specs.declared.fault.Fault.{Fault as AnyFault};
 ghost use Rattle.sha2.specs.Hashers.{Holds256};
 ghost use Rattle.dob_dbfile.specs.Devices.{Stream, after, whole};
 ghost use Rattle.dob_dbfile.specs.Format.{bytes_of};
-ghost use Rattle.dob_dbfile.specs.Faults.{is_io_error, CountsClasses, HasHeaderFault, HasDigest, HasFault};
+ghost use Rattle.dob_dbfile.specs.Faults.{is_io_error, IsSmall, NamesSmallSet, NamesClasses, CountsClasses, HasHeaderFault, HasDigest, HasFault};
 ghost use Rattle.dob_dbfile.specs.Reading.{Takes, IsCut, IsNoEnd, ReadsCodes, HashesNext, EndsWith, IsDigest, HasDigestFault, HasRestFault};
 
 use crate::device::{Failed, Source};
@@ -29,8 +31,8 @@ const PIECE_LEN: usize = 4096;
 ///
 /// Errors, the first of these that holds: `Truncated`, fewer than 20 bytes; `Magic`, `SetByte`, `SetTooLarge`,
 /// `ClassCount`, what the header says; `Truncated`, fewer bytes than the set's records and digest have; `Trailing`, a byte
-/// more; `Digest`. `Io` only where the source fails in this call, with how many bytes it gave before. `Memory`. The source
-/// has lost what was read.
+/// more; `Digest`. `Io` only where the source fails in this call, with how many bytes it gave before. `Memory`, in place of
+/// what is tested after `SetTooLarge`, or of the table. The source has lost what was read.
 pub fn read_table<R: Source>(alloc: Global, source: &mut R) -> Result<Table, Fault>
     requires { R.has_failed source.old ≡ false }
     // A table is read only where the source gives just its file and ends.
@@ -41,6 +43,11 @@ pub fn read_table<R: Source>(alloc: Global, source: &mut R) -> Result<Table, Fau
     // Where a fault holds it is given, or memory was refused.
     ensures exact { (stream : Stream) (fault : AnyFault) → R.gives source.old stream → HasFault stream fault
         → MatchResult result (λ _. ⊥) (λ given. (given ≡ Fault.Memory) ⊎ (given ≡ fault)) }
+    // The file of a table is read as that table, unless memory is refused.
+    ensures whole { (table : ClassTable) → IsSmall table.set → IsTable table.set table.values → R.gives source.old (whole (bytes_of table))
+        → MatchResult result (λ found. found ≡ table) (λ given. given ≡ Fault.Memory) }
+    // Memory is refused only once the header names a set whose classes are wanted.
+    ensures memory { (stream : Stream) → R.gives source.old stream → IfErr result (λ given. given ≡ Fault.Memory → NamesClasses stream) }
     ensures failed { R.has_failed source.new ≡ is_io_error result }
 {
     read_file(alloc, source)
@@ -50,9 +57,10 @@ pub fn read_table<R: Source>(alloc: Global, source: &mut R) -> Result<Table, Fau
 fn read_file<R: Source>(alloc: Global, source: &mut R) -> Result<Table, Fault>
     requires { R.has_failed source.old ≡ false }
     ensures read { (stream : Stream) → R.gives source.old stream
-        → IfOk result (λ table. (stream ≡ whole (bytes_of table)) × HasDigest table.set stream) }
+        → IfOk result (λ table. (stream ≡ whole (bytes_of table)) × HasDigest table.set stream × IsTable table.set table.values) }
     ensures refused { (stream : Stream) → R.gives source.old stream
         → IfErr result (λ given. (given ≡ Fault.Memory) ⊎ HasFault stream given) }
+    ensures memory { (stream : Stream) → R.gives source.old stream → IfErr result (λ given. given ≡ Fault.Memory → NamesClasses stream) }
     ensures failed { R.has_failed source.new ≡ is_io_error result }
 {
     let mut header = [0; HEADER_LEN];
@@ -77,6 +85,7 @@ fn fill<R: Source>(source: &mut R, room: &mut [u8], before: usize) -> Result<(),
     ensures taken { (stream : Stream) → R.gives source.old stream
         → OnOk result (Takes stream room.new × R.gives source.new (after (length room.new) stream)) }
     ensures cut { (stream : Stream) → R.gives source.old stream → IfErr result (IsCut (length room.new) before stream) }
+    ensures known { IfErr result (λ given. given ≢ Fault.Memory) }
     ensures failed { R.has_failed source.new ≡ (R.has_failed source.old || is_io_error result) }
 {
     match read_full(source, room) {
@@ -91,6 +100,7 @@ fn classes_named(alloc: Global, header: &[u8]) -> Result<Classes, Fault>
     requires { length header.now ≡ 20 }
     ensures named { IfOk result (λ classes. CountsClasses classes.set header.now) }
     ensures refused { IfErr result (λ fault. (fault ≡ Fault.Memory) ⊎ HasHeaderFault header.now fault) }
+    ensures memory { IfErr result (λ fault. fault ≡ Fault.Memory → (set : AnySet) × NamesSmallSet set header.now) }
 {
     if !is_title(&header[..8]) {
         return Err(Fault::Magic);

@@ -4,7 +4,7 @@ use Rattle.std.proofs.lemmas.Result.{err_from_is_err_and}
 use Rattle.dob_pieces.specs.declared.piece_set.PieceSet.{PieceSet}
 use Rattle.dob_rank.specs.Marks.{classes_of}
 use Rattle.dob_dbfile.specs.Format.{count_bytes}
-use Rattle.dob_dbfile.proofs.Refused.{set_refused, small}
+use Rattle.dob_dbfile.proofs.Refused.{set_refused, memory_refused, small}
 use Rattle.dob_dbfile.proofs.read.classes_named.Goals as goal
 
 pub returns-in_err-classes-clause-refused : goal.returns-in_err-classes-clause-refused
@@ -26,3 +26,8 @@ returns-else-is_count-clause-refused c =
           let never : false ≡ true = c.if-is_count.ensures.1 counted in
           absurd (cc),
     )
+
+pub returns-in_err-classes-clause-memory : goal.returns-in_err-classes-clause-memory
+returns-in_err-classes-clause-memory c =
+    let p = err_from_is_err_and c.from_residual.result c.from_residual.ensures.1 in
+    rw p.1 (memory_refused c.args.header.now c.in-Some.set c.in_err-classes.field-0.0 p.0 (search rules) c.in_err-classes.ensures.too_large p.2)
