@@ -14,3 +14,6 @@ pub use news::{Item, Settlement};
 pub use opening::Opening;
 pub use owners::owner;
 pub use share::Share;
+
+#[cfg(test)]
+mod tests;
