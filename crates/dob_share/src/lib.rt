@@ -3,6 +3,7 @@
 
 mod cells;
 mod fault;
+pub mod laws;
 mod news;
 mod opening;
 mod owners;

@@ -135,3 +135,34 @@ fn distances_at_the_limit(rt: HostRuntime) -> Result<(), Fail> {
     );
     Ok(())
 }
+
+#[test]
+fn values_of_classes(rt: HostRuntime) -> Result<(), Fail> {
+    let caught = Opening {
+        status: Status::Caught,
+        moves: 0,
+    };
+    let stuck = Opening {
+        status: Status::Stuck,
+        moves: 0,
+    };
+    let open = Opening {
+        status: Status::Open,
+        moves: 5,
+    };
+    let mut share = Share::open(rt.alloc(), &[caught, stuck, open], 0, 1)?;
+    assert_eq!(rt; share.value(0), Value::Win(1));
+    assert_eq!(rt; share.value(1), Value::Loss(0));
+    assert_eq!(rt; share.value(2), Value::Draw);
+    assert_eq!(rt; share.settled(), 2);
+    let item = Item {
+        number: 0,
+        to: 2,
+        was: Value::Draw,
+        now: Value::Loss(3),
+    };
+    assert!(rt; share.apply(item).is_ok());
+    assert_eq!(rt; share.value(2), Value::Win(4));
+    assert_eq!(rt; share.settled(), 3);
+    Ok(())
+}
