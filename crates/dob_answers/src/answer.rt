@@ -1,6 +1,7 @@
 // The answer to a line.
 use crate::about_position::about_position;
 use crate::about_set::about_set;
+use crate::about_token::about_token;
 use crate::opened::Opened;
 use crate::question::Question;
 use dob_pieces::{Memory, PieceSet};
@@ -21,6 +22,7 @@ pub(crate) fn reply(alloc: Global, opened: &mut Opened, line: &str) -> Result<St
             Err(fault) => fault_line(alloc, fault),
             Ok(set) => told(alloc, about_set(alloc, opened, matter, set)),
         },
+        Some(Question::Token(matter)) => Ok(about_token(alloc, matter)?),
     }
 }
 

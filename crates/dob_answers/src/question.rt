@@ -1,4 +1,5 @@
 // The questions that a line can ask.
+use crate::about_token::OfToken;
 
 /// What a line asks.
 #[derive(Clone, Copy)]
@@ -7,6 +8,8 @@ pub(crate) enum Question<'a> {
     Position(OfPosition, &'a str),
     /// Something about the piece set of that text.
     Set(OfSet, &'a str),
+    /// Something about tokens of the ring.
+    Token(OfToken),
 }
 
 /// What is asked about a position.
@@ -74,7 +77,7 @@ impl<'a> Question<'a> {
                 let (from, into) = two_numbers(classes)?;
                 Some(Question::Set(OfSet::Edges { from, into }, set))
             }
-            _ => None,
+            _ => Some(Question::Token(OfToken::read(word, rest)?)),
         }
     }
 }

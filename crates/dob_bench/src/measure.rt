@@ -4,12 +4,14 @@ use crate::counts::{self, Edges, Moves, Outcomes};
 use crate::timer::Timer;
 use anyhow::Result;
 use dob_pieces::PieceSet;
+use dob_probe::check;
 use dob_rank::{Classes, size};
-use dob_value::sweep_table;
+use dob_value::{Table, sweep_table};
 use std::rt::Clock;
+use std::thread::Threads;
 
 /// Measures everything over the set.
-pub(crate) fn run<R: Print + Clock + AllocGlobal>(
+pub(crate) fn run<R: Print + Clock + AllocGlobal + Threads + Sync>(
     rt: &R,
     set: PieceSet,
     timed: bool,
@@ -19,7 +21,8 @@ pub(crate) fn run<R: Print + Clock + AllocGlobal>(
     find_classes(rt, &classes, timed)?;
     list_moves(rt, &classes, timed)?;
     list_predecessors(rt, &classes, timed)?;
-    sweep(rt, set, timed)
+    let table = sweep(rt, set, timed)?;
+    check_table(rt, &table, timed)
 }
 
 // Opens the classes of the set.
@@ -79,7 +82,7 @@ fn list_predecessors<R: Print + Clock + AllocGlobal>(
 }
 
 // The values of all classes.
-fn sweep<R: Print + Clock + AllocGlobal>(rt: &R, set: PieceSet, timed: bool) -> Result<()> {
+fn sweep<R: Print + Clock + AllocGlobal>(rt: &R, set: PieceSet, timed: bool) -> Result<Table> {
     let timer = Timer::start(rt, timed)?;
     let table = sweep_table(rt.alloc(), set)?;
     let Outcomes {
@@ -91,5 +94,18 @@ fn sweep<R: Print + Clock + AllocGlobal>(rt: &R, set: PieceSet, timed: bool) -> 
     println!(rt;
         "swept {wins} wins, {losses} losses, {draws} draws, the longest win {longest_win} plies"
     )?;
+    timer.tell(rt, &[(table.class_count(), "class")])?;
+    Ok(table)
+}
+
+// That each class's value follows from its successors' values.
+fn check_table<R: Print + Clock + AllocGlobal + Threads + Sync>(
+    rt: &R,
+    table: &Table,
+    timed: bool,
+) -> Result<()> {
+    let timer = Timer::start(rt, timed)?;
+    check(rt, rt.alloc(), table)?;
+    println!(rt; "checked {} classes", table.class_count())?;
     timer.tell(rt, &[(table.class_count(), "class")])
 }

@@ -1,24 +1,26 @@
--- How `clap` reads all the words of the program.
-use Rattle.std.proofs.Common.{◌≡◌, ◌∙◌, ◌==◌, Bool, refl, sym, ap, subst, cond, codes, true, false, [], ◌∷◌, List, Some, None}
-use Rattle.std.specs.Prelude.{is_some}
+-- How `clap` reads all the words of the program. A further subcommand has a record `IsEntered` here, each field of
+-- which is `refl`, and a line in `all_fit`.
+use Rattle.std.proofs.Common.{◌==◌, ◌⊎◌, ◌++◌, inl, inr, ◌≡◌, ◌∙◌, Bool, refl, sym, ap, subst, cond, codes, true, false, [], ◌∷◌, List, Option, Some, None}
+use Rattle.std.specs.Prelude.{find, fold, is_some, map, option_map}
+use Rattle.std.specs.Option.{option_map_or}
 use Rattle.std.specs.Str.{bytes_eq}
-use Rattle.std.specs.List.{fold}
 use Rattle.std.proofs.lemmas.Slice.Eq.{bytes_eq-Decides}
-use Rattle.clap.specs.Words.{App, built, fault_of, subcommand_of}
-use Rattle.clap.specs.Walk.{Names, Walk, finished, idle, rows_after, settled, subcommand_met, walked}
+use Rattle.clap.specs.Words.{App, Row, built, fault_of, subcommand_of}
+use Rattle.clap.specs.Walk.{answers_to, Names, Walk, finished, idle, nothing_held, rows_after, settled, subcommand_met, walked}
 use Rattle.clap.specs.Simple.{Shape, entered, names_of}
 use Rattle.clap.specs.Kinds.{Kinds, or_else}
-use Rattle.clap.specs.Faults.{check_fault, defaults_fault, entered_fault, settle_fault, turn_fault, walk_fault}
+use Rattle.clap.specs.Faults.{check_fault, defaults_fault, entered_fault, level_fault, settle_fault, turn_fault, walk_fault}
 use Rattle.clap.specs.declared.error.kind.ErrorKind.TheVariants as kind
 use Rattle.clap.proofs.FaultLemmas.{stopped_fault}
 use Rattle.clap.proofs.WalkLemmas.{walk_stopped}
-use Rattle.dob_cli.specs.Words.{Text, help, is_help_flag, is_text, meaning_of, meaning_of_count, meaning_of_value, topic, usage}
-use Rattle.dob_cli.specs.Shapes.{dobutsu_app}
+use Rattle.dob_cli.specs.Forms.{Form, Text, count_form, forms, value_form}
+use Rattle.dob_cli.specs.Words.{Meaning, asks, help, is_dashes, is_help_flag, is_text, meaning_of_command, meaning_of_form, meaning_of_other, topic, usage, version}
+use Rattle.dob_cli.specs.Shapes.{Finds, dobutsu_app}
 use Rattle.dob_cli.proofs.Lexing.{flip_bytes, or_false}
-use Rattle.dob_cli.proofs.Turns.{Fits, KnowsHelp, help_flag, is_usage, none, or_else_usage}
+use Rattle.dob_cli.proofs.Turns.{KnowsHelp, help_flag, is_usage, none, or_else_usage}
 use Rattle.dob_cli.proofs.Steps.{help_turn, open_at, other_turn, text_turn}
-use Rattle.dob_cli.proofs.ValueWords.{value_fits, value_kinds, value_shape}
-use Rattle.dob_cli.proofs.CountWords.{count_fits, count_kinds, count_shape}
+use Rattle.dob_cli.proofs.FormWords.{Comes, IsTaken, form_comes, shape_of}
+use Rattle.dob_cli.proofs.Taken.{count_taken, value_taken}
 
 -- the program's command, built
 abbrev program : App
@@ -29,9 +31,6 @@ top = program.top
 
 abbrev names : Names
 names = names_of program
-
-subs_are : program.subs ≡ value_shape ∷ count_shape ∷ Rattle.clap.specs.Simple.built_leaf (Rattle.clap.specs.Simple.help_shape) ∷ []
-subs_are = refl
 
 abbrev start : Walk
 start = open_at [] None 1
@@ -60,7 +59,7 @@ kinds_are words = refl
 -- one word asks for help
 helps : (w : Walk) (word : Text) (rest : List Text) → turn_fault top names w word ≡ kind.DisplayHelp ∷ [] → kinds_at w (word ∷ rest) ≡ kind.DisplayHelp ∷ []
 unfolding walk_fault
-helps w word rest asks = rw asks refl
+helps w word rest e = rw e refl
 
 -- one word is refused
 refuses : (w : Walk) (word : Text) (rest : List Text) → is_usage (turn_fault top names w word) ≡ true → is_usage (kinds_at w (word ∷ rest)) ≡ true
@@ -73,45 +72,88 @@ or_else_nil : (k : Kinds) → or_else k [] ≡ k
 or_else_nil [] = refl
 or_else_nil (k ∷ ks) = refl
 
--- the words from the name of a subcommand on
+-- ---- the words from the name of a subcommand on
+
+-- the words after a subcommand's name
 abbrev entered_at : Text → List Text → Walk
 entered_at name words = record start { stopped = Some (name, words) }
 
--- the words from `value` on
-value_steps : (rest : List Text) → fold (walked top.rules names) start (codes "value" ∷ rest) ≡ entered_at (codes "value") rest
-unfolding walked
-value_steps rest = sym (walk_stopped top.rules names start (codes "value") [] rest)
+-- the kinds of error of the words after a subcommand's name
+abbrev below : Form → List Text → Kinds
+below f words = level_fault (shape_of f) [] nothing_held words false []
 
-value_walks : (rest : List Text) → walk_fault top names start (codes "value" ∷ rest) ≡ []
-unfolding walk_fault walked
-value_walks rest = stopped_fault top names start (codes "value", []) rest
+-- the program knows the subcommand by its name, and built it so
+record IsEntered (f : Form) : Type 0 where
+  walks : walked top.rules names start f.name ≡ entered_at f.name []
+  turns : turn_fault top names start f.name ≡ []
+  ends : (rest : List Text) → ending (entered_at f.name rest) ≡ or_else (below f rest) []
+  enters : (rest : List Text) → entered program (Some (f.name, rest)) ≡ Some (f.name, rows_after (shape_of f).rules [] rest)
 
-value_ends : (rest : List Text) → ending (entered_at (codes "value") rest) ≡ or_else (value_kinds rest) []
-unfolding defaults_fault
-value_ends rest = refl
+value_entered : IsEntered value_form
+unfolding walked defaults_fault
+value_entered = record { walks = refl; turns = refl; ends = λ rest. refl; enters = λ rest. refl }
 
-value_kinds_are : (rest : List Text) → kinds_at start (codes "value" ∷ rest) ≡ value_kinds rest
-value_kinds_are rest =
-    ap (λ k. or_else k (ending (fold (walked top.rules names) start (codes "value" ∷ rest)))) (value_walks rest)
-    ∙ (ap ending (value_steps rest) ∙ (value_ends rest ∙ or_else_nil (value_kinds rest)))
+count_entered : IsEntered count_form
+unfolding walked defaults_fault
+count_entered = record { walks = refl; turns = refl; ends = λ rest. refl; enters = λ rest. refl }
 
--- the words from `count` on
-count_steps : (rest : List Text) → fold (walked top.rules names) start (codes "count" ∷ rest) ≡ entered_at (codes "count") rest
-unfolding walked
-count_steps rest = sym (walk_stopped top.rules names start (codes "count") [] rest)
+-- the subcommand that was met is one of these, and has this name and these texts
+abbrev pub IsMet : List Form → Text → List Text → Option (Text × List Row) → Type 0
+IsMet [] name texts met = ⊥
+IsMet (f ∷ fs) name texts met = ((f.name ≡ name) × Finds f texts met) ⊎ IsMet fs name texts met
 
-count_walks : (rest : List Text) → walk_fault top names start (codes "count" ∷ rest) ≡ []
-unfolding walk_fault walked
-count_walks rest = stopped_fault top names start (codes "count", []) rest
+-- what the words ask for goes with the kinds of error, and with the subcommand that was met
+abbrev pub Fits : Meaning → Kinds → Option (Text × List Row) → Type 0
+Fits (asks name texts) kinds met = (kinds ≡ []) × IsMet forms name texts met
+Fits help kinds met = kinds ≡ kind.DisplayHelp ∷ []
+Fits topic kinds met = kinds ≡ kind.DisplayHelp ∷ kind.InvalidSubcommand ∷ []
+Fits usage kinds met = is_usage kinds ≡ true
+Fits version kinds met = ⊥
 
-count_ends : (rest : List Text) → ending (entered_at (codes "count") rest) ≡ or_else (count_kinds rest) []
-unfolding defaults_fault
-count_ends rest = refl
+abbrev FitsAt : Meaning → List Text → Type 0
+FitsAt m words = Fits m (kinds_at start words) (subcommand_of dobutsu_app words)
 
-count_kinds_are : (rest : List Text) → kinds_at start (codes "count" ∷ rest) ≡ count_kinds rest
-count_kinds_are rest =
-    ap (λ k. or_else k (ending (fold (walked top.rules names) start (codes "count" ∷ rest)))) (count_walks rest)
-    ∙ (ap ending (count_steps rest) ∙ (count_ends rest ∙ or_else_nil (count_kinds rest)))
+module _ (f : Form) (is : IsTaken f) (enters : IsEntered f) (among : (name : Text) (texts : List Text) (met : Option (Text × List Row)) → (f.name ≡ name) × Finds f texts met → IsMet forms name texts met) where
+  steps : (rest : List Text) → fold (walked top.rules names) start (f.name ∷ rest) ≡ entered_at f.name rest
+  steps rest = ap (λ w. fold (walked top.rules names) w rest) enters.walks ∙ sym (walk_stopped top.rules names start f.name [] rest)
+
+  walks_on : (rest : List Text) → walk_fault top names start (f.name ∷ rest) ≡ []
+  unfolding walk_fault
+  walks_on rest = rw (enters.turns, enters.walks) (stopped_fault top names start (f.name, []) rest)
+
+  kinds_below : (rest : List Text) → kinds_at start (f.name ∷ rest) ≡ below f rest
+  kinds_below rest =
+      ap (λ k. or_else k (ending (fold (walked top.rules names) start (f.name ∷ rest)))) (walks_on rest)
+      ∙ (ap ending (steps rest) ∙ (enters.ends rest ∙ or_else_nil (below f rest)))
+
+  met_is : (rest : List Text) → subcommand_of dobutsu_app (f.name ∷ rest) ≡ Some (f.name, rows_after (shape_of f).rules [] rest)
+  met_is rest = ap (λ (w : Walk). entered program w.stopped) (steps rest) ∙ enters.enters rest
+
+  comes_fit : (m : Meaning) (rest : List Text) → Comes f is m (below f rest) (rows_after (shape_of f).rules [] rest) → FitsAt m (f.name ∷ rest)
+  comes_fit (asks name texts) rest c = (kinds_below rest ∙ c.1, among name texts _ (c.0, (_, met_is rest, c.2)))
+  comes_fit help rest c = kinds_below rest ∙ c
+  comes_fit topic rest c = kinds_below rest ∙ c
+  comes_fit usage rest c = rw (kinds_below rest) c
+  comes_fit version rest c = absurd c
+
+  form_fits : (rest : List Text) → FitsAt (meaning_of_form f rest) (f.name ∷ rest)
+  form_fits rest = comes_fit (meaning_of_form f rest) rest (form_comes f is rest)
+
+abbrev EachForm : (Form → Type 0) → List Form → Type 0
+EachForm P [] = Unit {0}
+EachForm P (f ∷ fs) = P f × (EachForm P fs)
+
+-- the words from each subcommand's name on
+all_fit : EachForm (λ f. (rest : List Text) → FitsAt (meaning_of_form f rest) (f.name ∷ rest)) forms
+all_fit = (
+  form_fits value_form value_taken value_entered (λ name texts met h. inl h),
+  (
+    form_fits count_form count_taken count_entered (λ name texts met h. inr (inl h)),
+    tt,
+  ),
+)
+
+-- ---- other words
 
 -- the words from `help` on
 help_kinds : (rest : List Text) → kinds_at start (codes "help" ∷ rest) ≡ kind.DisplayHelp ∷ kind.InvalidSubcommand ∷ []
@@ -131,41 +173,47 @@ dashes_more : (word : Text) (rest : List Text) → is_usage (kinds_at start (cod
 unfolding walk_fault walked
 dashes_more word rest = refl
 
-no_subcommand : (word : Text) → bytes_eq (codes "value") word ≡ false → bytes_eq (codes "count") word ≡ false → bytes_eq (codes "help") word ≡ false
-    → subcommand_met names idle word ≡ None
-no_subcommand word v c h = rw (v, c, h) refl
+-- the word is the name of none of these
+abbrev NamesNone : Text → List Form → Type 0
+NamesNone word = EachForm (λ f. bytes_eq f.name word ≡ false)
 
 -- a first word that names no subcommand
-other_fits : (word : Text) (rest : List Text) → subcommand_met names idle word ≡ None → Fits (cond (is_help_flag word) help usage) (kinds_at start (word ∷ rest))
-other_fits word rest unnamed = go (is_help_flag word) (is_text word) (bytes_eq (codes "--") word) refl refl refl rest
+no_subcommand : (word : Text) → NamesNone word forms → bytes_eq (codes "help") word ≡ false → subcommand_met names idle word ≡ None
+no_subcommand word differs h = ap (option_map (λ (n : Text × List Text). n.0)) (go forms differs)
   where
-    go : (a b d : Bool) → is_help_flag word ≡ a → is_text word ≡ b → bytes_eq (codes "--") word ≡ d → (more : List Text) → Fits (cond a help usage) (kinds_at start (word ∷ more))
-    go true b d asks text e more = helps start word more (help_turn top names [] None 1 word none unnamed refl knows asks)
-    go false true d asks text e more = refuses start word more (rw (text_turn top names [] None 1 word unnamed refl text) refl)
-    go false false true asks text e [] = subst (λ w. is_usage (kinds_at start (w ∷ [])) ≡ true) ((bytes_eq-Decides (codes "--") word).0 e) only_dashes
-    go false false true asks text e (v ∷ more) = subst (λ w. is_usage (kinds_at start (w ∷ v ∷ more)) ≡ true) ((bytes_eq-Decides (codes "--") word).0 e) (dashes_more v more)
-    go false false false asks text e more = refuses start word more (other_turn top names [] None 1 word none unnamed refl knows refl text asks (flip_bytes (codes "--") word false e))
+    go : (fs : List Form) → NamesNone word fs → find (answers_to word) (map (λ f. (f.name, [])) fs ++ (codes "help", []) ∷ []) ≡ None
+    go [] d = rw h refl
+    go (f ∷ fs) d = rw d.0 (go fs d.1)
 
--- the kinds of error go with what the words ask for
-pub words_fit : (words : List Text) → Fits (meaning_of words) (fault_of dobutsu_app words)
+other_fits : (word : Text) (rest : List Text) → NamesNone word forms → FitsAt (meaning_of_other word) (word ∷ rest)
+other_fits word rest differs = go (bytes_eq (codes "help") word) (is_help_flag word) (is_text word) (is_dashes word) refl refl refl refl rest
+  where
+    go : (h a b d : Bool) → bytes_eq (codes "help") word ≡ h → is_help_flag word ≡ a → is_text word ≡ b → is_dashes word ≡ d
+        → (more : List Text) → FitsAt (cond h topic (cond a help usage)) (word ∷ more)
+    go true a b d names_help asks_help text e more =
+        subst (λ w. kinds_at start (w ∷ more) ≡ kind.DisplayHelp ∷ kind.InvalidSubcommand ∷ []) ((bytes_eq-Decides (codes "help") word).0 names_help) (help_kinds more)
+    go false true b d names_help asks_help text e more =
+        helps start word more (help_turn top names [] None 1 word none (no_subcommand word differs names_help) refl knows asks_help)
+    go false false true d names_help asks_help text e more =
+        refuses start word more (rw (text_turn top names [] None 1 word (no_subcommand word differs names_help) refl text) refl)
+    go false false false true names_help asks_help text e [] = subst (λ w. is_usage (kinds_at start (w ∷ [])) ≡ true) ((bytes_eq-Decides (codes "--") word).0 e) only_dashes
+    go false false false true names_help asks_help text e (v ∷ more) =
+        subst (λ w. is_usage (kinds_at start (w ∷ v ∷ more)) ≡ true) ((bytes_eq-Decides (codes "--") word).0 e) (dashes_more v more)
+    go false false false false names_help asks_help text e more = refuses start word more
+        (other_turn top names [] None 1 word none (no_subcommand word differs names_help) refl knows refl text asks_help (flip_bytes (codes "--") word false e))
+
+-- what the words ask for goes with the kinds of error, and with the subcommand that was met
+pub words_fit : (words : List Text) → Fits (meaning_of_command words) (fault_of dobutsu_app words) (subcommand_of dobutsu_app words)
 words_fit [] = no_words
-words_fit (word ∷ rest) = go (bytes_eq (codes "value") word) (bytes_eq (codes "count") word) (bytes_eq (codes "help") word) refl refl refl
+words_fit (word ∷ rest) = go forms all_fit (other_fits word rest)
   where
-    go : (a b d : Bool) → bytes_eq (codes "value") word ≡ a → bytes_eq (codes "count") word ≡ b → bytes_eq (codes "help") word ≡ d
-        → Fits (cond a (meaning_of_value rest) (cond b (meaning_of_count rest) (cond d topic (cond (is_help_flag word) help usage)))) (kinds_at start (word ∷ rest))
-    go true b d v c h = subst (λ w. Fits (meaning_of_value rest) (kinds_at start (w ∷ rest))) ((bytes_eq-Decides (codes "value") word).0 v)
-        (rw (value_kinds_are rest) (value_fits rest))
-    go false true d v c h = subst (λ w. Fits (meaning_of_count rest) (kinds_at start (w ∷ rest))) ((bytes_eq-Decides (codes "count") word).0 c)
-        (rw (count_kinds_are rest) (count_fits rest))
-    go false false true v c h = subst (λ w. kinds_at start (w ∷ rest) ≡ kind.DisplayHelp ∷ kind.InvalidSubcommand ∷ []) ((bytes_eq-Decides (codes "help") word).0 h) (help_kinds rest)
-    go false false false v c h = other_fits word rest (no_subcommand word v c h)
-
--- ---- the matches
-
--- the subcommand `value` is entered, with the words after it
-pub value_entered : (rest : List Text) → subcommand_of dobutsu_app (codes "value" ∷ rest) ≡ Some (codes "value", rows_after value_shape.rules [] rest)
-value_entered rest = ap (λ (w : Walk). entered program w.stopped) (value_steps rest)
-
--- so is `count`
-pub count_entered : (rest : List Text) → subcommand_of dobutsu_app (codes "count" ∷ rest) ≡ Some (codes "count", rows_after count_shape.rules [] rest)
-count_entered rest = ap (λ (w : Walk). entered program w.stopped) (count_steps rest)
+    go : (fs : List Form) → EachForm (λ f. (more : List Text) → FitsAt (meaning_of_form f more) (f.name ∷ more)) fs → (NamesNone word fs → FitsAt (meaning_of_other word) (word ∷ rest))
+        → FitsAt (option_map_or (λ f. meaning_of_form f rest) (find (λ f. bytes_eq f.name word) fs) (meaning_of_other word)) (word ∷ rest)
+    go [] each other = other tt
+    go (f ∷ fs) each other = by (bytes_eq f.name word) refl (λ d. go fs each.1 (λ more. other (d, more)))
+      where
+        by : (b : Bool) → bytes_eq f.name word ≡ b
+            → (bytes_eq f.name word ≡ false → FitsAt (option_map_or (λ x. meaning_of_form x rest) (find (λ x. bytes_eq x.name word) fs) (meaning_of_other word)) (word ∷ rest))
+            → FitsAt (option_map_or (λ x. meaning_of_form x rest) (cond b (Some f) (find (λ x. bytes_eq x.name word) fs)) (meaning_of_other word)) (word ∷ rest)
+        by true e later = subst (λ w. FitsAt (meaning_of_form f rest) (w ∷ rest)) ((bytes_eq-Decides f.name word).0 e) (each.0 rest)
+        by false e later = later e

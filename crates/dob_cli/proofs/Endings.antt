@@ -1,6 +1,5 @@
 -- How the program ends: from what it tells of lines or a fault to what it owes.
-use Rattle.std.proofs.Common.{◌≡◌, ℕ, ◌⊎◌, inl, inr, List, Some, None, refl}
-use Rattle.std.specs.Io.KnownBytes.{Keeps}
+use Rattle.std.proofs.Common.{◌≡◌, ℕ, inl, inr, List, refl, subst}
 use Rattle.dob_pieces.specs.declared.setup.Setup.{Setup}
 use Rattle.dob_pieces.specs.declared.piece_set.PieceSet.{PieceSet}
 use Rattle.dob_pieces.specs.Setups.{IsLegal}
@@ -12,13 +11,12 @@ use Rattle.dob_value.specs.declared.fault.Fault.TheVariants as value_fault
 use Rattle.dob_cli.specs.declared.fault.Fault.{Fault}
 use Rattle.dob_cli.specs.declared.fault.Fault.TheVariants.{Text, SetText, SetTooLarge, TooDeep, Memory, Io}
 use Rattle.dob_cli.specs.Faults.{fault_of_value}
-use Rattle.dob_cli.specs.Endings.{Bytes, AppendsPart, Answers, Tells, TellsOneFault}
+use Rattle.dob_cli.specs.Streams.{Change, State, change}
+use Rattle.dob_cli.specs.Endings.{Answers, Ending, Tells, TellsOneFault, ended}
 use Rattle.dob_cli.specs.Program.{HasManyPieces, IsFaultOf}
+use Rattle.dob_cli.specs.Words.{Text as Word}
+use Rattle.dob_cli.specs.Runs.{Ran, RanOn}
 use Rattle.dob_cli.specs.Sizes.{IsCountFaultOf, IsFaultOfSet}
-
-Keeps-same : (bytes : Bytes) → Keeps bytes bytes
-Keeps-same None = tt
-Keeps-same (Some bytes) = refl
 
 -- a fault of finding a value is one of the text's
 pub value_fault_holds : (text : List ℕ) (p : Setup) (f : value.Fault) → IsLegal p → Spells text p
@@ -37,25 +35,17 @@ set_fault_holds text set TooDeep named holds = absurd holds
 set_fault_holds text set Memory named holds = tt
 set_fault_holds text set Io named holds = absurd holds
 
--- a fault that was told, or that no memory was left for telling it
-fault_told : (AreLines : List ℕ → Type 0) (Holds : Fault → Type 0) (fault : Fault) (status : ℕ) (out out' err err' : Bytes)
-    → Holds Memory → Holds fault → Keeps out out' ⊎ ((lines : List ℕ) × AreLines lines × AppendsPart out out' lines)
-    → TellsOneFault fault status err err' → Answers AreLines Holds status out out' err err'
-fault_told AreLines Holds fault status out out' err err' memory holds silent (inl t) =
-    inr (record { fault = fault; holds = holds; ended = t.0; told = t.1; silent = silent })
-fault_told AreLines Holds fault status out out' err err' memory holds silent (inr t) =
-    inr (record { fault = Memory; holds = memory; ended = t.0; told = t.1; silent = silent })
-
 -- a fault, with nothing on standard output
-pub refused : (AreLines : List ℕ → Type 0) (Holds : Fault → Type 0) (fault : Fault) (status : ℕ) (out err err' : Bytes)
-    → Holds Memory → Holds fault → TellsOneFault fault status err err' → Answers AreLines Holds status out out err err'
-refused AreLines Holds fault status out err err' memory holds told =
-    fault_told AreLines Holds fault status out out err err' memory holds (inl (Keeps-same out)) told
+pub refused : (AreLines : List ℕ → Type 0) (Holds : Fault → Type 0) (fault : Fault) (status : ℕ) (out : State) (err : Change)
+    → Holds Memory → Holds fault → TellsOneFault fault status err → Answers AreLines Holds (ended status (change out out) err)
+refused AreLines Holds fault status out err memory holds (inl told) = inr (inl (record { fault = fault; holds = holds; told = told; silent = refl }))
+refused AreLines Holds fault status out err memory holds (inr told) = inr (inl (record { fault = Memory; holds = memory; told = told; silent = refl }))
 
 -- lines that are right
-pub answered : (AreLines : List ℕ → Type 0) (Holds : Fault → Type 0) (lines : List ℕ) (status : ℕ) (out out' err err' : Bytes)
-    → Holds Memory → Holds Io → AreLines lines → Tells lines status out out' err err' → Answers AreLines Holds status out out' err err'
-answered AreLines Holds lines status out out' err err' memory io right (inl t) =
-    inl (record { lines = lines; right = right; done = t.0; told = t.1; silent = t.2 })
-answered AreLines Holds lines status out out' err err' memory io right (inr t) =
-    fault_told AreLines Holds Io status out out' err err' memory io (inr (lines, right, t.0)) t.1
+pub answered : (AreLines : List ℕ → Type 0) (Holds : Fault → Type 0) (lines : List ℕ) (e : Ending) → AreLines lines → Tells lines e → Answers AreLines Holds e
+answered AreLines Holds lines e right (inl t) = inl (record { lines = lines; right = right; done = t.0; told = t.1; silent = t.2 })
+answered AreLines Holds lines e right (inr t) = inr (inr (record { lines = lines; right = right; part = t.0; told = t.1 }))
+
+-- what the words ask for was done, and these are the words
+pub ran_on : (given words : List Word) (e : Ending) → given ≡ words → Ran given e → RanOn words e
+ran_on given words e same ran = inl (subst (λ ws. Ran ws e) same ran)

@@ -1,14 +1,13 @@
 -- What `clap`'s lexer makes of a word, by the word's first bytes.
-use Rattle.std.proofs.Common.{◌≡◌, ◌∙◌, ◌+◌, ◌==◌, ◌||◌, ◌⊎◌, ℕ, Bool, arith, suc, take, drop, refl, sym, ap, subst, cond, codes, inl, inr, true, false, [], ◌∷◌, ◌++◌, Option, Some, None, true≢false}
-use Rattle.std.specs.Prelude.{slice_get, is_some, not, unwrap_or}
+use Rattle.std.proofs.Common.{◌≡◌, ◌∙◌, ◌+◌, ◌==◌, ◌||◌, ℕ, Bool, arith, suc, take, refl, sym, ap, subst, codes, true, false, [], ◌∷◌, Option, Some, None, true≢false}
+use Rattle.std.specs.Prelude.{slice_get, is_some, not}
 use Rattle.std.specs.Str.{bytes_eq, chars}
 use Rattle.std.specs.List.{before_first}
 use Rattle.std.proofs.lemmas.Slice.Eq.{bytes_eq-Decides}
 use Rattle.std.proofs.lemmas.Bool.Decides.{Decides-eqb}
-use Rattle.std.proofs.lemmas.List.{take-append-drop}
 use Rattle.clap.specs.Lexer.{has_byte, long_of, short_of}
 use Rattle.std.specs.Option.{option_map_or}
-use Rattle.dob_cli.specs.Words.{Text, flag_of, is_help_flag, is_text, set_in}
+use Rattle.dob_cli.specs.Words.{Text, flag_of, is_help_flag, is_text, name_in, text_in}
 
 -- the first bytes of a word
 pub data View : Text → Type 0 where
@@ -71,7 +70,7 @@ long_short y ys t = rw t refl
 pub short_short : (y : ℕ) (ys : Text) → (y == 45) ≡ false → short_of (45 ∷ y ∷ ys) ≡ Some (y ∷ ys)
 short_short y ys t = rw t refl
 
-take_one : (n x : ℕ) (xs : Text) → take (1 + n) (x ∷ xs) ≡ x ∷ take n xs
+pub take_one : (n x : ℕ) (xs : Text) → take (1 + n) (x ∷ xs) ≡ x ∷ take n xs
 take_one n x xs = let e : 1 + n ≡ suc n = omega arith in rw e refl
 
 -- a text without `=` (61) is all that stands before one
@@ -145,60 +144,12 @@ none_of (Some x) e = absurd (true≢false (sym e))
 pub text_flag : (w : Text) → is_text w ≡ true → flag_of w ≡ None
 text_flag w e = none_of (flag_of w) e
 
--- ---- which words give the set
+-- ---- options
 
 -- the name in a word `--name` or `--name=value`
-abbrev pub name_of : Text → Text
-name_of w = option_map_or (λ p. p.0) (long_of w) []
+abbrev pub long_name : Text → Text
+long_name w = option_map_or (λ p. p.0) (long_of w) []
 
--- the name of the option `--set`
-abbrev pub is_set : Text → Bool
-is_set name = bytes_eq (codes "set") name
-
--- a text with `=` is what stands before the first, and it, and the rest
-before_split : (t : Text) → has_byte 61 t ≡ true → (v : Text) × (before_first (λ x. x == 61) t ++ 61 ∷ v ≡ t)
-before_split [] e = absurd (true≢false (sym e))
-before_split (x ∷ xs) e = go (x == 61) refl e (before_split xs)
-  where
-    go : (b : Bool) → (x == 61) ≡ b → (b || has_byte 61 xs) ≡ true → (has_byte 61 xs ≡ true → (v : Text) × (before_first (λ y. y == 61) xs ++ 61 ∷ v ≡ xs))
-        → (v : Text) × (before_first (λ y. y == 61) (x ∷ xs) ++ 61 ∷ v ≡ x ∷ xs)
-    go true t e rec = (xs, rw t (ap (λ y. y ∷ xs) (sym ((Decides-eqb x 61).0 t))))
-    go false t e rec =
-        let r = rec e in
-        (r.0, rw (t, take_one) (ap (λ ys. x ∷ ys) r.1))
-
-set_of_long : (a : ℕ) (cs : Text) → is_set (before_first (λ x. x == 61) (a ∷ cs)) ≡ true
-    → (codes "--set" ≡ 45 ∷ 45 ∷ a ∷ cs) ⊎ ((v : Text) × (codes "--set=" ++ v ≡ 45 ∷ 45 ∷ a ∷ cs))
-set_of_long a cs e = go (has_byte 61 (a ∷ cs)) refl
-  where
-    same : codes "set" ≡ before_first (λ x. x == 61) (a ∷ cs)
-    same = (bytes_eq-Decides (codes "set") (before_first (λ x. x == 61) (a ∷ cs))).0 e
-
-    go : (b : Bool) → has_byte 61 (a ∷ cs) ≡ b → (codes "--set" ≡ 45 ∷ 45 ∷ a ∷ cs) ⊎ ((v : Text) × (codes "--set=" ++ v ≡ 45 ∷ 45 ∷ a ∷ cs))
-    go false t = inl (ap (λ (w : Text). 45 ∷ 45 ∷ w) (same ∙ before_none (a ∷ cs) t))
-    go true t =
-        let r = before_split (a ∷ cs) t in
-        inr (r.0, ap (λ (w : Text). 45 ∷ 45 ∷ w) (ap (λ (w : Text). w ++ 61 ∷ r.0) same ∙ r.1))
-
--- the word is `--set`, or begins with `--set=`
-pub set_word : (w : Text) → View w → is_set (name_of w) ≡ true → (codes "--set" ≡ w) ⊎ ((v : Text) × (codes "--set=" ++ v ≡ w))
-set_word _ empty e = absurd (true≢false (sym e))
-set_word _ (letter x rest t) e = absurd (true≢false (sym e ∙ ap (λ (o : Option (Text × Option Text)). is_set (option_map_or (λ p. p.0) o [])) (long_letter x rest t)))
-set_word _ hyphen e = absurd (true≢false (sym e))
-set_word _ dashes e = absurd (true≢false (sym e))
-set_word _ (long a cs) e = set_of_long a cs e
-set_word _ (short y ys t) e = absurd (true≢false (sym e ∙ ap (λ (o : Option (Text × Option Text)). is_set (option_map_or (λ p. p.0) o [])) (long_short y ys t)))
-
--- the text of a word that begins with `--set=`
-pub set_in_given : (v : Text) → set_in (codes "--set=" ++ v) ≡ Some v
-set_in_given v = refl
-
-pub set_in_is : (w v : Text) → set_in w ≡ Some v → codes "--set=" ++ v ≡ w
-set_in_is w v e = go (bytes_eq (codes "--set=") (take 6 w)) refl e
-  where
-    go : (b : Bool) → bytes_eq (codes "--set=") (take 6 w) ≡ b → cond b (Some (drop 6 w)) None ≡ Some v → codes "--set=" ++ v ≡ w
-    go true t h =
-        let same : codes "--set=" ≡ take 6 w = (bytes_eq-Decides (codes "--set=") (take 6 w)).0 t in
-        let rest : drop 6 w ≡ v = ap (λ (o : Option Text). unwrap_or o []) h in
-        ap (λ (x : Text). x ++ v) same ∙ ap (λ (x : Text). take 6 w ++ x) (sym rest) ∙ take-append-drop 6 w
-    go false t h = absurd (true≢false (sym (ap is_some h)))
+-- what follows the hyphens of a word with two is what `clap` splits at the first `=`
+pub long_split : (c : ℕ) (cs : Text) → long_of (45 ∷ 45 ∷ c ∷ cs) ≡ Some (name_in (c ∷ cs), text_in (c ∷ cs))
+long_split c cs = refl

@@ -1,216 +1,357 @@
--- The lines that ask for something, and what `clap` finds in them.
-use Rattle.std.proofs.Common.{◌≡◌, ◌∙◌, ◌⊎◌, ℕ, Bool, not, is_some, inl, inr, refl, sym, ap, subst, cond, codes, true, false, [], ◌∷◌, ◌++◌, List, Option, Some, None, true≢false}
-use Rattle.std.specs.Str.{bytes_eq}
+-- The lines that ask for something are just those that the words' meaning says.
+use Rattle.std.proofs.Common.{◌≡◌, ◌∙◌, ◌+◌, ℕ, Bool, arith, suc, drop, refl, sym, ap, subst, cond, codes, inl, inr, true, false, [], ◌∷◌, ◌++◌, List, Option, Some, None, append_assoc, append-nil, true≢false}
+use Rattle.std.specs.Prelude.{find, fold, is_some, option_map, ◌||◌, ◌&&◌, ◌==◌, unwrap_or}
 use Rattle.std.specs.Option.{option_map_or}
+use Rattle.std.specs.List.{after_first, before_first}
+use Rattle.std.specs.Str.{bytes_eq}
 use Rattle.std.proofs.lemmas.Slice.Eq.{bytes_eq-Decides}
-use Rattle.clap.specs.Words.{Row, subcommand_of}
-use Rattle.dob_cli.specs.Words.{IsCountLine, IsValueLine, Meaning, Text, count, help, is_dashes, is_help_flag, is_text, meaning_of, meaning_of_bare, meaning_of_count, meaning_of_rest, meaning_of_set, meaning_of_value, set_in, topic, usage, value}
-use Rattle.dob_cli.specs.Shapes.{dobutsu_app, found_in}
-use Rattle.dob_cli.proofs.Lexing.{hyphen_first, set_in_is}
-use Rattle.dob_cli.proofs.Turns.{Fits}
-use Rattle.dob_cli.proofs.ValueWords.{position_in, text_found, text_found_bare, text_found_before}
-use Rattle.dob_cli.proofs.CountWords.{one_found, one_found_before, set_given_in, two_found, two_found_before}
-use Rattle.dob_cli.proofs.AllWords.{count_entered, value_entered}
+use Rattle.std.proofs.lemmas.Bool.Decides.{Decides-eqb}
+use Rattle.clap.specs.Lexer.{has_byte}
+use Rattle.dob_cli.specs.Forms.{Form, Text, count_form, forms, labels, value_form}
+use Rattle.dob_cli.specs.Words.{Given, Meaning, Stand, after_dashes, after_part, after_word, asked, asks, at_end, behind, between, call, dashes, ended, help, is_dashes, is_help_flag, is_text, label_of, meaning_of, meaning_of_form, meaning_of_other, name_in, option, option_part, part_of, placed, text, text_of, texts_of, topic, unknown, usage, valued, version, wants}
+use Rattle.dob_cli.specs.Lines.{AreNew, Behind, Gives, IsAmong, IsLine, by_dashes, by_option, by_place, by_value, next, none, nothing}
+use Rattle.dob_cli.specs.Readings.{ComesFromLine, IsReadingOf, SomeLine, texts_of_order}
+use Rattle.dob_cli.specs.declared.command.Reading.{Reading}
+use Rattle.dob_cli.specs.declared.command.Reading.TheVariants as reading
+use Rattle.dob_cli.proofs.Lexing.{hyphen_first, before_none, take_one}
+use Rattle.dob_cli.proofs.Texts.{Each}
+use Rattle.dob_cli.proofs.FormWords.{each_found}
 
-dashes_no_text : is_text (codes "--") ≡ false
-dashes_no_text = ap (λ (o : Option ℕ). not (is_some o)) (hyphen_first [])
+-- ---- options' words
 
--- ---- something is asked for only by such a line
+drop_more : (n x : ℕ) (xs : Text) → drop (1 + n + 1) (x ∷ xs) ≡ drop (n + 1) xs
+drop_more n x xs = let e : 1 + n + 1 ≡ suc (n + 1) = omega arith in rw e refl
 
--- no words, or `--` alone
-abbrev Ends : List Text → Type 0
-Ends rest = (rest ≡ []) ⊎ (rest ≡ codes "--" ∷ [])
-
--- what holds of help, of usage and, at an end, of what was asked holds of what the rest comes to
-by_rest : (P : Meaning → Type 0) (m : Meaning) (rest : List Text) → P help → P usage → (Ends rest → P m) → P (meaning_of_rest m rest)
-by_rest P m [] h u asked = asked (inl refl)
-by_rest P m (word ∷ []) h u asked = go (is_dashes word) (is_help_flag word) refl
+-- a text with `=` (61) is what stands before the first, and it, and what stands behind
+equals_split : (t : Text) → has_byte 61 t ≡ true → before_first (λ x. x == 61) t ++ 61 ∷ after_first (λ x. x == 61) t ≡ t
+equals_split [] e = absurd (true≢false (sym e))
+equals_split (x ∷ xs) e = go (x == 61) refl e (equals_split xs)
   where
-    go : (a b : Bool) → is_dashes word ≡ a → P (cond a m (cond b help usage))
-    go true b e = asked (inr (ap (λ w. w ∷ []) (sym ((bytes_eq-Decides (codes "--") word).0 e))))
-    go false true e = h
-    go false false e = u
-by_rest P m (word ∷ v ∷ more) h u asked = go (is_help_flag word)
+    go : (b : Bool) → (x == 61) ≡ b → (b || has_byte 61 xs) ≡ true → (has_byte 61 xs ≡ true → before_first (λ y. y == 61) xs ++ 61 ∷ after_first (λ y. y == 61) xs ≡ xs)
+        → before_first (λ y. y == 61) (x ∷ xs) ++ 61 ∷ after_first (λ y. y == 61) (x ∷ xs) ≡ x ∷ xs
+    go true t e rec = rw t (ap (λ y. y ∷ xs) (sym ((Decides-eqb x 61).0 t)))
+    go false t e rec = rw (t, take_one, drop_more) (ap (λ ys. x ∷ ys) (rec e))
+
+dashes_of : (word rest : Text) → after_dashes word ≡ Some rest → codes "--" ++ rest ≡ word
+dashes_of [] rest e = absurd (true≢false (sym (ap is_some e)))
+dashes_of (a ∷ []) rest e = absurd (true≢false (sym (ap is_some e)))
+dashes_of (a ∷ b ∷ more) rest e = go (a == 45) (b == 45) refl refl e
   where
-    go : (b : Bool) → P (cond b help usage)
-    go true = h
-    go false = u
+    go : (x y : Bool) → (a == 45) ≡ x → (b == 45) ≡ y → cond (x && y) (Some more) None ≡ Some rest → codes "--" ++ rest ≡ a ∷ b ∷ more
+    go false y p q e = absurd (true≢false (sym (ap is_some e)))
+    go true false p q e = absurd (true≢false (sym (ap is_some e)))
+    go true true p q e = rw ((Decides-eqb a 45).0 p, (Decides-eqb b 45).0 q) (ap (λ (o : Option Text). 45 ∷ 45 ∷ unwrap_or o []) (sym e))
 
-by_help : (P : Meaning → Type 0) (b : Bool) → P help → P usage → P (cond b help usage)
-by_help P true h u = h
-by_help P false h u = u
+abbrev asked_name : Meaning → Text
+asked_name (asks name texts) = name
+asked_name _ = []
 
--- the words after `value`
-abbrev IsValueRest : List Text → Text → Type 0
-IsValueRest rest t = ((rest ≡ t ∷ []) × (is_text t ≡ true)) ⊎ ((rest ≡ codes "--" ∷ t ∷ []) ⊎ ((rest ≡ t ∷ codes "--" ∷ []) × (is_text t ≡ true)))
+abbrev asked_texts : Meaning → List Text
+asked_texts (asks name texts) = texts
+asked_texts _ = []
 
-abbrev ValueRest : List Text → Meaning → Type 0
-ValueRest rest (value t) = IsValueRest rest t
-ValueRest rest (count t) = ⊥
-ValueRest rest _ = Unit {0}
-
-value_ended : (t : Text) (rest : List Text) → is_text t ≡ true → Ends rest → IsValueRest (t ∷ rest) t
-value_ended t rest text (inl e) = inl (ap (λ r. t ∷ r) e, text)
-value_ended t rest text (inr e) = inr (inr (ap (λ r. t ∷ r) e, text))
-
-bare_rest : (rest : List Text) → ValueRest (codes "--" ∷ rest) (meaning_of_bare rest)
-bare_rest [] = tt
-bare_rest (t ∷ []) = inr (inl refl)
-bare_rest (t ∷ u ∷ more) = tt
-
-value_rest : (rest : List Text) → ValueRest rest (meaning_of_value rest)
-value_rest [] = tt
-value_rest (u ∷ more) = go (is_text u) (is_dashes u) refl refl
+found_passes : (p : Text × Text → Bool) (os : List (Text × Text)) (o : Text × Text) → find p os ≡ Some o → p o ≡ true
+found_passes p [] o e = absurd (true≢false (sym (ap is_some e)))
+found_passes p (x ∷ xs) o e = go (p x) refl e (found_passes p xs o)
   where
-    go : (a b : Bool) → is_text u ≡ a → is_dashes u ≡ b → ValueRest (u ∷ more) (cond a (meaning_of_rest (value u) more) (cond b (meaning_of_bare more) (cond (is_help_flag u) help usage)))
-    go true b text d = by_rest (ValueRest (u ∷ more)) (value u) more tt tt (value_ended u more text)
-    go false true text d = subst (λ w. ValueRest (w ∷ more) (meaning_of_bare more)) ((bytes_eq-Decides (codes "--") u).0 d) (bare_rest more)
-    go false false text d = by_help (ValueRest (u ∷ more)) (is_help_flag u) tt tt
+    go : (b : Bool) → p x ≡ b → cond b (Some x) (find p xs) ≡ Some o → (find p xs ≡ Some o → p o ≡ true) → p o ≡ true
+    go true t e rec = subst (λ (m : Option (Text × Text)). option_map_or p m true ≡ true) e t
+    go false t e rec = rec e
 
--- the words after `count`
-abbrev IsCountRest : List Text → Text → Type 0
-IsCountRest rest t =
-    ((rest ≡ codes "--set" ∷ t ∷ []) × (is_text t ≡ true))
-    ⊎ (((rest ≡ codes "--set" ∷ t ∷ codes "--" ∷ []) × (is_text t ≡ true))
-    ⊎ ((rest ≡ (codes "--set=" ++ t) ∷ []) ⊎ (rest ≡ (codes "--set=" ++ t) ∷ codes "--" ∷ [])))
+-- ---- what is asked for is given by the words
 
-abbrev CountRest : List Text → Meaning → Type 0
-CountRest rest (value t) = ⊥
-CountRest rest (count t) = IsCountRest rest t
-CountRest rest _ = Unit {0}
+module _ (f : Form) (name : Text) (texts : List Text) where
+  abbrev next_stand : Stand → Text → Stand
+  next_stand = after_word f.options
 
-two_ended : (t : Text) (rest : List Text) → is_text t ≡ true → Ends rest → IsCountRest (codes "--set" ∷ t ∷ rest) t
-two_ended t rest text (inl e) = inl (ap (λ r. codes "--set" ∷ t ∷ r) e, text)
-two_ended t rest text (inr e) = inr (inl (ap (λ r. codes "--set" ∷ t ∷ r) e, text))
+  -- these texts came after those before
+  abbrev Came : Given → Given → Type 0
+  Came before more = AreNew before more × (asked f (before ++ more) ≡ asks name texts)
 
-one_ended : (u t : Text) (rest : List Text) → codes "--set=" ++ t ≡ u → Ends rest → IsCountRest (u ∷ rest) t
-one_ended u t rest is (inl e) = inr (inr (inl (ap (λ r. u ∷ r) e ∙ ap (λ w. w ∷ []) (sym is))))
-one_ended u t rest is (inr e) = inr (inr (inr (ap (λ r. u ∷ r) e ∙ ap (λ w. w ∷ codes "--" ∷ []) (sym is))))
+  -- the words from here on give what is asked for
+  abbrev Told : Stand → List Text → Type 0
+  Told (between before left) words = (more : Given) × Gives f left words more × Came before more
+  Told (wants label before left) words =
+      (t : Text) × (rest : List Text) × (more : Given) × (words ≡ t ∷ rest) × (is_text t ≡ true) × Gives f left rest more × Came (before ++ (label, t) ∷ []) more
+  Told (behind before left) words = (more : Given) × Behind left words more × Came before more
+  Told (ended m) words = m ≡ asks name texts
 
-set_rest : (rest : List Text) → CountRest (codes "--set" ∷ rest) (meaning_of_set rest)
-set_rest [] = tt
-set_rest (t ∷ more) = go (is_text t) refl
+  Asks : Stand → List Text → Type 0
+  Asks stand words = at_end f (fold next_stand stand words) ≡ asks name texts
+
+  ended_told : (m : Meaning) (words : List Text) → at_end f (fold next_stand (ended m) words) ≡ asks name texts → m ≡ asks name texts
+  ended_told m [] e = e
+  ended_told m (word ∷ rest) e = ended_told m rest e
+
+  is_asked : Meaning → Bool
+  is_asked (asks n ts) = true
+  is_asked _ = false
+
+  not_usage : {X : Type 0} → usage ≡ asks name texts → X
+  unfolding is_asked
+  not_usage e = absurd (true≢false (sym (ap is_asked e)))
+
+  versions_ask : {X : Type 0} → version ≡ asks name texts → X
+  unfolding is_asked
+  versions_ask e = absurd (true≢false (sym (ap is_asked e)))
+
+  not_topic : {X : Type 0} → topic ≡ asks name texts → X
+  unfolding is_asked
+  not_topic e = absurd (true≢false (sym (ap is_asked e)))
+
+  not_help : {X : Type 0} → help ≡ asks name texts → X
+  unfolding is_asked
+  not_help e = absurd (true≢false (sym (ap is_asked e)))
+
+  came_more : (label t : Text) (before more : Given) → text_of label before ≡ None → Came (before ++ (label, t) ∷ []) more → Came before ((label, t) ∷ more)
+  came_more label t before more fresh came = ((fresh, came.0), ap (asked f) (sym (append_assoc before ((label, t) ∷ []) more)) ∙ came.1)
+
+  module _ (word : Text) (rest : List Text) (rec : (stand : Stand) → at_end f (fold next_stand stand rest) ≡ asks name texts → Told stand rest) where
+    -- what is asked for where this word led to this stand
+    abbrev Led : Stand → Type 0
+    Led stand = at_end f (fold next_stand stand rest) ≡ asks name texts
+
+    placed_told : (before : Given) (left : List Text) → is_text word ≡ true → Led (placed between before left word) → Told (between before left) (word ∷ rest)
+    placed_told before [] t e = not_usage (ended_told usage rest e)
+    placed_told before (label ∷ left) t e = go (text_of label before) refl e
+      where
+        go : (o : Option Text) → text_of label before ≡ o → Led (cond (is_some o) (ended usage) (between (before ++ (label, word) ∷ []) left)) → Told (between before (label ∷ left)) (word ∷ rest)
+        go (Some u) fresh e = not_usage (ended_told usage rest e)
+        go None fresh e =
+            let r : Told (between (before ++ (label, word) ∷ []) left) rest = rec (between (before ++ (label, word) ∷ []) left) e in
+            ((label, word) ∷ r.0, by_place label word left rest r.0 t r.1, came_more label word before r.0 fresh r.2)
+
+    behind_told : (before : Given) (left : List Text) → Led (placed behind before left word) → Told (behind before left) (word ∷ rest)
+    behind_told before [] e = not_usage (ended_told usage rest e)
+    behind_told before (label ∷ left) e = go (text_of label before) refl e
+      where
+        go : (o : Option Text) → text_of label before ≡ o → Led (cond (is_some o) (ended usage) (behind (before ++ (label, word) ∷ []) left)) → Told (behind before (label ∷ left)) (word ∷ rest)
+        go (Some u) fresh e = not_usage (ended_told usage rest e)
+        go None fresh e =
+            let r : Told (behind (before ++ (label, word) ∷ []) left) rest = rec (behind (before ++ (label, word) ∷ []) left) e in
+            ((label, word) ∷ r.0, next label word left rest r.0 r.1, came_more label word before r.0 fresh r.2)
+
+    wanted_told : (label : Text) (before : Given) (left : List Text) → Led (next_stand (wants label before left) word) → Told (wants label before left) (word ∷ rest)
+    wanted_told label before left e = go (is_text word) refl e
+      where
+        go : (b : Bool) → is_text word ≡ b → Led (cond b (between (before ++ (label, word) ∷ []) left) (ended usage)) → Told (wants label before left) (word ∷ rest)
+        go false t e = not_usage (ended_told usage rest e)
+        go true t e =
+            let r : Told (between (before ++ (label, word) ∷ []) left) rest = rec (between (before ++ (label, word) ∷ []) left) e in
+            (word, rest, r.0, refl, t, r.1, r.2)
+
+    option_told : (before : Given) (left : List Text) (r : Text) → codes "--" ++ r ≡ word → Led (after_part before left word (option_part f.options r)) → Told (between before left) (word ∷ rest)
+    option_told before left r is e = go (label_of f.options (name_in r)) (has_byte 61 r) refl refl e
+      where
+        behind_equals : Text
+        behind_equals = after_first (λ x. x == 61) r
+
+        with_option : (label : Text) → label_of f.options r ≡ Some label → (o : Option Text) → text_of label before ≡ o → Led (cond (is_some o) (ended usage) (wants label before left))
+            → Told (between before left) (word ∷ rest)
+        with_option label known (Some u) fresh e = not_usage (ended_told usage rest e)
+        with_option label known None fresh e =
+            let q : Told (wants label before left) rest = rec (wants label before left) e in (
+              (label, q.0) ∷ q.2,
+              subst (λ ws. Gives f left ws ((label, q.0) ∷ q.2)) (ap (λ ws. (codes "--" ++ r) ∷ ws) (sym q.3) ∙ ap (λ w. w ∷ rest) is)
+                  (by_option r label q.0 left q.1 q.2 known q.4 q.5),
+              came_more label q.0 before q.2 fresh q.6,
+            )
+
+        with_value : (label : Text) → label_of f.options (name_in r) ≡ Some label → name_in r ++ 61 ∷ behind_equals ≡ r → (o : Option Text) → text_of label before ≡ o
+            → Led (cond (is_some o) (ended usage) (between (before ++ (label, behind_equals) ∷ []) left)) → Told (between before left) (word ∷ rest)
+        with_value label known split (Some u) fresh e = not_usage (ended_told usage rest e)
+        with_value label known split None fresh e =
+            let q : Told (between (before ++ (label, behind_equals) ∷ []) left) rest = rec (between (before ++ (label, behind_equals) ∷ []) left) e in (
+              (label, behind_equals) ∷ q.0,
+              subst (λ w. Gives f left (w ∷ rest) ((label, behind_equals) ∷ q.0)) (ap (λ x. codes "--" ++ x) split ∙ is)
+                  (by_value (name_in r) label behind_equals left rest q.0 known q.1),
+              came_more label behind_equals before q.0 fresh q.2,
+            )
+
+        go : (o : Option Text) (b : Bool) → label_of f.options (name_in r) ≡ o → has_byte 61 r ≡ b
+            → Led (after_part before left word (option_map_or (λ label. option_map_or (valued label) (cond b (Some behind_equals) None) (option label)) o unknown)) → Told (between before left) (word ∷ rest)
+        go None b known h e = not_usage (ended_told usage rest e)
+        go (Some label) false known h e = with_option label (ap (label_of f.options) (sym (before_none r h)) ∙ known) (text_of label before) refl e
+        go (Some label) true known h e = with_value label known (equals_split r h) (text_of label before) refl e
+
+    hyphen_told : (before : Given) (left : List Text) (o : Option Text) → after_dashes word ≡ o
+        → Led (after_part before left word (option_map_or (option_part f.options) o unknown)) → Told (between before left) (word ∷ rest)
+    hyphen_told before left None is e = not_usage (ended_told usage rest e)
+    hyphen_told before left (Some r) is e = option_told before left r (dashes_of word r is) e
+
+    between_told : (before : Given) (left : List Text) → Led (next_stand (between before left) word) → Told (between before left) (word ∷ rest)
+    between_told before left e = go (is_text word) (is_dashes word) (is_help_flag word) refl refl e
+      where
+        go : (a b c : Bool) → is_text word ≡ a → is_dashes word ≡ b
+            → Led (after_part before left word (cond a text (cond b dashes (cond c call (option_map_or (option_part f.options) (after_dashes word) unknown))))) → Told (between before left) (word ∷ rest)
+        go true b c t d e = placed_told before left t e
+        go false true c t d e =
+            let r : Told (behind before left) rest = rec (behind before left) e in
+            (r.0, subst (λ w. Gives f left (w ∷ rest) r.0) ((bytes_eq-Decides (codes "--") word).0 d) (by_dashes left rest r.0 r.1), r.2)
+        go false false true t d e = not_help (ended_told help rest e)
+        go false false false t d e = hyphen_told before left (after_dashes word) refl e
+
+    step_told : (stand : Stand) → Led (next_stand stand word) → Told stand (word ∷ rest)
+    step_told (between before left) e = between_told before left e
+    step_told (wants label before left) e = wanted_told label before left e
+    step_told (behind before left) e = behind_told before left e
+    step_told (ended m) e = ended_told m rest e
+
+  told : (words : List Text) (stand : Stand) → at_end f (fold next_stand stand words) ≡ asks name texts → Told stand words
+  told [] (between before left) e = ([], nothing left, (tt, ap (asked f) (append-nil before) ∙ e))
+  told [] (wants label before left) e = not_usage e
+  told [] (behind before left) e = ([], none left, (tt, ap (asked f) (append-nil before) ∙ e))
+  told [] (ended m) e = e
+  told (word ∷ rest) stand e = step_told word rest (told rest) stand e
+
+-- ---- and what a line gives is asked for
+
+-- the options' words are read as such
+pub record IsSpelled (f : Form) : Type 0 where
+  pub by_name : Each (λ o. part_of f.options (codes "--" ++ o.0) ≡ option o.1) f.options
+  pub by_value : Each (λ o. (t : Text) → part_of f.options (codes "--" ++ o.0 ++ 61 ∷ t) ≡ valued o.1 t) f.options
+
+-- a word with two hyphens
+pub long_part : (options : List (Text × Text)) (c : ℕ) (cs : Text) → bytes_eq (codes "help") (c ∷ cs) ≡ false → part_of options (45 ∷ 45 ∷ c ∷ cs) ≡ option_part options (c ∷ cs)
+long_part options c cs differs = rw (hyphen_first (c ∷ cs), differs) refl
+
+dashes_part : (options : List (Text × Text)) → part_of options (codes "--") ≡ dashes
+dashes_part options = rw (hyphen_first []) refl
+
+module _ (f : Form) (is : IsSpelled f) where
+  abbrev after : Stand → Text → Stand
+  after = after_word f.options
+
+  -- an option is one of the form's
+  known_option : (name label : Text) → label_of f.options name ≡ Some label → (part_of f.options (codes "--" ++ name) ≡ option label) × ((t : Text) → part_of f.options (codes "--" ++ name ++ 61 ∷ t) ≡ valued label t)
+  known_option name label e = go (find (λ o. bytes_eq o.0 name) f.options) refl e
+    where
+      go : (m : Option (Text × Text)) → find (λ o. bytes_eq o.0 name) f.options ≡ m → option_map (λ o. o.1) m ≡ Some label
+          → (part_of f.options (codes "--" ++ name) ≡ option label) × ((t : Text) → part_of f.options (codes "--" ++ name ++ 61 ∷ t) ≡ valued label t)
+      go None found e = absurd (true≢false (sym (ap is_some e)))
+      go (Some o) found e =
+          let name_is : o.0 ≡ name = (bytes_eq-Decides o.0 name).0 (found_passes (λ x. bytes_eq x.0 name) f.options o found) in
+          let label_is : o.1 ≡ label = ap (λ (m : Option Text). unwrap_or m []) e in (
+            subst (λ n. part_of f.options (codes "--" ++ n) ≡ option label) name_is
+                (each_found (λ x. part_of f.options (codes "--" ++ x.0) ≡ option x.1) (λ x. bytes_eq x.0 name) f.options o is.by_name found ∙ ap option label_is),
+            λ t. subst (λ n. part_of f.options (codes "--" ++ n ++ 61 ∷ t) ≡ valued label t) name_is
+                (each_found (λ x. (u : Text) → part_of f.options (codes "--" ++ x.0 ++ 61 ∷ u) ≡ valued x.1 u) (λ x. bytes_eq x.0 name) f.options o is.by_value found t ∙ ap (λ l. valued l t) label_is),
+          )
+
+  behind_asked : (left words : List Text) (given before : Given) → Behind left words given → AreNew before given
+      → at_end f (fold after (behind before left) words) ≡ asked f (before ++ given)
+  behind_asked _ _ _ before (none left) new = ap (asked f) (sym (append-nil before))
+  behind_asked _ _ _ before (next label t left words given more) new =
+      rw new.0 (behind_asked left words given (before ++ (label, t) ∷ []) more new.1 ∙ ap (asked f) (append_assoc before ((label, t) ∷ []) given))
+
+  given_asked : (left words : List Text) (given before : Given) → Gives f left words given → AreNew before given
+      → at_end f (fold after (between before left) words) ≡ asked f (before ++ given)
+  given_asked _ _ _ before (nothing left) new = ap (asked f) (sym (append-nil before))
+  given_asked _ _ _ before (by_place label t left words given plain more) new =
+      rw (plain, new.0) (given_asked left words given (before ++ (label, t) ∷ []) more new.1 ∙ ap (asked f) (append_assoc before ((label, t) ∷ []) given))
+  given_asked _ _ _ before (by_option name label t left words given known plain more) new =
+      rw ((known_option name label known).0, new.0, plain)
+      (given_asked left words given (before ++ (label, t) ∷ []) more new.1 ∙ ap (asked f) (append_assoc before ((label, t) ∷ []) given))
+  given_asked _ _ _ before (by_value name label t left words given known more) new =
+      rw ((known_option name label known).1 t, new.0)
+      (given_asked left words given (before ++ (label, t) ∷ []) more new.1 ∙ ap (asked f) (append_assoc before ((label, t) ∷ []) given))
+  given_asked _ _ _ before (by_dashes left words given more) new = rw (dashes_part f.options) (behind_asked left words given before more new)
+
+  -- the words of a line ask for its texts
+  line_asked : (rest texts : List Text) (given : Given) → Gives f f.positions rest given → AreNew [] given → texts_of (labels f) given ≡ Some texts
+      → meaning_of_form f rest ≡ asks f.name texts
+  line_asked rest texts given gives new complete =
+      given_asked f.positions rest given [] gives new ∙ ap (λ o. option_map_or (asks f.name) o usage) complete
+
+-- ---- the program's forms
+
+pub value_spelled : IsSpelled value_form
+value_spelled = record { by_name = tt; by_value = tt }
+
+pub count_spelled : IsSpelled count_form
+count_spelled = record { by_name = (long_part count_form.options 115 (codes "et") refl, tt); by_value = (λ t. long_part count_form.options 115 (codes "et=" ++ t) refl, tt) }
+
+abbrev EachForm : (Form → Type 0) → List Form → Type 0
+EachForm P [] = Unit {0}
+EachForm P (f ∷ fs) = P f × (EachForm P fs)
+
+abbrev IsKnown : Form → Type 0
+IsKnown f = IsSpelled f × ((rest : List Text) → meaning_of (f.name ∷ rest) ≡ meaning_of_form f rest)
+
+all_known : EachForm IsKnown forms
+all_known = ((value_spelled, λ rest. refl), ((count_spelled, λ rest. refl), tt))
+
+among_known : (fs : List Form) (f : Form) → EachForm IsKnown fs → IsAmong f fs → IsKnown f
+among_known [] f each among = absurd among
+among_known (g ∷ fs) f each (inl e) = subst IsKnown (sym e) each.0
+among_known (g ∷ fs) f each (inr more) = among_known fs f each.1 more
+
+-- a line asks for its texts
+pub line_means : (f : Form) (words texts : List Text) → IsAmong f forms → IsLine f words texts → meaning_of words ≡ asks f.name texts
+line_means f words texts among line =
+    let known : IsKnown f = among_known forms f all_known among in
+    ap meaning_of line.named ∙ (known.1 line.rest ∙ line_asked f known.0 line.rest texts line.given line.gives line.new line.complete)
+
+-- and where something is asked for, the words are a line of it
+
+form_line : (f : Form) (rest : List Text) (name : Text) (texts : List Text) → meaning_of_form f rest ≡ asks name texts → (f.name ≡ name) × IsLine f (f.name ∷ rest) texts
+form_line f rest name texts e =
+    let r : Told f name texts (between [] f.positions) rest = told f name texts rest (between [] f.positions) e in
+    let p = texts_asked (texts_of (labels f) r.0) r.2.1 in
+    (p.0, record { rest = rest; given = r.0; named = refl; gives = r.1; new = r.2.0; complete = p.1 })
   where
-    go : (a : Bool) → is_text t ≡ a → CountRest (codes "--set" ∷ t ∷ more) (cond a (meaning_of_rest (count t) more) usage)
-    go true text = by_rest (CountRest (codes "--set" ∷ t ∷ more)) (count t) more tt tt (two_ended t more text)
-    go false text = tt
+    texts_asked : (o : Option (List Text)) → option_map_or (asks f.name) o usage ≡ asks name texts → (f.name ≡ name) × (o ≡ Some texts)
+    texts_asked None e = not_usage f name texts e
+    texts_asked (Some ts) e = (ap asked_name e, ap (λ m. Some (asked_texts m)) e)
 
-count_rest : (rest : List Text) → CountRest rest (meaning_of_count rest)
-count_rest [] = tt
-count_rest (u ∷ more) = go (bytes_eq (codes "--set") u) (set_in u) refl refl
+pub line_of : (words : List Text) (name : Text) (texts : List Text) → meaning_of words ≡ asks name texts → SomeLine words name texts
+line_of [] name texts e = not_usage value_form name texts e
+line_of (word ∷ rest) name texts e = first (bytes_eq (codes "--version") word) e
   where
-    go : (a : Bool) (o : Option Text) → bytes_eq (codes "--set") u ≡ a → set_in u ≡ o
-        → CountRest (u ∷ more) (cond a (meaning_of_set more) (option_map_or (λ t. meaning_of_rest (count t) more) o (cond (is_help_flag u) help usage)))
-    go true o is e = subst (λ w. CountRest (w ∷ more) (meaning_of_set more)) ((bytes_eq-Decides (codes "--set") u).0 is) (set_rest more)
-    go false (Some t) is e = by_rest (CountRest (u ∷ more)) (count t) more tt tt (one_ended u t more (set_in_is u t e))
-    go false None is e = by_help (CountRest (u ∷ more)) (is_help_flag u) tt tt
+    not_version : {X : Type 0} → version ≡ asks name texts → X
+    not_version h = versions_ask value_form name texts h
 
--- all the words
-abbrev pub Line : List Text → Meaning → Type 0
-Line words (value t) = IsValueLine words t
-Line words (count t) = IsCountLine words t
-Line words _ = Unit {0}
+    other : meaning_of_other word ≡ asks name texts → SomeLine (word ∷ rest) name texts
+    other e = by (bytes_eq (codes "help") word) (is_help_flag word) e
+      where
+        by : (a b : Bool) → cond a topic (cond b help usage) ≡ asks name texts → SomeLine (word ∷ rest) name texts
+        by true b e = not_topic value_form name texts e
+        by false true e = not_help value_form name texts e
+        by false false e = not_usage value_form name texts e
 
-value_line : (rest : List Text) (t : Text) → IsValueRest rest t → IsValueLine (codes "value" ∷ rest) t
-value_line rest t (inl h) = inl (ap (λ r. codes "value" ∷ r) h.0, h.1)
-value_line rest t (inr (inl h)) = inr (inl (ap (λ r. codes "value" ∷ r) h))
-value_line rest t (inr (inr h)) = inr (inr (ap (λ r. codes "value" ∷ r) h.0, h.1))
+    go : (fs : List Form) → ((f : Form) → IsAmong f fs → IsAmong f forms) → option_map_or (λ f. meaning_of_form f rest) (find (λ f. bytes_eq f.name word) fs) (meaning_of_other word) ≡ asks name texts
+        → SomeLine (word ∷ rest) name texts
+    go [] among e = other e
+    go (f ∷ fs) among e = by (bytes_eq f.name word) refl e (go fs (λ g h. among g (inr h)))
+      where
+        by : (b : Bool) → bytes_eq f.name word ≡ b → option_map_or (λ g. meaning_of_form g rest) (cond b (Some f) (find (λ g. bytes_eq g.name word) fs)) (meaning_of_other word) ≡ asks name texts
+            → (option_map_or (λ g. meaning_of_form g rest) (find (λ g. bytes_eq g.name word) fs) (meaning_of_other word) ≡ asks name texts → SomeLine (word ∷ rest) name texts) → SomeLine (word ∷ rest) name texts
+        by true is e later =
+            let l = form_line f rest name texts e in
+            (f, among f (inl refl), l.0, subst (λ w. IsLine f (w ∷ rest) texts) ((bytes_eq-Decides f.name word).0 is) l.1)
+        by false is e later = later e
 
-count_line : (rest : List Text) (t : Text) → IsCountRest rest t → IsCountLine (codes "count" ∷ rest) t
-count_line rest t (inl h) = inl (ap (λ r. codes "count" ∷ r) h.0, h.1)
-count_line rest t (inr (inl h)) = inr (inl (ap (λ r. codes "count" ∷ r) h.0, h.1))
-count_line rest t (inr (inr (inl h))) = inr (inr (inl (ap (λ r. codes "count" ∷ r) h)))
-count_line rest t (inr (inr (inr h))) = inr (inr (inr (ap (λ r. codes "count" ∷ r) h)))
+    first : (b : Bool) → cond b version (option_map_or (λ f. meaning_of_form f rest) (find (λ f. bytes_eq f.name word) forms) (meaning_of_other word)) ≡ asks name texts
+        → SomeLine (word ∷ rest) name texts
+    first true e = not_version e
+    first false e = go forms (λ f h. h) e
 
-value_line_of : (rest : List Text) (m : Meaning) → ValueRest rest m → Line (codes "value" ∷ rest) m
-value_line_of rest (value t) h = value_line rest t h
-value_line_of rest (count t) h = absurd h
-value_line_of rest help h = tt
-value_line_of rest topic h = tt
-value_line_of rest usage h = tt
-
-count_line_of : (rest : List Text) (m : Meaning) → CountRest rest m → Line (codes "count" ∷ rest) m
-count_line_of rest (value t) h = absurd h
-count_line_of rest (count t) h = count_line rest t h
-count_line_of rest help h = tt
-count_line_of rest topic h = tt
-count_line_of rest usage h = tt
-
--- the words are a line for what they ask for
-pub line_of : (words : List Text) → Line words (meaning_of words)
-line_of [] = tt
-line_of (word ∷ rest) = go (bytes_eq (codes "value") word) (bytes_eq (codes "count") word) (bytes_eq (codes "help") word) refl refl
+-- an order is read only where the words are a line of it
+pub order_from_line : (words : List Text) (r : Reading) → IsReadingOf (meaning_of words) r → ComesFromLine words r
+order_from_line words (reading.Order o) h = go (meaning_of words) refl h
   where
-    go : (a b d : Bool) → bytes_eq (codes "value") word ≡ a → bytes_eq (codes "count") word ≡ b
-        → Line (word ∷ rest) (cond a (meaning_of_value rest) (cond b (meaning_of_count rest) (cond d topic (cond (is_help_flag word) help usage))))
-    go true b d v c = subst (λ w. Line (w ∷ rest) (meaning_of_value rest)) ((bytes_eq-Decides (codes "value") word).0 v) (value_line_of rest (meaning_of_value rest) (value_rest rest))
-    go false true d v c = subst (λ w. Line (w ∷ rest) (meaning_of_count rest)) ((bytes_eq-Decides (codes "count") word).0 c) (count_line_of rest (meaning_of_count rest) (count_rest rest))
-    go false false true v c = tt
-    go false false false v c = by_help (Line (word ∷ rest)) (is_help_flag word) tt tt
+    go : (m : Meaning) → meaning_of words ≡ m → IsReadingOf m (reading.Order o) → ComesFromLine words (reading.Order o)
+    go (asks name texts) e h =
+        subst (λ n. SomeLine words n (texts_of_order o)) (sym h.0) (subst (λ ts. SomeLine words name ts) (sym h.1) (line_of words name texts e))
+    go help e h = absurd h
+    go topic e h = absurd h
+    go usage e h = absurd h
+    go version e h = absurd h
+order_from_line words reading.Version h = tt
+order_from_line words (reading.Help s) h = tt
+order_from_line words (reading.Usage s) h = tt
 
--- ---- and each such line asks for it
-
-pub line_means : (words : List Text) (t : Text) → IsValueLine words t → meaning_of words ≡ value t
-line_means words t (inl h) = ap meaning_of h.0 ∙ rw h.1 refl
-line_means words t (inr (inl h)) = ap meaning_of h ∙ rw dashes_no_text refl
-line_means words t (inr (inr h)) = ap meaning_of h.0 ∙ rw h.1 refl
-
-pub count_line_means : (words : List Text) (t : Text) → IsCountLine words t → meaning_of words ≡ count t
-count_line_means words t (inl h) = ap meaning_of h.0 ∙ rw h.1 refl
-count_line_means words t (inr (inl h)) = ap meaning_of h.0 ∙ rw h.1 refl
-count_line_means words t (inr (inr (inl h))) = ap meaning_of h
-count_line_means words t (inr (inr (inr h))) = ap meaning_of h
-
--- ---- what is found in it
-
--- the subcommand that was met, with its text, goes with what the words ask for
-abbrev pub FoundFor : Option (Text × List Row) → Meaning → Type 0
-FoundFor sub (value t) = found_in (codes "POSITION") sub ≡ Some (codes "value", Some t)
-FoundFor sub (count t) = found_in (codes "CEG") sub ≡ Some (codes "count", Some t)
-FoundFor sub _ = Unit {0}
-
-value_found : (rest : List Text) (t : Text) → IsValueRest rest t → position_in rest ≡ Some t
-value_found rest t (inl h) = ap position_in h.0 ∙ text_found t h.1
-value_found rest t (inr (inl h)) = ap position_in h ∙ text_found_bare t
-value_found rest t (inr (inr h)) = ap position_in h.0 ∙ text_found_before t h.1
-
-count_found : (rest : List Text) (t : Text) → IsCountRest rest t → set_given_in rest ≡ Some t
-count_found rest t (inl h) = ap set_given_in h.0 ∙ two_found t h.1
-count_found rest t (inr (inl h)) = ap set_given_in h.0 ∙ two_found_before t h.1
-count_found rest t (inr (inr (inl h))) = ap set_given_in h ∙ one_found t
-count_found rest t (inr (inr (inr h))) = ap set_given_in h ∙ one_found_before t
-
-value_found_for : (rest : List Text) (m : Meaning) → ValueRest rest m → FoundFor (subcommand_of dobutsu_app (codes "value" ∷ rest)) m
-value_found_for rest (value t) h = ap (found_in (codes "POSITION")) (value_entered rest) ∙ ap (λ o. Some (codes "value", o)) (value_found rest t h)
-value_found_for rest (count t) h = absurd h
-value_found_for rest help h = tt
-value_found_for rest topic h = tt
-value_found_for rest usage h = tt
-
-count_found_for : (rest : List Text) (m : Meaning) → CountRest rest m → FoundFor (subcommand_of dobutsu_app (codes "count" ∷ rest)) m
-count_found_for rest (value t) h = absurd h
-count_found_for rest (count t) h = ap (found_in (codes "CEG")) (count_entered rest) ∙ ap (λ o. Some (codes "count", o)) (count_found rest t h)
-count_found_for rest help h = tt
-count_found_for rest topic h = tt
-count_found_for rest usage h = tt
-
-pub found_line : (words : List Text) → FoundFor (subcommand_of dobutsu_app words) (meaning_of words)
-found_line [] = tt
-found_line (word ∷ rest) = go (bytes_eq (codes "value") word) (bytes_eq (codes "count") word) (bytes_eq (codes "help") word) refl refl
-  where
-    go : (a b d : Bool) → bytes_eq (codes "value") word ≡ a → bytes_eq (codes "count") word ≡ b
-        → FoundFor (subcommand_of dobutsu_app (word ∷ rest)) (cond a (meaning_of_value rest) (cond b (meaning_of_count rest) (cond d topic (cond (is_help_flag word) help usage))))
-    go true b d v c = subst (λ w. FoundFor (subcommand_of dobutsu_app (w ∷ rest)) (meaning_of_value rest)) ((bytes_eq-Decides (codes "value") word).0 v)
-        (value_found_for rest (meaning_of_value rest) (value_rest rest))
-    go false true d v c = subst (λ w. FoundFor (subcommand_of dobutsu_app (w ∷ rest)) (meaning_of_count rest)) ((bytes_eq-Decides (codes "count") word).0 c)
-        (count_found_for rest (meaning_of_count rest) (count_rest rest))
-    go false false true v c = tt
-    go false false false v c = by_help (FoundFor (subcommand_of dobutsu_app (word ∷ rest))) (is_help_flag word) tt tt
-
--- where no kind of error comes, a text is asked for
-pub asked_text : (m : Meaning) → Fits m [] → ((t : Text) × (m ≡ value t)) ⊎ ((t : Text) × (m ≡ count t))
-asked_text (value t) e = inl (t, refl)
-asked_text (count t) e = inr (t, refl)
-asked_text help e = cc
-asked_text topic e = cc
-asked_text usage e = absurd (true≢false (sym e))
+-- and at each line it is read
+pub reading_at_line : (words : List Text) (f : Form) (texts : List Text) (r : Reading) → IsAmong f forms → IsLine f words texts → IsReadingOf (meaning_of words) r
+    → IsReadingOf (asks f.name texts) r
+reading_at_line words f texts r among line h = subst (λ m. IsReadingOf m r) (line_means f words texts among line) h

@@ -1,6 +1,7 @@
 -- What the matches and the errors of the program's command come to.
-use Rattle.std.proofs.Common.{ap₂, ◌≡◌, ◌∙◌, ◌⊎◌, ◌||◌, Bool, not, inl, inr, subst, true, false, sym, ap, refl, codes, List, Option, Some, None, [], ◌∷◌, is_some, true≢false}
-use Rattle.std.specs.Prelude.{option_map, unwrap_or}
+use Rattle.std.proofs.Common.{map, ap₂, ◌≡◌, ◌∙◌, ◌⊎◌, ◌||◌, Bool, not, inl, inr, subst, true, false, sym, ap, refl, List, Option, Some, [], ◌∷◌, is_some, true≢false}
+use Rattle.std.specs.Prelude.{option_map, slice_get, unwrap_or}
+use Rattle.std.specs.List.{list_all}
 use Rattle.std.specs.Borrow.{Bor}
 use Rattle.clap.specs.Words.{AddsSubcommand, App, HasKind, IsAmong, Kinds, Row, fault_of, first_of, first_value, found_of, is_simple, is_simple_and_free, kind_of, rows_of, subcommand_of, subcommand_rows_of, with_subcommand}
 use Rattle.clap.specs.declared.builder.Command.{Command}
@@ -9,64 +10,106 @@ use Rattle.clap.specs.declared.error.ErrorKind.{ErrorKind}
 use Rattle.clap.specs.declared.error.ErrorKind.TheVariants as kind
 use Rattle.clap.specs.declared.parser.ArgMatches.{ArgMatches}
 use Rattle.clap.proofs.WalkLemmas.{both, first_value-rows}
-use Rattle.dob_cli.specs.Words.{IsCountLine, IsValueLine, Meaning, Text, count, help, meaning_of, topic, usage, value}
-use Rattle.dob_cli.specs.Shapes.{HasShape, dobutsu_app, found_in}
-use Rattle.dob_cli.specs.Readings.{ComesFromLine, IsCountOrder, IsReadingOf, IsReadingOfKind, IsValueOrder}
+use Rattle.dob_cli.specs.Forms.{Form, Text, forms}
+use Rattle.dob_cli.specs.Words.{Meaning, asks, help, is_version, meaning_of, meaning_of_command, topic, usage, version}
+use Rattle.dob_cli.specs.Shapes.{Finds, HasShape, dobutsu_app}
+use Rattle.dob_cli.specs.Readings.{IsOrder, IsReadingOf, IsReadingOfKind}
 use Rattle.dob_cli.specs.declared.command.Order.{Order}
-use Rattle.dob_cli.specs.declared.command.Order.TheVariants as order
 use Rattle.dob_cli.specs.declared.command.Reading.{Reading}
 use Rattle.dob_cli.specs.declared.command.Reading.TheVariants as reading
-use Rattle.dob_cli.proofs.Turns.{Fits, is_help_kind, is_usage, no_help_kind}
-use Rattle.dob_cli.proofs.AllWords.{words_fit}
-use Rattle.dob_cli.proofs.Lines.{FoundFor, Line, asked_text, count_line_means, found_line, line_means, line_of}
+use Rattle.dob_cli.proofs.Turns.{is_help_kind, is_usage, no_help_kind}
+use Rattle.dob_cli.proofs.AllWords.{Fits, IsMet, words_fit}
 
 -- a command with one more subcommand
 pub subcommand_shape : (old sub new : Command) (a b : App) → HasShape a old → HasShape b sub → AddsSubcommand old sub new → HasShape (with_subcommand a b.top) new
 subcommand_shape old sub new a b first second adds =
     (adds.shape second.1 ∙ ap₂ (λ (x y : App). with_subcommand x y.top) first.0 second.0, adds.globals ∙ ap₂ (λ (x y : Bool). x || y) first.1 second.1)
 
--- the subcommand's own matches have the text that was found
-pub text_of_matches : (id name : Text) (sub : Option (Text × List Row)) (inner : ArgMatches) (o : Option (Bor Text)) (t : Text)
-    → Some (rows_of (found_of inner)) ≡ option_map (λ p. p.1) sub → option_map (λ s. s.now) o ≡ first_value (found_of inner) id
-    → found_in id sub ≡ Some (name, Some t) → option_map (λ s. s.now) o ≡ Some t
-text_of_matches id name None inner o t rows got found = absurd (true≢false (ap is_some rows))
-text_of_matches id name (Some p) inner o t rows got found =
-    let same : rows_of (found_of inner) ≡ p.1 = ap (λ (x : Option (List Row)). unwrap_or x []) rows in
-    got ∙ (first_value-rows (found_of inner) id ∙ (ap (first_of id) same
-    ∙ ap (λ (x : Option (Text × Option Text)). (unwrap_or x ([], None)).1) found))
+-- the text that the subcommand's own matches have for a label is the one that was found
+pub text_in_matches : (label : Text) (f : Form) (texts : List Text) (met : Option (Text × List Row)) (found : Finds f texts met) (inner : ArgMatches) (o : Option (Bor Text))
+    → Some (rows_of (found_of inner)) ≡ option_map (λ p. p.1) met → option_map (λ s. s.now) o ≡ first_value (found_of inner) label
+    → first_of label found.0 ≡ option_map (λ s. s.now) o
+text_in_matches label f texts met found inner o kept got =
+    let same : rows_of (found_of inner) ≡ found.0 = ap (λ (x : Option (List Row)). unwrap_or x []) (kept ∙ ap (option_map (λ p. p.1)) found.1) in
+    sym (got ∙ (first_value-rows (found_of inner) label ∙ ap (first_of label) same))
+
+-- none of the texts that were found is missing
+pub none_missing : (os : List (Option Text)) (texts : List Text) → os ≡ map (λ t. Some t) texts → list_all is_some os ≡ false → ⊥
+none_missing os texts e missing = true≢false (sym (all texts) ∙ (ap (list_all is_some) (sym e) ∙ missing))
+  where
+    all : (ts : List Text) → list_all is_some (map (λ t. Some t) ts) ≡ true
+    all [] = refl
+    all (t ∷ ts) = all ts
+
+-- texts that are found are the texts
+pub found_texts : (ys texts : List Text) → map (λ t. Some t) ys ≡ map (λ t. Some t) texts → ys ≡ texts
+found_texts ys texts e = sym (back ys) ∙ (ap (map (λ (o : Option Text). unwrap_or o [])) e ∙ back texts)
+  where
+    back : (xs : List Text) → map (λ (o : Option Text). unwrap_or o []) (map (λ t. Some t) xs) ≡ xs
+    back [] = refl
+    back (x ∷ xs) = ap (λ zs. x ∷ zs) (back xs)
 
 -- what is asked for, and found in the matches
-abbrev pub IsAsked : List Text → Option (Text × List Row) → Type 0
-IsAsked words sub =
-    ((t : Text) × (meaning_of words ≡ value t) × (found_in (codes "POSITION") sub ≡ Some (codes "value", Some t)))
-    ⊎ ((t : Text) × (meaning_of words ≡ count t) × (found_in (codes "CEG") sub ≡ Some (codes "count", Some t)))
+pub record IsAsked (words : List Text) (met : Option (Text × List Row)) : Type 0 where
+  pub name : Text
+  pub texts : List Text
+  pub meant : meaning_of_command words ≡ asks name texts
+  pub found : IsMet forms name texts met
 
--- matches come only where something is asked for, and have its text
+no_kinds : (k : ErrorKind) (ks : Kinds) → [] ≡ k ∷ ks → ⊥
+no_kinds k ks e = true≢false (ap (λ (l : Kinds). elim l as (λ _. Bool) [ [] ↦ true | _ ∷ _ ↦ false ]) e)
+
+-- where no kind of error comes, something is asked for
+asked_for : (words : List Text) (m : Meaning) (met : Option (Text × List Row)) → meaning_of_command words ≡ m → Fits m [] met → IsAsked words met
+asked_for words (asks name texts) met e fits = record { name = name; texts = texts; meant = e; found = fits.1 }
+asked_for words help met e fits = absurd (no_kinds _ _ fits)
+asked_for words topic met e fits = absurd (no_kinds _ _ fits)
+asked_for words usage met e fits = absurd (true≢false (sym fits))
+asked_for words version met e fits = absurd fits
+
+-- matches come only where something is asked for, and have its texts
 pub asked_by_matches : (app : App) (words : List Text) (m : ArgMatches) {X : Type 0} → app ≡ dobutsu_app
     → (is_simple_and_free app ≡ true → fault_of app words ≡ []) → (is_simple app ≡ true → X × (subcommand_rows_of m ≡ subcommand_of app words))
     → IsAsked words (subcommand_rows_of m)
 asked_by_matches app words m is kinds matches =
     let clean : fault_of dobutsu_app words ≡ [] = ap (λ a. fault_of a words) (sym is) ∙ kinds (ap is_simple_and_free is) in
     let rows : subcommand_rows_of m ≡ subcommand_of dobutsu_app words = (matches (ap is_simple is)).1 ∙ ap (λ a. subcommand_of a words) is in
-    let found : FoundFor (subcommand_rows_of m) (meaning_of words) = subst (λ sub. FoundFor sub (meaning_of words)) (sym rows) (found_line words) in
-    elim (asked_text (meaning_of words) (subst (Fits (meaning_of words)) clean (words_fit words))) [
-      | inl asked ↦ inl (asked.0, asked.1, subst (FoundFor (subcommand_rows_of m)) asked.1 found)
-      | inr asked ↦ inr (asked.0, asked.1, subst (FoundFor (subcommand_rows_of m)) asked.1 found)
-    ]
+    let fits : Fits (meaning_of_command words) [] (subcommand_of dobutsu_app words) = subst (λ k. Fits (meaning_of_command words) k (subcommand_of dobutsu_app words)) clean (words_fit words) in
+    asked_for words (meaning_of_command words) (subcommand_rows_of m) refl (subst (Fits (meaning_of_command words) []) (sym rows) fits)
+
+-- what is known for each form
+abbrev pub EachForm : (Form → Type 0) → List Form → Type 0
+EachForm P [] = Unit {0}
+EachForm P (f ∷ fs) = P f × (EachForm P fs)
 
 -- so there is an order
-pub order_is_there : {X : Type 0} (words : List Text) (sub : Option (Text × List Row)) → IsAsked words sub
-    → ((t : Text) → found_in (codes "POSITION") sub ≡ Some (codes "value", Some t) → X)
-    → ((t : Text) → found_in (codes "CEG") sub ≡ Some (codes "count", Some t) → X) → X
-order_is_there words sub (inl a) by_value by_count = by_value a.0 a.2
-order_is_there words sub (inr a) by_value by_count = by_count a.0 a.2
+pub order_is_there : {X : Type 0} (words : List Text) (met : Option (Text × List Row)) → IsAsked words met
+    → EachForm (λ f. (texts : List Text) → Finds f texts met → X) forms → X
+order_is_there {X} words met is each = go forms each is.found
+  where
+    go : (fs : List Form) → EachForm (λ f. (texts : List Text) → Finds f texts met → X) fs → IsMet fs is.name is.texts met → X
+    go [] each found = absurd found
+    go (f ∷ fs) each (inl h) = each.0 is.texts h.1
+    go (f ∷ fs) each (inr h) = go fs each.1 h
 
 -- and it is what the words ask for
-pub order_is_meant : (words : List Text) (sub : Option (Text × List Row)) (o : Order) → IsAsked words sub
-    → ((t : Text) → found_in (codes "POSITION") sub ≡ Some (codes "value", Some t) → IsValueOrder t o)
-    → ((t : Text) → found_in (codes "CEG") sub ≡ Some (codes "count", Some t) → IsCountOrder t o) → IsReadingOf (meaning_of words) (reading.Order o)
-order_is_meant words sub o (inl a) by_value by_count = subst (λ m. IsReadingOf m (reading.Order o)) (sym a.1) (by_value a.0 a.2)
-order_is_meant words sub o (inr a) by_value by_count = subst (λ m. IsReadingOf m (reading.Order o)) (sym a.1) (by_count a.0 a.2)
+pub order_is_meant : (words : List Text) (met : Option (Text × List Row)) (o : Order) → IsAsked words met
+    → EachForm (λ f. (texts : List Text) → Finds f texts met → IsOrder f.name texts o) forms → IsReadingOf (meaning_of_command words) (reading.Order o)
+order_is_meant words met o is each = subst (λ m. IsReadingOf m (reading.Order o)) (sym is.meant) (go forms each is.found)
+  where
+    go : (fs : List Form) → EachForm (λ f. (texts : List Text) → Finds f texts met → IsOrder f.name texts o) fs → IsMet fs is.name is.texts met → IsOrder is.name is.texts o
+    go [] each found = absurd found
+    go (f ∷ fs) each (inl h) = subst (λ n. IsOrder n is.texts o) h.0 (each.0 is.texts h.1)
+    go (f ∷ fs) each (inr h) = go fs each.1 h
+
+-- an order that was read is the one that the words ask for
+pub asked_order : (m : Meaning) (name : Text) (texts : List Text) (r : Reading) (o : Order) → r ≡ reading.Order o → m ≡ asks name texts → IsReadingOf m r → IsOrder name texts o
+asked_order m name texts r o is asked read =
+    subst (λ (r' : Reading). IsReadingOf (asks name texts) r') is (subst (λ (m' : Meaning). IsReadingOf m' r) asked read)
+
+-- the only text of a list
+pub first_text : (x y : Text) → x ∷ [] ≡ y ∷ [] → x ≡ y
+first_text x y e = ap (λ (ts : List Text). unwrap_or (slice_get ts 0) []) e
 
 -- ---- refusals
 
@@ -98,9 +141,11 @@ by_kind kind.OutOfMemory r h = absurd h
 by_kind kind.DisplayHelp (reading.Help s) h = inl tt
 by_kind kind.DisplayHelp (reading.Usage s) h = absurd h
 by_kind kind.DisplayHelp (reading.Order o) h = absurd h
+by_kind kind.DisplayHelp reading.Version h = absurd h
 by_kind k (reading.Usage s) h = inr (refl, tt)
 by_kind k (reading.Help s) h = absurd h
 by_kind k (reading.Order o) h = absurd h
+by_kind k reading.Version h = absurd h
 
 not_help : (k : ErrorKind) (r : Reading) → is_help_kind k ≡ false → IsReadingOfKind k r → IsUsage r
 not_help kind.OutOfMemory r e h = absurd h
@@ -108,63 +153,51 @@ not_help kind.DisplayHelp r e h = absurd (true≢false e)
 not_help k (reading.Usage s) e h = tt
 not_help k (reading.Help s) e h = absurd h
 not_help k (reading.Order o) e h = absurd h
+not_help k reading.Version e h = absurd h
 
 help_read : (r : Reading) → IsReadingOfKind kind.DisplayHelp r → IsReadingOf help r
 help_read (reading.Help s) h = tt
 help_read (reading.Usage s) h = absurd h
 help_read (reading.Order o) h = absurd h
+help_read reading.Version h = absurd h
 
 topic_read : (k : ErrorKind) (r : Reading) → IsReadingOfKind k r → IsReadingOf topic r
 topic_read k (reading.Help s) h = tt
 topic_read k (reading.Usage s) h = tt
 topic_read k (reading.Order o) h = elim (by_kind k (reading.Order o) h) [ inl x ↦ absurd x | inr x ↦ absurd x.1 ]
+topic_read k reading.Version h = elim (by_kind k reading.Version h) [ inl x ↦ absurd x | inr x ↦ absurd x.1 ]
 
 usage_read : (r : Reading) → IsUsage r → IsReadingOf usage r
 usage_read (reading.Usage s) h = tt
 usage_read (reading.Help s) h = absurd h
 usage_read (reading.Order o) h = absurd h
+usage_read reading.Version h = absurd h
 
 -- a refusal comes to what the words ask for
-pub refusal_is_meant : (m : Meaning) (kinds : Kinds) (k : ErrorKind) (r : Reading) → Fits m kinds → (k ≡ kind.OutOfMemory) ⊎ IsAmong k kinds
+pub refusal_is_meant : (m : Meaning) (kinds : Kinds) (met : Option (Text × List Row)) (k : ErrorKind) (r : Reading) → Fits m kinds met → (k ≡ kind.OutOfMemory) ⊎ IsAmong k kinds
     → IsReadingOfKind k r → IsReadingOf m r
-refusal_is_meant m kinds k r fits (inl e) h = absurd (subst (λ x. IsReadingOfKind x r) e h)
-refusal_is_meant (value t) kinds k r fits (inr among) h = absurd (subst (IsAmong k) fits among)
-refusal_is_meant (count t) kinds k r fits (inr among) h = absurd (subst (IsAmong k) fits among)
-refusal_is_meant help kinds k r fits (inr among) h = elim (subst (IsAmong k) fits among) [
+refusal_is_meant m kinds met k r fits (inl e) h = absurd (subst (λ x. IsReadingOfKind x r) e h)
+refusal_is_meant (asks name texts) kinds met k r fits (inr among) h = absurd (subst (IsAmong k) fits.0 among)
+refusal_is_meant help kinds met k r fits (inr among) h = elim (subst (IsAmong k) fits among) [
   | inl e ↦ help_read r (subst (λ x. IsReadingOfKind x r) e h)
   | inr none ↦ absurd none
 ]
-refusal_is_meant topic kinds k r fits (inr among) h = topic_read k r h
-refusal_is_meant usage kinds k r fits (inr among) h = usage_read r (not_help k r (usage_kind kinds k (usage_list kinds fits) among) h)
+refusal_is_meant topic kinds met k r fits (inr among) h = topic_read k r h
+refusal_is_meant version kinds met k r fits (inr among) h = absurd fits
+refusal_is_meant usage kinds met k r fits (inr among) h = usage_read r (not_help k r (usage_kind kinds k (usage_list kinds fits) among) h)
 
 -- the same of the words
 pub refusal_of_words : (app : App) (words : List Text) (e : Error) → app ≡ dobutsu_app → (is_simple_and_free app ≡ true → HasKind (fault_of app words) e)
-    → (r : Reading) → IsReadingOfKind (kind_of e) r → IsReadingOf (meaning_of words) r
+    → (r : Reading) → IsReadingOfKind (kind_of e) r → IsReadingOf (meaning_of_command words) r
 refusal_of_words app words e is kinds r h =
     let has : HasKind (fault_of dobutsu_app words) e = subst (λ a. HasKind (fault_of a words) e) is (kinds (ap is_simple_and_free is)) in
-    refusal_is_meant (meaning_of words) (fault_of dobutsu_app words) (kind_of e) r (words_fit words) has h
+    refusal_is_meant (meaning_of_command words) (fault_of dobutsu_app words) _ (kind_of e) r (words_fit words) has h
 
--- ---- lines that ask for something
+-- ---- words that ask for the version
 
--- what is read at such a line is an order for its text
-pub reading_at_line : (words : List Text) (t : Text) (r : Reading) → IsValueLine words t → IsReadingOf (meaning_of words) r → IsReadingOf (value t) r
-reading_at_line words t r line h = subst (λ m. IsReadingOf m r) (line_means words t line) h
+-- other words mean what the command makes of them
+pub command_meaning : (words : List Text) → is_version words ≡ false → meaning_of_command words ≡ meaning_of words
+command_meaning words e = rw e refl
 
-pub reading_at_count_line : (words : List Text) (t : Text) (r : Reading) → IsCountLine words t → IsReadingOf (meaning_of words) r → IsReadingOf (count t) r
-reading_at_count_line words t r line h = subst (λ m. IsReadingOf m r) (count_line_means words t line) h
-
--- an order is what only its own meaning is read as
-order_line : (words : List Text) (m : Meaning) (o : Order) → Line words m → IsReadingOf m (reading.Order o) → ComesFromLine words (reading.Order o)
-order_line words (value t) (order.Value s) line h = subst (IsValueLine words) (sym h) line
-order_line words (value t) (order.Count s) line h = absurd h
-order_line words (count t) (order.Value s) line h = absurd h
-order_line words (count t) (order.Count s) line h = subst (IsCountLine words) (sym h) line
-order_line words help o line h = absurd h
-order_line words topic o line h = absurd h
-order_line words usage o line h = absurd h
-
--- so an order is read only at such a line
-pub order_from_line : (words : List Text) (r : Reading) → IsReadingOf (meaning_of words) r → ComesFromLine words r
-order_from_line words (reading.Order o) h = order_line words (meaning_of words) o (line_of words) h
-order_from_line words (reading.Help s) h = tt
-order_from_line words (reading.Usage s) h = tt
+pub version_meaning : (words : List Text) → is_version words ≡ true → meaning_of words ≡ version
+version_meaning words e = rw e refl

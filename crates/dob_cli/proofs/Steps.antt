@@ -7,7 +7,7 @@ use Rattle.clap.specs.Kinds.{Kinds, or_else}
 use Rattle.clap.specs.Faults.{settle_fault, step_fault, turn_fault, word_fault}
 use Rattle.clap.specs.declared.error.kind.ErrorKind.TheVariants as kind
 use Rattle.dob_cli.specs.Words.{Text, is_help_flag, is_text}
-use Rattle.dob_cli.proofs.Lexing.{name_of, view, text_flag, text_differs, help_differs}
+use Rattle.dob_cli.proofs.Lexing.{long_name, view, text_flag, text_differs, help_differs}
 use Rattle.dob_cli.proofs.Turns.{KnowsHelp, held, help_word, is_usage, or_else_usage, other_word, text_passes, text_plain, word_fails}
 
 -- between two words, before any `--`
@@ -76,7 +76,7 @@ module _ (s : Shape) (names : Names) (rows : List Row) (pending : Option (Text �
 
   -- so does any other word that begins with a hyphen
   pub other_turn : (word : Text) (is_option : Text → Bool) → subcommand_met names idle word ≡ None → s.args_override_self ≡ false → KnowsHelp s.rules rows pending is_option
-      → is_option (name_of word) ≡ false → is_text word ≡ false → is_help_flag word ≡ false → bytes_eq word (codes "--") ≡ false → is_usage (turn_fault s names w word) ≡ true
+      → is_option (long_name word) ≡ false → is_text word ≡ false → is_help_flag word ≡ false → bytes_eq word (codes "--") ≡ false → is_usage (turn_fault s names w word) ≡ true
   other_turn word is_option none again knows own text asks differs =
       or_else_usage (word_fault s names false idle word (held rows pending)) _
       (rw (none, differs, again) (other_word s.rules rows pending is_option knows word (view word) own text asks differs))

@@ -6,7 +6,7 @@ use Rattle.std.specs.Option.{option_map_or}
 use Rattle.std.specs.List.{before_first}
 use Rattle.std.specs.Str.{bytes_eq, chars}
 use Rattle.std.proofs.lemmas.Slice.Eq.{bytes_eq-Decides}
-use Rattle.clap.specs.Words.{Rule, is_simple_and_free}
+use Rattle.clap.specs.Words.{Rule}
 use Rattle.clap.specs.Walk.{Held, Row, Waiting, attached_value, plain, plain_word, arg_by_long, arg_by_short, bundle_met, long_or_other, takes_values}
 use Rattle.clap.specs.Simple.{filled, help_rule}
 use Rattle.clap.specs.Lexer.{has_byte, long_of, name_and_value}
@@ -14,12 +14,8 @@ use Rattle.clap.specs.Kinds.{Kinds, or_else}
 use Rattle.clap.specs.Faults.{flag_word_fault, flags_fault, long_fault, option_fault, react_fault, settle_fault, short_fault}
 use Rattle.clap.specs.declared.error.kind.ErrorKind.{ErrorKind}
 use Rattle.clap.specs.declared.error.kind.ErrorKind.TheVariants as kind
-use Rattle.dob_cli.specs.Words.{Meaning, Text, count, flag_of, help, is_help_flag, is_text, topic, usage, value}
-use Rattle.dob_cli.specs.Shapes.{dobutsu_app}
-use Rattle.dob_cli.proofs.Lexing.{help_letter, help_hyphen, help_dashes, help_long, help_short, View, empty, letter, hyphen, dashes, long, short, hyphen_first, name_of, no_first, long_letter, short_letter, flag_letter, long_short, short_short, before_none}
-
-pub simple : is_simple_and_free dobutsu_app ≡ true
-simple = refl
+use Rattle.dob_cli.specs.Words.{Text, flag_of, is_help_flag, is_text}
+use Rattle.dob_cli.proofs.Lexing.{help_letter, help_hyphen, help_dashes, help_long, help_short, View, empty, letter, hyphen, dashes, long, short, hyphen_first, long_name, no_first, long_letter, short_letter, flag_letter, long_short, short_short, before_none}
 
 -- the help flag, built
 abbrev pub help_flag : Rule
@@ -96,14 +92,6 @@ pub or_else_usage : (a b : Kinds) → is_usage a ≡ true → is_usage (or_else 
 or_else_usage [] b e = absurd (true≢false (sym e))
 or_else_usage (k ∷ ks) b e = e
 
--- the kinds of error that go with what the words ask for
-abbrev pub Fits : Meaning → Kinds → Type 0
-Fits (value t) kinds = kinds ≡ []
-Fits (count t) kinds = kinds ≡ []
-Fits help kinds = kinds ≡ kind.DisplayHelp ∷ []
-Fits topic kinds = kinds ≡ kind.DisplayHelp ∷ kind.InvalidSubcommand ∷ []
-Fits usage kinds = is_usage kinds ≡ true
-
 module _ (c : List Rule) (rows : List Row) (pending : Option (Text × List Text)) (is_option : Text → Bool) (knows : KnowsHelp c rows pending is_option) where
   abbrev g : Held
   g = held rows pending
@@ -160,7 +148,7 @@ module _ (c : List Rule) (rows : List Row) (pending : Option (Text × List Text)
       go (Some x) is h = rw (long_short y ys t, short_short y ys t, bundle_help (length ys) (y ∷ ys) x is h) refl
 
   -- another word that begins with a hyphen is no flag of the command
-  pub other_word : (w : Text) → View w → is_option (name_of w) ≡ false → is_text w ≡ false → is_help_flag w ≡ false → bytes_eq w (codes "--") ≡ false → is_usage (fault w) ≡ true
+  pub other_word : (w : Text) → View w → is_option (long_name w) ≡ false → is_text w ≡ false → is_help_flag w ≡ false → bytes_eq w (codes "--") ≡ false → is_usage (fault w) ≡ true
   other_word _ empty own text e d = absurd (true≢false text)
   other_word _ (letter x rest t) own text e d = absurd (true≢false (sym (ap (λ (o : Option ℕ). not (is_some o)) (flag_letter x rest t)) ∙ text))
   other_word _ hyphen own text e d = absurd (true≢false (sym (ap (λ (o : Option ℕ). not (is_some o)) no_first) ∙ text))

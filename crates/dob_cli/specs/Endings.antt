@@ -1,50 +1,78 @@
 -- How the program ends: an exit status, and what it writes on standard output and standard error.
-use Rattle.std.specs.Prelude.{◌≡◌, ℕ, ◌≤◌, ◌⊎◌, List, Option, take, length}
-use Rattle.std.specs.Io.KnownBytes.{Appends, Keeps}
+use Rattle.std.specs.Prelude.{◌≡◌, ℕ, ◌⊎◌, List, [], ◌∷◌, ◌++◌, codes}
 use Rattle.dob_cli.specs.declared.fault.Fault.{Fault}
 use Rattle.dob_cli.specs.declared.fault.Fault.TheVariants.{Memory, Io}
 use Rattle.dob_cli.specs.Faults.{fault_line, status_of}
+use Rattle.dob_cli.specs.Streams.{Change, Puts, PutsPart, Says}
 
--- the bytes that a stream holds, where it tells them
-abbrev pub Bytes : Type 0
-Bytes = Option (List ℕ)
+-- an exit status, and what happened to standard output and standard error
+pub record Ending : Type 0 where
+  pub status : ℕ
+  pub out : Change
+  pub err : Change
 
--- a beginning of the bytes came in
-abbrev pub AppendsPart : Bytes → Bytes → List ℕ → Type 0
-AppendsPart old new bytes = (n : ℕ) × (n ≤ length bytes) × Appends old new (take n bytes)
+abbrev pub ended : ℕ → Change → Change → Ending
+ended status out err = record { status = status; out = out; err = err }
 
--- It told such lines: status 0, the lines on standard output and nothing else.
-pub record TellsLines (AreLines : List ℕ → Type 0) (status : ℕ) (out out' err err' : Bytes) : Type 0 where
-  pub lines : List ℕ
-  pub right : AreLines lines
-  pub done : status ≡ 0
-  pub told : Appends out out' lines
-  pub silent : Keeps err err'
+-- nothing happened to it
+abbrev pub IsUntouched : Change → Type 0
+IsUntouched c = c.after ≡ c.before
 
--- It told a fault that holds: the fault's status, and on standard error the fault's line, or a beginning of it where
--- standard error fails. Standard output has nothing of it, or a beginning of such lines where standard output failed.
-pub record TellsFault (AreLines : List ℕ → Type 0) (Holds : Fault → Type 0) (status : ℕ) (out out' err err' : Bytes) : Type 0 where
-  pub fault : Fault
-  pub holds : Holds fault
-  pub ended : status ≡ status_of fault
-  pub told : AppendsPart err err' (fault_line fault)
-  pub silent : Keeps out out' ⊎ ((lines : List ℕ) × AreLines lines × AppendsPart out out' lines)
-
--- what the program does where it owes such lines, or the line of a fault that holds
-abbrev pub Answers : (List ℕ → Type 0) → (Fault → Type 0) → ℕ → Bytes → Bytes → Bytes → Bytes → Type 0
-Answers AreLines Holds status out out' err err' =
-    TellsLines AreLines status out out' err err' ⊎ TellsFault AreLines Holds status out out' err err'
-
--- the fault's status, and its line on standard error as far as that takes it
-abbrev pub TellsFaultAs : Fault → ℕ → Bytes → Bytes → Type 0
-TellsFaultAs fault status err err' = (status ≡ status_of fault) × AppendsPart err err' (fault_line fault)
+-- the fault's status, and its line on standard error
+abbrev pub TellsFaultAs : Fault → ℕ → Change → Type 0
+TellsFaultAs fault status err = (status ≡ status_of fault) × Says err (fault_line fault)
 
 -- the fault, or that no memory was left for telling it
-abbrev pub TellsOneFault : Fault → ℕ → Bytes → Bytes → Type 0
-TellsOneFault fault status err err' = TellsFaultAs fault status err err' ⊎ TellsFaultAs Memory status err err'
+abbrev pub TellsOneFault : Fault → ℕ → Change → Type 0
+TellsOneFault fault status err = TellsFaultAs fault status err ⊎ TellsFaultAs Memory status err
 
--- The lines on standard output and status 0; or a beginning of them, and the fault of a failing output.
-abbrev pub Tells : List ℕ → ℕ → Bytes → Bytes → Bytes → Bytes → Type 0
-Tells lines status out out' err err' =
-    ((status ≡ 0) × Appends out out' lines × Keeps err err')
-    ⊎ (AppendsPart out out' lines × TellsOneFault Io status err err')
+-- it told such lines: status 0, the lines on standard output and nothing else
+pub record TellsLines (AreLines : List ℕ → Type 0) (e : Ending) : Type 0 where
+  pub lines : List ℕ
+  pub right : AreLines lines
+  pub done : e.status ≡ 0
+  pub told : Puts e.out lines
+  pub silent : IsUntouched e.err
+
+-- it told a fault that holds, and nothing on standard output
+pub record TellsFault (Holds : Fault → Type 0) (e : Ending) : Type 0 where
+  pub fault : Fault
+  pub holds : Holds fault
+  pub told : TellsFaultAs fault e.status e.err
+  pub silent : IsUntouched e.out
+
+-- standard output failed in such lines, after a beginning of them; it told that fault
+pub record FailsToTell (AreLines : List ℕ → Type 0) (e : Ending) : Type 0 where
+  pub lines : List ℕ
+  pub right : AreLines lines
+  pub part : PutsPart e.out lines
+  pub told : TellsOneFault Io e.status e.err
+
+-- what the program does where it owes such lines, or the line of a fault that holds
+abbrev pub Answers : (List ℕ → Type 0) → (Fault → Type 0) → Ending → Type 0
+Answers AreLines Holds e = TellsLines AreLines e ⊎ (TellsFault Holds e ⊎ FailsToTell AreLines e)
+
+-- the text on standard output and status 0; or a beginning of it, and the fault of a failing output
+abbrev pub Tells : List ℕ → Ending → Type 0
+Tells text e =
+    ((e.status ≡ 0) × Puts e.out text × IsUntouched e.err) ⊎ (PutsPart e.out text × TellsOneFault Io e.status e.err)
+
+-- that no memory was left, and nothing else
+abbrev pub TellsMemory : Ending → Type 0
+TellsMemory e = TellsFaultAs Memory e.status e.err × IsUntouched e.out
+
+-- what it does where help is asked for: a text on standard output, which tests compare
+abbrev pub AnswersHelp : Ending → Type 0
+AnswersHelp e = ((text : List ℕ) × Tells text e) ⊎ TellsMemory e
+
+-- the line of the version
+abbrev pub version_line : List ℕ
+version_line = codes "dobutsu 0.1.0" ++ 10 ∷ []
+
+-- what it does where its version is asked for
+abbrev pub AnswersVersion : Ending → Type 0
+AnswersVersion e = Tells version_line e ⊎ TellsMemory e
+
+-- what it does with words that it doesn't know: status 2 and a text on standard error
+abbrev pub AnswersUsage : Ending → Type 0
+AnswersUsage e = ((text : List ℕ) × (e.status ≡ 2) × Says e.err text × IsUntouched e.out) ⊎ TellsMemory e

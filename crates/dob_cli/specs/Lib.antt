@@ -1,7 +1,11 @@
+pub mod Forms
 pub mod Words
+pub mod Lines
 pub mod Shapes
 pub mod Readings
 pub mod Faults
+pub mod Streams
 pub mod Endings
 pub mod Program
 pub mod Sizes
+pub mod Runs

@@ -12,7 +12,7 @@ use Rattle.dob_value.specs.Values.{HasValue}
 use Rattle.dob_value.specs.Rosters.{SomeTooDeep, HasSamePieces}
 use Rattle.dob_cli.specs.declared.fault.Fault.{Fault}
 use Rattle.dob_cli.specs.declared.fault.Fault.TheVariants.{Text, SetText, SetTooLarge, TooDeep, Memory, Io}
-use Rattle.dob_cli.specs.Endings.{Bytes, Answers}
+use Rattle.dob_cli.specs.Endings.{Answers, Ending}
 
 -- the line that tells a value, with its line feed
 abbrev pub value_line : Value → List ℕ
@@ -35,16 +35,15 @@ IsValueLineOf text line = (value : Value) × IsValueOf text value × (line ≡ v
 abbrev pub HasManyPieces : Setup → Type 0
 HasManyPieces position = 3 < total hand.Chick position + total hand.Elephant position + total hand.Giraffe position
 
--- The fault is given only where it is one of the text's, or memory failed, or standard output did where the value
--- was to be told.
+-- The fault is given only where it is one of the text's, or memory failed.
 abbrev pub IsFaultOf : List ℕ → Fault → Type 0
 IsFaultOf text (Text fault) = HasFault text fault
 IsFaultOf text SetText = ⊥
 IsFaultOf text SetTooLarge = (position : Setup) × IsLegal position × Spells text position × HasManyPieces position
 IsFaultOf text TooDeep = (position : Setup) × IsLegal position × Spells text position × SomeTooDeep (HasSamePieces position)
 IsFaultOf text Memory = Unit {0}
-IsFaultOf text Io = (line : List ℕ) × IsValueLineOf text line
+IsFaultOf text Io = ⊥
 
 -- what the program does where it is asked for the value of the position that a text names
-abbrev pub AnswersValue : List ℕ → ℕ → Bytes → Bytes → Bytes → Bytes → Type 0
-AnswersValue text status out out' err err' = Answers (IsValueLineOf text) (IsFaultOf text) status out out' err err'
+abbrev pub AnswersValue : List ℕ → Ending → Type 0
+AnswersValue text = Answers (IsValueLineOf text) (IsFaultOf text)

@@ -1,37 +1,46 @@
 -- How what was read of the words goes with what they ask for.
-use Rattle.std.specs.Prelude.{◌≡◌, List}
+use Rattle.std.specs.Prelude.{◌≡◌, List, [], ◌∷◌, codes}
 use Rattle.clap.specs.declared.error.kind.ErrorKind.{ErrorKind}
 use Rattle.clap.specs.declared.error.kind.ErrorKind.TheVariants as kind
-use Rattle.dob_cli.specs.Words.{IsCountLine, IsValueLine, Meaning, Text, count, help, topic, usage, value}
+use Rattle.dob_cli.specs.Forms.{Form, Text, forms}
+use Rattle.dob_cli.specs.Lines.{IsAmong, IsLine}
+use Rattle.dob_cli.specs.Words.{Meaning, asks, help, topic, usage, version}
 use Rattle.dob_cli.specs.declared.command.Order.{Order}
 use Rattle.dob_cli.specs.declared.command.Order.TheVariants as order
 use Rattle.dob_cli.specs.declared.command.Reading.{Reading}
 use Rattle.dob_cli.specs.declared.command.Reading.TheVariants as reading
 
--- the order is for the value of this text
-abbrev pub IsValueOrder : Text → Order → Type 0
-IsValueOrder text (order.Value t) = t.now ≡ text
-IsValueOrder text (order.Count _) = ⊥
+-- the subcommand that the order is for
+abbrev pub name_of_order : Order → Text
+name_of_order (order.Value _) = codes "value"
+name_of_order (order.Count _) = codes "count"
 
--- the order is to count this set
-abbrev pub IsCountOrder : Text → Order → Type 0
-IsCountOrder text (order.Value _) = ⊥
-IsCountOrder text (order.Count t) = t.now ≡ text
+-- the texts that it has, in the order of the subcommand's form
+abbrev pub texts_of_order : Order → List Text
+texts_of_order (order.Value position) = position.now ∷ []
+texts_of_order (order.Count set) = set.now ∷ []
+
+-- the order is for this subcommand and these texts
+abbrev pub IsOrder : Text → List Text → Order → Type 0
+IsOrder name texts o = (name_of_order o ≡ name) × (texts_of_order o ≡ texts)
 
 -- what was read is what the words ask for
 abbrev pub IsReadingOf : Meaning → Reading → Type 0
-IsReadingOf (value text) (reading.Order o) = IsValueOrder text o
-IsReadingOf (count text) (reading.Order o) = IsCountOrder text o
+IsReadingOf (asks name texts) (reading.Order o) = IsOrder name texts o
 IsReadingOf help (reading.Help _) = Unit {0}
+IsReadingOf version reading.Version = Unit {0}
 IsReadingOf topic (reading.Help _) = Unit {0}
 IsReadingOf topic (reading.Usage _) = Unit {0}
 IsReadingOf usage (reading.Usage _) = Unit {0}
 IsReadingOf _ _ = ⊥
 
--- an order for a text is read only from a line that asks for it
+-- the words are a line for the subcommand of this name and these texts
+abbrev pub SomeLine : List Text → Text → List Text → Type 0
+SomeLine words name texts = (form : Form) × IsAmong form forms × (form.name ≡ name) × IsLine form words texts
+
+-- an order is read only from a line that asks for it
 abbrev pub ComesFromLine : List Text → Reading → Type 0
-ComesFromLine words (reading.Order (order.Value t)) = IsValueLine words t.now
-ComesFromLine words (reading.Order (order.Count t)) = IsCountLine words t.now
+ComesFromLine words (reading.Order o) = SomeLine words (name_of_order o) (texts_of_order o)
 ComesFromLine words _ = Unit {0}
 
 -- what a refusal of this kind is read as

@@ -1,28 +1,27 @@
 -- What `clap` reads of the program's commands.
-use Rattle.std.specs.Prelude.{◌≡◌, List, Option, Some, codes, option_map, false, true}
+use Rattle.std.specs.Prelude.{◌≡◌, ◌++◌, List, Option, Some, codes, false, fold, map, true}
 use Rattle.clap.specs.declared.builder.Command.{Command}
 use Rattle.clap.specs.declared.builder.Command.TheViews.{out-Command}
-use Rattle.clap.specs.Words.{App, Row, Rule, Text, app_of, first_of, new_app, new_rule, with_rule, with_subcommand}
+use Rattle.clap.specs.Words.{App, Row, Rule, app_of, first_of, new_app, new_rule, with_subcommand}
+use Rattle.dob_cli.specs.Forms.{Form, Text, forms, labels}
 
 -- the command is read so, and none of its arguments is one of each subcommand too
 abbrev pub HasShape : App → Command → Type 0
 HasShape app c = (app_of c ≡ app) × ((out-Command c).has_globals ≡ false)
 
--- the argument POSITION
-abbrev pub position_rule : Rule
-position_rule = record (new_rule (codes "POSITION")) { required = true }
+-- an option with its text, as `--set CEG`
+abbrev pub option_rule : Text × Text → Rule
+option_rule o = record (new_rule o.1) { long = Some o.0; required = true }
 
--- the subcommand `value`
-abbrev pub value_app : App
-value_app = with_rule (new_app (codes "value")) position_rule
+-- a text by its place, as POSITION
+abbrev pub position_rule : Text → Rule
+position_rule label = record (new_rule label) { required = true }
 
--- the option `--set CEG`
-abbrev pub set_rule : Rule
-set_rule = record (new_rule (codes "CEG")) { long = Some (codes "set"); required = true }
-
--- the subcommand `count`
-abbrev pub count_app : App
-count_app = with_rule (new_app (codes "count")) set_rule
+-- a subcommand of this form
+abbrev pub form_app : Form → App
+form_app form = record (new_app form.name) {
+  top = record (new_app form.name).top { rules = map option_rule form.options ++ map position_rule form.positions };
+}
 
 -- the program without its subcommands
 abbrev pub bare_app : App
@@ -32,8 +31,9 @@ bare_app = record (new_app (codes "dobutsu")) {
 
 -- the program
 abbrev pub dobutsu_app : App
-dobutsu_app = with_subcommand (with_subcommand bare_app value_app.top) count_app.top
+dobutsu_app = fold (λ app form. with_subcommand app (form_app form).top) bare_app forms
 
--- the name of the subcommand that was met, and the text that its argument of this name was given
-abbrev pub found_in : Text → Option (Text × List Row) → Option (Text × Option Text)
-found_in id = option_map (λ p. (p.0, first_of id p.1))
+-- the subcommand of this form was met, with these texts
+abbrev pub Finds : Form → List Text → Option (Text × List Row) → Type 0
+Finds form texts met =
+    (rows : List Row) × (met ≡ Some (form.name, rows)) × (map (λ label. first_of label rows) (labels form) ≡ map Some texts)

@@ -6,8 +6,8 @@ use Rattle.dob_pieces.specs.Sets.{set_text}
 use Rattle.dob_rank.specs.Order.{HasSize, HasClasses}
 use Rattle.dob_cli.specs.declared.counts.Counts.{Counts}
 use Rattle.dob_cli.specs.declared.fault.Fault.{Fault}
-use Rattle.dob_cli.specs.declared.fault.Fault.TheVariants.{SetText, SetTooLarge, Memory, Io}
-use Rattle.dob_cli.specs.Endings.{Bytes, Answers}
+use Rattle.dob_cli.specs.declared.fault.Fault.TheVariants.{SetText, SetTooLarge, Memory}
+use Rattle.dob_cli.specs.Endings.{Answers, Ending}
 
 -- how many pieces the set has besides the lions
 abbrev pub pieces : PieceSet → ℕ
@@ -41,15 +41,13 @@ IsFaultOfSet set SetTooLarge = 3 < pieces set
 IsFaultOfSet set Memory = Unit {0}
 IsFaultOfSet set _ = ⊥
 
--- The fault is given only where no set has the text, or its set is too large, or memory failed, or standard output
--- did where the numbers were to be told.
+-- the fault is given only where no set has the text, or its set is too large, or memory failed
 abbrev pub IsCountFaultOf : List ℕ → Fault → Type 0
 IsCountFaultOf text SetText = (set : PieceSet) → text ≢ set_text set
 IsCountFaultOf text SetTooLarge = (set : PieceSet) × (text ≡ set_text set) × (3 < pieces set)
 IsCountFaultOf text Memory = Unit {0}
-IsCountFaultOf text Io = (lines : List ℕ) × AreCountLinesOf text lines
 IsCountFaultOf text _ = ⊥
 
 -- what the program does where it is asked for the numbers of the piece set that a text names
-abbrev pub AnswersCount : List ℕ → ℕ → Bytes → Bytes → Bytes → Bytes → Type 0
-AnswersCount text status out out' err err' = Answers (AreCountLinesOf text) (IsCountFaultOf text) status out out' err err'
+abbrev pub AnswersCount : List ℕ → Ending → Type 0
+AnswersCount text = Answers (AreCountLinesOf text) (IsCountFaultOf text)

@@ -1,102 +1,194 @@
 -- What the words after the program's name ask for, without a word on how they are read. A word is
 -- the list of its bytes, which are UTF-8.
-use Rattle.std.specs.Prelude.{◌≡◌, ◌⊎◌, ◌==◌, ◌||◌, ℕ, Bool, true, false, not, List, [], ◌∷◌, ◌++◌, Option, None, Some, is_some}
-use Rattle.std.specs.Prelude.{if◌then◌else◌, codes, slice_get, take, drop}
+use Rattle.std.specs.Prelude.{◌==◌, ◌&&◌, ◌||◌, ℕ, Bool, false, not, List, [], ◌∷◌, ◌++◌, Option, None, Some, is_some}
+use Rattle.std.specs.Prelude.{if◌then◌else◌, codes, slice_get, find, fold, option_map, option_and_then}
+use Rattle.std.specs.List.{before_first, after_first, list_any}
 use Rattle.std.specs.Option.{option_map_or}
 use Rattle.std.specs.Str.{bytes_eq, chars}
+use Rattle.dob_cli.specs.Forms.{Form, forms, labels}
+pub use Rattle.dob_cli.specs.Forms.{Text}
 
-abbrev pub Text : Type 0
-Text = List ℕ
+-- ---- what one word is
 
--- the character after a word's leading `-` (45); a lone `-` has none
+abbrev pub hyphen : ℕ
+hyphen = 45
+
+abbrev pub equals_sign : ℕ
+equals_sign = 61
+
+abbrev pub line_feed : ℕ
+line_feed = 10
+
+abbrev pub letter_h : ℕ
+letter_h = 104
+
+-- the character after a word's leading hyphen; a lone hyphen has none
 abbrev pub flag_of : Text → Option ℕ
 flag_of [] = None
-flag_of (c ∷ rest) = if c == 45 then slice_get (chars rest) 0 else None
+flag_of (c ∷ rest) = if c == hyphen then slice_get (chars rest) 0 else None
 
--- the word is a text: it does not begin with `-`, or is a lone `-`
+-- the word is a text: it does not begin with a hyphen, or is a lone one
 abbrev pub is_text : Text → Bool
 is_text word = not (is_some (flag_of word))
 
 abbrev pub is_dashes : Text → Bool
 is_dashes word = bytes_eq (codes "--") word
 
--- the word is `--help`, `-h` or begins with `-h` (104)
+-- the word is `--help`, `-h` or begins with `-h`
 abbrev pub is_help_flag : Text → Bool
 is_help_flag word =
-    bytes_eq (codes "--help") word || option_map_or (λ c. 104 == c) (flag_of word) false
+    bytes_eq (codes "--help") word || option_map_or (λ c. letter_h == c) (flag_of word) false
 
--- what stands behind `--set=` in a word that begins so
-abbrev pub set_in : Text → Option Text
-set_in word = if bytes_eq (codes "--set=") (take 6 word) then Some (drop 6 word) else None
+-- the name in what follows `--`: all before the first `=`
+abbrev pub name_in : Text → Text
+name_in rest = before_first (λ c. c == equals_sign) rest
+
+-- the text in what follows `--`: all behind the first `=`
+abbrev pub text_in : Text → Option Text
+text_in rest =
+    if list_any (λ c. c == equals_sign) rest then Some (after_first (λ c. c == equals_sign) rest) else None
+
+-- what a word is to a subcommand that takes such options
+pub data Part : Type 0 where
+  -- a text
+  text : Part
+  -- `--`
+  dashes : Part
+  -- a call for help
+  call : Part
+  -- `--NAME` for the text of this name
+  option : Text → Part
+  -- `--NAME=TEXT`
+  valued : Text → Text → Part
+  -- an option that it does not know
+  unknown : Part
+
+-- the label of the option's text
+abbrev pub label_of : List (Text × Text) → Text → Option Text
+label_of options name = option_map (λ o. o.1) (find (λ o. bytes_eq o.0 name) options)
+
+-- an option's word, by what follows `--`
+abbrev pub option_part : List (Text × Text) → Text → Part
+option_part options rest =
+    option_map_or (λ label. option_map_or (valued label) (text_in rest) (option label)) (label_of options (name_in rest)) unknown
+
+-- what follows a word's `--`
+abbrev pub after_dashes : Text → Option Text
+after_dashes [] = None
+after_dashes (a ∷ []) = None
+after_dashes (a ∷ b ∷ rest) = if a == hyphen && b == hyphen then Some rest else None
+
+abbrev pub part_of : List (Text × Text) → Text → Part
+part_of options word =
+    if is_text word then text
+    else (if is_dashes word then dashes
+    else (if is_help_flag word then call
+    else option_map_or (option_part options) (after_dashes word) unknown))
+
+-- ---- what the words come to
 
 -- what the words ask for
 pub data Meaning : Type 0 where
-  -- the value of the position that the text names
-  value : Text → Meaning
-  -- the numbers of positions and classes of the piece set that the text names
-  count : Text → Meaning
+  -- what the subcommand of this name does with these texts
+  asks : Text → List Text → Meaning
   -- the help text
   help : Meaning
+  -- the program's version
+  version : Meaning
   -- the subcommand `help` and what follows it: a help text, or usage where nothing has that name
   topic : Meaning
   -- nothing that the program knows
   usage : Meaning
 
--- after all that is needed to ask for something: nothing more, but for a last `--` or a call for help
-abbrev pub meaning_of_rest : Meaning → List Text → Meaning
-meaning_of_rest asked [] = asked
-meaning_of_rest asked (word ∷ []) =
-    if is_dashes word then asked else (if is_help_flag word then help else usage)
-meaning_of_rest asked (word ∷ _) = if is_help_flag word then help else usage
+-- the texts given so far, each with its label
+abbrev pub Given : Type 0
+Given = List (Text × Text)
 
--- after `value --`: one word, whatever it begins with
-abbrev pub meaning_of_bare : List Text → Meaning
-meaning_of_bare (text ∷ []) = value text
-meaning_of_bare _ = usage
+abbrev pub text_of : Text → Given → Option Text
+text_of label given = option_map (λ g. g.1) (find (λ g. bytes_eq g.0 label) given)
 
--- after `value`
-abbrev pub meaning_of_value : List Text → Meaning
-meaning_of_value [] = usage
-meaning_of_value (word ∷ rest) =
-    if is_text word then meaning_of_rest (value word) rest
-    else (if is_dashes word then meaning_of_bare rest
-    else (if is_help_flag word then help else usage))
+-- the texts of these labels, where each is given
+abbrev pub texts_of : List Text → Given → Option (List Text)
+texts_of [] given = Some []
+texts_of (label ∷ more) given =
+    option_and_then (λ t. option_map (λ ts. t ∷ ts) (texts_of more given)) (text_of label given)
 
--- after `count --set`: a text, and no call for help in its place
-abbrev pub meaning_of_set : List Text → Meaning
-meaning_of_set [] = usage
-meaning_of_set (word ∷ rest) = if is_text word then meaning_of_rest (count word) rest else usage
+-- where the words of a subcommand stand after some of them: what is given, and the labels of the places that are left
+pub data Stand : Type 0 where
+  -- any part may follow
+  between : Given → List Text → Stand
+  -- the text of this label must follow
+  wants : Text → Given → List Text → Stand
+  -- after `--`: only texts may follow, and anything is one
+  behind : Given → List Text → Stand
+  -- whatever follows, this is what the words come to
+  ended : Meaning → Stand
 
--- after `count`: `--set` and a text, or both in one word by `=`, and then anything may stand behind the `=`
-abbrev pub meaning_of_count : List Text → Meaning
-meaning_of_count [] = usage
-meaning_of_count (word ∷ rest) =
-    if bytes_eq (codes "--set") word then meaning_of_set rest
-    else option_map_or (λ text. meaning_of_rest (count text) rest)
-    (set_in word) (if is_help_flag word then help else usage)
+-- no text is given twice
+abbrev pub once : Text → Given → Stand → Stand
+once label given stand = if is_some (text_of label given) then ended usage else stand
+
+-- the word is the text of the next place
+abbrev pub placed : (Given → List Text → Stand) → Given → List Text → Text → Stand
+placed stand given [] word = ended usage
+placed stand given (label ∷ left) word = once label given (stand (given ++ (label, word) ∷ []) left)
+
+abbrev pub after_part : Given → List Text → Text → Part → Stand
+after_part given left word text = placed between given left word
+after_part given left word dashes = behind given left
+after_part given left word call = ended help
+after_part given left word (option label) = once label given (wants label given left)
+after_part given left word (valued label t) = once label given (between (given ++ (label, t) ∷ []) left)
+after_part given left word unknown = ended usage
+
+-- after one more word
+abbrev pub after_word : List (Text × Text) → Stand → Text → Stand
+after_word options (between given left) word = after_part given left word (part_of options word)
+after_word options (wants label given left) word = if is_text word then between (given ++ (label, word) ∷ []) left else ended usage
+after_word options (behind given left) word = placed behind given left word
+after_word options (ended meaning) word = ended meaning
+
+-- what is asked for where these texts were given
+abbrev pub asked : Form → Given → Meaning
+asked form given = option_map_or (asks form.name) (texts_of (labels form) given) usage
+
+-- after the last word
+abbrev pub at_end : Form → Stand → Meaning
+at_end form (between given left) = asked form given
+at_end form (wants label given left) = usage
+at_end form (behind given left) = asked form given
+at_end form (ended meaning) = meaning
+
+-- of the words after a subcommand's name
+abbrev pub meaning_of_form : Form → List Text → Meaning
+meaning_of_form form words = at_end form (fold (after_word form.options) (between [] form.positions) words)
+
+-- after a first word that names no subcommand
+abbrev pub meaning_of_other : Text → Meaning
+meaning_of_other word =
+    if bytes_eq (codes "help") word then topic else (if is_help_flag word then help else usage)
+
+-- the first word is `--version`
+abbrev pub is_version : List Text → Bool
+is_version [] = false
+is_version (word ∷ rest) = bytes_eq (codes "--version") word
+
+-- of words that don't ask for the version
+abbrev pub meaning_of_command : List Text → Meaning
+meaning_of_command [] = usage
+meaning_of_command (word ∷ rest) =
+    option_map_or (λ form. meaning_of_form form rest) (find (λ form. bytes_eq form.name word) forms) (meaning_of_other word)
 
 -- of all the words
 abbrev pub meaning_of : List Text → Meaning
-meaning_of [] = usage
-meaning_of (word ∷ rest) =
-    if bytes_eq (codes "value") word then meaning_of_value rest
-    else (if bytes_eq (codes "count") word then meaning_of_count rest
-    else (if bytes_eq (codes "help") word then topic
-    else (if is_help_flag word then help else usage)))
+meaning_of words = if is_version words then version else meaning_of_command words
 
--- the words are `value TEXT`, `value -- TEXT` or `value TEXT --`, where only behind `--` the text
--- may look like an option
-abbrev pub IsValueLine : List Text → Text → Type 0
-IsValueLine words text =
-    ((words ≡ codes "value" ∷ text ∷ []) × (is_text text ≡ true))
-    ⊎ ((words ≡ codes "value" ∷ codes "--" ∷ text ∷ [])
-    ⊎ ((words ≡ codes "value" ∷ text ∷ codes "--" ∷ []) × (is_text text ≡ true)))
+-- ---- what is asked for, by name
 
--- the words are `count --set TEXT` or `count --set=TEXT`, and `--` may follow; only behind `=` the
--- text may look like an option
-abbrev pub IsCountLine : List Text → Text → Type 0
-IsCountLine words text =
-    ((words ≡ codes "count" ∷ codes "--set" ∷ text ∷ []) × (is_text text ≡ true))
-    ⊎ (((words ≡ codes "count" ∷ codes "--set" ∷ text ∷ codes "--" ∷ []) × (is_text text ≡ true))
-    ⊎ ((words ≡ codes "count" ∷ (codes "--set=" ++ text) ∷ [])
-    ⊎ (words ≡ codes "count" ∷ (codes "--set=" ++ text) ∷ codes "--" ∷ [])))
+-- the value of the position that the text names
+abbrev pub value : Text → Meaning
+value position = asks (codes "value") (position ∷ [])
+
+-- the numbers of positions and classes of the piece set that the text names
+abbrev pub count : Text → Meaning
+count set = asks (codes "count") (set ∷ [])

@@ -1,12 +1,20 @@
-// What the words of the program `dobutsu` ask for, read by `clap`. A further subcommand has a
-// variant of `Order`, a case of `Meaning` and of `meaning_of` (specs/Words.antt), a function that
-// makes its command, an arm in `order_of`, its shape (specs/Shapes.antt) and a file like
-// proofs/ValueWords.antt, or proofs/CountWords.antt where it has an option.
-ghost use Rattle.std.specs.Prelude.{◌≡◌, IfOk, IsSomeAnd, Some, codes, map};
+// What the words of the program `dobutsu` ask for, read by `clap`.
+//
+// A further subcommand, as `probe --db FILE POSITION`, has
+// - a form in specs/Forms.antt, also in `forms`, and the name of what it asks for at the end of specs/Words.antt;
+// - a variant of `Order` here, with its case in both functions of specs/Readings.antt;
+// - a function that makes its command, which `dobutsu_command` adds, and an arm and a clause in `order_of`;
+// - a record in proofs/Taken.antt, proofs/AllWords.antt and proofs/Lines.antt, by `refl`, and a line each in `all_fit` and
+//   `all_known`;
+// - its cases in the answers of `dobutsu_command`, `order_of` and `read_words`, as those of `count`;
+// - in program.rt an arm and a clause of `run_words`, with what it owes by a definition like `AnswersCount`.
+ghost use Rattle.std.specs.Prelude.{◌≡◌, IfOk, IsSomeAnd, List, codes, map};
 ghost use Rattle.clap.specs.Words.{kind_of, subcommand_rows_of};
-ghost use Rattle.dob_cli.specs.Words.{IsCountLine, IsValueLine, count as asks_count, meaning_of, value};
-ghost use Rattle.dob_cli.specs.Shapes.{HasShape, bare_app, count_app, dobutsu_app, found_in, value_app};
-ghost use Rattle.dob_cli.specs.Readings.{ComesFromLine, IsCountOrder, IsReadingOf, IsReadingOfKind, IsValueOrder};
+ghost use Rattle.dob_cli.specs.Forms.{Form, Text, count_form, forms, value_form};
+ghost use Rattle.dob_cli.specs.Lines.{IsAmong, IsLine};
+ghost use Rattle.dob_cli.specs.Words.{asks, is_version, meaning_of};
+ghost use Rattle.dob_cli.specs.Shapes.{Finds, HasShape, bare_app, dobutsu_app, form_app};
+ghost use Rattle.dob_cli.specs.Readings.{ComesFromLine, IsOrder, IsReadingOf, IsReadingOfKind};
 
 use clap::error::ErrorKind;
 use clap::{Arg, ArgMatches, Command, Error};
@@ -28,6 +36,8 @@ pub enum Reading<'a> {
     Order(Order<'a>),
     /// The help that was asked for, for standard output.
     Help(String),
+    /// That the program's version was asked for.
+    Version,
     /// What is wrong with the words, for standard error.
     Usage(String),
 }
@@ -54,7 +64,7 @@ Answers: `positions N` and `classes N`, where a class is a position with its mir
 Example: dobutsu count --set 100 prints `positions 4158` and `classes 2124`.";
 
 /// Reads the words after the program's name. `--help`, `-h` and the subcommand `help` give the help.
-/// A word that begins with `-` is an option, but for a lone `-`, the first `--` and what follows it.
+/// As the first word `--version` asks for the version. A word that begins with `-` is an option, but for a lone `-`, the first `--` and what follows it.
 ///
 /// # Errors
 ///
@@ -62,17 +72,28 @@ Example: dobutsu count --set 100 prints `positions 4158` and `classes 2124`.";
 pub fn read_words<'a>(alloc: Global, words: &'a [&'a str]) -> Result<Reading<'a>, AllocError>
     ensures meaning { IfOk result (IsReadingOf (meaning_of (map (λ w. w.now) words.now))) }
     ensures sound { IfOk result (ComesFromLine (map (λ w. w.now) words.now)) }
-    ensures complete { (text : _) → IsValueLine (map (λ w. w.now) words.now) text
-        → IfOk result (IsReadingOf (value text)) }
-    ensures complete_count { (text : _) → IsCountLine (map (λ w. w.now) words.now) text
-        → IfOk result (IsReadingOf (asks_count text)) }
+    ensures complete { (form : Form) (texts : List Text) → IsAmong form forms
+        → IsLine form (map (λ w. w.now) words.now) texts → IfOk result (IsReadingOf (asks form.name texts)) }
 {
+    if asks_version(words) {
+        return Ok(Reading::Version);
+    }
     match dobutsu_command(alloc)?.try_get_matches_from(words) {
         Ok(matches) => match order_of(&matches) {
             Some(order) => Ok(Reading::Order(order)),
             None => unreachable!(),
         },
         Err(error) => read_refusal(alloc, &error),
+    }
+}
+
+// Whether the first word is `--version`.
+fn asks_version(words: &[&str]) -> bool
+    ensures { result ≡ is_version (map (λ w. w.now) words.now) }
+{
+    match words {
+        [] => false,
+        [word, ..] => *word == "--version",
     }
 }
 
@@ -100,7 +121,7 @@ fn bare_command<'a>(alloc: Global) -> Result<Command<'a>, AllocError>
 
 // The subcommand `value`.
 fn value_command<'a>(alloc: Global) -> Result<Command<'a>, AllocError>
-    ensures { IfOk result (HasShape value_app) }
+    ensures { IfOk result (HasShape (form_app value_form)) }
 {
     let position = Arg::new(alloc, "POSITION")
         .required(true)
@@ -113,7 +134,7 @@ fn value_command<'a>(alloc: Global) -> Result<Command<'a>, AllocError>
 
 // The subcommand `count`.
 fn count_command<'a>(alloc: Global) -> Result<Command<'a>, AllocError>
-    ensures { IfOk result (HasShape count_app) }
+    ensures { IfOk result (HasShape (form_app count_form)) }
 {
     let set = Arg::new(alloc, "CEG")
         .long("set")
@@ -127,10 +148,10 @@ fn count_command<'a>(alloc: Global) -> Result<Command<'a>, AllocError>
 
 // What the matches of the program's command ask for.
 fn order_of<'a>(matches: &ArgMatches<'a>) -> Option<Order<'a>>
-    ensures value { (t : _) → found_in (codes "POSITION") (subcommand_rows_of matches.now) ≡ Some (codes "value", Some t)
-        → IsSomeAnd result (IsValueOrder t) }
-    ensures count { (t : _) → found_in (codes "CEG") (subcommand_rows_of matches.now) ≡ Some (codes "count", Some t)
-        → IsSomeAnd result (IsCountOrder t) }
+    ensures value { (texts : List Text) → Finds value_form texts (subcommand_rows_of matches.now)
+        → IsSomeAnd result (IsOrder (codes "value") texts) }
+    ensures count { (texts : List Text) → Finds count_form texts (subcommand_rows_of matches.now)
+        → IsSomeAnd result (IsOrder (codes "count") texts) }
 {
     let (name, inner) = matches.subcommand()?;
     match name {

@@ -8,4 +8,5 @@ mod output;
 mod program;
 
 pub use fault::Fault;
-pub use program::{run_words, tell_memory};
+pub use output::{Failed, Output, Watched};
+pub use program::{run_given, run_words, tell_memory};

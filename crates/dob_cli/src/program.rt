@@ -1,8 +1,12 @@
 // The program: from its words to what it prints and its exit status.
-ghost use Rattle.std.specs.Prelude.{◌≡◌, ◌⊎◌, ℕ, List, IfOk, IfErr, map, string_bytes};
-ghost use Rattle.std.specs.Io.KnownBytes.{Keeps};
-ghost use Rattle.dob_cli.specs.Words.{meaning_of, value as asks_value, count as asks_count, help as asks_help, usage as asks_nothing};
-ghost use Rattle.dob_cli.specs.Endings.{Tells, TellsFaultAs, TellsOneFault};
+ghost use Rattle.std.specs.Prelude.{◌≡◌, ◌≢◌, ◌⊎◌, ℕ, List, IfOk, IfErr, drop, map, string_bytes};
+ghost use Rattle.std.specs.IoError.{error_kind};
+ghost use Rattle.std.specs.declared.io.ErrorKind.TheVariants.{OutOfMemory};
+ghost use Rattle.std.specs.Vec.Iter.{into_iter_items};
+ghost use Rattle.dob_cli.specs.Words.{meaning_of, value as asks_value, count as asks_count, help as asks_help, version as asks_version, topic as asks_topic, usage as asks_nothing};
+ghost use Rattle.dob_cli.specs.Streams.{change};
+ghost use Rattle.dob_cli.specs.Runs.{RanOn, TellsNoText};
+ghost use Rattle.dob_cli.specs.Endings.{AnswersHelp, AnswersUsage, AnswersVersion, Tells, TellsFaultAs, TellsMemory, TellsOneFault, ended};
 ghost use Rattle.dob_cli.specs.Program.{AnswersValue, IsValueLineOf, IsFaultOf, value_line};
 ghost use Rattle.dob_cli.specs.Sizes.{AnswersCount};
 ghost use Rattle.dob_cli.specs.declared.fault.Fault.TheVariants.{Memory};
@@ -10,14 +14,21 @@ ghost use Rattle.dob_cli.specs.declared.fault.Fault.TheVariants.{Memory};
 use crate::command::{Order, Reading, read_words};
 use crate::counts::run_count;
 use crate::fault::Fault;
-use crate::output::write_bytes;
+use crate::output::{Output, put_all, say};
 use dob_text::read_position;
 use dob_value::{Value, sweep_value};
 use std::alloc::{AllocError, Global};
-use std::io::Write;
+use std::env::Args;
+use std::io;
 
 /// The exit status for words that the program doesn't know.
 const USAGE: u8 = 2;
+
+/// The program's name and version.
+const VERSION: &str = "dobutsu 0.1.0\n";
+
+/// What is said where an argument isn't UTF-8.
+const NO_TEXT: &[u8] = b"error: an argument is not UTF-8\n\nFor more information, try '--help'.\n";
 
 /// Runs the program by its words, those after the program's name. What it tells goes to `out`, a fault's line and a
 /// word on wrong usage to `err`; the answer is the exit status.
@@ -25,30 +36,40 @@ const USAGE: u8 = 2;
 /// The status is 0 where it is done or help was asked for, 1 where what was asked is refused, 2 for words that it
 /// doesn't know, 3 for want of memory, for a distance above 65,534 plies and where `out` fails. Where `err` fails,
 /// the status is the same.
-pub fn run_words<'a, O: Write, E: Write>(
+pub fn run_words<'a, O: Output, E: Output>(
     alloc: Global,
     words: &'a [&'a str],
     out: &mut O,
     err: &mut E,
 ) -> u8
-    // Where the words ask for the value of a position: its line, or the line of a fault that holds.
-    ensures value { (text : List ℕ) → meaning_of (map (λ w. w.now) words.now) ≡ asks_value text
-        → AnswersValue text result (O.contents out.old) (O.contents out.new) (E.contents err.old) (E.contents err.new) }
+    // Where the words ask for the value of a position: its line, or the line of a fault that holds; or standard output
+    // failed in the line.
+    ensures value { (text : List ℕ) → meaning_of (map (λ w. w.now) words.now) ≡ asks_value text → AnswersValue text
+        (ended result (change (O.state out.old) (O.state out.new)) (change (E.state err.old) (E.state err.new))) }
     // Where they ask for the numbers of positions and classes of a piece set: their lines, or the line of a fault that
-    // holds.
-    ensures count { (text : List ℕ) → meaning_of (map (λ w. w.now) words.now) ≡ asks_count text
-        → AnswersCount text result (O.contents out.old) (O.contents out.new) (E.contents err.old) (E.contents err.new) }
-    // Where they ask for help: status 0 and nothing on standard error, or standard output or memory failed.
-    ensures help { meaning_of (map (λ w. w.now) words.now) ≡ asks_help → result ≡ 0 ⊎ result ≡ 3 }
-    // Where they are none that the program knows: status 2 and nothing on standard output, or memory failed.
+    // holds; or standard output failed in the lines.
+    ensures count { (text : List ℕ) → meaning_of (map (λ w. w.now) words.now) ≡ asks_count text → AnswersCount text
+        (ended result (change (O.state out.old) (O.state out.new)) (change (E.state err.old) (E.state err.new))) }
+    // Where they ask for help: its text and status 0; or standard output failed, or memory did.
+    ensures help { meaning_of (map (λ w. w.now) words.now) ≡ asks_help
+        → AnswersHelp (ended result (change (O.state out.old) (O.state out.new)) (change (E.state err.old) (E.state err.new))) }
+    // Where they ask for the version: its line; or standard output failed, or memory did.
+    ensures version { meaning_of (map (λ w. w.now) words.now) ≡ asks_version
+        → AnswersVersion (ended result (change (O.state out.old) (O.state out.new)) (change (E.state err.old) (E.state err.new))) }
+    // Where they are the word `help` and more: as for help, or, where nothing has that name, as for unknown words.
+    ensures topic { meaning_of (map (λ w. w.now) words.now) ≡ asks_topic
+        → AnswersHelp (ended result (change (O.state out.old) (O.state out.new)) (change (E.state err.old) (E.state err.new)))
+        ⊎ AnswersUsage (ended result (change (O.state out.old) (O.state out.new)) (change (E.state err.old) (E.state err.new))) }
+    // Where they are none that the program knows: status 2 and a text on standard error; or memory failed.
     ensures usage { meaning_of (map (λ w. w.now) words.now) ≡ asks_nothing
-        → (result ≡ 2 ⊎ result ≡ 3) × Keeps (O.contents out.old) (O.contents out.new) }
+        → AnswersUsage (ended result (change (O.state out.old) (O.state out.new)) (change (E.state err.old) (E.state err.new))) }
 {
     match read_words(alloc, words) {
         Err(AllocError) => tell_fault(alloc, Fault::Memory, err),
         Ok(Reading::Help(text)) => tell(alloc, text.as_str(), out, err),
+        Ok(Reading::Version) => tell(alloc, VERSION, out, err),
         Ok(Reading::Usage(text)) => {
-            let _ = write_bytes(err, text.as_bytes());
+            say(err, text.as_bytes());
             USAGE
         }
         Ok(Reading::Order(Order::Value(text))) => run_value(alloc, text, out, err),
@@ -57,8 +78,8 @@ pub fn run_words<'a, O: Write, E: Write>(
 }
 
 // Tells the value of the position that the text names.
-fn run_value<O: Write, E: Write>(alloc: Global, text: &str, out: &mut O, err: &mut E) -> u8
-    ensures { AnswersValue text.now result (O.contents out.old) (O.contents out.new) (E.contents err.old) (E.contents err.new) }
+fn run_value<O: Output, E: Output>(alloc: Global, text: &str, out: &mut O, err: &mut E) -> u8
+    ensures { AnswersValue text.now (ended result (change (O.state out.old) (O.state out.new)) (change (E.state err.old) (E.state err.new))) }
 {
     match value_of(alloc, text) {
         Ok(line) => tell(alloc, line.as_str(), out, err),
@@ -88,12 +109,10 @@ fn line_of(alloc: Global, value: Value) -> Result<String, AllocError>
 }
 
 // Tells a line, or a few, on standard output.
-pub(crate) fn tell<O: Write, E: Write>(alloc: Global, line: &str, out: &mut O, err: &mut E) -> u8
-    ensures { Tells line.now result (O.contents out.old) (O.contents out.new) (E.contents err.old) (E.contents err.new) }
+pub(crate) fn tell<O: Output, E: Output>(alloc: Global, line: &str, out: &mut O, err: &mut E) -> u8
+    ensures { Tells line.now (ended result (change (O.state out.old) (O.state out.new)) (change (E.state err.old) (E.state err.new))) }
 {
-    let is_whole = write_bytes(out, line.as_bytes());
-    let is_flushed = out.flush().is_ok();
-    if is_whole && is_flushed {
+    if put_all(out, line.as_bytes()) {
         0
     } else {
         tell_fault(alloc, Fault::Io, err)
@@ -101,12 +120,12 @@ pub(crate) fn tell<O: Write, E: Write>(alloc: Global, line: &str, out: &mut O, e
 }
 
 // Tells a fault on standard error, or that no memory was left to tell it.
-pub(crate) fn tell_fault<E: Write>(alloc: Global, fault: Fault, err: &mut E) -> u8
-    ensures { TellsOneFault fault result (E.contents err.old) (E.contents err.new) }
+pub(crate) fn tell_fault<E: Output>(alloc: Global, fault: Fault, err: &mut E) -> u8
+    ensures { TellsOneFault fault result (change (E.state err.old) (E.state err.new)) }
 {
     match format!(in alloc; "dobutsu: {fault}\n") {
         Ok(line) => {
-            let _ = write_bytes(err, line.as_bytes());
+            say(err, line.as_bytes());
             fault.status()
         }
         Err(AllocError) => tell_memory(err),
@@ -115,9 +134,92 @@ pub(crate) fn tell_fault<E: Write>(alloc: Global, fault: Fault, err: &mut E) -> 
 
 /// Tells on `err` that no memory was left, as where the words themselves can't be kept. It takes no memory itself. The
 /// answer is the exit status.
-pub fn tell_memory<E: Write>(err: &mut E) -> u8
-    ensures { TellsFaultAs Memory result (E.contents err.old) (E.contents err.new) }
+pub fn tell_memory<E: Output>(err: &mut E) -> u8
+    ensures { TellsFaultAs Memory result (change (E.state err.old) (E.state err.new)) }
 {
-    let _ = write_bytes(err, b"dobutsu: E23 Memory\n");
+    say(err, b"dobutsu: E23 Memory\n");
     Fault::Memory.status()
+}
+
+/// Runs the program by what it was given: its arguments, of which the first is its name, or why they can't be had.
+///
+/// It does what `run_words` does with the words after the name. Where memory for them was refused, it says so (E23,
+/// status 3); where one of them isn't UTF-8, it says that (status 2).
+pub fn run_given<O: Output, E: Output>(
+    alloc: Global,
+    given: io::Result<Args>,
+    out: &mut O,
+    err: &mut E,
+) -> u8
+    ensures words { IfOk given (λ args. RanOn (map string_bytes (drop 1 (into_iter_items args)))
+        (ended result (change (O.state out.old) (O.state out.new)) (change (E.state err.old) (E.state err.new)))) }
+    ensures refused { IfErr given (λ error. error_kind error ≡ OutOfMemory → TellsMemory
+        (ended result (change (O.state out.old) (O.state out.new)) (change (E.state err.old) (E.state err.new)))) }
+    ensures unread { IfErr given (λ error. error_kind error ≢ OutOfMemory → TellsNoText
+        (ended result (change (O.state out.old) (O.state out.new)) (change (E.state err.old) (E.state err.new)))) }
+{
+    match given {
+        Ok(args) => run_args(alloc, args, out, err),
+        Err(error) => match error.kind() {
+            io::ErrorKind::OutOfMemory => tell_memory(err),
+            _ => {
+                say(err, NO_TEXT);
+                USAGE
+            }
+        },
+    }
+}
+
+// Runs the program by its arguments, of which the first is its name.
+fn run_args<O: Output, E: Output>(alloc: Global, args: Args, out: &mut O, err: &mut E) -> u8
+    ensures { RanOn (map string_bytes (drop 1 (into_iter_items args)))
+        (ended result (change (O.state out.old) (O.state out.new)) (change (E.state err.old) (E.state err.new))) }
+{
+    match list_of(alloc, args) {
+        Ok(given) => run_texts(alloc, after_first(&given), out, err),
+        Err(AllocError) => tell_memory(err),
+    }
+}
+
+// The arguments as a list.
+fn list_of(alloc: Global, args: Args) -> Result<Vec<String>, AllocError>
+    ensures { IfOk result (λ given. given.items ≡ into_iter_items args) }
+{
+    let mut given = Vec::new(alloc);
+    for arg in args {
+        given.push(arg)?;
+    }
+    Ok(given)
+}
+
+// All but the first.
+fn after_first<'a>(given: &'a [String]) -> &'a [String]
+    ensures { result.now ≡ drop 1 given.now }
+{
+    match given {
+        [] => given,
+        [_, rest @ ..] => rest,
+    }
+}
+
+// Runs the program by its words, as they were given.
+fn run_texts<O: Output, E: Output>(alloc: Global, given: &[String], out: &mut O, err: &mut E) -> u8
+    ensures { RanOn (map string_bytes given.now)
+        (ended result (change (O.state out.old) (O.state out.new)) (change (E.state err.old) (E.state err.new))) }
+{
+    match words_of(alloc, given) {
+        Ok(words) => run_words(alloc, &words, out, err),
+        Err(AllocError) => tell_memory(err),
+    }
+}
+
+// The words as texts.
+fn words_of<'a>(alloc: Global, given: &'a [String]) -> Result<Vec<&'a str>, AllocError>
+    ensures { IfOk result (λ words. map (λ w. w.now) words.items ≡ map string_bytes given.now) }
+{
+    let mut words = Vec::new(alloc);
+    for word in given {
+        words.push(word.as_str())?;
+    }
+    Ok(words)
 }

@@ -12,13 +12,13 @@ single None = refl
 single (Some m) = refl
 
 -- one more item of a list, and what it gives
-pub taken_more : (f : ℕ → Option Move) (xs : List ℕ) (i : ℕ) (old items new : List Move) → i < length xs → items ≡ old ++ filter_map f (take i xs) → new ≡ items ++ option_to_list (f (get_or xs i 0)) → new ≡ old ++ filter_map f (take (i + 1) xs)
-taken_more f xs i old items new h before e =
-    let one : take (i + 1) xs ≡ take i xs ++ get_or xs i 0 ∷ [] = rw add-one (take-suc xs i 0 h) in
-    let parts = filter_map-append f (take i xs) (get_or xs i 0 ∷ []) in
-    let joined : new ≡ (old ++ filter_map f (take i xs)) ++ cons_option (f (get_or xs i 0)) [] =
-    e ∙ ap (λ (ms : List Move). ms ++ option_to_list (f (get_or xs i 0))) before ∙ ap (λ (ms : List Move). (old ++ filter_map f (take i xs)) ++ ms) (single (f (get_or xs i 0))) in
-    joined ∙ append_assoc old (filter_map f (take i xs)) (cons_option (f (get_or xs i 0)) [])
+pub taken_more : (f : ℕ × ℕ → Option Move) (xs : List (ℕ × ℕ)) (x : ℕ × ℕ) (i : ℕ) (old items new : List Move) → i < length xs → items ≡ old ++ filter_map f (take i xs) → new ≡ items ++ option_to_list (f (get_or xs i x)) → new ≡ old ++ filter_map f (take (i + 1) xs)
+taken_more f xs x i old items new h before e =
+    let one : take (i + 1) xs ≡ take i xs ++ get_or xs i x ∷ [] = rw add-one (take-suc xs i x h) in
+    let parts = filter_map-append f (take i xs) (get_or xs i x ∷ []) in
+    let joined : new ≡ (old ++ filter_map f (take i xs)) ++ cons_option (f (get_or xs i x)) [] =
+    e ∙ ap (λ (ms : List Move). ms ++ option_to_list (f (get_or xs i x))) before ∙ ap (λ (ms : List Move). (old ++ filter_map f (take i xs)) ++ ms) (single (f (get_or xs i x))) in
+    joined ∙ append_assoc old (filter_map f (take i xs)) (cons_option (f (get_or xs i x)) [])
     ∙ ap (λ (ms : List Move). old ++ ms) (sym (ap (filter_map f) one ∙ parts))
 
 -- what one more number gives

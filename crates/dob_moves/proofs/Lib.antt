@@ -8,3 +8,5 @@ pub mod Tables
 pub mod Reach
 pub mod Verdicts
 pub mod Appends
+pub mod MoveLists
+pub mod MoveCounts

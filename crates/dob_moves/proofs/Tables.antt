@@ -1,4 +1,4 @@
--- The directions of each kind lead to exactly the squares to which a step of the kind leads.
+-- The steps of each kind lead, in their order, to exactly the squares to which a step of the kind leads, ascending.
 use Rattle.std.proofs.Common.{◌≡◌, ℕ, zero, suc, ◌<◌, Bool, true, false, ◌&&◌, cond, eqb, List, [], ◌∷◌, ◌++◌, Option, Some, None, refl, ap, ◌∙◌, option_to_list}
 use Rattle.std.specs.List.{filter, filter_map, cons_option}
 use Rattle.std.proofs.lemmas.Bool.{and_parts, eqb-true}
@@ -7,12 +7,12 @@ use Rattle.dob_pieces.specs.declared.kind.Kind.{Kind}
 use Rattle.dob_pieces.specs.declared.kind.Kind.TheVariants.{Lion, Giraffe, Elephant, Chick, Hen}
 use Rattle.dob_pieces.specs.declared.setup.Setup.{Setup}
 use Rattle.dob_pieces.specs.Lists.{each_below}
-use Rattle.dob_pieces.specs.Pieces.{leads}
+use Rattle.dob_pieces.specs.Pieces.{leads, steps_of, square_after}
 use Rattle.dob_pieces.specs.Setups.{at}
 use Rattle.dob_pieces.proofs.Boards.{all_below, all_below-at}
 use Rattle.dob_moves.specs.declared.choice.Move.{Move}
 use Rattle.dob_moves.specs.declared.search.Aim.{Aim}
-use Rattle.dob_moves.specs.Walks.{directions_of, square_in, step_onto, step_if, step_in, steps_by}
+use Rattle.dob_moves.specs.Walks.{step_onto, step_if, step_by, steps_by}
 
 abbrev same_numbers : List ℕ → List ℕ → Bool
 same_numbers [] [] = true
@@ -35,9 +35,9 @@ abbrev numbers : ℕ → List ℕ
 numbers zero = []
 numbers (suc n) = numbers n ++ n ∷ []
 
--- the squares to which the kind's directions lead
+-- the squares to which the kind's steps lead
 abbrev targets : Kind → ℕ → List ℕ
-targets kind from = filter_map (square_in from) (directions_of kind)
+targets kind from = filter_map (square_after from) (steps_of kind)
 
 abbrev targets_agree : Kind → ℕ → Bool
 targets_agree kind from = same_numbers (targets kind from) (filter (leads kind from) (numbers 12))
@@ -63,11 +63,11 @@ onto_one : (aim : Aim) (p : Setup) (kind : Kind) (from : ℕ) (o : Option ℕ) (
 onto_one aim p kind from None ds = refl
 onto_one aim p kind from (Some to) ds = refl
 
-by_targets : (aim : Aim) (p : Setup) (kind : Kind) (from : ℕ) (ds : List ℕ) → filter_map (step_in aim p kind from) ds ≡ filter_map (λ to. step_onto aim (at p to) kind from to) (filter_map (square_in from) ds)
+by_targets : (aim : Aim) (p : Setup) (kind : Kind) (from : ℕ) (ds : List (ℕ × ℕ)) → filter_map (step_by aim p kind from) ds ≡ filter_map (λ to. step_onto aim (at p to) kind from to) (filter_map (square_after from) ds)
 by_targets aim p kind from [] = refl
 by_targets aim p kind from (d ∷ ds) =
-    ap (λ (ms : List Move). cons_option (step_in aim p kind from d) ms) (by_targets aim p kind from ds)
-    ∙ onto_one aim p kind from (square_in from d) (filter_map (square_in from) ds)
+    ap (λ (ms : List Move). cons_option (step_by aim p kind from d) ms) (by_targets aim p kind from ds)
+    ∙ onto_one aim p kind from (square_after from d) (filter_map (square_after from) ds)
 
 last_one : (test : ℕ → Bool) (f : ℕ → Option Move) (k : ℕ) (b : Bool) → filter_map f (cond b (k ∷ []) []) ≡ option_to_list (cond b (f k) None)
 last_one test f k false = refl
@@ -88,6 +88,6 @@ by_squares test f (suc n) =
 pub steps_by-squares : (aim : Aim) (p : Setup) (kind : Kind) (from : ℕ) → from < 12 → steps_by aim p kind from ≡ each_below (λ to. option_to_list (step_to aim p kind from to)) 12
 unfolding steps_by
 steps_by-squares aim p kind from h =
-    by_targets aim p kind from (directions_of kind)
+    by_targets aim p kind from (steps_of kind)
     ∙ ap (filter_map (λ to. step_onto aim (at p to) kind from to)) (targets_are kind from h)
     ∙ by_squares (leads kind from) (λ to. step_onto aim (at p to) kind from to) 12

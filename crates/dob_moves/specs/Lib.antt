@@ -4,3 +4,4 @@ pub mod Outcomes
 pub mod Mirrors
 pub mod Laws
 pub mod Walks
+pub mod MoveLists

@@ -1,4 +1,4 @@
--- The order in which steps and drops are looked for: by square, by direction, by kind in hand.
+-- The order in which steps and drops are looked for: by square, by the square stepped to, by kind in hand.
 use Rattle.std.specs.Prelude.{ℕ, ◌+◌, ◌-◌, ◌*◌, ◌/◌, ◌%◌, ◌&&◌, nat_lt, Bool, true, false, not, cond, List, [], ◌∷◌, ◌++◌, Option, Some, None, option_to_list}
 use Rattle.std.specs.List.{filter_map}
 use Rattle.std.specs.Option.{is_some}
@@ -11,7 +11,7 @@ use Rattle.dob_pieces.specs.declared.kind.Side.TheVariants.{Mover, Enemy}
 use Rattle.dob_pieces.specs.declared.setup.Setup.{Setup}
 use Rattle.dob_pieces.specs.Lists.{each_below}
 use Rattle.dob_pieces.specs.Squares.{column, row}
-use Rattle.dob_pieces.specs.Pieces.{is_lion}
+use Rattle.dob_pieces.specs.Pieces.{is_lion, steps_of, square_after}
 use Rattle.dob_pieces.specs.Setups.{Cell, at, held}
 use Rattle.dob_moves.specs.declared.choice.Move.{Move}
 use Rattle.dob_moves.specs.declared.choice.Move.TheVariants.{Step, Put}
@@ -23,23 +23,6 @@ use Rattle.dob_moves.specs.Moves.{grows_at}
 abbrev pub first : List Move → Option Move
 first [] = None
 first (move ∷ moves) = Some move
-
--- The directions of a kind's steps, ascending: the places of the three by three squares around a piece, row by row, of
--- which 4 is its own.
-abbrev pub directions_of : Kind → List ℕ
-directions_of Lion = 0 ∷ 1 ∷ 2 ∷ 3 ∷ 5 ∷ 6 ∷ 7 ∷ 8 ∷ []
-directions_of Giraffe = 1 ∷ 3 ∷ 5 ∷ 7 ∷ []
-directions_of Elephant = 0 ∷ 2 ∷ 6 ∷ 8 ∷ []
-directions_of Chick = 7 ∷ []
-directions_of Hen = 1 ∷ 3 ∷ 5 ∷ 6 ∷ 7 ∷ 8 ∷ []
-
--- the square of that column and row, each with one added, if the board has it
-abbrev pub square_of : ℕ → ℕ → Option ℕ
-square_of column row = cond (nat_lt 0 column && nat_lt column 4 && (nat_lt 0 row && nat_lt row 5)) (Some (3 * (row - 1) + (column - 1))) None
-
--- the next square in a direction, if the board has it
-abbrev pub square_in : ℕ → ℕ → Option ℕ
-square_in from direction = square_of (column from + direction % 3) (row from + direction / 3)
 
 -- a step at the enemy lion may end on it alone, and a step elsewhere on any other enemy piece
 abbrev pub may_take : Aim → Side → Kind → Bool
@@ -61,13 +44,13 @@ abbrev pub step_if : Aim → Setup → Kind → ℕ → Option ℕ → Option Mo
 step_if aim p kind from None = None
 step_if aim p kind from (Some to) = step_onto aim (at p to) kind from to
 
--- the step in a direction
-abbrev pub step_in : Aim → Setup → Kind → ℕ → ℕ → Option Move
-step_in aim p kind from direction = step_if aim p kind from (square_in from direction)
+-- the move by a step of the kind
+abbrev pub step_by : Aim → Setup → Kind → ℕ → ℕ × ℕ → Option Move
+step_by aim p kind from step = step_if aim p kind from (square_after from step)
 
 -- the steps of a piece of that kind
 unfoldable pub steps_by : Aim → Setup → Kind → ℕ → List Move
-steps_by aim p kind from = filter_map (step_in aim p kind from) (directions_of kind)
+steps_by aim p kind from = filter_map (step_by aim p kind from) (steps_of kind)
 
 abbrev pub own_by_side : Side → Kind → Option Kind
 own_by_side Mover kind = Some kind

@@ -3,15 +3,16 @@
 
 mod applied;
 mod choice;
+mod count;
 mod judge;
 pub mod laws;
 mod listing;
 mod outlook;
 mod search;
-mod steps;
 
 pub use applied::apply;
 pub use choice::Move;
+pub use count::count_moves;
 pub use judge::{first_catch, status};
 pub use listing::moves;
 pub use outlook::Status;

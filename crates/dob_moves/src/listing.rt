@@ -7,8 +7,7 @@ ghost use Rattle.dob_moves.specs.declared.search.Aim.TheVariants.{Elsewhere};
 use crate::choice::Move;
 use crate::judge::status;
 use crate::outlook::Status;
-use crate::search::{Aim, own_kind, put_on, step_in};
-use crate::steps::directions;
+use crate::search::{Aim, own_kind, put_on, step_by};
 use dob_pieces::{HandKind, Kind, Memory, Position, Setup, Square};
 use std::alloc::Global;
 
@@ -32,9 +31,9 @@ fn push_steps_by(
 ) -> Result<(), Memory>
     ensures { OnOk result (moves.new.items ≡ moves.old.items ++ steps_by Elsewhere setup.now kind from) }
 {
-    for direction in directions(kind) {
-        let step = step_in(setup, Aim::Elsewhere, kind, from, *direction);
-        push_found(moves, step)?;
+    for step in kind.steps() {
+        let found = step_by(setup, Aim::Elsewhere, kind, from, *step);
+        push_found(moves, found)?;
     }
     Ok(())
 }

@@ -1,10 +1,9 @@
 // The search for the first step or drop, in the move order.
 ghost use Rattle.std.specs.Prelude.{◌≡◌};
-ghost use Rattle.dob_moves.specs.Walks.{first, own_kind, may_end, step_onto, step_in, steps_by, steps_from, all_steps, put_on, drops_of, all_drops};
+ghost use Rattle.dob_moves.specs.Walks.{first, own_kind, may_end, step_onto, step_by, steps_by, steps_from, all_steps, put_on, drops_of, all_drops};
 
 use crate::choice::Move;
-use crate::steps::{directions, square_in};
-use dob_pieces::{HandKind, Kind, Piece, Setup, Side, Square};
+use dob_pieces::{HandKind, Kind, Piece, Setup, Side, Square, Step};
 
 /// Where a step is to end.
 #[derive(Clone, Copy, Debug, PartialEq, Eq)]
@@ -61,17 +60,17 @@ fn step_onto(aim: Aim, cell: Option<Piece>, kind: Kind, from: Square, to: Square
     }
 }
 
-/// The step in that direction, if the board has the square and it is where the step is to end.
-pub(crate) fn step_in(
+/// The move by that step, if the board has the square and it is where the step is to end.
+pub(crate) fn step_by(
     setup: &Setup,
     aim: Aim,
     kind: Kind,
     from: Square,
-    direction: u8,
+    step: Step,
 ) -> Option<Move>
-    ensures { result ≡ step_in aim setup.now kind from direction }
+    ensures { result ≡ step_by aim setup.now kind from step }
 {
-    match square_in(from, direction) {
+    match from.after(step) {
         Some(to) => step_onto(aim, setup.at(to), kind, from, to),
         None => None,
     }
@@ -82,10 +81,10 @@ pub(crate) fn step_in(
 fn first_step_by(setup: &Setup, aim: Aim, kind: Kind, from: Square) -> Option<Move>
     ensures { result ≡ first (steps_by aim setup.now kind from) }
 {
-    for direction in directions(kind) {
-        let step = step_in(setup, aim, kind, from, *direction);
-        if step.is_some() {
-            return step;
+    for step in kind.steps() {
+        let found = step_by(setup, aim, kind, from, *step);
+        if found.is_some() {
+            return found;
         }
     }
     None

@@ -1,5 +1,5 @@
 -- The kinds of piece and their steps.
-use Rattle.std.specs.Prelude.{ℕ, ◌+◌, ◌==◌, ◌&&◌, nat_lt, Bool, true, false, List, [], ◌∷◌, Option, Some, None}
+use Rattle.std.specs.Prelude.{ℕ, ◌+◌, ◌-◌, ◌*◌, ◌==◌, ◌&&◌, nat_lt, Bool, true, false, cond, List, [], ◌∷◌, Option, Some, None}
 use Rattle.std.specs.List.{list_any}
 use Rattle.dob_pieces.specs.declared.kind.Kind.{Kind}
 use Rattle.dob_pieces.specs.declared.kind.Kind.TheVariants.{Lion, Giraffe, Elephant, Chick, Hen}
@@ -9,23 +9,22 @@ use Rattle.dob_pieces.specs.declared.kind.Side.{Side}
 use Rattle.dob_pieces.specs.declared.kind.Side.TheVariants.{Mover, Enemy}
 use Rattle.dob_pieces.specs.Squares.{column, row}
 
--- A step's columns and rows for the side to move, each with one added, so that (1, 2) is a step straight ahead.
-abbrev pub ahead : ℕ × ℕ
-ahead = (1, 2)
-
-abbrev pub straight : List (ℕ × ℕ)
-straight = (1, 2) ∷ (1, 0) ∷ (2, 1) ∷ (0, 1) ∷ []
-
-abbrev pub diagonal : List (ℕ × ℕ)
-diagonal = (2, 2) ∷ (2, 0) ∷ (0, 2) ∷ (0, 0) ∷ []
-
--- the steps of each kind, seen from the side to move
+-- The steps of each kind, seen from the side to move: columns and rows, each with one added, so that (1, 2) is a step
+-- straight ahead; in the order of the squares to which they lead.
 abbrev pub steps_of : Kind → List (ℕ × ℕ)
-steps_of Lion = (1, 2) ∷ (1, 0) ∷ (2, 1) ∷ (0, 1) ∷ (2, 2) ∷ (2, 0) ∷ (0, 2) ∷ (0, 0) ∷ []
-steps_of Giraffe = straight
-steps_of Elephant = diagonal
-steps_of Chick = ahead ∷ []
-steps_of Hen = (1, 2) ∷ (2, 2) ∷ (0, 2) ∷ (2, 1) ∷ (0, 1) ∷ (1, 0) ∷ []
+steps_of Lion = (0, 0) ∷ (1, 0) ∷ (2, 0) ∷ (0, 1) ∷ (2, 1) ∷ (0, 2) ∷ (1, 2) ∷ (2, 2) ∷ []
+steps_of Giraffe = (1, 0) ∷ (0, 1) ∷ (2, 1) ∷ (1, 2) ∷ []
+steps_of Elephant = (0, 0) ∷ (2, 0) ∷ (0, 2) ∷ (2, 2) ∷ []
+steps_of Chick = (1, 2) ∷ []
+steps_of Hen = (1, 0) ∷ (0, 1) ∷ (2, 1) ∷ (0, 2) ∷ (1, 2) ∷ (2, 2) ∷ []
+
+-- the square of that column and row, each with one added, if the board has it
+abbrev pub square_of : ℕ → ℕ → Option ℕ
+square_of column row = cond (nat_lt 0 column && nat_lt column 4 && (nat_lt 0 row && nat_lt row 5)) (Some (3 * (row - 1) + (column - 1))) None
+
+-- the square to which a step leads, if the board has it
+abbrev pub square_after : ℕ → ℕ × ℕ → Option ℕ
+square_after from step = square_of (column from + step.0) (row from + step.1)
 
 -- one of the kind's steps leads from the one square of the board to the other
 unfoldable pub leads : Kind → ℕ → ℕ → Bool

@@ -12,6 +12,7 @@ mod piece_set;
 mod position;
 mod setup;
 mod square;
+mod steps;
 
 pub use fault::PositionFault;
 pub use hand::{Hand, Hands};
@@ -21,6 +22,7 @@ pub use piece_set::{PieceSet, SetText};
 pub use position::Position;
 pub use setup::Setup;
 pub use square::Square;
+pub use steps::Step;
 
 #[cfg(test)]
 mod tests;

@@ -1,80 +1,18 @@
 -- Class numbers: a position's class is found by the lower of two ranks, and classes and their numbers answer each other.
 use Rattle.std.proofs.Common.{◌≡◌, ℕ, zero, suc, ◌+◌, ◌-◌, ◌*◌, ◌/◌, ◌%◌, ◌^◌, ◌<◌, ◌≤◌, ◌⊎◌, ◌==◌, min, bit_and, Bool, true, false, List, get_or, refl, sym, ap, ◌∙◌, subst, inl, inr, arith}
 use Rattle.std.proofs.lemmas.Bool.{cases_lt, cases_order, cases_Bool}
-use Rattle.std.proofs.lemmas.Nat.{and_mask, one_shl}
-use Rattle.std.proofs.lemmas.List.FromFn.{get_or-map-range_with_len}
 use Rattle.std.proofs.Math.Nat.{min-le_left, min-eq_left, min-eq_right, min_comm}
-use lib.Count.{ones}
 use Rattle.dob_pieces.specs.declared.piece_set.PieceSet.{PieceSet}
 use Rattle.dob_pieces.specs.declared.setup.Setup.{Setup}
 use Rattle.dob_pieces.specs.Setups.{mirrored}
 use Rattle.dob_pieces.proofs.Symmetries.{mirrored-mirrored}
-use Rattle.dob_rank.specs.declared.classes.Word.{Word}
 use Rattle.dob_rank.specs.Order.{IsPositionOf, IsFirstOfTwo, IsRepresentative, RepresentativeOf, HasClass, IsInClass}
 use Rattle.dob_rank.specs.Numbers.{size_of, rank_of, nth}
-use Rattle.dob_rank.specs.Marks.{one_if, marks_below, word_of, marked, classes_of, class_number, word_at, words_of}
+use Rattle.dob_rank.specs.Marks.{one_if, marks_below, marked, classes_of, class_number}
 use Rattle.dob_rank.proofs.Numbering.{nth-block, rank_of-nth, rank_of-below, rank_of-rises, rank_of-same, Before-from_rank}
 use Rattle.dob_rank.proofs.Found.{RankOf, IsPositionOf-mirrored}
 use Rattle.dob_rank.proofs.Marks.{HasClass-marked, first-marked, marked-first, marked-first_of}
-use Rattle.dob_rank.proofs.Words.{ones-word_of, word_of-low, word_of-bit, marks_below_more, marks_below_none, marks_below-le}
-
--- ---- one lookup
-
-word_at-bits : (set : PieceSet) (i : ℕ) → (word_at set i).bits ≡ word_of (marked set) (64 * i) 64
-unfolding word_at
-word_at-bits set i = refl
-
-word_at-before : (set : PieceSet) (i : ℕ) → (word_at set i).before ≡ marks_below (marked set) (64 * i)
-unfolding word_at
-word_at-before set i = refl
-
-masked : (x p : ℕ) → p < 64 → bit_and x (1 * 2 ^ p % 18446744073709551616 - 1) ≡ x % 2 ^ p
-masked x p h = ap (λ (m : ℕ). bit_and x (m - 1)) (one_shl p 64 h) ∙ and_mask x p
-
-in_word : (set : PieceSet) (i p number : ℕ) (word : Word) → word ≡ word_at set i → p < 64 → number ≡ ones (bit_and word.bits (1 * 2 ^ p % 18446744073709551616 - 1))
-    → word.before + number ≡ marks_below (marked set) (64 * i + p)
-in_word set i p number word e h n =
-    let bits : word.bits ≡ word_of (marked set) (64 * i) 64 = ap (λ (w : Word). w.bits) e ∙ word_at-bits set i in
-    let before : word.before ≡ marks_below (marked set) (64 * i) = ap (λ (w : Word). w.before) e ∙ word_at-before set i in
-    let low : number ≡ ones (word_of (marked set) (64 * i) p)
-    = n ∙ ap ones (masked word.bits p h ∙ ap (λ (x : ℕ). x % 2 ^ p) bits ∙ word_of-low (marked set) (64 * i) 64 p (let le : p ≤ 64 = omega arith in le)) in
-    ap (λ (x : ℕ). x + number) before ∙ ap (λ (x : ℕ). marks_below (marked set) (64 * i) + x) low ∙ ones-word_of (marked set) (64 * i) p
-
--- the word in which a rank's mark stands
-word_found : (set : PieceSet) (rank len : ℕ) (items : List Word) (word : Word) → items ≡ words_of set len → rank < size_of set → size_of set < 64 * len
-    → word ≡ get_or items (rank / 64) word → word ≡ word_at set (rank / 64)
-word_found set rank len items word e h k w =
-    w ∙ ap (λ (xs : List Word). get_or xs (rank / 64) word) e ∙ get_or-map-range_with_len (word_at set) 0 len (rank / 64) (rank / 64) word (within rank len (size_of set) h k) (let same : 0 + rank / 64 ≡ rank / 64 = omega arith in same)
-  where
-    within : (rank len size : ℕ) → rank < size → size < 64 * len → rank / 64 < len
-    within rank len size h k = omega arith
-
--- the ones below the rank's place in it, and the marks before the word, are the marks below the rank
-pub looked_up : (set : PieceSet) (rank len number : ℕ) (items : List Word) (word : Word) → items ≡ words_of set len → rank < size_of set → size_of set < 64 * len
-    → word ≡ get_or items (rank / 64) word → number ≡ ones (bit_and word.bits (1 * 2 ^ (rank % 64) % 18446744073709551616 - 1)) → word.before + number ≡ marks_below (marked set) rank
-looked_up set rank len number items word e h k w n =
-    in_word set (rank / 64) (rank % 64) number word (word_found set rank len items word e h k w) (let low : rank % 64 < 64 = omega arith in low) n
-    ∙ ap (marks_below (marked set)) (let whole : 64 * (rank / 64) + rank % 64 ≡ rank = omega arith in whole)
-
--- and the bit at its place is the rank's mark
-pub looked_up-mark : (set : PieceSet) (rank len : ℕ) (items : List Word) (word : Word) → items ≡ words_of set len → rank < size_of set → size_of set < 64 * len
-    → word ≡ get_or items (rank / 64) word → (bit_and (word.bits / 2 ^ (rank % 64)) 1 == 1) ≡ marked set rank
-looked_up-mark set rank len items word e h k w =
-    let bits : word.bits ≡ word_of (marked set) (64 * (rank / 64)) 64
-    = ap (λ (w : Word). w.bits) (word_found set rank len items word e h k w) ∙ word_at-bits set (rank / 64) in
-    let whole : 64 * (rank / 64) + rank % 64 ≡ rank = omega arith in
-    let bit : bit_and (word.bits / 2 ^ (rank % 64)) 1 ≡ one_if (marked set rank)
-    = and_mask (word.bits / 2 ^ (rank % 64)) 1 ∙ ap (λ (x : ℕ). x / 2 ^ (rank % 64) % 2) bits
-    ∙ word_of-bit (marked set) (64 * (rank / 64)) 64 (rank % 64) (let low : rank % 64 < 64 = omega arith in low)
-    ∙ ap (λ (x : ℕ). one_if (marked set x)) whole in
-    ap (λ (x : ℕ). x == 1) bit ∙ is_one (marked set rank)
-  where
-    is_one : (b : Bool) → (one_if b == 1) ≡ b
-    is_one true = refl
-    is_one false = refl
-
-pub looked_up-low : (set : PieceSet) (rank sum : ℕ) → sum ≡ marks_below (marked set) rank → sum ≤ rank
-looked_up-low set rank sum e = subst (λ (x : ℕ). x ≤ rank) (sym e) (marks_below-le (marked set) rank)
+use Rattle.dob_rank.proofs.Words.{marks_below_more, marks_below_none}
 
 -- ---- marks below a place rise with the place
 
@@ -144,6 +82,7 @@ pub IsInClass-class_number : (set : PieceSet) (s : Setup) → IsPositionOf set s
 IsInClass-class_number set s p =
     let e = earlier set s p in
     record {
+      position = p;
       first = e.0;
       representative = e.1.representative;
       before = subst (HasClass set e.0) (sym (class_number-is set s ∙ ap (marks_below (marked set)) e.1.rank_is)) (HasClass-marked set e.0 e.1.position);
@@ -204,28 +143,6 @@ class_number-mirrored set s p =
     ∙ sym (class_number-is set s)
 
 -- ---- the representative of a class number
-
--- the search for a rank starts between 0 and the size
-pub record IsStart (set : PieceSet) (size class : ℕ) : Type 0 where
-  pub some : 0 < size
-  pub within : size ≤ size_of set
-  pub low_is : marks_below (marked set) 0 ≤ class
-  pub high_is : class < marks_below (marked set) size
-
-pub search_start : (set : PieceSet) (size class : ℕ) → size ≡ size_of set → class < classes_of set → IsStart set size class
-unfolding classes_of
-search_start set size class e h =
-    let high : class < marks_below (marked set) size = subst (λ (x : ℕ). class < marks_below (marked set) x) (sym e) h in
-    let few : marks_below (marked set) size ≤ size = marks_below-le (marked set) size in
-    record {
-      some = omega arith;
-      within = equal_le size (size_of set) e;
-      low_is = (let none : marks_below (marked set) 0 ≡ 0 = marks_below_none (marked set) in omega arith);
-      high_is = high;
-    }
-  where
-    equal_le : (a b : ℕ) → a ≡ b → a ≤ b
-    equal_le a b e = omega arith
 
 -- where the marks below a place are no more than a number and those below the next place are more, the place is marked
 pub record IsMarkedAt (mark : ℕ → Bool) (place number : ℕ) : Type 0 where
@@ -294,3 +211,23 @@ representative_once set s t p q e =
     = sym (class_number-first set s p.0 p.1) ∙ e ∙ class_number-first set t q.0 q.1 in
     rank_of-same set s t p.0 q.0
     (marks_below-same (marked set) (rank_of set s) (rank_of set t) (representative-marked set s p) (representative-marked set t q) marks)
+
+-- ---- the class of a position by the mark of its rank
+
+pub class_of_marked : (set : PieceSet) (s : Setup) (class : ℕ) → IsPositionOf set s → marked set (rank_of set s) ≡ true →
+    class ≡ marks_below (marked set) (rank_of set s) → class ≡ class_number set s
+class_of_marked set s class p on is =
+    sym (at_class set s (rank_of set s) class p refl (rank_of-below set s p) on (sym is)).number_is
+
+pub class_of_unmarked : (set : PieceSet) (s t : Setup) (class : ℕ) → IsPositionOf set s → marked set (rank_of set s) ≡ false → t ≡ mirrored s →
+    class ≡ marks_below (marked set) (rank_of set t) → class ≡ class_number set s
+class_of_unmarked set s t class p off image is =
+    is ∙ ap (λ q. marks_below (marked set) (rank_of set q)) image
+    ∙ ap (marks_below (marked set)) (sym (lower (rank_of set s) (rank_of set (mirrored s)) (elim (cases_lt (rank_of set (mirrored s)) (rank_of set s)) [
+      | inl lt ↦ lt
+      | inr ge ↦ absurd (later_unmarked set s (rank_of set s) p refl off (first_low set s p ge))
+    ])))
+    ∙ sym (class_number-is set s)
+  where
+    lower : (own image : ℕ) → image < own → min own image ≡ image
+    lower own image lt = min-eq_right (let le : image ≤ own = omega arith in le)

@@ -115,7 +115,7 @@ HasDigits-digits set s h =
 
 -- ---- back
 
-hide_zero : (ls : List ℕ) → hide 0 ls ≡ replicate (length ls) 5
+pub hide_zero : (ls : List ℕ) → hide 0 ls ≡ replicate (length ls) 5
 hide_zero [] = refl
 hide_zero (l ∷ ls) = (let head : hidden 0 l ≡ 5 = hidden_later 0 l (omega arith) in let rest : hide 0 ls ≡ replicate (length ls) 5 = hide_zero ls in cc)
 

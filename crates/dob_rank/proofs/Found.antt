@@ -12,8 +12,8 @@ use Rattle.dob_rank.specs.Numbers.{count, with_first, settle, product, number_of
 use Rattle.dob_rank.proofs.MixedRadix.{number_of-below, HasDigits-digits_of}
 use Rattle.dob_rank.proofs.Settled.{AreLayers, settle_kept, settle_taken, settle_left}
 use Rattle.dob_rank.proofs.Digits.{HasParts-from_position, HasDigits-on_board, HasDigits-digits}
-use Rattle.dob_rank.proofs.Numbering.{HasBlock, HasBlock-setup_in, block_size-product, rank_of-place, place_of, rank_of-block, rank_of-rises}
-use Rattle.dob_rank.proofs.Blocks.{AreBases}
+use Rattle.dob_rank.proofs.Numbering.{HasBlock, HasBlock-setup_in, block_size-product, block_of-below, place_of-below, rank_of-place, place_of, rank_of-rises}
+use Rattle.dob_rank.proofs.Blocks.{AreBases, block_size-small}
 use Rattle.dob_rank.proofs.Sets.{set_of, IsPositionOf-set_of}
 
 pub HasDigits-same : (bs cs ds es : List ℕ) → bs ≡ cs → ds ≡ es → HasDigits cs es → HasDigits bs ds
@@ -28,23 +28,34 @@ pub HasDigits-place : (set : PieceSet) (s : Setup) (nums bs ds : List ℕ) → I
 HasDigits-place set s nums bs ds p e f g =
     HasDigits-same bs (bases_by set (on_board s)) ds (digits s) (f ∙ ap (bases_by set) e) g (HasDigits-digits set s (HasParts-from_position set s p))
 
-pub block_within : (set : PieceSet) (bb nums : List ℕ) (block : ℕ) → bb ≡ block_bases set → HasDigits (block_bases set) nums → block ≡ number_of bb nums → block ≤ product (block_bases set)
-block_within set bb nums block e h f = at_most block (number_of (block_bases set) nums) (product (block_bases set)) (f ∙ ap (λ (xs : List ℕ). number_of xs nums) e) (number_of-below (block_bases set) nums h)
+-- the code's numbers of the block and of the place
+pub block_found : (set : PieceSet) (s : Setup) (bb nums : List ℕ) (block : ℕ) → bb ≡ block_bases set → nums ≡ on_board s → block ≡ number_of bb nums →
+    block ≡ block_of set s
+block_found set s bb nums block a b e = e ∙ ap (λ (xs : List ℕ). number_of xs nums) a ∙ ap (number_of (block_bases set)) b
+
+pub place_found : (set : PieceSet) (s : Setup) (nums bs ds : List ℕ) (place : ℕ) → nums ≡ on_board s → bs ≡ bases_by set nums → ds ≡ digits s →
+    place ≡ number_of bs ds → place ≡ place_of set s
+place_found set s nums bs ds place b c d f =
+    f ∙ ap (λ (xs : List ℕ). number_of xs ds) (c ∙ ap (bases_by set) b) ∙ ap (number_of (bases_by set (on_board s))) d
+
+pub block_upto : (set : PieceSet) (s : Setup) (block : ℕ) → IsPositionOf set s → block ≡ block_of set s → block ≤ product (block_bases set)
+block_upto set s block p is = at_most block (block_of set s) (product (block_bases set)) is (block_of-below set s p)
   where
     at_most : (a b c : ℕ) → a ≡ b → b < c → a ≤ c
     at_most a b c h k = omega arith
 
-pub rank_fits : (start place : ℕ) (bs ds : List ℕ) → start ≤ 27 * 68719476736 → AreBases bs → HasDigits bs ds → place ≡ number_of bs ds → start + place < 18446744073709551616
-rank_fits start place bs ds h a d e = sum_small start place (number_of bs ds) (product bs) h e (number_of-below bs ds d) a.small_product
+pub rank_small : (set : PieceSet) (s : Setup) (start place : ℕ) → IsPositionOf set s → start ≤ 27 * 68719476736 → place ≡ place_of set s →
+    start + place < 18446744073709551616
+rank_small set s start place p h is =
+    sum_small start place (place_of set s) (block_size set (block_of set s)) h is (place_of-below set s p)
+    (block_size-small set (block_of set s) (block_of-below set s p))
   where
     sum_small : (start place n p : ℕ) → start ≤ 27 * 68719476736 → place ≡ n → n < p → p ≤ 68719476736 → start + place < 18446744073709551616
     sum_small start place n p h e k l = omega arith
 
-pub rank_found : (set : PieceSet) (s : Setup) (bb nums bs ds : List ℕ) (block place start : ℕ) → bb ≡ block_bases set → nums ≡ on_board s → bs ≡ bases_by set nums → ds ≡ digits s
-    → block ≡ number_of bb nums → place ≡ number_of bs ds → start ≡ sum_below (block_size set) block → start + place ≡ rank_of set s
-rank_found set s bb nums bs ds block place start a b c d e f g =
-    let block_is : block ≡ block_of set s = e ∙ ap (λ (xs : List ℕ). number_of xs nums) a ∙ ap (number_of (block_bases set)) b in
-    let place_is : place ≡ place_of set s = f ∙ ap (λ (xs : List ℕ). number_of xs ds) (c ∙ ap (bases_by set) b) ∙ ap (number_of (bases_by set (on_board s))) d in
+pub ranked : (set : PieceSet) (s : Setup) (block place start : ℕ) → block ≡ block_of set s → place ≡ place_of set s →
+    start ≡ sum_below (block_size set) block → start + place ≡ rank_of set s
+ranked set s block place start block_is place_is g =
     ap (λ (x : ℕ). x + place) (g ∙ ap (sum_below (block_size set)) block_is)
     ∙ ap (λ (x : ℕ). sum_below (block_size set) (block_of set s) + x) place_is
     ∙ sym (rank_of-place set s)
@@ -57,23 +68,17 @@ HasDigits-found set block place nums bs ds h e f g =
     let low : place < product (bases_by set nums) = subst (λ (x : ℕ). place < x) (block_size-product set block ∙ ap (λ (xs : List ℕ). product (bases_by set xs)) (sym e)) h in
     subst (HasDigits (bases_by set nums)) (sym (g ∙ ap (λ (xs : List ℕ). digits_of xs place) f)) (HasDigits-digits_of (bases_by set nums) place low)
 
--- the position that the code makes of a rank
-pub record IsUnranked (set : PieceSet) (rank : ℕ) (s : Setup) : Type 0 where
-  pub position : IsPositionOf set s
-  pub rank_is : rank_of set s ≡ rank
-
-pub unrank_found : (set : PieceSet) (rank block place : ℕ) (nums bs ds : List ℕ) (s : Setup) → block < product (block_bases set) → place < block_size set block
-    → sum_below (block_size set) block + place ≡ rank → nums ≡ digits_of (block_bases set) block → bs ≡ bases_by set nums → ds ≡ digits_of bs place → s ≡ setup_by set nums ds
-    → IsUnranked set rank s
-unrank_found set rank block place nums bs ds s a b c d e f g =
+-- the position that the code makes of a place
+pub made_at : (set : PieceSet) (block place : ℕ) (nums bs ds : List ℕ) (s : Setup) → block < product (block_bases set) → place < block_size set block
+    → nums ≡ digits_of (block_bases set) block → bs ≡ bases_by set nums → ds ≡ digits_of bs place → s ≡ setup_by set nums ds → HasBlock set block place s
+made_at set block place nums bs ds s a b d e f g =
     let same : s ≡ setup_in set block place
     = g ∙ ap (setup_by set nums) (f ∙ ap (λ (xs : List ℕ). digits_of xs place) e)
     ∙ ap (λ (xs : List ℕ). setup_by set xs (digits_of (bases_by set xs) place)) d in
-    let h : HasBlock set block place (setup_in set block place) = HasBlock-setup_in set block place (record { block_below = a; place_below = b }) in
-    subst (IsUnranked set rank) (sym same) (record { position = h.position; rank_is = rank_of-block set block place (setup_in set block place) h ∙ c })
+    subst (HasBlock set block place) (sym same) (HasBlock-setup_in set block place (record { block_below = a; place_below = b }))
 
-pub unrank_same : (set : PieceSet) (rank : ℕ) (s t : Setup) → t ≡ s → IsUnranked set rank s → IsUnranked set rank t
-unrank_same set rank s t e h = subst (IsUnranked set rank) (sym e) h
+pub made_same : (set : PieceSet) (block place : ℕ) (s t : Setup) → t ≡ s → HasBlock set block place s → HasBlock set block place t
+made_same set block place s t e h = subst (HasBlock set block place) (sym e) h
 
 -- ---- layers settled are layers
 

@@ -1,21 +1,34 @@
-pub mod MixedRadix
-pub mod Sums
-pub mod Counts
-pub mod Choices
-pub mod Settled
-pub mod FormDigits
-pub mod LayerCounts
-pub mod Order
-pub mod KeyParts
-pub mod Digits
-pub mod Made
-pub mod Keys
-pub mod Numbering
-pub mod Loops
-pub mod Blocks
-pub mod Sets
-pub mod Found
-pub mod Marks
-pub mod Words
-pub mod ClassNumbers
-pub mod Segmentation
+-- The lemmas, in the order in which they are read. First arithmetic and lists.
+pub mod MixedRadix  -- numbers and their digits
+pub mod Sums  -- sums over the blocks before one
+pub mod Counts  -- a numbering shows how many there are
+pub mod Order  -- the lexicographic order of lists
+pub mod Counted  -- lists without repeats, and counts
+-- Boards as layers, choices of squares and forms.
+pub mod Choices  -- the numbers of choices of squares
+pub mod Settled  -- a choice settles its layer again
+pub mod FormDigits  -- forms as digits
+pub mod LayerCounts  -- what the layers of a position count
+pub mod KeyParts  -- squares and forms, layer by layer
+-- Ranks.
+pub mod Digits  -- a position's digits, and back
+pub mod Made  -- digits make a position
+pub mod Keys  -- keys and digits have one order
+pub mod Numbering  -- ranks number the positions in their order
+pub mod Loops  -- what the code's loops keep
+pub mod Blocks  -- blocks are small
+pub mod Sets  -- a position and its set
+pub mod Found  -- what the code's lists and numbers are
+-- Classes.
+pub mod Marks  -- marked ranks are representatives
+pub mod Words  -- words of marks
+pub mod ClassNumbers  -- class numbers are marks below
+pub mod Representatives  -- one representative and one number a class
+-- Runs of ranks with the same hands and lions.
+pub mod Lions  -- what the lions' columns say
+pub mod RunPlaces  -- a place is a run and a place in it
+pub mod RunMarks  -- the marks of runs
+pub mod RunTables  -- the tables of runs and words grow
+pub mod BlockTables  -- the blocks of a set
+-- Long lists.
+pub mod Segmentation  -- lists in segments

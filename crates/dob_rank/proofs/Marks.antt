@@ -174,26 +174,3 @@ marks_below-past set (suc n) (suc k) e =
     let rest : marks_below (marked set) n ≡ classes_of set = marks_below-past set n k (omega arith) in
     let off : one_if (marked set n) ≡ 0 = ap one_if (marked_past set n (omega arith)) in
     omega arith
-
--- all words of a set have all its marks
-pub all_marked : (set : PieceSet) (size word : ℕ) → size ≡ size_of set → size / 64 + 1 ≤ word → marks_below (marked set) (64 * word) ≡ classes_of set
-all_marked set size word e h =
-    let low : size_of set ≤ 64 * word = at_most size (size_of set) word e h in
-    marks_below-past set (64 * word) (64 * word - size_of set) (let whole : size_of set + (64 * word - size_of set) ≡ 64 * word = omega arith in whole)
-  where
-    at_most : (size count word : ℕ) → size ≡ count → size / 64 + 1 ≤ word → count ≤ 64 * word
-    at_most size count word e h = omega arith
-
--- ---- the marks of the code
-
--- a rank under each set of the position, as the code finds it
-abbrev pub FoundRank : Setup → ℕ → Type 0
-FoundRank s n = (set : PieceSet) → IsPositionOf set s → n ≡ rank_of set s
-
--- the test of a rank against that of the mirror image
-pub first_test : (set : PieceSet) (n m : ℕ) (s t : Setup) → n < size_of set → IsPositionOf set s → rank_of set s ≡ n → t ≡ mirrored s → FoundRank t m → leb n m ≡ marked set n
-first_test set n m s t h p r e f =
-    let image : IsPositionOf set t = subst (IsPositionOf set) (sym e) (IsPositionOf-mirrored set s p) in
-    let same : nth set n ≡ s = ap (nth set) (sym r) ∙ nth-rank_of set s p in
-    let number : m ≡ rank_of set (mirrored (nth set n)) = f set image ∙ ap (rank_of set) (e ∙ ap mirrored (sym same)) in
-    ap (leb n) number ∙ sym (marked-first_of set n h)

@@ -5,6 +5,7 @@ use Rattle.dob_pieces.specs.declared.piece_set.PieceSet.{PieceSet}
 use Rattle.dob_pieces.specs.declared.setup.Setup.{Setup}
 use Rattle.dob_rank.specs.Order.{IsPositionOf, Before, key, HasSize, HasRank}
 use Rattle.dob_rank.specs.Numbers.{settle, product, number_of, digits_of, HasDigits, sum_below, block_bases, bases_by, on_board, digits, block_of, block_size, size_of, rank_of, setup_by, setup_in, find, nth}
+pub use Rattle.dob_rank.specs.Numbers.{place_of, HasBlock}
 use Rattle.dob_rank.proofs.MixedRadix.{number_of-below, number_of-rises, HasDigits-digits_of, number_of-digits_of, digits_of-number_of}
 use Rattle.dob_rank.proofs.Sums.{sum_below-rises, same_block}
 use Rattle.dob_rank.proofs.Counts.{HasCount-from_numbering}
@@ -14,10 +15,6 @@ use Rattle.dob_rank.proofs.Keys.{Before-digits, key-same}
 use Rattle.dob_rank.proofs.Order.{Precedes-total}
 
 -- ---- a rank is the start of its block and the place there
-
--- the place of a setup in its block
-abbrev pub place_of : PieceSet → Setup → ℕ
-place_of set s = number_of (bases_by set (on_board s)) (digits s)
 
 pub rank_of-place : (set : PieceSet) (s : Setup) → rank_of set s ≡ sum_below (block_size set) (block_of set s) + place_of set s
 unfolding rank_of
@@ -63,10 +60,6 @@ pub record IsPlace (set : PieceSet) (block place : ℕ) : Type 0 where
   pub place_below : place < block_size set block
 
 -- any place makes a position of the set that has that block and place
-pub record HasBlock (set : PieceSet) (block place : ℕ) (s : Setup) : Type 0 where
-  pub position : IsPositionOf set s
-  pub block_is : block_of set s ≡ block
-  pub place_is : place_of set s ≡ place
 
 -- what the setup of digits has
 record HasBoth (set : PieceSet) (ob ds : List ℕ) (s : Setup) : Type 0 where

@@ -1,13 +1,10 @@
 -- Words of marks: their ones are the marks, and their low bits the first of them.
-use Rattle.std.proofs.Common.{◌≡◌, ℕ, zero, suc, ◌+◌, ◌-◌, ◌*◌, ◌/◌, ◌%◌, ◌^◌, ◌<◌, ◌≤◌, Bool, true, false, List, [], ◌∷◌, ◌++◌, refl, sym, ap, ◌∙◌, arith}
-use Rattle.std.proofs.lemmas.Nat.{ones_cat, div-mul-add, mod-mul-add, shr-shr}
+use Rattle.std.proofs.Common.{◌≡◌, ℕ, zero, suc, ◌+◌, ◌-◌, ◌*◌, ◌/◌, ◌%◌, ◌^◌, ◌<◌, ◌≤◌, ◌==◌, bit_and, Bool, true, false, List, [], ◌∷◌, ◌++◌, refl, sym, ap, ◌∙◌, arith}
+use Rattle.std.proofs.lemmas.Nat.{and_mask, one_shl, ones_cat, div-mul-add, mod-mul-add, shr-shr}
 use Rattle.std.proofs.Math.Nat.{pow-zero, pow-le-pow_right, pow-suc}
 use Rattle.std.proofs.Math.Arith.{mod-mul}
 use lib.Count.{ones}
-use Rattle.dob_rank.specs.Marks.{one_if, marks_below, word_of, marked, word_at, words_of}
-use Rattle.dob_rank.specs.declared.classes.Word.{Word}
-use Rattle.dob_pieces.specs.declared.piece_set.PieceSet.{PieceSet}
-use Rattle.std.proofs.lemmas.List.FromFn.{map-range_with_len_more}
+use Rattle.dob_rank.specs.Marks.{one_if, marks_below, word_of}
 use Rattle.dob_rank.proofs.FormDigits.{power_positive}
 
 one_if-below : (b : Bool) → one_if b < 2
@@ -93,26 +90,47 @@ word_of-bit mark from (suc n) (suc p) h =
     ∙ word_of-bit mark (suc from) n p (omega arith)
     ∙ ap (λ (x : ℕ). one_if (mark x)) (let e : suc from + p ≡ from + suc p = omega arith in e)
 
+-- the bit of a place is its mark
+pub mark_at_bit : (mark : ℕ → Bool) (from len place bits : ℕ) → bits ≡ word_of mark from len → place < len →
+    (bit_and (bits / 2 ^ place) 1 == 1) ≡ mark (from + place)
+mark_at_bit mark from len place bits is below =
+    let bit : bit_and (bits / 2 ^ place) 1 ≡ one_if (mark (from + place)) =
+    and_mask (bits / 2 ^ place) 1 ∙ ap (λ (x : ℕ). x / 2 ^ place % 2) is ∙ word_of-bit mark from len place below in
+    ap (λ (x : ℕ). x == 1) bit ∙ is_one (mark (from + place))
+  where
+    is_one : (b : Bool) → (one_if b == 1) ≡ b
+    is_one true = refl
+    is_one false = refl
+
+-- and the ones below it are the marks before it
+pub marks_before_bit : (mark : ℕ → Bool) (from len place bits before number : ℕ) → place < 64 → bits ≡ word_of mark from len → place < len →
+    before ≡ marks_below mark from → number ≡ ones (bit_and bits (1 * 2 ^ place % 18446744073709551616 - 1)) → before + number ≡ marks_below mark (from + place)
+marks_before_bit mark from len place bits before number few is below first counted =
+    let low : bit_and bits (1 * 2 ^ place % 18446744073709551616 - 1) ≡ bits % 2 ^ place =
+    ap (λ (m : ℕ). bit_and bits (m - 1)) (one_shl place 64 few) ∙ and_mask bits place in
+    let marks : number ≡ ones (word_of mark from place) =
+    counted ∙ ap ones (low ∙ ap (λ (x : ℕ). x % 2 ^ place) is ∙ word_of-low mark from len place (omega arith)) in
+    ap (λ (x : ℕ). x + number) first ∙ ap (λ (x : ℕ). marks_below mark from + x) marks ∙ ones-word_of mark from place
+
 -- one more mark in front of a word
-pub record IsWordStep (mark : ℕ → Bool) (first place word bit : ℕ) : Type 0 where
-  pub word_is : 2 * word + bit ≡ word_of mark (first + (place - 1)) (64 - (place - 1))
+pub record IsWordStep (mark : ℕ → Bool) (len first place word bit : ℕ) : Type 0 where
+  pub word_is : 2 * word + bit ≡ word_of mark (first + (place - 1)) (len - (place - 1))
   pub small : 2 * word + bit < 18446744073709551616
 
-pub word_step : (mark : ℕ → Bool) (first place word bit : ℕ) → 0 < place → place ≤ 64 → word ≡ word_of mark (first + place) (64 - place) → bit ≡ one_if (mark (first + (place - 1)))
-    → IsWordStep mark first place word bit
-word_step mark first place word bit p q e b =
-    let n : ℕ = 64 - place in
+pub word_step : (mark : ℕ → Bool) (len first place word bit : ℕ) → 0 < place → place ≤ len → len ≤ 64 → word ≡ word_of mark (first + place) (len - place)
+    → bit ≡ one_if (mark (first + (place - 1))) → IsWordStep mark len first place word bit
+word_step mark len first place word bit p q few e b =
     let next : suc (first + (place - 1)) ≡ first + place = omega arith in
-    let len : 64 - (place - 1) ≡ suc (64 - place) = omega arith in
-    let whole : word_of mark (first + (place - 1)) (64 - (place - 1)) ≡ word_of mark (first + place) (64 - place) * 2 + one_if (mark (first + (place - 1)))
-    = ap (word_of mark (first + (place - 1))) len ∙ word_of_more mark (first + (place - 1)) (64 - place)
-    ∙ ap (λ (x : ℕ). word_of mark x (64 - place) * 2 + one_if (mark (first + (place - 1)))) next in
-    let is : 2 * word + bit ≡ word_of mark (first + (place - 1)) (64 - (place - 1)) = omega arith in
-    let low : word_of mark (first + (place - 1)) (64 - (place - 1)) < 2 ^ (64 - (place - 1)) = word_of-below mark (first + (place - 1)) (64 - (place - 1)) in
-    let few : 2 ^ (64 - (place - 1)) ≤ 2 ^ 64 = pow-le-pow_right (let two : 0 < 2 = omega arith in two) (let l : 64 - (place - 1) ≤ 64 = omega arith in l) in
+    let longer : len - (place - 1) ≡ suc (len - place) = omega arith in
+    let whole : word_of mark (first + (place - 1)) (len - (place - 1)) ≡ word_of mark (first + place) (len - place) * 2 + one_if (mark (first + (place - 1)))
+    = ap (word_of mark (first + (place - 1))) longer ∙ word_of_more mark (first + (place - 1)) (len - place)
+    ∙ ap (λ (x : ℕ). word_of mark x (len - place) * 2 + one_if (mark (first + (place - 1)))) next in
+    let is : 2 * word + bit ≡ word_of mark (first + (place - 1)) (len - (place - 1)) = omega arith in
+    let low : word_of mark (first + (place - 1)) (len - (place - 1)) < 2 ^ (len - (place - 1)) = word_of-below mark (first + (place - 1)) (len - (place - 1)) in
+    let below : 2 ^ (len - (place - 1)) ≤ 2 ^ 64 = pow-le-pow_right (let two : 0 < 2 = omega arith in two) (let l : len - (place - 1) ≤ 64 = omega arith in l) in
     record { word_is = is; small = omega arith }
 
--- ---- the words of a set
+-- ---- marks below a place
 
 pub marks_below-le : (mark : ℕ → Bool) (n : ℕ) → marks_below mark n ≤ n
 unfolding marks_below
@@ -123,30 +141,28 @@ pub marks_below_none : (mark : ℕ → Bool) → marks_below mark 0 ≡ 0
 unfolding marks_below
 marks_below_none mark = refl
 
--- one more word
-pub record IsTableStep (set : PieceSet) (word bits before count : ℕ) (items : List Word) : Type 0 where
-  pub items_are : items ++ record { bits = bits; before = before } ∷ [] ≡ words_of set (word + 1)
-  pub before_is : before + count ≡ marks_below (marked set) (64 * (word + 1))
-  pub low : before + count ≤ 64 * (word + 1)
+-- a stretch of marked places
+pub marks_below-all : (mark : ℕ → Bool) (from n : ℕ) → ((k : ℕ) → k < n → mark (from + k) ≡ true) →
+    marks_below mark (from + n) ≡ marks_below mark from + n
+marks_below-all mark from zero all =
+    let same : marks_below mark (from + 0) ≡ marks_below mark from = ap (marks_below mark) (let e : from + 0 ≡ from = omega arith in e) in
+    omega (arith, same)
+marks_below-all mark from (suc n) all =
+    let rest = marks_below-all mark from n (λ k below. all k (omega arith)) in
+    let more = marks_below_more mark (from + n) in
+    let one : one_if (mark (from + n)) ≡ 1 = ap one_if (all n (omega arith)) in
+    let same : marks_below mark (from + suc n) ≡ marks_below mark (suc (from + n)) =
+    ap (marks_below mark) (let e : from + suc n ≡ suc (from + n) = omega arith in e) in
+    omega (arith, rest, more, one, same)
 
-abbrev make_word : ℕ → ℕ → Word
-make_word bits before = record { bits = bits; before = before }
-
-word_at-is : (set : PieceSet) (word bits before : ℕ) → bits ≡ word_of (marked set) (64 * word) 64 → before ≡ marks_below (marked set) (64 * word) → make_word bits before ≡ word_at set word
-unfolding word_at
-word_at-is set word bits before p q = ap (λ (x : ℕ). make_word x before) p ∙ ap (make_word (word_of (marked set) (64 * word) 64)) q
-
-pub table_step : (set : PieceSet) (word bits before count : ℕ) (items : List Word) → items ≡ words_of set word → bits ≡ word_of (marked set) (64 * word) 64
-    → before ≡ marks_below (marked set) (64 * word) → count ≡ ones bits → IsTableStep set word bits before count items
-table_step set word bits before count items e p q r =
-    let sum : marks_below (marked set) (64 * word) + ones (word_of (marked set) (64 * word) 64) ≡ marks_below (marked set) (64 * word + 64) = ones-word_of (marked set) (64 * word) 64 in
-    let same : count ≡ ones (word_of (marked set) (64 * word) 64) = r ∙ ap ones p in
-    let next : marks_below (marked set) (64 * word + 64) ≡ marks_below (marked set) (64 * (word + 1)) = ap (marks_below (marked set)) (let s : 64 * word + 64 ≡ 64 * (word + 1) = omega arith in s) in
-    let is : before + count ≡ marks_below (marked set) (64 * (word + 1)) = ap (λ (x : ℕ). x + count) q ∙ ap (λ (x : ℕ). marks_below (marked set) (64 * word) + x) same ∙ sum ∙ next in
-    record {
-      items_are = ap (λ (xs : List Word). xs ++ make_word bits before ∷ []) e
-          ∙ ap (λ (x : Word). words_of set word ++ x ∷ []) (word_at-is set word bits before p q)
-          ∙ sym (map-range_with_len_more (word_at set) 0 word word (omega arith));
-      before_is = is;
-      low = (let le : marks_below (marked set) (64 * (word + 1)) ≤ 64 * (word + 1) = marks_below-le (marked set) (64 * (word + 1)) in omega arith);
-    }
+-- and one of places that aren't
+pub marks_below-unmarked : (mark : ℕ → Bool) (from n : ℕ) → ((k : ℕ) → k < n → mark (from + k) ≡ false) →
+    marks_below mark (from + n) ≡ marks_below mark from
+marks_below-unmarked mark from zero all = ap (marks_below mark) (let e : from + 0 ≡ from = omega arith in e)
+marks_below-unmarked mark from (suc n) all =
+    let rest = marks_below-unmarked mark from n (λ k below. all k (omega arith)) in
+    let more = marks_below_more mark (from + n) in
+    let none : one_if (mark (from + n)) ≡ 0 = ap one_if (all n (omega arith)) in
+    let same : marks_below mark (from + suc n) ≡ marks_below mark (suc (from + n)) =
+    ap (marks_below mark) (let e : from + suc n ≡ suc (from + n) = omega arith in e) in
+    omega (arith, rest, more, none, same)

@@ -1,6 +1,11 @@
 pub mod Order
 pub mod Numbers
 pub mod Marks
+pub mod ClassRows
+pub mod Runs
+pub mod RunTables
+pub mod BlockTables
+pub mod Laws
 pub mod Faults
 pub mod Segmented
 pub mod SegmentsLeft

@@ -1,7 +1,5 @@
 -- Marked ranks, and their marks as the bits of words.
-use Rattle.std.specs.Prelude.{ℕ, zero, suc, ◌+◌, ◌*◌, ◌&&◌, nat_lt, nat_le, min, Bool, true, false, List, map}
-use Rattle.std.specs.List.{range_with_len}
-use Rattle.dob_rank.specs.declared.classes.Word.{Word}
+use Rattle.std.specs.Prelude.{ℕ, zero, suc, ◌+◌, ◌*◌, ◌&&◌, nat_lt, nat_le, min, Bool, true, false}
 use Rattle.dob_pieces.specs.declared.piece_set.PieceSet.{PieceSet}
 use Rattle.dob_pieces.specs.declared.setup.Setup.{Setup}
 use Rattle.dob_pieces.specs.Setups.{mirrored}
@@ -35,11 +33,3 @@ classes_of set = marks_below (marked set) (size_of set)
 -- the number of the setup's class: the marks below its rank or that of its mirror image, whichever is lower
 unfoldable pub class_number : PieceSet → Setup → ℕ
 class_number set setup = marks_below (marked set) (min (rank_of set setup) (rank_of set (mirrored setup)))
-
--- the word of that number: 64 marks, and the number of marks before them
-unfoldable pub word_at : PieceSet → ℕ → Word
-word_at set number = record { bits = word_of (marked set) (64 * number) 64; before = marks_below (marked set) (64 * number) }
-
--- the first words of the set
-abbrev pub words_of : PieceSet → ℕ → List Word
-words_of set count = map (word_at set) (range_with_len 0 count)

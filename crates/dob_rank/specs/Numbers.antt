@@ -1,5 +1,5 @@
 -- The arithmetic that finds a rank: mixed radix numbers, choices of squares, forms, and the blocks of one set.
-use Rattle.std.specs.Prelude.{ℕ, zero, suc, ◌<◌, ◌+◌, ◌-◌, ◌*◌, ◌/◌, ◌%◌, ◌^◌, ◌==◌, nat_lt, cond, List, [], ◌∷◌, Some, None, map, slice_index, replicate}
+use Rattle.std.specs.Prelude.{◌≡◌, ℕ, zero, suc, ◌<◌, ◌+◌, ◌-◌, ◌*◌, ◌/◌, ◌%◌, ◌^◌, ◌==◌, nat_lt, cond, List, [], ◌∷◌, Some, None, map, slice_index, replicate}
 use Rattle.std.specs.List.{AllZip}
 use Rattle.dob_pieces.specs.declared.kind.Kind.{Kind}
 use Rattle.dob_pieces.specs.declared.kind.Kind.TheVariants.{Lion, Giraffe, Elephant, Chick, Hen}
@@ -10,7 +10,7 @@ use Rattle.dob_pieces.specs.declared.hand.Hands.{Hands}
 use Rattle.dob_pieces.specs.declared.piece_set.PieceSet.{PieceSet}
 use Rattle.dob_pieces.specs.declared.setup.Setup.{Setup}
 use Rattle.dob_pieces.specs.Setups.{Cell, piece_of}
-use Rattle.dob_rank.specs.Order.{form}
+use Rattle.dob_rank.specs.Order.{form, IsPositionOf}
 
 -- ---- mixed radix numbers: a list of bases, and for each base a digit below it, the first of most weight
 
@@ -202,9 +202,23 @@ setup_in set block place =
 unfoldable pub block_size : PieceSet → ℕ → ℕ
 block_size set block = product (bases_by set (digits_of (block_bases set) block))
 
+-- how many positions stand before that block
+abbrev pub start_of : PieceSet → ℕ → ℕ
+start_of set block = sum_below (block_size set) block
+
 -- the number of the setup's block
 abbrev pub block_of : PieceSet → Setup → ℕ
 block_of set setup = number_of (block_bases set) (on_board setup)
+
+-- the setup's place in its block
+abbrev pub place_of : PieceSet → Setup → ℕ
+place_of set setup = number_of (bases_by set (on_board setup)) (digits setup)
+
+-- the position of the set at that place of that block
+pub record HasBlock (set : PieceSet) (block place : ℕ) (setup : Setup) : Type 0 where
+  pub position : IsPositionOf set setup
+  pub block_is : block_of set setup ≡ block
+  pub place_is : place_of set setup ≡ place
 
 -- the number of positions of the set, and the number of those before a setup
 unfoldable pub size_of : PieceSet → ℕ

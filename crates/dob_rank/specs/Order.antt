@@ -102,13 +102,17 @@ HasRank set setup number = HasCount (λ (p : Setup). IsPositionOf set p × Befor
 abbrev pub IsFirstOfTwo : Setup → Type 0
 IsFirstOfTwo setup = Before (mirrored setup) setup → ⊥
 
+-- one of a setup and its mirror image
+abbrev pub IsEither : Setup → Setup → Type 0
+IsEither first setup = (setup ≡ first) ⊎ (setup ≡ mirrored first)
+
 -- a representative of its class: a position of the set that is no later than its mirror image
 abbrev pub IsRepresentative : PieceSet → Setup → Type 0
 IsRepresentative set setup = IsPositionOf set setup × IsFirstOfTwo setup
 
 -- the setup is the earlier of another one and its mirror image
 abbrev pub RepresentativeOf : Setup → Setup → Type 0
-RepresentativeOf setup first = ((first ≡ setup) ⊎ (first ≡ mirrored setup)) × IsFirstOfTwo first
+RepresentativeOf setup first = IsEither setup first × IsFirstOfTwo first
 
 -- the piece set has so many classes
 abbrev pub HasClasses : PieceSet → ℕ → Type 0
@@ -118,8 +122,13 @@ HasClasses set number = HasCount (IsRepresentative set) number
 abbrev pub HasClass : PieceSet → Setup → ℕ → Type 0
 HasClass set setup number = HasCount (λ (p : Setup). IsRepresentative set p × Before p setup) number
 
--- the setup is in the class of that number: so many representatives stand before its own
+-- the setup is the representative of the class with that number
+abbrev pub IsFirstIn : PieceSet → Setup → ℕ → Type 0
+IsFirstIn set setup number = IsRepresentative set setup × HasClass set setup number
+
+-- the position of the set is in the class of that number: so many representatives stand before its own
 pub record IsInClass (set : PieceSet) (setup : Setup) (number : ℕ) : Type 0 where
+  pub position : IsPositionOf set setup
   pub first : Setup
   pub representative : RepresentativeOf setup first
   pub before : HasClass set first number

@@ -2,6 +2,7 @@
 // The blocks stand in the order of those numbers.
 ghost use Rattle.std.specs.Prelude.{◌≡◌, ◌<◌, ◌≤◌, ◌+◌, ◌*◌, ◌^◌, slice_index};
 ghost use Rattle.dob_rank.specs.Numbers.{product, digits_of, sum_below, bases_by, block_bases, block_size as size_of_block, size_of};
+ghost use Rattle.dob_rank.specs.Runs.{runs_in, run_size};
 
 use crate::{layers, radix};
 use dob_pieces::PieceSet;
@@ -88,6 +89,28 @@ pub(crate) fn block_size(set: PieceSet, block: u64) -> u64
 {
     let on_board = numbers_in(set, block);
     radix::product(&bases_in(set, &on_board))
+}
+
+/// How many runs the block of that number has: one for the mover's hand and the lions' squares each.
+pub(crate) fn count_runs(set: PieceSet, block: u64) -> u64
+    requires { block < product (block_bases set) }
+    ensures value { result ≡ runs_in set block }
+    ensures bound { result ≤ 2 ^ 12 }
+{
+    let on_board = numbers_in(set, block);
+    let [chicks, elephants, giraffes, own, enemy, ..] = bases_in(set, &on_board);
+    chicks * (elephants * (giraffes * (own * enemy)))
+}
+
+/// How many positions a run of the block of that number has.
+pub(crate) fn run_size_in(set: PieceSet, block: u64) -> u64
+    requires { block < product (block_bases set) }
+    ensures value { result ≡ run_size set block }
+    ensures positive { 0 < result }
+    ensures bound { result ≤ 2 ^ 36 }
+{
+    let on_board = numbers_in(set, block);
+    radix::product(&bases_in(set, &on_board)[5..])
 }
 
 /// How many positions stand before the block of that number.

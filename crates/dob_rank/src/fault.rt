@@ -2,6 +2,7 @@
 ghost use Rattle.std.specs.Prelude.{◌≡◌, Some};
 ghost use Rattle.dob_rank.specs.declared.fault.Fault.TheVariants as fault;
 
+use dob_pieces::Memory;
 use std::alloc::{AllocError, AllocFailed};
 use std::error::Error;
 use std::fmt;
@@ -34,6 +35,14 @@ impl From<AllocError> for Fault {
     ghost from_gives = { λ _ given. given ≡ fault.Memory };
 
     fn from(_refused: AllocError) -> Fault {
+        Fault::Memory
+    }
+}
+
+impl From<Memory> for Fault {
+    ghost from_gives = { λ _ given. given ≡ fault.Memory };
+
+    fn from(_refused: Memory) -> Fault {
         Fault::Memory
     }
 }

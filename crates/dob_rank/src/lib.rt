@@ -8,12 +8,15 @@
 #![tactic(auto)]
 
 mod block;
+mod block_classes;
 mod classes;
 mod fault;
 mod forms;
+pub mod laws;
 mod layers;
 mod radix;
 mod ranks;
+mod runs;
 mod segmented;
 
 pub use classes::Classes;

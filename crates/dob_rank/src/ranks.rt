@@ -3,7 +3,7 @@ ghost use Rattle.std.specs.Prelude.{◌≡◌, ◌<◌, ◌≤◌, ◌^◌};
 ghost use Rattle.dob_pieces.specs.declared.setup.Setup.{Setup as AnySetup};
 ghost use Rattle.dob_pieces.specs.declared.piece_set.PieceSet.{PieceSet as AnySet};
 ghost use Rattle.dob_rank.specs.Order.{IsPositionOf, HasSize, HasRank, RepresentativeOf};
-ghost use Rattle.dob_rank.specs.Numbers.{size_of, rank_of, block_bases, bases_by, on_board as on_board_of, digits as all_digits_of, setup_by, hands_by, HasDigits};
+ghost use Rattle.dob_rank.specs.Numbers.{size_of, rank_of, product, block_bases, block_of, block_size, place_of as place_in_block, HasBlock, bases_by, on_board as on_board_of, digits as all_digits_of, setup_by, hands_by, HasDigits};
 
 use crate::block::{self, DIGITS, EachKind};
 use crate::layers::{self, EMPTY};
@@ -25,9 +25,7 @@ pub fn rank(position: &Position) -> u64
     ensures number { (set : AnySet) → IsPositionOf set position.now.setup → result ≡ rank_of set position.now.setup }
 {
     let set = position.piece_set();
-    let on_board = numbers_on_board(position);
-    let block = radix::number_of(&block::block_bases_of(set), &on_board);
-    let place = radix::number_of(&block::bases_in(set, &on_board), &digits_of(position));
+    let (block, place) = place_of(set, position);
     block::block_start(set, block) + place
 }
 
@@ -40,6 +38,27 @@ pub fn unrank(set: PieceSet, rank: u64) -> Position
     ensures only { (p : AnySetup) → IsPositionOf set p → rank_of set p ≡ rank → p ≡ result.setup }
 {
     let (block, place) = block::find_block(set, rank);
+    position_at(set, block, place)
+}
+
+/// The number of the block of a position of the set, and the position's place there.
+pub(crate) fn place_of(set: PieceSet, position: &Position) -> (u64, u64)
+    requires { IsPositionOf set position.now.setup }
+    ensures block { result.0 ≡ block_of set position.now.setup }
+    ensures place { result.1 ≡ place_in_block set position.now.setup }
+{
+    let on_board = numbers_on_board(position);
+    let block = radix::number_of(&block::block_bases_of(set), &on_board);
+    let place = radix::number_of(&block::bases_in(set, &on_board), &digits_of(position));
+    (block, place)
+}
+
+/// The position of the set at that place of the block of that number.
+pub(crate) fn position_at(set: PieceSet, block: u64, place: u64) -> Position
+    requires block { block < product (block_bases set) }
+    requires place { place < block_size set block }
+    ensures { HasBlock set block place result.setup }
+{
     let on_board = block::numbers_in(set, block);
     let mut digits = [0; DIGITS];
     radix::write_digits(&block::bases_in(set, &on_board), place, &mut digits);

@@ -1,5 +1,5 @@
 // What the program prints and its exit status, by its words.
-use dob_cli::run_words;
+use dob_cli::{run_given, run_words};
 use std::alloc::{AllocError, Global};
 use std::io::{self, ErrorKind, Write};
 use std::process::Abort;
@@ -206,5 +206,62 @@ fn standard_error_that_fails(rt: HostRuntime) -> Result<(), Fail> {
         assert!(rt; out.is_empty());
         assert_eq!(rt; err.taken.as_slice(), &b"dobutsu: E1 Shape\n"[..room]);
     }
+    Ok(())
+}
+
+/// A stream that takes every byte and can't be flushed.
+#[derive(Drop)]
+struct Unflushed {
+    taken: Vec<u8>,
+}
+
+impl Write for Unflushed {
+    fn write(&mut self, bytes: &[u8]) -> io::Result<usize> {
+        self.taken.extend_from_slice(bytes)?;
+        Ok(bytes.len())
+    }
+
+    fn flush(&mut self) -> io::Result<()> {
+        Err(ErrorKind::StorageFull.into())
+    }
+}
+
+#[test]
+fn standard_output_that_cannot_be_flushed(rt: HostRuntime) -> Result<(), Fail> {
+    let mut out = Unflushed {
+        taken: Vec::new(rt.alloc()),
+    };
+    let mut err = Vec::new(rt.alloc());
+    let words = ["value", "..l/.../L../... - -"];
+    let status = run_words(rt.alloc(), &words, &mut out, &mut err);
+    assert_eq!(rt; status, 3);
+    assert_eq!(rt; out.taken.as_slice(), b"win 3\n".as_slice());
+    assert_eq!(rt; err.as_slice(), b"dobutsu: E24 Io\n".as_slice());
+    Ok(())
+}
+
+/// What the program does with arguments that can't be had for this cause.
+fn without_arguments(alloc: Global, cause: ErrorKind) -> Told {
+    let mut out = Vec::new(alloc);
+    let mut err = Vec::new(alloc);
+    let status = run_given(alloc, Err(cause.into()), &mut out, &mut err);
+    Told { status, out, err }
+}
+
+#[test]
+fn arguments_that_cannot_be_had(rt: HostRuntime) -> Result<(), Fail> {
+    let unread = without_arguments(rt.alloc(), ErrorKind::InvalidData);
+    assert_eq!(rt; unread.status, 2);
+    assert!(rt; unread.out.is_empty());
+    assert!(rt; unread.err.starts_with(b"error: an argument is not UTF-8\n"));
+    let refused = without_arguments(rt.alloc(), ErrorKind::OutOfMemory);
+    assert_eq!(rt; refused.status, 3);
+    assert_eq!(rt; refused.err.as_slice(), b"dobutsu: E23 Memory\n".as_slice());
+    Ok(())
+}
+
+#[test]
+fn version_is_told(rt: HostRuntime) -> Result<(), Fail> {
+    answers(&rt, rt.alloc(), &["--version"], "dobutsu 0.1.0\n");
     Ok(())
 }

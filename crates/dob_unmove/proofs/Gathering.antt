@@ -79,16 +79,18 @@ pub walked_alone : {N : Type 0} (first : N → Setup → ℕ → Type 0) (q t : 
 walked_alone first q t old new n legal own e none h =
     counts_alone (first old.classes.now) n q new.found.items legal.squares own (first_walk first q t old new e none h)
 
-pub walked_both : {N : Type 0} (first : N → Setup → ℕ → Type 0) (q image t s : Setup) (old mid new : Gathered N)
+-- two walks, of which the second goes on with the classes and the numbers of the first
+pub walked_both : {N : Type 0} (first : N → Setup → ℕ → Type 0) (q image t s : Setup) (old mid next new : Gathered N)
     → IsNumbering (first old.classes.now) → IsLegal q → mirrored q ≢ q → image ≡ mirrored q
     → t ≡ turned q → s ≡ turned image → old.found.items ≡ [] → TakesAll (Gathering first t) old (undoes t) mid
-    → TakesAll (Gathering first s) mid (undoes s) new
+    → next.classes ≡ mid.classes → next.found.items ≡ mid.found.items → TakesAll (Gathering first s) next (undoes s) new
     → CountEdges (first old.classes.now) q new.found.items
-walked_both first q image t s old mid new n legal other im e f none h k =
+walked_both first q image t s old mid next new n legal other im e f none h same_classes same_found k =
     let once = first_walk first q t old mid e none h in
-    let kept = (gathered_by first t (undoes t) old mid h).0 in
-    let second = (gathered_by first s (undoes s) mid new k).1 in
-    let same = subst (λ c. Gathers (first c.now) s (undoes s) mid.found.items new.found.items) kept second in
+    let kept = same_classes ∙ (gathered_by first t (undoes t) old mid h).0 in
+    let second = (gathered_by first s (undoes s) next new k).1 in
+    let same = subst (λ c. Gathers (first c.now) s (undoes s) next.found.items new.found.items) kept second in
+    let going_on = subst (λ (xs : List ℕ). Gathers (first old.classes.now) s (undoes s) xs new.found.items) same_found same in
     let there : s ≡ turned (mirrored q) = f ∙ ap turned im in
     counts_both (first old.classes.now) n q mid.found.items new.found.items legal.squares other once
-    (subst (λ (x : Setup). Gathers (first old.classes.now) x (undoes x) mid.found.items new.found.items) there same)
+    (subst (λ (x : Setup). Gathers (first old.classes.now) x (undoes x) mid.found.items new.found.items) there going_on)

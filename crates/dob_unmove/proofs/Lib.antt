@@ -1,3 +1,4 @@
+pub mod Threats
 pub mod Runs
 pub mod Undone
 pub mod Listed
@@ -7,3 +8,5 @@ pub mod Kept
 pub mod Counting
 pub mod Gathering
 pub mod Classes
+pub mod Ascending
+pub mod Edges

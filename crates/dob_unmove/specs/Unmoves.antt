@@ -1,8 +1,9 @@
 -- The positions in which a move can be made, and those of a class.
-use Rattle.std.specs.Prelude.{◌≡◌, ◌⊎◌, ℕ, ◌≤◌, ◌==◌, List, count_by, length}
+use Rattle.std.specs.Prelude.{◌≡◌, ℕ, ◌≤◌, ◌==◌, List, count_by, length}
 use Rattle.std.specs.List.{All, AllPairs, Contains}
 use Rattle.dob_pieces.specs.declared.setup.Setup.{Setup}
-use Rattle.dob_pieces.specs.Setups.{IsLegal, mirrored}
+use Rattle.dob_pieces.specs.Setups.{IsLegal}
+pub use Rattle.dob_rank.specs.Order.{IsEither}
 use Rattle.dob_moves.specs.declared.choice.Move.{Move}
 use Rattle.dob_moves.specs.declared.outlook.Status.TheVariants.{Open}
 use Rattle.dob_moves.specs.Moves.{Goes}
@@ -12,10 +13,6 @@ use Rattle.dob_moves.specs.Statuses.{HasStatus}
 pub record IsOpenPosition (p : Setup) : Type 0 where
   pub legal : IsLegal p
   pub open_to_move : HasStatus p Open
-
--- one of a position and its mirror image
-abbrev pub IsEither : Setup → Setup → Type 0
-IsEither first q = (q ≡ first) ⊎ (q ≡ mirrored first)
 
 -- the position p is open, and the move leads from it to q or to the mirror image of q
 abbrev pub LeadsInto : Setup → Setup → Move → Type 0

@@ -2,30 +2,28 @@
 ghost use Rattle.std.specs.Prelude.{◌≡◌, MatchOption};
 ghost use Rattle.dob_pieces.specs.Setups.{HasFewPieces, IsLegal};
 ghost use Rattle.dob_moves.specs.Statuses.{HasStatus};
+ghost use Rattle.dob_moves.specs.declared.outlook.Status.TheVariants.{Open};
 ghost use Rattle.dob_unmove.specs.Undoes.{CanGiveBack, CanUndo, without_caught, enemy_cell, earlier};
 ghost use Rattle.dob_unmove.specs.Unmoves.{IsOpenPosition};
 ghost use Rattle.dob_unmove.specs.Classes.{IsTurned};
 
 use crate::undo::Undo;
-use dob_moves::{Status, status};
 use dob_pieces::{Hand, HandKind, Hands, Kind, Piece, Position, Setup, Side, Square};
 
-/// The position before the move, where there was one and it was open. In `after` the side that made the move is
-/// still the mover; seen from the other side it is a position. Taking a move back keeps the lions and the other pieces,
-/// so only the mover's lion on row 4 is left to be tested.
+/// The position before the move, where there was one, if by its status it would be open. In `after` the side that made
+/// the move is still the mover; seen from the other side it is a position. Taking a move back keeps the lions and the
+/// other pieces, so only the mover's lion on row 4 is left to be tested.
 pub(crate) fn open_before(after: &Setup, undo: Undo) -> Option<Position>
     requires can { CanUndo after.now undo }
     requires legal { IsTurned IsLegal after.now }
-    ensures { MatchOption result (¬ IsOpenPosition (earlier after.now undo)) (λ p. (p.setup ≡ earlier after.now undo) × HasStatus p.setup Status.Open) }
+    requires was_open { HasStatus (earlier after.now undo) Open }
+    ensures { MatchOption result (¬ IsOpenPosition (earlier after.now undo)) (λ p. (p.setup ≡ earlier after.now undo) × HasStatus p.setup Open) }
 {
     let setup = earlier(after, undo);
-    if !setup.has_lion_at_home() {
-        return None;
-    }
-    let position = Position::new(setup);
-    match status(&position) {
-        Status::Open => Some(position),
-        _ => None,
+    if setup.has_lion_at_home() {
+        Some(Position::new(setup))
+    } else {
+        None
     }
 }
 

@@ -1,10 +1,10 @@
 // Moves taken back: from which classes of positions, and by how many of their moves, a class is reached.
 #![tactic(auto)]
 
+mod attackers;
 mod earlier;
 mod numbering;
 mod predecessors;
-mod steps;
 mod undo;
 mod walk;
 

@@ -8,7 +8,6 @@ ghost use Rattle.dob_unmove.specs.declared.undo.Undo.{Undo};
 ghost use Rattle.dob_unmove.specs.Undoes.{arrives_at, CanUndo};
 ghost use Rattle.dob_unmove.specs.Walks.{TakesAll, stands, is_kind, holds_caught, uncatch, unsteps_from, unsteps, unputs, undoes_at, undoes};
 
-use crate::steps::leads;
 use crate::undo::Undo;
 use dob_pieces::{Hand, HandKind, Kind, Memory, Piece, Setup, Side, Square};
 
@@ -94,7 +93,7 @@ fn take_unsteps_from<T: Taker>(
     ensures taken { OnOk result (TakesAll (T.takes after.now) taker.old (unsteps_from after.now kind to from) taker.new) }
     ensures suited { OnOk result (T.suits after.now taker.new) }
 {
-    if after.at(from).is_some() || !leads(kind, from, to) {
+    if after.at(from).is_some() || !kind.leads(from, to) {
         return Ok(());
     }
     taker.take(

@@ -22,10 +22,10 @@ moves_keep_the_set set p move q is goes_on goes = record {
 }
 
 -- the numbers stand for the outcomes of the moves below an index
-pub record AreSuccessorsBelow (StandsFor : ℕ → Setup → Type 0) (p : Setup) (choices : List Move) (upto : ℕ) (numbers : List ℕ) : Type 0 where
-  pub sound : (number : ℕ) → Contains numbers number → (move : Move) × (q : Setup) × Goes p move q × StandsFor number q
+pub record AreSuccessorsBelow {X : Type 0} (StandsFor : X → Setup → Type 0) (p : Setup) (choices : List Move) (upto : ℕ) (numbers : List X) : Type 0 where
+  pub sound : (number : X) → Contains numbers number → (move : Move) × (q : Setup) × Goes p move q × StandsFor number q
   pub whole : (index : ℕ) (move : Move) (q : Setup) → index < upto → slice_get choices index ≡ Some move → Goes p move q →
-      (number : ℕ) × Contains numbers number × StandsFor number q
+      (number : X) × Contains numbers number × StandsFor number q
 
 -- what the list of moves says of an entry that was read
 pub choice_goes : (p : Setup) (choices : List Move) (index : ℕ) (choice : Move) → AreMoves p choices → index < length choices →
@@ -33,14 +33,14 @@ pub choice_goes : (p : Setup) (choices : List Move) (index : ℕ) (choice : Move
 choice_goes p choices index choice are_moves within read =
     are_moves.sound choice (subst (λ m. Contains choices m) (sym read) (Contains-get_or choices index choice within))
 
-module _ (StandsFor : ℕ → Setup → Type 0) (p : Setup) (choices : List Move) where
+module _ {X : Type 0} (StandsFor : X → Setup → Type 0) (p : Setup) (choices : List Move) where
   pub successors_none : AreSuccessorsBelow StandsFor p choices 0 []
   successors_none = record {
     sound = λ number there. absurd (omega (arith, there.1));
     whole = λ index move q below there goes. absurd (omega arith);
   }
 
-  pub successors_more : (upto : ℕ) (numbers : List ℕ) (choice : Move) (number : ℕ) → slice_get choices upto ≡ Some choice →
+  pub successors_more : (upto : ℕ) (numbers : List X) (choice : Move) (number : X) → slice_get choices upto ≡ Some choice →
       CanGo p choice → ((q : Setup) → Goes p choice q → StandsFor number q) →
       AreSuccessorsBelow StandsFor p choices upto numbers →
       AreSuccessorsBelow StandsFor p choices (upto + 1) (numbers ++ number ∷ [])
@@ -61,7 +61,7 @@ module _ (StandsFor : ℕ → Setup → Type 0) (p : Setup) (choices : List Move
     ];
   }
 
-  pub successors_all : (upto : ℕ) (numbers : List ℕ) → length choices ≤ upto → AreMoves p choices →
+  pub successors_all : (upto : ℕ) (numbers : List X) → length choices ≤ upto → AreMoves p choices →
       AreSuccessorsBelow StandsFor p choices upto numbers → AreSuccessors StandsFor p numbers
   successors_all upto numbers all are_moves below = record {
     sound = below.sound;

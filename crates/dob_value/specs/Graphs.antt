@@ -16,12 +16,12 @@ use Rattle.dob_value.specs.Depths.{SameOutlook}
 use Rattle.dob_value.specs.Entries.{IsCutOff, HasDistance}
 use Rattle.dob_value.specs.ClassRows.{class_setup}
 
--- The numbers stand for the positions to which the moves of p lead, for each at least one, and for no other.
--- StandsFor says which number stands for which position.
-pub record AreSuccessors (StandsFor : ℕ → Setup → Type 0) (p : Setup) (numbers : List ℕ) : Type 0 where
-  pub sound : (number : ℕ) → Contains numbers number → (move : Move) × (q : Setup) × Goes p move q × StandsFor number q
+-- The numbers, or other things, stand for the positions to which the moves of p lead, for each at least one, and for no
+-- other. StandsFor says which stands for which position.
+pub record AreSuccessors {X : Type 0} (StandsFor : X → Setup → Type 0) (p : Setup) (numbers : List X) : Type 0 where
+  pub sound : (number : X) → Contains numbers number → (move : Move) × (q : Setup) × Goes p move q × StandsFor number q
   pub whole : HasStatus p Open → (move : Move) (q : Setup) → Goes p move q →
-      (number : ℕ) × Contains numbers number × StandsFor number q
+      (number : X) × Contains numbers number × StandsFor number q
 
 -- the position's status and successors
 pub record IsNode (StandsFor : ℕ → Setup → Type 0) (p : Setup) (found : Status) (numbers : List ℕ) : Type 0 where

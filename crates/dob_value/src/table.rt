@@ -45,6 +45,15 @@ impl Table {
         self.classes.set
     }
 
+    /// The classes of the piece set, with their numbers.
+    pub fn classes(&self) -> &Classes
+        ensures set { result.now.set ≡ self.now.set }
+        ensures count { classes_of self.now.set ≡ length self.now.values }
+        ensures table { IsTable self.now.set self.now.values }
+    {
+        &self.classes
+    }
+
     /// How many classes there are.
     pub fn class_count(&self) -> u64
         ensures count { HasClasses self.now.set result }

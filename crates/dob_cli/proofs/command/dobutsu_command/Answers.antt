@@ -1,12 +1,13 @@
 -- Each subcommand joins the program.
 use Rattle.std.proofs.lemmas.Result.{IfOk-weaker}
 use Rattle.clap.specs.Words.{with_subcommand}
-use Rattle.dob_cli.specs.Shapes.{bare_app, count_app, value_app}
+use Rattle.dob_cli.specs.Forms.{count_form, value_form}
+use Rattle.dob_cli.specs.Shapes.{bare_app, form_app}
 use Rattle.dob_cli.proofs.Outcomes.{subcommand_shape}
 use Rattle.dob_cli.proofs.command.dobutsu_command.Goals as goal
 
 pub returns : goal.returns
 returns c =
-    let first = subcommand_shape _ _ c.in_ok-subcommand.field-0 bare_app value_app c.in_ok-bare_command.ensures c.in_ok-value_command.ensures c.in_ok-subcommand.ensures in
+    let first = subcommand_shape _ _ c.in_ok-subcommand.field-0 bare_app (form_app value_form) c.in_ok-bare_command.ensures c.in_ok-value_command.ensures c.in_ok-subcommand.ensures in
     IfOk-weaker c.subcommand-2.result _ _
-    (λ r adds. subcommand_shape _ _ r (with_subcommand bare_app value_app.top) count_app first c.in_ok-count_command.ensures adds) c.subcommand-2.ensures
+    (λ r adds. subcommand_shape _ _ r (with_subcommand bare_app (form_app value_form).top) (form_app count_form) first c.in_ok-count_command.ensures adds) c.subcommand-2.ensures

@@ -1,37 +1,39 @@
 -- What `clap` answers is what the words ask for.
-use Rattle.std.proofs.Common.{map}
+use Rattle.std.proofs.Common.{◌∙◌, map, subst, sym}
+use Rattle.dob_cli.specs.Readings.{IsReadingOf}
 use Rattle.std.proofs.lemmas.Result.{IfOk-weaker}
 use Rattle.clap.specs.Words.{app_of}
 use Rattle.dob_cli.specs.declared.command.Reading.TheVariants as reading
-use Rattle.dob_cli.proofs.Outcomes.{asked_by_matches, order_from_line, order_is_meant, order_is_there, reading_at_count_line, reading_at_line, refusal_of_words}
+use Rattle.dob_cli.proofs.Lines.{order_from_line, reading_at_line}
+use Rattle.dob_cli.proofs.Outcomes.{command_meaning, version_meaning, asked_by_matches, order_is_meant, order_is_there, refusal_of_words}
 use Rattle.dob_cli.proofs.command.read_words.Goals as goal
 
 pub unreachable-requires : goal.unreachable-requires
 unreachable-requires c =
     order_is_there (map (λ w. w.now) c.args.words.now) _ (asked_by_matches (app_of c.in_ok-dobutsu_command.field-0) (map (λ w. w.now) c.args.words.now) c.in-Ok.matches
-    c.in_ok-dobutsu_command.ensures.0 c.in-Ok.ensures.kinds c.in-Ok.ensures.matches) c.in-None.ensures.value c.in-None.ensures.count
+    c.in_ok-dobutsu_command.ensures.0 c.in-Ok.ensures.kinds c.in-Ok.ensures.matches) (c.in-None.ensures.value, (c.in-None.ensures.count, tt))
 
 pub returns-in-Some-clause-meaning : goal.returns-in-Some-clause-meaning
 returns-in-Some-clause-meaning c =
-    order_is_meant (map (λ w. w.now) c.args.words.now) _ c.in-Some.order (asked_by_matches (app_of c.in_ok-dobutsu_command.field-0) (map (λ w. w.now) c.args.words.now) c.in-Ok.matches
-    c.in_ok-dobutsu_command.ensures.0 c.in-Ok.ensures.kinds c.in-Ok.ensures.matches) c.in-Some.ensures.value c.in-Some.ensures.count
+    subst (λ m. IsReadingOf m (reading.Order c.in-Some.order)) (command_meaning (map (λ w. w.now) c.args.words.now) (sym c.asks_version.ensures ∙ c.if-asks_version.false))
+    (order_is_meant (map (λ w. w.now) c.args.words.now) _ c.in-Some.order (asked_by_matches (app_of c.in_ok-dobutsu_command.field-0) (map (λ w. w.now) c.args.words.now) c.in-Ok.matches
+    c.in_ok-dobutsu_command.ensures.0 c.in-Ok.ensures.kinds c.in-Ok.ensures.matches) (c.in-Some.ensures.value, (c.in-Some.ensures.count, tt)))
 
 pub returns-in-Some-clause-sound : goal.returns-in-Some-clause-sound
 returns-in-Some-clause-sound c = order_from_line _ (reading.Order c.in-Some.order) (returns-in-Some-clause-meaning c)
 
 pub returns-in-Some-clause-complete : goal.returns-in-Some-clause-complete
-returns-in-Some-clause-complete c = λ t line. reading_at_line _ t (reading.Order c.in-Some.order) line (returns-in-Some-clause-meaning c)
-
-pub returns-in-Some-clause-complete_count : goal.returns-in-Some-clause-complete_count
-returns-in-Some-clause-complete_count c = λ t line. reading_at_count_line _ t (reading.Order c.in-Some.order) line (returns-in-Some-clause-meaning c)
+returns-in-Some-clause-complete c = λ form texts among line. reading_at_line _ form texts (reading.Order c.in-Some.order) among line (returns-in-Some-clause-meaning c)
 
 pub returns-in-Err-clause-meaning : goal.returns-in-Err-clause-meaning
 returns-in-Err-clause-meaning c =
-    IfOk-weaker c.read_refusal.result _ _ (refusal_of_words (app_of c.in_ok-dobutsu_command.field-0) (map (λ w. w.now) c.args.words.now) c.in-Err.error
-    c.in_ok-dobutsu_command.ensures.0 c.in-Err.ensures.kinds) c.read_refusal.ensures
+    IfOk-weaker c.read_refusal.result _ _
+    (λ r h. subst (λ m. IsReadingOf m r) (command_meaning (map (λ w. w.now) c.args.words.now) (sym c.asks_version.ensures ∙ c.if-asks_version.false))
+    (refusal_of_words (app_of c.in_ok-dobutsu_command.field-0) (map (λ w. w.now) c.args.words.now) c.in-Err.error
+    c.in_ok-dobutsu_command.ensures.0 c.in-Err.ensures.kinds r h)) c.read_refusal.ensures
+
+pub returns-in-Err-clause-sound : goal.returns-in-Err-clause-sound
+returns-in-Err-clause-sound c = IfOk-weaker c.read_refusal.result _ _ (order_from_line _) (returns-in-Err-clause-meaning c)
 
 pub returns-in-Err-clause-complete : goal.returns-in-Err-clause-complete
-returns-in-Err-clause-complete c = λ t line. IfOk-weaker c.read_refusal.result _ _ (λ r. reading_at_line _ t r line) (returns-in-Err-clause-meaning c)
-
-pub returns-in-Err-clause-complete_count : goal.returns-in-Err-clause-complete_count
-returns-in-Err-clause-complete_count c = λ t line. IfOk-weaker c.read_refusal.result _ _ (λ r. reading_at_count_line _ t r line) (returns-in-Err-clause-meaning c)
+returns-in-Err-clause-complete c = λ form texts among line. IfOk-weaker c.read_refusal.result _ _ (λ r. reading_at_line _ form texts r among line) (returns-in-Err-clause-meaning c)

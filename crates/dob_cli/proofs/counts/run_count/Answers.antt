@@ -5,9 +5,9 @@ use Rattle.dob_cli.proofs.counts.run_count.Goals as goal
 
 pub returns-in-Ok : goal.returns-in-Ok
 returns-in-Ok g c =
-    answered (AreCountLinesOf c.args.text.now) (IsCountFaultOf c.args.text.now) _ _ _ _ _ _ tt (_, c.in-Ok.ensures.ok) c.in-Ok.ensures.ok
+    answered (AreCountLinesOf c.args.text.now) (IsCountFaultOf c.args.text.now) _ _ c.in-Ok.ensures.ok
     (rw c.as_str.ensures.value at c.tell.ensures)
 
 pub returns-in-Err : goal.returns-in-Err
 returns-in-Err g c =
-    refused (AreCountLinesOf c.args.text.now) (IsCountFaultOf c.args.text.now) _ _ _ _ _ tt c.in-Err.ensures.err c.tell_fault.ensures
+    refused (AreCountLinesOf c.args.text.now) (IsCountFaultOf c.args.text.now) _ _ _ _ tt c.in-Err.ensures.err c.tell_fault.ensures

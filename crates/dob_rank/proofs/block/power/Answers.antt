@@ -1,6 +1,5 @@
 use Rattle.dob_rank.proofs.Loops.{power_at_one}
 use Rattle.dob_rank.proofs.block.power.Goals as goal
 
--- src/block.rt:73:1
 pub returns-in-1 : goal.returns-in-1
 returns-in-1 c = power_at_one c.args.base c.args.exponent c.in-1.is

@@ -3,10 +3,8 @@ use Rattle.std.proofs.Common.{arith}
 use Rattle.dob_rank.proofs.Loops.{choose_at_one, choose_at_two}
 use Rattle.dob_rank.proofs.layers.choose.Goals as goal
 
--- src/layers.rt:58:1
 pub returns-in-1 : goal.returns-in-1
 returns-in-1 c = choose_at_one c.args.squares c.args.pieces c.in-1.is
 
--- src/layers.rt:58:1
 pub returns-in_default : goal.returns-in_default
 returns-in_default c = (let e : c.saturating_sub.result ≡ c.args.squares - 1 = c.saturating_sub.ensures in let two : c.args.pieces ≡ 2 = omega arith in rw e (choose_at_two c.args.squares c.args.pieces two))

@@ -1,10 +1,8 @@
 use Rattle.dob_rank.proofs.Found.{image_first, itself_first}
 use Rattle.dob_rank.proofs.ranks.representative.Goals as goal
 
--- src/ranks.rt:51:1
 pub returns-then-rank : goal.returns-then-rank
 returns-then-rank c = image_first c.args.position.now.setup c.mirrored-image.result.setup c.args.position.now.legal c.rank.result c.rank-2.result c.mirrored-image.ensures c.rank.ensures.number c.rank-2.ensures.number c.if-rank.true
 
--- src/ranks.rt:51:1
 pub returns-else-rank : goal.returns-else-rank
 returns-else-rank c = itself_first c.args.position.now.setup c.mirrored-image.result.setup c.args.position.now.legal c.rank.result c.rank-2.result c.mirrored-image.ensures c.rank.ensures.number c.rank-2.ensures.number c.if-rank.false

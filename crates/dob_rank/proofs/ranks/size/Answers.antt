@@ -5,10 +5,8 @@ use Rattle.dob_rank.proofs.Blocks.{size_of-sum}
 use Rattle.dob_rank.proofs.Numbering.{HasSize-size_of}
 use Rattle.dob_rank.proofs.ranks.size.Goals as goal
 
--- src/ranks.rt:16:1
 pub returns-clause-count : goal.returns-clause-count
 returns-clause-count c = subst (HasSize c.args.set) (sym (c.block_start.ensures.value ∙ ap (sum_below (block_size c.args.set)) c.blocks-2.ensures.value ∙ sym (size_of-sum c.args.set))) (HasSize-size_of c.args.set)
 
--- src/ranks.rt:16:1
 pub returns-clause-number : goal.returns-clause-number
 returns-clause-number c = c.block_start.ensures.value ∙ ap (sum_below (block_size c.args.set)) c.blocks-2.ensures.value ∙ sym (size_of-sum c.args.set)

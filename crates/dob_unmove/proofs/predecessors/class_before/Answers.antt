@@ -1,10 +1,22 @@
 -- The position before the move is the one that was asked for.
+use Rattle.std.proofs.Common.{sym, ◌∙◌}
 use Rattle.dob_unmove.specs.Undoes.{earlier}
 use Rattle.dob_unmove.specs.Classes.{IsFirstIn}
 use Rattle.dob_unmove.proofs.Classes.{IsNumbering-classes}
 use Rattle.dob_unmove.proofs.Gathering.{finds_none, finds_from}
 use Rattle.dob_unmove.proofs.Kept.{legal_turned, position_before}
+use Rattle.dob_unmove.proofs.Threats.{was_open, was_not_open}
 use Rattle.dob_unmove.proofs.predecessors.class_before.Goals as goal
+
+pub returns-then-stood_before : goal.returns-then-stood_before
+returns-then-stood_before g c = λ w.
+    was_not_open c.args.after.now c.args.threat.now (legal_turned (g.N.Numbering.piece_set c.args.classes.now) c.args.after.now c.requires.of_set) c.requires.threat
+    c.args.undo c.requires.can (sym c.stood_before.ensures ∙ c.if-stood_before.true) w.1.1
+
+pub open_before-requires-clause-was_open : goal.open_before-requires-clause-was_open
+open_before-requires-clause-was_open g c =
+    was_open c.args.after.now c.args.threat.now (legal_turned (g.N.Numbering.piece_set c.args.classes.now) c.args.after.now c.requires.of_set) c.requires.threat
+    c.args.undo c.requires.can (sym c.stood_before.ensures ∙ c.if-stood_before.false)
 
 pub open_before-requires-clause-legal : goal.open_before-requires-clause-legal
 open_before-requires-clause-legal g c = legal_turned (g.N.Numbering.piece_set c.args.classes.now) c.args.after.now c.requires.of_set

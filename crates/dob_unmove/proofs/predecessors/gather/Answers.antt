@@ -1,5 +1,5 @@
 -- The walks over the position and over its mirror image count the edges.
-use Rattle.std.proofs.Common.{ℕ, sym, ◌∙◌}
+use Rattle.std.proofs.Common.{ℕ, refl, sym, ◌∙◌}
 use Rattle.dob_pieces.specs.declared.setup.Setup.{Setup}
 use Rattle.dob_unmove.specs.Classes.{IsFirstIn}
 use Rattle.dob_unmove.proofs.Classes.{IsNumbering-classes}
@@ -8,7 +8,7 @@ use Rattle.dob_unmove.proofs.Kept.{position_mirrored, turned_image}
 use Rattle.dob_unmove.proofs.predecessors.gather.Goals as goal
 
 pub take_all-requires : goal.take_all-requires
-take_all-requires g c = (c.args.first.now.setup, c.requires.1.0.0, c.turned.ensures)
+take_all-requires g c = ((c.args.first.now.setup, c.requires.1.0.0, c.turned-after.ensures), c.of.ensures)
 
 pub class_of_first-requires : goal.class_of_first-requires
 class_of_first-requires g c =
@@ -16,9 +16,11 @@ class_of_first-requires g c =
 
 pub take_all-requires-2 : goal.take_all-requires-2
 take_all-requires-2 g c =
-    let q = c.args.first.now.setup in
-    turned_image (g.N.Numbering.piece_set c.take_all.new.taker.classes.now) q c.mirrored-image.result.setup c.turned.result c.turned-2.result c.args.first.now.legal
-    c.mirrored-image.ensures c.turned.ensures c.turned-2.ensures c.in_ok-take_all.ensures.suited
+    let q = c.args.first.now.setup in (
+      turned_image (g.N.Numbering.piece_set c.take_all.new.taker.classes.now) q c.mirrored-image.result.setup c.turned-after.result c.turned-after-2.result c.args.first.now.legal
+          c.mirrored-image.ensures c.turned-after.ensures c.turned-after-2.ensures c.in_ok-take_all.ensures.suited.0,
+      c.of-gathered.ensures,
+    )
 
 pub returns-then-is_some : goal.returns-then-is_some
 returns-then-is_some g c =
@@ -27,7 +29,7 @@ returns-then-is_some g c =
     let q = c.args.first.now.setup in
     let own = own_image (first c.args.classes.now) q c.mirrored-image.result.setup c.class_of_first.result n c.requires c.mirrored-image.ensures
     c.class_of_first.ensures (sym c.is_some.ensures ∙ c.if-is_some.true) in
-    walked_alone first q c.turned.result _ c.take_all.new.taker n c.args.first.now.legal own c.turned.ensures c.new.ensures.items c.in_ok-take_all.ensures.taken
+    walked_alone first q c.turned-after.result _ c.take_all.new.taker n c.args.first.now.legal own c.turned-after.ensures c.new.ensures.items c.in_ok-take_all.ensures.taken
 
 pub returns : goal.returns
 returns g c =
@@ -37,5 +39,5 @@ returns g c =
     let image = c.mirrored-image.result.setup in
     let other = other_image (first c.args.classes.now) q image c.class_of_first.result c.requires c.mirrored-image.ensures
     c.class_of_first.ensures (sym c.is_some.ensures ∙ c.if-is_some.false) in
-    walked_both first q image c.turned.result c.turned-2.result _ c.take_all.new.taker c.take_all-2.new.taker n c.args.first.now.legal other c.mirrored-image.ensures
-    c.turned.ensures c.turned-2.ensures c.new.ensures.items c.in_ok-take_all.ensures.taken c.in_ok-take_all-2.ensures.taken
+    walked_both first q image c.turned-after.result c.turned-after-2.result _ c.take_all.new.taker _ c.take_all-2.new.taker n c.args.first.now.legal other c.mirrored-image.ensures
+    c.turned-after.ensures c.turned-after-2.ensures c.new.ensures.items c.in_ok-take_all.ensures.taken refl refl c.in_ok-take_all-2.ensures.taken

@@ -3,6 +3,5 @@ use Rattle.dob_rank.specs.Order.{HasClasses}
 use Rattle.dob_rank.proofs.Marks.{HasClasses-classes_of}
 use Rattle.dob_rank.proofs.classes.Classes.class_count.Goals as goal
 
--- src/classes.rt:61:5
 pub returns-clause-count : goal.returns-clause-count
 returns-clause-count c = subst (HasClasses c.args.self.now.set) (sym c.args.self.now.counted) (HasClasses-classes_of c.args.self.now.set)

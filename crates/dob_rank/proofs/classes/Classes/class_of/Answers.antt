@@ -1,24 +1,48 @@
-use Rattle.std.proofs.Common.{◌≡◌, ◌<◌, ℕ, sym, subst}
-use Rattle.dob_rank.specs.Order.{IsInClass}
-use Rattle.dob_rank.specs.Marks.{classes_of, class_number}
-use Rattle.dob_rank.proofs.ClassNumbers.{lower_rank, lower_rank-below, class_found, class_number-below, IsInClass-class_number}
+-- A marked position's class is the number of marks before it, another one's that of the marks before its mirror image.
+use Rattle.std.proofs.Common.{◌<◌, ℕ, sym, ◌∙◌, subst}
+use Rattle.dob_rank.specs.Order.{IsPositionOf, IsInClass}
+use Rattle.dob_rank.specs.Marks.{classes_of}
+use Rattle.dob_rank.proofs.Found.{IsPositionOf-mirrored}
+use Rattle.dob_rank.proofs.ClassNumbers.{class_of_marked, class_of_unmarked, class_number-below, IsInClass-class_number}
 use Rattle.dob_rank.proofs.classes.Classes.class_of.Goals as goal
 
--- src/classes.rt:85:9
-pub marks_before-requires : goal.marks_before-requires
-marks_before-requires c = lower_rank-below c.args.self.now.set c.args.position.now.setup c.min.result c.requires (lower_rank c.args.self.now.set c.args.position.now.setup c.mirrored.result.setup c.rank-own.result c.rank-image.result c.min.result c.requires c.mirrored.ensures c.rank-own.ensures.number c.rank-image.ensures.number c.min.ensures)
+pub look_up-requires : goal.look_up-requires
+look_up-requires c = subst (IsPositionOf c.args.self.now.set) (sym c.mirrored.ensures) (IsPositionOf-mirrored c.args.self.now.set c.args.position.now.setup c.requires)
 
-number : (c : goal.After-marks_before) → c.marks_before.result ≡ class_number c.args.self.now.set c.args.position.now.setup
-number c = class_found c.args.self.now.set c.args.position.now.setup c.min.result c.marks_before.result (lower_rank c.args.self.now.set c.args.position.now.setup c.mirrored.result.setup c.rank-own.result c.rank-image.result c.min.result c.requires c.mirrored.ensures c.rank-own.ensures.number c.rank-image.ensures.number c.min.ensures) c.marks_before.ensures
+pub returns-then-is_first-clause-class : goal.returns-then-is_first-clause-class
+returns-then-is_first-clause-class c =
+    let set = c.args.self.now.set in
+    let s = c.args.position.now.setup in
+    let number = class_of_marked set s _ c.requires (sym c.look_up-is_first.ensures.mark ∙ c.if-is_first.true) c.look_up-is_first.ensures.before in
+    subst (IsInClass set s) (sym number) (IsInClass-class_number set s c.requires)
 
--- src/classes.rt:77:5
-pub returns-clause-class : goal.returns-clause-class
-returns-clause-class c = subst (IsInClass c.args.self.now.set c.args.position.now.setup) (sym (number c)) (IsInClass-class_number c.args.self.now.set c.args.position.now.setup c.requires)
+pub returns-then-is_first-clause-number : goal.returns-then-is_first-clause-number
+returns-then-is_first-clause-number c =
+    class_of_marked c.args.self.now.set c.args.position.now.setup _ c.requires (sym c.look_up-is_first.ensures.mark ∙ c.if-is_first.true)
+    c.look_up-is_first.ensures.before
 
--- src/classes.rt:77:5
-pub returns-clause-number : goal.returns-clause-number
-returns-clause-number c = number c
+pub returns-then-is_first-clause-bound : goal.returns-then-is_first-clause-bound
+returns-then-is_first-clause-bound c =
+    let set = c.args.self.now.set in
+    let s = c.args.position.now.setup in
+    let number = class_of_marked set s _ c.requires (sym c.look_up-is_first.ensures.mark ∙ c.if-is_first.true) c.look_up-is_first.ensures.before in
+    subst (λ (n : ℕ). n < classes_of set) (sym number) (class_number-below set s c.requires)
 
--- src/classes.rt:77:5
-pub returns-clause-bound : goal.returns-clause-bound
-returns-clause-bound c = subst (λ (x : ℕ). x < classes_of c.args.self.now.set) (sym (number c)) (class_number-below c.args.self.now.set c.args.position.now.setup c.requires)
+pub returns-else-is_first-clause-class : goal.returns-else-is_first-clause-class
+returns-else-is_first-clause-class c =
+    let set = c.args.self.now.set in
+    let s = c.args.position.now.setup in
+    let number = class_of_unmarked set s c.mirrored.result.setup _ c.requires (sym c.look_up-is_first.ensures.mark ∙ c.if-is_first.false) c.mirrored.ensures c.look_up.ensures.before in
+    subst (IsInClass set s) (sym number) (IsInClass-class_number set s c.requires)
+
+pub returns-else-is_first-clause-number : goal.returns-else-is_first-clause-number
+returns-else-is_first-clause-number c =
+    class_of_unmarked c.args.self.now.set c.args.position.now.setup c.mirrored.result.setup _ c.requires
+    (sym c.look_up-is_first.ensures.mark ∙ c.if-is_first.false) c.mirrored.ensures c.look_up.ensures.before
+
+pub returns-else-is_first-clause-bound : goal.returns-else-is_first-clause-bound
+returns-else-is_first-clause-bound c =
+    let set = c.args.self.now.set in
+    let s = c.args.position.now.setup in
+    let number = class_of_unmarked set s c.mirrored.result.setup _ c.requires (sym c.look_up-is_first.ensures.mark ∙ c.if-is_first.false) c.mirrored.ensures c.look_up.ensures.before in
+    subst (λ (n : ℕ). n < classes_of set) (sym number) (class_number-below set s c.requires)

@@ -1,25 +1,17 @@
 -- The mark of the position's rank tells whether it is a representative, and the marks before it are its class.
-use Rattle.std.proofs.Common.{◌<◌, ℕ, sym, ◌∙◌, subst}
-use Rattle.dob_rank.specs.Numbers.{size_of}
+use Rattle.std.proofs.Common.{◌<◌, ℕ, refl, sym, ◌∙◌, subst}
 use Rattle.dob_rank.specs.Marks.{classes_of}
+use Rattle.dob_rank.specs.Numbers.{rank_of}
 use Rattle.dob_rank.proofs.Numbering.{rank_of-below}
 use Rattle.dob_rank.proofs.ClassNumbers.{IsAtClass, at_class, later_unmarked, class_number-below}
 use Rattle.dob_rank.proofs.classes.Classes.class_of_representative.Goals as goal
-
-pub look_up-is_first-requires : goal.look_up-is_first-requires
-look_up-is_first-requires c =
-    let set = c.args.self.now.set in
-    let s = c.args.position.now.setup in
-    subst (λ (r : ℕ). r < size_of set) (sym (c.rank.ensures.number set c.requires)) (rank_of-below set s c.requires)
 
 -- a marked rank is that of its class's representative
 found : (c : goal.Then-is_first) → IsAtClass c.args.self.now.set c.args.position.now.setup c.look_up-is_first.result.1
 found c =
     let set = c.args.self.now.set in
     let s = c.args.position.now.setup in
-    let rank = c.rank.ensures.number set c.requires in
-    at_class set s c.rank.result c.look_up-is_first.result.1 c.requires (sym rank)
-    (subst (λ (r : ℕ). r < size_of set) (sym rank) (rank_of-below set s c.requires))
+    at_class set s (rank_of set s) c.look_up-is_first.result.1 c.requires refl (rank_of-below set s c.requires)
     (sym c.look_up-is_first.ensures.mark ∙ c.if-is_first.true) (sym c.look_up-is_first.ensures.before)
 
 pub returns-then-is_first-clause-class : goal.returns-then-is_first-clause-class
@@ -35,5 +27,4 @@ returns-then-is_first-clause-bound c =
 
 pub returns-else-is_first-clause-class : goal.returns-else-is_first-clause-class
 returns-else-is_first-clause-class c =
-    later_unmarked c.args.self.now.set c.args.position.now.setup c.rank.result c.requires (c.rank.ensures.number c.args.self.now.set c.requires)
-    (sym c.look_up-is_first.ensures.mark ∙ c.if-is_first.false)
+    later_unmarked c.args.self.now.set c.args.position.now.setup _ c.requires refl (sym c.look_up-is_first.ensures.mark ∙ c.if-is_first.false)

@@ -1,13 +1,39 @@
--- The rank's word says both.
-use Rattle.std.proofs.Common.{arith, vec_len, ◌+◌}
-use Rattle.dob_rank.proofs.ClassNumbers.{looked_up, looked_up-low, looked_up-mark}
+-- The position's block knows its place.
+use Rattle.std.proofs.Common.{◌+◌, arith, ap, ◌∙◌}
+use Rattle.dob_rank.specs.Numbers.{start_of}
+use Rattle.dob_rank.specs.Marks.{marked, marks_below}
+use Rattle.dob_rank.proofs.Numbering.{block_of-below}
+use Rattle.dob_rank.proofs.BlockTables.{block_read, place_there, rank_there}
 use Rattle.dob_rank.proofs.classes.Classes.look_up.Goals as goal
 
-pub overflow_add-result : goal.overflow_add-result
-overflow_add-result c = omega (arith, c.ranges.rank.fits, looked_up-low c.args.self.now.set c.args.rank (c.index-word.result.now.before + c.from.result) (looked_up c.args.self.now.set c.args.rank (vec_len c.args.self.now.words) c.from.result c.args.self.now.words.items c.index-word.result.now c.args.self.now.table c.requires c.args.self.now.whole c.index-word.ensures c.from.ensures))
+pub index-requires : goal.index-requires
+index-requires c =
+    let set = c.args.self.now.set in
+    let below = block_of-below set c.args.position.now.setup c.requires in
+    omega (arith, below, c.place_of-block.ensures.block, c.args.self.now.whole)
+
+pub look_up-requires : goal.look_up-requires
+look_up-requires c =
+    let set = c.args.self.now.set in
+    let s = c.args.position.now.setup in
+    let block = block_read set s c.args.self.now.blocks.items c.place_of-block.result.0 c.index.result.now c.requires c.place_of-block.ensures.block
+    c.args.self.now.table (let below = block_of-below set s c.requires in omega (arith, below, c.place_of-block.ensures.block, c.args.self.now.whole, c.args.self.now.blocks.ok)) c.index.ensures in
+    place_there set s c.index.result.now.set c.index.result.now.number c.place_of-block.result.1 c.requires block.set_is block.number_is c.place_of-block.ensures.place
 
 pub returns-clause-mark : goal.returns-clause-mark
-returns-clause-mark c = looked_up-mark c.args.self.now.set c.args.rank (vec_len c.args.self.now.words) c.args.self.now.words.items c.index-word.result.now c.args.self.now.table c.requires c.args.self.now.whole c.index-word.ensures
+returns-clause-mark c =
+    let set = c.args.self.now.set in
+    let s = c.args.position.now.setup in
+    let block = block_read set s c.args.self.now.blocks.items c.place_of-block.result.0 c.index.result.now c.requires c.place_of-block.ensures.block
+    c.args.self.now.table (let below = block_of-below set s c.requires in omega (arith, below, c.place_of-block.ensures.block, c.args.self.now.whole, c.args.self.now.blocks.ok)) c.index.ensures in
+    let rank = rank_there set s c.index.result.now.set c.index.result.now.number c.place_of-block.result.1 block.set_is block.number_is c.place_of-block.ensures.place in
+    c.look_up.ensures.mark ∙ ap (λ p. marked p (start_of c.index.result.now.set c.index.result.now.number + c.place_of-block.result.1)) block.set_is ∙ ap (marked set) rank
 
 pub returns-clause-before : goal.returns-clause-before
-returns-clause-before c = looked_up c.args.self.now.set c.args.rank (vec_len c.args.self.now.words) c.from.result c.args.self.now.words.items c.index-word.result.now c.args.self.now.table c.requires c.args.self.now.whole c.index-word.ensures c.from.ensures
+returns-clause-before c =
+    let set = c.args.self.now.set in
+    let s = c.args.position.now.setup in
+    let block = block_read set s c.args.self.now.blocks.items c.place_of-block.result.0 c.index.result.now c.requires c.place_of-block.ensures.block
+    c.args.self.now.table (let below = block_of-below set s c.requires in omega (arith, below, c.place_of-block.ensures.block, c.args.self.now.whole, c.args.self.now.blocks.ok)) c.index.ensures in
+    let rank = rank_there set s c.index.result.now.set c.index.result.now.number c.place_of-block.result.1 block.set_is block.number_is c.place_of-block.ensures.place in
+    c.look_up.ensures.before ∙ ap (λ p. marks_below (marked p) (start_of c.index.result.now.set c.index.result.now.number + c.place_of-block.result.1)) block.set_is ∙ ap (marks_below (marked set)) rank

@@ -1,25 +1,33 @@
-use Rattle.dob_rank.specs.Marks.{marked}
-use Rattle.std.proofs.Common.{arith, sym, ◌∙◌}
-use Rattle.dob_rank.proofs.Words.{table_step, marks_below_none}
-use Rattle.dob_rank.proofs.Marks.{all_marked}
+-- Each block goes to the end of the list, and begins with the classes that the one before it ends with.
+use Rattle.std.proofs.Common.{◌≡◌, vec_len, arith, sym, ◌∙◌}
+use Rattle.dob_rank.specs.Numbers.{product, block_bases}
+use Rattle.dob_rank.proofs.BlockTables.{AreBlocks-none, AreBlocks-push, new_block, no_classes_yet, classes_all}
 use Rattle.dob_rank.proofs.classes.Classes.open.Goals as goal
 
--- src/classes.rt:46:9
-pub loop-word-init : goal.loop-word-init
-loop-word-init c = record { words_are = c.new-words.ensures.items; long = c.new-words.ensures.len; before_is = sym (marks_below_none (marked c.args.set)); low = omega arith }
+pub loop-number-init : goal.loop-number-init
+loop-number-init c = record {
+  blocks_are = AreBlocks-none c.args.set c.new-blocks.result.items c.new-blocks.ensures.items;
+  long = c.new-blocks.ensures.len;
+  count_is = no_classes_yet c.args.set;
+}
 
--- src/classes.rt:47:17
-pub word_from-bits-requires-clause-within : goal.word_from-bits-requires-clause-within
-word_from-bits-requires-clause-within c = omega (arith, c.size-size.ensures.bound)
+pub loop-number-preserved : goal.loop-number-preserved
+loop-number-preserved c =
+    let block = c.in_ok-block.block in
+    let new = new_block c.args.set c.loop-number.number block c.in_ok-block.ensures.set c.in_ok-block.ensures.number in
+    record {
+      blocks_are = AreBlocks-push c.args.set c.loop-number.blocks.items _ block c.loop-number.number c.loop-number.invariant.blocks_are
+          (sym c.loop-number.blocks.ok.0 ∙ c.loop-number.invariant.long) new.is c.in_ok-push.ensures.items;
+      long = omega (arith, c.in_ok-push.ensures.len, c.loop-number.invariant.long);
+      count_is = new.after_is;
+    }
 
--- src/classes.rt:49:13
-pub overflow_add-before : goal.overflow_add-before
-overflow_add-before c = (let s = table_step c.args.set c.loop-word.word c.word_from-bits.result c.loop-word.before c.from-before.result c.loop-word.words.items c.loop-word.invariant.words_are c.word_from-bits.ensures c.loop-word.invariant.before_is c.from-before.ensures in omega (arith, s.low, c.size-size.ensures.bound))
-
--- src/classes.rt:46:9
-pub loop-word-preserved : goal.loop-word-preserved
-loop-word-preserved c = (let s = table_step c.args.set c.loop-word.word c.word_from-bits.result c.loop-word.before c.from-before.result c.loop-word.words.items c.loop-word.invariant.words_are c.word_from-bits.ensures c.loop-word.invariant.before_is c.from-before.ensures in record { words_are = c.in_ok-push.ensures.items ∙ s.items_are; long = omega (arith, c.in_ok-push.ensures.len, c.loop-word.invariant.long); before_is = s.before_is; low = s.low })
-
--- src/classes.rt:53:9
-pub invariant_of-result-clause-counted : goal.invariant_of-result-clause-counted
-invariant_of-result-clause-counted c = c.loop-word.invariant.before_is ∙ all_marked c.args.set c.size-size.result c.loop-word.word c.size-size.ensures.number c.loop-word-test.false
+pub invariant_of-result : goal.invariant_of-result
+invariant_of-result c =
+    let number : c.loop-number.number ≡ product (block_bases c.args.set) =
+    omega (arith, c.blocks-number-end.ensures.value, c.loop-number.auto.number-end, c.loop-number-test.false) in
+    record {
+      whole = c.loop-number.invariant.long ∙ number;
+      table = c.loop-number.invariant.blocks_are;
+      counted = classes_all c.args.set c.loop-number.number c.loop-number.count number c.loop-number.invariant.count_is;
+    }

@@ -1,11 +1,12 @@
-use Rattle.std.proofs.Common.{◌≡◌, ◌*◌, ◌≤◌, vec_len}
-use Rattle.dob_rank.specs.Marks.{marked, marks_below, words_of}
+use Rattle.std.proofs.Common.{◌≡◌, vec_len}
+use Rattle.dob_rank.specs.Numbers.{start_of}
+use Rattle.dob_rank.specs.Marks.{marked, marks_below}
+use Rattle.dob_rank.specs.BlockTables.{AreBlocks}
 use Rattle.dob_rank.proofs.classes.Classes.open.Given as goal
 
-abbrev pub invariant-loop-word : goal.invariant-loop-word
-invariant-loop-word l = record {
-  words_are : l.words.items ≡ words_of l.set l.word;
-  long : vec_len l.words ≡ l.word;
-  before_is : l.before ≡ marks_below (marked l.set) (64 * l.word);
-  low : l.before ≤ 64 * l.word;
+abbrev pub invariant-loop-number : goal.invariant-loop-number
+invariant-loop-number l = record {
+  blocks_are : AreBlocks l.set l.blocks.items;
+  long : vec_len l.blocks ≡ l.number;
+  count_is : l.count ≡ marks_below (marked l.set) (start_of l.set l.number);
 }

@@ -1,0 +1,112 @@
+-- A step of one node's seat keeps the rule, where it leaves to the other nodes what they know.
+use Rattle.std.proofs.Common.{◌≡◌, ◌≢◌, ℕ, zero, suc, ◌+◌, ◌<◌, ◌≤◌, List, [], ◌∷◌, ◌++◌, length, Bool, refl, sym, ap, ◌∙◌, subst, ⊎_elim, arith, append_assoc}
+use Rattle.std.specs.Prelude.{slice_index, slice_set}
+use mathlib.Core.Option.{some, some-ne-none, some-injective}
+use lib.ListN.{get_elem?}
+use Rattle.atomic_table.proofs.Lists.{at_set}
+use Rattle.dob_safra.specs.declared.token.Token.{Token}
+use Rattle.dob_safra.specs.declared.event.RingEvent.{RingEvent}
+use Rattle.dob_safra.specs.Tokens.{IsPacked}
+use Rattle.dob_safra.specs.Rings.{Ring, IsLawful}
+use Rattle.dob_board.specs.declared.view.Stand.{Stand}
+use Rattle.dob_board.specs.declared.view.View.{View}
+use Rattle.dob_board.specs.Words.{ring_of}
+use Rattle.dob_board.specs.Views.{one, IsStand}
+use Rattle.dob_board.specs.Histories.{Runs, GoesOn}
+use Rattle.dob_board.specs.Rule.{IsNode, IsView, IsHeld}
+
+-- what a step of node i, from one ring and halt to another, leaves to the others
+pub record Leaves (n i : ℕ) (old new : Ring) (halt now : ℕ) : Type 0 where
+  pub posted : (k j : ℕ) → k < n → j < n → k ≢ i → new.posted k j ≡ old.posted k j
+  pub grows : (j k : ℕ) → j < n → k < n → old.posted j k ≤ new.posted j k
+  pub taken : (j k : ℕ) → j < n → k < n → k ≢ i → new.taken j k ≡ old.taken j k
+  pub colour : (k : ℕ) → k < n → k ≢ i → new.black k ≡ old.black k
+  pub token : (k : ℕ) → k ≢ i → old.token.at ≡ k → new.token ≡ old.token
+  pub halt_seen : (word : ℕ) → word ≢ 0 → halt ≡ word → now ≡ word
+  pub failed : (k : ℕ) → k ≢ i → now ≡ 2 + k → halt ≡ 2 + k
+
+stand_stays : (n i k : ℕ) (old new : Ring) (halt now : ℕ) (stand : Stand) → k < n → k ≢ i → Leaves n i old new halt now →
+    IsStand n old halt k stand → IsStand n new now k stand
+stand_stays n i k old new halt now stand within apart leaves is = record {
+  posted_len = is.posted_len;
+  taken_len = is.taken_len;
+  seen_len = is.seen_len;
+  shows = record {
+    posted = λ j j_in. is.shows.posted j j_in ∙ sym (leaves.posted k j within j_in apart);
+    taken = λ j j_in. is.shows.taken j j_in ∙ sym (leaves.taken j k j_in within apart);
+    colour = is.shows.colour ∙ sym (leaves.colour k within apart);
+  };
+  seen = λ j j_in. omega (arith, is.seen j j_in, leaves.grows j k j_in within);
+  token = λ token e. let had = is.token token e in
+      (had.0 ∙ sym (leaves.token k apart (sym (ap (λ (t : Token). t.at) had.0) ∙ had.1)), had.1);
+  halt_seen = λ ne. leaves.halt_seen stand.halt ne (is.halt_seen ne);
+  failed = λ e. is.failed (leaves.failed k apart e);
+}
+
+-- the log goes on from what was told
+goes_further : (told log more : List RingEvent) → GoesOn told log → GoesOn told (more ++ log)
+goes_further told log more on = (more ++ on.0, ap (λ (l : List RingEvent). more ++ l) on.1 ∙ sym (append_assoc more on.0 told))
+
+-- the view of one node is right where that node is
+pub one_is_view : (n i id halt : ℕ) (owner : ℕ → ℕ) (ring : Ring) (log told : List RingEvent) (stand : Stand) → i < n → owner i ≡ id →
+    GoesOn told log → IsStand n ring halt i stand → IsView n owner ring halt log id (one n i stand told)
+one_is_view n i id halt owner ring log told stand within owned on is = record { was_told = on; nodes = node }
+  where
+    node : (k : ℕ) (at : Stand) → get_elem? (stand ∷ []) k ≡ some at → IsNode n owner ring halt id n (i + k) at
+    node zero at e =
+        let first : i ≡ i + 0 = omega arith in
+        let here : IsNode n owner ring halt id n i stand = record { size_is = refl; within = within; owned = owned; is_stand = is } in
+        subst (λ (x : ℕ × Stand). IsNode n owner ring halt id n x.0 x.1) (λ q. (first q, some-injective stand at e q)) here
+    node (suc k) at e = absurd (some-ne-none at (sym e))
+
+-- the view of another seat stays right
+other_view : (n i id port halt now : ℕ) (owner : ℕ → ℕ) (old new : Ring) (log more : List RingEvent) (view : View) → owner i ≡ id → port ≢ id →
+    Leaves n i old new halt now → IsView n owner old halt log port view → IsView n owner new now (more ++ log) port view
+other_view n i id port halt now owner old new log more view owned apart leaves was = record {
+  was_told = goes_further view.told log more was.was_told;
+  nodes = λ k stand e.
+      let node = was.nodes k stand e in
+      let other : view.from + k ≢ i = λ same. apart (sym node.owned ∙ ap owner same ∙ owned) in
+      record { size_is = node.size_is; within = node.within; owned = node.owned; is_stand = stand_stays n i (view.from + k) old new halt now stand node.within other leaves node.is_stand };
+}
+
+-- node i is the seat's that stands for it alone, and what it knows is right
+pub own_node : (n i id : ℕ) (words : List ℕ) (views : List View) (stand : Stand) (told : List RingEvent) (held : IsHeld n words views) →
+    get_elem? views id ≡ some (one n i stand told) →
+    IsNode n held.owner (ring_of n words held.black held.token) (slice_index words 2) id n i stand
+own_node n i id words views stand told held at =
+    let first : i + 0 ≡ i = omega arith in
+    subst (λ (x : ℕ). IsNode n held.owner (ring_of n words held.black held.token) (slice_index words 2) id n x stand) first
+    ((held.views_are id (one n i stand told) at).nodes 0 stand refl)
+
+pub kept : (n i id : ℕ) (words after : List ℕ) (views : List View) (stand new : Stand) (told more : List RingEvent) (black : ℕ → Bool) (token : Token)
+    (held : IsHeld n words views) → get_elem? views id ≡ some (one n i stand told) →
+    length after ≡ length words → slice_index after 0 ≡ slice_index words 0 → IsPacked token (slice_index after 1) →
+    IsLawful n (ring_of n after black token) → Runs n (more ++ held.log) (ring_of n after black token) →
+    Leaves n i (ring_of n words held.black held.token) (ring_of n after black token) (slice_index words 2) (slice_index after 2) →
+    IsStand n (ring_of n after black token) (slice_index after 2) i new →
+    IsHeld n after (slice_set views id (one n i new (more ++ held.log)))
+kept n i id words after views stand new told more black token held at long nodes packed lawful runs leaves is =
+    let mine = own_node n i id words views stand told held at in
+    record {
+      size = held.size;
+      wide = long ∙ held.wide;
+      nodes = nodes ∙ held.nodes;
+      black = black;
+      token = token;
+      packed = packed;
+      lawful = lawful;
+      log = more ++ held.log;
+      runs = runs;
+      owner = held.owner;
+      views_are = λ port view e. ⊎_elim
+          (λ (x : (port ≡ id) × (one n i new (more ++ held.log) ≡ view)).
+          subst (λ (p : ℕ × View). IsView n held.owner (ring_of n after black token) (slice_index after 2) (more ++ held.log) p.0 p.1)
+          (λ q. (sym x.0 q, x.1 q))
+          (one_is_view n i id (slice_index after 2) held.owner (ring_of n after black token) (more ++ held.log) (more ++ held.log) new
+          mine.within mine.owned ([], refl) is))
+          (λ (x : (port ≢ id) × (get_elem? views port ≡ some view)).
+          other_view n i id port (slice_index words 2) (slice_index after 2) held.owner (ring_of n words held.black held.token) (ring_of n after black token)
+          held.log more view mine.owned x.0 leaves (held.views_are port view x.1))
+          (at_set views id port (one n i new (more ++ held.log)) view e);
+    }

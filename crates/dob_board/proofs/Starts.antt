@@ -1,0 +1,254 @@
+-- The start of a board, and how the view of all nodes is split.
+use Rattle.std.proofs.Common.{◌≡◌, ◌≢◌, ℕ, zero, suc, ◌+◌, ◌-◌, ◌<◌, ◌⊎◌, List, [], ◌∷◌, ◌++◌, length, set, get_or, Some, true, false, cond, eqb, eq-eqb, ne_eqb, refl, sym, ap, ◌∙◌, subst, ⊎_elim, inl, inr, arith, rules, map, length-set, length-append, get_or-set_same, get_or-set_other}
+use Rattle.std.specs.Prelude.{slice_index, slice_set, slice_get, replicate}
+use mathlib.Core.Option.{some, some-ne-none, some-injective}
+use lib.ListN.{get_elem?}
+use Rattle.atomic_table.specs.Table.{Splits}
+use Rattle.atomic_table.proofs.Lists.{at_set}
+use Rattle.dob_safra.specs.declared.event.RingEvent.{RingEvent}
+use Rattle.dob_safra.specs.Tokens.{IsPacked}
+use Rattle.dob_safra.specs.Rings.{Ring, IsLawful, IsStart, black_token}
+use Rattle.dob_safra.specs.Laws.{IsSize}
+use Rattle.dob_board.specs.declared.view.Stand.{Stand}
+use Rattle.dob_board.specs.declared.view.View.{View}
+use Rattle.dob_board.specs.Words.{posted_word, taken_word, word_count, ring_of}
+use Rattle.dob_board.specs.Views.{one, IsStand}
+use Rattle.dob_board.specs.Rule.{IsNode, IsView, IsHeld, fresh, whole}
+use Rattle.dob_board.specs.Plays.{others_of, first_of}
+use Rattle.dob_board.specs.Boards.{first_token, first_words, behind}
+use Rattle.atomic_table.specs.Seated.{TableId}
+use Rattle.dob_board.specs.declared.seat.NodeSeat.{NodeSeat}
+use Rattle.dob_board.specs.Seats.{stand_of, IsSeatOf}
+use Rattle.dob_board.proofs.Kept.{one_is_view}
+use Rattle.dob_board.proofs.Allowed.{Seated, Held}
+
+-- ---- split
+
+-- the seats of the nodes, where node i has a new one
+abbrev pub port_of : ℕ → ℕ → (ℕ → ℕ) → ℕ → ℕ
+port_of i port owner m = cond (eqb m i) port (owner m)
+
+pub port_here : (i port : ℕ) (owner : ℕ → ℕ) → port_of i port owner i ≡ port
+port_here i port owner = let same : eqb i i ≡ true = eq-eqb i i refl in rw same refl
+
+pub port_else : (i port m : ℕ) (owner : ℕ → ℕ) → m ≢ i → port_of i port owner m ≡ owner m
+port_else i port m owner apart = let other : eqb m i ≡ false = ne_eqb m i apart in rw other refl
+
+at_end : {A : Type 0} → (l : List A) (a b : A) (j : ℕ) → get_elem? (l ++ a ∷ []) j ≡ some b → (get_elem? l j ≡ some b) ⊎ ((j ≡ length l) × (a ≡ b))
+at_end [] a b zero e = inr (refl, some-injective a b e)
+at_end [] a b (suc j) e = absurd (some-ne-none b (sym e))
+at_end (x ∷ xs) a b zero e = inl e
+at_end (x ∷ xs) a b (suc j) e = ⊎_elim (λ l. inl l) (λ r. inr (ap suc r.0, r.1)) (at_end xs a b j e)
+
+-- the views of other seats, where another seat has node i now
+pub elsewhere : (n i id fresh_port port halt : ℕ) (owner : ℕ → ℕ) (ring : Ring) (log : List RingEvent) (view : View) → owner i ≡ id → port ≢ id →
+    IsView n owner ring halt log port view → IsView n (port_of i fresh_port owner) ring halt log port view
+elsewhere n i id fresh_port port halt owner ring log view owned apart was = record {
+  was_told = was.was_told;
+  nodes = λ k stand e.
+      let node = was.nodes k stand e in
+      let other : view.from + k ≢ i = λ same. apart (sym node.owned ∙ ap owner same ∙ owned) in
+      record { size_is = node.size_is; within = node.within; owned = port_else i fresh_port (view.from + k) owner other ∙ node.owned; is_stand = node.is_stand };
+}
+
+abbrev pub view_from : ℕ → ℕ → List Stand → List RingEvent → View
+view_from n from stands told = record { size = n; from = from; stands = stands; told = told }
+
+splits : (n i id : ℕ) (words : List ℕ) (views : List View) (stand : Stand) (rest : List Stand) (told : List RingEvent) (held : IsHeld n words views) →
+    get_elem? views id ≡ some (view_from n i (stand ∷ rest) told) →
+    IsHeld n words (slice_set views id (view_from n (suc i) rest told) ++ one n i stand told ∷ [])
+splits n i id words views stand rest told held at =
+    let ring : Ring = ring_of n words held.black held.token in
+    let halt : ℕ = slice_index words 2 in
+    let was = held.views_are id (view_from n i (stand ∷ rest) told) at in
+    let first : i + 0 ≡ i = omega arith in
+    let own : IsNode n held.owner ring halt id n i stand = subst (λ (x : ℕ). IsNode n held.owner ring halt id n x stand) first (was.nodes 0 stand refl) in
+    let port' : ℕ = length views in
+    let owner : ℕ → ℕ = port_of i port' held.owner in
+    record {
+      size = held.size;
+      wide = held.wide;
+      nodes = held.nodes;
+      black = held.black;
+      token = held.token;
+      packed = held.packed;
+      lawful = held.lawful;
+      log = held.log;
+      runs = held.runs;
+      owner = owner;
+      views_are = λ port view e.
+          ⊎_elim
+          (λ (there : get_elem? (set views id (view_from n (suc i) rest told)) port ≡ some view).
+          ⊎_elim
+          (λ (x : (port ≡ id) × (view_from n (suc i) rest told ≡ view)).
+          subst (λ (p : ℕ × View). IsView n owner ring halt held.log p.0 p.1) (λ q. (sym x.0 q, x.1 q))
+          (record {
+            was_told = was.was_told;
+            nodes = λ k at' e'.
+                let node = was.nodes (suc k) at' e' in
+                let apart : i + suc k ≢ i = λ same. omega (arith, same) in
+                let place : i + suc k ≡ suc i + k = omega arith in
+                subst (λ (x : ℕ). IsNode n owner ring halt id n x at') place
+                (record { size_is = refl; within = node.within; owned = port_else i port' (i + suc k) held.owner apart ∙ node.owned; is_stand = node.is_stand });
+          }))
+          (λ (x : (port ≢ id) × (get_elem? views port ≡ some view)).
+          elsewhere n i id port' port halt held.owner ring held.log view own.owned x.0 (held.views_are port view x.1))
+          (at_set views id port (view_from n (suc i) rest told) view there))
+          (λ (last : (port ≡ length (set views id (view_from n (suc i) rest told))) × (one n i stand told ≡ view)).
+          let port_is : port' ≡ port = sym (length-set views id (view_from n (suc i) rest told)) ∙ sym last.0 in
+          subst (λ (p : ℕ × View). IsView n owner ring halt held.log p.0 p.1) (λ q. (port_is q, last.1 q))
+          (one_is_view n i port' halt owner ring held.log told stand own.within (port_here i port' held.owner) was.was_told own.is_stand))
+          (at_end (set views id (view_from n (suc i) rest told)) (one n i stand told) view port e);
+    }
+
+abbrev stands_behind : ℕ → ℕ → List Stand
+stands_behind n m = replicate m (fresh n)
+
+pub others-behind : (n k : ℕ) → k < n → others_of (behind n k) ≡ behind n (suc k)
+others-behind n k within =
+    let more : n - k ≡ suc (n - suc k) = omega arith in
+    ap (λ (m : ℕ). others_of (view_from n k (stands_behind n m) [])) more
+
+pub splits_call : (key n k id : ℕ) (me : Seated) → key ≡ n → k < n → me ≡ (behind n k, []) →
+    Splits (Held key) id me.0 (others_of me.0) (first_of me.0)
+splits_call key n k id me key_is within me_is =
+    let more : n - k ≡ suc (n - suc k) = omega arith in
+    let split : (m : ℕ) → Splits (Held n) id (view_from n k (stands_behind n (suc m)) []) (others_of (view_from n k (stands_behind n (suc m)) [])) (first_of (view_from n k (stands_behind n (suc m)) [])) =
+    λ m s held at. splits n k id s.words s.views (fresh n) (stands_behind n m) [] held at in
+    let view_is : me.0 ≡ view_from n k (stands_behind n (suc (n - suc k))) [] = ap (λ (x : Seated). x.0) me_is ∙ ap (λ (m : ℕ). view_from n k (stands_behind n m) []) more in
+    subst (λ (p : ℕ × View). Splits (Held p.0) id p.1 (others_of p.1) (first_of p.1)) (λ q. (sym key_is q, sym view_is q)) (split (n - suc k))
+
+-- ---- start
+
+abbrev pub zeros_of : ℕ → List ℕ
+zeros_of m = replicate m 0
+
+zeros : (m k : ℕ) → get_or (zeros_of m) k 0 ≡ 0
+zeros zero k = refl
+zeros (suc m) zero = refl
+zeros (suc m) (suc k) = zeros m k
+
+zeros_len : (m : ℕ) → length (zeros_of m) ≡ m
+zeros_len zero = refl
+zeros_len (suc m) = ap suc (zeros_len m)
+
+first_zero : (n word k : ℕ) → 1 < k → get_or (first_words n word) k 0 ≡ 0
+first_zero n word k behind_first =
+    get_or-set_other (set (zeros_of (word_count n)) 0 n) 1 k word 0 (λ e. omega (arith, e))
+    ∙ get_or-set_other (zeros_of (word_count n)) 0 k n 0 (λ e. omega (arith, e))
+    ∙ zeros (word_count n) k
+
+first_len : (n word : ℕ) → length (first_words n word) ≡ word_count n
+first_len n word = length-set (set (zeros_of (word_count n)) 0 n) 1 word ∙ length-set (zeros_of (word_count n)) 0 n ∙ zeros_len (word_count n)
+
+abbrev first_ring : ℕ → ℕ → Ring
+first_ring n word = ring_of n (first_words n word) (λ k. true) first_token
+
+first_start : (n word : ℕ) → IsStart n (first_ring n word)
+first_start n word = record {
+  posted = λ i j i_in j_in. first_zero n word (posted_word n i j) (omega arith);
+  taken = λ i j i_in j_in. first_zero n word (taken_word n i j) (omega arith);
+  black = λ i i_in. refl;
+  token = refl;
+  running = ap (λ (halt : ℕ). eqb halt 1) (first_zero n word 2 (omega arith));
+}
+
+first_lawful : (n word : ℕ) → IsSize n → IsLawful n (first_ring n word)
+first_lawful n word size =
+    let start = first_start n word in
+    record {
+      in_order = λ i j i_in j_in. omega (arith, start.posted i j i_in j_in, start.taken i j i_in j_in);
+      few = λ i j i_in j_in. omega (arith, start.posted i j i_in j_in);
+      at = size.0;
+      low = search rules;
+      high = search rules;
+      all_white = λ ended. absurd (let not_yet = start.running in cc);
+      all_taken = λ ended. absurd (let not_yet = start.running in cc);
+      reason = black_token refl;
+    }
+
+fresh_stand : (n word i : ℕ) → i < n → IsStand n (first_ring n word) (slice_index (first_words n word) 2) i (fresh n)
+fresh_stand n word i within =
+    let start = first_start n word in
+    record {
+      posted_len = zeros_len n;
+      taken_len = zeros_len n;
+      seen_len = zeros_len n;
+      shows = record {
+        posted = λ j j_in. zeros n j ∙ sym (start.posted i j within j_in);
+        taken = λ j j_in. zeros n j ∙ sym (start.taken j i j_in within);
+        colour = refl;
+      };
+      seen = λ j j_in. omega (arith, zeros n j);
+      token = λ token e. absurd (cc);
+      halt_seen = λ ne. absurd (ne refl);
+      failed = λ e. absurd (omega (arith, e, first_zero n word 2 (omega arith)));
+    }
+
+at_fresh : (m k : ℕ) (x stand : Stand) → get_elem? (replicate m x) k ≡ some stand → (k < m) × (x ≡ stand)
+at_fresh zero k x stand e = absurd (some-ne-none stand (sym e))
+at_fresh (suc m) zero x stand e = (omega arith, some-injective x stand e)
+at_fresh (suc m) (suc k) x stand e = let more = at_fresh m k x stand e in (omega (arith, more.0), more.1)
+
+pub begins : (n word : ℕ) → IsSize n → IsPacked first_token word → IsHeld n (first_words n word) (whole n ∷ [])
+begins n word size packed = record {
+  size = size;
+  wide = first_len n word;
+  nodes = get_or-set_other (set (zeros_of (word_count n)) 0 n) 1 0 word 0 (λ e. omega (arith, e))
+      ∙ get_or-set_same (zeros_of (word_count n)) 0 n 0 (omega (arith, zeros_len (word_count n)));
+  black = λ k. true;
+  token = first_token;
+  packed = subst (IsPacked first_token)
+      (sym (get_or-set_same (set (zeros_of (word_count n)) 0 n) 1 word 0 (omega (arith, length-set (zeros_of (word_count n)) 0 n, zeros_len (word_count n))))) packed;
+  lawful = first_lawful n word size;
+  log = [];
+  runs = first_start n word;
+  owner = λ k. 0;
+  views_are = view;
+}
+  where
+    view : (port : ℕ) (v : View) → get_elem? (whole n ∷ []) port ≡ some v → IsView n (λ k. 0) (first_ring n word) (slice_index (first_words n word) 2) [] port v
+    view zero v e = subst (λ (x : View). IsView n (λ k. 0) (first_ring n word) (slice_index (first_words n word) 2) [] 0 x) (some-injective (whole n) v e)
+        (record {
+          was_told = ([], refl);
+          nodes = λ k stand there.
+              let found = at_fresh n k (fresh n) stand there in
+              let place : k ≡ 0 + k = omega arith in
+              subst (λ (p : ℕ × Stand). IsNode n (λ m. 0) (first_ring n word) (slice_index (first_words n word) 2) 0 n p.0 p.1) (λ q. (place q, found.1 q))
+              (record { size_is = refl; within = found.0; owned = refl; is_stand = fresh_stand n word k found.0 });
+        })
+    view (suc port) v e = absurd (some-ne-none v (sym e))
+
+-- ---- one seat more
+
+pub seats_end : {A : Type 0} → (l : List A) (a b : A) (j : ℕ) → slice_get (l ++ a ∷ []) j ≡ Some b → (slice_get l j ≡ Some b) ⊎ ((j ≡ length l) × (a ≡ b))
+seats_end [] a b zero e = inr (refl, (cc))
+seats_end [] a b (suc j) e = absurd (cc)
+seats_end (x ∷ xs) a b zero e = inl e
+seats_end (x ∷ xs) a b (suc j) e = ⊎_elim (λ l. inl l) (λ r. inr (ap suc r.0, r.1)) (seats_end xs a b j e)
+
+-- the first k seats
+pub record AreFirst (board : TableId) (n k : ℕ) (seats : List NodeSeat) : Type 0 where
+  pub count : length seats ≡ k
+  pub seats_are : (m : ℕ) (seat : NodeSeat) → slice_get seats m ≡ Some seat → IsSeatOf board n m seat
+  pub are_fresh : map stand_of seats ≡ replicate k (fresh n)
+
+one_more_fresh : (k : ℕ) (x : Stand) → replicate k x ++ x ∷ [] ≡ replicate (suc k) x
+one_more_fresh zero x = refl
+one_more_fresh (suc k) x = ap (λ (xs : List Stand). x ∷ xs) (one_more_fresh k x)
+
+map_push : (seats : List NodeSeat) (seat : NodeSeat) → map stand_of (seats ++ seat ∷ []) ≡ map stand_of seats ++ stand_of seat ∷ []
+map_push [] seat = refl
+map_push (x ∷ xs) seat = ap (λ (ss : List Stand). stand_of x ∷ ss) (map_push xs seat)
+
+pub push_first : (board : TableId) (n k : ℕ) (seats pushed : List NodeSeat) (seat : NodeSeat) → AreFirst board n k seats → IsSeatOf board n k seat → stand_of seat ≡ fresh n →
+    pushed ≡ seats ++ seat ∷ [] → AreFirst board n (suc k) pushed
+push_first board n k seats pushed seat first is is_fresh pushed_is =
+    subst (AreFirst board n (suc k)) (sym pushed_is) (record {
+      count = omega (arith, length-append seats (seat ∷ []), first.count);
+      seats_are = λ m other e. ⊎_elim
+          (λ there. first.seats_are m other there)
+          (λ last. subst (λ (p : ℕ × NodeSeat). IsSeatOf board n p.0 p.1) (λ q. ((sym first.count ∙ sym last.0) q, last.1 q)) is)
+          (seats_end seats seat other m e);
+      are_fresh = map_push seats seat ∙ ap (λ (s : Stand). map stand_of seats ++ s ∷ []) is_fresh ∙ ap (λ (ss : List Stand). ss ++ fresh n ∷ []) first.are_fresh ∙ one_more_fresh k (fresh n);
+    })

@@ -1,0 +1,294 @@
+-- The steps of a seat.
+use Rattle.std.proofs.Common.{◌≡◌, ◌≢◌, ℕ, suc, ◌^◌, ◌<◌, ◌≤◌, List, [], ◌∷◌, length, set, get_or, Bool, true, false, cond, eqb, eq-eqb, ne_eqb, refl, sym, ap, ◌∙◌, subst, inl, inr, arith, length-set, get_or-set_same, get_or-set_other}
+use Rattle.std.specs.Prelude.{slice_index, slice_set}
+use mathlib.Core.Option.{some}
+use lib.ListN.{get_elem?}
+use Rattle.dob_safra.specs.declared.token.Token.{Token}
+use Rattle.dob_safra.specs.declared.event.RingEvent.{RingEvent}
+use Rattle.dob_safra.specs.declared.event.RingEvent.TheVariants.{Post, Take}
+use Rattle.dob_safra.specs.Tokens.{IsPacked}
+use Rattle.dob_safra.specs.Rings.{Ring, IsLawful, Colours, Posts, Takes}
+use Rattle.dob_safra.specs.Laws.{HasFew}
+use Rattle.dob_safra.proofs.Kept.{moved_kept, raised_at_least, raised_at_most, same_or_not}
+use Rattle.dob_board.specs.declared.view.Stand.{Stand}
+use Rattle.dob_board.specs.declared.view.View.{View}
+use Rattle.dob_board.specs.Words.{posted_word, taken_word, word_count, ring_of}
+use Rattle.dob_board.specs.Views.{one, posts_more, takes_more, sees, IsStand}
+use Rattle.dob_board.specs.Histories.{Makes, Hears}
+use Rattle.dob_board.specs.Rule.{IsHeld}
+use Rattle.dob_board.proofs.Places.{posted_in, taken_in, posted_raised, taken_raised, taken_stays, posted_stays, head_stays}
+use Rattle.dob_board.proofs.Kept.{Leaves, own_node, kept}
+
+-- a list with one number changed
+changed : (xs : List ℕ) (j k v : ℕ) → j < length xs → (k ≡ j → get_or (set xs j v) k 0 ≡ v) × (k ≢ j → get_or (set xs j v) k 0 ≡ get_or xs k 0)
+changed xs j k v within =
+    ((λ e. ap (λ (m : ℕ). get_or (set xs j v) m 0) e ∙ get_or-set_same xs j v 0 within), (λ ne. get_or-set_other xs j k v 0 ne))
+
+-- ---- post
+
+-- the words after a post
+abbrev pub posted_after : ℕ → ℕ → ℕ → List ℕ → List ℕ
+posted_after n i j words = set words (posted_word n i j) (suc (get_or words (posted_word n i j) 0))
+
+posts_moved : (n i j : ℕ) (words : List ℕ) (black : ℕ → Bool) (token : Token) → length words ≡ word_count n → i < n → j < n → black i ≡ true →
+    Posts n (ring_of n words black token) i j (ring_of n (posted_after n i j words) black token)
+posts_moved n i j words black token wide i_in j_in is_black = record {
+  from = i_in;
+  to = j_in;
+  is_black = is_black;
+  posted = posted_raised n i j words (suc (posted_in n words i j)) wide i_in j_in refl;
+  taken = taken_stays n i j words (suc (posted_in n words i j)) i_in j_in;
+  colours = λ k k_in. refl;
+  token = refl;
+  announced = ap (λ (halt : ℕ). eqb halt 1) (head_stays words (posted_word n i j) (suc (posted_in n words i j)) 2 (omega arith) (omega arith));
+}
+
+posts_leaves : (n i j : ℕ) (old new : Ring) (halt now : ℕ) → Posts n old i j new → now ≡ halt → Leaves n i old new halt now
+posts_leaves n i j old new halt now moved same = record {
+  posted = λ k l k_in l_in apart. moved.posted.others k l k_in l_in (inl apart);
+  grows = λ k l k_in l_in. raised_at_least n i j k l old.posted new.posted k_in l_in moved.posted;
+  taken = λ k l k_in l_in apart. moved.taken k l k_in l_in;
+  colour = λ k k_in apart. moved.colours k k_in;
+  token = λ k apart e. moved.token;
+  halt_seen = λ word ne e. same ∙ e;
+  failed = λ k apart e. sym same ∙ e;
+}
+
+-- what node i knows after its post
+posts_stand : (n i j : ℕ) (old new : Ring) (halt now : ℕ) (stand : Stand) → Posts n old i j new → now ≡ halt → IsStand n old halt i stand →
+    IsStand n new now i (posts_more stand j)
+posts_stand n i j old new halt now stand moved same is = record {
+  posted_len = length-set stand.posted j (suc (slice_index stand.posted j)) ∙ is.posted_len;
+  taken_len = is.taken_len;
+  seen_len = is.seen_len;
+  shows = record {
+    posted = λ k k_in.
+        let place = changed stand.posted j k (suc (slice_index stand.posted j)) (omega (arith, is.posted_len, moved.to)) in
+        elim (same_or_not k j) [
+          | inl e ↦ place.0 e ∙ ap suc (is.shows.posted j moved.to) ∙ sym moved.posted.one_more ∙ ap (new.posted i) (sym e)
+          | inr apart ↦ place.1 apart ∙ is.shows.posted k k_in ∙ sym (moved.posted.others i k moved.from k_in (inr apart))
+        ];
+    taken = λ k k_in. is.shows.taken k k_in ∙ sym (moved.taken k i k_in moved.from);
+    colour = is.shows.colour ∙ sym (moved.colours i moved.from);
+  };
+  seen = λ k k_in. omega (arith, is.seen k k_in, raised_at_least n i j k i old.posted new.posted k_in moved.from moved.posted);
+  token = λ token e. let had = is.token token e in (had.0 ∙ sym moved.token, had.1);
+  halt_seen = λ ne. same ∙ is.halt_seen ne;
+  failed = λ e. is.failed (sym same ∙ e);
+}
+
+-- no other count passes 2^40
+posts_few : (n i j : ℕ) (old new : Ring) → IsLawful n old → Posts n old i j new → old.posted i j < 2 ^ 40 → HasFew n new
+posts_few n i j old new lawful moved room k l k_in l_in =
+    raised_at_most n i j k l old.posted new.posted (λ a b. 2 ^ 40) k_in l_in moved.posted room (lawful.few k l k_in l_in)
+
+pub posts : (n i j id : ℕ) (words : List ℕ) (views : List View) (stand : Stand) (told : List RingEvent) (held : IsHeld n words views) →
+    get_elem? views id ≡ some (one n i stand told) → j < n → stand.black ≡ true → slice_index stand.posted j < 2 ^ 40 →
+    IsHeld n (posted_after n i j words) (slice_set views id (one n i (posts_more stand j) (Post i j ∷ held.log)))
+    × Makes n i (Post i j) stand (posts_more stand j) told (Post i j ∷ held.log)
+posts n i j id words views stand told held at j_in is_black room =
+    let old : Ring = ring_of n words held.black held.token in
+    let new : Ring = ring_of n (posted_after n i j words) held.black held.token in
+    let mine = own_node n i id words views stand told held at in
+    let is = mine.is_stand in
+    let moved : Posts n old i j new = posts_moved n i j words held.black held.token held.wide mine.within j_in (sym is.shows.colour ∙ is_black) in
+    let few : HasFew n new = posts_few n i j old new held.lawful moved (omega (arith, is.shows.posted j j_in, room)) in
+    let lawful : IsLawful n new = moved_kept n old new (Post i j) held.size held.lawful moved few in
+    let halt : slice_index (posted_after n i j words) 2 ≡ slice_index words 2 = head_stays words (posted_word n i j) (suc (posted_in n words i j)) 2 (omega arith) (omega arith) in
+    let after : IsStand n new (slice_index (posted_after n i j words) 2) i (posts_more stand j) = posts_stand n i j old new (slice_index words 2) (slice_index (posted_after n i j words) 2) stand moved halt is in (
+      kept n i id words (posted_after n i j words) views stand (posts_more stand j) told (Post i j ∷ []) held.black held.token held at
+          (length-set words (posted_word n i j) (suc (posted_in n words i j)))
+          (head_stays words (posted_word n i j) (suc (posted_in n words i j)) 0 (omega arith) (omega arith))
+          (subst (IsPacked held.token) (sym (head_stays words (posted_word n i j) (suc (posted_in n words i j)) 1 (omega arith) (omega arith))) held.packed)
+          lawful
+          (old, held.runs, moved)
+          (posts_leaves n i j old new (slice_index words 2) (slice_index (posted_after n i j words) 2) moved halt)
+          after,
+      record {
+        log = held.log;
+        went_on = (held.views_are id (one n i stand told) at).was_told;
+        is_next = refl;
+        old = old;
+        new = new;
+        runs = held.runs;
+        moved = moved;
+        was_lawful = held.lawful;
+        is_lawful = lawful;
+        shows_before = is.shows;
+        shows_after = after.shows;
+      },
+    )
+
+-- ---- look
+
+stays : (n i : ℕ) (ring : Ring) (halt : ℕ) → Leaves n i ring ring halt halt
+stays n i ring halt = record {
+  posted = λ k j k_in j_in apart. refl;
+  grows = λ j k j_in k_in. omega arith;
+  taken = λ j k j_in k_in apart. refl;
+  colour = λ k k_in apart. refl;
+  token = λ k apart e. refl;
+  halt_seen = λ word ne e. e;
+  failed = λ k apart e. e;
+}
+
+-- a step that changes no word, but what the node knows
+pub known : (n i id : ℕ) (words : List ℕ) (views : List View) (stand new : Stand) (told : List RingEvent) (held : IsHeld n words views) →
+    get_elem? views id ≡ some (one n i stand told) →
+    IsStand n (ring_of n words held.black held.token) (slice_index words 2) i new →
+    IsHeld n words (slice_set views id (one n i new held.log))
+known n i id words views stand new told held at is =
+    kept n i id words words views stand new told [] held.black held.token held at refl refl held.packed held.lawful held.runs
+    (stays n i (ring_of n words held.black held.token) (slice_index words 2)) is
+
+sees_stand : (n i j halt : ℕ) (ring : Ring) (stand : Stand) → i < n → j < n → IsStand n ring halt i stand → IsStand n ring halt i (sees stand j (ring.posted j i))
+sees_stand n i j halt ring stand i_in j_in is = record {
+  posted_len = is.posted_len;
+  taken_len = is.taken_len;
+  seen_len = length-set stand.seen j (ring.posted j i) ∙ is.seen_len;
+  shows = record { posted = is.shows.posted; taken = is.shows.taken; colour = is.shows.colour };
+  seen = λ k k_in.
+      let place = changed stand.seen j k (ring.posted j i) (omega (arith, is.seen_len, j_in)) in
+      elim (same_or_not k j) [
+        | inl e ↦ omega (arith, place.0 e, ap (λ (a : ℕ). ring.posted a i) e)
+        | inr apart ↦ omega (arith, place.1 apart, is.seen k k_in)
+      ];
+  token = is.token;
+  halt_seen = is.halt_seen;
+  failed = is.failed;
+}
+
+pub looks : (n i j id : ℕ) (words : List ℕ) (views : List View) (stand : Stand) (told : List RingEvent) (held : IsHeld n words views) →
+    get_elem? views id ≡ some (one n i stand told) → j < n →
+    (number : ℕ) × (number ≡ slice_index words (posted_word n j i))
+    × IsHeld n words (slice_set views id (one n i (sees stand j number) held.log))
+    × (slice_index stand.seen j ≤ number) × (slice_index stand.taken j ≤ number)
+    × Hears n i j number (sees stand j number) told held.log
+looks n i j id words views stand told held at j_in =
+    let ring : Ring = ring_of n words held.black held.token in
+    let mine = own_node n i id words views stand told held at in
+    let is = mine.is_stand in
+    let after : IsStand n ring (slice_index words 2) i (sees stand j (ring.posted j i)) = sees_stand n i j (slice_index words 2) ring stand mine.within j_in is in (
+      ring.posted j i,
+      refl,
+      known n i id words views stand (sees stand j (ring.posted j i)) told held at after,
+      is.seen j j_in,
+      omega (arith, is.shows.taken j j_in, held.lawful.in_order j i j_in mine.within),
+      record {
+        went_on = (held.views_are id (one n i stand told) at).was_told;
+        ring = ring;
+        runs = held.runs;
+        is_lawful = held.lawful;
+        shows = after.shows;
+        number_is = refl;
+      },
+    )
+
+-- ---- take
+
+-- the colours, with that of one node as it is now
+abbrev pub painted : ℕ → Bool → (ℕ → Bool) → ℕ → Bool
+painted i colour black k = cond (eqb k i) colour (black k)
+
+pub painted_same : (i : ℕ) (colour : Bool) (black : ℕ → Bool) → painted i colour black i ≡ colour
+painted_same i colour black = let same : eqb i i ≡ true = eq-eqb i i refl in rw same refl
+
+pub painted_other : (i k : ℕ) (colour : Bool) (black : ℕ → Bool) → k ≢ i → painted i colour black k ≡ black k
+painted_other i k colour black apart = let other : eqb k i ≡ false = ne_eqb k i apart in rw other refl
+
+pub painted_colours : (n i : ℕ) (colour : Bool) (old new : Ring) → ((k : ℕ) → new.black k ≡ painted i colour old.black k) → Colours n old new i colour
+painted_colours n i colour old new is = record {
+  colour_is = is i ∙ painted_same i colour old.black;
+  others = λ k k_in apart. is k ∙ painted_other i k colour old.black apart;
+}
+
+abbrev pub taken_after : ℕ → ℕ → ℕ → List ℕ → List ℕ
+taken_after n j i words = set words (taken_word n j i) (suc (get_or words (taken_word n j i) 0))
+
+takes_moved : (n i j : ℕ) (words : List ℕ) (black : ℕ → Bool) (token : Token) → length words ≡ word_count n → i < n → j < n →
+    taken_in n words j i < posted_in n words j i →
+    Takes n (ring_of n words black token) j i (ring_of n (taken_after n j i words) (painted i true black) token)
+takes_moved n i j words black token wide i_in j_in waiting = record {
+  from = j_in;
+  to = i_in;
+  waiting = waiting;
+  posted = posted_stays n j i words (suc (taken_in n words j i)) j_in i_in;
+  taken = taken_raised n j i words (suc (taken_in n words j i)) wide j_in i_in refl;
+  colours = painted_colours n i true (ring_of n words black token) (ring_of n (taken_after n j i words) (painted i true black) token) (λ k. refl);
+  token = refl;
+  announced = ap (λ (halt : ℕ). eqb halt 1) (head_stays words (taken_word n j i) (suc (taken_in n words j i)) 2 (omega arith) (omega arith));
+}
+
+takes_leaves : (n i j : ℕ) (old new : Ring) (halt now : ℕ) → Takes n old j i new → now ≡ halt → Leaves n i old new halt now
+takes_leaves n i j old new halt now moved same = record {
+  posted = λ k l k_in l_in apart. moved.posted k l k_in l_in;
+  grows = λ k l k_in l_in. omega (arith, moved.posted k l k_in l_in);
+  taken = λ k l k_in l_in apart. moved.taken.others k l k_in l_in (inr apart);
+  colour = λ k k_in apart. moved.colours.others k k_in apart;
+  token = λ k apart e. moved.token;
+  halt_seen = λ word ne e. same ∙ e;
+  failed = λ k apart e. sym same ∙ e;
+}
+
+takes_stand : (n i j : ℕ) (old new : Ring) (halt now : ℕ) (stand : Stand) → Takes n old j i new → now ≡ halt → IsStand n old halt i stand →
+    IsStand n new now i (takes_more stand j)
+takes_stand n i j old new halt now stand moved same is = record {
+  posted_len = is.posted_len;
+  taken_len = length-set stand.taken j (suc (slice_index stand.taken j)) ∙ is.taken_len;
+  seen_len = is.seen_len;
+  shows = record {
+    posted = λ k k_in. is.shows.posted k k_in ∙ sym (moved.posted i k moved.to k_in);
+    taken = λ k k_in.
+        let place = changed stand.taken j k (suc (slice_index stand.taken j)) (omega (arith, is.taken_len, moved.from)) in
+        elim (same_or_not k j) [
+          | inl e ↦ place.0 e ∙ ap suc (is.shows.taken j moved.from) ∙ sym moved.taken.one_more ∙ ap (λ (a : ℕ). new.taken a i) (sym e)
+          | inr apart ↦ place.1 apart ∙ is.shows.taken k k_in ∙ sym (moved.taken.others k i k_in moved.to (inl apart))
+        ];
+    colour = sym moved.colours.colour_is;
+  };
+  seen = λ k k_in. omega (arith, is.seen k k_in, moved.posted k i k_in moved.to);
+  token = λ token e. let had = is.token token e in (had.0 ∙ sym moved.token, had.1);
+  halt_seen = λ ne. same ∙ is.halt_seen ne;
+  failed = λ e. is.failed (sym same ∙ e);
+}
+
+pub takes : (n i j id : ℕ) (words : List ℕ) (views : List View) (stand : Stand) (told : List RingEvent) (held : IsHeld n words views) →
+    get_elem? views id ≡ some (one n i stand told) → j < n → slice_index stand.taken j < slice_index stand.seen j →
+    IsHeld n (taken_after n j i words) (slice_set views id (one n i (takes_more stand j) (Take j i ∷ held.log)))
+    × Makes n i (Take j i) stand (takes_more stand j) told (Take j i ∷ held.log)
+takes n i j id words views stand told held at j_in waiting =
+    let black : ℕ → Bool = painted i true held.black in
+    let old : Ring = ring_of n words held.black held.token in
+    let new : Ring = ring_of n (taken_after n j i words) black held.token in
+    let mine = own_node n i id words views stand told held at in
+    let is = mine.is_stand in
+    let moved : Takes n old j i new = takes_moved n i j words held.black held.token held.wide mine.within j_in
+    (omega (arith, is.shows.taken j j_in, is.seen j j_in, waiting)) in
+    let few : HasFew n new = λ k l k_in l_in. omega (arith, moved.posted k l k_in l_in, held.lawful.few k l k_in l_in) in
+    let lawful : IsLawful n new = moved_kept n old new (Take j i) held.size held.lawful moved few in
+    let write : ℕ = suc (taken_in n words j i) in
+    let halt : slice_index (taken_after n j i words) 2 ≡ slice_index words 2 = head_stays words (taken_word n j i) write 2 (omega arith) (omega arith) in
+    let after : IsStand n new (slice_index (taken_after n j i words) 2) i (takes_more stand j) =
+    takes_stand n i j old new (slice_index words 2) (slice_index (taken_after n j i words) 2) stand moved halt is in (
+      kept n i id words (taken_after n j i words) views stand (takes_more stand j) told (Take j i ∷ []) black held.token held at
+          (length-set words (taken_word n j i) write)
+          (head_stays words (taken_word n j i) write 0 (omega arith) (omega arith))
+          (subst (IsPacked held.token) (sym (head_stays words (taken_word n j i) write 1 (omega arith) (omega arith))) held.packed)
+          lawful
+          (old, held.runs, moved)
+          (takes_leaves n i j old new (slice_index words 2) (slice_index (taken_after n j i words) 2) moved halt)
+          after,
+      record {
+        log = held.log;
+        went_on = (held.views_are id (one n i stand told) at).was_told;
+        is_next = refl;
+        old = old;
+        new = new;
+        runs = held.runs;
+        moved = moved;
+        was_lawful = held.lawful;
+        is_lawful = lawful;
+        shows_before = is.shows;
+        shows_after = after.shows;
+      },
+    )

@@ -1,0 +1,11 @@
+use Rattle.std.proofs.Common.{◌≡◌, []}
+use Rattle.dob_board.specs.Boards.{behind}
+use Rattle.dob_board.proofs.Starts.{AreFirst}
+use Rattle.dob_board.proofs.opening.all_seats.Given as goal
+
+abbrev pub invariant-loop-node : goal.invariant-loop-node
+invariant-loop-node l = record {
+  of_board : l.rest.table_id ≡ l.fn.rest.table_id;
+  behind_is : l.rest.me ≡ (behind l.nodes l.node, []);
+  first : AreFirst l.fn.rest.table_id l.nodes l.node l.seats.items;
+}

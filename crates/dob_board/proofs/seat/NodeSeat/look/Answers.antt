@@ -1,0 +1,58 @@
+use Rattle.std.proofs.Common.{rules}
+use Rattle.dob_board.specs.Views.{stand_from}
+use Rattle.dob_board.proofs.Allowed.{looks_call, looks_tell}
+use Rattle.dob_board.proofs.Places.{posted_within}
+use Rattle.dob_board.proofs.seat.NodeSeat.look.Goals as goal
+
+pub load-number-requires : goal.load-number-requires
+load-number-requires c =
+    let seat = c.args.self.now in (
+      search rules,
+      rw (c.deref.ensures, seat.words, c.posted_index-word.ensures) (posted_within seat.nodes c.args.from seat.node c.requires seat.within),
+      looks_call _ seat.nodes seat.node c.args.from _ _ _ _ (stand_from seat.posted.items seat.taken.items seat.seen.items seat.black seat.token seat.halt) seat.seat.me.0.told
+          (search rules) seat.view_is c.posted_index-word.ensures seat.within c.requires,
+    )
+
+pub invariant_of-self : goal.invariant_of-self
+invariant_of-self c =
+    let seat = c.args.self.now in
+    let told = looks_tell seat.nodes seat.node c.args.from c.posted_index-word.result c.load-number.result seat.seat.me c.load-number.new.seat.me
+    (stand_from seat.posted.items seat.taken.items seat.seen.items seat.black seat.token seat.halt) seat.seat.me.0.told
+    seat.view_is c.posted_index-word.ensures c.requires c.load-number.ensures.2 in
+    record {
+      size = seat.size;
+      within = seat.within;
+      of_board = search rules;
+      words = seat.words;
+      key = seat.key;
+      posted_len = seat.posted_len;
+      taken_len = seat.taken_len;
+      seen_len = search rules;
+      few_posted = seat.few_posted;
+      few_taken = seat.few_taken;
+      view_is = told.0;
+    }
+
+pub returns-clause-not_less : goal.returns-clause-not_less
+returns-clause-not_less c =
+    let seat = c.args.self.now in
+    let told = looks_tell seat.nodes seat.node c.args.from c.posted_index-word.result c.load-number.result seat.seat.me c.load-number.new.seat.me
+    (stand_from seat.posted.items seat.taken.items seat.seen.items seat.black seat.token seat.halt) seat.seat.me.0.told
+    seat.view_is c.posted_index-word.ensures c.requires c.load-number.ensures.2 in
+    told.1
+
+pub returns-clause-taken_first : goal.returns-clause-taken_first
+returns-clause-taken_first c =
+    let seat = c.args.self.now in
+    let told = looks_tell seat.nodes seat.node c.args.from c.posted_index-word.result c.load-number.result seat.seat.me c.load-number.new.seat.me
+    (stand_from seat.posted.items seat.taken.items seat.seen.items seat.black seat.token seat.halt) seat.seat.me.0.told
+    seat.view_is c.posted_index-word.ensures c.requires c.load-number.ensures.2 in
+    told.2
+
+pub returns-clause-heard : goal.returns-clause-heard
+returns-clause-heard c =
+    let seat = c.args.self.now in
+    let told = looks_tell seat.nodes seat.node c.args.from c.posted_index-word.result c.load-number.result seat.seat.me c.load-number.new.seat.me
+    (stand_from seat.posted.items seat.taken.items seat.seen.items seat.black seat.token seat.halt) seat.seat.me.0.told
+    seat.view_is c.posted_index-word.ensures c.requires c.load-number.ensures.2 in
+    told.3

@@ -1,0 +1,14 @@
+use Rattle.std.proofs.Common.{rules, arith, ap}
+use Rattle.dob_board.specs.declared.view.Stand.{Stand}
+use Rattle.dob_board.proofs.Done.{read_there}
+use Rattle.dob_board.proofs.Takings.{take_one}
+use Rattle.dob_board.proofs.seat.NodeSeat.take.Goals as goal
+
+pub returns-clause-ok : goal.returns-clause-ok
+returns-clause-ok c =
+    let seat = c.args.self.now in
+    let look = c.look-seen.ensures in
+    let read = read_there c.look-seen.new.self.taken.items seat.taken.items c.args.from c.index.result.now (ap (λ (s : Stand). s.taken) look.noted)
+    (search rules) c.index.ensures in
+    take_one seat c.look-seen.new.self c.count_taken.new.self c.args.from c.look-seen.result look.not_less (omega (arith, read, c.if-seen-index.false))
+    look.noted look.same c.count_taken.ensures.counted look.heard c.count_taken.ensures.event

@@ -1,0 +1,41 @@
+-- The history of a board: the events so far, the newest first, and what calls tell of it.
+use Rattle.std.specs.Prelude.{◌≡◌, ℕ, List, [], ◌∷◌, ◌++◌}
+use Rattle.dob_safra.specs.declared.event.RingEvent.{RingEvent}
+use Rattle.dob_safra.specs.Rings.{Ring, IsStart, IsLawful, Moved}
+use Rattle.dob_board.specs.declared.view.Stand.{Stand}
+use Rattle.dob_board.specs.Views.{Shows}
+
+-- the events lead from the start to the ring
+abbrev pub Runs : ℕ → List RingEvent → Ring → Type 0
+Runs n [] ring = IsStart n ring
+Runs n (event ∷ log) ring = (before : Ring) × Runs n log before × Moved n before event ring
+
+-- the log went on from what was told
+abbrev pub GoesOn : List RingEvent → List RingEvent → Type 0
+GoesOn told log = (more : List RingEvent) × (log ≡ more ++ told)
+
+-- Node i, which was told of some events and stood like that, made this event the next one: others had happened since; they
+-- had led to a lawful ring that shows how the node stood; the event moved it to a lawful one that shows how the node
+-- stands now; and the node was told all that.
+pub record Makes (n i : ℕ) (event : RingEvent) (before after : Stand) (told now : List RingEvent) : Type 0 where
+  pub log : List RingEvent
+  pub went_on : GoesOn told log
+  pub is_next : now ≡ event ∷ log
+  pub old : Ring
+  pub new : Ring
+  pub runs : Runs n log old
+  pub moved : Moved n old event new
+  pub was_lawful : IsLawful n old
+  pub is_lawful : IsLawful n new
+  pub shows_before : Shows n old i before
+  pub shows_after : Shows n new i after
+
+-- Node i was told of all events so far. They led to a lawful ring that shows how the node stands, and in which j has
+-- posted that many batches to it.
+pub record Hears (n i j number : ℕ) (stand : Stand) (told now : List RingEvent) : Type 0 where
+  pub went_on : GoesOn told now
+  pub ring : Ring
+  pub runs : Runs n now ring
+  pub is_lawful : IsLawful n ring
+  pub shows : Shows n ring i stand
+  pub number_is : number ≡ ring.posted j i

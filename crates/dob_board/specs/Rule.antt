@@ -1,0 +1,51 @@
+-- The rule of the board, which each step keeps.
+use Rattle.std.specs.Prelude.{◌≡◌, ℕ, ◌+◌, ◌<◌, Bool, List, [], slice_index, length, true, None, replicate}
+use mathlib.Core.Option.{some}
+use lib.ListN.{get_elem?}
+use Rattle.dob_safra.specs.declared.token.Token.{Token}
+use Rattle.dob_safra.specs.declared.event.RingEvent.{RingEvent}
+use Rattle.dob_safra.specs.Tokens.{IsPacked}
+use Rattle.dob_safra.specs.Rings.{Ring, IsLawful}
+use Rattle.dob_safra.specs.Laws.{IsSize}
+use Rattle.dob_board.specs.declared.view.Stand.{Stand}
+use Rattle.dob_board.specs.declared.view.View.{View}
+use Rattle.dob_board.specs.Words.{word_count, ring_of}
+use Rattle.dob_board.specs.Views.{IsStand}
+use Rattle.dob_board.specs.Histories.{Runs, GoesOn}
+
+-- What a seat's view says of a node is right: the view is of n nodes, the node is this seat's, and what it knows is right.
+pub record IsNode (n : ℕ) (owner : ℕ → ℕ) (ring : Ring) (halt port size node : ℕ) (stand : Stand) : Type 0 where
+  pub size_is : size ≡ n
+  pub within : node < n
+  pub owned : owner node ≡ port
+  pub is_stand : IsStand n ring halt node stand
+
+-- The view of a seat is right: the log went on from what it was told, and what it says of each of its nodes, from the
+-- first one on, is right.
+pub record IsView (n : ℕ) (owner : ℕ → ℕ) (ring : Ring) (halt : ℕ) (log : List RingEvent) (port : ℕ) (view : View) : Type 0 where
+  pub was_told : GoesOn view.told log
+  pub nodes : (k : ℕ) (stand : Stand) → get_elem? view.stands k ≡ some stand → IsNode n owner ring halt port view.size (view.from + k) stand
+
+-- The words and the views of a board of n nodes are right: word 0 is n; word 1 is the token's; the ring that the words
+-- show, with some colours, is lawful, and the events of some log led to it; and each view is right.
+pub record IsHeld (n : ℕ) (words : List ℕ) (views : List View) : Type 0 where
+  pub size : IsSize n
+  pub wide : length words ≡ word_count n
+  pub nodes : slice_index words 0 ≡ n
+  pub black : ℕ → Bool
+  pub token : Token
+  pub packed : IsPacked token (slice_index words 1)
+  pub lawful : IsLawful n (ring_of n words black token)
+  pub log : List RingEvent
+  pub runs : Runs n log (ring_of n words black token)
+  pub owner : ℕ → ℕ
+  pub views_are : (port : ℕ) (view : View) → get_elem? views port ≡ some view →
+      IsView n owner (ring_of n words black token) (slice_index words 2) log port view
+
+-- a node at the start
+abbrev pub fresh : ℕ → Stand
+fresh n = record { posted = replicate n 0; taken = replicate n 0; seen = replicate n 0; black = true; token = None; halt = 0 }
+
+-- all nodes at the start, in one view
+abbrev pub whole : ℕ → View
+whole n = record { size = n; from = 0; stands = replicate n (fresh n); told = [] }

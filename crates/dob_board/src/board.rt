@@ -1,0 +1,37 @@
+// A board, from its opening to its close.
+ghost use Rattle.std.specs.Prelude.{◌≡◌, ◌≤◌, ◌<◌, [], vec_len};
+ghost use Rattle.std.specs.Arc.{arc_value};
+ghost use Rattle.dob_board.specs.Words.{word_count};
+ghost use Rattle.dob_board.specs.Boards.{behind};
+
+use crate::seat::Words;
+use crate::view::View;
+use atomic_table::Seat;
+use std::sync::Arc;
+
+/// A board: the words that the seats of its nodes share.
+#[derive(Drop)]
+pub struct Board {
+    pub(crate) shared: Arc<Words>,
+    // The seat from which the seats of the nodes were split, and into which they are joined again.
+    pub(crate) rest: Seat<(), View>,
+    // The words as they were at the start, and room for them as they are at the end.
+    pub(crate) words: Vec<u64>,
+    /// How many nodes the board has.
+    pub nodes: usize,
+    pub ghost some: { 0 < nodes },
+    pub ghost few: { nodes ≤ 16 },
+    pub ghost of_board: { rest.table_id ≡ (arc_value shared).shared.table_id },
+    pub ghost words_are: { (arc_value shared).shared.table_id.words ≡ word_count nodes },
+    pub ghost key: { (arc_value shared).shared.key ≡ nodes },
+    pub ghost room: { vec_len words ≡ word_count nodes },
+    pub ghost rest_is: { rest.me ≡ (behind nodes nodes, []) },
+}
+
+/// The words of a board that is closed.
+#[derive(Drop)]
+pub struct Closed {
+    /// The number of nodes, the token, the halt, how many batches each node posted to each, and how many of those were
+    /// taken.
+    pub words: Vec<u64>,
+}

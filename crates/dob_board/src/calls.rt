@@ -1,0 +1,102 @@
+// What a seat does: it posts, looks and takes. No call waits, takes a lock or takes memory.
+ghost use Rattle.std.specs.Prelude.{◌≡◌, ◌≢◌, ℕ, suc, ◌+◌, ◌^◌, ◌<◌, ◌≤◌, true, slice_index, slice_set, OnOk, IfErr};
+ghost use Rattle.dob_safra.specs.declared.event.RingEvent.TheVariants.{Post, Take};
+ghost use Rattle.dob_board.specs.Words.{posted_word, taken_word};
+ghost use Rattle.dob_board.specs.Views.{posts_more, takes_more, sees};
+ghost use Rattle.dob_board.specs.Histories.{Makes, Hears};
+ghost use Rattle.dob_board.specs.Seats.{stand_of, told_of, IsSameSeat, TakesOne, TakesNone};
+
+use crate::rule::{Looks, Posts, Takes};
+use crate::{NodeSeat, NotPosted};
+
+// The words before the counts.
+const COUNTS: usize = 3;
+
+// The word of what node `from` posted to node `to`, of so many nodes.
+fn posted_index(nodes: usize, from: usize, to: usize) -> usize
+    requires few { nodes ≤ 16 }
+    requires from { from < nodes }
+    requires to { to < nodes }
+    ensures { result ≡ posted_word nodes from to }
+{
+    COUNTS + (from * nodes + to)
+}
+
+// The word of what node `to` took of node `from`.
+fn taken_index(nodes: usize, from: usize, to: usize) -> usize
+    requires few { nodes ≤ 16 }
+    requires from { from < nodes }
+    requires to { to < nodes }
+    ensures { result ≡ taken_word nodes from to }
+{
+    COUNTS + (nodes * nodes + (from * nodes + to))
+}
+
+impl NodeSeat {
+    /// Counts a batch for the node `to`, another one of the board: the count and its word rise by one. The node must be
+    /// black, and the count below 2^40.
+    pub fn post(&mut self, to: usize)
+        requires node { to < self.old.nodes }
+        requires other { to ≢ self.old.node }
+        requires black { self.old.black ≡ true }
+        requires few { slice_index self.old.posted.items to < 2 ^ 40 }
+        ensures counted { stand_of self.new ≡ posts_more (stand_of self.old) to }
+        ensures same { IsSameSeat self.old self.new }
+        ensures event { Makes self.old.nodes self.old.node (Post self.old.node to) (stand_of self.old) (stand_of self.new) (told_of self.old) (told_of self.new) }
+    {
+        let word = posted_index(self.nodes, self.node, to);
+        self.board
+            .shared
+            .fetch_add::<Posts>(&mut self.seat, word, 1);
+        self.posted[to] += 1;
+    }
+
+    /// How many batches the node `from` was seen to post to this one: what its word says, at least what was seen before
+    /// and what is taken.
+    pub fn look(&mut self, from: usize) -> u64
+        requires { from < self.old.nodes }
+        ensures noted { stand_of self.new ≡ sees (stand_of self.old) from result }
+        ensures same { IsSameSeat self.old self.new }
+        ensures not_less { slice_index self.old.seen.items from ≤ result }
+        ensures taken_first { slice_index self.old.taken.items from ≤ result }
+        ensures heard { Hears self.old.nodes self.old.node from result (stand_of self.new) (told_of self.old) (told_of self.new) }
+    {
+        let word = posted_index(self.nodes, from, self.node);
+        let number = self.board.shared.load::<Looks>(&mut self.seat, word);
+        self.seen[from] = number;
+        number
+    }
+
+    // Counts a batch of the node `from`, of which more were seen posted than are taken. The node is black afterwards.
+    fn count_taken(&mut self, from: usize)
+        requires node { from < self.old.nodes }
+        requires waiting { slice_index self.old.taken.items from < slice_index self.old.seen.items from }
+        ensures counted { stand_of self.new ≡ takes_more (stand_of self.old) from }
+        ensures same { IsSameSeat self.old self.new }
+        ensures event { Makes self.old.nodes self.old.node (Take from self.old.node) (stand_of self.old) (stand_of self.new) (told_of self.old) (told_of self.new) }
+    {
+        let word = taken_index(self.nodes, from, self.node);
+        self.board
+            .shared
+            .fetch_add::<Takes>(&mut self.seat, word, 1);
+        self.taken[from] += 1;
+        self.black = true;
+    }
+
+    /// Counts a batch of the node `from`, another one of the board, if its word says that it posted more than are taken:
+    /// the count and its word rise by one, and the node is black afterwards. A refusal changes nothing but what was seen.
+    pub fn take(&mut self, from: usize) -> Result<(), NotPosted>
+        requires node { from < self.old.nodes }
+        requires other { from ≢ self.old.node }
+        ensures ok { OnOk result (TakesOne self.old self.new from) }
+        ensures err { IfErr result (λ refusal. TakesNone self.old self.new from refusal.seen) }
+        ensures same { IsSameSeat self.old self.new }
+    {
+        let seen = self.look(from);
+        if seen <= self.taken[from] {
+            return Err(NotPosted { seen });
+        }
+        self.count_taken(from);
+        Ok(())
+    }
+}

@@ -1,0 +1,84 @@
+// How a board is closed.
+ghost use Rattle.std.specs.Prelude.{◌≡◌, suc, [], map, vec_len};
+ghost use Rattle.std.specs.Arc.{arc_value};
+ghost use Rattle.dob_board.specs.Words.{word_count};
+ghost use Rattle.dob_board.specs.Boards.{behind, gathered, joined, AreRead};
+ghost use Rattle.dob_board.specs.Seats.{stand_of, IsSeatOf, AreSeats, AreWords};
+
+use crate::rule::{Back, Reads};
+use crate::seat::Words;
+use crate::view::View;
+use crate::{Board, Closed, NodeSeat};
+use atomic_table::Seat;
+use std::sync::Arc;
+
+impl Board {
+    /// The words, once the seats of all nodes are back. They are just what the seats counted.
+    pub fn close(self, seats: Vec<NodeSeat>) -> Closed
+        requires { AreSeats self.rest.table_id self.nodes seats.items }
+        ensures { AreWords self.nodes seats.items result.words.items }
+    {
+        let Board {
+            shared,
+            mut rest,
+            words,
+            nodes,
+        } = self;
+        join_all(&shared, &mut rest, seats, nodes);
+        let words = read_all(&shared, &mut rest, words, nodes);
+        Closed { words }
+    }
+}
+
+// Joins the seats of all nodes into the rest.
+fn join_all(shared: &Arc<Words>, rest: &mut Seat<(), View>, mut seats: Vec<NodeSeat>, nodes: usize)
+    requires board { (arc_value shared.now).shared.table_id.words ≡ word_count nodes }
+    requires key { (arc_value shared.now).shared.key ≡ nodes }
+    requires of_board { rest.old.table_id ≡ (arc_value shared.now).shared.table_id }
+    requires seats { AreSeats rest.old.table_id nodes seats.items }
+    requires rest { rest.old.me ≡ (behind nodes nodes, []) }
+    ensures of_board { rest.new.table_id ≡ rest.old.table_id }
+    ensures rest { rest.new.me ≡ (gathered nodes (map stand_of seats.items) rest.new.me.0.told, []) }
+{
+    while let Some(seat) = seats.pop() {
+        join_last(shared, rest, seat, nodes);
+    }
+}
+
+// Joins the seat of the node before the rest.
+fn join_last(shared: &Arc<Words>, rest: &mut Seat<(), View>, seat: NodeSeat, nodes: usize)
+    requires board { (arc_value shared.now).shared.table_id.words ≡ word_count nodes }
+    requires key { (arc_value shared.now).shared.key ≡ nodes }
+    requires of_board { rest.old.table_id ≡ (arc_value shared.now).shared.table_id }
+    requires seat_of_board { seat.seat.table_id ≡ rest.old.table_id }
+    requires nodes { seat.nodes ≡ nodes }
+    requires before { rest.old.me.0.from ≡ suc seat.node }
+    requires no_slot { rest.old.me.1 ≡ [] }
+    ensures of_board { rest.new.table_id ≡ rest.old.table_id }
+    ensures rest { rest.new.me ≡ (joined rest.old.me.0 seat.seat.me.0, []) }
+{
+    let NodeSeat { seat, .. } = seat;
+    shared.shared.join_seat::<Back>(rest, seat);
+}
+
+// Reads all words by the seat that stands for all nodes.
+fn read_all(
+    shared: &Arc<Words>,
+    rest: &mut Seat<(), View>,
+    mut words: Vec<u64>,
+    nodes: usize,
+) -> Vec<u64>
+    requires board { (arc_value shared.now).shared.table_id.words ≡ word_count nodes }
+    requires key { (arc_value shared.now).shared.key ≡ nodes }
+    requires of_board { rest.old.table_id ≡ (arc_value shared.now).shared.table_id }
+    requires size { rest.old.me.0.size ≡ nodes }
+    requires from { rest.old.me.0.from ≡ 0 }
+    requires no_slot { rest.old.me.1 ≡ [] }
+    requires room { vec_len words ≡ word_count nodes }
+    ensures { AreRead nodes rest.old.me.0.stands result.items }
+{
+    for word in 0..words.len() {
+        words[word] = shared.shared.load::<Reads>(rest, word);
+    }
+    words
+}

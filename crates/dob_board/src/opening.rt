@@ -1,0 +1,127 @@
+// How a board is opened.
+ghost use Rattle.std.specs.Prelude.{◌≡◌, ◌≢◌, ℕ, suc, ◌+◌, ◌≤◌, ◌<◌, ◌↔◌, [], Err, Some, IfOk, map, slice_get, length, replicate, vec_len};
+ghost use Rattle.std.specs.Arc.{arc_value};
+ghost use Rattle.dob_safra.specs.Tokens.{IsPacked};
+ghost use Rattle.dob_safra.specs.Laws.{IsSize};
+ghost use Rattle.dob_board.specs.declared.fault.Fault.TheVariants as fault;
+ghost use Rattle.dob_board.specs.Words.{word_count};
+ghost use Rattle.dob_board.specs.Rule.{fresh};
+ghost use Rattle.dob_board.specs.Boards.{first_token, first_words, behind};
+ghost use Rattle.dob_board.specs.Seats.{stand_of, IsSeatOf, AreSeats};
+
+use crate::rule::FirstNode;
+use crate::seat::Words;
+use crate::view::View;
+use crate::{Board, Fault, Halt, NodeSeat};
+use atomic_table::{Seat, Table};
+use dob_safra::{Token, pack};
+use std::alloc::{AllocError, Global};
+use std::sync::Arc;
+
+const MAX_NODES: usize = 16;
+
+impl Board {
+    /// Opens a board of `nodes` nodes, with the seat of each in their order. At the start nothing is posted or taken, each
+    /// node is black, and the black token is at node 0 with sum 0.
+    ///
+    /// Errors: E9 where the number isn't 1 to 16; E23 where no memory is left.
+    pub fn open(alloc: Global, nodes: usize) -> Result<(Board, Vec<NodeSeat>), Fault>
+        ensures size { (result ≡ Err fault.Nodes) ↔ (¬ IsSize nodes) }
+        ensures nodes { IfOk result (λ opened. opened.0.nodes ≡ nodes) }
+        ensures seats { IfOk result (λ opened. AreSeats opened.0.rest.table_id nodes opened.1.items) }
+        ensures fresh { IfOk result (λ opened. map stand_of opened.1.items ≡ replicate nodes (fresh nodes)) }
+    {
+        if nodes == 0 || nodes > MAX_NODES {
+            return Err(Fault::Nodes);
+        }
+        let words = start_words(alloc, nodes)?;
+        let (table, mut rest) = Table::of_words(alloc, &words, &nodes)?;
+        let shared = Arc::new(alloc, table)?;
+        let seats = all_seats(alloc, &shared, &mut rest, nodes)?;
+        let board = Board {
+            shared,
+            rest,
+            words,
+            nodes,
+        };
+        Ok((board, seats))
+    }
+}
+
+// The words at the start.
+fn start_words(alloc: Global, nodes: usize) -> Result<Vec<u64>, AllocError>
+    requires { nodes ≤ 16 }
+    ensures { IfOk result (λ words. (word : ℕ) × IsPacked first_token word × (words.items ≡ first_words nodes word)) }
+{
+    let mut words = vec![in alloc; 0; 3 + 2 * nodes * nodes]?;
+    words[0] = nodes as u64;
+    words[1] = pack(Token {
+        at: 0,
+        black: true,
+        sum: 0,
+    });
+    Ok(words)
+}
+
+// The seats of all nodes, which are split from the rest.
+fn all_seats(
+    alloc: Global,
+    shared: &Arc<Words>,
+    rest: &mut Seat<(), View>,
+    nodes: usize,
+) -> Result<Vec<NodeSeat>, AllocError>
+    requires few { nodes ≤ 16 }
+    requires board { (arc_value shared.now).shared.table_id.words ≡ word_count nodes }
+    requires key { (arc_value shared.now).shared.key ≡ nodes }
+    requires of_board { rest.old.table_id ≡ (arc_value shared.now).shared.table_id }
+    requires rest { rest.old.me ≡ (behind nodes 0, []) }
+    ensures of_board { IfOk result (λ seats. rest.new.table_id ≡ rest.old.table_id) }
+    ensures rest { IfOk result (λ seats. rest.new.me ≡ (behind nodes nodes, [])) }
+    ensures seats { IfOk result (λ seats. AreSeats rest.old.table_id nodes seats.items) }
+    ensures fresh { IfOk result (λ seats. map stand_of seats.items ≡ replicate nodes (fresh nodes)) }
+{
+    let mut seats = Vec::with_capacity(alloc, nodes)?;
+    for node in 0..nodes {
+        let seat = next_seat(alloc, shared, rest, node, nodes)?;
+        seats.push(seat)?;
+    }
+    Ok(seats)
+}
+
+// The seat of the first node of the rest.
+fn next_seat(
+    alloc: Global,
+    shared: &Arc<Words>,
+    rest: &mut Seat<(), View>,
+    node: usize,
+    nodes: usize,
+) -> Result<NodeSeat, AllocError>
+    requires few { nodes ≤ 16 }
+    requires within { node < nodes }
+    requires board { (arc_value shared.now).shared.table_id.words ≡ word_count nodes }
+    requires key { (arc_value shared.now).shared.key ≡ nodes }
+    requires of_board { rest.old.table_id ≡ (arc_value shared.now).shared.table_id }
+    requires rest { rest.old.me ≡ (behind nodes node, []) }
+    ensures of_board { IfOk result (λ seat. rest.new.table_id ≡ rest.old.table_id) }
+    ensures rest { IfOk result (λ seat. rest.new.me ≡ (behind nodes (suc node), [])) }
+    ensures seat { IfOk result (IsSeatOf rest.old.table_id nodes node) }
+    ensures fresh { IfOk result (λ seat. stand_of seat ≡ fresh nodes) }
+{
+    let board = Arc::try_clone(shared)?;
+    let posted = vec![in alloc; 0; nodes]?;
+    let taken = vec![in alloc; 0; nodes]?;
+    let seen = vec![in alloc; 0; nodes]?;
+    let seat = shared.shared.split_seat::<FirstNode>(rest);
+    Ok(NodeSeat {
+        board,
+        seat,
+        node,
+        nodes,
+        posted,
+        taken,
+        seen,
+        black: true,
+        token: None,
+        halt: Halt::Running,
+    })
+}

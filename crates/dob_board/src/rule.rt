@@ -1,0 +1,72 @@
+// The rule of the board, and the names of its steps.
+use crate::view::View;
+use atomic_table::{Join, Play, Split, TableRule};
+
+// The rule; the key is the number of nodes.
+pub struct Order;
+
+impl TableRule<(), View, usize> for Order {
+    ghost use Rattle.dob_board.specs.Rule.{IsHeld, whole};
+
+    ghost holds = { λ n s. IsHeld n s.words s.views };
+
+    ghost first = { whole };
+}
+
+// One batch more is posted.
+pub struct Posts;
+
+impl Play<(), View> for Posts {
+    ghost use Rattle.dob_board.specs.Plays.{Posted};
+
+    ghost then = { Posted };
+}
+
+// A look at how many batches another node posted.
+pub struct Looks;
+
+impl Play<(), View> for Looks {
+    ghost use Rattle.dob_board.specs.Plays.{Looked};
+
+    ghost then = { Looked };
+}
+
+// One batch more is taken.
+pub struct Takes;
+
+impl Play<(), View> for Takes {
+    ghost use Rattle.dob_board.specs.Plays.{Took};
+
+    ghost then = { Took };
+}
+
+// The first node gets a seat of its own.
+pub struct FirstNode;
+
+impl Split<View> for FirstNode {
+    ghost use Rattle.dob_board.specs.Plays.{others_of, first_of};
+
+    ghost left = { others_of };
+
+    ghost right = { first_of };
+}
+
+// A seat comes back, before the nodes that came back already.
+pub struct Back;
+
+impl Join<View> for Back {
+    ghost use Rattle.dob_board.specs.Boards.{joined, nobody};
+
+    ghost both = { joined };
+
+    ghost spent = { nobody };
+}
+
+// A look at any word, once the board is closed.
+pub struct Reads;
+
+impl Play<(), View> for Reads {
+    ghost use Rattle.dob_board.specs.Boards.{Read};
+
+    ghost then = { Read };
+}

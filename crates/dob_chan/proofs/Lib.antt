@@ -1,0 +1,2 @@
+-- each step of a pass keeps the channel lawful
+pub mod Relays

@@ -1,0 +1,143 @@
+-- The rows that `clap` keeps of given texts.
+use Rattle.std.proofs.Common.{◌≡◌, ◌∙◌, ℕ, Bool, refl, sym, ap, cond, true, false, [], ◌∷◌, ◌++◌, List, Option, Some, None, map, append-nil, true≢false}
+use Rattle.std.specs.Prelude.{is_some, not, find, option_map, option_and_then, slice_get, fold, ◌||◌}
+use Rattle.std.specs.Option.{option_map_or}
+use Rattle.std.specs.List.{list_any}
+use Rattle.std.specs.Str.{bytes_eq}
+use Rattle.std.proofs.lemmas.List.{map-append}
+use Rattle.clap.specs.Facts.{explicit_source}
+use Rattle.clap.specs.Walk.{Row, Rule, at_row, first_of, has_row, more_values, reading_by, used, with_default}
+use Rattle.clap.specs.Simple.{filled}
+use Rattle.clap.specs.Takes.{is_given}
+use Rattle.clap.specs.Kinds.{or_else}
+use Rattle.clap.specs.Faults.{default_fault, defaults_fault, use_fault}
+use Rattle.clap.specs.declared.error.kind.ErrorKind.TheVariants as kind
+use Rattle.clap.specs.declared.parser.matches.ValueSource.TheVariants.{CommandLine}
+use Rattle.dob_cli.specs.Words.{Given, Text, text_of, texts_of}
+use Rattle.dob_cli.specs.Shapes.{position_rule}
+
+-- the argument of a text, built: an option's by its name, another by its place
+abbrev pub text_arg : Option Text → Option ℕ → Text → Rule
+text_arg long index label = record (filled (position_rule label)) { long = long; index = index }
+
+-- the row of a given text
+abbrev pub row_of : Text × Text → Row
+row_of g = record {
+  id = g.0;
+  values = g.1 ∷ [];
+  count = None;
+  source = Some CommandLine;
+  reading = reading_by (text_arg None None g.0);
+}
+
+abbrev pub rows_of : Given → List Row
+rows_of = map row_of
+
+-- ---- what is found in them
+
+pub row_found : (label : Text) (given : Given) → find (λ r. bytes_eq r.id label) (rows_of given) ≡ option_map row_of (find (λ g. bytes_eq g.0 label) given)
+row_found label [] = refl
+row_found label (g ∷ given) = go (bytes_eq g.0 label) (row_found label given)
+  where
+    go : (b : Bool) → find (λ r. bytes_eq r.id label) (rows_of given) ≡ option_map row_of (find (λ x. bytes_eq x.0 label) given) → cond b (Some (row_of g)) (find (λ r. bytes_eq r.id label) (rows_of given)) ≡ option_map row_of (cond b (Some g) (find (λ x. bytes_eq x.0 label) given))
+    go true rec = refl
+    go false rec = rec
+
+first_found : (label : Text) (given : Given) → first_of label (rows_of given) ≡ text_of label given
+first_found label given = ap (option_and_then (λ (r : Row). slice_get r.values 0)) (row_found label given) ∙ go (find (λ g. bytes_eq g.0 label) given)
+  where
+    go : (o : Option (Text × Text)) → option_and_then (λ (r : Row). slice_get r.values 0) (option_map row_of o) ≡ option_map (λ g. g.1) o
+    go None = refl
+    go (Some g) = refl
+
+given_found : (label : Text) (given : Given) → is_given label (rows_of given) ≡ is_some (text_of label given)
+given_found label given = ap (λ (o : Option Row). option_map_or (λ r. explicit_source r.source) o false) (row_found label given) ∙ go (find (λ g. bytes_eq g.0 label) given)
+  where
+    go : (o : Option (Text × Text)) → option_map_or (λ (r : Row). explicit_source r.source) (option_map row_of o) false ≡ is_some (option_map (λ g. g.1) o)
+    go None = refl
+    go (Some g) = refl
+
+pub has_found : (label : Text) (given : Given) → has_row label (rows_of given) ≡ is_some (text_of label given)
+has_found label [] = refl
+has_found label (g ∷ given) = go (bytes_eq g.0 label) (has_found label given)
+  where
+    go : (b : Bool) → has_row label (rows_of given) ≡ is_some (text_of label given) → (b || has_row label (rows_of given)) ≡ is_some (option_map (λ (x : Text × Text). x.1) (cond b (Some g) (find (λ x. bytes_eq x.0 label) given)))
+    go true rec = refl
+    go false rec = rec
+
+-- all the texts are there, or one is missing
+abbrev pub Looked : List Text → Given → Option (List Text) → Type 0
+Looked labels given (Some texts) =
+    (list_any (λ l. not (is_given l (rows_of given))) labels ≡ false) × (map (λ l. first_of l (rows_of given)) labels ≡ map (λ t. Some t) texts)
+Looked labels given None = list_any (λ l. not (is_given l (rows_of given))) labels ≡ true
+
+pub looked : (labels : List Text) (given : Given) → Looked labels given (texts_of labels given)
+looked [] given = (refl, refl)
+looked (l ∷ ls) given = go (text_of l given) (texts_of ls given) refl (looked ls given)
+  where
+    go : (o : Option Text) (more : Option (List Text)) → text_of l given ≡ o → Looked ls given more
+        → Looked (l ∷ ls) given (option_and_then (λ t. option_map (λ ts. t ∷ ts) more) o)
+    go None more e rest = rw (given_found l given, e) refl
+    go (Some t) None e rest = rw (given_found l given, e) rest
+    go (Some t) (Some ts) e rest = (rw (given_found l given, e) rest.0, rw (first_found l given, e) (ap (λ xs. Some t ∷ xs) rest.1))
+
+-- ---- one more text
+
+at_row_fresh : (id : Text) (change : Row → List Row) (missing rows : List Row) → has_row id rows ≡ false → at_row id change missing rows ≡ rows ++ missing
+at_row_fresh id change missing [] e = refl
+at_row_fresh id change missing (r ∷ rs) e = go (bytes_eq r.id id) e (at_row_fresh id change missing rs)
+  where
+    go : (b : Bool) → (b || has_row id rs) ≡ false → (has_row id rs ≡ false → at_row id change missing rs ≡ rs ++ missing)
+        → cond b (change r ++ rs) (r ∷ at_row id change missing rs) ≡ r ∷ (rs ++ missing)
+    go true e rec = absurd (true≢false e)
+    go false e rec = ap (λ xs. r ∷ xs) (rec e)
+
+pub used_fresh : (long : Option Text) (index : Option ℕ) (label t : Text) (given : Given) → text_of label given ≡ None
+    → used (text_arg long index label) (t ∷ []) (rows_of given) ≡ rows_of (given ++ (label, t) ∷ [])
+used_fresh long index label t given fresh =
+    let none : has_row label (rows_of given) ≡ false = has_found label given ∙ ap is_some fresh in
+    ap (at_row label (more_values CommandLine (t ∷ [])) (row_of (label, t) ∷ [])) (at_row_fresh label (λ _. []) [] (rows_of given) none ∙ append-nil (rows_of given))
+    ∙ (at_row_fresh label (more_values CommandLine (t ∷ [])) (row_of (label, t) ∷ []) (rows_of given) none ∙ sym (map-append row_of given ((label, t) ∷ [])))
+
+pub use_passes : (long : Option Text) (index : Option ℕ) (label t : Text) (given : Given) → text_of label given ≡ None
+    → use_fault false (text_arg long index label) (t ∷ []) (rows_of given) ≡ []
+use_passes long index label t given fresh = rw (has_found label given, fresh) refl
+
+-- a second text of one label is refused
+pub use_twice : (long : Option Text) (index : Option ℕ) (label t u : Text) (given : Given) → text_of label given ≡ Some u
+    → use_fault false (text_arg long index label) (t ∷ []) (rows_of given) ≡ kind.ArgumentConflict ∷ []
+use_twice long index label t u given there = rw (has_found label given, there) refl
+
+-- and so is none
+pub use_none : (long : Option Text) (index : Option ℕ) (label : Text) (rows : List Row) → use_fault false (text_arg long index label) [] rows ≡ kind.InvalidValue ∷ []
+use_none long index label rows = refl
+
+-- ---- no argument has a default
+
+abbrev pub Each : {X : Type 0} → (X → Type 0) → List X → Type 0
+Each P [] = Unit {0}
+Each P (x ∷ xs) = P x × (Each P xs)
+
+same_either : {X : Type 0} (b : Bool) (x : X) → cond b x x ≡ x
+same_either true x = refl
+same_either false x = refl
+
+default_none : (rows : List Row) (a : Rule) → a.defaults ≡ [] → with_default rows a ≡ rows
+default_none rows a e = rw e (same_either (has_row a.id rows) rows)
+
+or_true : (b : Bool) → (b || true) ≡ true
+or_true true = refl
+or_true false = refl
+
+no_fault : (rows : List Row) (a : Rule) → a.defaults ≡ [] → default_fault rows a ≡ []
+no_fault rows a e = rw (e, or_true (has_row a.id rows)) refl
+
+pub defaults_none : (rules : List Rule) (rows : List Row) → Each (λ a. a.defaults ≡ []) rules → fold with_default rows rules ≡ rows
+defaults_none [] rows e = refl
+defaults_none (a ∷ rules) rows e = ap (λ r. fold with_default r rules) (default_none rows a e.0) ∙ defaults_none rules rows e.1
+
+pub no_faults : (rules : List Rule) (rows : List Row) → Each (λ a. a.defaults ≡ []) rules → defaults_fault rows rules ≡ []
+unfolding defaults_fault
+no_faults [] rows e = refl
+no_faults (a ∷ rules) rows e =
+    ap (λ k. or_else k (defaults_fault (with_default rows a) rules)) (no_fault rows a e.0) ∙ no_faults rules (with_default rows a) e.1

@@ -1,0 +1,26 @@
+-- What the program does with its words, whatever they are.
+use Rattle.std.specs.Prelude.{◌≡◌, ◌⊎◌, List, [], ◌∷◌, ◌++◌, codes}
+use Rattle.dob_cli.specs.Words.{Text, line_feed, count, help, meaning_of, topic, usage, value, version}
+use Rattle.dob_cli.specs.Streams.{Says}
+use Rattle.dob_cli.specs.Endings.{AnswersHelp, AnswersUsage, AnswersVersion, Ending, IsUntouched, TellsMemory}
+use Rattle.dob_cli.specs.Program.{AnswersValue}
+use Rattle.dob_cli.specs.Sizes.{AnswersCount}
+
+-- it does what these words ask for
+pub record Ran (words : List Text) (e : Ending) : Type 0 where
+  pub value : (position : Text) → meaning_of words ≡ value position → AnswersValue position e
+  pub count : (set : Text) → meaning_of words ≡ count set → AnswersCount set e
+  pub help : meaning_of words ≡ help → AnswersHelp e
+  pub version : meaning_of words ≡ version → AnswersVersion e
+  pub topic : meaning_of words ≡ topic → AnswersHelp e ⊎ AnswersUsage e
+  pub usage : meaning_of words ≡ usage → AnswersUsage e
+
+-- it does so, or no memory was left for the words
+abbrev pub RanOn : List Text → Ending → Type 0
+RanOn words e = Ran words e ⊎ TellsMemory e
+
+-- it says that an argument isn't UTF-8, with the status of unknown words
+abbrev pub TellsNoText : Ending → Type 0
+TellsNoText e =
+    (e.status ≡ 2) × Says e.err (codes "error: an argument is not UTF-8" ++ line_feed ∷ line_feed ∷ codes "For more information, try '--help'." ++ line_feed ∷ [])
+    × IsUntouched e.out

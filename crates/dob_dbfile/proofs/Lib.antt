@@ -1,0 +1,11 @@
+mod CodeBytes
+mod Counts
+mod Cuts
+mod Endings
+mod FileBytes
+mod Pieces
+mod Places
+mod Refused
+mod Filled
+mod Streams
+mod Verdicts

@@ -1,0 +1,20 @@
+use Rattle.std.proofs.lemmas.Result.{IfOk-weaker}
+use Rattle.dob_value.specs.Follows.{ClassTable}
+use Rattle.dob_dbfile.specs.Devices.{whole}
+use Rattle.dob_dbfile.specs.Format.{bytes_of}
+use Rattle.std.proofs.Common.{◌≡◌}
+use Rattle.dob_dbfile.specs.Faults.{HasDigest}
+use Rattle.dob_dbfile.proofs.Places.{exact_as}
+use Rattle.dob_dbfile.proofs.read.read_table.Goals as goal
+
+pub returns-clause-read : goal.returns-clause-read
+returns-clause-read g c = λ stream gives.
+    IfOk-weaker c.read_file.result (λ (t : ClassTable). (stream ≡ whole (bytes_of t)) × HasDigest t.set stream) (λ (t : ClassTable). stream ≡ whole (bytes_of t))
+    (λ t both. both.0) (c.read_file.ensures.read stream gives)
+
+pub returns-clause-exact : goal.returns-clause-exact
+returns-clause-exact g c = λ stream fault gives holds.
+    exact_as stream c.read_file.result (λ (t : ClassTable). t.set)
+    (IfOk-weaker c.read_file.result (λ (t : ClassTable). (stream ≡ whole (bytes_of t)) × HasDigest t.set stream) (λ (t : ClassTable). HasDigest t.set stream)
+    (λ t both. both.1) (c.read_file.ensures.read stream gives))
+    (c.read_file.ensures.refused stream gives) fault holds

@@ -1,0 +1,57 @@
+// A link as a ring of slots.
+ghost use Rattle.std.specs.Prelude.{◌≡◌, ◌≤◌, [], IfOk};
+ghost use Rattle.dob_link.specs.Links.{link_of};
+
+use crate::link::{Full, Link};
+use circular_buffer::HeapCircularBuffer;
+use dob_pieces::Memory;
+use dob_update::Batch;
+use std::alloc::Global;
+use std::marker::Model;
+
+/// A link in memory with room for a number of batches from the start. It takes one slot for each batch, and no memory
+/// when batches go through it.
+#[derive(Drop)]
+pub struct ListLink {
+    slots: HeapCircularBuffer<Batch>,
+}
+
+impl Model for ListLink {
+    ghost use Rattle.dob_link.specs.Links.{LinkView, link_of};
+
+    ghost Value = { LinkView };
+
+    ghost view = { λ link. link_of link.slots.items link.slots.capacity };
+}
+
+impl ListLink {
+    /// An empty link with room for so many batches, from 1 to 1024. `Memory` where there is none for the slots.
+    pub fn open(alloc: Global, capacity: usize) -> Result<ListLink, Memory>
+        requires some { 1 ≤ capacity }
+        requires at_most { capacity ≤ 1024 }
+        ensures { IfOk result (λ link. link ≡ link_of [] capacity) }
+    {
+        let slots = HeapCircularBuffer::with_capacity(alloc, capacity)?;
+        Ok(ListLink { slots })
+    }
+}
+
+impl Link for ListLink {
+    ghost use Rattle.std.specs.Prelude.{◌≡◌, ◌<◌, ◌↔◌, length, IsOk, OnOk, OnErr, IfErr, IfSome, IfNone};
+    ghost use Rattle.dob_link.specs.Links.{Taken, Refused, Handed, Nothing, Steps};
+
+    ghost waiting = { λ link. link.waiting };
+
+    ghost capacity = { λ link. link.capacity };
+
+    fn offer(&mut self, batch: Batch) -> Result<(), Full> {
+        match self.slots.try_push_back(batch) {
+            Ok(()) => Ok(()),
+            Err(batch) => Err(Full { batch }),
+        }
+    }
+
+    fn next(&mut self) -> Option<Batch> {
+        self.slots.pop_front()
+    }
+}

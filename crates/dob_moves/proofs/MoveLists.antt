@@ -1,0 +1,84 @@
+-- The list of a position's moves has just its moves.
+use Rattle.std.proofs.Common.{◌≡◌, ℕ, zero, suc, ◌<◌, ◌||◌, if◌then◌else◌, Bool, true, false, [], ◌++◌, Option, Some, None, length, refl, ap, inl, inr, arith, Contains}
+use Rattle.std.specs.Option.{is_some}
+use Rattle.std.proofs.lemmas.List.Elements.{Contains-append_cases}
+use Rattle.dob_pieces.specs.declared.kind.Kind.{Kind}
+use Rattle.dob_pieces.specs.declared.kind.Kind.TheVariants.{Lion, Giraffe, Elephant, Chick, Hen}
+use Rattle.dob_pieces.specs.declared.kind.Side.{Side}
+use Rattle.dob_pieces.specs.declared.kind.Side.TheVariants.{Mover, Enemy}
+use Rattle.dob_pieces.specs.declared.setup.Setup.{Setup}
+use Rattle.dob_pieces.specs.Setups.{Cell, at, holds_lion, piece_of}
+use Rattle.dob_pieces.proofs.Lists.{rising-append, rising-pairs}
+use Rattle.dob_moves.specs.declared.choice.Move.{Move}
+use Rattle.dob_moves.specs.declared.outlook.Status.TheVariants.{Caught, Tried}
+use Rattle.dob_moves.specs.declared.search.Aim.TheVariants.{AtLion, Elsewhere}
+use Rattle.dob_moves.specs.Moves.{CanGo, place}
+use Rattle.dob_moves.specs.Statuses.{CanCatch, HasTried, AreMoves}
+use Rattle.dob_moves.specs.Walks.{first, all_steps, all_drops}
+use Rattle.dob_moves.specs.MoveLists.{has_tried, moves_of}
+use Rattle.dob_moves.proofs.Reach.{steps_sound, steps_rising, drops_sound, drops_rising}
+use Rattle.dob_moves.proofs.Verdicts.{catch_answer, open_answer, other_answer}
+
+-- the cell with the enemy lion is the only one that has it
+enemy_lion : (cell : Cell) → holds_lion Enemy cell ≡ true → cell ≡ Some (piece_of Enemy Lion)
+enemy_lion None h = cc
+enemy_lion (Some piece) h = lion_piece piece.side piece.kind h
+  where
+    lion_piece : (side : Side) (kind : Kind) → holds_lion Enemy (Some (piece_of side kind)) ≡ true → Some (piece_of side kind) ≡ Some (piece_of Enemy Lion)
+    lion_piece Enemy Lion h = refl
+    lion_piece Enemy Giraffe h = cc
+    lion_piece Enemy Elephant h = cc
+    lion_piece Enemy Chick h = cc
+    lion_piece Enemy Hen h = cc
+    lion_piece Mover kind h = cc
+
+pub tried_at : (p : Setup) (a b c : Bool) → holds_lion Enemy (at p 0) ≡ a → holds_lion Enemy (at p 1) ≡ b → holds_lion Enemy (at p 2) ≡ c
+    → a || (b || c) ≡ true → HasTried p
+tried_at p true b c at_a at_b at_c h = (0, omega arith, enemy_lion (at p 0) at_a)
+tried_at p false true c at_a at_b at_c h = (1, omega arith, enemy_lion (at p 1) at_b)
+tried_at p false false true at_a at_b at_c h = (2, omega arith, enemy_lion (at p 2) at_c)
+tried_at p false false false at_a at_b at_c h = cc
+
+not_tried_at : (p : Setup) (a b c : Bool) → holds_lion Enemy (at p 0) ≡ a → holds_lion Enemy (at p 1) ≡ b → holds_lion Enemy (at p 2) ≡ c
+    → a || (b || c) ≡ false → (square : ℕ) → square < 3 → at p square ≡ Some (piece_of Enemy Lion) → ⊥
+not_tried_at p true b c at_a at_b at_c h square low e = cc
+not_tried_at p false true c at_a at_b at_c h square low e = cc
+not_tried_at p false false true at_a at_b at_c h square low e = cc
+not_tried_at p false false false at_a at_b at_c h zero low e = let lion : holds_lion Enemy (at p 0) ≡ true = ap (holds_lion Enemy) e in cc
+not_tried_at p false false false at_a at_b at_c h (suc zero) low e = let lion : holds_lion Enemy (at p 1) ≡ true = ap (holds_lion Enemy) e in cc
+not_tried_at p false false false at_a at_b at_c h (suc (suc zero)) low e = let lion : holds_lion Enemy (at p 2) ≡ true = ap (holds_lion Enemy) e in cc
+not_tried_at p false false false at_a at_b at_c h (suc (suc (suc square))) low e = absurd (omega (arith, low))
+
+listed_goes : (p : Setup) (m : Move) → Contains (all_steps Elsewhere p ++ all_drops p) m → CanGo p m
+listed_goes p m here =
+    elim (Contains-append_cases (all_steps Elsewhere p) (all_drops p) m here) [
+      | inl step ↦ steps_sound Elsewhere p m step
+      | inr drop ↦ drops_sound p m drop
+    ]
+
+-- where the game isn't over, the steps and then the drops are the moves
+going_on : (p : Setup) → length p.board ≡ 12 → ¬ CanCatch p → ¬ HasTried p → AreMoves p (all_steps Elsewhere p ++ all_drops p)
+going_on p twelve no_catch no_try = record {
+  sound = λ m here. let goes = listed_goes p m here in ((no_catch, no_try, (m, goes)), goes);
+  whole = λ m is_open goes.
+      let all = open_answer p twelve is_open [] (all_steps Elsewhere p) (all_steps Elsewhere p ++ all_drops p) refl refl refl in
+      all.whole m is_open goes;
+  ordered = rising-pairs place 0 180 (all_steps Elsewhere p ++ all_drops p)
+      (rising-append place 0 144 180 (all_steps Elsewhere p) (all_drops p) (steps_rising Elsewhere p) (drops_rising p));
+}
+
+by_tests : (p : Setup) → length p.board ≡ 12 → (o : Option Move) (tried : Bool) → o ≡ first (all_steps AtLion p) → has_tried p ≡ tried
+    → AreMoves p (if is_some o || tried then [] else all_steps Elsewhere p ++ all_drops p)
+by_tests p twelve (Some m) tried e h =
+    let catch = catch_answer p (Some m) twelve e in
+    other_answer p Caught (m, catch.catches) (λ same. cc) [] refl
+by_tests p twelve None true e h =
+    let no_catch = catch_answer p None twelve e in
+    other_answer p Tried (no_catch, tried_at p _ _ _ refl refl refl h) (λ same. cc) [] refl
+by_tests p twelve None false e h =
+    going_on p twelve (catch_answer p None twelve e)
+    (λ try. not_tried_at p _ _ _ refl refl refl h try.0 try.1 try.2)
+
+pub AreMoves-moves_of : (p : Setup) → length p.board ≡ 12 → AreMoves p (moves_of p)
+unfolding moves_of
+AreMoves-moves_of p twelve = by_tests p twelve (first (all_steps AtLion p)) (has_tried p) refl refl

@@ -1,0 +1,60 @@
+-- How many items of each settlement a list of items has for a class.
+use Rattle.std.proofs.Common.{◌≡◌, ◌≢◌, ℕ, ◌+◌, ◌&&◌, eqb, Bool, true, false, cond, refl, sym, subst, ap, ◌∙◌, arith, List, [], ◌∷◌, ◌++◌, map}
+use Rattle.std.specs.List.{filter, count_by}
+use Rattle.std.proofs.lemmas.Bool.{both_ways, eq-eqb, ne_eqb}
+use Rattle.std.proofs.lemmas.List.Sums.{sum_by-cons, sum_by-append}
+use Rattle.dob_share.specs.declared.news.Settlement.{Settlement}
+use Rattle.dob_share.specs.declared.news.Item.{Item}
+use Rattle.dob_share.specs.Owners.{owner_of}
+use Rattle.dob_update.specs.Items.{item_for, items_of}
+use Rattle.dob_node.specs.Histories.{copies, items_to}
+
+pub items_to-append : (xs ys : List Item) (number to : ℕ) → items_to (xs ++ ys) number to ≡ items_to xs number to + items_to ys number to
+items_to-append xs ys number to = sum_by-append (λ (item : Item). cond (eqb item.number number && eqb item.to to) 1 0) xs ys
+
+pub items_to-cons : (x : Item) (xs : List Item) (number to : ℕ) →
+    items_to (x ∷ xs) number to ≡ cond (eqb x.number number && eqb x.to to) 1 0 + items_to xs number to
+items_to-cons x xs number to = sum_by-cons (λ (item : Item). cond (eqb item.number number && eqb item.to to) 1 0) x xs
+
+-- the items for those targets of a settlement that a test lets through
+abbrev pub block : (ℕ → Bool) → Settlement → List ℕ → List Item
+block test s ts = map (item_for s) (filter test ts)
+
+block_step : (test : ℕ → Bool) (s : Settlement) (p t : ℕ) (ts : List ℕ) (b : Bool) → test t ≡ b → test p ≡ true →
+    items_to (block test s ts) s.number p ≡ count_by (λ (to : ℕ). eqb to p) ts →
+    items_to (map (item_for s) (cond b (t ∷ filter test ts) (filter test ts))) s.number p ≡ cond (eqb t p) 1 0 + count_by (λ (to : ℕ). eqb to p) ts
+block_step test s p t ts true is own rest =
+    items_to-cons (item_for s t) (block test s ts) s.number p
+    ∙ subst (λ b. cond (b && eqb t p) 1 0 + items_to (block test s ts) s.number p ≡ cond (eqb t p) 1 0 + count_by (λ (to : ℕ). eqb to p) ts)
+    (sym (eq-eqb s.number s.number refl)) (ap (λ m. cond (eqb t p) 1 0 + m) rest)
+block_step test s p t ts false is own rest =
+    subst (λ b. items_to (block test s ts) s.number p ≡ cond b 1 0 + count_by (λ (to : ℕ). eqb to p) ts)
+    (sym (ne_eqb t p (λ same. both_ways (test t) is (ap test same ∙ own)))) (rest ∙ sym (zero_more (count_by (λ (to : ℕ). eqb to p) ts)))
+  where
+    zero_more : (m : ℕ) → 0 + m ≡ m
+    zero_more m = omega arith
+
+-- as many of them are for a class that passes the test as it stands among the targets
+pub items_to-block : (test : ℕ → Bool) (s : Settlement) (p : ℕ) (ts : List ℕ) → test p ≡ true →
+    items_to (block test s ts) s.number p ≡ count_by (λ (to : ℕ). eqb to p) ts
+items_to-block test s p [] own = refl
+items_to-block test s p (t ∷ ts) own =
+    block_step test s p t ts (test t) refl own (items_to-block test s p ts own)
+    ∙ sym (sum_by-cons (λ (to : ℕ). cond (eqb to p) 1 0) t ts)
+
+-- a settlement makes an item for each edge
+pub items_to-items_of : (targets : ℕ → List ℕ) (n node : ℕ) (s : Settlement) (p : ℕ) → owner_of n p ≡ node →
+    items_to (items_of targets n node s) s.number p ≡ copies targets p s.class
+items_to-items_of targets n node s p own =
+    items_to-block (λ to. eqb (owner_of n to) node) s p (targets s.class) (eq-eqb (owner_of n p) node own)
+
+-- and none of another number
+pub no_other : (s : Settlement) (number p : ℕ) (ts : List ℕ) → s.number ≢ number → items_to (map (item_for s) ts) number p ≡ 0
+no_other s number p [] other = refl
+no_other s number p (t ∷ ts) other =
+    items_to-cons (item_for s t) (map (item_for s) ts) number p
+    ∙ subst (λ b. cond (b && eqb t p) 1 0 + items_to (map (item_for s) ts) number p ≡ 0)
+    (sym (ne_eqb s.number number other)) (zero_more (items_to (map (item_for s) ts) number p) (no_other s number p ts other))
+  where
+    zero_more : (m : ℕ) → m ≡ 0 → 0 + m ≡ 0
+    zero_more m is = omega arith

@@ -1,0 +1,15 @@
+pub mod Runs
+pub mod Counts
+pub mod Copies
+pub mod Rest
+pub mod Splits
+pub mod Learns
+pub mod Takes
+pub mod Sums
+pub mod Starts
+pub mod Settles
+pub mod Totals
+pub mod Kept
+pub mod Steps
+pub mod Ends
+pub mod Stored

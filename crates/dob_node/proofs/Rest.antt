@@ -1,0 +1,203 @@
+-- Quiet nodes hold the value table.
+use Rattle.std.proofs.Common.{◌≡◌, ℕ, ◌<◌, inl, inr, ◌⊎◌, refl, sym, subst, ap, ◌∙◌, arith, List, [], ◌∷◌, length, Some, Contains, take, slice_get}
+use Rattle.std.proofs.lemmas.Option.{slice_get_within, same_Some}
+use Rattle.std.proofs.lemmas.List.{take_all}
+use Rattle.dob_pieces.specs.declared.piece_set.PieceSet.{PieceSet}
+use Rattle.dob_pieces.specs.declared.setup.Setup.{Setup}
+use Rattle.dob_pieces.specs.Lists.{each_below}
+use Rattle.dob_pieces.specs.Setups.{mirrored}
+use Rattle.dob_pieces.proofs.Symmetries.{mirrored-mirrored}
+use Rattle.dob_moves.specs.declared.choice.Move.{Move}
+use Rattle.dob_moves.specs.declared.outlook.Status.{Status}
+use Rattle.dob_moves.specs.declared.outlook.Status.TheVariants.{Caught, Tried, Stuck, Open}
+use Rattle.dob_moves.specs.Moves.{Goes}
+use Rattle.dob_moves.specs.Statuses.{HasStatus}
+use Rattle.dob_rank.specs.Order.{IsPositionOf, HasClasses}
+use Rattle.dob_rank.specs.Marks.{classes_of}
+use Rattle.dob_rank.proofs.Marks.{HasClasses-classes_of}
+use Rattle.dob_value.specs.declared.value.Value.{Value}
+use Rattle.dob_value.specs.declared.value.Value.TheVariants.{Win, Loss, Draw}
+use Rattle.dob_value.specs.Follows.{HasInTable, HasSuccessor, FollowsFromSuccessors, FollowsAt, IsConsistent}
+use Rattle.dob_value.specs.ClassRows.{class_setup}
+use Rattle.dob_value.proofs.Successors.{moves_keep_the_set}
+use Rattle.dob_value.proofs.ClassNumbers.{has_entry, one_entry, first_is}
+use Rattle.dob_value.proofs.Rows.{class_setup_is}
+use Rattle.dob_value.proofs.Consistency.{consistent_is_right}
+use Rattle.dob_unmove.specs.Classes.{IsFirstIn}
+use Rattle.dob_unmove.specs.Edges.{predecessors}
+use Rattle.dob_unmove.proofs.Edges.{ArePredecessors-predecessors}
+use Rattle.dob_unmove.specs.Unmoves.{ArePredecessors, IsEither, LeadsInto}
+use Rattle.dob_share.specs.declared.news.Settlement.{Settlement}
+use Rattle.dob_share.specs.declared.news.Item.{Item}
+use Rattle.dob_share.specs.Owners.{owner_of}
+use Rattle.dob_update.specs.Items.{items_from}
+use Rattle.dob_node.specs.Histories.{copies, value_of, known, all_known}
+use Rattle.dob_node.specs.Quiet.{FollowsFromKnown, FollowsAtStatus, IsQuiet, AreGathered, QuietIsRight}
+use Rattle.dob_node.proofs.Runs.{in_each_below, from_each_below, only_one, the_one}
+use Rattle.dob_node.proofs.Copies.{all_applied}
+
+-- what a list of an edge's moves has
+pub some_of : {X : Type 0} (xs : List X) (number : ℕ) → length xs ≡ number → 0 < number → (x : X) × Contains xs x
+some_of [] number whole above = let none : 0 ≡ number = whole in absurd (omega arith)
+some_of (x ∷ xs) number whole above = (x, (0, omega arith, refl))
+
+none_of : {X : Type 0} (xs : List X) (number : ℕ) (x : X) → length xs ≡ number → Contains xs x → 0 < number
+none_of xs number x whole there = let below : there.0 < length xs = there.1 in omega arith
+
+pub below_owner : (n class : ℕ) → 0 < n → owner_of n class < n
+below_owner n class some = omega arith
+
+-- each class has its predecessors as targets
+abbrev pub AreTargets : PieceSet → (ℕ → List ℕ) → Type 0
+AreTargets set targets = (q : Setup) (class : ℕ) → IsFirstIn set q class → ArePredecessors (IsFirstIn set) q (targets class)
+
+module _ (set : PieceSet) (targets : ℕ → List ℕ) (n : ℕ) (histories : ℕ → List Settlement) (expanded : ℕ → ℕ)
+    (sent applied : ℕ → ℕ → List Item) (values : List Value) (some : 0 < n) (are_targets : AreTargets set targets)
+    (quiet : IsQuiet set targets n histories expanded sent applied) (gathered : AreGathered set n histories values) where
+  abbrev Has : Setup → Value → Type 0
+  Has p v = HasInTable set values p v
+
+  abbrev value : ℕ → Value
+  value q = value_of (histories (owner_of n q)) q
+
+  abbrev knows : ℕ → List Value
+  knows p = all_known targets (classes_of set) n histories (λ i. applied i (owner_of n p)) p
+
+  -- what one copy knows
+  abbrev copy_of : ℕ → ℕ → ℕ → Value
+  copy_of p q copy = known (histories (owner_of n q)) (applied (owner_of n q) (owner_of n p)) p q copy
+
+  -- each copy knows the value
+  copy_knows : (p q copy : ℕ) → copy < copies targets p q → copy_of p q copy ≡ value q
+  copy_knows p q copy below =
+      let i = owner_of n q in
+      let j = owner_of n p in
+      let low : i < n = below_owner n q some in
+      let at : j < n = below_owner n p some in
+      let all : applied i j ≡ items_from targets n j (histories i) =
+      quiet.nothing_waits i j low at ∙ quiet.nothing_to_send i j low at
+      ∙ ap (λ k. items_from targets n j (take k (histories i))) (quiet.nothing_to_expand i low)
+      ∙ ap (λ h. items_from targets n j h) (take_all (length (histories i)) (histories i) (omega arith)) in
+      ap (λ items. known (histories i) items p q copy) all
+      ∙ all_applied targets n j (histories i) p q copy refl below
+
+  classes : HasClasses set (length values)
+  classes = subst (HasClasses set) (sym gathered.whole) (HasClasses-classes_of set)
+
+  value_there : (q : ℕ) (u : Value) → slice_get values q ≡ Some u → (q < classes_of set) × (u ≡ value q)
+  value_there q u entry =
+      let within : q < length values = slice_get_within values q u entry in
+      let below : q < classes_of set = subst (λ m. q < m) gathered.whole within in
+      (below, same_Some u (value q) (sym entry ∙ gathered.each q below))
+
+  -- a class with an edge is that of a successor
+  successor : (p : Setup) (a : ℕ) → IsFirstIn set p a → (q : ℕ) (u : Value) → q < classes_of set → 0 < copies targets a q → u ≡ value q →
+      HasSuccessor Has p u
+  successor p a first q u below above same =
+      let rep = class_setup set q in
+      let is : IsFirstIn set rep q = class_setup_is set q (classes_of set) (HasClasses-classes_of set) below in
+      let edge = (are_targets rep q is).counts.edges p a first in
+      let move = some_of edge.moves (copies targets a q) edge.counted above in
+      let leads = edge.sound move.0 move.1 in
+      let o = leads.1.0 in (
+        move.0,
+        o,
+        leads.1.1,
+        record {
+          class = q;
+          number = record { position = moves_keep_the_set set p move.0 o first.0.0 leads.0 leads.1.1; first = rep; representative = (turn rep o is.0.0 leads.1.2, is.0.1); before = is.1 };
+          entry = gathered.each q below ∙ ap Some (sym same);
+        },
+      )
+    where
+      turn : (rep o : Setup) → IsPositionOf set rep → IsEither rep o → (rep ≡ o) ⊎ (rep ≡ mirrored o)
+      turn rep o is either = elim either [
+        | inl same ↦ inl (sym same)
+        | inr image ↦ inr (sym (mirrored-mirrored rep is.legal.squares) ∙ ap mirrored (sym image))
+      ]
+
+  -- what a copy knows is the value of a successor
+  heard : (p : Setup) (a : ℕ) → IsFirstIn set p a → (u : Value) → Contains (knows a) u → HasSuccessor Has p u
+  unfolding all_known
+  heard p a first u there =
+      let at = from_each_below (λ (q : ℕ). each_below (λ (copy : ℕ). copy_of a q copy ∷ []) (copies targets a q)) (classes_of set) u there in
+      let q = at.0 in
+      let row = from_each_below (λ (copy : ℕ). copy_of a q copy ∷ []) (copies targets a q) u at.2 in
+      let is : copy_of a q row.0 ≡ u = only_one (copy_of a q row.0) u row.2 in
+      let below : row.0 < copies targets a q = row.1 in
+      successor p a first q u at.1 (omega arith) (sym is ∙ copy_knows a q row.0 below)
+
+  -- and the value of each successor is known to a copy
+  told : (p : Setup) (a : ℕ) → IsFirstIn set p a → HasStatus p Open → (move : Move) (o : Setup) → Goes p move o → (u : Value) → Has o u →
+      Contains (knows a) u
+  unfolding all_known
+  told p a first goes_on move o goes u has =
+      let q = has.class in
+      let there = value_there q u has.entry in
+      let rep = has.number.first in
+      let position = moves_keep_the_set set p move o first.0.0 goes_on goes in
+      let is_rep = first_is set o rep position has.number.representative in
+      let edge = (are_targets rep q (is_rep, has.number.before)).counts.edges p a first in
+      let leads : LeadsInto p rep move = (goes_on, (o, goes, turn rep o is_rep.0 position has.number.representative.0)) in
+      let above : 0 < copies targets a q = none_of edge.moves (copies targets a q) move edge.counted (edge.whole move leads) in
+      in_each_below (λ (q : ℕ). each_below (λ (copy : ℕ). copy_of a q copy ∷ []) (copies targets a q)) (classes_of set) q u there.0
+      (in_each_below (λ (copy : ℕ). copy_of a q copy ∷ []) (copies targets a q) 0 u above
+      (the_one (copy_of a q 0) u (copy_knows a q 0 above ∙ sym there.1)))
+    where
+      turn : (rep o : Setup) → IsPositionOf set rep → IsPositionOf set o → (rep ≡ o) ⊎ (rep ≡ mirrored o) → IsEither rep o
+      turn rep o is position either = elim either [
+        | inl same ↦ inl (sym same)
+        | inr image ↦ inr (sym (mirrored-mirrored o position.legal.squares) ∙ ap mirrored (sym image))
+      ]
+
+  follows_known : (p : Setup) (a : ℕ) → IsFirstIn set p a → HasStatus p Open → (v : Value) → FollowsFromKnown (knows a) v →
+      FollowsFromSuccessors Has p v
+  follows_known p a first goes_on (Win plies) follows = (
+    follows.0,
+    follows.1,
+    heard p a first (Loss follows.0) follows.2,
+    λ other next. follows.3 other (told p a first goes_on next.0 next.1 next.2 (Loss other) next.3),
+  )
+  follows_known p a first goes_on (Loss plies) follows = (
+    follows.0,
+    follows.1,
+    heard p a first (Win follows.0) follows.2,
+    λ other next. follows.3 other (told p a first goes_on next.0 next.1 next.2 (Win other) next.3),
+    λ move o goes.
+        let entry = has_entry set values o classes (moves_keep_the_set set p move o first.0.0 goes_on goes) in
+        let win = follows.4 entry.0 (told p a first goes_on move o goes entry.0 entry.1) in
+        (win.0, subst (Has o) win.1 entry.1),
+  )
+  follows_known p a first goes_on Draw follows = (
+    λ plies next. follows.0 plies (told p a first goes_on next.0 next.1 next.2 (Loss plies) next.3),
+    λ wins. follows.1 (λ u there.
+        let next = heard p a first u there in
+        let win = wins next.0 next.1 next.2 in
+        (win.0, one_entry set values next.1 u (Win win.0) (moves_keep_the_set set p next.0 next.1 first.0.0 goes_on next.2) next.3 win.1)),
+  )
+
+  at_status : (p : Setup) (a : ℕ) → IsFirstIn set p a → (status : Status) → HasStatus p status → (v : Value) →
+      FollowsAtStatus status (knows a) v → FollowsAt Has p status v
+  at_status p a first Caught is v follows = follows
+  at_status p a first Tried is v follows = follows
+  at_status p a first Stuck is v follows = follows
+  at_status p a first Open is v follows = follows_known p a first is v follows
+
+  consistent : IsConsistent set values
+  consistent = record {
+    table = record { classes = classes; entries = gathered.entries };
+    follows = λ p a v is number entry.
+        let now = quiet.values p a (is, number) in (
+          now.0,
+          now.1,
+          subst (FollowsAt Has p now.0) (sym (value_there a v entry).1) (at_status p a (is, number) now.0 now.1 (value a) now.2),
+        );
+  }
+
+are_predecessors : (set : PieceSet) → AreTargets set (predecessors set)
+are_predecessors set q class is = ArePredecessors-predecessors set q class is
+
+pub quiet_is_right : QuietIsRight
+quiet_is_right set n histories expanded sent applied values some quiet gathered =
+    consistent_is_right set values
+    (consistent set (predecessors set) n histories expanded sent applied values some (are_predecessors set) quiet gathered)

@@ -1,0 +1,283 @@
+-- What is lawful stays so: the next item fits its cell, and after it the cells and histories are lawful again.
+use Rattle.std.proofs.Common.{◌≡◌, ◌≢◌, ℕ, ◌<◌, ◌⊎◌, inl, inr, eqb, cond, refl, sym, subst, ap, ◌∙◌, arith, List, [], ◌∷◌, ◌++◌, length, append_assoc}
+use Rattle.std.specs.List.{All}
+use Rattle.std.proofs.lemmas.Bool.{eqb-true, eq-eqb, ne_eqb, cases_eq}
+use Rattle.std.proofs.lemmas.List.Elements.{All-contains, All-nil, All-cons, All-append}
+use Rattle.dob_pieces.specs.declared.piece_set.PieceSet.{PieceSet}
+use Rattle.dob_pieces.specs.declared.setup.Setup.{Setup}
+use Rattle.dob_moves.specs.declared.outlook.Status.TheVariants.{Open}
+use Rattle.dob_moves.specs.Statuses.{HasStatus}
+use Rattle.dob_rank.specs.Order.{IsFirstIn}
+use Rattle.dob_rank.specs.Marks.{classes_of}
+use Rattle.dob_rank.specs.ClassRows.{class_setup}
+use Rattle.dob_rank.proofs.Marks.{HasClasses-classes_of}
+use Rattle.dob_rank.proofs.Representatives.{class_setup_is}
+use Rattle.dob_value.specs.declared.value.Value.{Value}
+use Rattle.dob_value.specs.Follows.{IsEntry}
+use Rattle.dob_unmove.specs.Edges.{predecessors}
+use Rattle.dob_unmove.proofs.Edges.{ArePredecessors-predecessors, first_below}
+use Rattle.dob_share.specs.declared.news.Settlement.{Settlement}
+use Rattle.dob_share.specs.declared.news.Item.{Item}
+use Rattle.dob_share.specs.Owners.{owner_of}
+use Rattle.dob_share.specs.Values.{Better}
+use Rattle.dob_share.specs.Cells.{Cell, CellValue, SumsUp, Changes, changed}
+use Rattle.dob_update.specs.Items.{items_from}
+use Rattle.dob_node.specs.Histories.{copies, value_of, all_known, IsNext, IsChained}
+use Rattle.dob_node.specs.Quiet.{FollowsAtStatus}
+use Rattle.dob_node.specs.Lawful.{known_of, IsLawful, IsNextItem, CanApply, AreAfter, IsApplied, AreSettled}
+use Rattle.dob_node.proofs.Rest.{some_of, below_owner}
+use Rattle.dob_node.proofs.Splits.{IsMade, IsFrom, split, made_from}
+use Rattle.dob_node.proofs.Learns.{has_copy, learnt, nothing_learnt}
+use Rattle.dob_moves.proofs.Cases.{one_status}
+use Rattle.dob_node.proofs.Settles.{chained_more, value_of-more, still_begun, known_still}
+use Rattle.dob_node.proofs.Totals.{some_known}
+use Rattle.dob_node.proofs.Kept.{all_known-same, known_entries, follows_entry, better_apart}
+use Rattle.dob_node.proofs.Sums.{sums_up_after}
+use Rattle.dob_node.proofs.Takes.{counted, takes_next, value_follows, SumsUp-same, CellValue-same}
+
+-- ---- a class that has a copy is open
+
+open_class : (set : PieceSet) (p q : ℕ) → q < classes_of set → 0 < copies (predecessors set) p q →
+    (p < classes_of set) × HasStatus (class_setup set p) Open
+open_class set p q below above =
+    let rep : IsFirstIn set (class_setup set q) q = class_setup_is set q (classes_of set) (HasClasses-classes_of set) below in
+    let are = ArePredecessors-predecessors set (class_setup set q) q rep in
+    let there = counted (λ to. eqb to p) (predecessors set q) above in
+    let same : there.0 ≡ p = eqb-true there.0 p there.2 in
+    let known = All-contains (λ (class : ℕ). (s : Setup) × IsFirstIn set s class) (predecessors set q) there.0 are.counts.known there.1 in
+    let low : p < classes_of set = subst (λ k. k < classes_of set) same (first_below set known.0 there.0 known.1) in
+    let first : IsFirstIn set (class_setup set p) p = class_setup_is set p (classes_of set) (HasClasses-classes_of set) low in
+    let edge = are.counts.edges (class_setup set p) p first in
+    let move = some_of edge.moves (copies (predecessors set) p q) edge.counted above in
+    (low, (edge.sound move.0 move.1).0)
+
+module _ (set : PieceSet) (n : ℕ) (histories : ℕ → List Settlement) (applied : ℕ → ℕ → List Item) (cell : ℕ → Cell) (value : ℕ → Value)
+    (some : 0 < n) (lawful : IsLawful set n histories applied cell value) (i j : ℕ) (low_i : i < n) (low_j : j < n) (item : Item)
+    (is_next : IsNextItem set n histories applied i j item) where
+  abbrev targets : ℕ → List ℕ
+  targets = predecessors set
+
+  abbrev classes : ℕ
+  classes = classes_of set
+
+  -- what node j has applied from each node
+  abbrev items : ℕ → List Item
+  items k = applied k j
+
+  made : IsMade targets n j (histories i) (items i) item
+  made = split targets n j (histories i) (items i) item is_next.0 is_next.1
+
+  from : IsFrom n j made.s item
+  from = made_from targets n j made.s made.part item made.rest made.block_is
+
+  next_is : IsNext classes n i made.before made.s
+  next_is = lawful.chained i low_i made.before made.s made.behind made.history_is
+
+  better : Better item.was item.now
+  better = subst (λ (r : Item). Better r.was r.now) (sym from.is) next_is.better
+
+  -- what the class of the item learns, whatever it is that is applied then
+  class_learns : (after : ℕ → List Item) → after i ≡ items i ++ item ∷ [] → ((k : ℕ) → k ≢ i → after k ≡ items k) →
+      Changes (all_known targets classes n histories items item.to) (all_known targets classes n histories after item.to) item.was item.now
+  class_learns after grown same_else =
+      learnt targets classes n histories items after i j item (lawful.chained i low_i) made grown same_else
+
+  abbrev one_more : ℕ → List Item
+  one_more k = cond (eqb k i) (items k ++ item ∷ []) (items k)
+
+  grown_one : one_more i ≡ items i ++ item ∷ []
+  grown_one = ap (λ b. cond b (items i ++ item ∷ []) (items i)) (eq-eqb i i refl)
+
+  else_one : (k : ℕ) → k ≢ i → one_more k ≡ items k
+  else_one k other = ap (λ b. cond b (items k ++ item ∷ []) (items k)) (ne_eqb k i other)
+
+  there_is : (item.to < classes) × HasStatus (class_setup set item.to) Open
+  there_is =
+      let copy = has_copy targets classes n histories items one_more i j item (lawful.chained i low_i) made grown_one else_one in
+      open_class set item.to made.s.class next_is.below (omega arith)
+
+  known_here : (after : ℕ → ℕ → List Item) → known_of set n histories after item.to ≡ all_known targets classes n histories (λ k. after k j) item.to
+  known_here after = ap (λ m. all_known targets classes n histories (λ k. after k m) item.to) from.own
+
+  -- the next item fits
+  pub can_apply : CanApply set n j cell item
+  can_apply = record {
+    below = there_is.0;
+    own = from.own;
+    is_open = there_is.1;
+    takes = takes_next (all_known targets classes n histories items item.to) (all_known targets classes n histories one_more item.to)
+        item.was item.now (cell item.to) better (class_learns one_more grown_one else_one)
+        (subst (λ known. SumsUp known (cell item.to)) (known_here applied) (lawful.sums item.to there_is.0 there_is.1));
+  }
+
+  module _ (after : ℕ → ℕ → List Item) (is_applied : IsApplied i j item applied after) where
+    -- the class of the item learns what it says
+    pub learns_here : Changes (known_of set n histories applied item.to) (known_of set n histories after item.to) item.was item.now
+    learns_here =
+        subst (λ known. Changes (known_of set n histories applied item.to) known item.was item.now) (sym (known_here after))
+        (subst (λ known. Changes known (all_known targets classes n histories (λ k. after k j) item.to) item.was item.now) (sym (known_here applied))
+        (class_learns (λ k. after k j) is_applied.one_more is_applied.same_sender))
+
+    -- no other class learns anything
+    pub still : (p : ℕ) → p ≢ item.to → known_of set n histories after p ≡ known_of set n histories applied p
+    still p other = elim (cases_eq (owner_of n p) j) [
+      | inl own ↦
+          ap (λ m. all_known targets classes n histories (λ k. after k m) p) own
+          ∙ sym (nothing_learnt targets classes n histories items (λ k. after k j) i j item (lawful.chained i low_i) made is_applied.one_more
+          is_applied.same_sender p own other)
+          ∙ sym (ap (λ m. all_known targets classes n histories (λ k. applied k m) p) own)
+      | inr elsewhere ↦ all_known-same targets classes n histories histories (λ k. applied k (owner_of n p)) (λ k. after k (owner_of n p)) p
+          (λ k. refl) (λ k. is_applied.same_receiver k (owner_of n p) elsewhere)
+    ]
+
+  module _ (after : ℕ → ℕ → List Item) (is_applied : IsApplied i j item applied after) (cells : ℕ → Cell) (worth : ℕ → Value)
+      (are_after : AreAfter item cell cells value worth) (grown : ℕ → List Settlement)
+      (settled : AreSettled j item.to (value item.to) (worth item.to) histories grown) where
+    -- ---- with the item, before its settlement
+
+    known_now : (p : ℕ) → p < classes → HasStatus (class_setup set p) Open → SumsUp (known_of set n histories after p) (cells p)
+    known_now p low is_open = elim (cases_eq p item.to) [
+      | inl same ↦ subst (λ k. SumsUp (known_of set n histories after k) (cells k)) (sym same) here
+      | inr other ↦ SumsUp-same (known_of set n histories after p) (cells p) (cell p) (are_after.others p other).0
+          (subst (λ known. SumsUp known (cell p)) (sym (still after is_applied p other)) (lawful.sums p low is_open))
+    ]
+      where
+        here : SumsUp (known_of set n histories after item.to) (cells item.to)
+        here = SumsUp-same (known_of set n histories after item.to) (cells item.to) (changed item.was item.now (cell item.to)) are_after.cell_is
+            (sums_up_after (known_of set n histories applied item.to) (known_of set n histories after item.to) item.was item.now (cell item.to)
+            better (learns_here after is_applied) (lawful.sums item.to there_is.0 there_is.1))
+
+    begun_now : (k m : ℕ) → k < n → m < n → (rest : List Item) × (items_from targets n m (histories k) ≡ after k m ++ rest)
+    begun_now k m low_k low_m = elim (cases_eq m j) [
+      | inl own ↦ elim (cases_eq k i) [
+        | inl sender ↦ (
+          is_next.0,
+          subst (λ r. items_from targets n r (histories k) ≡ after k r ++ is_next.0) (sym own)
+              (subst (λ s. items_from targets n j (histories s) ≡ after s j ++ is_next.0) (sym sender)
+              (is_next.1 ∙ sym (append_assoc (applied i j) (item ∷ []) is_next.0) ∙ ap (λ a. a ++ is_next.0) (sym is_applied.one_more))),
+        )
+        | inr other ↦ (
+          (lawful.begun k j low_k low_j).0,
+          subst (λ r. items_from targets n r (histories k) ≡ after k r ++ (lawful.begun k j low_k low_j).0) (sym own)
+              ((lawful.begun k j low_k low_j).1 ∙ ap (λ a. a ++ (lawful.begun k j low_k low_j).0) (sym (is_applied.same_sender k other))),
+        )
+      ]
+      | inr elsewhere ↦ (
+        (lawful.begun k m low_k low_m).0,
+        (lawful.begun k m low_k low_m).1 ∙ ap (λ a. a ++ (lawful.begun k m low_k low_m).0) (sym (is_applied.same_receiver k m elsewhere)),
+      )
+    ]
+
+    -- ---- the settlement
+
+    abbrev to : ℕ
+    to = item.to
+
+    abbrev news : Settlement
+    news = record { number = length (histories j); class = to; was = value to; now = worth to }
+
+    value_is : value to ≡ value_of (histories j) to
+    value_is = lawful.values to there_is.0 ∙ ap (λ k. value_of (histories k) to) from.own
+
+    news_next : Better (value to) (worth to) → IsNext classes n j (histories j) news
+    news_next is_better = record { number = refl; below = there_is.0; own = from.own; was = value_is; better = is_better }
+
+    news_entry : IsEntry (worth to)
+    news_entry =
+        let known = known_of set n histories after to in
+        follows_entry known (worth to)
+        (known_entries targets classes n histories (λ k. after k (owner_of n to)) to some lawful.entries)
+        (value_follows known (cells to) (worth to) (known_now to there_is.0 there_is.1)
+        (some_known set to there_is.0 n histories (λ k. after k (owner_of n to)) there_is.1) are_after.gives)
+        are_after.short
+
+    -- the histories are the same, or one has the settlement
+    abbrev Kept : Type 0
+    Kept = ((k : ℕ) → grown k ≡ histories k) × (value to ≡ worth to)
+
+    abbrev Settles : Type 0
+    Settles = (grown j ≡ histories j ++ news ∷ []) × Better (value to) (worth to)
+
+    which : Kept ⊎ Settles
+    which = elim are_after.better [
+      | inl same ↦ inl (all_same same, same)
+      | inr is_better ↦ inr (settled.more (λ same. better_apart (value to) (worth to) is_better same), is_better)
+    ]
+      where
+        all_same : value to ≡ worth to → (k : ℕ) → grown k ≡ histories k
+        all_same same k = elim (cases_eq k j) [
+          | inl own ↦ subst (λ m. grown m ≡ histories m) (sym own) (settled.same same)
+          | inr other ↦ settled.others k other
+        ]
+
+    -- what holds of each history as it was, and of that of node j with the settlement, holds of each now
+    for_each : (P : ℕ → List Settlement → Type 0) → ((k : ℕ) → k < n → P k (histories k)) → (Settles → P j (histories j ++ news ∷ [])) →
+        (k : ℕ) → k < n → P k (grown k)
+    for_each P before more k low = elim which [
+      | inl kept ↦ subst (P k) (sym (kept.0 k)) (before k low)
+      | inr settles ↦ elim (cases_eq k j) [
+        | inl own ↦ subst (λ m. P m (grown m)) (sym own) (subst (P j) (sym settles.0) (more settles))
+        | inr other ↦ subst (P k) (sym (settled.others k other)) (before k low)
+      ]
+    ]
+
+    known_same : (p : ℕ) → known_of set n grown after p ≡ known_of set n histories after p
+    known_same p = elim which [
+      | inl kept ↦ all_known-same targets classes n histories grown (λ k. after k (owner_of n p)) (λ k. after k (owner_of n p)) p kept.0 (λ k. refl)
+      | inr settles ↦ known_still targets classes n histories grown (λ k. after k (owner_of n p)) j (owner_of n p) news
+          (begun_now j (owner_of n p) low_j (below_owner n p some)).0 p (lawful.chained j low_j) (news_next settles.1)
+          (begun_now j (owner_of n p) low_j (below_owner n p some)).1 settles.0 settled.others
+    ]
+
+    value_now : (p : ℕ) → p < classes → worth p ≡ value_of (grown (owner_of n p)) p
+    value_now p low = elim (cases_eq p to) [
+      | inl same ↦ subst (λ k. worth k ≡ value_of (grown (owner_of n k)) k) (sym same) (at_class from.own)
+      | inr other ↦ (are_after.others p other).1 ∙ lawful.values p low ∙ sym (elsewhere other)
+    ]
+      where
+        at_class : owner_of n to ≡ j → worth to ≡ value_of (grown (owner_of n to)) to
+        at_class own = elim which [
+          | inl kept ↦ sym kept.1 ∙ lawful.values to there_is.0 ∙ ap (λ h. value_of h to) (sym (kept.0 (owner_of n to)))
+          | inr settles ↦
+              ap (λ b. cond b (worth to) (value_of (histories j) to)) (sym (eq-eqb to to refl))
+              ∙ sym (value_of-more (histories j) news to)
+              ∙ ap (λ h. value_of h to) (sym settles.0)
+              ∙ ap (λ k. value_of (grown k) to) (sym own)
+        ]
+
+        elsewhere : p ≢ to → value_of (grown (owner_of n p)) p ≡ value_of (histories (owner_of n p)) p
+        elsewhere other = for_each (λ k h. value_of h p ≡ value_of (histories k) p) (λ k low. refl)
+            (λ settles. value_of-more (histories j) news p
+            ∙ ap (λ b. cond b (worth to) (value_of (histories j) p)) (ne_eqb to p (λ same. other (sym same))))
+            (owner_of n p) (below_owner n p some)
+
+    -- the nodes are lawful again
+    pub lawful_after : IsLawful set n grown after cells worth
+    lawful_after = record {
+      chained = for_each (λ k h. IsChained classes n k h) lawful.chained
+          (λ settles. chained_more classes n j (histories j) news (lawful.chained j low_j) (news_next settles.1));
+      entries = for_each (λ k h. All (λ (s : Settlement). IsEntry s.now) h) lawful.entries
+          (λ settles. All-append (λ (s : Settlement). IsEntry s.now) (histories j) (news ∷ []) (lawful.entries j low_j)
+          (All-cons (λ (s : Settlement). IsEntry s.now) news [] news_entry (All-nil (λ (s : Settlement). IsEntry s.now))));
+      begun = λ k m low_k low_m. for_each
+          (λ l h. l ≡ k → (rest : List Item) × (items_from targets n m h ≡ after k m ++ rest))
+          (λ l low_l same. subst (λ r. (rest : List Item) × (items_from targets n m (histories r) ≡ after k m ++ rest)) (sym same) (begun_now k m low_k low_m))
+          (λ settles same.
+          let before = begun_now j m low_j low_m in
+          subst (λ r. (rest : List Item) × (items_from targets n m (histories j ++ news ∷ []) ≡ after r m ++ rest)) same (
+            before.0 ++ items_from targets n m (news ∷ []),
+            still_begun targets n m (histories j) (news ∷ []) (after j m) before.0 before.1,
+          ))
+          k low_k refl;
+      sums = λ p low is_open. subst (λ known. SumsUp known (cells p)) (sym (known_same p)) (known_now p low is_open);
+      cell_values = λ p low is_open. elim (cases_eq p to) [
+        | inl same ↦ subst (λ k. CellValue (cells k) (worth k)) (sym same) are_after.gives
+        | inr other ↦ subst (λ v. CellValue (cells p) v) (sym (are_after.others p other).1)
+            (CellValue-same (cells p) (cell p) (value p) (are_after.others p other).0 (lawful.cell_values p low is_open))
+      ];
+      over = λ p status low is closed. subst (λ v. FollowsAtStatus status [] v)
+          (sym (are_after.others p (λ same. closed (one_status (class_setup set p) status Open is
+          (subst (λ k. HasStatus (class_setup set k) Open) (sym same) there_is.1)))).1)
+          (lawful.over p status low is closed);
+      values = value_now;
+    }

@@ -1,0 +1,207 @@
+-- How many copies a class's moves have in all: one each. Before anything is settled they know nothing.
+use Rattle.std.proofs.Common.{◌≡◌, ℕ, zero, suc, ◌+◌, ◌<◌, ◌≤◌, ◌&&◌, inl, inr, eqb, ltb, Bool, true, false, cond, refl, sym, ap, ◌∙◌, arith, List, [], ◌∷◌, ◌++◌, length, Contains, None}
+use Rattle.std.specs.List.{count_by, All}
+use Rattle.std.proofs.lemmas.Bool.{eq-eqb, ne_eqb, cases_eq, le-ltb, and_right}
+use Rattle.std.proofs.lemmas.List.{length-append}
+use Rattle.std.proofs.lemmas.List.Elements.{All-head, All-tail, All-contains_itself, Contains-append_right}
+use Rattle.std.proofs.lemmas.List.Sums.{sum_by-cons}
+use Rattle.dob_pieces.specs.declared.piece_set.PieceSet.{PieceSet}
+use Rattle.dob_pieces.specs.declared.setup.Setup.{Setup}
+use Rattle.dob_pieces.specs.Lists.{each_below}
+use Rattle.dob_pieces.specs.Setups.{turned}
+use Rattle.dob_pieces.proofs.Lists.{head_in}
+use Rattle.dob_moves.specs.declared.choice.Move.{Move}
+use Rattle.dob_moves.specs.declared.outlook.Status.TheVariants.{Open}
+use Rattle.dob_moves.specs.MoveLists.{moves_of}
+use Rattle.dob_moves.specs.Outcomes.{moved}
+use Rattle.dob_moves.specs.Statuses.{HasStatus}
+use Rattle.dob_moves.proofs.MoveLists.{AreMoves-moves_of}
+use Rattle.dob_moves.proofs.Outcomes.{Goes-moved}
+use Rattle.dob_rank.specs.Order.{IsFirstIn}
+use Rattle.dob_rank.specs.Numbers.{sum_below}
+use Rattle.dob_rank.specs.Marks.{classes_of, class_number}
+use Rattle.dob_rank.specs.ClassRows.{class_setup}
+use Rattle.dob_rank.proofs.Marks.{HasClasses-classes_of}
+use Rattle.dob_rank.proofs.ClassNumbers.{class_number-below}
+use Rattle.dob_rank.proofs.Representatives.{class_setup_is}
+use Rattle.dob_value.specs.declared.value.Value.{Value}
+use Rattle.dob_value.specs.declared.value.Value.TheVariants.{Loss, Draw}
+use Rattle.dob_value.specs.Entries.{is_draw}
+use Rattle.dob_value.proofs.Successors.{moves_keep_the_set}
+use Rattle.dob_unmove.specs.Edges.{edges, predecessors}
+use Rattle.dob_unmove.proofs.Edges.{times-predecessors}
+use Rattle.dob_share.specs.declared.news.Settlement.{Settlement}
+use Rattle.dob_share.specs.declared.news.Item.{Item}
+use Rattle.dob_share.specs.Owners.{owner_of}
+use Rattle.dob_share.specs.Values.{is_win_in}
+use Rattle.dob_share.specs.Cells.{SumsUp}
+use Rattle.dob_node.specs.Histories.{copies, items_to, known, all_known}
+use Rattle.dob_node.proofs.Runs.{from_each_below, only_one}
+use Rattle.dob_node.proofs.Copies.{NonePass, last_now-none}
+use Rattle.dob_node.proofs.Takes.{counted}
+
+-- ---- each move leads into one class
+
+sum_below-same : (f g : ℕ → ℕ) (n : ℕ) → ((k : ℕ) → k < n → f k ≡ g k) → sum_below f n ≡ sum_below g n
+sum_below-same f g zero same = refl
+sum_below-same f g (suc n) same =
+    let before = sum_below-same f g n (λ k below. same k (omega arith)) in
+    let last = same n (omega arith) in
+    ap (λ m. m + f n) before ∙ ap (λ m. sum_below g n + m) last
+
+sum_below-none : (n : ℕ) → sum_below (λ _. 0) n ≡ 0
+sum_below-none zero = refl
+sum_below-none (suc n) = let before = sum_below-none n in omega arith
+
+sum_below-both : (f g : ℕ → ℕ) (n : ℕ) → sum_below (λ k. f k + g k) n ≡ sum_below f n + sum_below g n
+sum_below-both f g zero = refl
+sum_below-both f g (suc n) =
+    let before = sum_below-both f g n in
+    omega arith
+
+one_place : (k n : ℕ) → n ≤ k → sum_below (λ j. cond (eqb k j) 1 0) n ≡ 0
+one_place k zero above = refl
+one_place k (suc n) above =
+    let before = one_place k n (omega arith) in
+    let here : cond {A = ℕ} (eqb k n) 1 0 ≡ 0 = ap (λ b. cond b 1 0) (ne_eqb k n (λ e. absurd (omega (arith, e)))) in
+    omega arith
+
+its_place : (k n : ℕ) → k < n → sum_below (λ j. cond (eqb k j) 1 0) n ≡ 1
+its_place k zero below = absurd (omega arith)
+its_place k (suc n) below = elim (cases_eq k n) [
+  | inl same ↦
+      let before = one_place k n (omega arith) in
+      let here : cond {A = ℕ} (eqb k n) 1 0 ≡ 1 = ap (λ b. cond b 1 0) (eq-eqb k n same) in
+      omega arith
+  | inr other ↦
+      let before = its_place k n (omega (arith, other)) in
+      let here : cond {A = ℕ} (eqb k n) 1 0 ≡ 0 = ap (λ b. cond b 1 0) (ne_eqb k n other) in
+      omega arith
+]
+
+in_all_places : {X : Type 0} (f : X → ℕ) (n : ℕ) (xs : List X) → All (λ x. f x < n) xs →
+    sum_below (λ k. count_by (λ x. eqb (f x) k) xs) n ≡ length xs
+in_all_places f n [] below = sum_below-none n
+in_all_places f n (x ∷ xs) below =
+    let here = its_place (f x) n (All-head (λ y. f y < n) x xs below) in
+    let rest = in_all_places f n xs (All-tail (λ y. f y < n) x xs below) in
+    let parts = sum_below-same (λ k. count_by (λ y. eqb (f y) k) (x ∷ xs)) (λ k. cond (eqb (f x) k) 1 0 + count_by (λ y. eqb (f y) k) xs) n
+    (λ k low. sum_by-cons (λ y. cond (eqb (f y) k) 1 0) x xs) in
+    let sums = sum_below-both (λ k. cond (eqb (f x) k) 1 0) (λ k. count_by (λ y. eqb (f y) k) xs) n in
+    omega arith
+
+length-each_below : {X : Type 0} (g : ℕ → List X) (n : ℕ) → length (each_below g n) ≡ sum_below (λ k. length (g k)) n
+length-each_below g zero = refl
+length-each_below g (suc n) =
+    let before = length-each_below g n in
+    let sum : length (each_below g n ++ g n) ≡ length (each_below g n) + length (g n) = length-append (each_below g n) (g n) in
+    omega arith
+
+length-row : (f : ℕ → Value) (n : ℕ) → length (each_below (λ (k : ℕ). f k ∷ []) n) ≡ n
+length-row f zero = refl
+length-row f (suc n) =
+    let before = length-row f n in
+    let sum : length (each_below (λ (k : ℕ). f k ∷ []) n ++ f n ∷ []) ≡ length (each_below (λ (k : ℕ). f k ∷ []) n) + 1 =
+    length-append (each_below (λ (k : ℕ). f k ∷ []) n) (f n ∷ []) in
+    omega arith
+
+module _ (set : PieceSet) (p : ℕ) (low : p < classes_of set) where
+  abbrev setup : Setup
+  setup = class_setup set p
+
+  is_first : IsFirstIn set setup p
+  is_first = class_setup_is set p (classes_of set) (HasClasses-classes_of set) low
+
+  lead_within : All (λ (m : Move). class_number set (turned (moved setup m)) < classes_of set) (moves_of setup)
+  lead_within = λ k d below.
+      let are = AreMoves-moves_of setup is_first.0.0.legal.squares in
+      let is = are.sound _ (All-contains_itself (moves_of setup) k d below) in
+      class_number-below set _ (moves_keep_the_set set setup _ _ is_first.0.0 is.0 (Goes-moved setup _ is.1))
+
+  edges-all : sum_below (λ q. edges set p q) (classes_of set) ≡ length (moves_of setup)
+  unfolding edges
+  edges-all = in_all_places (λ (m : Move). class_number set (turned (moved setup m))) (classes_of set) (moves_of setup) lead_within
+
+  copies-edges : (q : ℕ) → q < classes_of set → copies (predecessors set) p q ≡ edges set p q
+  copies-edges q below =
+      times-predecessors set (class_setup set q) q (class_setup_is set q (classes_of set) (HasClasses-classes_of set) below) p low
+
+  -- there is a copy for each move
+  pub length-all_known : (n : ℕ) (histories : ℕ → List Settlement) (applied : ℕ → List Item) →
+      length (all_known (predecessors set) (classes_of set) n histories applied p) ≡ length (moves_of setup)
+  unfolding all_known
+  length-all_known n histories applied =
+      let row : ℕ → List Value =
+      λ q. each_below (λ (copy : ℕ). known (histories (owner_of n q)) (applied (owner_of n q)) p q copy ∷ []) (copies (predecessors set) p q) in
+      length-each_below row (classes_of set)
+      ∙ sum_below-same (λ q. length (row q)) (λ q. edges set p q) (classes_of set)
+      (λ q below. length-row (λ copy. known (histories (owner_of n q)) (applied (owner_of n q)) p q copy) (copies (predecessors set) p q)
+      ∙ copies-edges q below)
+      ∙ edges-all
+
+  -- an open class has a copy at least
+  pub some_known : (n : ℕ) (histories : ℕ → List Settlement) (applied : ℕ → List Item) → HasStatus setup Open →
+      0 < length (all_known (predecessors set) (classes_of set) n histories applied p)
+  some_known n histories applied is_open =
+      let are = AreMoves-moves_of setup is_first.0.0.legal.squares in
+      let there = are.whole is_open.2.0 is_open is_open.2.1 in
+      let below : there.0 < length (moves_of setup) = there.1 in
+      let whole = length-all_known n histories applied in
+      omega arith
+
+-- ---- before anything is applied
+
+none_pass : (p q copy : ℕ) (ss : List Settlement) → NonePass (λ s. eqb s.class q && ltb copy (items_to [] s.number p)) ss
+none_pass p q copy [] = tt
+none_pass p q copy (s ∷ ss) = (and_right (eqb s.class q) (ltb copy 0) (le-ltb copy 0 (omega arith)), none_pass p q copy ss)
+
+knows_nothing : (history : List Settlement) (applied : List Item) (p q copy : ℕ) → applied ≡ [] → known history applied p q copy ≡ Draw
+knows_nothing history applied p q copy none =
+    ap (λ items. known history items p q copy) none
+    ∙ last_now-none (λ s. eqb s.class q && ltb copy (items_to [] s.number p)) Draw history (none_pass p q copy history)
+
+all_draws : (targets : ℕ → List ℕ) (classes n : ℕ) (histories : ℕ → List Settlement) (applied : ℕ → List Item) (p : ℕ) →
+    ((i : ℕ) → applied i ≡ []) → (v : Value) → Contains (all_known targets classes n histories applied p) v → v ≡ Draw
+unfolding all_known
+all_draws targets classes n histories applied p none v there =
+    let at = from_each_below (λ (q : ℕ). each_below (λ (copy : ℕ). known (histories (owner_of n q)) (applied (owner_of n q)) p q copy ∷ [])
+    (copies targets p q)) classes v there in
+    let q = at.0 in
+    let row = from_each_below (λ (copy : ℕ). known (histories (owner_of n q)) (applied (owner_of n q)) p q copy ∷ []) (copies targets p q) v at.2 in
+    sym (only_one (known (histories (owner_of n q)) (applied (owner_of n q)) p q row.0) v row.2)
+    ∙ knows_nothing (histories (owner_of n q)) (applied (owner_of n q)) p q row.0 (none (owner_of n q))
+
+count_draws : (xs : List Value) → ((v : Value) → Contains xs v → v ≡ Draw) → count_by is_draw xs ≡ length xs
+count_draws [] draws = refl
+count_draws (x ∷ xs) draws =
+    let sum : count_by is_draw (x ∷ xs) ≡ cond (is_draw x) 1 0 + count_by is_draw xs = sum_by-cons (λ v. cond (is_draw v) 1 0) x xs in
+    let here : cond {A = ℕ} (is_draw x) 1 0 ≡ 1 = ap (λ v. cond {A = ℕ} (is_draw v) 1 0) (draws x (head_in x xs)) in
+    let rest = count_draws xs (λ v there. draws v (Contains-append_right (x ∷ []) xs v there)) in
+    omega arith
+
+no_wins : (xs : List Value) (plies count : ℕ) → ((v : Value) → Contains xs v → v ≡ Draw) → count ≡ count_by (λ v. is_win_in plies v) xs → 0 ≡ count
+no_wins xs plies zero draws is = refl
+no_wins xs plies (suc count) draws is =
+    let found = counted (λ v. is_win_in plies v) xs (omega arith) in
+    let drawn : false ≡ is_win_in plies found.0 = ap (is_win_in plies) (sym (draws found.0 found.1)) in
+    absurd (false_is_true (is_win_in plies found.0) drawn found.2)
+  where
+    false_is_true : (b : Bool) → false ≡ b → b ≡ true → ⊥
+    false_is_true b a c = cc
+
+-- a cell with all moves left sums up what is known before anything is applied
+pub start_sums : (set : PieceSet) (p : ℕ) → p < classes_of set → (n : ℕ) (histories : ℕ → List Settlement) (applied : ℕ → List Item) →
+    ((i : ℕ) → applied i ≡ []) →
+    SumsUp (all_known (predecessors set) (classes_of set) n histories applied p)
+    (record { left = length (moves_of (class_setup set p)); wins = λ _. 0; least = None })
+start_sums set p low n histories applied none =
+    let known_list = all_known (predecessors set) (classes_of set) n histories applied p in
+    let draws = all_draws (predecessors set) (classes_of set) n histories applied p none in
+    record {
+      left = sym (count_draws known_list draws ∙ length-all_known set p low n histories applied);
+      wins = λ plies. no_wins known_list plies (count_by (λ v. is_win_in plies v) known_list) draws refl;
+      least = λ plies there. lost_draw plies (draws (Loss plies) there);
+    }
+  where
+    lost_draw : (plies : ℕ) → ¬ (let v : Value = Draw in Loss plies ≡ v)
+    lost_draw plies e = absurd (cc)

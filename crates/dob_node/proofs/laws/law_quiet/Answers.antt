@@ -1,0 +1,5 @@
+use Rattle.dob_node.proofs.Rest.{quiet_is_right}
+use Rattle.dob_node.proofs.laws.law_quiet.Goals as goal
+
+pub returns : goal.returns
+returns c = quiet_is_right

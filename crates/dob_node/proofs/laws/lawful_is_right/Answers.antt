@@ -1,0 +1,5 @@
+use Rattle.dob_node.proofs.Ends.{lawful_is_right}
+use Rattle.dob_node.proofs.laws.lawful_is_right.Goals as goal
+
+pub returns : goal.returns
+returns c = lawful_is_right

@@ -1,0 +1,34 @@
+// Laws of histories, each the contract of a function that does nothing.
+ghost use Rattle.dob_node.specs.Quiet.{QuietIsRight};
+ghost use Rattle.dob_node.specs.Laws.{NothingIsKnown, NextItemFits, NextItemTeachesOne, LawfulStays, LawfulIsRight};
+
+/// Nodes that have nothing left to expand, to send or to apply, and whose classes have the values that follow from
+/// what the copies of their moves know, hold the value table.
+pub fn law_quiet()
+    ensures { QuietIsRight }
+{}
+
+/// Before anything is applied, a cell with all the moves of its class left sums up what their copies know.
+pub fn nothing_is_known()
+    ensures { NothingIsKnown }
+{}
+
+/// In lawful nodes the next item that a node has to apply fits the cell of its class.
+pub fn next_item_fits()
+    ensures { NextItemFits }
+{}
+
+/// It teaches its class by one copy, which knew what the item says that was, and no other class.
+pub fn next_item_teaches_one()
+    ensures { NextItemTeachesOne }
+{}
+
+/// After it, and after the settlement that it makes, the nodes are lawful.
+pub fn lawful_stays()
+    ensures { LawfulStays }
+{}
+
+/// Lawful nodes that have applied all their items hold the value table.
+pub fn lawful_is_right()
+    ensures { LawfulIsRight }
+{}

@@ -1,0 +1,43 @@
+// What is known of each class before anything is settled: its status and its number of moves.
+ghost use Rattle.std.specs.Prelude.{◌<◌, IfOk};
+ghost use Rattle.dob_rank.specs.Marks.{classes_of};
+ghost use Rattle.dob_rank.specs.ClassRows.{class_setup};
+ghost use Rattle.dob_node.specs.Openings.{IsOpening, AreOpenings};
+
+use dob_moves::{count_moves, status};
+use dob_pieces::{Memory, Position};
+use dob_rank::Classes;
+use dob_share::Opening;
+use std::alloc::Global;
+
+/// The position's status and number of moves.
+fn opening_of(position: &Position) -> Opening
+    ensures { IsOpening position.now.setup result }
+{
+    let status = status(position);
+    let moves = count_moves(position);
+    Opening { status, moves }
+}
+
+/// The status and the number of moves of the class of that number.
+fn opening_at(classes: &Classes, class: u64) -> Opening
+    requires { class < classes_of classes.now.set }
+    ensures { IsOpening (class_setup classes.now.set class) result }
+{
+    opening_of(&classes.class_at(class))
+}
+
+/// The status and the number of moves of each class, in the order of the classes.
+///
+/// Error: `Memory` where none was left for the list; nothing else is lost.
+#[tactic(auto, using(crate::proofs::Starts::openings_none, crate::proofs::Starts::openings_more))]
+pub fn opening(alloc: Global, classes: &Classes) -> Result<Vec<Opening>, Memory>
+    ensures { IfOk result (λ openings. AreOpenings classes.now.set openings.items) }
+{
+    let count = classes.class_count();
+    let mut openings = Vec::with_capacity(alloc, count as usize)?;
+    for class in 0..count {
+        openings.push(opening_at(classes, class))?;
+    }
+    Ok(openings)
+}

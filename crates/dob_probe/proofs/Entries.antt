@@ -1,0 +1,34 @@
+-- Entries of a table: each is one of a position's class, and a position has one.
+use Rattle.std.proofs.Common.{◌≡◌, ℕ, ◌<◌, inl, inr, sym, subst, ◌∙◌, List, length, get_or, Some, None, All, slice_get}
+use Rattle.std.proofs.lemmas.Option.{slice_get_cases, same_Some}
+use Rattle.dob_pieces.specs.declared.piece_set.PieceSet.{PieceSet}
+use Rattle.dob_pieces.specs.declared.setup.Setup.{Setup}
+use Rattle.dob_rank.specs.Order.{IsPositionOf, IsRepresentative, Before, HasClass, IsInClass}
+use Rattle.dob_value.specs.declared.value.Value.{Value}
+use Rattle.dob_value.specs.Follows.{ClassTable, IsEntry, IsTable}
+use Rattle.dob_value.proofs.ClassNumbers.{one_count, one_first, one_entry}
+use Rattle.dob_probe.specs.Lines.{GivenBy}
+
+-- an entry that was read has the property of all
+pub all_at : {X : Type 0} (P : X → Type 0) (xs : List X) (k : ℕ) (x : X) → All P xs → slice_get xs k ≡ Some x → P x
+all_at P xs k x all read = elim (slice_get_cases xs k).1 [
+  | inl here ↦
+      let same : here.0 ≡ x = same_Some here.0 x (sym here.2 ∙ read) in
+      subst P (here.3 ∙ same) (all k here.0 here.1)
+  | inr past ↦ let never : None ≡ Some x = sym past.1 ∙ read in absurd (cc)
+]
+
+module _ (table : ClassTable) where
+  pub given_is_entry : (p : Setup) (v : Value) → IsTable table.set table.values → GivenBy table p v → IsEntry v
+  given_is_entry p v is given = all_at IsEntry table.values given.class v is.entries given.entry
+
+  pub one_given : (p : Setup) (v w : Value) → IsPositionOf table.set p → GivenBy table p v → GivenBy table p w → v ≡ w
+  one_given p v w is a b = one_entry table.set table.values p v w is a b
+
+-- a position is of one class
+pub one_class : (set : PieceSet) (p : Setup) (class other : ℕ) → IsPositionOf set p → IsInClass set p class → IsInClass set p other →
+    class ≡ other
+one_class set p class other is a b =
+    let same_first : b.first ≡ a.first = one_first set p b.first a.first is b.representative a.representative in
+    one_count (λ q. IsRepresentative set q × Before q a.first) class other a.before
+    (subst (λ q. HasClass set q other) same_first b.before)

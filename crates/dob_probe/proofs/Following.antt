@@ -1,0 +1,175 @@
+-- The value that follows from the successors' values, and that no other does.
+use Rattle.std.proofs.Common.{◌≡◌, ℕ, zero, suc, ◌+◌, ◌≤◌, ◌<◌, ◌^◌, inl, inr, refl, sym, subst, ap, ◌∙◌, arith, List, Bool, true, false, Option, Some, None, Contains, length, slice_get}
+use Rattle.std.proofs.lemmas.Option.{slice_get_cases, same_Some}
+use Rattle.dob_pieces.specs.declared.piece_set.PieceSet.{PieceSet}
+use Rattle.dob_pieces.specs.declared.setup.Setup.{Setup}
+use Rattle.dob_moves.specs.declared.choice.Move.{Move}
+use Rattle.dob_moves.specs.declared.outlook.Status.{Status}
+use Rattle.dob_moves.specs.declared.outlook.Status.TheVariants.{Caught, Tried, Stuck, Open}
+use Rattle.dob_moves.specs.Moves.{Goes}
+use Rattle.dob_moves.specs.Statuses.{HasStatus}
+use Rattle.dob_moves.proofs.Cases.{one_status}
+use Rattle.dob_rank.specs.Order.{IsPositionOf, IsRepresentative, HasClass}
+use Rattle.dob_value.specs.declared.value.Value.{Value}
+use Rattle.dob_value.specs.declared.value.Value.TheVariants.{Win, Loss, Draw}
+use Rattle.dob_value.specs.declared.sweep.TheConstants.{MAX_DISTANCE}
+use Rattle.dob_value.specs.Graphs.{AreSuccessors}
+use Rattle.dob_value.specs.Follows.{ClassTable, HasSuccessor, SuccessorsAreWins, FollowsFromSuccessors, FollowsAt, Follows, IsEntry, IsTable, IsConsistent}
+use Rattle.dob_value.proofs.ClassNumbers.{one_of_class}
+use Rattle.dob_value.proofs.Successors.{moves_keep_the_set}
+use Rattle.dob_probe.specs.declared.successors.Successors.{Successors}
+use Rattle.dob_probe.specs.Lines.{GivenBy}
+use Rattle.dob_probe.specs.Sums.{AreSummed, IsLeastLoss, IsGreatestWin, TellsDraw, HasNext, value_after}
+use Rattle.dob_probe.specs.Checks.{HasEntry, ClassFollows, ClassBreaks, IsFirstBroken}
+use Rattle.dob_probe.proofs.Entries.{one_given, given_is_entry}
+
+module _ (table : ClassTable) (p : Setup) (is : IsPositionOf table.set p) where
+  abbrev Has : Setup → Value → Type 0
+  Has = GivenBy table
+
+  one : HasStatus p Open → (m : Move) (q : Setup) (v w : Value) → Goes p m q → Has q v → Has q w → v ≡ w
+  one goes_on m q v w goes a b = one_given table q v w (moves_keep_the_set table.set p m q is goes_on goes) a b
+
+  module _ (goes_on : HasStatus p Open) (values : List Value) (are : AreSuccessors (λ v q. GivenBy table q v) p values) where
+    has_of : (v : Value) → Contains values v → HasSuccessor Has p v
+    has_of v there = are.sound v there
+
+    of_has : (v : Value) → HasSuccessor Has p v → Contains values v
+    of_has v has =
+        let next = are.whole goes_on has.0 has.1 has.2 in
+        subst (Contains values) (one goes_on has.0 has.1 next.0 v has.2 next.2 has.3) next.1
+
+    win_each : (none : (plies : ℕ) → ¬ Contains values (Loss plies)) (no_draw : ¬ Contains values Draw) (q : Setup) (v : Value) →
+        Contains values v → Has q v → (plies : ℕ) × Has q (Win plies)
+    win_each none no_draw q (Win plies) there has = (plies, has)
+    win_each none no_draw q (Loss plies) there has = absurd (none plies there)
+    win_each none no_draw q Draw there has = absurd (no_draw there)
+
+    no_value : (v : Value) → ((plies : ℕ) → ¬ Contains values (Loss plies)) → ((plies : ℕ) → ¬ Contains values (Win plies)) →
+        ¬ Contains values Draw → ¬ Contains values v
+    no_value (Win plies) no_loss no_win no_draw there = no_win plies there
+    no_value (Loss plies) no_loss no_win no_draw there = no_loss plies there
+    no_value Draw no_loss no_win no_draw there = no_draw there
+
+    pub follows_from : (least greatest : Option ℕ) (draw : Bool) → IsLeastLoss values least → IsGreatestWin values greatest →
+        TellsDraw values draw → FollowsFromSuccessors Has p (value_after least greatest draw)
+    follows_from (Some least) greatest draw known wins tells =
+        (least, refl, has_of (Loss least) known.0, λ other has. known.1 other (of_has (Loss other) has))
+    follows_from None greatest true none wins there = (
+      λ plies has. none plies (of_has (Loss plies) has),
+      λ all.
+          let next = has_of Draw there in
+          let win = all next.0 next.1 next.2 in
+          let never : Draw ≡ Win win.0 = one goes_on next.0 next.1 Draw (Win win.0) next.2 next.3 win.1 in
+          absurd (cc),
+    )
+    follows_from None (Some greatest) false none known no_draw = (
+      greatest,
+      refl,
+      has_of (Win greatest) known.0,
+      λ other has. known.1 other (of_has (Win other) has),
+      λ m q goes.
+          let next = are.whole goes_on m q goes in
+          win_each none no_draw q next.0 next.1 next.2,
+    )
+    follows_from None None false none no_win no_draw =
+        let move = goes_on.2 in
+        let next = are.whole goes_on move.0 move.1.0 move.1.1 in
+        absurd (no_value next.0 none no_win no_draw next.1)
+
+    -- one can be added to the distances that are kept
+    pub least_has_next : IsTable table.set table.values → (least : Option ℕ) → IsLeastLoss values least → HasNext least
+    least_has_next whole None none = tt
+    least_has_next whole (Some least) known =
+        let next = has_of (Loss least) known.0 in
+        let entry = given_is_entry table next.1 (Loss least) whole next.3 in
+        let short : least ≤ MAX_DISTANCE = entry.1 in
+        omega arith
+
+    pub greatest_has_next : IsTable table.set table.values → (greatest : Option ℕ) → IsGreatestWin values greatest → HasNext greatest
+    greatest_has_next whole None none = tt
+    greatest_has_next whole (Some greatest) known =
+        let next = has_of (Win greatest) known.0 in
+        let entry = given_is_entry table next.1 (Win greatest) whole next.3 in
+        let short : greatest ≤ MAX_DISTANCE = entry.1 in
+        omega arith
+
+  -- one value follows
+  not_loss_and_wins : HasStatus p Open → (plies : ℕ) → HasSuccessor Has p (Loss plies) → ¬ SuccessorsAreWins Has p
+  not_loss_and_wins goes_on plies has all =
+      let win = all has.0 has.1 has.2 in
+      let never : Loss plies ≡ Win win.0 = one goes_on has.0 has.1 (Loss plies) (Win win.0) has.2 has.3 win.1 in
+      absurd (cc)
+
+  one_from : HasStatus p Open → (v w : Value) → FollowsFromSuccessors Has p v → FollowsFromSuccessors Has p w → v ≡ w
+  one_from goes_on (Win a) (Win b) x y =
+      let up : x.0 ≤ y.0 = x.3 y.0 y.2 in
+      let down : y.0 ≤ x.0 = y.3 x.0 x.2 in
+      let at_a : a ≡ x.0 + 1 = x.1 in
+      let at_b : b ≡ y.0 + 1 = y.1 in
+      let same : a ≡ b = omega arith in
+      ap (λ n. Win n) same
+  one_from goes_on (Win a) (Loss b) x y = absurd (not_loss_and_wins goes_on x.0 x.2 y.4)
+  one_from goes_on (Win a) Draw x y = absurd (y.0 x.0 x.2)
+  one_from goes_on (Loss a) (Win b) x y = absurd (not_loss_and_wins goes_on y.0 y.2 x.4)
+  one_from goes_on (Loss a) (Loss b) x y =
+      let up : y.0 ≤ x.0 = x.3 y.0 y.2 in
+      let down : x.0 ≤ y.0 = y.3 x.0 x.2 in
+      let at_a : a ≡ x.0 + 1 = x.1 in
+      let at_b : b ≡ y.0 + 1 = y.1 in
+      let same : a ≡ b = omega arith in
+      ap (λ n. Loss n) same
+  one_from goes_on (Loss a) Draw x y = absurd (y.1 x.4)
+  one_from goes_on Draw (Win b) x y = absurd (x.0 y.0 y.2)
+  one_from goes_on Draw (Loss b) x y = absurd (x.1 y.4)
+  one_from goes_on Draw Draw x y = refl
+
+  one_at : (s : Status) → HasStatus p s → (v w : Value) → FollowsAt Has p s v → FollowsAt Has p s w → v ≡ w
+  one_at Caught status v w a b = a ∙ sym b
+  one_at Tried status v w a b = a ∙ sym b
+  one_at Stuck status v w a b = a ∙ sym b
+  one_at Open status v w a b = one_from status v w a b
+
+  pub one_follows : (v w : Value) → Follows Has p v → Follows Has p w → v ≡ w
+  one_follows v w a b =
+      let same = one_status p b.0 a.0 b.1 a.1 in
+      one_at a.0 a.1 v w a.2 (subst (λ s. FollowsAt Has p s w) same b.2)
+
+-- ---- what is found of one class
+
+module _ (table : ClassTable) (class : ℕ) (first : Setup) (v : Value) (has : HasEntry table class first v) (found : Value)
+    (follows : Follows (GivenBy table) first found) where
+  pub class_follows : found ≡ v → ClassFollows table class
+  class_follows same other w entry =
+      let same_first = one_of_class table.set first other class has.represents entry.represents has.number entry.number in
+      let same_value = same_Some v w (sym has.entry ∙ entry.entry) in
+      subst (λ q. Follows (GivenBy table) q w) same_first (subst (Follows (GivenBy table) first) (same ∙ same_value) follows)
+
+  pub class_breaks : ¬ (found ≡ v) → ClassBreaks table class
+  class_breaks apart = record {
+    first = first;
+    value = v;
+    has = has;
+    breaks = λ follows_too. apart (one_follows table first has.represents.0 found v follows follows_too);
+  }
+
+-- ---- all classes
+
+pub consistent_of_all : (table : ClassTable) → IsTable table.set table.values →
+    ((class : ℕ) → class < length table.values → ClassFollows table class) → IsConsistent table.set table.values
+consistent_of_all table whole all = record {
+  table = whole;
+  follows = λ first class v represents number entry.
+      let within : class < length table.values = within_of table.values class v entry in
+      all class within first v (record { represents = represents; number = number; entry = entry });
+}
+  where
+    within_of : (xs : List Value) (k : ℕ) (x : Value) → slice_get xs k ≡ Some x → k < length xs
+    within_of xs k x read = elim (slice_get_cases xs k).1 [
+      | inl here ↦ here.1
+      | inr past ↦ let never : None ≡ Some x = sym past.1 ∙ read in absurd (cc)
+    ]
+
+pub consistent_has_no_break : (table : ClassTable) (class : ℕ) → IsConsistent table.set table.values → ¬ ClassBreaks table class
+consistent_has_no_break table class consistent breaks =
+    breaks.breaks (consistent.follows breaks.first class breaks.value breaks.has.represents breaks.has.number breaks.has.entry)

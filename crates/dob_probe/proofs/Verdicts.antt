@@ -1,0 +1,106 @@
+-- The first refusal among the verdicts of all classes.
+use Rattle.std.proofs.Common.{◌≡◌, ℕ, zero, suc, ◌+◌, ◌≤◌, ◌<◌, ◌⊎◌, inl, inr, refl, sym, subst, arith, List, [], ◌∷◌, length, Bool, true, false, Option, Some, None, Result, Ok, Err, IfOk, IfErr}
+use Rattle.std.specs.Prelude.{is_err, slice_get}
+use Rattle.std.specs.Option.{unwrap_or}
+use Rattle.std.specs.List.{AllZip, range_with_len}
+use Rattle.std.proofs.lemmas.Bool.{cases_lt}
+use Rattle.rayon.specs.Lists.{filter_by_mask}
+use Rattle.dob_value.specs.Follows.{ClassTable, IsTable, IsConsistent, IsValueTable}
+use Rattle.dob_value.proofs.Consistency.{consistent_is_right}
+use Rattle.dob_probe.specs.declared.fault.Fault.{Fault}
+use Rattle.dob_probe.specs.declared.fault.Fault.TheVariants.{OtherSet, Inconsistent, Memory}
+use Rattle.dob_probe.specs.Checks.{ClassFollows, ClassBreaks, IsFirstBroken}
+use Rattle.dob_probe.specs.Faults.{IsVerdict, IsFaultOfCheck}
+use Rattle.dob_probe.proofs.Following.{consistent_of_all, consistent_has_no_break}
+
+abbrev pub Verdict : Type 0
+Verdict = Result (Unit {0}) Fault
+
+module _ (table : ClassTable) where
+  -- the refusal of the first class, of so many from one on, that is refused; none where none is
+  abbrev pub IsFirstRefusal : ℕ → ℕ → Option Verdict → Type 0
+  IsFirstRefusal from count None = (class : ℕ) → from ≤ class → class < from + count → ClassFollows table class
+  IsFirstRefusal from count (Some verdict) = (class : ℕ) × (class < from + count) × IsVerdict table class verdict × (is_err verdict ≡ true)
+      × ((other : ℕ) → from ≤ other → other < class → ClassFollows table other)
+
+  passed : (class : ℕ) (verdict : Verdict) → IsVerdict table class verdict → is_err verdict ≡ false → ClassFollows table class
+  passed class (Ok _) is not_err = is
+  passed class (Err fault) is not_err = absurd (cc)
+
+  one_more : (from count : ℕ) (found : Option Verdict) → ClassFollows table from → IsFirstRefusal (from + 1) count found →
+      IsFirstRefusal from (suc count) found
+  one_more from count None here rest = λ class low high. elim (cases_lt from class) [
+    | inl later ↦ rest class (omega arith) (omega arith)
+    | inr upto ↦ let same : from ≡ class = omega arith in subst (ClassFollows table) same here
+  ]
+  one_more from count (Some verdict) here rest =
+      let high : rest.0 < from + 1 + count = rest.1 in (
+        rest.0,
+        omega arith,
+        rest.2,
+        rest.3,
+        λ other low below. elim (cases_lt from other) [
+          | inl later ↦ rest.4 other (omega arith) below
+          | inr upto ↦ let same : from ≡ other = omega arith in subst (ClassFollows table) same here
+        ],
+      )
+
+  pub first_refusal : (from count : ℕ) (verdicts : List Verdict) (answers : List Bool) →
+      AllZip (IsVerdict table) (range_with_len from count) verdicts → AllZip (λ (v : Verdict) (b : Bool). b ≡ is_err v) verdicts answers →
+      IsFirstRefusal from count (slice_get (filter_by_mask verdicts answers) 0)
+  first_refusal from zero [] [] are told = λ class low high. absurd (omega arith)
+  first_refusal from zero [] (b ∷ answers) are told = absurd told
+  first_refusal from zero (v ∷ verdicts) answers are told = absurd are
+  first_refusal from (suc count) [] answers are told = absurd are
+  first_refusal from (suc count) (v ∷ verdicts) [] are told = absurd told
+  first_refusal from (suc count) (v ∷ verdicts) (true ∷ answers) are told =
+      (from, omega arith, are.0, sym told.0, λ other low below. absurd (omega arith))
+  first_refusal from (suc count) (v ∷ verdicts) (false ∷ answers) are told =
+      one_more from count (slice_get (filter_by_mask verdicts answers) 0) (passed from v are.0 (sym told.0))
+      (first_refusal (from + 1) count verdicts answers are.1 told.1)
+
+  module _ (whole : IsTable table.set table.values) where
+    pub none_refused : IsFirstRefusal 0 (length table.values) None → IsConsistent table.set table.values
+    none_refused all = consistent_of_all table whole (λ class within. all class (omega arith) (omega arith))
+
+    -- what a refusal says of the table
+    pub refused : (verdict : Verdict) → IsFirstRefusal 0 (length table.values) (Some verdict) → IfErr verdict (IsFaultOfCheck table)
+    refused (Ok _) first = tt
+    refused (Err OtherSet) first = first.2
+    refused (Err (Inconsistent class)) first =
+        let same : class ≡ first.0 = first.2.0 in record {
+          within = let below : first.0 < 0 + length table.values = first.1 in omega arith;
+          breaks = subst (ClassBreaks table) (sym same) first.2.1;
+          before = λ other below. first.4 other (omega arith) (omega arith);
+        }
+    refused (Err Memory) first = tt
+
+    pub refusal_not_ok : (verdict : Verdict) → is_err verdict ≡ true → IfOk verdict (λ _. IsConsistent table.set table.values)
+    refusal_not_ok (Ok _) is = absurd (cc)
+    refusal_not_ok (Err fault) is = tt
+
+  pub passed_answered : (verdict : Verdict) → IfErr verdict (IsFaultOfCheck table) → IsConsistent table.set table.values →
+      (verdict ≡ Ok tt) ⊎ (verdict ≡ Err Memory)
+  passed_answered (Ok _) fault consistent = inl refl
+  passed_answered (Err OtherSet) fault consistent = absurd fault
+  passed_answered (Err (Inconsistent class)) fault consistent = absurd (consistent_has_no_break table class consistent fault.breaks)
+  passed_answered (Err Memory) fault consistent = inr refl
+
+  -- what is answered
+  pub consistent_answered : IsTable table.set table.values → (found : Option Verdict) (result : Verdict) → result ≡ unwrap_or found (Ok tt) →
+      IsFirstRefusal 0 (length table.values) found → IfOk result (λ _. IsConsistent table.set table.values)
+  consistent_answered whole None result is first =
+      subst (λ (v : Verdict). IfOk v (λ _. IsConsistent table.set table.values)) (sym is) (none_refused whole first)
+  consistent_answered whole (Some verdict) result is first =
+      subst (λ (v : Verdict). IfOk v (λ _. IsConsistent table.set table.values)) (sym is) (refusal_not_ok whole verdict first.3)
+
+  pub fault_answered : IsTable table.set table.values → (found : Option Verdict) (result : Verdict) → result ≡ unwrap_or found (Ok tt) →
+      IsFirstRefusal 0 (length table.values) found → IfErr result (IsFaultOfCheck table)
+  fault_answered whole None result is first = subst (λ (v : Verdict). IfErr v (IsFaultOfCheck table)) (sym is) tt
+  fault_answered whole (Some verdict) result is first =
+      subst (λ (v : Verdict). IfErr v (IsFaultOfCheck table)) (sym is) (refused whole verdict first)
+
+  pub right_answered : (verdict : Verdict) → IfOk verdict (λ _. IsConsistent table.set table.values) →
+      IfOk verdict (λ _. IsValueTable table.set table.values)
+  right_answered (Ok _) consistent = consistent_is_right table.set table.values consistent
+  right_answered (Err fault) consistent = tt

@@ -1,0 +1,60 @@
+-- The verdicts of the classes in order, and the first refusal among them.
+use Rattle.std.proofs.Common.{◌≡◌, ℕ, ◌-◌, ◌<◌, length, ap, sym, subst, ◌∙◌, arith, Bool, List}
+use Rattle.std.specs.Prelude.{is_err}
+use Rattle.std.specs.Borrow.{Bor}
+use Rattle.std.specs.List.{AllZip, range_with_len}
+use Rattle.rayon.specs.Numbers.{nat_range}
+use Rattle.rayon.proofs.ListFacts.{AllZip-weaken}
+use Rattle.rayon.proofs.ToStd.{nat_range-All}
+use Rattle.dob_pieces.specs.declared.piece_set.PieceSet.{PieceSet}
+use Rattle.dob_rank.specs.Marks.{classes_of}
+use Rattle.dob_probe.specs.Faults.{IsVerdict}
+use Rattle.dob_probe.proofs.Verdicts.{Verdict, IsFirstRefusal, first_refusal, consistent_answered, fault_answered, right_answered, passed_answered}
+use Rattle.dob_probe.proofs.checks.check.Goals as goal
+
+pub find_first-refused-requires-clause-items : goal.find_first-refused-requires-clause-items
+find_first-refused-requires-clause-items g c = λ κs lives.
+    let ends = c.into_par_iter.ensures in
+    let values = c.args.table.now.values in
+    let count : c.class_count.result ≡ length values =
+    c.class_count.ensures.number ∙ ap (λ (set : PieceSet). classes_of set) c.classes.ensures.set ∙ c.classes.ensures.count in
+    let inside = nat_range-All (λ i. i < length values) 0 c.class_count.result (λ i low high. omega (arith, high, count)) in
+    rw (c.map.ensures.base, c.map.ensures.f, ends.0, ends.1) (λ k d lt. (inside k d lt, λ y p q e. tt))
+
+-- what was found
+found_is : (g : _) (c : goal.After-unwrap_or g) → IsFirstRefusal c.args.table.now 0 (length c.args.table.now.values) c.find_first-refused.result
+found_is g c =
+    let table = c.args.table.now in
+    let done = c.find_first-refused.ensures in
+    let ends = c.into_par_iter.ensures in
+    let count : c.class_count.result ≡ length table.values =
+    c.class_count.ensures.number ∙ ap (λ (set : PieceSet). classes_of set) c.classes.ensures.set ∙ c.classes.ensures.count in
+    let whole : c.class_count.result - 0 ≡ length table.values = omega arith in
+    let chain = rw (c.map.ensures.base, c.map.ensures.f) at done.2 in
+    let places = chain.1 ∙ (λ i. nat_range (ends.0 i) (ends.1 i)) ∙ ap (range_with_len 0) whole in
+    let verdicts : AllZip (IsVerdict table) (range_with_len 0 (length table.values)) done.0 =
+    subst (λ (classes : List ℕ). AllZip (IsVerdict table) classes done.0) places chain.2 in
+    let told : AllZip (λ (v : Verdict) (b : Bool). b ≡ is_err v) done.0 done.1 =
+    AllZip-weaken (λ (v : Verdict) (b : Bool). (p : Bor Verdict) × (p.now ≡ v) × (b ≡ is_err p.now)) (λ (v : Verdict) (b : Bool). b ≡ is_err v)
+    (λ v b h. h.2 ∙ ap is_err h.1) done.0 done.1 done.3 in
+    subst (IsFirstRefusal table 0 (length table.values)) (sym done.4)
+    (first_refusal table 0 (length table.values) done.0 done.1 verdicts told)
+
+pub returns-clause-consistent : goal.returns-clause-consistent
+returns-clause-consistent g c =
+    consistent_answered c.args.table.now c.classes.ensures.table c.find_first-refused.result c.unwrap_or.result c.unwrap_or.ensures (found_is g c)
+
+pub returns-clause-right : goal.returns-clause-right
+returns-clause-right g c =
+    right_answered c.args.table.now c.unwrap_or.result
+    (consistent_answered c.args.table.now c.classes.ensures.table c.find_first-refused.result c.unwrap_or.result c.unwrap_or.ensures (found_is g c))
+
+pub returns-clause-fault : goal.returns-clause-fault
+returns-clause-fault g c =
+    fault_answered c.args.table.now c.classes.ensures.table c.find_first-refused.result c.unwrap_or.result c.unwrap_or.ensures (found_is g c)
+
+pub returns-clause-passed : goal.returns-clause-passed
+returns-clause-passed g c = λ consistent.
+    passed_answered c.args.table.now c.unwrap_or.result
+    (fault_answered c.args.table.now c.classes.ensures.table c.find_first-refused.result c.unwrap_or.result c.unwrap_or.ensures (found_is g c))
+    consistent

@@ -1,0 +1,31 @@
+use Rattle.std.proofs.Common.{◌≡◌, rules, refl, subst}
+use Rattle.dob_pieces.specs.declared.piece_set.PieceSet.{PieceSet}
+use Rattle.dob_rank.specs.Order.{IsRepresentative, HasClass}
+use Rattle.dob_probe.specs.Checks.{HasEntry}
+use Rattle.dob_probe.proofs.Following.{class_follows, class_breaks}
+use Rattle.dob_probe.proofs.checks.check_class.Goals as goal
+use Rattle.dob_probe.proofs.checks.check_class.Goals.{After-value}
+
+-- the class's representative and its entry
+entry_is : (c : After-value) → HasEntry c.args.table.now c.args.class c.class_at-position.result.setup c.value.result
+entry_is c =
+    let first = c.class_at-position.result.setup in
+    let class = c.args.class in record {
+      represents = subst (λ (set : PieceSet). IsRepresentative set first) c.classes.ensures.set c.class_at-position.ensures.representative;
+      number = subst (λ (set : PieceSet). HasClass set first class) c.classes.ensures.set c.class_at-position.ensures.class;
+      entry = c.value.ensures;
+    }
+
+pub returns-then-eq : goal.returns-then-eq
+returns-then-eq c =
+    let same : c.in_ok-value_that_follows.field-0 ≡ c.value.result = search rules in
+    class_follows c.args.table.now c.args.class c.class_at-position.result.setup c.value.result
+    (entry_is (goal.at.returns-then-eq c).After-value) c.in_ok-value_that_follows.field-0 c.in_ok-value_that_follows.ensures same
+
+pub returns-else-eq : goal.returns-else-eq
+returns-else-eq c =
+    let apart : ¬ (c.in_ok-value_that_follows.field-0 ≡ c.value.result) = search rules in (
+      refl,
+      class_breaks c.args.table.now c.args.class c.class_at-position.result.setup c.value.result
+          (entry_is (goal.at.returns-else-eq c).After-value) c.in_ok-value_that_follows.field-0 c.in_ok-value_that_follows.ensures apart,
+    )

@@ -1,0 +1,5 @@
+use Rattle.dob_probe.proofs.Ways.{lines_dont_break}
+use Rattle.dob_probe.proofs.laws.lines_dont_break.Goals as goal
+
+pub returns : goal.returns
+returns c = lines_dont_break

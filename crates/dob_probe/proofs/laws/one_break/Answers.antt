@@ -1,0 +1,5 @@
+use Rattle.dob_probe.proofs.Ways.{one_break}
+use Rattle.dob_probe.proofs.laws.one_break.Goals as goal
+
+pub returns : goal.returns
+returns c = one_break

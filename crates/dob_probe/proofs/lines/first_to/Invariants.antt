@@ -1,0 +1,6 @@
+use Rattle.dob_probe.specs.Lines.{GivenBy}
+use Rattle.dob_probe.proofs.Ways.{NoneBelow}
+use Rattle.dob_probe.proofs.lines.first_to.Given as goal
+
+abbrev pub invariant-loop-choice : goal.invariant-loop-choice
+invariant-loop-choice l = NoneBelow (GivenBy l.table) l.position.setup l.wanted l.choice-items l.choice-index

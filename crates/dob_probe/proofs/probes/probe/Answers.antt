@@ -1,0 +1,20 @@
+use Rattle.std.proofs.Common.{refl, subst}
+use Rattle.dob_pieces.specs.declared.piece_set.PieceSet.{PieceSet}
+use Rattle.dob_rank.specs.Order.{IsPositionOf}
+use Rattle.dob_value.proofs.Consistency.{consistent_is_right}
+use Rattle.dob_probe.proofs.Entries.{given_is_entry}
+use Rattle.dob_probe.proofs.probes.probe.Goals as goal
+
+pub value_of-requires : goal.value_of-requires
+value_of-requires c =
+    subst (λ (set : PieceSet). IsPositionOf set c.args.position.now.setup) c.set.ensures.set (c.if-not-is_of_set.ensures.0 refl)
+
+pub returns-clause-right : goal.returns-clause-right
+returns-clause-right c = λ consistent.
+    let table = c.args.table.now in
+    let is = subst (λ (set : PieceSet). IsPositionOf set c.args.position.now.setup) c.set.ensures.set (c.if-not-is_of_set.ensures.0 refl) in
+    (consistent_is_right table.set table.values consistent).values_are c.args.position.now.setup c.value_of.result is c.value_of.ensures
+
+pub returns-clause-entry : goal.returns-clause-entry
+returns-clause-entry c =
+    given_is_entry c.args.table.now c.args.position.now.setup c.value_of.result c.set.ensures.table c.value_of.ensures

@@ -1,0 +1,11 @@
+use Rattle.std.proofs.Common.{List}
+use Rattle.dob_value.specs.declared.value.Value.{Value}
+use Rattle.dob_value.proofs.Successors.{AreSuccessorsBelow}
+use Rattle.dob_probe.specs.Lines.{GivenBy}
+use Rattle.dob_probe.specs.Sums.{AreSummed}
+use Rattle.dob_probe.proofs.successors.successors_of.Given as goal
+
+abbrev pub invariant-loop-choice : goal.invariant-loop-choice
+invariant-loop-choice l =
+    (values : List Value) × AreSuccessorsBelow (λ (v : Value) q. GivenBy l.table q v) l.position.setup l.choice-items l.choice-index values
+    × AreSummed values l.kept

@@ -1,0 +1,30 @@
+-- Of which classes of a table the value follows, and which is the first whose value doesn't.
+use Rattle.std.specs.Prelude.{◌≡◌, ℕ, ◌<◌, length, Some, slice_get}
+use Rattle.dob_pieces.specs.declared.setup.Setup.{Setup}
+use Rattle.dob_rank.specs.Order.{IsRepresentative, HasClass}
+use Rattle.dob_value.specs.declared.value.Value.{Value}
+use Rattle.dob_value.specs.Follows.{ClassTable, Follows}
+use Rattle.dob_probe.specs.Lines.{GivenBy}
+
+-- the setup represents the class of that number, and this is the class's entry
+pub record HasEntry (table : ClassTable) (class : ℕ) (first : Setup) (v : Value) : Type 0 where
+  pub represents : IsRepresentative table.set first
+  pub number : HasClass table.set first class
+  pub entry : slice_get table.values class ≡ Some v
+
+-- the class's entry follows from its status and its successors' values
+abbrev pub ClassFollows : ClassTable → ℕ → Type 0
+ClassFollows table class = (first : Setup) (v : Value) → HasEntry table class first v → Follows (GivenBy table) first v
+
+-- it doesn't
+pub record ClassBreaks (table : ClassTable) (class : ℕ) : Type 0 where
+  pub first : Setup
+  pub value : Value
+  pub has : HasEntry table class first value
+  pub breaks : ¬ Follows (GivenBy table) first value
+
+-- the least class whose entry doesn't follow
+pub record IsFirstBroken (table : ClassTable) (class : ℕ) : Type 0 where
+  pub within : class < length table.values
+  pub breaks : ClassBreaks table class
+  pub before : (other : ℕ) → other < class → ClassFollows table other

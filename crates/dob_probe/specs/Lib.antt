@@ -1,0 +1,5 @@
+pub mod Lines
+pub mod Checks
+pub mod Sums
+pub mod Faults
+pub mod Laws

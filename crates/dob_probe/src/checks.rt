@@ -1,0 +1,53 @@
+// Whether a table is consistent: each class's value follows from its status and its successors' values.
+ghost use Rattle.std.specs.Prelude.{◌≡◌, ◌⊎◌, ◌<◌, length, IfOk, IfErr, is_err};
+ghost use Rattle.dob_value.specs.Follows.{IsConsistent, IsValueTable};
+ghost use Rattle.dob_probe.specs.Faults.{IsFaultOfCheck, IsVerdict};
+
+use crate::fault::Fault;
+use crate::successors::value_that_follows;
+use dob_value::Table;
+use rayon::prelude::*;
+use std::alloc::Global;
+use std::thread::Threads;
+
+/// Passes the table just where each class's value follows from its status and its successors' values, so only where it
+/// is the value table. The classes are looked at by themselves, in as many threads as there are processors.
+///
+/// Errors: `Inconsistent` with the least class whose value doesn't follow; `Memory`.
+pub fn check(rt: &(impl Threads + Sync), alloc: Global, table: &Table) -> Result<(), Fault>
+    ensures consistent { IfOk result (λ _. IsConsistent table.now.set table.now.values) }
+    ensures right { IfOk result (λ _. IsValueTable table.now.set table.now.values) }
+    ensures fault { IfErr result (IsFaultOfCheck table.now) }
+    ensures passed { IsConsistent table.now.set table.now.values → (result ≡ Ok tt) ⊎ (result ≡ Err Fault.Memory) }
+{
+    let refused = (0..table.classes().class_count())
+        .into_par_iter()
+        .map(
+            |class: u64| -> Result<(), Fault>
+                requires { class < length table.now.values }
+                ensures { IsVerdict table.entry.now class result }
+            { check_class(alloc, table, class) },
+        )
+        .find_first(
+            rt,
+            |verdict: &Result<(), Fault>| -> bool
+                ensures { result ≡ is_err verdict.now }
+            { verdict.is_err() },
+        );
+    refused.unwrap_or(Ok(()))
+}
+
+// Whether the class's value follows.
+//
+// Errors: `Inconsistent` with the class where it doesn't; `Memory`.
+fn check_class(alloc: Global, table: &Table, class: u64) -> Result<(), Fault>
+    requires { class < length table.now.values }
+    ensures { IsVerdict table.now class result }
+{
+    let position = table.classes().class_at(class);
+    if value_that_follows(alloc, table, &position)? == table.value(class) {
+        Ok(())
+    } else {
+        Err(Fault::Inconsistent(class))
+    }
+}

@@ -1,0 +1,18 @@
+// Answers from a table of values: the value of a position, its line, and whether the table is consistent, and so the
+// value table, whoever made it.
+#![tactic(auto)]
+
+mod checks;
+mod fault;
+pub mod laws;
+mod lines;
+mod probes;
+mod successors;
+
+pub use checks::check;
+pub use fault::{Fault, OtherSet};
+pub use lines::line;
+pub use probes::probe;
+
+#[cfg(test)]
+mod tests;

@@ -1,0 +1,137 @@
+// What decides the value of a class: its successors' values, of which only the least loss, the greatest win and whether
+// there is a draw are kept.
+ghost use Rattle.std.specs.Prelude.{◌≡◌, ◌++◌, List, [], ◌∷◌, IfOk};
+ghost use Rattle.dob_pieces.specs.declared.setup.Setup.{Setup};
+ghost use Rattle.dob_moves.specs.Moves.{Goes, CanGo};
+ghost use Rattle.dob_moves.specs.Statuses.{HasStatus};
+ghost use Rattle.dob_moves.specs.declared.outlook.Status.{Status};
+ghost use Rattle.dob_rank.specs.Order.{IsPositionOf};
+ghost use Rattle.dob_value.specs.declared.value.Value.{Value as Valued};
+ghost use Rattle.dob_value.specs.Graphs.{AreSuccessors};
+ghost use Rattle.dob_value.specs.Follows.{Follows, IsTable};
+ghost use Rattle.dob_probe.specs.Lines.{GivenBy};
+ghost use Rattle.dob_probe.specs.Sums.{AreSummed, HasNext, greater_of, lesser_of, value_after};
+
+use dob_moves::{Move, Status, apply, moves, status};
+use dob_pieces::{Memory, Position};
+use dob_value::{Table, Value};
+use std::alloc::Global;
+
+/// What is kept of the successors' values.
+#[derive(Clone, Copy, Debug)]
+pub(crate) struct Successors {
+    pub(crate) least_loss: Option<u16>,
+    pub(crate) greatest_win: Option<u16>,
+    pub(crate) has_draw: bool,
+}
+
+impl Successors {
+    // Of no values.
+    fn none() -> Successors
+        ensures { AreSummed [] result }
+    {
+        Successors {
+            least_loss: None,
+            greatest_win: None,
+            has_draw: false,
+        }
+    }
+
+    // Of one value more.
+    fn with(self, value: Value) -> Successors
+        ensures { (values : List Valued) → AreSummed values self → AreSummed (values ++ value ∷ []) result }
+    {
+        match value {
+            Value::Win(plies) => Successors {
+                greatest_win: Some(greater(self.greatest_win, plies)),
+                ..self
+            },
+            Value::Loss(plies) => Successors {
+                least_loss: Some(lesser(self.least_loss, plies)),
+                ..self
+            },
+            Value::Draw => Successors {
+                has_draw: true,
+                ..self
+            },
+        }
+    }
+
+    // The value that follows from them: a win in one ply more than the least loss; where there is none, a draw if there
+    // is a draw, and else a loss in one ply more than the greatest win.
+    fn value(self) -> Value
+        requires least { HasNext self.least_loss }
+        requires greatest { HasNext self.greatest_win }
+        ensures { result ≡ value_after self.least_loss self.greatest_win self.has_draw }
+    {
+        match (self.least_loss, self.greatest_win) {
+            (Some(least), _) => Value::Win(least + 1),
+            (None, Some(greatest)) if !self.has_draw => Value::Loss(greatest + 1),
+            _ => Value::Draw,
+        }
+    }
+}
+
+// The lesser of a distance that may be there and another.
+fn lesser(least: Option<u16>, plies: u16) -> u16
+    ensures { result ≡ lesser_of least plies }
+{
+    match least {
+        Some(least) => least.min(plies),
+        None => plies,
+    }
+}
+
+// The greater of a distance that may be there and another.
+fn greater(greatest: Option<u16>, plies: u16) -> u16
+    ensures { result ≡ greater_of greatest plies }
+{
+    match greatest {
+        Some(greatest) => greatest.max(plies),
+        None => plies,
+    }
+}
+
+/// The value that follows from the position's status and from those that the table gives its successors.
+///
+/// Error: `Memory`.
+pub(crate) fn value_that_follows(
+    alloc: Global,
+    table: &Table,
+    position: &Position,
+) -> Result<Value, Memory>
+    requires whole { IsTable table.now.set table.now.values }
+    requires member { IsPositionOf table.now.set position.now.setup }
+    ensures { IfOk result (λ value. Follows (GivenBy table.now) position.now.setup value) }
+{
+    match status(position) {
+        Status::Caught => Ok(Value::Win(1)),
+        Status::Tried | Status::Stuck => Ok(Value::Loss(0)),
+        Status::Open => Ok(successors_of(alloc, table, position)?.value()),
+    }
+}
+
+// The values of the positions to which the moves lead.
+fn successors_of(alloc: Global, table: &Table, position: &Position) -> Result<Successors, Memory>
+    requires { IsPositionOf table.now.set position.now.setup }
+    ensures { IfOk result (λ kept. (values : List Valued) × AreSuccessors (λ v q. GivenBy table.now q v) position.now.setup values
+        × AreSummed values kept) }
+{
+    let mut kept = Successors::none();
+    let choices = moves(alloc, position)?;
+    for choice in &choices {
+        let value = value_to(table, position, *choice);
+        kept = kept.with(value);
+    }
+    Ok(kept)
+}
+
+// The value of the position to which the move leads.
+fn value_to(table: &Table, position: &Position, choice: Move) -> Value
+    requires member { IsPositionOf table.now.set position.now.setup }
+    requires open { HasStatus position.now.setup Status.Open }
+    requires can_go { CanGo position.now.setup choice }
+    ensures { (q : Setup) → Goes position.now.setup choice q → GivenBy table.now q result }
+{
+    table.value_of(&apply(position, choice))
+}

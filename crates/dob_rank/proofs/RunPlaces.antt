@@ -1,0 +1,382 @@
+-- A place in a block is a run and a place in that run, and the lions of a run compare its positions with their mirror
+-- images.
+use Rattle.std.proofs.Common.{◌≡◌, ℕ, zero, suc, ◌+◌, ◌-◌, ◌*◌, ◌/◌, ◌%◌, ◌<◌, ◌≤◌, Bool, true, false, cond, eqb, List, [], ◌∷◌, ◌++◌, length, get_or, take, drop, map, refl, sym, ap, ◌∙◌, subst, inl, inr, arith}
+use Rattle.std.specs.List.{All}
+use Rattle.std.proofs.lemmas.Bool.{cases_Bool, cases_lt}
+use Rattle.std.proofs.lemmas.List.{length-map}
+use Rattle.std.proofs.lemmas.Nat.{div-mul-add}
+use Rattle.std.proofs.Math.Nat.{mul_assoc, add-mul, mul-pos, mul-le-mul}
+use Rattle.dob_pieces.specs.declared.piece_set.PieceSet.{PieceSet}
+use Rattle.dob_pieces.specs.declared.setup.Setup.{Setup}
+use Rattle.dob_pieces.specs.Setups.{mirrored}
+use Rattle.dob_rank.specs.declared.runs.RunKind.TheVariants.{First, Later, Mixed}
+use Rattle.dob_rank.specs.Order.{IsPositionOf}
+use Rattle.dob_rank.specs.Numbers.{layer, count, choice, forms_number, product, number_of, digits_of, HasDigits, sum_below, block_bases, bases_by, on_board, digits, block_of, block_size, size_of, rank_of, setup_in, nth}
+use Rattle.dob_rank.specs.Marks.{is_first, marked}
+use Rattle.dob_rank.specs.Runs.{run_bases, local_bases, runs_in, run_size, run_start, lions_of, run_kind}
+use Rattle.dob_rank.proofs.Blocks.{AreBases-by, few_in_block, block_size-small}
+use Rattle.dob_rank.proofs.MixedRadix.{digit_below, number_of-below}
+use Rattle.dob_rank.proofs.Digits.{HasParts, HasParts-from_position, HasDigits-digits}
+use Rattle.dob_rank.proofs.Numbering.{place_of, rank_of-place, block_size-product, on_board-block, HasBlock, HasBlock-setup_in, IsPlace, rank_of-block, rank_of-below, nth-rank_of}
+use Rattle.dob_rank.proofs.Found.{IsPositionOf-mirrored}
+use Rattle.dob_rank.proofs.Marks.{first-marked, marked-first, marked-first_of}
+use Rattle.dob_rank.proofs.Representatives.{first_by_rank, rank_of_first}
+use Rattle.dob_rank.proofs.Lions.{mirror_layers, layers-mirrored, image_lions, lions_of-mirrored, lions_of-below, first_lions, later_lions, mixed_lions}
+
+-- ---- mixed radix in two parts
+
+product-append : (bs cs : List ℕ) → product (bs ++ cs) ≡ product bs * product cs
+product-append [] cs = omega arith
+product-append (b ∷ bs) cs = ap (λ n. b * n) (product-append bs cs) ∙ sym (mul_assoc b (product bs) (product cs))
+
+number_of-append : (bs cs xs ys : List ℕ) → length bs ≡ length xs →
+    number_of (bs ++ cs) (xs ++ ys) ≡ number_of bs xs * product cs + number_of cs ys
+number_of-append [] cs [] ys e = omega arith
+number_of-append [] cs (x ∷ xs) ys e = absurd (omega arith)
+number_of-append (b ∷ bs) cs [] ys e = absurd (omega arith)
+number_of-append (b ∷ bs) cs (x ∷ xs) ys e =
+    let rest : number_of (bs ++ cs) (xs ++ ys) ≡ number_of bs xs * product cs + number_of cs ys =
+    number_of-append bs cs xs ys (omega arith) in
+    let front : x * product (bs ++ cs) ≡ x * product bs * product cs =
+    ap (λ n. x * n) (product-append bs cs) ∙ sym (mul_assoc x (product bs) (product cs)) in
+    let sum : (x * product bs + number_of bs xs) * product cs ≡ x * product bs * product cs + number_of bs xs * product cs =
+    add-mul (x * product bs) (number_of bs xs) (product cs) in
+    omega (arith, rest, front, sum)
+
+-- ---- a position's run, and its place there
+
+abbrev hand_bases : PieceSet → List ℕ → List ℕ
+hand_bases set ob = (set.chicks - get_or ob 0 0 + 1) ∷ (set.elephants - get_or ob 1 0 + 1) ∷ (set.giraffes - get_or ob 2 0 + 1) ∷ []
+
+abbrev hand_digits : Setup → List ℕ
+hand_digits s = s.hands.mover.chicks ∷ s.hands.mover.elephants ∷ s.hands.mover.giraffes ∷ []
+
+abbrev lions_digits : Setup → List ℕ
+lions_digits s = choice 0 (map layer s.board) ∷ choice 1 (map layer s.board) ∷ []
+
+abbrev local_digits : Setup → List ℕ
+local_digits s =
+    choice 2 (map layer s.board) ∷ choice 3 (map layer s.board) ∷ choice 4 (map layer s.board)
+    ∷ forms_number 2 s.board ∷ forms_number 3 s.board ∷ forms_number 4 s.board ∷ []
+
+-- the numbers of the hands, of the run and of the place in it
+hand_of : PieceSet → Setup → ℕ
+hand_of set s = number_of (hand_bases set (on_board s)) (hand_digits s)
+
+pub run_of : PieceSet → Setup → ℕ
+run_of set s = number_of (run_bases set (on_board s)) (hand_digits s ++ lions_digits s)
+
+pub local_of : Setup → ℕ
+local_of s = number_of (local_bases (on_board s)) (local_digits s)
+
+pub local_size : Setup → ℕ
+local_size s = product (local_bases (on_board s))
+
+pub place_of-run : (set : PieceSet) (s : Setup) → place_of set s ≡ run_of set s * local_size s + local_of s
+unfolding run_of local_of local_size
+place_of-run set s =
+    number_of-append (run_bases set (on_board s)) (local_bases (on_board s)) (hand_digits s ++ lions_digits s) (local_digits s) refl
+
+run_of-lions : (set : PieceSet) (s : Setup) → run_of set s ≡ hand_of set s * 99 + lions_of s
+unfolding run_of hand_of
+run_of-lions set s =
+    let split : number_of (run_bases set (on_board s)) (hand_digits s ++ lions_digits s)
+    ≡ number_of (hand_bases set (on_board s)) (hand_digits s) * 99 + number_of (9 ∷ 11 ∷ []) (lions_digits s) =
+    number_of-append (hand_bases set (on_board s)) (9 ∷ 11 ∷ []) (hand_digits s) (lions_digits s) refl in
+    omega (arith, split)
+
+local_of-below : (set : PieceSet) (s : Setup) → IsPositionOf set s → local_of s < local_size s
+unfolding local_of local_size
+local_of-below set s p =
+    number_of-below (local_bases (on_board s)) (local_digits s) (HasDigits-digits set s (HasParts-from_position set s p)).1.1.1.1.1
+
+-- ---- the mirror image
+
+count-mirror : (t : ℕ) (ls : List ℕ) → length ls ≡ 12 → count t (mirror_layers ls) ≡ count t ls
+count-mirror t (a ∷ b ∷ c ∷ d ∷ e ∷ i ∷ j ∷ k ∷ l ∷ m ∷ n ∷ o ∷ []) eq = omega arith
+count-mirror t ls eq = absurd (omega arith)
+
+three : (a b c d e f : ℕ) → a ≡ d → b ≡ e → c ≡ f → a ∷ b ∷ c ∷ [] ≡ d ∷ e ∷ f ∷ []
+three a b c d e f p q r = cc
+
+on_board-mirrored : (s : Setup) → length s.board ≡ 12 → on_board (mirrored s) ≡ on_board s
+on_board-mirrored s eq =
+    let twelve : length (map layer s.board) ≡ 12 = length-map s.board layer ∙ eq in
+    let same : (t : ℕ) → count t (map layer (mirrored s).board) ≡ count t (map layer s.board) =
+    λ t. ap (count t) (layers-mirrored s eq) ∙ count-mirror t (map layer s.board) twelve in
+    three _ _ _ _ _ _ (same 2) (same 3) (same 4)
+
+hand_of-mirrored : (set : PieceSet) (s : Setup) → length s.board ≡ 12 → hand_of set (mirrored s) ≡ hand_of set s
+unfolding hand_of mirrored
+hand_of-mirrored set s eq = ap (λ xs. number_of (hand_bases set xs) (hand_digits s)) (on_board-mirrored s eq)
+
+local_size-mirrored : (s : Setup) → length s.board ≡ 12 → local_size (mirrored s) ≡ local_size s
+unfolding local_size
+local_size-mirrored s eq = ap (λ xs. product (local_bases xs)) (on_board-mirrored s eq)
+
+pub block_of-mirrored : (set : PieceSet) (s : Setup) → IsPositionOf set s → block_of set (mirrored s) ≡ block_of set s
+block_of-mirrored set s p = ap (number_of (block_bases set)) (on_board-mirrored s p.legal.squares)
+
+-- runs with the same hands stand in the order of their lions
+runs_apart : (hand low high size local other : ℕ) → low < high → local < size →
+    (hand * 99 + low) * size + local < (hand * 99 + high) * size + other
+runs_apart hand low high size local other less below =
+    let step : (hand * 99 + low) * size + local < (hand * 99 + high) * size =
+    digit_below (hand * 99 + low) (hand * 99 + high) size local (omega arith) below in
+    omega (arith, step)
+
+place-parts : (set : PieceSet) (s : Setup) (size lions : ℕ) → local_size s ≡ size → lions_of s ≡ lions →
+    place_of set s ≡ (hand_of set s * 99 + lions) * size + local_of s
+place-parts set s size lions same is =
+    place_of-run set s ∙ ap (λ n. run_of set s * n + local_of s) same
+    ∙ ap (λ n. n * size + local_of s) (run_of-lions set s ∙ ap (λ n. hand_of set s * 99 + n) is)
+
+image-parts : (set : PieceSet) (s : Setup) → IsPositionOf set s →
+    place_of set (mirrored s) ≡ (hand_of set s * 99 + image_lions (lions_of s)) * local_size s + local_of (mirrored s)
+image-parts set s p =
+    place-parts set (mirrored s) (local_size s) (image_lions (lions_of s)) (local_size-mirrored s p.legal.squares) (lions_of-mirrored set s p)
+    ∙ ap (λ n. (n * 99 + image_lions (lions_of s)) * local_size s + local_of (mirrored s)) (hand_of-mirrored set s p.legal.squares)
+
+-- the earlier place of a position and its mirror image has the lower rank
+rank_by_place : (set : PieceSet) (s : Setup) → IsPositionOf set s →
+    rank_of set (mirrored s) ≡ sum_below (block_size set) (block_of set s) + place_of set (mirrored s)
+rank_by_place set s p =
+    rank_of-place set (mirrored s) ∙ ap (λ b. sum_below (block_size set) b + place_of set (mirrored s)) (block_of-mirrored set s p)
+
+pub first_by_place : (set : PieceSet) (s : Setup) → IsPositionOf set s → place_of set s ≤ place_of set (mirrored s) →
+    is_first set (rank_of set s) ≡ true
+first_by_place set s p le =
+    let own = rank_of-place set s in
+    let image = rank_by_place set s p in
+    first-marked set s p (first_by_rank set s p (omega (arith, own, image)))
+
+pub later_by_place : (set : PieceSet) (s : Setup) → IsPositionOf set s → place_of set (mirrored s) < place_of set s →
+    is_first set (rank_of set s) ≡ false
+later_by_place set s p lt = elim (cases_Bool (is_first set (rank_of set s))) [
+  | inl on ↦
+      let own = rank_of-place set s in
+      let image = rank_by_place set s p in
+      let first = rank_of_first set s p (marked-first set s p on) in
+      absurd (omega (arith, own, image, first))
+  | inr off ↦ off
+]
+
+-- ---- the marks of a run
+
+-- a run of a block, and a place in it
+pub record IsInRun (set : PieceSet) (block run local : ℕ) : Type 0 where
+  pub block_below : block < product (block_bases set)
+  pub run_below : run < runs_in set block
+  pub local_below : local < run_size set block
+
+-- the position that stands there
+pub record StandsIn (set : PieceSet) (block run local : ℕ) (s : Setup) : Type 0 where
+  pub position : IsPositionOf set s
+  pub rank_is : rank_of set s ≡ run_start set block run + local
+  pub lions_are : lions_of s ≡ run % 99
+
+pub block_size-runs : (set : PieceSet) (block : ℕ) → block_size set block ≡ runs_in set block * run_size set block
+unfolding runs_in run_size
+block_size-runs set block =
+    let ob = digits_of (block_bases set) block in
+    block_size-product set block ∙ product-append (run_bases set ob) (local_bases ob)
+
+local_size-block : (set : PieceSet) (block : ℕ) (s : Setup) → IsPositionOf set s → block_of set s ≡ block → local_size s ≡ run_size set block
+unfolding local_size run_size
+local_size-block set block s p is =
+    ap (λ xs. product (local_bases xs)) (sym (on_board-block set s p) ∙ ap (digits_of (block_bases set)) is)
+
+same_quotient : (a b n x y : ℕ) → a * n + x ≡ b * n + y → x < n → y < n → a ≡ b
+same_quotient a b n x y e p q = sym (div-mul-add a n x p) ∙ ap (λ m. m / n) e ∙ div-mul-add b n y q
+
+pub place_in_run : (set : PieceSet) (block run local : ℕ) → IsInRun set block run local →
+    run * run_size set block + local < block_size set block
+place_in_run set block run local h =
+    let sizes = block_size-runs set block in
+    let below = digit_below run (runs_in set block) (run_size set block) local h.run_below h.local_below in
+    omega (arith, sizes, below)
+
+pub run_start-is : (set : PieceSet) (block run : ℕ) → run_start set block run ≡ sum_below (block_size set) block + run * run_size set block
+unfolding run_start
+run_start-is set block run = refl
+
+pub stands_in : (set : PieceSet) (block run local : ℕ) → IsInRun set block run local → (s : Setup) × StandsIn set block run local s
+stands_in set block run local h =
+    let place = run * run_size set block + local in
+    let s = setup_in set block place in
+    let there : HasBlock set block place s =
+    HasBlock-setup_in set block place (record { block_below = h.block_below; place_below = place_in_run set block run local h }) in
+    let size : local_size s ≡ run_size set block = local_size-block set block s there.position there.block_is in
+    let parts : run_of set s * run_size set block + local_of s ≡ run * run_size set block + local =
+    ap (λ n. run_of set s * n + local_of s) (sym size) ∙ sym (place_of-run set s) ∙ there.place_is in
+    let low : local_of s < run_size set block = subst (λ n. local_of s < n) size (local_of-below set s there.position) in
+    let run_is : run_of set s ≡ run = same_quotient (run_of set s) run (run_size set block) (local_of s) local parts low h.local_below in
+    let lions : lions_of s < 99 = lions_of-below set s there.position in
+    let whole : run_of set s ≡ hand_of set s * 99 + lions_of s = run_of-lions set s in (
+      s,
+      record {
+        position = there.position;
+        rank_is = rank_of-block set block place s there ∙ from_start (sum_below (block_size set) block) (run * run_size set block) local
+            ∙ ap (λ n. n + local) (sym (run_start-is set block run));
+        lions_are = remainder (hand_of set s) (lions_of s) (run_of set s) run run_is whole lions;
+      },
+    )
+  where
+    from_start : (start run local : ℕ) → start + (run + local) ≡ start + run + local
+    from_start start run local = omega arith
+
+    remainder : (hand lions is run : ℕ) → is ≡ run → is ≡ hand * 99 + lions → lions < 99 → lions ≡ run % 99
+    remainder hand lions is run same whole below = omega arith
+
+mark_at : (set : PieceSet) (block run local : ℕ) (s : Setup) (on : Bool) → StandsIn set block run local s → is_first set (rank_of set s) ≡ on →
+    marked set (run_start set block run + local) ≡ on
+mark_at set block run local s on there is =
+    ap (marked set) (sym there.rank_is) ∙ marked-first_of set (rank_of set s) (rank_of-below set s there.position) ∙ is
+
+-- where the lions' columns say first each position of a run is marked
+pub marked_first : (set : PieceSet) (block run local : ℕ) → IsInRun set block run local → run_kind (run % 99) ≡ First →
+    marked set (run_start set block run + local) ≡ true
+marked_first set block run local h kind =
+    let at = stands_in set block run local h in
+    let s = at.0 in
+    let p = at.1.position in
+    let lions : lions_of s < image_lions (lions_of s) =
+    first_lions (lions_of s) (lions_of-below set s p) (ap run_kind at.1.lions_are ∙ kind) in
+    let own = place-parts set s (local_size s) (lions_of s) refl refl in
+    let image = image-parts set s p in
+    let apart = runs_apart (hand_of set s) (lions_of s) (image_lions (lions_of s)) (local_size s) (local_of s) (local_of (mirrored s))
+    lions (local_of-below set s p) in
+    mark_at set block run local s true at.1 (first_by_place set s p (omega (arith, own, image, apart)))
+
+-- and where they say later none is
+pub marked_later : (set : PieceSet) (block run local : ℕ) → IsInRun set block run local → run_kind (run % 99) ≡ Later →
+    marked set (run_start set block run + local) ≡ false
+marked_later set block run local h kind =
+    let at = stands_in set block run local h in
+    let s = at.0 in
+    let p = at.1.position in
+    let lions : image_lions (lions_of s) < lions_of s =
+    later_lions (lions_of s) (lions_of-below set s p) (ap run_kind at.1.lions_are ∙ kind) in
+    let own = place-parts set s (local_size s) (lions_of s) refl refl in
+    let image = image-parts set s p in
+    let below : local_of (mirrored s) < local_size s =
+    subst (λ n. local_of (mirrored s) < n) (local_size-mirrored s p.legal.squares) (local_of-below set (mirrored s) (IsPositionOf-mirrored set s p)) in
+    let apart = runs_apart (hand_of set s) (image_lions (lions_of s)) (lions_of s) (local_size s) (local_of (mirrored s)) (local_of s) lions below in
+    mark_at set block run local s false at.1 (later_by_place set s p (omega (arith, own, image, apart)))
+
+-- ---- how many runs, and of which size
+
+positive_locals : (set : PieceSet) (ob : List ℕ) → All (λ (n : ℕ). 0 < n) (bases_by set ob) → All (λ (n : ℕ). 0 < n) (local_bases ob)
+positive_locals set ob all k other below = all (suc (suc (suc (suc (suc k))))) other (omega arith)
+
+positive_runs : (set : PieceSet) (ob : List ℕ) → All (λ (n : ℕ). 0 < n) (bases_by set ob) → All (λ (n : ℕ). 0 < n) (run_bases set ob)
+positive_runs set ob all zero other below = all 0 other (omega arith)
+positive_runs set ob all (suc zero) other below = all 1 other (omega arith)
+positive_runs set ob all (suc (suc zero)) other below = all 2 other (omega arith)
+positive_runs set ob all (suc (suc (suc zero))) other below = all 3 other (omega arith)
+positive_runs set ob all (suc (suc (suc (suc zero)))) other below = all 4 other (omega arith)
+positive_runs set ob all (suc (suc (suc (suc (suc k))))) other below = absurd (omega arith)
+
+product-positive : (bs : List ℕ) → All (λ (n : ℕ). 0 < n) bs → 0 < product bs
+product-positive [] all = omega arith
+product-positive (b ∷ bs) all =
+    let rest = product-positive bs (λ k other below. all (suc k) other (omega arith)) in
+    let here : 0 < b = all 0 b (omega arith) in
+    mul_positive b (product bs) here rest
+  where
+    mul_positive : (a b : ℕ) → 0 < a → 0 < b → 0 < a * b
+    mul_positive a b p q = mul-pos p q
+
+-- what the code finds of a block's bases
+pub record AreRunBases (set : PieceSet) (block : ℕ) (bs : List ℕ) : Type 0 where
+  pub runs_are : get_or bs 0 0 * (get_or bs 1 0 * (get_or bs 2 0 * (get_or bs 3 0 * get_or bs 4 0))) ≡ runs_in set block
+  pub size_is : product (take 6 (drop 5 bs)) ≡ run_size set block
+  pub positive : All (λ (n : ℕ). 0 < n) (take 6 (drop 5 bs))
+
+pub AreRunBases-by : (set : PieceSet) (block : ℕ) (nums bs : List ℕ) → block < product (block_bases set) → nums ≡ digits_of (block_bases set) block →
+    bs ≡ bases_by set nums → AreRunBases set block bs
+unfolding runs_in run_size
+AreRunBases-by set block nums bs within is bases_are =
+    let whole : bs ≡ bases_by set (digits_of (block_bases set) block) = bases_are ∙ ap (bases_by set) is in
+    let ob = digits_of (block_bases set) block in
+    subst (AreRunBases set block) (sym whole) (record {
+      runs_are = refl;
+      size_is = refl;
+      positive = positive_locals set ob (AreBases-by set ob (bases_by set ob) (few_in_block set block within) refl).positive;
+    })
+
+pub runs_few : (set : PieceSet) (block : ℕ) → block < product (block_bases set) → runs_in set block ≤ 4096
+unfolding runs_in
+runs_few set block within =
+    few_hands (set.chicks - get_or (digits_of (block_bases set) block) 0 0 + 1) (set.elephants - get_or (digits_of (block_bases set) block) 1 0 + 1)
+    (set.giraffes - get_or (digits_of (block_bases set) block) 2 0 + 1)
+    (let few = set.few_chicks in omega arith) (let few = set.few_elephants in omega arith) (let few = set.few_giraffes in omega arith)
+  where
+    few_hands : (a b c : ℕ) → a ≤ 3 → b ≤ 3 → c ≤ 3 → a * (b * (c * (9 * (11 * 1)))) ≤ 4096
+    few_hands a b c p q r =
+        let first : c * 99 ≤ 3 * 99 = omega arith in
+        let second : b * (c * 99) ≤ 3 * (3 * 99) = mul-le-mul q first in
+        let third : a * (b * (c * 99)) ≤ 3 * (3 * (3 * 99)) = mul-le-mul p second in
+        omega (arith, third)
+
+pub run_size-positive : (set : PieceSet) (block : ℕ) (bs : List ℕ) → AreRunBases set block bs → 0 < run_size set block
+run_size-positive set block bs are = subst (λ n. 0 < n) are.size_is (product-positive (take 6 (drop 5 bs)) are.positive)
+
+no_runs : (set : PieceSet) (block : ℕ) → block < product (block_bases set) → runs_in set block ≤ 0 → ⊥
+unfolding runs_in
+no_runs set block within none =
+    let ob = digits_of (block_bases set) block in
+    let all = (AreBases-by set ob (bases_by set ob) (few_in_block set block within) refl).positive in
+    let some : 0 < product (run_bases set ob) = product-positive (run_bases set ob) (positive_runs set ob all) in
+    none_but_some (product (run_bases set ob)) none some
+  where
+    none_but_some : (n : ℕ) → n ≤ 0 → 0 < n → ⊥
+    none_but_some n p q = omega arith
+
+pub run_size-small : (set : PieceSet) (block : ℕ) → block < product (block_bases set) → run_size set block ≤ 68719476736
+run_size-small set block within =
+    let whole = block_size-runs set block in
+    let small = block_size-small set block within in
+    elim (cases_lt 0 (runs_in set block)) [
+      | inl some ↦ (let upto = times_at_least (runs_in set block) (run_size set block) some in omega (arith, whole, small, upto))
+      | inr none ↦ absurd (no_runs set block within none)
+    ]
+  where
+    times_at_least : (a b : ℕ) → 0 < a → b ≤ a * b
+    times_at_least (zero) b h = absurd (omega arith)
+    times_at_least (suc a) b h = omega arith
+
+pub word_size : (n size : ℕ) → n ≡ size → size ≤ 68719476736 → n < 18446744073709551616
+word_size n size is small = omega arith
+
+-- ---- the mark of a place
+
+mark_of_place : (set : PieceSet) (block place : ℕ) (s : Setup) (on : Bool) → HasBlock set block place s → is_first set (rank_of set s) ≡ on →
+    marked set (sum_below (block_size set) block + place) ≡ on
+mark_of_place set block place s on there is =
+    ap (marked set) (sym (rank_of-block set block place s there)) ∙ marked-first_of set (rank_of set s) (rank_of-below set s there.position) ∙ is
+
+pub marked_by_place : (set : PieceSet) (block place other : ℕ) (s t : Setup) → HasBlock set block place s → t ≡ mirrored s → other ≡ place_of set t →
+    place ≤ other → marked set (sum_below (block_size set) block + place) ≡ true
+marked_by_place set block place other s t there image is le =
+    let same : other ≡ place_of set (mirrored s) = is ∙ ap (place_of set) image in
+    let own : place_of set s ≡ place = there.place_is in
+    mark_of_place set block place s true there (first_by_place set s there.position (ordered (place_of set s) (place_of set (mirrored s)) place other own same le))
+  where
+    ordered : (own image place other : ℕ) → own ≡ place → other ≡ image → place ≤ other → own ≤ image
+    ordered own image place other p q le = omega arith
+
+pub unmarked_by_place : (set : PieceSet) (block place other : ℕ) (s t : Setup) → HasBlock set block place s → t ≡ mirrored s → other ≡ place_of set t →
+    other < place → marked set (sum_below (block_size set) block + place) ≡ false
+unmarked_by_place set block place other s t there image is lt =
+    let same : other ≡ place_of set (mirrored s) = is ∙ ap (place_of set) image in
+    let own : place_of set s ≡ place = there.place_is in
+    mark_of_place set block place s false there (later_by_place set s there.position (ordered (place_of set s) (place_of set (mirrored s)) place other own same lt))
+  where
+    ordered : (own image place other : ℕ) → own ≡ place → other ≡ image → other < place → image < own
+    ordered own image place other p q lt = omega arith
+
+pub run_size-some : (set : PieceSet) (block : ℕ) → block < product (block_bases set) → 0 < run_size set block
+run_size-some set block within =
+    let ob = digits_of (block_bases set) block in
+    run_size-positive set block (bases_by set ob) (AreRunBases-by set block ob (bases_by set ob) within refl refl)

@@ -1,0 +1,44 @@
+-- Each run's entry and its words go to the ends of the tables.
+use Rattle.std.proofs.Common.{◌≡◌, ◌+◌, vec_len, arith, sym, ap, subst, ◌∙◌}
+use Rattle.dob_rank.specs.Marks.{marked, marks_below}
+use Rattle.dob_rank.specs.Runs.{runs_in, run_start}
+use Rattle.dob_rank.specs.RunTables.{AreRuns}
+use Rattle.dob_rank.proofs.RunMarks.{run_start_first, run_start_end, run_marks_small}
+use Rattle.dob_rank.proofs.RunTables.{AreRuns-none, AreRuns-push}
+use Rattle.dob_rank.proofs.block_classes.BlockClasses.open.Goals as goal
+
+pub loop-run-init : goal.loop-run-init
+loop-run-init c = record {
+  runs_are = AreRuns-none c.args.set c.args.number c.new-runs.result.items c.new-words.result.items c.new-runs.ensures.items;
+  count_is = c.requires.before ∙ ap (marks_below (marked c.args.set)) (sym (run_start_first c.args.set c.args.number));
+}
+
+pub overflow_add-count : goal.overflow_add-count
+overflow_add-count c =
+    let within = c.count_runs-run-end.ensures.value in
+    let few = run_marks_small c.args.set c.args.number (c.loop-run.run + 1) c.requires.within (omega (arith, within, c.loop-run-test.true)) in
+    omega (arith, few, c.in_ok-count.ensures.count)
+
+pub loop-run-preserved : goal.loop-run-preserved
+loop-run-preserved c = record {
+  runs_are = AreRuns-push c.args.set c.args.number c.loop-run.run c.loop-run.count c.len.result c.loop-run.runs.items _ c.loop-run.words.items _
+      c.loop-run.invariant.runs_are c.loop-run.invariant.count_is (c.len.ensures ∙ c.loop-run.words.ok.0) c.in_ok-count.ensures.words
+      c.in_ok-push.ensures.items;
+  count_is = c.in_ok-count.ensures.count;
+}
+
+pub invariant_of-result : goal.invariant_of-result
+invariant_of-result c =
+    let whole : c.loop-run.run ≡ runs_in c.args.set c.args.number =
+    omega (arith, c.count_runs-run-end.ensures.value, c.loop-run.auto.run-end, c.loop-run-test.false) in
+    let long : vec_len c.loop-run.runs ≡ c.loop-run.run = c.loop-run.runs.ok.0 ∙ c.loop-run.invariant.runs_are.long in
+    record {
+      within = c.requires.within;
+      starts = c.requires.before;
+      ends = c.loop-run.invariant.count_is
+          ∙ ap (λ n. marks_below (marked c.args.set) (run_start c.args.set c.args.number n)) whole
+          ∙ ap (marks_below (marked c.args.set)) (run_start_end c.args.set c.args.number);
+      size_is = c.run_size_in-size.ensures.value;
+      whole = long ∙ whole;
+      table = subst (λ n. AreRuns c.args.set c.args.number n c.loop-run.runs.items c.loop-run.words.items) (sym long) c.loop-run.invariant.runs_are;
+    }

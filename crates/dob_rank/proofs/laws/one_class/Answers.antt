@@ -1,0 +1,5 @@
+use Rattle.dob_rank.proofs.Representatives.{one_class as law}
+use Rattle.dob_rank.proofs.laws.one_class.Goals as goal
+
+pub returns : goal.returns
+returns c = law

@@ -1,0 +1,5 @@
+use Rattle.dob_rank.proofs.Representatives.{ranks_keep_order as law}
+use Rattle.dob_rank.proofs.laws.ranks_keep_order.Goals as goal
+
+pub returns : goal.returns
+returns c = law

@@ -1,0 +1,23 @@
+-- What holds of all classes and ranks: the laws that src/laws.rt promises.
+use Rattle.std.specs.Prelude.{◌≡◌, ℕ, ◌<◌, ◌↔◌}
+use Rattle.dob_pieces.specs.declared.piece_set.PieceSet.{PieceSet}
+use Rattle.dob_pieces.specs.declared.setup.Setup.{Setup}
+use Rattle.dob_rank.specs.Order.{IsPositionOf, Before, HasRank, IsFirstIn, IsInClass}
+
+-- a position has one class number
+abbrev pub OneClass : Type 0
+OneClass = (set : PieceSet) (p : Setup) (a b : ℕ) → IsInClass set p a → IsInClass set p b → a ≡ b
+
+-- a class number has one representative
+abbrev pub OneRepresentative : Type 0
+OneRepresentative = (set : PieceSet) (p q : Setup) (class : ℕ) → IsFirstIn set p class → IsFirstIn set q class → p ≡ q
+
+-- the rank of an earlier position is the lower one
+abbrev pub RanksKeepOrder : Type 0
+RanksKeepOrder = (set : PieceSet) (p q : Setup) (a b : ℕ) → IsPositionOf set p → IsPositionOf set q →
+    HasRank set p a → HasRank set q b → (Before p q ↔ (a < b))
+
+-- the class number of an earlier representative is the lower one
+abbrev pub ClassesKeepOrder : Type 0
+ClassesKeepOrder = (set : PieceSet) (p q : Setup) (a b : ℕ) → IsFirstIn set p a → IsFirstIn set q b →
+    (Before p q ↔ (a < b))

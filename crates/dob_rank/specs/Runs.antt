@@ -1,0 +1,52 @@
+-- Runs: the positions of a block with the same hands and the same lions, which stand in a row. Their numbers within
+-- the block, their sizes, and what the columns of the lions say of them.
+use Rattle.std.specs.Prelude.{ℕ, zero, suc, ◌+◌, ◌-◌, ◌*◌, ◌/◌, ◌%◌, ◌^◌, nat_lt, if◌then◌else◌, List, [], ◌∷◌, map, slice_index}
+use Rattle.dob_pieces.specs.declared.piece_set.PieceSet.{PieceSet}
+use Rattle.dob_pieces.specs.declared.setup.Setup.{Setup}
+use Rattle.dob_rank.specs.Numbers.{product, number_of, digits_of, layer, choose, choice, block_bases, start_of}
+use Rattle.dob_rank.specs.declared.runs.RunKind.{RunKind}
+use Rattle.dob_rank.specs.declared.runs.RunKind.TheVariants.{First, Later, Mixed}
+
+-- the bases of the hands and the lions, whose digits tell the run
+abbrev pub run_bases : PieceSet → List ℕ → List ℕ
+run_bases set on_board =
+    (set.chicks - slice_index on_board 0 + 1) ∷ (set.elephants - slice_index on_board 1 + 1)
+    ∷ (set.giraffes - slice_index on_board 2 + 1) ∷ 9 ∷ 11 ∷ []
+
+-- the bases of the squares and forms, whose digits tell the place in a run
+abbrev pub local_bases : List ℕ → List ℕ
+local_bases on_board =
+    let i = slice_index on_board 0 in
+    let j = slice_index on_board 1 in
+    let k = slice_index on_board 2 in
+    choose 10 i ∷ choose (10 - i) j ∷ choose (10 - i - j) k ∷ (4 ^ i) ∷ (2 ^ j) ∷ (2 ^ k) ∷ []
+
+-- how many runs the block has, how many positions each of them has, and the rank of a run's first position
+unfoldable pub runs_in : PieceSet → ℕ → ℕ
+runs_in set block = product (run_bases set (digits_of (block_bases set) block))
+
+unfoldable pub run_size : PieceSet → ℕ → ℕ
+run_size set block = product (local_bases (digits_of (block_bases set) block))
+
+unfoldable pub run_start : PieceSet → ℕ → ℕ → ℕ
+run_start set block run = start_of set block + run * run_size set block
+
+-- the number of the lions' squares, below 99
+abbrev pub lions_of : Setup → ℕ
+lions_of setup = choice 0 (map layer setup.board) * 11 + choice 1 (map layer setup.board)
+
+-- the square of the enemy's lion, by its number among those that the mover's lion leaves
+abbrev pub enemy_square : ℕ → ℕ → ℕ
+enemy_square own number = if nat_lt number own then number else number + 1
+
+-- what the columns of the mover's and of the enemy's lion say
+abbrev pub kind_by_columns : ℕ → ℕ → RunKind
+kind_by_columns zero enemy = First
+kind_by_columns (suc zero) zero = First
+kind_by_columns (suc zero) (suc zero) = Mixed
+kind_by_columns (suc zero) _ = Later
+kind_by_columns _ enemy = Later
+
+-- the kind of the runs of those lions
+abbrev pub run_kind : ℕ → RunKind
+run_kind lions = kind_by_columns (lions / 11 % 3) (enemy_square (lions / 11) (lions % 11) % 3)

@@ -1,0 +1,22 @@
+// Laws of ranks and classes, each the contract of a function that does nothing.
+ghost use Rattle.dob_rank.specs.Laws.{OneClass, OneRepresentative, RanksKeepOrder, ClassesKeepOrder};
+
+/// A position of a piece set is in one class, and that class has one number.
+pub fn one_class()
+    ensures { OneClass }
+{}
+
+/// A class number has one representative.
+pub fn one_representative()
+    ensures { OneRepresentative }
+{}
+
+/// Of two positions of a piece set the earlier has the lower rank.
+pub fn ranks_keep_order()
+    ensures { RanksKeepOrder }
+{}
+
+/// Of two representatives the earlier has the lower class number.
+pub fn classes_keep_order()
+    ensures { ClassesKeepOrder }
+{}

@@ -1,0 +1,67 @@
+// Runs: positions of a block with the same hands and the same lions stand in a row, and the columns of the lions say
+// of ten runs in eleven whether their positions are the earlier ones of their classes. In the others marks say it.
+ghost use Rattle.std.specs.Prelude.{◌≡◌, ℕ, Bool, ◌<◌, ◌≤◌, ◌+◌, ◌^◌};
+ghost use Rattle.dob_rank.specs.Marks.{word_of, marks_below};
+ghost use Rattle.dob_rank.specs.Runs.{run_kind};
+
+/// In how many ways the two lions can stand.
+pub(crate) const LIONS: u64 = 99;
+
+/// Whether the positions of a run are no later than their mirror images.
+#[derive(Clone, Copy, Debug, PartialEq, Eq)]
+pub(crate) enum RunKind {
+    /// Each of them is the earlier one: the mover's lion is on column a, or on b with the enemy's on a.
+    First,
+    /// Each of them is the later one: the mover's lion is on column c, or on b with the enemy's on c.
+    Later,
+    /// Both lions are on column b, and what else stands on the board decides.
+    Mixed,
+}
+
+/// The kind of the runs of those lions.
+pub(crate) fn kind_of(lions: u64) -> RunKind
+    requires { lions < 99 }
+    ensures { result ≡ run_kind lions }
+{
+    let own = lions / 11;
+    let digit = lions % 11;
+    let enemy = if digit < own { digit } else { digit + 1 };
+    match (own % 3, enemy % 3) {
+        (0, _) | (1, 0) => RunKind::First,
+        (1, 1) => RunKind::Mixed,
+        _ => RunKind::Later,
+    }
+}
+
+/// A run of positions: the number of classes before it, and, where its kind is mixed, where its words of marks begin.
+#[derive(Clone, Copy, Debug)]
+pub(crate) struct Run {
+    pub(crate) before: u64,
+    pub(crate) word: usize,
+}
+
+/// How many marks a word has at most.
+pub(crate) const WORD: u64 = 64;
+
+/// A word of marks, the first place's as the lowest bit, and the number of marks before it.
+#[derive(Clone, Copy, Debug)]
+pub(crate) struct Word {
+    pub(crate) bits: u64,
+    pub(crate) before: u64,
+}
+
+impl Word {
+    /// Whether a place of the word is marked, and how many places before it are.
+    pub(crate) fn look_up(self, place: u64) -> (bool, u64)
+        requires place { place < 64 }
+        requires before { self.before ≤ 2 ^ 60 }
+        ensures mark { (mark : ℕ → Bool) (from len : ℕ) → self.bits ≡ word_of mark from len → place < len
+            → result.0 ≡ mark (from + place) }
+        ensures before { (mark : ℕ → Bool) (from len : ℕ) → self.bits ≡ word_of mark from len → place < len
+            → self.before ≡ marks_below mark from → result.1 ≡ marks_below mark (from + place) }
+    {
+        let low = self.bits & ((1 << place) - 1);
+        let is_marked = self.bits >> place & 1 == 1;
+        (is_marked, self.before + u64::from(low.count_ones()))
+    }
+}

@@ -1,0 +1,5 @@
+use Rattle.dob_safra.proofs.Quiet.{quiet}
+use Rattle.dob_safra.proofs.laws.announceable_is_quiet.Goals as goal
+
+pub returns : goal.returns
+returns c = quiet

@@ -1,0 +1,5 @@
+use Rattle.dob_safra.proofs.Kept.{end_stays}
+use Rattle.dob_safra.proofs.laws.end_stays.Goals as goal
+
+pub returns : goal.returns
+returns c = end_stays

@@ -1,0 +1,5 @@
+use Rattle.dob_safra.proofs.Kept.{moved_kept}
+use Rattle.dob_safra.proofs.laws.moved_keeps_lawful.Goals as goal
+
+pub returns : goal.returns
+returns c = moved_kept

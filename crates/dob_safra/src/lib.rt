@@ -1,0 +1,19 @@
+// Safra's termination detection on a ring of at most 16 nodes (Dijkstra, EWD998). Each node has a counter, which
+// rises by one at each batch that it posts and falls by one at each batch that it takes, and a colour. A token goes
+// round the ring from node to node; when it comes back to node 0, its sum and its colour tell whether batches may
+// still be in flight.
+#![tactic(auto)]
+
+mod event;
+pub mod laws;
+mod rules;
+mod token;
+mod word;
+
+pub use event::RingEvent;
+pub use rules::{may_announce, passed};
+pub use token::Token;
+pub use word::{pack, unpack};
+
+#[cfg(test)]
+mod tests;

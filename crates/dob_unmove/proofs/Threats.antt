@@ -1,0 +1,365 @@
+-- Before a move some piece could catch the enemy lion exactly where one that didn't move attacks it, or the one that moved
+-- did from where it stood.
+use Rattle.std.proofs.Common.{◌≡◌, ◌≢◌, ℕ, zero, suc, ◌+◌, ◌-◌, ◌<◌, ◌==◌, ◌&&◌, if◌then◌else◌, not, Bool, true, false, true≢false, List, [], ◌∷◌, Option, Some, None, length, get_or, set, refl, sym, ap, ◌∙◌, subst, inl, inr, arith, cond}
+use Rattle.std.specs.List.{count_by}
+use Rattle.std.proofs.lemmas.Bool.{and_parts, cases_Bool, cases_eq, eq-eqb, ne_eqb}
+use Rattle.std.proofs.lemmas.List.{length-set, get_or_past, get_or-set_same, get_or-set_other}
+use Rattle.std.proofs.lemmas.List.Sums.{sum_by-cons}
+use Rattle.dob_pieces.specs.declared.kind.Kind.{Kind}
+use Rattle.dob_pieces.specs.declared.kind.Kind.TheVariants.{Lion, Giraffe, Elephant, Chick, Hen}
+use Rattle.dob_pieces.specs.declared.kind.HandKind.{HandKind}
+use Rattle.dob_pieces.specs.declared.kind.Piece.{Piece}
+use Rattle.dob_pieces.specs.declared.kind.Side.{Side}
+use Rattle.dob_pieces.specs.declared.kind.Side.TheVariants.{Mover, Enemy}
+use Rattle.dob_pieces.specs.declared.setup.Setup.{Setup}
+use Rattle.dob_pieces.specs.Pieces.{leads, other_side, is_side, is_lion, kind_in_hand, kind_on_board}
+use Rattle.dob_pieces.specs.Setups.{Cell, at, piece_of, holds_lion, HasLions, IsLegal, turned, turned_cell}
+use Rattle.dob_pieces.proofs.Boards.{length-turned, at-turned, HasLions-turned, one_lion, within-from_piece, leads-to_board, leads-apart}
+use Rattle.dob_moves.specs.declared.choice.Move.TheVariants.{Step, Put}
+use Rattle.dob_moves.specs.Moves.{grows_at, CatchesLion, Goes, CanGo}
+use Rattle.dob_moves.specs.declared.outlook.Status.TheVariants.{Open}
+use Rattle.dob_moves.specs.Statuses.{CanCatch, HasTried, HasStatus}
+use Rattle.dob_unmove.specs.declared.attackers.Attackers.{Attackers}
+use Rattle.dob_unmove.specs.declared.attackers.Attackers.TheVariants.{Nobody, One, Several}
+use Rattle.dob_unmove.specs.declared.attackers.Threat.{Threat}
+use Rattle.dob_unmove.specs.declared.undo.Undo.{Undo}
+use Rattle.dob_unmove.specs.declared.undo.Undo.TheVariants.{Unstep, Unput}
+use Rattle.dob_unmove.specs.Classes.{IsTurned}
+use Rattle.dob_unmove.specs.Undoes.{choice, arrives_at, enemy_cell, earlier, CanGiveBack, CanUnstep, CanUndo}
+use Rattle.dob_unmove.specs.Walks.{is_movers}
+use Rattle.dob_unmove.proofs.Undone.{Goes-from_undo}
+use Rattle.dob_unmove.specs.Threats.{attacks_by, attacks, and_one, elsewhere, stood_before, AreAttackers, IsThreat}
+
+abbrev side_of : Cell → Side
+side_of None = Enemy
+side_of (Some piece) = piece.side
+
+abbrev kind_of : Cell → Kind
+kind_of None = Hen
+kind_of (Some piece) = piece.kind
+
+-- ---- attackers found one square after the other
+
+pub passed : (p : Setup) (target i : ℕ) (found : Attackers) → attacks p i target ≡ false → AreAttackers p target i found → AreAttackers p target (i + 1) found
+passed p target i Nobody none h = λ s lt. elim (cases_eq s i) [
+  | inl e ↦ subst (λ (x : ℕ). attacks p x target ≡ false) (sym e) none
+  | inr ne ↦ h s (omega (arith, lt, ne))
+]
+passed p target i (One a) none h = (
+  (let below = h.0 in omega (arith, below)),
+  h.1,
+  λ s lt is. elim (cases_eq s i) [
+    | inl e ↦ absurd (true≢false (sym is ∙ ap (λ (x : ℕ). attacks p x target) e ∙ none))
+    | inr ne ↦ h.2 s (omega (arith, lt, ne)) is
+  ],
+)
+passed p target i Several none h = h
+
+pub joined : (p : Setup) (target i : ℕ) (found : Attackers) → attacks p i target ≡ true → AreAttackers p target i found → AreAttackers p target (i + 1) (and_one found i)
+joined p target i Nobody is h = (
+  omega arith,
+  is,
+  λ s lt yes_s. elim (cases_eq s i) [
+    | inl e ↦ e
+    | inr ne ↦ absurd (true≢false (sym yes_s ∙ h s (omega (arith, lt, ne))))
+  ],
+)
+joined p target i (One a) is h = (a, i, (λ e. let below = h.0 in omega (arith, below, e)), h.1, is)
+joined p target i Several is h = h
+
+pub ruleset finding = (passed, joined)
+
+-- ---- the enemy lion is there
+
+lion_by : (side : Side) (kind : Kind) → (is_side Enemy side && is_lion kind) ≡ true → (side ≡ Enemy) × (kind ≡ Lion)
+lion_by Mover kind h = cc
+lion_by Enemy Lion h = (refl, refl)
+lion_by Enemy Giraffe h = cc
+lion_by Enemy Elephant h = cc
+lion_by Enemy Chick h = cc
+lion_by Enemy Hen h = cc
+
+is_that_lion : (cell : Cell) → holds_lion Enemy cell ≡ true → cell ≡ Some (piece_of Enemy Lion)
+is_that_lion None h = cc
+is_that_lion (Some piece) h = let parts = lion_by piece.side piece.kind h in λ i. Some (piece_of (parts.0 i) (parts.1 i))
+
+none_counted : (test : Cell → Bool) (cells : List Cell) → ((k : ℕ) → k < length cells → test (get_or cells k None) ≡ false) → count_by test cells ≡ 0
+none_counted test [] h = refl
+none_counted test (c ∷ cs) h =
+    let sum : count_by test (c ∷ cs) ≡ cond (test c) 1 0 + count_by test cs = sum_by-cons (λ x. cond (test x) 1 0) c cs in
+    let first : cond {A = ℕ} (test c) 1 0 ≡ 0 = ap (λ b. cond b 1 0) (h 0 (omega arith)) in
+    let rest = none_counted test cs (λ k lt. h (suc k) (omega (arith, lt))) in
+    omega (arith, sum, first, rest)
+
+turned_squares : (p : Setup) → IsTurned IsLegal p → length p.board ≡ 12
+turned_squares p t = ap (λ (x : Setup). length x.board) t.2 ∙ length-turned t.0
+
+turned_lions : (p : Setup) → IsTurned IsLegal p → HasLions p
+turned_lions p t = subst HasLions (sym t.2) (HasLions-turned t.0 t.1.squares t.1.lions)
+
+pub has_lion : (p : Setup) → IsTurned IsLegal p → ((k : ℕ) → k < 12 → at p k ≢ Some (piece_of Enemy Lion)) → ⊥
+has_lion p t none =
+    let twelve = turned_squares p t in
+    let one = turned_lions p t Enemy in
+    let zero_count = none_counted (holds_lion Enemy) p.board (λ k lt. elim (cases_Bool (holds_lion Enemy (at p k))) [
+      | inl is ↦ absurd (none k (omega (arith, lt, twelve)) (is_that_lion (at p k) is))
+      | inr isnt ↦ isnt
+    ]) in
+    omega (arith, one, zero_count)
+
+-- ---- who catches, attacks
+
+by_side : (piece : Piece) (from to : ℕ) → (is_movers piece.side && leads piece.kind from to) ≡ true → (piece.side ≡ Mover) × (leads piece.kind from to ≡ true)
+by_side piece from to h = let parts = and_parts (is_movers piece.side) (leads piece.kind from to) h in (movers piece.side parts.0, parts.1) where
+  movers : (side : Side) → is_movers side ≡ true → side ≡ Mover
+  movers Mover e = refl
+  movers Enemy e = cc
+
+attacks_piece : (cell : Cell) (from to : ℕ) → attacks_by cell from to ≡ true → (kind : Kind) × (cell ≡ Some (piece_of Mover kind)) × (leads kind from to ≡ true)
+attacks_piece None from to h = cc
+attacks_piece (Some piece) from to h =
+    let parts = by_side piece from to h in (piece.kind, (λ i. Some (piece_of (parts.0 i) piece.kind)), parts.1)
+
+own_attacks : (cell : Cell) (kind : Kind) (from to : ℕ) → cell ≡ Some (piece_of Mover kind) → attacks_by cell from to ≡ leads kind from to
+own_attacks cell kind from to e = ap (λ (c : Cell). attacks_by c from to) e
+
+catches_by : (p : Setup) (from to : ℕ) → attacks p from to ≡ true → at p to ≡ Some (piece_of Enemy Lion) → CanCatch p
+catches_by p from to is lion =
+    let found = attacks_piece (at p from) from to is in
+    (Step found.0 from to true (grows_at found.0 to), (found.1, found.2, lion, refl))
+
+-- what a piece that catches the lion does
+record Attack (p : Setup) : Type 0 where
+  from : ℕ
+  to : ℕ
+  attack : attacks p from to ≡ true
+  lion : at p to ≡ Some (piece_of Enemy Lion)
+
+attack_by : (p : Setup) → CanCatch p → Attack p
+attack_by p (Step kind from to true grows, catching) =
+    record { from = from; to = to; attack = own_attacks (at p from) kind from to catching.0 ∙ catching.1; lion = catching.2 }
+attack_by p (Step kind from to false grows, catching) = absurd catching
+attack_by p (Put kind to, catching) = absurd catching
+
+turned_lion : (cell : Cell) → turned_cell cell ≡ Some (piece_of Enemy Lion) → cell ≡ Some (piece_of Mover Lion)
+turned_lion None e = cc
+turned_lion (Some piece) e = own piece.side piece.kind e where
+  own : (side : Side) (kind : Kind) → Some (piece_of (other_side side) kind) ≡ Some (piece_of Enemy Lion) → Some (piece_of side kind) ≡ Some (piece_of Mover Lion)
+  own Mover kind e = ap (λ (k : Kind). Some (piece_of Mover k)) (ap kind_of e)
+  own Enemy kind e = let same : Mover ≡ Enemy = ap side_of e in cc
+
+-- ---- before the move
+
+apart_sides : (kind : Kind) → Some (piece_of Mover kind) ≢ Some (piece_of Enemy Lion)
+apart_sides kind e = let same : Mover ≡ Enemy = ap side_of e in cc
+
+module _ (after before : Setup) (threat : Threat) (from to : ℕ) (by_moved : Bool) (h : IsThreat after threat)
+    (others : (s : ℕ) → s ≢ from → s ≢ to → at before s ≡ at after s)
+    (from_after : attacks after from threat.lion ≡ false) (from_before : attacks before from threat.lion ≡ by_moved) (to_before : attacks before to threat.lion ≡ false)
+    (lion_before : at before threat.lion ≡ Some (piece_of Enemy Lion))
+    (lion_only : (s : ℕ) → at before s ≡ Some (piece_of Enemy Lion) → s ≡ threat.lion)
+    (twelve : length after.board ≡ 12) where
+  not_from : (s : ℕ) → attacks after s threat.lion ≡ true → s ≢ from
+  not_from s is e = true≢false (sym is ∙ ap (λ (x : ℕ). attacks after x threat.lion) e ∙ from_after)
+
+  attacked_before : (s : ℕ) → s ≢ to → attacks after s threat.lion ≡ true → CanCatch before
+  attacked_before s apart is =
+      catches_by before s threat.lion (ap (λ (c : Cell). attacks_by c s threat.lion) (others s (not_from s is) apart) ∙ is) lion_before
+
+  attackers_catch : (found : Attackers) → AreAttackers after threat.lion 12 found → elsewhere found to ≡ true → CanCatch before
+  attackers_catch Nobody are some = cc
+  attackers_catch (One a) are some = elim (cases_eq a to) [
+    | inl e ↦ absurd (true≢false (sym some ∙ ap not (ap (λ (x : ℕ). x == to) e ∙ same to)))
+    | inr ne ↦ attacked_before a ne are.1
+  ] where
+    same : (x : ℕ) → (x == x) ≡ true
+    same x = eq-eqb x x refl
+  attackers_catch Several are some = elim (cases_eq are.0 to) [
+    | inl e ↦ attacked_before are.1 (λ other. are.2 (e ∙ sym other)) are.4
+    | inr ne ↦ attacked_before are.0 ne are.3
+  ]
+
+  pub stood_catches : (if by_moved then true else elsewhere threat.attackers to) ≡ true → CanCatch before
+  stood_catches stood = elim (cases_Bool by_moved) [
+    | inl is ↦ catches_by before from threat.lion (from_before ∙ is) lion_before
+    | inr isnt ↦ attackers_catch threat.attackers h.attackers (sym (ap (λ b. if b then true else elsewhere threat.attackers to) isnt) ∙ stood)
+  ]
+
+  found_elsewhere : (found : Attackers) (s : ℕ) → s < 12 → AreAttackers after threat.lion 12 found → s ≢ to → attacks after s threat.lion ≡ true → elsewhere found to ≡ true
+  found_elsewhere Nobody s lt are apart is = absurd (true≢false (sym is ∙ are s lt))
+  found_elsewhere (One a) s lt are apart is = ap not (ne_eqb a to (λ e. apart (are.2 s lt is ∙ e)))
+  found_elsewhere Several s lt are apart is = refl
+
+  pub catch_stood : CanCatch before → (if by_moved then true else elsewhere threat.attackers to) ≡ true
+  catch_stood can =
+      let found = attack_by before can in
+      let here = lion_only found.to found.lion in
+      let is : attacks before found.from threat.lion ≡ true = subst (λ (x : ℕ). attacks before found.from x ≡ true) here found.attack in
+      elim (cases_eq found.from from) [
+        | inl e ↦ ap (λ b. if b then true else elsewhere threat.attackers to) (sym from_before ∙ ap (λ (x : ℕ). attacks before x threat.lion) (sym e) ∙ is)
+        | inr apart ↦ elim (cases_eq found.from to) [
+          | inl e ↦ absurd (true≢false (sym is ∙ ap (λ (x : ℕ). attacks before x threat.lion) e ∙ to_before))
+          | inr away ↦
+              let now : attacks after found.from threat.lion ≡ true = ap (λ (c : Cell). attacks_by c found.from threat.lion) (sym (others found.from apart away)) ∙ is in
+              let piece = attacks_piece (at after found.from) found.from threat.lion now in
+              let within = within-from_piece after found.from (piece_of Mover piece.0) piece.1 in
+              let one = found_elsewhere threat.attackers found.from (omega (arith, within, twelve)) h.attackers away now in
+              either by_moved one
+        ]
+      ]
+    where
+      either : (b : Bool) → elsewhere threat.attackers to ≡ true → (if b then true else elsewhere threat.attackers to) ≡ true
+      either true e = refl
+      either false e = e
+
+-- ---- a step taken back
+
+module _ (after : Setup) (threat : Threat) (t : IsTurned IsLegal after) (h : IsThreat after threat) where
+  lion_is : (s : ℕ) → at after s ≡ Some (piece_of Enemy Lion) → s ≡ threat.lion
+  lion_is s e = one_lion Enemy after s threat.lion (turned_lions after t) e h.lion
+
+  module _ (kind : Kind) (from to : ℕ) (caught : Option Kind) (can : CanUnstep after kind from to caught) where
+    abbrev before : Setup
+    before = earlier after (Unstep kind from to caught)
+
+    to_from : to ≢ from
+    to_from e = leads-apart kind from to can.leads (sym e)
+
+    at_from : at before from ≡ Some (piece_of Mover kind)
+    unfolding earlier
+    at_from = get_or-set_same (set after.board to (enemy_cell caught)) from (Some (piece_of Mover kind)) None
+        (let low = can.on_board in let twelve = turned_squares after t in let same = length-set after.board to (enemy_cell caught) in omega (arith, low, twelve, same))
+
+    at_to : at before to ≡ enemy_cell caught
+    unfolding earlier
+    at_to =
+        get_or-set_other (set after.board to (enemy_cell caught)) from to (Some (piece_of Mover kind)) None to_from
+        ∙ get_or-set_same after.board to (enemy_cell caught) None
+        (let low = leads-to_board kind from to can.leads in let twelve = turned_squares after t in omega (arith, low, twelve))
+
+    at_others : (s : ℕ) → s ≢ from → s ≢ to → at before s ≡ at after s
+    unfolding earlier
+    at_others s away apart =
+        get_or-set_other (set after.board to (enemy_cell caught)) from s (Some (piece_of Mover kind)) None away
+        ∙ get_or-set_other after.board to s (enemy_cell caught) None apart
+
+    lion_not_from : threat.lion ≢ from
+    lion_not_from e = let none : at after threat.lion ≡ None = ap (at after) e ∙ can.empty in let lion = h.lion in cc
+
+    lion_not_to : threat.lion ≢ to
+    lion_not_to e = apart_sides (arrives_at kind to) (sym can.stands ∙ ap (at after) (sym e) ∙ h.lion)
+
+    no_lion_caught : (piece : Option Kind) → CanGiveBack after.hands.mover piece → enemy_cell piece ≢ Some (piece_of Enemy Lion)
+    no_lion_caught None back e = cc
+    no_lion_caught (Some Lion) back e = let none = back.1 in cc
+    no_lion_caught (Some Giraffe) back e = let same : Giraffe ≡ Lion = ap kind_of e in cc
+    no_lion_caught (Some Elephant) back e = let same : Elephant ≡ Lion = ap kind_of e in cc
+    no_lion_caught (Some Chick) back e = let same : Chick ≡ Lion = ap kind_of e in cc
+    no_lion_caught (Some Hen) back e = let same : Hen ≡ Lion = ap kind_of e in cc
+
+    enemy_stands_still : (piece : Option Kind) (x y : ℕ) → attacks_by (enemy_cell piece) x y ≡ false
+    enemy_stands_still None x y = refl
+    enemy_stands_still (Some kind) x y = refl
+
+    only_lion : (s : ℕ) → at before s ≡ Some (piece_of Enemy Lion) → s ≡ threat.lion
+    only_lion s e = elim (cases_eq s from) [
+      | inl same ↦ absurd (apart_sides kind (sym at_from ∙ ap (at before) (sym same) ∙ e))
+      | inr away ↦ elim (cases_eq s to) [
+        | inl same ↦ absurd (no_lion_caught caught can.in_hand (sym at_to ∙ ap (at before) (sym same) ∙ e))
+        | inr apart ↦ lion_is s (sym (at_others s away apart) ∙ e)
+      ]
+    ]
+
+    here : at before threat.lion ≡ Some (piece_of Enemy Lion)
+    here = at_others threat.lion lion_not_from lion_not_to ∙ h.lion
+
+    pub step_stood : (stood_before threat (Unstep kind from to caught) ≡ true → CanCatch before) × (CanCatch before → stood_before threat (Unstep kind from to caught) ≡ true)
+    step_stood =
+        let from_after : attacks after from threat.lion ≡ false = ap (λ (c : Cell). attacks_by c from threat.lion) can.empty in
+        let from_before : attacks before from threat.lion ≡ leads kind from threat.lion = own_attacks (at before from) kind from threat.lion at_from in
+        let to_before : attacks before to threat.lion ≡ false = ap (λ (c : Cell). attacks_by c to threat.lion) at_to ∙ enemy_stands_still caught to threat.lion in (
+          stood_catches after before threat from to (leads kind from threat.lion) h at_others from_after from_before to_before here only_lion (turned_squares after t),
+          catch_stood after before threat from to (leads kind from threat.lion) h at_others from_after from_before to_before here only_lion (turned_squares after t),
+        )
+
+  -- ---- a drop taken back
+
+  module _ (kind : HandKind) (to : ℕ) (can : CanUndo after (Unput kind to)) where
+    abbrev undropped : Setup
+    undropped = earlier after (Unput kind to)
+
+    at_drop : at undropped to ≡ None
+    unfolding earlier
+    at_drop = get_or-set_same after.board to None None (within-from_piece after to (piece_of Mover (kind_on_board kind)) can)
+
+    at_rest : (s : ℕ) → s ≢ 12 → s ≢ to → at undropped s ≡ at after s
+    unfolding earlier
+    at_rest s away apart = get_or-set_other after.board to s None None apart
+
+    drop_on_board : to < 12
+    drop_on_board = let low = within-from_piece after to (piece_of Mover (kind_on_board kind)) can in let twelve = turned_squares after t in omega (arith, low, twelve)
+
+    beyond : (p : Setup) → length p.board ≡ 12 → at p 12 ≡ None
+    beyond p twelve = get_or_past p.board 12 None (omega (arith, twelve))
+
+    undropped_squares : length undropped.board ≡ 12
+    unfolding earlier
+    undropped_squares = length-set after.board to None ∙ turned_squares after t
+
+    lion_not_beyond : threat.lion ≢ 12
+    lion_not_beyond e = let low = within-from_piece after threat.lion (piece_of Enemy Lion) h.lion in let twelve = turned_squares after t in omega (arith, low, twelve, e)
+
+    lion_not_dropped : threat.lion ≢ to
+    lion_not_dropped e = apart_sides (kind_on_board kind) (sym can ∙ ap (at after) (sym e) ∙ h.lion)
+
+    still_only : (s : ℕ) → at undropped s ≡ Some (piece_of Enemy Lion) → s ≡ threat.lion
+    still_only s e = elim (cases_eq s 12) [
+      | inl same ↦ (let none : at undropped s ≡ None = ap (at undropped) same ∙ beyond undropped undropped_squares in absurd cc)
+      | inr away ↦ elim (cases_eq s to) [
+        | inl same ↦ (let none : at undropped s ≡ None = ap (at undropped) same ∙ at_drop in absurd cc)
+        | inr apart ↦ lion_is s (sym (at_rest s away apart) ∙ e)
+      ]
+    ]
+
+    pub drop_stood : (stood_before threat (Unput kind to) ≡ true → CanCatch (earlier after (Unput kind to))) × (CanCatch (earlier after (Unput kind to)) → stood_before threat (Unput kind to) ≡ true)
+    drop_stood =
+        let from_after : attacks after 12 threat.lion ≡ false = ap (λ (c : Cell). attacks_by c 12 threat.lion) (beyond after (turned_squares after t)) in
+        let from_before : attacks undropped 12 threat.lion ≡ false = ap (λ (c : Cell). attacks_by c 12 threat.lion) (beyond undropped undropped_squares) in
+        let to_before : attacks undropped to threat.lion ≡ false = ap (λ (c : Cell). attacks_by c to threat.lion) at_drop in
+        let lion : at undropped threat.lion ≡ Some (piece_of Enemy Lion) = at_rest threat.lion lion_not_beyond lion_not_dropped ∙ h.lion in (
+          stood_catches after undropped threat 12 to false h at_rest from_after from_before to_before lion still_only (turned_squares after t),
+          catch_stood after undropped threat 12 to false h at_rest from_after from_before to_before lion still_only (turned_squares after t),
+        )
+
+  -- a piece attacked the enemy lion before the move exactly where one could catch it
+  pub stood_is : (u : Undo) → CanUndo after u → (stood_before threat u ≡ true → CanCatch (earlier after u)) × (CanCatch (earlier after u) → stood_before threat u ≡ true)
+  stood_is (Unstep kind from to caught) can = step_stood kind from to caught can
+  stood_is (Unput kind to) can = drop_stood kind to can
+
+  -- the enemy lion stood there before
+  lion_stood : (u : Undo) → CanUndo after u → (s : ℕ) → at (earlier after u) s ≡ Some (piece_of Enemy Lion) → s ≡ threat.lion
+  lion_stood (Unstep kind from to caught) can s e = only_lion kind from to caught can s e
+  lion_stood (Unput kind to) can s e = still_only kind to can s e
+
+  untried : (u : Undo) → CanUndo after u → HasTried (earlier after u) → ⊥
+  untried u can tried =
+      let now : at after tried.0 ≡ Some (piece_of Enemy Lion) = ap (at after) (lion_stood u can tried.0 tried.2) ∙ h.lion in
+      let seen : turned_cell (at t.0 (11 - tried.0)) ≡ Some (piece_of Enemy Lion) =
+      sym (at-turned t.0 tried.0 (let low = tried.1 in omega (arith, low))) ∙ ap (λ (x : Setup). at x tried.0) (sym t.2) ∙ now in
+      t.1.home (11 - tried.0) (let low = tried.1 in omega (arith, low)) (turned_lion (at t.0 (11 - tried.0)) seen)
+
+  goes_again : (u : Undo) → CanUndo after u → CanGo (earlier after u) (choice u)
+  goes_again u can =
+      (t.0, subst (λ (x : Setup). Goes (earlier x u) (choice u) t.0) (sym t.2) (Goes-from_undo t.0 u t.1.squares (subst (λ (x : Setup). CanUndo x u) t.2 can)))
+
+  -- before a move the position was open unless a piece attacked the enemy lion
+  pub was_open : (u : Undo) → CanUndo after u → stood_before threat u ≡ false → HasStatus (earlier after u) Open
+  was_open u can calm = (
+    (λ catching. true≢false (sym ((stood_is u can).1 catching) ∙ calm)),
+    untried u can,
+    (choice u, goes_again u can),
+  )
+
+  -- and where one did it wasn't
+  pub was_not_open : (u : Undo) → CanUndo after u → stood_before threat u ≡ true → ¬ HasStatus (earlier after u) Open
+  was_not_open u can stood open_then = open_then.0 ((stood_is u can).0 stood)

@@ -1,0 +1,168 @@
+-- Lists of parts: what is taken from their front, and what is left behind it.
+use Rattle.std.proofs.Common.{◌≡◌, ℕ, ◌+◌, ◌-◌, ◌^◌, ◌<◌, ◌≤◌, min, Bool, cond, List, [], ◌∷◌, ◌++◌, length, take, drop, set, get_or, refl, sym, ap, ◌∙◌, subst, arith, length-set}
+use Rattle.std.proofs.lemmas.Bool.{lt-ltb, le-ltb, ne_eqb}
+use Rattle.std.proofs.lemmas.List.{append_assoc, append-nil, drop_more, drop_all, take_more_set, drop-set-lt}
+use Rattle.dob_share.specs.declared.news.Settlement.{Settlement}
+use Rattle.dob_update.specs.declared.part.Part.{Part}
+use Rattle.dob_update.specs.Parts.{with_number, total, front, behind, skip_behind, AreWhole}
+
+-- ---- what stands in front
+
+pub front-zero : (parts : List Part) → front 0 parts ≡ []
+front-zero [] = refl
+front-zero (part ∷ parts) = refl
+
+front-cons : (k : ℕ) (part : Part) (parts : List Part) → 0 < k → front k (part ∷ parts) ≡ with_number part (min k part.items) ∷ front (k - part.items) parts
+front-cons k part parts some =
+    ap (λ (b : Bool). cond b [] (with_number part (min k part.items) ∷ front (k - part.items) parts)) (ne_eqb k 0 (λ none. omega (arith, some, none)))
+
+-- the next part goes over from the rest to the front
+front_next : (rest index : ℕ) (parts : List Part) (part : Part) → 0 < rest → index < length parts → part ≡ get_or parts index part
+    → front rest (drop index parts) ≡ with_number part (min part.items rest) ∷ front (rest - min part.items rest) (drop (index + 1) parts)
+front_next rest index parts part some within read =
+    let items : min rest part.items ≡ min part.items rest = omega arith in
+    let left : rest - part.items ≡ rest - min part.items rest = omega arith in
+    ap (front rest) (drop_more parts index part within ∙ ap (λ (p : Part). p ∷ drop (index + 1) parts) (sym read))
+    ∙ front-cons rest part (drop (index + 1) parts) some
+    ∙ ap (λ m. with_number part m ∷ front (rest - part.items) (drop (index + 1) parts)) items
+    ∙ ap (λ m. with_number part (min part.items rest) ∷ front m (drop (index + 1) parts)) left
+
+-- the parts in front are listed so far
+pub record IsListing (k rest index : ℕ) (parts list : List Part) : Type 0 where
+  pub so_far : list ++ front rest (drop index parts) ≡ front k parts
+
+pub listing_none : (k : ℕ) (parts list : List Part) → list ≡ [] → IsListing k k 0 parts list
+listing_none k parts list e = record { so_far = ap (λ (xs : List Part). xs ++ front k parts) e }
+
+pub listing_more : (k rest index : ℕ) (parts list more : List Part) (part : Part) → 0 < rest → index < length parts → part ≡ get_or parts index part
+    → IsListing k rest index parts list → more ≡ list ++ with_number part (min part.items rest) ∷ []
+    → IsListing k (rest - min part.items rest) (index + 1) parts more
+listing_more k rest index parts list more part some within read l e = record {
+  so_far =
+      let next = with_number part (min part.items rest) in
+      let left = front (rest - min part.items rest) (drop (index + 1) parts) in
+      ap (λ (xs : List Part). xs ++ left) e ∙ append_assoc list (next ∷ []) left
+      ∙ ap (λ (xs : List Part). list ++ xs) (sym (front_next rest index parts part some within read)) ∙ l.so_far;
+}
+
+pub listing_done : (k rest index : ℕ) (parts list : List Part) → rest ≡ 0 → IsListing k rest index parts list → list ≡ front k parts
+listing_done k rest index parts list e l =
+    sym (append-nil list) ∙ ap (λ (xs : List Part). list ++ xs) (sym (ap (λ m. front m (drop index parts)) e ∙ front-zero (drop index parts))) ∙ l.so_far
+
+pub listing_all : (k rest index : ℕ) (parts list : List Part) → length parts ≤ index → IsListing k rest index parts list → list ≡ front k parts
+listing_all k rest index parts list past l =
+    sym (append-nil list) ∙ ap (λ (xs : List Part). list ++ xs) (sym (ap (front rest) (drop_all index parts past))) ∙ l.so_far
+
+-- the same in place
+pub record IsKeeping (k rest index : ℕ) (old parts : List Part) : Type 0 where
+  pub so_far : take index parts ++ front rest (drop index parts) ≡ front k old
+  pub within : index ≤ length parts
+
+pub keeping_more : (k rest index : ℕ) (old parts : List Part) (part : Part) → 0 < rest → index < length parts → part ≡ get_or parts index part
+    → IsKeeping k rest index old parts → IsKeeping k (rest - min part.items rest) (index + 1) old (set parts index (with_number part (min part.items rest)))
+keeping_more k rest index old parts part some within read l = record {
+  so_far =
+      let next = with_number part (min part.items rest) in
+      let left = front (rest - min part.items rest) (drop (index + 1) parts) in
+      ap (λ (xs : List Part). xs ++ front (rest - min part.items rest) (drop (index + 1) (set parts index next))) (take_more_set parts index next within)
+      ∙ ap (λ (xs : List Part). (take index parts ++ next ∷ []) ++ front (rest - min part.items rest) xs) (drop-set-lt (index + 1) parts index next (omega arith))
+      ∙ append_assoc (take index parts) (next ∷ []) left
+      ∙ ap (λ (xs : List Part). take index parts ++ xs) (sym (front_next rest index parts part some within read)) ∙ l.so_far;
+  within = omega (arith, length-set parts index (with_number part (min part.items rest)), within);
+}
+
+pub keeping_done : (k rest index : ℕ) (old parts : List Part) → rest ≡ 0 → IsKeeping k rest index old parts → take index parts ≡ front k old
+keeping_done k rest index old parts e l =
+    sym (append-nil (take index parts)) ∙ ap (λ (xs : List Part). take index parts ++ xs) (sym (ap (λ m. front m (drop index parts)) e ∙ front-zero (drop index parts)))
+    ∙ l.so_far
+
+pub keeping_all : (k rest index : ℕ) (old parts : List Part) → length parts ≤ index → IsKeeping k rest index old parts → take index parts ≡ front k old
+keeping_all k rest index old parts past l =
+    sym (append-nil (take index parts)) ∙ ap (λ (xs : List Part). take index parts ++ xs) (sym (ap (front rest) (drop_all index parts past))) ∙ l.so_far
+
+-- ---- what is left behind
+
+pub behind-within : (k : ℕ) (part : Part) (parts : List Part) → k < part.items → behind k (part ∷ parts) ≡ with_number part (part.items - k) ∷ parts
+behind-within k part parts lt = ap (λ (b : Bool). cond b (with_number part (part.items - k) ∷ parts) (behind (k - part.items) parts)) (lt-ltb k part.items lt)
+
+pub behind-past : (k : ℕ) (part : Part) (parts : List Part) → part.items ≤ k → behind k (part ∷ parts) ≡ behind (k - part.items) parts
+behind-past k part parts le = ap (λ (b : Bool). cond b (with_number part (part.items - k) ∷ parts) (behind (k - part.items) parts)) (le-ltb k part.items le)
+
+pub skip-within : (skip k : ℕ) (part : Part) (parts : List Part) → k < part.items → skip_behind skip k (part ∷ parts) ≡ skip + k
+skip-within skip k part parts lt = ap (λ (b : Bool). cond b (skip + k) (skip_behind 0 (k - part.items) parts)) (lt-ltb k part.items lt)
+
+pub skip-past : (skip k : ℕ) (part : Part) (parts : List Part) → part.items ≤ k → skip_behind skip k (part ∷ parts) ≡ skip_behind 0 (k - part.items) parts
+skip-past skip k part parts le = ap (λ (b : Bool). cond b (skip + k) (skip_behind 0 (k - part.items) parts)) (le-ltb k part.items le)
+
+-- what is left to be dropped from the parts is what was left before
+pub record IsDropping (k skip rest before : ℕ) (old parts : List Part) : Type 0 where
+  pub count : Settlement → ℕ
+  pub whole : AreWhole count before parts
+  pub within : rest ≤ total parts
+  pub behind_is : behind rest parts ≡ behind k old
+  pub skip_is : skip_behind before rest parts ≡ skip_behind skip k old
+
+-- the first part of those that are left
+pub record IsFirstPart (rest before : ℕ) (parts : List Part) (part : Part) : Type 0 where
+  pub some : 0 < part.items
+  pub fits : before + part.items < 2 ^ 64
+  pub is : parts ≡ part ∷ drop 1 parts
+
+pub parts_left : (count : Settlement → ℕ) (before rest : ℕ) (parts : List Part) → AreWhole count before parts → 0 < rest → rest ≤ total parts → 0 < length parts
+parts_left count before rest [] w some within = absurd (omega (arith, some, within))
+parts_left count before rest (part ∷ parts) w some within = omega arith
+
+pub first_part : (k skip rest before : ℕ) (old parts : List Part) (part : Part) → 0 < rest → part ≡ get_or parts 0 part → IsDropping k skip rest before old parts
+    → IsFirstPart rest before parts part
+first_part k skip rest before old parts part some read d = at parts d.whole d.within read where
+  at : (parts : List Part) → AreWhole d.count before parts → rest ≤ total parts → part ≡ get_or parts 0 part → IsFirstPart rest before parts part
+  at [] w within read = absurd (omega (arith, some, within))
+  at (p ∷ ps) w within read =
+      let e : p ≡ part = sym read in
+      let more : 0 < part.items = subst (λ (x : Part). 0 < x.items) e w.0 in
+      let whole : before + part.items ≡ d.count part.settlement = subst (λ (x : Part). before + x.items ≡ d.count x.settlement) e w.1 in
+      let low : d.count part.settlement < 2 ^ 64 = subst (λ (x : Part). d.count x.settlement < 2 ^ 64) e w.2 in
+      record { some = more; fits = omega (arith, whole, low); is = ap (λ (x : Part). x ∷ ps) e }
+
+-- the whole first part is dropped
+pub dropped_part : (k skip rest before : ℕ) (old parts : List Part) (part : Part) → part ≡ get_or parts 0 part → 0 < rest → part.items ≤ rest → IsDropping k skip rest before old parts
+    → IsDropping k skip (rest - part.items) 0 old (drop 1 parts)
+dropped_part k skip rest before old parts part read some le d = at parts d.whole d.within d.behind_is d.skip_is read where
+  at : (parts : List Part) → AreWhole d.count before parts → rest ≤ total parts → behind rest parts ≡ behind k old → skip_behind before rest parts ≡ skip_behind skip k old
+      → part ≡ get_or parts 0 part → IsDropping k skip (rest - part.items) 0 old (drop 1 parts)
+  at [] w within left skipped read = absurd (omega (arith, some, within))
+  at (p ∷ ps) w within left skipped read =
+      let same : part.items ≡ p.items = ap (λ (x : Part). x.items) read in
+      record {
+        count = d.count;
+        whole = w.3;
+        within = omega (arith, within, same);
+        behind_is = ap (λ m. behind (rest - m) ps) same ∙ sym (behind-past rest p ps (omega (arith, same, le))) ∙ left;
+        skip_is = ap (λ m. skip_behind 0 (rest - m) ps) same ∙ sym (skip-past before rest p ps (omega (arith, same, le))) ∙ skipped;
+      }
+
+-- the last of what is dropped is a part of the first part
+pub dropped_within : (k skip rest before : ℕ) (old parts : List Part) (part : Part) → part ≡ get_or parts 0 part → 0 < rest → rest < part.items → IsDropping k skip rest before old parts
+    → (set parts 0 (with_number part (part.items - rest)) ≡ behind k old) × (before + rest ≡ skip_behind skip k old)
+dropped_within k skip rest before old parts part read some lt d = at parts d.whole d.within d.behind_is d.skip_is read where
+  at : (parts : List Part) → AreWhole d.count before parts → rest ≤ total parts → behind rest parts ≡ behind k old → skip_behind before rest parts ≡ skip_behind skip k old
+      → part ≡ get_or parts 0 part → (set parts 0 (with_number part (part.items - rest)) ≡ behind k old) × (before + rest ≡ skip_behind skip k old)
+  at [] w within left skipped read = absurd (omega (arith, some, within))
+  at (p ∷ ps) w within left skipped read =
+      let short : rest < p.items = subst (λ (x : Part). rest < x.items) read lt in (
+        ap (λ (x : Part). with_number x (x.items - rest) ∷ ps) read ∙ sym (behind-within rest p ps short) ∙ left,
+        sym (skip-within before rest p ps short) ∙ skipped,
+      )
+
+-- nothing is left to be dropped
+pub dropped_all : (k skip rest before : ℕ) (old parts : List Part) → rest ≡ 0 → IsDropping k skip rest before old parts → (parts ≡ behind k old) × (before ≡ skip_behind skip k old)
+dropped_all k skip rest before old parts e d =
+    let none = behind-zero d.count before parts d.whole in
+    (sym none.0 ∙ ap (λ m. behind m parts) (sym e) ∙ d.behind_is, sym none.1 ∙ ap (λ m. skip_behind before m parts) (sym e) ∙ d.skip_is)
+  where
+    whole : (m : ℕ) → m - 0 ≡ m
+    whole m = omega arith
+
+    behind-zero : (count : Settlement → ℕ) (before : ℕ) (parts : List Part) → AreWhole count before parts → (behind 0 parts ≡ parts) × (skip_behind before 0 parts ≡ before)
+    behind-zero count before [] w = (refl, refl)
+    behind-zero count before (p ∷ ps) w = (behind-within 0 p ps w.0 ∙ ap (λ m. with_number p m ∷ ps) (whole p.items), skip-within before 0 p ps w.0 ∙ omega arith)

@@ -1,0 +1,316 @@
+-- Runs of items, and the parts that they belong to.
+use Rattle.std.proofs.Common.{◌≡◌, ℕ, ◌+◌, ◌-◌, ◌^◌, ◌<◌, ◌≤◌, ◌==◌, min, Bool, true, false, cond, List, [], ◌∷◌, ◌++◌, length, take, drop, refl, sym, ap, ◌∙◌, subst, inl, inr, arith, length-append, length-drop, length-take-le}
+use Rattle.std.proofs.lemmas.Bool.{cases_lt, cases_eq, eqb-true, eq-eqb}
+use Rattle.std.proofs.lemmas.List.{append_assoc, append-nil, length-map, map-append, take-append-le, drop-append-le, take_min, drop_min, take-take, drop-drop, drop_at}
+use Rattle.dob_pieces.specs.declared.piece_set.PieceSet.{PieceSet}
+use Rattle.dob_share.specs.declared.news.Settlement.{Settlement}
+use Rattle.dob_share.specs.declared.news.Item.{Item}
+use Rattle.dob_unmove.specs.Edges.{predecessors}
+use Rattle.dob_update.specs.declared.part.Part.{Part}
+use Rattle.dob_update.specs.Items.{items_of}
+use Rattle.dob_update.specs.Parts.{settlement_of, settlements_of, with_number, total, front, behind, skip_behind, AreParts, AreWhole}
+use Rattle.dob_update.specs.Batches.{BatchView, OutboxView, HasItemIn, items_for, IsBatch, IsOutbox, IsFront, IsCut}
+use Rattle.dob_update.specs.Runs.{count_for, IsRun, IsRest}
+use Rattle.dob_update.proofs.PartLists.{behind-within, behind-past, skip-within, skip-past}
+
+-- ---- parts and their numbers of items
+
+some_in_front : (k : ℕ) (parts : List Part) → 0 < length (front k parts) → (0 < k) × (0 < length parts)
+some_in_front k [] some = absurd (omega (arith, some))
+some_in_front k (part ∷ parts) some = (
+  elim (cases_eq k 0) [
+    | inl none ↦ (let e : length (front k (part ∷ parts)) ≡ 0 = ap (λ m. length (front m (part ∷ parts))) none in absurd (omega (arith, some, e)))
+    | inr ne ↦ omega (arith, ne)
+  ],
+  omega arith,
+)
+
+total-front : (parts : List Part) (k : ℕ) → k ≤ total parts → total (front k parts) ≡ k
+total-front [] k within = omega (arith, within)
+total-front (part ∷ parts) k within = at (k == 0) refl (total-front parts (k - part.items) (omega (arith, within))) where
+  at : (none : Bool) → (k == 0) ≡ none → total (front (k - part.items) parts) ≡ k - part.items
+      → total (cond none [] (with_number part (min k part.items) ∷ front (k - part.items) parts)) ≡ k
+  at true e later = let none : k ≡ 0 = eqb-true k 0 e in omega (arith, none)
+  at false e later = omega (arith, later)
+
+-- their settlements are the first
+pub front_settlements : (parts : List Part) (k : ℕ) → (rest : List Settlement) × (settlements_of parts ≡ settlements_of (front k parts) ++ rest)
+front_settlements [] k = ([], refl)
+front_settlements (part ∷ parts) k = at (k == 0) (front_settlements parts (k - part.items)) where
+  at : (none : Bool) → (rest : List Settlement) × (settlements_of parts ≡ settlements_of (front (k - part.items) parts) ++ rest)
+      → (rest : List Settlement) × (settlements_of (part ∷ parts) ≡ settlements_of (cond none [] (with_number part (min k part.items) ∷ front (k - part.items) parts)) ++ rest)
+  at true later = (settlements_of (part ∷ parts), refl)
+  at false later = (later.0, ap (λ ss. part.settlement ∷ ss) later.1)
+
+module _ (count : Settlement → ℕ) where
+  parts_from_whole : (parts : List Part) (skip : ℕ) → AreWhole count skip parts → AreParts count skip parts
+  parts_from_whole [] skip w = tt
+  parts_from_whole (part ∷ parts) skip w = (w.0, (let e = w.1 in omega arith), (λ more. w.1), parts_from_whole parts 0 w.3)
+
+  -- the parts in front are parts
+  AreParts-front : (parts : List Part) (k skip : ℕ) → AreParts count skip parts → AreParts count skip (front k parts)
+  AreParts-front [] k skip h = tt
+  AreParts-front (part ∷ parts) k skip h = at (k == 0) refl (AreParts-front parts (k - part.items) 0 h.3) where
+    at : (none : Bool) → (k == 0) ≡ none → AreParts count 0 (front (k - part.items) parts)
+        → AreParts count skip (cond none [] (with_number part (min k part.items) ∷ front (k - part.items) parts))
+    at true e later = tt
+    at false e later =
+        let some : 0 < k = elim (cases_eq k 0) [ inl none ↦ (let t : (k == 0) ≡ true = eq-eqb k 0 none in cc) | inr ne ↦ omega (arith, ne) ] in (
+          (let s = h.0 in omega arith),
+          (let le = h.1 in omega arith),
+          (λ more.
+              let in_both = some_in_front (k - part.items) parts more in
+              let exact = h.2 in_both.1 in
+              omega (arith, exact, in_both.0)),
+          later,
+        )
+
+  -- one more settlement at the end, with all its items
+  AreWhole-push : (parts : List Part) (skip : ℕ) (part : Part) → AreWhole count skip parts → 0 < part.items → part.items ≡ count part.settlement
+      → part.items < 2 ^ 64 → AreWhole count skip (parts ++ part ∷ [])
+  AreWhole-push [] skip part w some all low = (some, omega (arith, w, all), omega (arith, all, low), refl)
+  AreWhole-push (first ∷ parts) skip part w some all low = (w.0, w.1, w.2, AreWhole-push parts 0 part w.3 some all low)
+
+some_parts : (parts : List Part) → 0 < total parts → 0 < length parts
+some_parts [] some = absurd (omega (arith, some))
+some_parts (part ∷ parts) some = omega arith
+
+-- ---- the items of settlements for one node
+
+module _ (set : PieceSet) (n to : ℕ) where
+  abbrev items : List Settlement → List Item
+  items ss = items_for set n to ss
+
+  abbrev count : Settlement → ℕ
+  count s = count_for set n to s
+
+  items-append : (ss ts : List Settlement) → items (ss ++ ts) ≡ items ss ++ items ts
+  items-append [] ts = refl
+  items-append (s ∷ ss) ts = ap (λ xs. items_of (predecessors set) n to s ++ xs) (items-append ss ts) ∙ sym (append_assoc (items_of (predecessors set) n to s) (items ss) (items ts))
+
+  length-items : (s : Settlement) (ss : List Settlement) → length (items (s ∷ ss)) ≡ count s + length (items ss)
+  length-items s ss = length-append (items_of (predecessors set) n to s) (items ss)
+
+  first_is : (s t : Settlement) (ss ts : List Settlement) → s ∷ ss ≡ t ∷ ts → (s ≡ t) × (ss ≡ ts)
+  first_is s t ss ts e = (cc, cc)
+
+  -- each part's settlement has an item in the run
+  each_needed : (parts : List Part) (skip : ℕ) → AreParts count skip parts → (before : List Settlement) (s : Settlement) (behind : List Settlement)
+      → settlements_of parts ≡ before ++ s ∷ behind → HasItemIn set n to before s skip (total parts)
+  each_needed [] skip h [] s behind e = cc
+  each_needed [] skip h (b ∷ bs) s behind e = cc
+  each_needed (part ∷ parts) skip h [] s behind e =
+      let same : part.settlement ≡ s = (first_is part.settlement s (settlements_of parts) behind e).0 in
+      let counts : count part.settlement ≡ count s = ap count same in
+      let own = length-items s [] in
+      record {
+        place = skip;
+        of_settlement = (omega arith, (let some = h.0 in let fits = h.1 in omega (arith, counts, own, some, fits)));
+        of_run = (omega arith, (let some = h.0 in omega arith));
+      }
+  each_needed (part ∷ parts) skip h (b ∷ bs) s behind e =
+      let both = first_is part.settlement b (settlements_of parts) (bs ++ s ∷ behind) e in
+      let counts : count part.settlement ≡ count b = ap count both.0 in
+      let w = each_needed parts 0 h.3 bs s behind both.1 in
+      let as_many : length parts ≡ length (bs ++ s ∷ behind) = sym (length-map parts settlement_of) ∙ ap length both.1 in
+      let more : 0 < length parts = omega (arith, as_many, length-append bs (s ∷ behind)) in
+      let exact = h.2 more in
+      let low = w.of_settlement.0 in
+      let high = w.of_settlement.1 in
+      let run = w.of_run.1 in
+      let below = length-items b bs in
+      let above = length-items b (bs ++ s ∷ []) in
+      record {
+        place = count b + w.place;
+        of_settlement = (omega (arith, below, low), omega (arith, above, high));
+        of_run = (omega (arith, exact, counts), omega (arith, exact, counts, run));
+      }
+
+  -- there are so many items
+  parts_fit : (parts : List Part) (skip : ℕ) → AreParts count skip parts → 0 < length parts → skip + total parts ≤ length (items (settlements_of parts))
+  parts_fit [] skip h some = absurd (omega (arith, some))
+  parts_fit (part ∷ []) skip h some =
+      let own = length-items part.settlement [] in
+      let fits = h.1 in
+      omega (arith, own, fits)
+  parts_fit (part ∷ next ∷ parts) skip h some =
+      let own = length-items part.settlement (settlements_of (next ∷ parts)) in
+      let exact = h.2 (omega arith) in
+      let later = parts_fit (next ∷ parts) 0 h.3 (omega arith) in
+      omega (arith, own, exact, later)
+
+  whole_is : (parts : List Part) (skip : ℕ) → AreWhole count skip parts → skip + total parts ≡ length (items (settlements_of parts))
+  whole_is [] skip w = omega (arith, w)
+  whole_is (part ∷ parts) skip w =
+      let own = length-items part.settlement (settlements_of parts) in
+      let exact = w.1 in
+      let later = whole_is parts 0 w.3 in
+      omega (arith, own, exact, later)
+
+  -- ---- runs
+
+  pub IsRun-front : (parts : List Part) (skip k : ℕ) (all : List Item) → AreParts count skip parts → 0 < k → k ≤ total parts → k ≤ length all
+      → take k all ≡ take k (drop skip (items (settlements_of parts))) → IsRun set n to (front k parts) skip (take k all)
+  IsRun-front parts skip k all h some within enough same =
+      let long : length (take k all) ≡ k = length-take-le k all enough in
+      let are = AreParts-front count parts k skip h in
+      let many = total-front parts k within in
+      let listed = front_settlements parts k in
+      let mine = items (settlements_of (front k parts)) in
+      let fit = parts_fit (front k parts) skip are (some_parts (front k parts) (omega (arith, many, some))) in
+      let apart : items (settlements_of parts) ≡ mine ++ items listed.0 = ap items listed.1 ∙ items-append (settlements_of (front k parts)) listed.0 in
+      let left : drop skip (items (settlements_of parts)) ≡ drop skip mine ++ items listed.0 = ap (drop skip) apart ∙ drop-append-le skip mine (items listed.0) (omega (arith, fit)) in
+      let first : take k (drop skip (items (settlements_of parts))) ≡ take k (drop skip mine) =
+      ap (take k) left ∙ take-append-le k (drop skip mine) (items listed.0) (omega (arith, fit, many, length-drop skip mine)) in
+      record {
+        some = omega (arith, long, some);
+        parts_fit = are;
+        counted = many ∙ sym long;
+        run = same ∙ first ∙ ap (λ m. take m (drop skip mine)) (sym long);
+      }
+
+  -- the front of a run is a run
+  pub run_shortened : (parts : List Part) (skip k : ℕ) (all : List Item) → IsRun set n to parts skip all → 0 < k → k ≤ length all → IsRun set n to (front k parts) skip (take k all)
+  run_shortened parts skip k all r some within =
+      IsRun-front parts skip k all r.parts_fit some (let counted = r.counted in omega (arith, counted, within)) within
+      (ap (take k) r.run ∙ take-take k (length all) (drop skip (items (settlements_of parts))) within)
+
+  rest_many : (parts : List Part) (skip : ℕ) (all : List Item) → IsRest set n to parts skip all → total parts ≡ length all
+  rest_many parts skip all r =
+      let whole = whole_is parts skip r.parts_fit in
+      let long = ap length r.rest in
+      omega (arith, whole, long, length-drop skip (items (settlements_of parts)))
+
+  -- so is that of what is left
+  pub run_cut : (parts : List Part) (skip k : ℕ) (all : List Item) → IsRest set n to parts skip all → 0 < k → k ≤ length all → IsRun set n to (front k parts) skip (take k all)
+  run_cut parts skip k all r some within =
+      IsRun-front parts skip k all (parts_from_whole count parts skip r.parts_fit) some
+      (let many = rest_many parts skip all r in omega (arith, many, within)) within (ap (take k) r.rest)
+
+  pub cut_within : (parts : List Part) (skip k : ℕ) (all : List Item) → IsRest set n to parts skip all → k ≤ length all → k ≤ total parts
+  cut_within parts skip k all r within = let many = rest_many parts skip all r in omega (arith, many, within)
+
+  -- what is gone from the parts, and what is left of them
+  pub record IsGone (parts : List Part) (skip k : ℕ) : Type 0 where
+    pub gone : List Settlement
+    pub apart : settlements_of parts ≡ gone ++ settlements_of (behind k parts)
+    pub many : length (items gone) + skip_behind skip k parts ≡ skip + k
+    pub whole : AreWhole count (skip_behind skip k parts) (behind k parts)
+
+  pub gone_behind : (parts : List Part) (skip k : ℕ) → AreWhole count skip parts → k ≤ total parts → IsGone parts skip k
+  gone_behind [] skip k w within = record { gone = []; apart = refl; many = omega (arith, within); whole = w }
+  gone_behind (part ∷ parts) skip k w within = elim (cases_lt k part.items) [
+    | inl lt ↦
+        let b = behind-within k part parts lt in
+        let s = skip-within skip k part parts lt in
+        let exact = w.1 in
+        record {
+          gone = [];
+          apart = ap settlements_of (sym b);
+          many = omega (arith, s);
+          whole = subst (λ (m : ℕ). AreWhole count m (behind k (part ∷ parts))) (sym s)
+              (subst (AreWhole count (skip + k)) (sym b) (omega (arith, lt), omega (arith, exact, lt), w.2, w.3));
+        }
+    | inr le ↦
+        let b = behind-past k part parts le in
+        let s = skip-past skip k part parts le in
+        let later = gone_behind parts 0 (k - part.items) w.3 (omega (arith, within)) in
+        let own = length-items part.settlement later.gone in
+        let exact = w.1 in
+        let many = later.many in
+        record {
+          gone = part.settlement ∷ later.gone;
+          apart = ap (λ ss. part.settlement ∷ ss) later.apart ∙ ap (λ ps. (part.settlement ∷ later.gone) ++ settlements_of ps) (sym b);
+          many = omega (arith, s, own, exact, many, le);
+          whole = subst (λ (m : ℕ). AreWhole count m (behind k (part ∷ parts))) (sym s)
+              (subst (AreWhole count (skip_behind 0 (k - part.items) parts)) (sym b) later.whole);
+        }
+  ]
+
+  pub rest_cut : (parts : List Part) (skip k : ℕ) (all : List Item) → IsRest set n to parts skip all → k ≤ length all
+      → IsRest set n to (behind k parts) (skip_behind skip k parts) (drop k all)
+  rest_cut parts skip k all r within =
+      let g = gone_behind parts skip k r.parts_fit (cut_within parts skip k all r within) in
+      let left = items (settlements_of (behind k parts)) in
+      let before = items g.gone in
+      let apart : items (settlements_of parts) ≡ before ++ left = ap items g.apart ∙ items-append g.gone (settlements_of (behind k parts)) in
+      record {
+        parts_fit = g.whole;
+        rest = ap (drop k) r.rest ∙ drop-drop k skip (items (settlements_of parts)) ∙ ap (λ m. drop m (items (settlements_of parts))) (sym g.many)
+            ∙ ap (drop (length before + skip_behind skip k parts)) apart ∙ sym (drop-drop (skip_behind skip k parts) (length before) (before ++ left))
+            ∙ ap (drop (skip_behind skip k parts)) (drop_at before left (length before) refl);
+      }
+
+  -- one more settlement with its items
+  pub rest_added : (parts : List Part) (skip : ℕ) (all more : List Item) (s : Settlement) → IsRest set n to parts skip all → 0 < length more → length more < 2 ^ 64
+      → more ≡ items_of (predecessors set) n to s → IsRest set n to (parts ++ (record { settlement = s; items = length more }) ∷ []) skip (all ++ more)
+  rest_added parts skip all more s r some low e =
+      let part : Part = record { settlement = s; items = length more } in
+      let old = items (settlements_of parts) in
+      let new = items_of (predecessors set) n to s in
+      let listed : settlements_of (parts ++ part ∷ []) ≡ settlements_of parts ++ s ∷ [] = map-append settlement_of parts (part ∷ []) in
+      let all_items : items (settlements_of (parts ++ part ∷ [])) ≡ old ++ new = ap items listed ∙ items-append (settlements_of parts) (s ∷ []) ∙ ap (λ xs. old ++ xs) (append-nil new) in
+      let whole = whole_is parts skip r.parts_fit in
+      record {
+        parts_fit = AreWhole-push count parts skip part r.parts_fit some (ap length e) low;
+        rest = ap (λ xs. xs ++ more) r.rest ∙ ap (λ xs. drop skip old ++ xs) e ∙ sym (drop-append-le skip old new (omega (arith, whole))) ∙ ap (drop skip) (sym all_items);
+      }
+
+-- ---- batches and outboxes
+
+pub IsBatch-from_run : (b : BatchView) (parts : List Part) → b.settlements ≡ settlements_of parts → IsRun b.set b.n b.to parts b.skip b.items → IsBatch b
+IsBatch-from_run b parts e r = record {
+  some = r.some;
+  run = subst (λ (ss : List Settlement). b.items ≡ take (length b.items) (drop b.skip (items_for b.set b.n b.to ss))) (sym e) r.run;
+  needed = λ before s behind h.
+      subst (λ (m : ℕ). HasItemIn b.set b.n b.to before s b.skip m) r.counted (each_needed b.set b.n b.to parts b.skip r.parts_fit before s behind (sym e ∙ h));
+}
+
+pub IsOutbox-from_rest : (o : OutboxView) (parts : List Part) → o.settlements ≡ settlements_of parts → IsRest o.set o.n o.to parts o.skip o.items → IsOutbox o
+IsOutbox-from_rest o parts e r = record {
+  rest = subst (λ (ss : List Settlement). o.items ≡ drop o.skip (items_for o.set o.n o.to ss)) (sym e) r.rest;
+  needed = λ before s behind h.
+      subst (λ (m : ℕ). HasItemIn o.set o.n o.to before s o.skip m) (rest_many o.set o.n o.to parts o.skip o.items r)
+      (each_needed o.set o.n o.to parts o.skip (parts_from_whole (count_for o.set o.n o.to) parts o.skip r.parts_fit) before s behind (sym e ∙ h));
+}
+
+-- the first k items of a batch, with the parts in front
+pub IsFront-from_parts : (old : BatchView) (parts new : List Part) (k : ℕ) (items : List Item) → old.settlements ≡ settlements_of parts → new ≡ front k parts → items ≡ take k old.items
+    → IsFront old k (record old { settlements = settlements_of new; items = items })
+IsFront-from_parts old parts new k items e f g =
+    let listed = front_settlements parts k in
+    record {
+      items = g;
+      listed = (listed.0, e ∙ listed.1 ∙ ap (λ ps. settlements_of ps ++ listed.0) (sym f));
+      same = refl;
+    }
+
+-- what is cut from an outbox by its parts
+pub IsCut-from_parts : (old : OutboxView) (parts taken left : List Part) (skip size k : ℕ) (items rest : List Item)
+    → old.settlements ≡ settlements_of parts → IsRest old.set old.n old.to parts old.skip old.items
+    → k ≡ min size (length old.items) → taken ≡ front k parts → items ≡ take k old.items
+    → left ≡ behind k parts → skip ≡ skip_behind old.skip k parts → rest ≡ drop k old.items
+    → IsCut old size
+    (record { set = old.set; n = old.n; from = old.from; to = old.to; number = old.next; settlements = settlements_of taken; skip = old.skip; items = items })
+    (record old { settlements = settlements_of left; skip = skip; items = rest; next = old.next + 1 })
+IsCut-from_parts old parts taken left skip size k items rest e r least front_is items_are left_is skip_is rest_is =
+    let within : k ≤ length old.items = omega (arith, least) in
+    let listed = front_settlements parts k in
+    let g = gone_behind old.set old.n old.to parts old.skip k r.parts_fit (cut_within old.set old.n old.to parts old.skip k old.items r within) in
+    let many = g.many in
+    let long : length items ≡ k = ap length items_are ∙ length-take-le k old.items within in
+    record {
+      items = items_are ∙ ap (λ m. take m old.items) least ∙ take_min size old.items;
+      left = rest_is ∙ ap (λ m. drop m old.items) least ∙ drop_min size old.items;
+      skip = refl;
+      number = refl;
+      next = refl;
+      listed = (listed.0, e ∙ listed.1 ∙ ap (λ ps. settlements_of ps ++ listed.0) (sym front_is));
+      kept = (
+        g.gone,
+        e ∙ g.apart ∙ ap (λ ps. g.gone ++ settlements_of ps) (sym left_is),
+        omega (arith, many, skip_is, long),
+      );
+      of_link = (refl, refl, refl, refl);
+      same_link = (refl, refl, refl, refl);
+    }

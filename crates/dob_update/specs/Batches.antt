@@ -1,0 +1,90 @@
+-- What a batch and an outbox are, and what is cut from an outbox.
+use Rattle.std.specs.Prelude.{◌≡◌, ℕ, ◌+◌, ◌<◌, ◌≤◌, List, [], ◌∷◌, ◌++◌, length, take, drop}
+use Rattle.dob_pieces.specs.declared.piece_set.PieceSet.{PieceSet}
+use Rattle.dob_unmove.specs.Edges.{predecessors}
+use Rattle.dob_share.specs.declared.news.Settlement.{Settlement}
+use Rattle.dob_share.specs.declared.news.Item.{Item}
+use Rattle.dob_update.specs.Items.{items_from}
+
+-- a batch of a piece set among n nodes, from one node to another, by its number on this link
+pub record BatchView : Type 0 where
+  pub set : PieceSet
+  pub n : ℕ
+  pub from : ℕ
+  pub to : ℕ
+  pub number : ℕ
+  pub settlements : List Settlement
+  pub skip : ℕ
+  pub items : List Item
+
+-- what a node has still to send to another, and the number of the next batch
+pub record OutboxView : Type 0 where
+  pub set : PieceSet
+  pub n : ℕ
+  pub from : ℕ
+  pub to : ℕ
+  pub settlements : List Settlement
+  pub skip : ℕ
+  pub items : List Item
+  pub next : ℕ
+
+-- the items of settlements for the node `to`
+abbrev pub items_for : PieceSet → ℕ → ℕ → List Settlement → List Item
+items_for set n to settlements = items_from (predecessors set) n to settlements
+
+-- Of the items of settlements, those that begin after `skip` and are so many have one of the settlement s, which stands
+-- after others: some place in the list is a place of both.
+pub record HasItemIn (set : PieceSet) (n to : ℕ) (before : List Settlement) (s : Settlement) (skip many : ℕ) : Type 0 where
+  pub place : ℕ
+  pub of_settlement : (length (items_for set n to before) ≤ place) × (place < length (items_for set n to (before ++ s ∷ [])))
+  pub of_run : (skip ≤ place) × (place < skip + many)
+
+-- each of the settlements has an item there
+abbrev pub EachHasItemIn : PieceSet → ℕ → ℕ → List Settlement → ℕ → ℕ → Type 0
+EachHasItemIn set n to settlements skip many = (before : List Settlement) (s : Settlement) (behind : List Settlement) →
+    settlements ≡ before ++ s ∷ behind → HasItemIn set n to before s skip many
+
+-- The items are a run of those of the settlements, which begins after `skip` of them; there are some, and each
+-- settlement has one among them.
+pub record IsBatch (batch : BatchView) : Type 0 where
+  pub some : 0 < length batch.items
+  pub run : batch.items ≡ take (length batch.items) (drop batch.skip (items_for batch.set batch.n batch.to batch.settlements))
+  pub needed : EachHasItemIn batch.set batch.n batch.to batch.settlements batch.skip (length batch.items)
+
+-- The items are those of the settlements after the first `skip` of them, and each settlement has one among them.
+pub record IsOutbox (outbox : OutboxView) : Type 0 where
+  pub rest : outbox.items ≡ drop outbox.skip (items_for outbox.set outbox.n outbox.to outbox.settlements)
+  pub needed : EachHasItemIn outbox.set outbox.n outbox.to outbox.settlements outbox.skip (length outbox.items)
+
+-- an outbox with nothing to send
+abbrev pub empty_outbox : PieceSet → ℕ → ℕ → ℕ → OutboxView
+empty_outbox set n from to = record { set = set; n = n; from = from; to = to; settlements = []; skip = 0; items = []; next = 0 }
+
+-- the settlement alone, where it has items
+abbrev pub with_items : Settlement → List Item → List Settlement
+with_items s [] = []
+with_items s (item ∷ items) = s ∷ []
+
+-- the outbox with a settlement more, where it has items for the receiver
+abbrev pub added : OutboxView → Settlement → List Item → OutboxView
+added outbox s items = record outbox { settlements = outbox.settlements ++ with_items s items; items = outbox.items ++ items }
+
+-- What is cut is the first `size` items, or all where there are fewer, and what is left are the others. The batch has
+-- the outbox's next number, and lists the first of its settlements; the outbox keeps the last of them.
+pub record IsCut (old : OutboxView) (size : ℕ) (batch : BatchView) (new : OutboxView) : Type 0 where
+  pub items : batch.items ≡ take size old.items
+  pub left : new.items ≡ drop size old.items
+  pub skip : batch.skip ≡ old.skip
+  pub number : batch.number ≡ old.next
+  pub next : new.next ≡ old.next + 1
+  pub listed : (behind : List Settlement) × (old.settlements ≡ batch.settlements ++ behind)
+  pub kept : (gone : List Settlement) × (old.settlements ≡ gone ++ new.settlements)
+      × (length (items_for old.set old.n old.to gone) + new.skip ≡ old.skip + length batch.items)
+  pub of_link : (batch.set ≡ old.set) × (batch.n ≡ old.n) × (batch.from ≡ old.from) × (batch.to ≡ old.to)
+  pub same_link : (new.set ≡ old.set) × (new.n ≡ old.n) × (new.from ≡ old.from) × (new.to ≡ old.to)
+
+-- The first k items of a batch, with the settlements that these need.
+pub record IsFront (old : BatchView) (k : ℕ) (new : BatchView) : Type 0 where
+  pub items : new.items ≡ take k old.items
+  pub listed : (behind : List Settlement) × (old.settlements ≡ new.settlements ++ behind)
+  pub same : new ≡ record old { settlements = new.settlements; items = new.items }

@@ -1,0 +1,48 @@
+-- Settlements with the number of items that each of them has somewhere.
+use Rattle.std.specs.Prelude.{◌≡◌, ℕ, ◌+◌, ◌-◌, ◌^◌, ◌<◌, ◌≤◌, ◌==◌, nat_lt, min, cond, List, [], ◌∷◌, length, map}
+use Rattle.dob_share.specs.declared.news.Settlement.{Settlement}
+use Rattle.dob_update.specs.declared.part.Part.{Part}
+
+abbrev pub settlement_of : Part → Settlement
+settlement_of part = part.settlement
+
+abbrev pub settlements_of : List Part → List Settlement
+settlements_of parts = map settlement_of parts
+
+-- so many items of the part's settlement
+abbrev pub with_number : Part → ℕ → Part
+with_number part items = record part { items = items }
+
+-- how many items there are in all
+abbrev pub total : List Part → ℕ
+total [] = 0
+total (part ∷ parts) = part.items + total parts
+
+-- the parts of the first k items
+abbrev pub front : ℕ → List Part → List Part
+front k [] = []
+front k (part ∷ parts) = cond (k == 0) [] (with_number part (min k part.items) ∷ front (k - part.items) parts)
+
+-- what is left of the parts without the first k items
+abbrev pub behind : ℕ → List Part → List Part
+behind k [] = []
+behind k (part ∷ parts) = cond (nat_lt k part.items) (with_number part (part.items - k) ∷ parts) (behind (k - part.items) parts)
+
+-- how many items of the first settlement stood before these parts, and stand before what is left without the first k
+abbrev pub skip_behind : ℕ → ℕ → List Part → ℕ
+skip_behind skip k [] = skip
+skip_behind skip k (part ∷ parts) = cond (nat_lt k part.items) (skip + k) (skip_behind 0 (k - part.items) parts)
+
+-- The parts are runs of their settlements' items, of which `count s` gives the number: the first after `skip` of them,
+-- each but the last up to the end, and none is empty.
+abbrev pub AreParts : (Settlement → ℕ) → ℕ → List Part → Type 0
+AreParts count skip [] = Unit {0}
+AreParts count skip (part ∷ parts) =
+    (0 < part.items) × (skip + part.items ≤ count part.settlement)
+    × (0 < length parts → skip + part.items ≡ count part.settlement) × AreParts count 0 parts
+
+-- the last too is up to the end
+abbrev pub AreWhole : (Settlement → ℕ) → ℕ → List Part → Type 0
+AreWhole count skip [] = skip ≡ 0
+AreWhole count skip (part ∷ parts) =
+    (0 < part.items) × (skip + part.items ≡ count part.settlement) × (count part.settlement < 2 ^ 64) × AreWhole count 0 parts

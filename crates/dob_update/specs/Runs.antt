@@ -1,0 +1,26 @@
+-- What batches and outboxes keep beside what is seen of them.
+use Rattle.std.specs.Prelude.{◌≡◌, ℕ, ◌<◌, List, length, take, drop}
+use Rattle.dob_pieces.specs.declared.piece_set.PieceSet.{PieceSet}
+use Rattle.dob_unmove.specs.Edges.{predecessors}
+use Rattle.dob_share.specs.declared.news.Settlement.{Settlement}
+use Rattle.dob_share.specs.declared.news.Item.{Item}
+use Rattle.dob_update.specs.declared.part.Part.{Part}
+use Rattle.dob_update.specs.Items.{items_of}
+use Rattle.dob_update.specs.Parts.{AreParts, AreWhole, settlements_of, total}
+use Rattle.dob_update.specs.Batches.{items_for}
+
+-- how many items a settlement has for the node `to`
+abbrev pub count_for : PieceSet → ℕ → ℕ → Settlement → ℕ
+count_for set n to s = length (items_of (predecessors set) n to s)
+
+-- the items are those of the parts
+pub record IsRun (set : PieceSet) (n to : ℕ) (parts : List Part) (skip : ℕ) (items : List Item) : Type 0 where
+  pub some : 0 < length items
+  pub parts_fit : AreParts (count_for set n to) skip parts
+  pub counted : total parts ≡ length items
+  pub run : items ≡ take (length items) (drop skip (items_for set n to (settlements_of parts)))
+
+-- the items are all those that the parts' settlements have after some
+pub record IsRest (set : PieceSet) (n to : ℕ) (parts : List Part) (skip : ℕ) (items : List Item) : Type 0 where
+  pub parts_fit : AreWhole (count_for set n to) skip parts
+  pub rest : items ≡ drop skip (items_for set n to (settlements_of parts))

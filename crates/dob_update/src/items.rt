@@ -1,0 +1,38 @@
+// The items that a settlement makes.
+ghost use Rattle.std.specs.Prelude.{◌≡◌, ◌<◌, ◌++◌, OnOk};
+ghost use Rattle.dob_update.specs.Items.{item_for, items_of};
+
+use dob_pieces::Memory;
+use dob_share::{Item, Settlement, owner};
+
+/// The news of the settlement for an edge from the class `to`.
+pub fn item_for(settlement: Settlement, to: u64) -> Item
+    ensures { result ≡ item_for settlement to }
+{
+    Item {
+        number: settlement.number,
+        to,
+        was: settlement.was,
+        now: settlement.now,
+    }
+}
+
+/// Appends the settlement's items for the owner `to`, one of `n`: one for each of the predecessors of its class that are
+/// this owner's, in their order. After `Memory` some of them may be appended.
+pub fn push_items(
+    items: &mut Vec<Item>,
+    settlement: Settlement,
+    predecessors: &[u64],
+    n: usize,
+    to: usize,
+) -> Result<(), Memory>
+    requires { 0 < n }
+    ensures { OnOk result (items.new.items ≡ items.old.items ++ items_of (λ _. predecessors.now) n to settlement) }
+{
+    for class in predecessors {
+        if owner(*class, n) == to {
+            items.push(item_for(settlement, *class))?;
+        }
+    }
+    Ok(())
+}

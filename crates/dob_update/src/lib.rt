@@ -1,0 +1,16 @@
+// Items on their way from owner to owner: the outbox of what one has still to send to another, and the batches that are
+// cut from it.
+#![tactic(auto)]
+
+mod batch;
+mod items;
+mod outbox;
+mod part;
+
+pub use batch::Batch;
+pub use items::{item_for, push_items};
+pub use outbox::Outbox;
+pub use part::Part;
+
+#[cfg(test)]
+mod tests;

@@ -1,0 +1,207 @@
+// Outboxes: what an owner has still to send to another.
+ghost use Rattle.std.specs.Prelude.{◌≡◌, ◌≢◌, ◌<◌, ◌≤◌, ◌+◌, ◌*◌, ◌-◌, ◌^◌, ◌↔◌, ℕ, [], ◌∷◌, ◌++◌, length, take, drop, vec_len, IsTrue, IsSome, IsNone, IfOk, IfSome, OnOk, OnErr};
+ghost use Rattle.std.specs.VecDeque.{deque_len, deque_capacity};
+ghost use Rattle.dob_unmove.specs.Edges.{predecessors};
+ghost use Rattle.dob_share.specs.declared.news.Settlement.{Settlement as Settled};
+ghost use Rattle.dob_update.specs.Items.{items_of};
+ghost use Rattle.dob_update.specs.Parts.{front, behind, skip_behind, total, AreWhole};
+ghost use Rattle.dob_update.specs.Batches.{IsOutbox, IsCut, empty_outbox, added};
+
+use crate::batch::Batch;
+use crate::part::Part;
+use dob_pieces::{Memory, PieceSet};
+use dob_share::{Item, Settlement};
+use std::alloc::Global;
+use std::collections::VecDeque;
+use std::marker::Model;
+
+/// What one of `n` owners of a piece set's classes has still to send to another: the items of its settlements for the
+/// receiver, in order. It keeps 24 bytes an item and 32 a settlement, at most double while it grows.
+#[derive(Drop)]
+pub struct Outbox {
+    alloc: Global,
+    set: PieceSet,
+    n: usize,
+    from: usize,
+    to: usize,
+    parts: VecDeque<Part>,
+    skip: usize,
+    items: VecDeque<Item>,
+    next: u64,
+}
+
+impl Model for Outbox {
+    ghost use Rattle.std.specs.Prelude.{◌≡◌};
+    ghost use Rattle.dob_update.specs.Parts.{settlements_of};
+    ghost use Rattle.dob_update.specs.Batches.{OutboxView};
+    ghost use Rattle.dob_update.specs.Runs.{IsRest};
+
+    ghost Value = { OutboxView };
+
+    ghost view = { λ o. record { set = o.set; n = o.n; from = o.from; to = o.to; settlements = settlements_of o.parts.items; skip = o.skip; items = o.items.items; next = o.next } };
+
+    ghost invariant = { λ o. IsRest o.set o.n o.to o.parts.items o.skip o.items.items };
+}
+
+impl Outbox {
+    /// An outbox with nothing to send, of one of `n` owners for another.
+    pub fn new(alloc: Global, set: PieceSet, n: usize, from: usize, to: usize) -> Outbox
+        ensures { result ≡ empty_outbox set n from to }
+    {
+        Outbox {
+            alloc,
+            set,
+            n,
+            from,
+            to,
+            parts: VecDeque::new(alloc),
+            skip: 0,
+            items: VecDeque::new(alloc),
+            next: 0,
+        }
+    }
+
+    /// Whether nothing is left to send.
+    pub fn is_empty(&self) -> bool
+        ensures empty { IsTrue result ↔ (self.now.items ≡ []) }
+        ensures outbox { IsOutbox self.now }
+    {
+        self.items.is_empty()
+    }
+
+    /// How many items are left to send.
+    pub fn len(&self) -> usize
+        ensures { result ≡ length self.now.items }
+    {
+        self.items.len()
+    }
+
+    /// How many batches were cut.
+    pub fn cut_count(&self) -> u64
+        ensures { result ≡ self.now.next }
+    {
+        self.next
+    }
+
+    /// Adds a settlement with its items for the receiver; one without items isn't listed. After `Memory` the outbox is
+    /// unchanged.
+    pub fn add(&mut self, settlement: Settlement, items: &[Item]) -> Result<(), Memory>
+        requires { items.now ≡ items_of (predecessors self.old.set) self.old.n self.old.to settlement }
+        ensures ok { OnOk result (self.new ≡ added self.old settlement items.now) }
+        ensures err { OnErr result (self.new ≡ self.old) }
+    {
+        if items.is_empty() {
+            return Ok(());
+        }
+        self.parts.reserve(1)?;
+        self.items.reserve(items.len())?;
+        push_all(&mut self.items, items);
+        self.parts.push_back_reserved(Part {
+            settlement,
+            items: items.len(),
+        });
+        Ok(())
+    }
+
+    /// Cuts a batch of the first `size` items, from 1 to 4096, or of all where fewer are left, and `None` where none
+    /// is. After `Memory` the outbox is unchanged. The outbox has cut fewer than 2^64 - 1 batches before.
+    pub fn cut(&mut self, size: usize) -> Result<Option<Batch>, Memory>
+        requires some { 0 < size }
+        requires at_most { size ≤ 4096 }
+        requires counted { self.old.next + 1 < 2 ^ 64 }
+        ensures none { IfOk result (λ batch. IsNone batch ↔ (self.old.items ≡ [])) }
+        ensures nothing { IfOk result (λ batch. IsNone batch → self.new ≡ self.old) }
+        ensures batch { IfOk result (λ batch. IfSome batch (λ b. IsCut self.old size b self.new)) }
+        ensures err { OnErr result (self.new ≡ self.old) }
+    {
+        let taken = size.min(self.items.len());
+        if taken == 0 {
+            return Ok(None);
+        }
+        let parts = front_parts(self.alloc, &self.parts, taken)?;
+        let items = front_items(self.alloc, &self.items, taken)?;
+        let batch = Batch::new(
+            self.set, self.n, self.from, self.to, self.next, parts, self.skip, items,
+        );
+        self.skip = drop_parts(&mut self.parts, self.skip, taken);
+        drop_items(&mut self.items, taken);
+        self.next += 1;
+        Ok(Some(batch))
+    }
+}
+
+// Appends the items, for which there is room.
+fn push_all(queue: &mut VecDeque<Item>, items: &[Item])
+    requires { deque_len queue.old + length items.now ≤ deque_capacity queue.old }
+    ensures { queue.new.items ≡ queue.old.items ++ items.now }
+{
+    for item in items {
+        queue.push_back_reserved(*item);
+    }
+}
+
+// The parts of the first `k` items.
+fn front_parts(alloc: Global, parts: &VecDeque<Part>, k: usize) -> Result<Vec<Part>, Memory>
+    ensures { IfOk result (λ list. list.items ≡ front k parts.now.items) }
+{
+    let mut list = Vec::new(alloc);
+    let mut rest = k;
+    for index in 0..parts.len() {
+        if rest == 0 {
+            break;
+        }
+        let part = parts[index];
+        let items = part.items.min(rest);
+        list.push(Part { items, ..part })?;
+        rest -= items;
+    }
+    Ok(list)
+}
+
+// The first `k` items.
+fn front_items(alloc: Global, items: &VecDeque<Item>, k: usize) -> Result<Vec<Item>, Memory>
+    requires { k ≤ length items.now.items }
+    ensures { IfOk result (λ list. list.items ≡ take k items.now.items) }
+{
+    let mut list = Vec::with_capacity(alloc, k)?;
+    for index in 0..k {
+        list.push(items[index])?;
+    }
+    Ok(list)
+}
+
+// Drops the first `k` items from the parts, of which the first had `skip` items before; how many the first one left has
+// before.
+fn drop_parts(parts: &mut VecDeque<Part>, skip: usize, k: usize) -> usize
+    requires whole { (count : Settled → ℕ) × AreWhole count skip parts.old.items }
+    requires within { k ≤ total parts.old.items }
+    ensures parts { parts.new.items ≡ behind k parts.old.items }
+    ensures skip { result ≡ skip_behind skip k parts.old.items }
+{
+    let mut before = skip;
+    let mut rest = k;
+    while rest > 0 {
+        let part = parts[0];
+        if rest < part.items {
+            parts[0] = Part {
+                items: part.items - rest,
+                ..part
+            };
+            return before + rest;
+        }
+        rest -= part.items;
+        before = 0;
+        parts.pop_front();
+    }
+    before
+}
+
+// Drops the first `k` items.
+fn drop_items(items: &mut VecDeque<Item>, k: usize)
+    requires { k ≤ length items.old.items }
+    ensures { items.new.items ≡ drop k items.old.items }
+{
+    for _ in 0..k {
+        items.pop_front();
+    }
+}
