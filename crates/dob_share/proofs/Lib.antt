@@ -2,7 +2,7 @@ pub mod Tallies
 pub mod Changing
 pub mod Keeping
 pub mod Applied
-pub mod Laws
+pub mod Growing
 pub mod Owning
 pub mod Opened
 pub mod OwnOpened

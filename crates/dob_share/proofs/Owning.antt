@@ -14,7 +14,7 @@ use Rattle.dob_share.specs.Slots.{slot_at, cell_in}
 use Rattle.dob_share.specs.Steps.{IsTooDeep}
 use Rattle.dob_share.specs.Shares.{places_of, IsOwn, IsOwnOpen, status_at, cell_at, IsValue, HasValueNow, Fits, GoesTooDeep, SameClasses}
 use Rattle.dob_share.proofs.Applied.{same_value}
-use Rattle.dob_share.proofs.Laws.{no_worse}
+use Rattle.dob_share.proofs.Growing.{no_worse}
 
 pub not_open : (share : Share) (item : Item) → (IsOwnOpen share item.to → ⊥) → Fits share item → ⊥
 unfolding IsOwnOpen Fits

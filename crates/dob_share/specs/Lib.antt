@@ -7,3 +7,4 @@ pub mod Steps
 pub mod Shares
 pub mod Openings
 pub mod Faults
+pub mod Laws

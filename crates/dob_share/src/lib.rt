@@ -3,6 +3,7 @@
 
 mod cells;
 mod fault;
+pub mod laws;
 mod news;
 mod opening;
 mod owners;
@@ -14,3 +15,6 @@ pub use news::{Item, Settlement};
 pub use opening::Opening;
 pub use owners::owner;
 pub use share::Share;
+
+#[cfg(test)]
+mod tests;

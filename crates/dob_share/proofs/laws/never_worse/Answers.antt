@@ -1,0 +1,5 @@
+use Rattle.dob_share.proofs.Growing.{no_worse}
+use Rattle.dob_share.proofs.laws.never_worse.Goals as goal
+
+pub returns : goal.returns
+returns c = no_worse
