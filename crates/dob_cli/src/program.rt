@@ -53,6 +53,7 @@ pub fn run_words<'a, O: Write, E: Write>(
         }
         Ok(Reading::Order(Order::Value(text))) => run_value(alloc, text, out, err),
         Ok(Reading::Order(Order::Count(text))) => run_count(alloc, text, out, err),
+        Ok(Reading::Order(_)) => USAGE,
     }
 }
 
