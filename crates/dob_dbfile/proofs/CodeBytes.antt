@@ -1,0 +1,76 @@
+-- Records and the codes that they are.
+use Rattle.std.proofs.Common.{◌≡◌, ℕ, zero, suc, ◌+◌, ◌*◌, ◌/◌, ◌%◌, ◌^◌, ◌≤◌, ◌<◌, List, [], ◌∷◌, ◌++◌, take, drop, length, get_or, slice_get, slice_index, Some, map, arith, refl, sym, subst, ap, ◌∙◌, inl, inr, append-nil, append_assoc, take-add, length-drop}
+use Rattle.std.specs.List.{All, flat_map}
+use Rattle.std.proofs.lemmas.Bool.{cases_eq}
+use Rattle.std.proofs.lemmas.List.{take_more, get_or-drop}
+use Rattle.std.proofs.lemmas.List.Concat.{flat_map-append}
+use Rattle.std.proofs.lemmas.Option.{slice_get-get_or, same_Some}
+use Rattle.byteorder.specs.Endian.{little_bytes, little_number}
+use Rattle.dob_value.specs.declared.value.Value.{Value}
+use Rattle.dob_value.specs.declared.value.Value.TheVariants.{Win, Loss, Draw}
+use Rattle.dob_value.specs.Codes.{value_at_distance, value_of_code, values_of_codes, code_of_value}
+use Rattle.dob_value.specs.Follows.{IsEntry}
+use Rattle.dob_dbfile.specs.Format.{code_bytes, records}
+
+-- what stands at a place of a list
+read_at : {X : Type 0} (xs : List X) (i : ℕ) (x : X) → i < length xs → slice_get xs i ≡ Some x → get_or xs i x ≡ x
+read_at xs i x below there = same_Some _ _ (sym (slice_get-get_or xs i x below) ∙ there)
+
+-- an entry at its place
+pub entry_at : (values : List Value) (class : ℕ) (value : Value) → All IsEntry values → class < length values
+    → slice_get values class ≡ Some value → IsEntry value
+entry_at values class value entries below there = subst IsEntry (read_at values class value below there) (entries class value below)
+
+-- the records of one class more
+pub records_more : (values : List Value) (class : ℕ) (value : Value) → class < length values → slice_get values class ≡ Some value
+    → records (take (class + 1) values) ≡ records (take class values) ++ little_bytes 2 (code_of_value value)
+records_more values class value below there =
+    let bytes : Value → List ℕ = λ v. little_bytes 2 (code_of_value v) in
+    ap records (take_more values class value below ∙ ap (λ (v : Value). take class values ++ v ∷ []) (read_at values class value below there))
+    ∙ flat_map-append bytes (take class values) (value ∷ [])
+    ∙ ap (λ (last : List ℕ). records (take class values) ++ last) (append-nil (bytes value))
+
+-- a value has its code
+code_of_distance : (plies : ℕ) → code_of_value (value_at_distance plies) ≡ plies + 1
+code_of_distance plies = elim (cases_eq (plies % 2) 1) [
+  | inl odd ↦ rw odd refl
+  | inr even ↦
+      let none : plies % 2 ≡ 0 = omega (arith, even) in
+      rw none refl
+]
+
+pub code_of_code : (code : ℕ) → code_of_value (value_of_code code) ≡ code
+code_of_code zero = refl
+code_of_code (suc plies) = let e = code_of_distance plies in omega (arith, e)
+
+-- records of values that stand for codes are those of the codes
+pub records-codes : (codes : List ℕ) → records (values_of_codes codes) ≡ code_bytes codes
+records-codes [] = refl
+records-codes (code ∷ codes) = rw (code_of_code code, records-codes codes) refl
+
+-- two bytes are those of their number
+pair_back : (xs : List ℕ) → 2 ≤ length xs → ((i : ℕ) → slice_index xs i < 256) → little_bytes 2 (little_number 2 xs) ≡ take 2 xs
+pair_back [] two bytes = absurd (omega arith)
+pair_back (a ∷ []) two bytes = absurd (omega arith)
+pair_back (a ∷ b ∷ xs) two bytes =
+    let low : a < 256 = bytes 0 in
+    let high : b < 256 = bytes 1 in
+    let first : (a + 256 * (b + 256 * 0)) % 256 ≡ a = omega arith in
+    let second : (a + 256 * (b + 256 * 0)) / 256 % 256 ≡ b = omega arith in
+    ap (λ (x : ℕ). x ∷ (a + 256 * (b + 256 * 0)) / 256 % 256 ∷ []) first ∙ ap (λ (y : ℕ). a ∷ y ∷ []) second
+
+-- one record more
+pub code_more : (bytes more : List ℕ) (index code : ℕ) → ((i : ℕ) → slice_index bytes i < 256) → 2 * index + 2 ≤ length bytes
+    → code_bytes more ≡ take (2 * index) bytes → code ≡ little_number 2 (drop (2 * index) bytes)
+    → code_bytes (more ++ code ∷ []) ≡ take (2 * (index + 1)) bytes
+code_more bytes more index code fits there same is =
+    let place : 2 * (index + 1) ≡ 2 * index + 2 = omega arith in
+    let two : 2 ≤ length (drop (2 * index) bytes) = omega (arith, length-drop (2 * index) bytes) in
+    let small : (i : ℕ) → slice_index (drop (2 * index) bytes) i < 256 = λ i. rw (get_or-drop (2 * index) bytes i 0) (fits (2 * index + i)) in
+    flat_map-append (λ (c : ℕ). little_bytes 2 c) more (code ∷ [])
+    ∙ ap (λ (last : List ℕ). code_bytes more ++ last) (append-nil (little_bytes 2 code))
+    ∙ ap (λ (front : List ℕ). front ++ little_bytes 2 code) same
+    ∙ ap (λ (c : ℕ). take (2 * index) bytes ++ little_bytes 2 c) is
+    ∙ ap (λ (last : List ℕ). take (2 * index) bytes ++ last) (pair_back (drop (2 * index) bytes) two small)
+    ∙ sym (take-add (2 * index) 2 bytes)
+    ∙ ap (λ (n : ℕ). take n bytes) (sym place)

@@ -1,0 +1,10 @@
+mod CodeBytes
+mod Counts
+mod Cuts
+mod Endings
+mod FileBytes
+mod Pieces
+mod Refused
+mod Filled
+mod Streams
+mod Verdicts

@@ -1,0 +1,36 @@
+use Rattle.std.proofs.Common.{◌≡◌, ◌∙◌, ℕ, refl, sym, subst, arith, rules, length, true, false}
+use Rattle.std.proofs.lemmas.Result.{err_from_is_err_and}
+use Rattle.dob_dbfile.specs.Reading.{IsCut}
+use Rattle.dob_dbfile.proofs.Endings.{digest_cut, all_taken}
+use Rattle.dob_dbfile.proofs.read.expect_digest.Goals as goal
+
+pub returns-in_err-fill-clause-refused : goal.returns-in_err-fill-clause-refused
+returns-in_err-fill-clause-refused g c = λ stream message gives holds.
+    let p = err_from_is_err_and c.from_residual.result c.from_residual.ensures.1 in
+    let room : length c.fill.new.room ≡ 32 = c.fill.auto.room in
+    rw (p.1, p.2) (digest_cut message c.args.before stream _
+    (subst (λ (n : ℕ). IsCut n c.args.before stream c.in_err-fill.field-0.0) room (c.in_err-fill.ensures.cut stream gives)))
+
+pub returns-then-are_same-clause-is : goal.returns-then-are_same-clause-is
+returns-then-are_same-clause-is g c = λ stream message gives holds.
+    let taken = c.in_ok-fill.ensures.taken stream gives in
+    let found = all_taken stream c.fill.new.room taken.0 (c.in_ok-expect_end.ensures.end _ taken.1) in
+    let room : length c.fill.new.room ≡ 32 = c.fill.auto.room in
+    record {
+      ends = found.ends;
+      whole = found.whole ∙ room;
+      digest = found.same ∙ c.are_same.ensures.0 c.if-are_same.true ∙ c.finalize.ensures message holds;
+    }
+
+pub returns-else-are_same-clause-refused : goal.returns-else-are_same-clause-refused
+returns-else-are_same-clause-refused g c = λ stream message gives holds.
+    let taken = c.in_ok-fill.ensures.taken stream gives in
+    let found = all_taken stream c.fill.new.room taken.0 (c.in_ok-expect_end.ensures.end _ taken.1) in
+    let room : length c.fill.new.room ≡ 32 = c.fill.auto.room in (
+      found.whole ∙ room,
+      found.ends,
+      λ same.
+          let yes : c.are_same.result ≡ true = c.are_same.ensures.1 (sym found.same ∙ same ∙ sym (c.finalize.ensures message holds)) in
+          let no : c.are_same.result ≡ false = c.if-are_same.false in
+          cc,
+    )

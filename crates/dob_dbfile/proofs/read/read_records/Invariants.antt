@@ -1,0 +1,20 @@
+use Rattle.std.proofs.Common.{◌≡◌, ◌*◌, ◌-◌, ◌<◌, ◌≤◌, [], vec_len, length}
+use Rattle.std.specs.List.{All}
+use Rattle.dob_dbfile.specs.Devices.{Stream, after}
+use Rattle.dob_dbfile.specs.Reading.{ReadsCodes, HashesNext}
+use Rattle.dob_dbfile.proofs.read.read_records.Given as goal
+
+-- so many records were read, and the hasher has had their bytes
+abbrev pub invariant-records : goal.invariant-records
+invariant-records g l =
+    (vec_len l.codes ≤ l.count)
+    × (length l.room ≡ 4096)
+    × All (λ code. code < 65536) l.codes.items
+    × (g.R.Source.has_failed l.source ≡ g.R.Source.has_failed l.initial.source)
+    × ((stream : Stream) → g.R.Source.gives l.initial.source stream →
+    ReadsCodes stream (2 * vec_len l.codes) [] l.codes.items
+    × g.R.Source.gives l.source (after (2 * vec_len l.codes) stream)
+    × HashesNext stream (2 * vec_len l.codes) l.initial.hasher l.hasher)
+
+abbrev pub decreases-records : goal.decreases-records
+decreases-records g l = l.count - vec_len l.codes

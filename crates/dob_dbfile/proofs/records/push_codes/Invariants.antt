@@ -1,0 +1,10 @@
+use Rattle.std.proofs.Common.{◌≡◌, ◌+◌, ◌*◌, ◌<◌, ◌++◌, ℕ, List, take, length}
+use Rattle.std.specs.List.{All}
+use Rattle.dob_dbfile.specs.Format.{code_bytes}
+use Rattle.dob_dbfile.proofs.records.push_codes.Given as goal
+
+-- so many records were read
+abbrev pub invariant-loop-index : goal.invariant-loop-index
+invariant-loop-index l =
+    ((more : List ℕ) × (l.codes.items ≡ l.initial.codes.items ++ more) × (code_bytes more ≡ take (2 * l.index) l.records) × (length more ≡ l.index))
+    × (All (λ code. code < 65536) l.initial.codes.items → All (λ code. code < 65536) l.codes.items)

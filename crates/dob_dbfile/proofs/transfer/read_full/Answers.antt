@@ -1,0 +1,19 @@
+use Rattle.std.proofs.Common.{◌∙◌, ◌+◌, ◌-◌, arith, rules, subst, length}
+use Rattle.std.proofs.Math.Bool.{or-false}
+use Rattle.dob_dbfile.specs.Devices.{Stream}
+use Rattle.dob_dbfile.proofs.Filled.{filled_more, after-after}
+use Rattle.dob_dbfile.proofs.transfer.read_full.Goals as goal
+
+pub loop-done-preserved : goal.loop-done-preserved
+loop-done-preserved g c =
+    let done = c.loop-done.done in
+    let count = c.in-Ok.count in (
+      search rules,
+      c.in-Ok.ensures.failed ∙ or-false _ ∙ c.loop-done.invariant.1,
+      λ stream gives.
+          let before = c.loop-done.invariant.2 stream gives in
+          let given = c.in-Ok.ensures.given _ before.2 in
+          let more = filled_more stream done count (length c.loop-done.room - done) c.loop-done.room c.read.new.room
+          c.loop-done.invariant.0 c.in-Ok.ensures.within before.0 before.1 given.0 in
+          (more.0, more.1, subst (g.R.Source.gives c.read.new.self) (after-after stream done count) given.1),
+    )

@@ -1,0 +1,14 @@
+use Rattle.std.proofs.Common.{◌≡◌, length, take, ◌-◌, ◌≤◌}
+use Rattle.dob_dbfile.specs.Devices.{Stream, after}
+use Rattle.dob_dbfile.proofs.transfer.read_full.Given as goal
+
+-- the front of the room is the front of the stream, and nothing has failed
+abbrev pub invariant-loop-done : goal.invariant-loop-done
+invariant-loop-done g l =
+    (l.done ≤ length l.room)
+    × (g.R.Source.has_failed l.source ≡ g.R.Source.has_failed l.initial.source)
+    × ((stream : Stream) → g.R.Source.gives l.initial.source stream →
+    (l.done ≤ length stream.bytes) × (take l.done l.room ≡ take l.done stream.bytes) × g.R.Source.gives l.source (after l.done stream))
+
+abbrev pub decreases-loop-done : goal.decreases-loop-done
+decreases-loop-done g l = length l.room - l.done

@@ -1,0 +1,7 @@
+pub mod Devices
+pub mod Memory
+pub mod Format
+pub mod Faults
+pub mod FaultTexts
+pub mod Reading
+pub mod Writing

@@ -1,0 +1,68 @@
+// What bytes are read from and written to, and how these fail.
+ghost use Rattle.std.specs.Prelude.{◌≡◌, ℕ, ◌<◌, ◌≤◌, ◌||◌, [], Bool, List, Option, length, is_err, IfOk, OnOk, OnErr};
+ghost use Rattle.std.specs.Io.KnownBytes.{Keeps, WriteAppends};
+ghost use Rattle.dob_dbfile.specs.Devices.{Stream, after, broken, GivesFirst, AddsFlush};
+
+/// A device didn't do what it was asked, and no byte was moved by that call.
+#[derive(Clone, Copy, Debug, PartialEq, Eq)]
+pub struct Failed;
+
+/// A device failed after that many bytes of what was to be moved.
+#[derive(Clone, Copy, Debug, PartialEq, Eq)]
+pub struct FailedAfter {
+    pub bytes: usize,
+}
+
+/// Bytes that come one after the other, up to an end.
+pub trait Source {
+    // By `gives source stream` the source gives that stream from here on. One of which nothing is known gives none.
+    ghost gives: { Self → Stream → Type 0 };
+
+    // Whether some call of it has failed.
+    ghost has_failed: { Self → Bool };
+
+    /// Puts the next bytes into the front of the room and answers how many: none only at the end of the bytes, or
+    /// where there is no room.
+    fn read(&mut self, room: &mut [u8]) -> Result<usize, Failed>
+        ensures within { IfOk result (λ count. count ≤ length room.new) }
+        ensures given { (stream : Stream) → gives self.old stream
+            → IfOk result (λ count. GivesFirst stream count room.new × gives self.new (after count stream)) }
+        ensures broken { (stream : Stream) → gives self.old stream
+            → OnErr result ((stream ≡ broken []) × gives self.new stream) }
+        ensures failed { has_failed self.new ≡ (has_failed self.old || is_err result) };
+
+    /// Whether some call of it has failed.
+    fn failed(&self) -> bool
+        ensures { result ≡ has_failed self.now };
+}
+
+/// A place for bytes, which are taken one after the other.
+pub trait Sink {
+    // The bytes that it has received, where they are known.
+    ghost received: { Self → Option (List ℕ) };
+
+    // After how many bytes it was flushed, each time, where that is known.
+    ghost flushes: { Self → Option (List ℕ) };
+
+    // Whether some call of it has failed.
+    ghost has_failed: { Self → Bool };
+
+    /// Takes the first bytes of the piece and answers how many: at least one, where there is one.
+    fn write(&mut self, piece: &[u8]) -> Result<usize, Failed>
+        ensures within { IfOk result (λ count. count ≤ length piece.now) }
+        ensures some { IfOk result (λ count. 0 < length piece.now → 0 < count) }
+        ensures bytes { WriteAppends (received self.old) (received self.new) result piece.now }
+        ensures flushes { Keeps (flushes self.old) (flushes self.new) }
+        ensures failed { has_failed self.new ≡ (has_failed self.old || is_err result) };
+
+    /// Brings the bytes that were taken to where they belong.
+    fn flush(&mut self) -> Result<(), Failed>
+        ensures bytes { Keeps (received self.old) (received self.new) }
+        ensures flushed { OnOk result (AddsFlush (received self.old) (flushes self.old) (flushes self.new)) }
+        ensures unflushed { OnErr result (Keeps (flushes self.old) (flushes self.new)) }
+        ensures failed { has_failed self.new ≡ (has_failed self.old || is_err result) };
+
+    /// Whether some call of it has failed.
+    fn failed(&self) -> bool
+        ensures { result ≡ has_failed self.now };
+}

@@ -1,0 +1,90 @@
+// The refusals of this crate.
+ghost use Rattle.std.specs.Prelude.{◌≡◌, Some};
+ghost use Rattle.dob_dbfile.specs.declared.fault.Fault.TheVariants as fault;
+
+use dob_pieces::Memory;
+use std::alloc::{AllocError, AllocFailed};
+use std::error::Error;
+use std::fmt;
+
+/// Why a file isn't read or written.
+#[derive(Clone, Copy, Debug, PartialEq, Eq)]
+pub enum Fault {
+    /// E8: the file's piece set has more than three pieces besides the lions.
+    SetTooLarge,
+    /// E15: the bytes end before the header, or before the records and the digest of the set that it names.
+    Truncated,
+    /// E16: the file doesn't begin as such files do.
+    Magic,
+    /// E17: the bytes after that name no piece set.
+    SetByte,
+    /// E18: the set hasn't that number of classes.
+    ClassCount,
+    /// E19: a byte stands after the digest.
+    Trailing,
+    /// E20: the digest isn't that of the bytes before it.
+    Digest,
+    /// E23: a growth was refused, since no memory was left for it.
+    Memory,
+    /// E24: what is read from or written to failed after that many bytes.
+    Io(u64),
+}
+
+impl fmt::Display for Fault {
+    ghost use Rattle.dob_dbfile.specs.FaultTexts.{fault_text};
+
+    ghost output = { λ fault. Some (fault_text fault) };
+
+    fn fmt<W: fmt::Write>(&self, f: &mut fmt::Formatter<W>) -> fmt::Result {
+        match self {
+            Fault::SetTooLarge => write!(f, "E8 SetTooLarge"),
+            Fault::Truncated => write!(f, "E15 Truncated"),
+            Fault::Magic => write!(f, "E16 Magic"),
+            Fault::SetByte => write!(f, "E17 SetByte"),
+            Fault::ClassCount => write!(f, "E18 ClassCount"),
+            Fault::Trailing => write!(f, "E19 Trailing"),
+            Fault::Digest => write!(f, "E20 Digest"),
+            Fault::Memory => write!(f, "E23 Memory"),
+            Fault::Io(_) => write!(f, "E24 Io"),
+        }
+    }
+}
+
+impl Error for Fault {}
+
+impl From<Memory> for Fault {
+    ghost from_gives = { λ _ given. given ≡ fault.Memory };
+
+    fn from(_refused: Memory) -> Fault {
+        Fault::Memory
+    }
+}
+
+impl From<AllocError> for Fault {
+    ghost from_gives = { λ _ given. given ≡ fault.Memory };
+
+    fn from(_refused: AllocError) -> Fault {
+        Fault::Memory
+    }
+}
+
+impl<T: Drop> From<AllocFailed<T>> for Fault {
+    ghost from_gives = { λ _ given. given ≡ fault.Memory };
+
+    fn from(_refused: AllocFailed<T>) -> Fault {
+        Fault::Memory
+    }
+}
+
+impl From<dob_rank::Fault> for Fault {
+    ghost use Rattle.dob_dbfile.specs.FaultTexts.{fault_of_rank};
+
+    ghost from_gives = { λ refused given. given ≡ fault_of_rank refused };
+
+    fn from(refused: dob_rank::Fault) -> Fault {
+        match refused {
+            dob_rank::Fault::SetTooLarge => Fault::SetTooLarge,
+            dob_rank::Fault::Memory => Fault::Memory,
+        }
+    }
+}

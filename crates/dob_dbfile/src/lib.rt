@@ -1,0 +1,25 @@
+// Tables of values as database files: what files are read from and written to.
+#![tactic(auto)]
+
+mod device;
+mod fault;
+mod header;
+mod mem_sink;
+mod mem_source;
+mod read;
+mod records;
+mod std_device;
+mod transfer;
+mod write;
+
+pub use device::{Failed, FailedAfter, Sink, Source};
+pub use fault::Fault;
+pub use mem_sink::MemSink;
+pub use mem_source::MemSource;
+pub use read::read_table;
+pub use std_device::Std;
+pub use transfer::{read_full, write_all};
+pub use write::write_table;
+
+#[cfg(test)]
+mod tests;

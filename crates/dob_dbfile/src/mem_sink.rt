@@ -1,0 +1,163 @@
+// A sink in memory, for tests: it takes pieces of a set length, and fails where it is told to.
+ghost use Rattle.std.specs.Prelude.{◌≡◌, ◌<◌, [], Some, false};
+
+use crate::device::{Failed, Sink};
+use std::alloc::Global;
+
+/// A sink that keeps its bytes in memory. Where no memory is left for them it fails.
+#[derive(Debug, Drop)]
+pub struct MemSink {
+    bytes: Vec<u8>,
+    flushes: Vec<usize>,
+    longest: usize,
+    room: usize,
+    fails_at_flush: bool,
+    has_failed: bool,
+    ghost moving: { 0 < longest },
+}
+
+impl MemSink {
+    /// An empty sink, which fails only for want of memory.
+    pub fn new(alloc: Global) -> MemSink
+        ensures bytes { result.bytes.items ≡ [] }
+        ensures flushes { result.flushes.items ≡ [] }
+        ensures failed { result.has_failed ≡ false }
+    {
+        MemSink {
+            bytes: Vec::new(alloc),
+            flushes: Vec::new(alloc),
+            longest: usize::MAX,
+            room: usize::MAX,
+            fails_at_flush: false,
+            has_failed: false,
+        }
+    }
+
+    /// The same sink, which takes at most so many bytes in one call.
+    pub fn in_pieces(self, longest: usize) -> MemSink
+        requires { 0 < longest }
+        ensures bytes { result.bytes.items ≡ self.bytes.items }
+        ensures flushes { result.flushes.items ≡ self.flushes.items }
+        ensures failed { result.has_failed ≡ self.has_failed }
+    {
+        let MemSink {
+            bytes,
+            flushes,
+            longest: _,
+            room,
+            fails_at_flush,
+            has_failed,
+        } = self;
+        MemSink {
+            bytes,
+            flushes,
+            longest,
+            room,
+            fails_at_flush,
+            has_failed,
+        }
+    }
+
+    /// The same sink, which fails in place of taking more than that many bytes from here on.
+    pub fn failing_after(self, room: usize) -> MemSink
+        ensures bytes { result.bytes.items ≡ self.bytes.items }
+        ensures flushes { result.flushes.items ≡ self.flushes.items }
+        ensures failed { result.has_failed ≡ self.has_failed }
+    {
+        let MemSink {
+            bytes,
+            flushes,
+            longest,
+            room: _,
+            fails_at_flush,
+            has_failed,
+        } = self;
+        MemSink {
+            bytes,
+            flushes,
+            longest,
+            room,
+            fails_at_flush,
+            has_failed,
+        }
+    }
+
+    /// The same sink, which fails at each flush.
+    pub fn failing_at_flush(self) -> MemSink
+        ensures bytes { result.bytes.items ≡ self.bytes.items }
+        ensures flushes { result.flushes.items ≡ self.flushes.items }
+        ensures failed { result.has_failed ≡ self.has_failed }
+    {
+        let MemSink {
+            bytes,
+            flushes,
+            longest,
+            room,
+            fails_at_flush: _,
+            has_failed,
+        } = self;
+        MemSink {
+            bytes,
+            flushes,
+            longest,
+            room,
+            fails_at_flush: true,
+            has_failed,
+        }
+    }
+
+    /// The bytes that it has received.
+    pub fn bytes(&self) -> &[u8]
+        ensures { result.now ≡ self.now.bytes.items }
+    {
+        &self.bytes
+    }
+
+    /// After how many bytes it was flushed, each time.
+    pub fn flushes(&self) -> &[usize]
+        ensures { result.now ≡ self.now.flushes.items }
+    {
+        &self.flushes
+    }
+
+    /// The bytes that it has received, when the sink isn't needed any more.
+    pub fn into_bytes(self) -> Vec<u8>
+        ensures { result.items ≡ self.bytes.items }
+    {
+        self.bytes
+    }
+}
+
+impl Sink for MemSink {
+    ghost received = { λ sink. Some sink.bytes.items };
+
+    ghost flushes = { λ sink. Some sink.flushes.items };
+
+    ghost has_failed = { λ sink. sink.has_failed };
+
+    fn write(&mut self, piece: &[u8]) -> Result<usize, Failed> {
+        let count = piece.len().min(self.longest).min(self.room);
+        if count == 0 && !piece.is_empty() {
+            self.has_failed = true;
+            return Err(Failed);
+        }
+        if self.bytes.extend_from_slice(&piece[..count]).is_err() {
+            self.has_failed = true;
+            return Err(Failed);
+        }
+        self.room -= count;
+        Ok(count)
+    }
+
+    fn flush(&mut self) -> Result<(), Failed> {
+        if self.fails_at_flush || self.flushes.push(self.bytes.len()).is_err() {
+            self.has_failed = true;
+            return Err(Failed);
+        }
+        Ok(())
+    }
+
+    fn failed(&self) -> bool {
+        self.has_failed
+    }
+}

@@ -1,0 +1,114 @@
+// A source of bytes in memory, for tests: in pieces of a set length, and failing where it is told to.
+ghost use Rattle.std.specs.Prelude.{◌≡◌, ◌<◌, ◌≤◌, false, vec_len};
+ghost use Rattle.dob_dbfile.specs.Devices.{whole};
+
+use crate::device::{Failed, Source};
+
+/// A source that gives bytes from memory.
+#[derive(Debug, Drop)]
+pub struct MemSource {
+    bytes: Vec<u8>,
+    start: usize,
+    longest: usize,
+    fails: bool,
+    has_failed: bool,
+    ghost inside: { start ≤ vec_len bytes },
+    ghost moving: { 0 < longest },
+}
+
+impl MemSource {
+    ghost use Rattle.dob_dbfile.specs.Memory.{stream_of, cut};
+
+    /// A source of those bytes, which never fails.
+    pub fn new(bytes: Vec<u8>) -> MemSource
+        ensures stream { stream_of result ≡ whole bytes.items }
+        ensures failed { result.has_failed ≡ false }
+    {
+        MemSource {
+            bytes,
+            start: 0,
+            longest: usize::MAX,
+            fails: false,
+            has_failed: false,
+        }
+    }
+
+    /// The same source, which gives at most so many bytes in one call.
+    pub fn in_pieces(self, longest: usize) -> MemSource
+        requires { 0 < longest }
+        ensures stream { stream_of result ≡ stream_of self }
+        ensures failed { result.has_failed ≡ self.has_failed }
+    {
+        let MemSource {
+            bytes,
+            start,
+            longest: _,
+            fails,
+            has_failed,
+        } = self;
+        MemSource {
+            bytes,
+            start,
+            longest,
+            fails,
+            has_failed,
+        }
+    }
+
+    /// The same source, which fails in place of giving more than that many bytes or, where there are just so many, its
+    /// end.
+    pub fn failing_after(self, count: usize) -> MemSource
+        ensures stream { stream_of result ≡ cut count (stream_of self) }
+        ensures failed { result.has_failed ≡ self.has_failed }
+    {
+        let MemSource {
+            mut bytes,
+            start,
+            longest,
+            fails,
+            has_failed,
+        } = self;
+        if count > bytes.len() - start {
+            return MemSource {
+                bytes,
+                start,
+                longest,
+                fails,
+                has_failed,
+            };
+        }
+        bytes.truncate(start + count);
+        MemSource {
+            bytes,
+            start,
+            longest,
+            fails: true,
+            has_failed,
+        }
+    }
+}
+
+impl Source for MemSource {
+    ghost use Rattle.dob_dbfile.specs.Memory.{stream_of};
+
+    ghost gives = { λ source stream. stream ≡ stream_of source };
+
+    ghost has_failed = { λ source. source.has_failed };
+
+    fn read(&mut self, room: &mut [u8]) -> Result<usize, Failed> {
+        let left = self.bytes.len() - self.start;
+        if left == 0 && self.fails {
+            self.has_failed = true;
+            return Err(Failed);
+        }
+        let count = left.min(self.longest).min(room.len());
+        let end = self.start + count;
+        room[..count].copy_from_slice(&self.bytes[self.start..end]);
+        self.start = end;
+        Ok(count)
+    }
+
+    fn failed(&self) -> bool {
+        self.has_failed
+    }
+}

@@ -1,0 +1,200 @@
+// Reading a table from a file.
+ghost use Rattle.std.specs.Prelude.{◌≡◌, ◌⊎◌, ◌↔◌, ℕ, List, ◌+◌, ◌*◌, ◌%◌, ◌^◌, ◌<◌, ◌≤◌, ◌||◌, [], false, length, vec_len, All, IfOk, IfErr, IsTrue, OnOk};
+ghost use Rattle.dob_rank.specs.Marks.{classes_of};
+ghost use Rattle.sha2.specs.Hashers.{Holds256};
+ghost use Rattle.dob_dbfile.specs.Devices.{Stream, after, whole};
+ghost use Rattle.dob_dbfile.specs.Format.{bytes_of};
+ghost use Rattle.dob_dbfile.specs.Faults.{is_io_error, CountsClasses, HasHeaderFault, HasFault};
+ghost use Rattle.dob_dbfile.specs.Reading.{Takes, IsCut, IsNoEnd, ReadsCodes, HashesNext, EndsWith, IsDigest, HasDigestFault, HasRestFault};
+
+use crate::device::{Failed, Source};
+use crate::fault::Fault;
+use crate::header::{HEADER_LEN, is_count, is_title, set_named};
+use crate::records::{RECORD_LEN, push_codes};
+use crate::transfer::read_full;
+use dob_pieces::Memory;
+use dob_rank::{Classes, size};
+use dob_value::Table;
+use sha2::{Digest, Sha256};
+use std::alloc::Global;
+
+/// How many bytes the digest has.
+const DIGEST_LEN: usize = 32;
+
+/// How many bytes of records are read at a time.
+const PIECE_LEN: usize = 4096;
+
+/// Reads the table of a file: of just the bytes that `write_table` writes of it.
+pub fn read_table<R: Source>(alloc: Global, source: &mut R) -> Result<Table, Fault>
+    requires { R.has_failed source.old ≡ false }
+    // A table is read only where the source gives just its file and ends.
+    ensures read { (stream : Stream) → R.gives source.old stream → IfOk result (λ table. stream ≡ whole (bytes_of table)) }
+    // A fault is given only where it is the first that holds.
+    ensures refused { (stream : Stream) → R.gives source.old stream
+        → IfErr result (λ fault. (fault ≡ Fault.Memory) ⊎ HasFault stream fault) }
+    ensures failed { R.has_failed source.new ≡ is_io_error result }
+{
+    let mut header = [0; HEADER_LEN];
+    fill(source, &mut header, 0)?;
+    let classes = classes_named(alloc, &header)?;
+    let codes = read_codes(alloc, source, &header, count_of(&classes))?;
+    Ok(Table::new(classes, codes))
+}
+
+// How many classes there are, which are no more than the positions of the set.
+fn count_of(classes: &Classes) -> u64
+    ensures count { result ≡ classes_of classes.now.set }
+    ensures bound { result < 2 ^ 42 }
+{
+    let _positions = size(classes.set);
+    classes.class_count()
+}
+
+// Fills the room, before which so many bytes of the file have come.
+fn fill<R: Source>(source: &mut R, room: &mut [u8], before: usize) -> Result<(), Fault>
+    requires { before + length room.old < 2 ^ 64 }
+    ensures taken { (stream : Stream) → R.gives source.old stream
+        → OnOk result (Takes stream room.new × R.gives source.new (after (length room.new) stream)) }
+    ensures cut { (stream : Stream) → R.gives source.old stream → IfErr result (IsCut (length room.new) before stream) }
+    ensures failed { R.has_failed source.new ≡ (R.has_failed source.old || is_io_error result) }
+{
+    match read_full(source, room) {
+        Ok(count) if count == room.len() => Ok(()),
+        Ok(_) => Err(Fault::Truncated),
+        Err(failed) => Err(Fault::Io((before + failed.bytes) as u64)),
+    }
+}
+
+// The classes of the set that the header names.
+fn classes_named(alloc: Global, header: &[u8]) -> Result<Classes, Fault>
+    requires { length header.now ≡ 20 }
+    ensures named { IfOk result (λ classes. CountsClasses classes.set header.now) }
+    ensures refused { IfErr result (λ fault. (fault ≡ Fault.Memory) ⊎ HasHeaderFault header.now fault) }
+{
+    if !is_title(&header[..8]) {
+        return Err(Fault::Magic);
+    }
+    let Some(set) = set_named(&header[8..12]) else {
+        return Err(Fault::SetByte);
+    };
+    let classes = Classes::open(alloc, set)?;
+    if is_count(&header[12..], classes.class_count()) {
+        Ok(classes)
+    } else {
+        Err(Fault::ClassCount)
+    }
+}
+
+// The codes of so many records, which stand after the header and before the digest of all that.
+fn read_codes<R: Source>(
+    alloc: Global,
+    source: &mut R,
+    header: &[u8],
+    count: u64,
+) -> Result<Vec<u16>, Fault>
+    requires { count < 2 ^ 42 }
+    ensures counted { IfOk result (λ codes. vec_len codes ≡ count) }
+    ensures fit { IfOk result (λ codes. All (λ code. code < 65536) codes.items) }
+    ensures read { (stream : Stream) → R.gives source.old stream → IfOk result (λ codes. EndsWith header.now codes.items stream) }
+    ensures refused { (stream : Stream) → R.gives source.old stream → IfErr result (HasRestFault header.now count stream) }
+    ensures failed { R.has_failed source.new ≡ (R.has_failed source.old || is_io_error result) }
+{
+    let mut hasher = Sha256::new();
+    hasher.update(header);
+    let codes = read_records(alloc, source, &mut hasher, count as usize)?;
+    expect_digest(source, hasher, HEADER_LEN + RECORD_LEN * codes.len())?;
+    Ok(codes)
+}
+
+// Finds the digest of what the hasher holds, and then the end. So many bytes of the file have come before.
+fn expect_digest<R: Source>(source: &mut R, hasher: Sha256, before: usize) -> Result<(), Fault>
+    requires { before < 2 ^ 63 }
+    ensures is { (stream : Stream) (message : List ℕ) → R.gives source.old stream → Holds256 hasher message → OnOk result (IsDigest message stream) }
+    ensures refused { (stream : Stream) (message : List ℕ) → R.gives source.old stream → Holds256 hasher message
+        → IfErr result (HasDigestFault message before stream) }
+    ensures failed { R.has_failed source.new ≡ (R.has_failed source.old || is_io_error result) }
+{
+    let mut digest = [0; DIGEST_LEN];
+    fill(source, &mut digest, before)?;
+    expect_end(source, before + DIGEST_LEN)?;
+    if are_same(&digest, &hasher.finalize()) {
+        Ok(())
+    } else {
+        Err(Fault::Digest)
+    }
+}
+
+// Whether the bytes are the same.
+fn are_same(left: &[u8], right: &[u8]) -> bool
+    ensures { IsTrue result ↔ (left.now ≡ right.now) }
+{
+    left == right
+}
+
+// The codes of the next records.
+fn read_records<R: Source>(
+    alloc: Global,
+    source: &mut R,
+    hasher: &mut Sha256,
+    count: usize,
+) -> Result<Vec<u16>, Fault>
+    requires { count < 2 ^ 42 }
+    ensures counted { IfOk result (λ codes. vec_len codes ≡ count) }
+    ensures fit { IfOk result (λ codes. All (λ code. code < 65536) codes.items) }
+    ensures codes { (stream : Stream) → R.gives source.old stream
+        → IfOk result (λ codes. ReadsCodes stream (2 * count) [] codes.items × R.gives source.new (after (2 * count) stream)) }
+    ensures hashed { (stream : Stream) → R.gives source.old stream → OnOk result (HashesNext stream (2 * count) hasher.old hasher.new) }
+    ensures cut { (stream : Stream) → R.gives source.old stream → IfErr result (IsCut (2 * count) 20 stream) }
+    ensures failed { R.has_failed source.new ≡ (R.has_failed source.old || is_io_error result) }
+{
+    let mut codes = Vec::with_capacity(alloc, count)?;
+    let mut buffer = vec![in alloc; 0u8; PIECE_LEN]?;
+    let room = buffer.as_mut_slice();
+    'records: while codes.len() < count {
+        let records = (count - codes.len()).min(PIECE_LEN / RECORD_LEN);
+        read_piece(
+            source,
+            hasher,
+            &mut room[..RECORD_LEN * records],
+            &mut codes,
+        )?;
+    }
+    Ok(codes)
+}
+
+// Reads as many records as there is room for.
+fn read_piece<R: Source>(
+    source: &mut R,
+    hasher: &mut Sha256,
+    room: &mut [u8],
+    codes: &mut Vec<u16>,
+) -> Result<(), Fault>
+    requires pairs { length room.old % 2 ≡ 0 }
+    requires few { 2 * vec_len codes.old + length room.old < 2 ^ 43 }
+    ensures counted { OnOk result (2 * vec_len codes.new ≡ 2 * vec_len codes.old + length room.old) }
+    ensures fit { All (λ code. code < 65536) codes.old.items → OnOk result (All (λ code. code < 65536) codes.new.items) }
+    ensures codes { (stream : Stream) → R.gives source.old stream
+        → OnOk result (ReadsCodes stream (length room.old) codes.old.items codes.new.items × R.gives source.new (after (length room.old) stream)) }
+    ensures hashed { (stream : Stream) → R.gives source.old stream → OnOk result (HashesNext stream (length room.old) hasher.old hasher.new) }
+    ensures cut { (stream : Stream) → R.gives source.old stream → IfErr result (IsCut (length room.old) (20 + 2 * vec_len codes.old) stream) }
+    ensures failed { R.has_failed source.new ≡ (R.has_failed source.old || is_io_error result) }
+{
+    fill(source, room, HEADER_LEN + RECORD_LEN * codes.len())?;
+    hasher.update(&*room);
+    push_codes(codes, room)?;
+    Ok(())
+}
+
+// Finds the source at its end, before which so many bytes have come.
+fn expect_end<R: Source>(source: &mut R, before: usize) -> Result<(), Fault>
+    ensures end { (stream : Stream) → R.gives source.old stream → OnOk result (stream ≡ whole []) }
+    ensures refused { (stream : Stream) → R.gives source.old stream → IfErr result (IsNoEnd before stream) }
+    ensures failed { R.has_failed source.new ≡ (R.has_failed source.old || is_io_error result) }
+{
+    let mut byte = [0];
+    match source.read(&mut byte) {
+        Ok(0) => Ok(()),
+        Ok(_) => Err(Fault::Trailing),
+        Err(Failed) => Err(Fault::Io(before as u64)),
+    }
+}

@@ -1,0 +1,3 @@
+// What the contracts don't say: outside bytes, and each place where a device fails.
+mod devices;
+mod files;

@@ -1,0 +1,50 @@
+// Whole runs of bytes over devices that move them in pieces.
+ghost use Rattle.std.specs.Prelude.{◌≡◌, ℕ, ◌+◌, ◌-◌, ◌<◌, ◌≤◌, ◌||◌, [], take, drop, length, is_err, IfOk, IfErr, OnOk};
+ghost use Rattle.std.specs.Io.KnownBytes.{Appends, Keeps};
+ghost use Rattle.dob_dbfile.specs.Devices.{Stream, after, broken, Fills};
+
+use crate::device::{Failed, FailedAfter, Sink, Source};
+
+/// Writes all the bytes, in as many pieces as the sink makes of them.
+///
+/// Error: the sink failed, and has received just the first bytes, as many as the answer says.
+pub fn write_all<W: Sink>(sink: &mut W, bytes: &[u8]) -> Result<(), FailedAfter>
+    ensures done { OnOk result (Appends (W.received sink.old) (W.received sink.new) bytes.now) }
+    ensures part { IfErr result (λ failed. (failed.bytes ≤ length bytes.now)
+        × Appends (W.received sink.old) (W.received sink.new) (take failed.bytes bytes.now)) }
+    ensures flushes { Keeps (W.flushes sink.old) (W.flushes sink.new) }
+    ensures failed { W.has_failed sink.new ≡ (W.has_failed sink.old || is_err result) }
+{
+    let mut done = 0;
+    while done < bytes.len() {
+        match sink.write(&bytes[done..]) {
+            Ok(count) => done += count,
+            Err(Failed) => return Err(FailedAfter { bytes: done }),
+        }
+    }
+    Ok(())
+}
+
+/// Fills the room with the next bytes, in as many pieces as the source makes of them, and answers how many there are:
+/// fewer than there is room for only where the source comes to its end.
+///
+/// Error: the source failed after that many bytes, which are fewer than there is room for.
+pub fn read_full<R: Source>(source: &mut R, room: &mut [u8]) -> Result<usize, FailedAfter>
+    ensures within { IfOk result (λ count. count ≤ length room.new) }
+    ensures given { (stream : Stream) → R.gives source.old stream
+        → IfOk result (λ count. Fills stream count room.new × R.gives source.new (after count stream)) }
+    ensures broken { (stream : Stream) → R.gives source.old stream
+        → IfErr result (λ failed. (failed.bytes < length room.new) × (stream ≡ broken (take failed.bytes room.new))) }
+    ensures fits { IfErr result (λ failed. failed.bytes < length room.new) }
+    ensures failed { R.has_failed source.new ≡ (R.has_failed source.old || is_err result) }
+{
+    let mut done = 0;
+    while done < room.len() {
+        match source.read(&mut room[done..]) {
+            Ok(count) if count > 0 => done += count,
+            Ok(_) => return Ok(done),
+            Err(Failed) => return Err(FailedAfter { bytes: done }),
+        }
+    }
+    Ok(done)
+}
