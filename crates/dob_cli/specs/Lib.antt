@@ -6,4 +6,5 @@ pub mod Readings
 pub mod Faults
 pub mod Endings
 pub mod Program
+pub mod Tables
 pub mod Sizes

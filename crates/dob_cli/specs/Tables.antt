@@ -50,11 +50,15 @@ pub record IsProbeLine (Has : List ℕ → Type 0) (words lines : List ℕ) : Ty
   pub given : GivenBy table position value
   pub same : lines ≡ value_line value
 
+-- a space where more moves follow
+abbrev pub space_before : List Move → List ℕ
+space_before [] = []
+space_before (move ∷ moves) = 32 ∷ []
+
 -- the moves in turn, with a space between two
 abbrev pub moves_text : Bool → List Move → List ℕ
 moves_text second [] = []
-moves_text second (move ∷ []) = move_text move second
-moves_text second (move ∷ moves) = move_text move second ++ 32 ∷ moves_text (not second) moves
+moves_text second (move ∷ moves) = move_text move second ++ space_before moves ++ moves_text (not second) moves
 
 -- what is told where there are no moves, by the position's value
 abbrev pub end_text : Value → List ℕ
@@ -86,6 +90,12 @@ pub record IsCheckLine (Has : List ℕ → Type 0) (lines : List ℕ) : Type 0 w
   pub same : lines ≡ codes "consistent" ++ 10 ∷ []
 
 -- ---- faults
+
+-- a fault of opening the file: one that it has, or it couldn't be opened
+abbrev pub IsOpeningFault : (List ℕ → Type 0) → Fault → Type 0
+IsOpeningFault Has (File fault) = HasFileFault Has fault
+IsOpeningFault Has Io = Unit {0}
+IsOpeningFault Has _ = ⊥
 
 -- a fault of asking for a position: the text's, the file's, or the table's, or memory, the file or standard output failed
 abbrev pub IsPositionFault : (List ℕ → Type 0) → List ℕ → Fault → Type 0

@@ -6,6 +6,9 @@ mod counts;
 mod fault;
 mod output;
 mod program;
+mod shelf;
+mod tables;
 
 pub use fault::Fault;
 pub use program::{run_words, tell_memory};
+pub use shelf::{DiskShelf, MemShelf, Shelf};

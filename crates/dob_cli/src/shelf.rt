@@ -9,7 +9,7 @@ use std::rt::Files;
 /// Files by name.
 pub trait Shelf {
     /// What the bytes of a file are read from.
-    type Src: Source;
+    type Src: Source + Drop;
 
     // The file of this name has just these bytes, where that is known.
     ghost has: { Self → List ℕ → List ℕ → Type 0 };

@@ -1,17 +1,18 @@
 // Answers by the table of a database file.
 ghost use Rattle.std.specs.Prelude.{◌≡◌, ◌++◌, ◌∷◌, [], false, IfOk, IfErr, OnOk, string_bytes};
-ghost use Rattle.dob_cli.specs.Tables.{AnswersCheck, AnswersLine, AnswersProbe, HasFileFault, IsCheckFault, IsCheckLine, IsFileOf, IsMovesLine, IsPositionFault, IsProbeLine, end_text, moves_line, moves_text};
-ghost use Rattle.dob_cli.specs.Openings.{IsOpeningFault};
+ghost use Rattle.dob_text.specs.MoveText.{move_text};
+ghost use Rattle.dob_cli.specs.Tables.{AnswersCheck, AnswersLine, AnswersProbe, HasFileFault, IsCheckFault, IsCheckLine, IsFileOf, IsMovesLine, IsOpeningFault, IsPositionFault, IsProbeLine, moves_line, moves_text, space_before};
 
 use crate::fault::Fault;
 use crate::program::{line_of, tell, tell_fault};
 use crate::shelf::Shelf;
 use dob_dbfile::read_table;
 use dob_moves::Move;
+use dob_pieces::Memory;
 use dob_probe::{check, line, probe};
 use dob_text::{read_position, write_move};
 use dob_value::{Table, Value};
-use std::alloc::{AllocError, Global};
+use std::alloc::Global;
 use std::io::Write;
 use std::thread::Threads;
 
@@ -126,17 +127,72 @@ fn open<S: Shelf>(alloc: Global, shelf: &mut S, file: &str) -> Result<Table, Fau
 }
 
 // The line that tells the moves of a position of that value.
-fn moves_line(alloc: Global, value: Value, moves: &[Move]) -> Result<String, AllocError>
+fn moves_line(alloc: Global, value: Value, moves: &[Move]) -> Result<String, Memory>
     ensures { IfOk result (λ line. string_bytes line ≡ moves_line value moves.now) }
 {
     if moves.is_empty() {
-        return match value {
-            Value::Draw => "draw\n".to_string(alloc),
-            Value::Win(_) | Value::Loss(_) => "end\n".to_string(alloc),
-        };
+        Ok(end_line(value).to_string(alloc)?)
+    } else {
+        move_line(alloc, moves)
     }
+}
+
+// The line where there are no moves.
+fn end_line(value: Value) -> &'static str
+    ensures { result.now ≡ moves_line value [] }
+{
+    match value {
+        Value::Draw => "draw\n",
+        Value::Win(_) | Value::Loss(_) => "end\n",
+    }
+}
+
+// The line of the moves.
+fn move_line(alloc: Global, moves: &[Move]) -> Result<String, Memory>
+    ensures { IfOk result (λ line. string_bytes line ≡ moves_text false moves.now ++ 10 ∷ []) }
+{
     let mut line = String::new(alloc);
     push_moves(alloc, &mut line, moves)?;
     line.push_str("\n")?;
     Ok(line)
+}
+
+// Writes the moves at the end.
+fn push_moves(alloc: Global, line: &mut String, moves: &[Move]) -> Result<(), Memory>
+    ensures { OnOk result (string_bytes line.new ≡ string_bytes line.old ++ moves_text false moves.now) }
+{
+    let mut second = false;
+    let mut left = moves;
+    while let Some((first, rest)) = left.split_first() {
+        push_move(alloc, line, *first, second, rest)?;
+        second = !second;
+        left = rest;
+    }
+    Ok(())
+}
+
+// Writes the move at the end, and a space where more moves follow.
+fn push_move(
+    alloc: Global,
+    line: &mut String,
+    choice: Move,
+    second: bool,
+    rest: &[Move],
+) -> Result<(), Memory>
+    ensures { OnOk result (string_bytes line.new ≡ string_bytes line.old ++ (move_text choice second ++ space_before rest.now)) }
+{
+    let text = write_move(alloc, choice, second)?;
+    line.push_str(text.as_str())?;
+    line.push_str(space_before(rest))?;
+    Ok(())
+}
+
+// A space where more moves follow.
+fn space_before(rest: &[Move]) -> &'static str
+    ensures { result.now ≡ space_before rest.now }
+{
+    match rest {
+        [] => "",
+        [_, ..] => " ",
+    }
 }

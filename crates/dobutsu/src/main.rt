@@ -1,6 +1,7 @@
 // The program `dobutsu`: its words, its streams and its exit status.
 #![tactic(auto)]
 
+use dob_cli::DiskShelf;
 use std::alloc::AllocError;
 use std::io;
 use std::process::ExitCode;
@@ -25,7 +26,14 @@ fn run(rt: &HostRuntime, given: &[String]) -> u8 {
         .map(|word| word.as_str())
         .collect::<Vec<&str>>(rt.alloc())
     {
-        Ok(words) => dob_cli::run_words(rt.alloc(), &words, &mut rt.stdout(), &mut rt.stderr()),
+        Ok(words) => dob_cli::run_words(
+            rt,
+            rt.alloc(),
+            &words,
+            &mut DiskShelf { rt },
+            &mut rt.stdout(),
+            &mut rt.stderr(),
+        ),
         Err(AllocError) => dob_cli::tell_memory(&mut rt.stderr()),
     }
 }
