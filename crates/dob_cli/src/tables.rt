@@ -68,12 +68,7 @@ pub(crate) fn run_check<S: Shelf, O: Write, E: Write>(
 }
 
 // The line that tells the value.
-fn probed<S: Shelf>(
-    alloc: Global,
-    shelf: &mut S,
-    file: &str,
-    text: &str,
-) -> Result<String, Fault>
+fn probed<S: Shelf>(alloc: Global, shelf: &mut S, file: &str, text: &str) -> Result<String, Fault>
     ensures ok { IfOk result (λ line. IsProbeLine (S.has shelf.old file.now) text.now (string_bytes line)) }
     ensures err { IfErr result (IsPositionFault (S.has shelf.old file.now) text.now) }
 {
@@ -84,12 +79,7 @@ fn probed<S: Shelf>(
 }
 
 // The line that tells the moves.
-fn lined<S: Shelf>(
-    alloc: Global,
-    shelf: &mut S,
-    file: &str,
-    text: &str,
-) -> Result<String, Fault>
+fn lined<S: Shelf>(alloc: Global, shelf: &mut S, file: &str, text: &str) -> Result<String, Fault>
     ensures ok { IfOk result (λ line. IsMovesLine (S.has shelf.old file.now) text.now (string_bytes line)) }
     ensures err { IfErr result (IsPositionFault (S.has shelf.old file.now) text.now) }
 {
