@@ -45,6 +45,7 @@ impl Shelf for MemShelf {
 }
 
 /// The files that the system has, of which no bytes are told.
+#[derive(Drop)]
 pub struct DiskShelf<'a, R> {
     pub rt: &'a R,
 }

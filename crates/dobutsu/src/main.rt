@@ -1,15 +1,17 @@
 // The program `dobutsu`: its words, its streams and its exit status.
 #![tactic(auto)]
 
-use dob_cli::DiskShelf;
+use dob_cli::{DiskShelf, run_words, tell_memory};
 use std::alloc::AllocError;
-use std::io;
+use std::io::{self, Write};
 use std::process::ExitCode;
+use std::rt::Files;
+use std::thread::Threads;
 
 fn main(rt: HostRuntime) -> ExitCode {
     let status = match given_words(&rt) {
-        Ok(given) => run(&rt, &given),
-        Err(_) => dob_cli::tell_memory(&mut rt.stderr()),
+        Ok(given) => run(&rt, &given, &mut rt.stdout(), &mut rt.stderr()),
+        Err(_) => tell_memory(&mut rt.stderr()),
     };
     ExitCode::from(status)
 }
@@ -20,20 +22,15 @@ fn given_words(rt: &HostRuntime) -> io::Result<Vec<String>> {
 }
 
 // Runs the program by its words. The answer is the exit status.
-fn run(rt: &HostRuntime, given: &[String]) -> u8 {
-    match given
-        .iter()
-        .map(|word| word.as_str())
-        .collect::<Vec<&str>>(rt.alloc())
-    {
-        Ok(words) => dob_cli::run_words(
-            rt,
-            rt.alloc(),
-            &words,
-            &mut DiskShelf { rt },
-            &mut rt.stdout(),
-            &mut rt.stderr(),
-        ),
-        Err(AllocError) => dob_cli::tell_memory(&mut rt.stderr()),
+fn run<R: Threads + Sync + Files + AllocGlobal>(
+    rt: &R,
+    given: &[String],
+    out: &mut impl Write,
+    err: &mut impl Write,
+) -> u8 {
+    let words = given.iter().map(|word| word.as_str());
+    match words.collect::<Vec<&str>>(rt.alloc()) {
+        Ok(words) => run_words(rt, rt.alloc(), &words, &mut DiskShelf { rt }, out, err),
+        Err(AllocError) => tell_memory(err),
     }
 }
