@@ -19,13 +19,13 @@ use Rattle.dob_moves.proofs.MoveLists.{tried_at, AreMoves-moves_of}
 use Rattle.dob_moves.proofs.Verdicts.{catch_answer}
 
 -- one more item of a list, and what it gives
-pub counted_more : (f : ℕ → Option Move) (xs : List ℕ) (i count new : ℕ) → i < length xs → count ≡ length (filter_map f (take i xs)) →
-    new ≡ count + length (option_to_list (f (get_or xs i 0))) → new ≡ length (filter_map f (take (i + 1) xs))
+pub counted_more : (f : ℕ × ℕ → Option Move) (xs : List (ℕ × ℕ)) (i count new : ℕ) → i < length xs → count ≡ length (filter_map f (take i xs)) →
+    new ≡ count + length (option_to_list (f (get_or xs i (0, 0)))) → new ≡ length (filter_map f (take (i + 1) xs))
 counted_more f xs i count new below before is =
-    let more = taken_more f xs i [] (filter_map f (take i xs)) (filter_map f (take i xs) ++ option_to_list (f (get_or xs i 0))) below refl refl in
-    let sum : length (filter_map f (take i xs) ++ option_to_list (f (get_or xs i 0))) ≡ length (filter_map f (take i xs)) + length (option_to_list (f (get_or xs i 0))) =
-    length-append (filter_map f (take i xs)) (option_to_list (f (get_or xs i 0))) in
-    let same : length (filter_map f (take i xs) ++ option_to_list (f (get_or xs i 0))) ≡ length (filter_map f (take (i + 1) xs)) = ap length more in
+    let more = taken_more f xs (0, 0) i [] (filter_map f (take i xs)) (filter_map f (take i xs) ++ option_to_list (f (get_or xs i (0, 0)))) below refl refl in
+    let sum : length (filter_map f (take i xs) ++ option_to_list (f (get_or xs i (0, 0)))) ≡ length (filter_map f (take i xs)) + length (option_to_list (f (get_or xs i (0, 0)))) =
+    length-append (filter_map f (take i xs)) (option_to_list (f (get_or xs i (0, 0)))) in
+    let same : length (filter_map f (take i xs) ++ option_to_list (f (get_or xs i (0, 0)))) ≡ length (filter_map f (take (i + 1) xs)) = ap length more in
     omega arith
 
 -- what one more number gives

@@ -7,8 +7,7 @@ ghost use Rattle.dob_moves.specs.declared.search.Aim.TheVariants.{Elsewhere};
 use crate::choice::Move;
 use crate::judge::status;
 use crate::outlook::Status;
-use crate::search::{Aim, own_kind, put_on, step_in};
-use crate::steps::directions;
+use crate::search::{Aim, own_kind, put_on, step_by};
 use dob_pieces::{HandKind, Kind, Position, Setup, Square};
 
 /// 1 where there is a move, else 0.
@@ -29,8 +28,8 @@ fn count_steps_by(setup: &Setup, kind: Kind, from: Square) -> u8
     ensures few { result ≤ 8 }
 {
     let mut count = 0;
-    for direction in directions(kind) {
-        count += one_if_found(step_in(setup, Aim::Elsewhere, kind, from, *direction));
+    for step in kind.steps() {
+        count += one_if_found(step_by(setup, Aim::Elsewhere, kind, from, *step));
     }
     count
 }
