@@ -5,7 +5,7 @@ use Rattle.std.proofs.lemmas.Result.{IfOk-weaker}
 use Rattle.clap.specs.Words.{app_of}
 use Rattle.dob_cli.specs.declared.command.Reading.TheVariants as reading
 use Rattle.dob_cli.proofs.Lines.{order_from_line, reading_at_line}
-use Rattle.dob_cli.proofs.Outcomes.{command_meaning, version_meaning, asked_by_matches, order_is_meant, order_is_there, refusal_of_words}
+use Rattle.dob_cli.proofs.Outcomes.{command_meaning, asked_by_matches, order_is_meant, order_is_there, refusal_of_words}
 use Rattle.dob_cli.proofs.command.read_words.Goals as goal
 
 pub unreachable-requires : goal.unreachable-requires

@@ -1,5 +1,5 @@
 -- The position that was read is the text's, and the table the file's.
-use Rattle.std.proofs.Common.{◌≡◌, List, rules, subst, ◌∙◌, ap, string_bytes}
+use Rattle.std.proofs.Common.{rules, ◌∙◌, ap}
 use Rattle.std.proofs.lemmas.Result.{err_from_is_err_and}
 use Rattle.dob_rank.specs.Order.{IsPositionOf}
 use Rattle.dob_cli.specs.Tables.{moves_line}
