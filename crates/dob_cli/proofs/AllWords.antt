@@ -13,14 +13,14 @@ use Rattle.clap.specs.Faults.{check_fault, defaults_fault, entered_fault, level_
 use Rattle.clap.specs.declared.error.kind.ErrorKind.TheVariants as kind
 use Rattle.clap.proofs.FaultLemmas.{stopped_fault}
 use Rattle.clap.proofs.WalkLemmas.{walk_stopped}
-use Rattle.dob_cli.specs.Forms.{Form, Text, count_form, forms, value_form}
+use Rattle.dob_cli.specs.Forms.{Form, Text, check_form, count_form, forms, line_form, probe_form, value_form}
 use Rattle.dob_cli.specs.Words.{Meaning, asks, help, is_dashes, is_help_flag, is_text, meaning_of_command, meaning_of_form, meaning_of_other, topic, usage, version}
 use Rattle.dob_cli.specs.Shapes.{Finds, dobutsu_app}
 use Rattle.dob_cli.proofs.Lexing.{flip_bytes, or_false}
 use Rattle.dob_cli.proofs.Turns.{KnowsHelp, help_flag, is_usage, none, or_else_usage}
 use Rattle.dob_cli.proofs.Steps.{help_turn, open_at, other_turn, text_turn}
 use Rattle.dob_cli.proofs.FormWords.{Comes, IsTaken, form_comes, shape_of}
-use Rattle.dob_cli.proofs.Taken.{count_taken, value_taken}
+use Rattle.dob_cli.proofs.Taken.{check_taken, count_taken, line_taken, probe_taken, value_taken}
 
 -- the program's command, built
 abbrev program : App
@@ -97,6 +97,18 @@ count_entered : IsEntered count_form
 unfolding walked defaults_fault
 count_entered = record { walks = refl; turns = refl; ends = λ rest. refl; enters = λ rest. refl }
 
+probe_entered : IsEntered probe_form
+unfolding walked defaults_fault
+probe_entered = record { walks = refl; turns = refl; ends = λ rest. refl; enters = λ rest. refl }
+
+line_entered : IsEntered line_form
+unfolding walked defaults_fault
+line_entered = record { walks = refl; turns = refl; ends = λ rest. refl; enters = λ rest. refl }
+
+check_entered : IsEntered check_form
+unfolding walked defaults_fault
+check_entered = record { walks = refl; turns = refl; ends = λ rest. refl; enters = λ rest. refl }
+
 -- the subcommand that was met is one of these, and has this name and these texts
 abbrev pub IsMet : List Form → Text → List Text → Option (Text × List Row) → Type 0
 IsMet [] name texts met = ⊥
@@ -149,7 +161,13 @@ all_fit = (
   form_fits value_form value_taken value_entered (λ name texts met h. inl h),
   (
     form_fits count_form count_taken count_entered (λ name texts met h. inr (inl h)),
-    tt,
+    (
+      form_fits probe_form probe_taken probe_entered (λ name texts met h. inr (inr (inl h))),
+      (
+        form_fits line_form line_taken line_entered (λ name texts met h. inr (inr (inr (inl h)))),
+        (form_fits check_form check_taken check_entered (λ name texts met h. inr (inr (inr (inr (inl h))))), tt),
+      ),
+    ),
   ),
 )
 

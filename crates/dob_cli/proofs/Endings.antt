@@ -9,7 +9,7 @@ use Rattle.dob_value.specs.Rosters.{SomeTooDeep, HasSamePieces}
 use Rattle.dob_value.specs.declared.fault.Fault as value
 use Rattle.dob_value.specs.declared.fault.Fault.TheVariants as value_fault
 use Rattle.dob_cli.specs.declared.fault.Fault.{Fault}
-use Rattle.dob_cli.specs.declared.fault.Fault.TheVariants.{Text, SetText, SetTooLarge, TooDeep, Memory, Io}
+use Rattle.dob_cli.specs.declared.fault.Fault.TheVariants.{Text, SetText, SetTooLarge, TooDeep, File, Table, Memory, Io}
 use Rattle.dob_cli.specs.Faults.{fault_of_value}
 use Rattle.dob_cli.specs.Streams.{Change, State, change}
 use Rattle.dob_cli.specs.Endings.{Answers, Ending, Tells, TellsOneFault, ended}
@@ -32,6 +32,8 @@ set_fault_holds text set (Text f) named holds = absurd holds
 set_fault_holds text set SetText named holds = absurd holds
 set_fault_holds text set SetTooLarge named holds = (set, named, holds)
 set_fault_holds text set TooDeep named holds = absurd holds
+set_fault_holds text set (File f) named holds = absurd holds
+set_fault_holds text set (Table f) named holds = absurd holds
 set_fault_holds text set Memory named holds = tt
 set_fault_holds text set Io named holds = absurd holds
 
@@ -47,5 +49,5 @@ answered AreLines Holds lines e right (inl t) = inl (record { lines = lines; rig
 answered AreLines Holds lines e right (inr t) = inr (inr (record { lines = lines; right = right; part = t.0; told = t.1 }))
 
 -- what the words ask for was done, and these are the words
-pub ran_on : (given words : List Word) (e : Ending) → given ≡ words → Ran given e → RanOn words e
-ran_on given words e same ran = inl (subst (λ ws. Ran ws e) same ran)
+pub ran_on : (Has : Word → List ℕ → Type 0) (given words : List Word) (e : Ending) → given ≡ words → Ran Has given e → RanOn Has words e
+ran_on Has given words e same ran = inl (subst (λ ws. Ran Has ws e) same ran)

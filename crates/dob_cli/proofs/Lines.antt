@@ -7,7 +7,7 @@ use Rattle.std.specs.Str.{bytes_eq}
 use Rattle.std.proofs.lemmas.Slice.Eq.{bytes_eq-Decides}
 use Rattle.std.proofs.lemmas.Bool.Decides.{Decides-eqb}
 use Rattle.clap.specs.Lexer.{has_byte}
-use Rattle.dob_cli.specs.Forms.{Form, Text, count_form, forms, labels, value_form}
+use Rattle.dob_cli.specs.Forms.{Form, Text, check_form, count_form, forms, labels, line_form, probe_form, value_form}
 use Rattle.dob_cli.specs.Words.{Given, Meaning, Stand, after_dashes, after_part, after_word, asked, asks, at_end, behind, between, call, dashes, ended, help, is_dashes, is_help_flag, is_text, label_of, meaning_of, meaning_of_form, meaning_of_other, name_in, option, option_part, part_of, placed, text, text_of, texts_of, topic, unknown, usage, valued, version, wants}
 use Rattle.dob_cli.specs.Lines.{AreNew, Behind, Gives, IsAmong, IsLine, by_dashes, by_option, by_place, by_value, next, none, nothing}
 use Rattle.dob_cli.specs.Readings.{ComesFromLine, IsReadingOf, SomeLine, texts_of_order}
@@ -271,6 +271,15 @@ value_spelled = record { by_name = tt; by_value = tt }
 pub count_spelled : IsSpelled count_form
 count_spelled = record { by_name = (long_part count_form.options 115 (codes "et") refl, tt); by_value = (λ t. long_part count_form.options 115 (codes "et=" ++ t) refl, tt) }
 
+pub probe_spelled : IsSpelled probe_form
+probe_spelled = record { by_name = (long_part probe_form.options 100 (codes "b") refl, tt); by_value = (λ t. long_part probe_form.options 100 (codes "b=" ++ t) refl, tt) }
+
+pub line_spelled : IsSpelled line_form
+line_spelled = record { by_name = (long_part line_form.options 100 (codes "b") refl, tt); by_value = (λ t. long_part line_form.options 100 (codes "b=" ++ t) refl, tt) }
+
+pub check_spelled : IsSpelled check_form
+check_spelled = record { by_name = (long_part check_form.options 100 (codes "b") refl, tt); by_value = (λ t. long_part check_form.options 100 (codes "b=" ++ t) refl, tt) }
+
 abbrev EachForm : (Form → Type 0) → List Form → Type 0
 EachForm P [] = Unit {0}
 EachForm P (f ∷ fs) = P f × (EachForm P fs)
@@ -279,7 +288,13 @@ abbrev IsKnown : Form → Type 0
 IsKnown f = IsSpelled f × ((rest : List Text) → meaning_of (f.name ∷ rest) ≡ meaning_of_form f rest)
 
 all_known : EachForm IsKnown forms
-all_known = ((value_spelled, λ rest. refl), ((count_spelled, λ rest. refl), tt))
+all_known = (
+  (value_spelled, λ rest. refl),
+  (
+    (count_spelled, λ rest. refl),
+    ((probe_spelled, λ rest. refl), ((line_spelled, λ rest. refl), ((check_spelled, λ rest. refl), tt))),
+  ),
+)
 
 among_known : (fs : List Form) (f : Form) → EachForm IsKnown fs → IsAmong f fs → IsKnown f
 among_known [] f each among = absurd among

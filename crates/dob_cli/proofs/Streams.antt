@@ -1,5 +1,5 @@
 -- What streams hold and tell after one call and another.
-use Rattle.std.proofs.Common.{arith, inl, inr, ◌≡◌, ℕ, ◌+◌, ◌≤◌, Bool, refl, true, false, List, [], ◌++◌, Option, Some, None, take, drop, length, sym, ap, subst, ◌∙◌, append_assoc, append-nil, take-add}
+use Rattle.std.proofs.Common.{arith, inl, inr, ◌≡◌, ℕ, ◌+◌, Bool, refl, true, false, List, [], ◌++◌, Option, Some, None, take, drop, length, sym, ap, ◌∙◌, append_assoc, append-nil, take-add}
 use Rattle.std.specs.Prelude.{is_some, ◌||◌}
 use Rattle.std.proofs.Math.Seq.{take-length}
 use Rattle.std.specs.Io.KnownBytes.{Appends, Keeps}

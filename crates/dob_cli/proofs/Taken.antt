@@ -1,6 +1,6 @@
 -- `clap` takes the words of each form so: what `proofs/FormWords.antt` asks of a form holds by computing.
 use Rattle.std.proofs.Common.{refl}
-use Rattle.dob_cli.specs.Forms.{count_form, value_form}
+use Rattle.dob_cli.specs.Forms.{check_form, count_form, line_form, probe_form, value_form}
 use Rattle.dob_cli.proofs.FormWords.{IsTaken}
 
 pub value_taken : IsTaken value_form
@@ -15,6 +15,36 @@ value_taken = record {
 
 pub count_taken : IsTaken count_form
 count_taken = record {
+  options = (refl, tt);
+  positions = refl;
+  no_help = refl;
+  no_empty = refl;
+  defaults = (refl, (refl, tt));
+  required = λ rows. refl;
+}
+
+pub probe_taken : IsTaken probe_form
+probe_taken = record {
+  options = (refl, tt);
+  positions = (refl, refl, refl);
+  no_help = refl;
+  no_empty = refl;
+  defaults = (refl, (refl, (refl, tt)));
+  required = λ rows. refl;
+}
+
+pub line_taken : IsTaken line_form
+line_taken = record {
+  options = (refl, tt);
+  positions = (refl, refl, refl);
+  no_help = refl;
+  no_empty = refl;
+  defaults = (refl, (refl, (refl, tt)));
+  required = λ rows. refl;
+}
+
+pub check_taken : IsTaken check_form
+check_taken = record {
   options = (refl, tt);
   positions = refl;
   no_help = refl;

@@ -5,14 +5,20 @@ use Rattle.dob_value.specs.declared.fault.Fault as value
 use Rattle.dob_value.specs.declared.fault.Fault.TheVariants as value_fault
 use Rattle.dob_rank.specs.declared.fault.Fault as rank
 use Rattle.dob_rank.specs.declared.fault.Fault.TheVariants as rank_fault
+use Rattle.dob_dbfile.specs.FaultTexts as file
+use Rattle.dob_dbfile.specs.declared.fault.Fault.TheVariants as file_fault
+use Rattle.dob_probe.specs.Faults as table
+use Rattle.dob_probe.specs.declared.fault.Fault.TheVariants as table_fault
 use Rattle.dob_cli.specs.declared.fault.Fault.{Fault}
-use Rattle.dob_cli.specs.declared.fault.Fault.TheVariants.{Text, SetText, SetTooLarge, TooDeep, Memory, Io}
+use Rattle.dob_cli.specs.declared.fault.Fault.TheVariants.{Text, SetText, SetTooLarge, TooDeep, File, Table, Memory, Io}
 
 abbrev pub fault_text : Fault → List ℕ
 fault_text (Text fault) = position.fault_text fault
 fault_text SetText = codes "E25 SetText"
 fault_text SetTooLarge = codes "E8 SetTooLarge"
 fault_text TooDeep = codes "E12 TooDeep"
+fault_text (File fault) = file.fault_text fault
+fault_text (Table fault) = table.fault_text fault
 fault_text Memory = codes "E23 Memory"
 fault_text Io = codes "E24 Io"
 
@@ -26,6 +32,11 @@ status_of (Text _) = 1
 status_of SetText = 1
 status_of SetTooLarge = 1
 status_of TooDeep = 3
+status_of (File file_fault.Memory) = 3
+status_of (File (file_fault.Io _)) = 3
+status_of (File _) = 1
+status_of (Table table_fault.Memory) = 3
+status_of (Table _) = 1
 status_of Memory = 3
 status_of Io = 3
 

@@ -25,6 +25,22 @@ value_form = record { name = codes "value"; options = []; positions = codes "POS
 abbrev pub count_form : Form
 count_form = record { name = codes "count"; options = (codes "set", codes "CEG") ∷ []; positions = [] }
 
+-- the option `--db FILE`
+abbrev pub file_option : Text × Text
+file_option = (codes "db", codes "FILE")
+
+-- `probe --db FILE POSITION`
+abbrev pub probe_form : Form
+probe_form = record { name = codes "probe"; options = file_option ∷ []; positions = codes "POSITION" ∷ [] }
+
+-- `line --db FILE POSITION`
+abbrev pub line_form : Form
+line_form = record { name = codes "line"; options = file_option ∷ []; positions = codes "POSITION" ∷ [] }
+
+-- `check --db FILE`
+abbrev pub check_form : Form
+check_form = record { name = codes "check"; options = file_option ∷ []; positions = [] }
+
 -- the subcommands, in the order of the help
 abbrev pub forms : List Form
-forms = value_form ∷ count_form ∷ []
+forms = value_form ∷ count_form ∷ probe_form ∷ line_form ∷ check_form ∷ []

@@ -7,5 +7,6 @@ pub mod Faults
 pub mod Streams
 pub mod Endings
 pub mod Program
+pub mod Tables
 pub mod Sizes
 pub mod Runs

@@ -14,11 +14,17 @@ use Rattle.dob_cli.specs.declared.command.Reading.TheVariants as reading
 abbrev pub name_of_order : Order → Text
 name_of_order (order.Value _) = codes "value"
 name_of_order (order.Count _) = codes "count"
+name_of_order (order.Probe _ _) = codes "probe"
+name_of_order (order.Line _ _) = codes "line"
+name_of_order (order.Check _) = codes "check"
 
 -- the texts that it has, in the order of the subcommand's form
 abbrev pub texts_of_order : Order → List Text
 texts_of_order (order.Value position) = position.now ∷ []
 texts_of_order (order.Count set) = set.now ∷ []
+texts_of_order (order.Probe file position) = file.now ∷ position.now ∷ []
+texts_of_order (order.Line file position) = file.now ∷ position.now ∷ []
+texts_of_order (order.Check file) = file.now ∷ []
 
 -- the order is for this subcommand and these texts
 abbrev pub IsOrder : Text → List Text → Order → Type 0

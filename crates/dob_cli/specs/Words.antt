@@ -192,3 +192,15 @@ value position = asks (codes "value") (position ∷ [])
 -- the numbers of positions and classes of the piece set that the text names
 abbrev pub count : Text → Meaning
 count set = asks (codes "count") (set ∷ [])
+
+-- the value of the position by the table of the file
+abbrev pub probe : Text → Text → Meaning
+probe file position = asks (codes "probe") (file ∷ position ∷ [])
+
+-- the line of the position by the table of the file
+abbrev pub line : Text → Text → Meaning
+line file position = asks (codes "line") (file ∷ position ∷ [])
+
+-- whether the table of the file is consistent
+abbrev pub check : Text → Meaning
+check file = asks (codes "check") (file ∷ [])

@@ -8,12 +8,12 @@
 //   `all_known`;
 // - its cases in the answers of `dobutsu_command`, `order_of` and `read_words`, as those of `count`;
 // - in program.rt an arm and a clause of `run_words`, with what it owes by a definition like `AnswersCount`.
-ghost use Rattle.std.specs.Prelude.{◌≡◌, IfOk, IsSomeAnd, List, codes, map};
-ghost use Rattle.clap.specs.Words.{kind_of, subcommand_rows_of};
-ghost use Rattle.dob_cli.specs.Forms.{Form, Text, count_form, forms, value_form};
+ghost use Rattle.std.specs.Prelude.{◌≡◌, false, IfOk, IsSomeAnd, List, codes, map};
+ghost use Rattle.clap.specs.Words.{kind_of, rule_of, subcommand_rows_of};
+ghost use Rattle.dob_cli.specs.Forms.{Form, Text, check_form, count_form, file_option, forms, line_form, probe_form, value_form};
 ghost use Rattle.dob_cli.specs.Lines.{IsAmong, IsLine};
 ghost use Rattle.dob_cli.specs.Words.{asks, is_version, meaning_of};
-ghost use Rattle.dob_cli.specs.Shapes.{Finds, HasShape, bare_app, dobutsu_app, form_app};
+ghost use Rattle.dob_cli.specs.Shapes.{Finds, HasShape, bare_app, dobutsu_app, form_app, option_rule, position_rule};
 ghost use Rattle.dob_cli.specs.Readings.{ComesFromLine, IsOrder, IsReadingOf, IsReadingOfKind};
 
 use clap::error::ErrorKind;
@@ -27,6 +27,12 @@ pub enum Order<'a> {
     Value(&'a str),
     /// To print the numbers of positions and of classes of the piece set that the text names.
     Count(&'a str),
+    /// To print the value of the position by the table of the file.
+    Probe { file: &'a str, position: &'a str },
+    /// To print the line of the position by the table of the file.
+    Line { file: &'a str, position: &'a str },
+    /// To tell whether the table of the file is consistent.
+    Check(&'a str),
 }
 
 /// What the words come to.
@@ -62,6 +68,34 @@ three such pieces are counted.
 Answers: `positions N` and `classes N`, where a class is a position with its mirror image.
 
 Example: dobutsu count --set 100 prints `positions 4158` and `classes 2124`.";
+
+const PROBE_HELP: &str =
+    "A file: what `dobutsu check --db FILE` calls consistent holds the values by definition; of any other
+file the answer is just what the file says.
+
+Answers: `win D`, `loss D` or `draw`, where D is the distance in plies.
+
+Example: dobutsu probe --db 000.db \"..l/.../L../... - -\" prints `win 3`. `dobutsu value --help` says
+how a position is written.";
+
+const LINE_HELP: &str =
+    "The moves of both sides, where the winner takes the shortest way and the loser the longest, each the
+first such move: a piece's letter, its square, `-` or `x` for a catch, the square where it goes, and
+`+` where a chick becomes a hen; or the letter of a piece in hand, `*` and a square. The moves of the
+side that isn't to move first are in lower case.
+
+Answers: the moves, `draw` where neither side can force an end, or `end` where the side to move has
+lost already.
+
+Example: dobutsu line --db 000.db \"..l/.../L../... - -\" prints `La2-a3 lc4-b4 La3xb4`.";
+
+const CHECK_HELP: &str =
+    "Each value of the file is compared with what follows from those one ply later, so that a file that is
+passed holds the values by definition, whoever made it.
+
+Answers: `consistent`; or `E21 Inconsistent class N` with the first class whose value doesn't follow.
+
+Example: dobutsu check --db 000.db prints `consistent`.";
 
 /// Reads the words after the program's name. `--help`, `-h` and the subcommand `help` give the help.
 /// As the first word `--version` asks for the version. A word that begins with `-` is an option, but for a lone `-`, the first `--` and what follows it.
@@ -103,7 +137,10 @@ fn dobutsu_command<'a>(alloc: Global) -> Result<Command<'a>, AllocError>
 {
     bare_command(alloc)?
         .subcommand(value_command(alloc)?)?
-        .subcommand(count_command(alloc)?)
+        .subcommand(count_command(alloc)?)?
+        .subcommand(probe_command(alloc)?)?
+        .subcommand(line_command(alloc)?)?
+        .subcommand(check_command(alloc)?)
 }
 
 // The program's command without its subcommands.
@@ -146,17 +183,85 @@ fn count_command<'a>(alloc: Global) -> Result<Command<'a>, AllocError>
         .arg(set)
 }
 
+// The subcommand `probe`.
+fn probe_command<'a>(alloc: Global) -> Result<Command<'a>, AllocError>
+    ensures { IfOk result (HasShape (form_app probe_form)) }
+{
+    Command::new(alloc, "probe")
+        .about("Prints the value of a position by a database file")
+        .after_help(PROBE_HELP)
+        .arg(file_argument(alloc))?
+        .arg(position_argument(alloc))
+}
+
+// The subcommand `line`.
+fn line_command<'a>(alloc: Global) -> Result<Command<'a>, AllocError>
+    ensures { IfOk result (HasShape (form_app line_form)) }
+{
+    Command::new(alloc, "line")
+        .about("Prints the best play from a position by a database file")
+        .after_help(LINE_HELP)
+        .arg(file_argument(alloc))?
+        .arg(position_argument(alloc))
+}
+
+// The subcommand `check`.
+fn check_command<'a>(alloc: Global) -> Result<Command<'a>, AllocError>
+    ensures { IfOk result (HasShape (form_app check_form)) }
+{
+    Command::new(alloc, "check")
+        .about("Tells whether a database file is right, without trusting who made it")
+        .after_help(CHECK_HELP)
+        .arg(file_argument(alloc))
+}
+
+// The option `--db FILE`.
+fn file_argument<'a>(alloc: Global) -> Arg<'a>
+    ensures rule { rule_of result ≡ option_rule file_option }
+    ensures local { result.global ≡ false }
+{
+    Arg::new(alloc, "FILE")
+        .long("db")
+        .required(true)
+        .help("The database file")
+}
+
+// The argument POSITION.
+fn position_argument<'a>(alloc: Global) -> Arg<'a>
+    ensures rule { rule_of result ≡ position_rule (codes "POSITION") }
+    ensures local { result.global ≡ false }
+{
+    Arg::new(alloc, "POSITION")
+        .required(true)
+        .help("The position, as text")
+}
+
 // What the matches of the program's command ask for.
 fn order_of<'a>(matches: &ArgMatches<'a>) -> Option<Order<'a>>
     ensures value { (texts : List Text) → Finds value_form texts (subcommand_rows_of matches.now)
         → IsSomeAnd result (IsOrder (codes "value") texts) }
     ensures count { (texts : List Text) → Finds count_form texts (subcommand_rows_of matches.now)
         → IsSomeAnd result (IsOrder (codes "count") texts) }
+    ensures probe { (texts : List Text) → Finds probe_form texts (subcommand_rows_of matches.now)
+        → IsSomeAnd result (IsOrder (codes "probe") texts) }
+    ensures line { (texts : List Text) → Finds line_form texts (subcommand_rows_of matches.now)
+        → IsSomeAnd result (IsOrder (codes "line") texts) }
+    ensures check { (texts : List Text) → Finds check_form texts (subcommand_rows_of matches.now)
+        → IsSomeAnd result (IsOrder (codes "check") texts) }
 {
     let (name, inner) = matches.subcommand()?;
     match name {
         "value" => Some(Order::Value(inner.get_str("POSITION")?)),
         "count" => Some(Order::Count(inner.get_str("CEG")?)),
+        "probe" => Some(Order::Probe {
+            file: inner.get_str("FILE")?,
+            position: inner.get_str("POSITION")?,
+        }),
+        "line" => Some(Order::Line {
+            file: inner.get_str("FILE")?,
+            position: inner.get_str("POSITION")?,
+        }),
+        "check" => Some(Order::Check(inner.get_str("FILE")?)),
         _ => None,
     }
 }

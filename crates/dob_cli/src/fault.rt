@@ -1,8 +1,10 @@
 // The faults of the program, their lines and their exit statuses.
 ghost use Rattle.std.specs.Prelude.{◌≡◌, Some};
+ghost use Rattle.dob_probe.specs.declared.fault.Fault.TheVariants as table_fault;
 ghost use Rattle.dob_cli.specs.declared.fault.Fault.TheVariants as fault;
 
-use dob_pieces::SetText;
+use dob_pieces::{Memory, SetText};
+use dob_probe::OtherSet;
 use dob_text::TextFault;
 use std::alloc::AllocError;
 use std::error::Error;
@@ -19,9 +21,13 @@ pub enum Fault {
     SetTooLarge,
     /// E12: a distance would be above 65,534 plies.
     TooDeep,
+    /// E8, E15 to E20, E23, E24: the file isn't one of a table, or reading it failed.
+    File(dob_dbfile::Fault),
+    /// E7, E21, E23: the table has no answer.
+    Table(dob_probe::Fault),
     /// E23: a growth was refused for want of memory.
     Memory,
-    /// E24: standard output failed.
+    /// E24: standard output failed, or the file couldn't be opened.
     Io,
 }
 
@@ -35,6 +41,10 @@ impl Fault {
         match self {
             Fault::Text(_) | Fault::SetText | Fault::SetTooLarge => 1,
             Fault::TooDeep | Fault::Memory | Fault::Io => 3,
+            Fault::File(dob_dbfile::Fault::Memory | dob_dbfile::Fault::Io(_)) => 3,
+            Fault::File(_) => 1,
+            Fault::Table(dob_probe::Fault::Memory) => 3,
+            Fault::Table(_) => 1,
         }
     }
 }
@@ -50,6 +60,8 @@ impl fmt::Display for Fault {
             Fault::SetText => write!(f, "E25 SetText"),
             Fault::SetTooLarge => write!(f, "E8 SetTooLarge"),
             Fault::TooDeep => write!(f, "E12 TooDeep"),
+            Fault::File(fault) => write!(f, "{fault}"),
+            Fault::Table(fault) => write!(f, "{fault}"),
             Fault::Memory => write!(f, "E23 Memory"),
             Fault::Io => write!(f, "E24 Io"),
         }
@@ -98,6 +110,38 @@ impl From<dob_rank::Fault> for Fault {
             dob_rank::Fault::SetTooLarge => Fault::SetTooLarge,
             dob_rank::Fault::Memory => Fault::Memory,
         }
+    }
+}
+
+impl From<dob_dbfile::Fault> for Fault {
+    ghost from_gives = { λ given result. result ≡ fault.File given };
+
+    fn from(given: dob_dbfile::Fault) -> Fault {
+        Fault::File(given)
+    }
+}
+
+impl From<dob_probe::Fault> for Fault {
+    ghost from_gives = { λ given result. result ≡ fault.Table given };
+
+    fn from(given: dob_probe::Fault) -> Fault {
+        Fault::Table(given)
+    }
+}
+
+impl From<OtherSet> for Fault {
+    ghost from_gives = { λ _ result. result ≡ fault.Table table_fault.OtherSet };
+
+    fn from(_given: OtherSet) -> Fault {
+        Fault::Table(dob_probe::Fault::OtherSet)
+    }
+}
+
+impl From<Memory> for Fault {
+    ghost from_gives = { λ _ result. result ≡ fault.Memory };
+
+    fn from(_refused: Memory) -> Fault {
+        Fault::Memory
     }
 }
 

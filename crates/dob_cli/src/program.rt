@@ -3,23 +3,27 @@ ghost use Rattle.std.specs.Prelude.{◌≡◌, ◌≢◌, ◌⊎◌, ℕ, List, 
 ghost use Rattle.std.specs.IoError.{error_kind};
 ghost use Rattle.std.specs.declared.io.ErrorKind.TheVariants.{OutOfMemory};
 ghost use Rattle.std.specs.Vec.Iter.{into_iter_items};
-ghost use Rattle.dob_cli.specs.Words.{meaning_of, value as asks_value, count as asks_count, help as asks_help, version as asks_version, topic as asks_topic, usage as asks_nothing};
+ghost use Rattle.dob_cli.specs.Words.{meaning_of, value as asks_value, count as asks_count, probe as asks_probe, line as asks_line, check as asks_check, help as asks_help, version as asks_version, topic as asks_topic, usage as asks_nothing};
 ghost use Rattle.dob_cli.specs.Streams.{change};
 ghost use Rattle.dob_cli.specs.Runs.{RanOn, TellsNoText};
 ghost use Rattle.dob_cli.specs.Endings.{AnswersHelp, AnswersUsage, AnswersVersion, Tells, TellsFaultAs, TellsMemory, TellsOneFault, ended};
 ghost use Rattle.dob_cli.specs.Program.{AnswersValue, IsValueLineOf, IsFaultOf, value_line};
 ghost use Rattle.dob_cli.specs.Sizes.{AnswersCount};
+ghost use Rattle.dob_cli.specs.Tables.{AnswersCheck, AnswersLine, AnswersProbe};
 ghost use Rattle.dob_cli.specs.declared.fault.Fault.TheVariants.{Memory};
 
 use crate::command::{Order, Reading, read_words};
 use crate::counts::run_count;
 use crate::fault::Fault;
 use crate::output::{Output, put_all, say};
+use crate::shelf::Shelf;
+use crate::tables::{run_check, run_line, run_probe};
 use dob_text::read_position;
 use dob_value::{Value, sweep_value};
 use std::alloc::{AllocError, Global};
 use std::env::Args;
 use std::io;
+use std::thread::Threads;
 
 /// The exit status for words that the program doesn't know.
 const USAGE: u8 = 2;
@@ -30,15 +34,17 @@ const VERSION: &str = "dobutsu 0.1.0\n";
 /// What is said where an argument isn't UTF-8.
 const NO_TEXT: &[u8] = b"error: an argument is not UTF-8\n\nFor more information, try '--help'.\n";
 
-/// Runs the program by its words, those after the program's name. What it tells goes to `out`, a fault's line and a
-/// word on wrong usage to `err`; the answer is the exit status.
+/// Runs the program by its words, those after the program's name. Database files come from the shelf. What it tells goes
+/// to `out`, a fault's line and a word on wrong usage to `err`; the answer is the exit status.
 ///
 /// The status is 0 where it is done or help was asked for, 1 where what was asked is refused, 2 for words that it
 /// doesn't know, 3 for want of memory, for a distance above 65,534 plies and where `out` fails. Where `err` fails,
 /// the status is the same.
-pub fn run_words<'a, O: Output, E: Output>(
+pub fn run_words<'a, S: Shelf, O: Output, E: Output>(
+    rt: &(impl Threads + Sync),
     alloc: Global,
     words: &'a [&'a str],
+    shelf: &mut S,
     out: &mut O,
     err: &mut E,
 ) -> u8
@@ -49,6 +55,14 @@ pub fn run_words<'a, O: Output, E: Output>(
     // Where they ask for the numbers of positions and classes of a piece set: their lines, or the line of a fault that
     // holds; or standard output failed in the lines.
     ensures count { (text : List ℕ) → meaning_of (map (λ w. w.now) words.now) ≡ asks_count text → AnswersCount text
+        (ended result (change (O.state out.old) (O.state out.new)) (change (E.state err.old) (E.state err.new))) }
+    // Where they ask for something of a database file: its line, or the line of a fault that holds; or standard output
+    // failed in the line.
+    ensures probe { (file text : List ℕ) → meaning_of (map (λ w. w.now) words.now) ≡ asks_probe file text → AnswersProbe (S.has shelf.old file) text
+        (ended result (change (O.state out.old) (O.state out.new)) (change (E.state err.old) (E.state err.new))) }
+    ensures line { (file text : List ℕ) → meaning_of (map (λ w. w.now) words.now) ≡ asks_line file text → AnswersLine (S.has shelf.old file) text
+        (ended result (change (O.state out.old) (O.state out.new)) (change (E.state err.old) (E.state err.new))) }
+    ensures check { (file : List ℕ) → meaning_of (map (λ w. w.now) words.now) ≡ asks_check file → AnswersCheck (S.has shelf.old file)
         (ended result (change (O.state out.old) (O.state out.new)) (change (E.state err.old) (E.state err.new))) }
     // Where they ask for help: its text and status 0; or standard output failed, or memory did.
     ensures help { meaning_of (map (λ w. w.now) words.now) ≡ asks_help
@@ -74,6 +88,13 @@ pub fn run_words<'a, O: Output, E: Output>(
         }
         Ok(Reading::Order(Order::Value(text))) => run_value(alloc, text, out, err),
         Ok(Reading::Order(Order::Count(text))) => run_count(alloc, text, out, err),
+        Ok(Reading::Order(Order::Probe { file, position })) => {
+            run_probe(alloc, shelf, file, position, out, err)
+        }
+        Ok(Reading::Order(Order::Line { file, position })) => {
+            run_line(alloc, shelf, file, position, out, err)
+        }
+        Ok(Reading::Order(Order::Check(file))) => run_check(rt, alloc, shelf, file, out, err),
     }
 }
 
@@ -98,7 +119,7 @@ fn value_of(alloc: Global, text: &str) -> Result<String, Fault>
 }
 
 // The line that tells a value.
-fn line_of(alloc: Global, value: Value) -> Result<String, AllocError>
+pub(crate) fn line_of(alloc: Global, value: Value) -> Result<String, AllocError>
     ensures { IfOk result (λ line. string_bytes line ≡ value_line value) }
 {
     match value {
@@ -142,16 +163,19 @@ pub fn tell_memory<E: Output>(err: &mut E) -> u8
 }
 
 /// Runs the program by what it was given: its arguments, of which the first is its name, or why they can't be had.
+/// Database files come from the shelf.
 ///
 /// It does what `run_words` does with the words after the name. Where memory for them was refused, it says so (E23,
 /// status 3); where one of them isn't UTF-8, it says that (status 2).
-pub fn run_given<O: Output, E: Output>(
+pub fn run_given<S: Shelf, O: Output, E: Output>(
+    rt: &(impl Threads + Sync),
     alloc: Global,
     given: io::Result<Args>,
+    shelf: &mut S,
     out: &mut O,
     err: &mut E,
 ) -> u8
-    ensures words { IfOk given (λ args. RanOn (map string_bytes (drop 1 (into_iter_items args)))
+    ensures words { IfOk given (λ args. RanOn (S.has shelf.old) (map string_bytes (drop 1 (into_iter_items args)))
         (ended result (change (O.state out.old) (O.state out.new)) (change (E.state err.old) (E.state err.new)))) }
     ensures refused { IfErr given (λ error. error_kind error ≡ OutOfMemory → TellsMemory
         (ended result (change (O.state out.old) (O.state out.new)) (change (E.state err.old) (E.state err.new)))) }
@@ -159,7 +183,7 @@ pub fn run_given<O: Output, E: Output>(
         (ended result (change (O.state out.old) (O.state out.new)) (change (E.state err.old) (E.state err.new)))) }
 {
     match given {
-        Ok(args) => run_args(alloc, args, out, err),
+        Ok(args) => run_args(rt, alloc, args, shelf, out, err),
         Err(error) => match error.kind() {
             io::ErrorKind::OutOfMemory => tell_memory(err),
             _ => {
@@ -171,12 +195,19 @@ pub fn run_given<O: Output, E: Output>(
 }
 
 // Runs the program by its arguments, of which the first is its name.
-fn run_args<O: Output, E: Output>(alloc: Global, args: Args, out: &mut O, err: &mut E) -> u8
-    ensures { RanOn (map string_bytes (drop 1 (into_iter_items args)))
+fn run_args<S: Shelf, O: Output, E: Output>(
+    rt: &(impl Threads + Sync),
+    alloc: Global,
+    args: Args,
+    shelf: &mut S,
+    out: &mut O,
+    err: &mut E,
+) -> u8
+    ensures { RanOn (S.has shelf.old) (map string_bytes (drop 1 (into_iter_items args)))
         (ended result (change (O.state out.old) (O.state out.new)) (change (E.state err.old) (E.state err.new))) }
 {
     match list_of(alloc, args) {
-        Ok(given) => run_texts(alloc, after_first(&given), out, err),
+        Ok(given) => run_texts(rt, alloc, after_first(&given), shelf, out, err),
         Err(AllocError) => tell_memory(err),
     }
 }
@@ -203,12 +234,19 @@ fn after_first<'a>(given: &'a [String]) -> &'a [String]
 }
 
 // Runs the program by its words, as they were given.
-fn run_texts<O: Output, E: Output>(alloc: Global, given: &[String], out: &mut O, err: &mut E) -> u8
-    ensures { RanOn (map string_bytes given.now)
+fn run_texts<S: Shelf, O: Output, E: Output>(
+    rt: &(impl Threads + Sync),
+    alloc: Global,
+    given: &[String],
+    shelf: &mut S,
+    out: &mut O,
+    err: &mut E,
+) -> u8
+    ensures { RanOn (S.has shelf.old) (map string_bytes given.now)
         (ended result (change (O.state out.old) (O.state out.new)) (change (E.state err.old) (E.state err.new))) }
 {
     match words_of(alloc, given) {
-        Ok(words) => run_words(alloc, &words, out, err),
+        Ok(words) => run_words(rt, alloc, &words, shelf, out, err),
         Err(AllocError) => tell_memory(err),
     }
 }

@@ -30,6 +30,7 @@ const ONE_CHICK: PieceSet = PieceSet {
 
 // The classes of the positions with the mover's lion on b2 and the enemy's on b3, and on a3 and c1.
 const CAUGHT: u64 = 33;
+
 const TRIED: u64 = 38;
 
 // The position with the lions on those two squares, and with that in the mover's hand.

@@ -1,9 +1,22 @@
 // What the program prints and its exit status, by its words.
-use dob_cli::{run_given, run_words};
+use dob_cli::{MemShelf, run_given, run_words};
+use dob_dbfile::{MemSink, write_table};
+use dob_pieces::PieceSet;
+use dob_rank::Classes;
+use dob_value::{Table, code_of_value, sweep_table};
 use std::alloc::{AllocError, Global};
 use std::io::{self, ErrorKind, Write};
 use std::process::Abort;
 use std::test::Fail;
+use std::thread::Threads;
+
+const FILE: &str = "000.db";
+
+const NO_PIECES: PieceSet = PieceSet {
+    chicks: 0,
+    elephants: 0,
+    giraffes: 0,
+};
 
 /// What the program did.
 #[derive(Drop)]
@@ -13,11 +26,28 @@ struct Told {
     err: Vec<u8>,
 }
 
-fn run(alloc: Global, words: &[&str]) -> Told {
+// A shelf whose one file has those bytes.
+fn shelf_with(alloc: Global, bytes: Vec<u8>) -> Result<MemShelf, AllocError> {
+    let name = FILE.to_string(alloc)?;
+    Ok(MemShelf { name, bytes })
+}
+
+fn run_over(
+    rt: &(impl Threads + Sync),
+    alloc: Global,
+    shelf: &mut MemShelf,
+    words: &[&str],
+) -> Told {
     let mut out = Vec::new(alloc);
     let mut err = Vec::new(alloc);
-    let status = run_words(alloc, words, &mut out, &mut err);
+    let status = run_words(rt, alloc, words, shelf, &mut out, &mut err);
     Told { status, out, err }
+}
+
+// Over an empty file.
+fn run(rt: &(impl Threads + Sync), alloc: Global, words: &[&str]) -> Result<Told, AllocError> {
+    let mut shelf = shelf_with(alloc, Vec::new(alloc))?;
+    Ok(run_over(rt, alloc, &mut shelf, words))
 }
 
 /// A stream that takes so many bytes and then fails.
@@ -44,19 +74,31 @@ impl Write for Narrow {
 }
 
 /// The words give just that on standard output, and status 0.
-fn answers(rt: &impl Abort, alloc: Global, words: &[&str], lines: &str) {
-    let told = run(alloc, words);
+fn answers(
+    rt: &(impl Abort + Threads + Sync),
+    alloc: Global,
+    words: &[&str],
+    lines: &str,
+) -> Result<(), AllocError> {
+    let told = run(rt, alloc, words)?;
     assert_eq!(rt; told.status, 0, "{words:?}");
     assert_eq!(rt; told.out.as_slice(), lines.as_bytes(), "{words:?}");
     assert!(rt; told.err.is_empty(), "{words:?}");
+    Ok(())
 }
 
 /// The words give just that on standard error, and status 1.
-fn refuses(rt: &impl Abort, alloc: Global, words: &[&str], line: &str) {
-    let told = run(alloc, words);
+fn refuses(
+    rt: &(impl Abort + Threads + Sync),
+    alloc: Global,
+    words: &[&str],
+    line: &str,
+) -> Result<(), AllocError> {
+    let told = run(rt, alloc, words)?;
     assert_eq!(rt; told.status, 1, "{words:?}");
     assert!(rt; told.out.is_empty(), "{words:?}");
     assert_eq!(rt; told.err.as_slice(), line.as_bytes(), "{words:?}");
+    Ok(())
 }
 
 #[test]
@@ -75,7 +117,7 @@ fn values_of_positions(rt: HostRuntime) -> Result<(), Fail> {
         (".../.../.../L.l - g", "loss 0\n"),
     ];
     for (text, line) in rows {
-        answers(&rt, rt.alloc(), &["value", text], line);
+        answers(&rt, rt.alloc(), &["value", text], line)?;
     }
     Ok(())
 }
@@ -90,7 +132,7 @@ fn sizes_of_piece_sets(rt: HostRuntime) -> Result<(), Fail> {
         ("200", "positions 79497\nclasses 39978\n"),
     ];
     for (text, lines) in rows {
-        answers(&rt, rt.alloc(), &["count", "--set", text], lines);
+        answers(&rt, rt.alloc(), &["count", "--set", text], lines)?;
     }
     Ok(())
 }
@@ -109,7 +151,7 @@ fn refused_texts(rt: HostRuntime) -> Result<(), Fail> {
         ("gle/.c./.C./ELG - -", "dobutsu: E8 SetTooLarge\n"),
     ];
     for (text, line) in rows {
-        refuses(&rt, rt.alloc(), &["value", text], line);
+        refuses(&rt, rt.alloc(), &["value", text], line)?;
     }
     Ok(())
 }
@@ -130,14 +172,14 @@ fn refused_sets(rt: HostRuntime) -> Result<(), Fail> {
         ("１00", "dobutsu: E25 SetText\n"),
     ];
     for (text, line) in rows {
-        refuses(&rt, rt.alloc(), &["count", "--set", text], line);
+        refuses(&rt, rt.alloc(), &["count", "--set", text], line)?;
     }
     Ok(())
 }
 
 #[test]
 fn wrong_words_are_usage(rt: HostRuntime) -> Result<(), Fail> {
-    let rows: [&[&str]; 10] = [
+    let rows: [&[&str]; 16] = [
         &[],
         &["value"],
         &["value", "a", "b"],
@@ -148,9 +190,15 @@ fn wrong_words_are_usage(rt: HostRuntime) -> Result<(), Fail> {
         &["count", "100"],
         &["count", "--set"],
         &["count", "--set", "100", "100"],
+        &["probe", "a"],
+        &["probe", "--db", "a"],
+        &["line", "--db", "a"],
+        &["check"],
+        &["check", "a"],
+        &["check", "--db", "a", "b"],
     ];
     for words in rows {
-        let told = run(rt.alloc(), words);
+        let told = run(&rt, rt.alloc(), words)?;
         assert_eq!(rt; told.status, 2);
         assert!(rt; told.out.is_empty());
         assert!(rt; !told.err.is_empty());
@@ -160,15 +208,18 @@ fn wrong_words_are_usage(rt: HostRuntime) -> Result<(), Fail> {
 
 #[test]
 fn help_is_told_on_standard_output(rt: HostRuntime) -> Result<(), Fail> {
-    let rows: [&[&str]; 5] = [
+    let rows: [&[&str]; 8] = [
         &["--help"],
         &["-h"],
         &["help"],
         &["value", "--help"],
         &["count", "--help"],
+        &["probe", "--help"],
+        &["line", "--help"],
+        &["check", "--help"],
     ];
     for words in rows {
-        let told = run(rt.alloc(), words);
+        let told = run(&rt, rt.alloc(), words)?;
         assert_eq!(rt; told.status, 0);
         assert!(rt; !told.out.is_empty());
         assert!(rt; told.err.is_empty());
@@ -185,7 +236,8 @@ fn standard_output_that_fails(rt: HostRuntime) -> Result<(), Fail> {
         };
         let mut err = Vec::new(rt.alloc());
         let words = ["value", "..l/.../L../... - -"];
-        let status = run_words(rt.alloc(), &words, &mut out, &mut err);
+        let mut shelf = shelf_with(rt.alloc(), Vec::new(rt.alloc()))?;
+        let status = run_words(&rt, rt.alloc(), &words, &mut shelf, &mut out, &mut err);
         assert_eq!(rt; status, 3);
         assert_eq!(rt; out.taken.as_slice(), &b"win 3\n"[..room]);
         assert_eq!(rt; err.as_slice(), b"dobutsu: E24 Io\n".as_slice());
@@ -201,7 +253,9 @@ fn standard_error_that_fails(rt: HostRuntime) -> Result<(), Fail> {
             room,
             taken: Vec::new(rt.alloc()),
         };
-        let status = run_words(rt.alloc(), &["value", ""], &mut out, &mut err);
+        let mut shelf = shelf_with(rt.alloc(), Vec::new(rt.alloc()))?;
+        let words = ["value", ""];
+        let status = run_words(&rt, rt.alloc(), &words, &mut shelf, &mut out, &mut err);
         assert_eq!(rt; status, 1);
         assert!(rt; out.is_empty());
         assert_eq!(rt; err.taken.as_slice(), &b"dobutsu: E1 Shape\n"[..room]);
@@ -233,7 +287,8 @@ fn standard_output_that_cannot_be_flushed(rt: HostRuntime) -> Result<(), Fail> {
     };
     let mut err = Vec::new(rt.alloc());
     let words = ["value", "..l/.../L../... - -"];
-    let status = run_words(rt.alloc(), &words, &mut out, &mut err);
+    let mut shelf = shelf_with(rt.alloc(), Vec::new(rt.alloc()))?;
+    let status = run_words(&rt, rt.alloc(), &words, &mut shelf, &mut out, &mut err);
     assert_eq!(rt; status, 3);
     assert_eq!(rt; out.taken.as_slice(), b"win 3\n".as_slice());
     assert_eq!(rt; err.as_slice(), b"dobutsu: E24 Io\n".as_slice());
@@ -241,27 +296,151 @@ fn standard_output_that_cannot_be_flushed(rt: HostRuntime) -> Result<(), Fail> {
 }
 
 /// What the program does with arguments that can't be had for this cause.
-fn without_arguments(alloc: Global, cause: ErrorKind) -> Told {
+fn without_arguments(
+    rt: &(impl Threads + Sync),
+    alloc: Global,
+    cause: ErrorKind,
+) -> Result<Told, AllocError> {
+    let mut shelf = shelf_with(alloc, Vec::new(alloc))?;
     let mut out = Vec::new(alloc);
     let mut err = Vec::new(alloc);
-    let status = run_given(alloc, Err(cause.into()), &mut out, &mut err);
-    Told { status, out, err }
+    let given = Err(cause.into());
+    let status = run_given(rt, alloc, given, &mut shelf, &mut out, &mut err);
+    Ok(Told { status, out, err })
 }
 
 #[test]
 fn arguments_that_cannot_be_had(rt: HostRuntime) -> Result<(), Fail> {
-    let unread = without_arguments(rt.alloc(), ErrorKind::InvalidData);
+    let unread = without_arguments(&rt, rt.alloc(), ErrorKind::InvalidData)?;
     assert_eq!(rt; unread.status, 2);
     assert!(rt; unread.out.is_empty());
     assert!(rt; unread.err.starts_with(b"error: an argument is not UTF-8\n"));
-    let refused = without_arguments(rt.alloc(), ErrorKind::OutOfMemory);
+    let refused = without_arguments(&rt, rt.alloc(), ErrorKind::OutOfMemory)?;
     assert_eq!(rt; refused.status, 3);
     assert_eq!(rt; refused.err.as_slice(), b"dobutsu: E23 Memory\n".as_slice());
     Ok(())
 }
 
+// The file of the table of lions alone, with another code for one class.
+fn file_with(rt: &impl Abort, alloc: Global, class: u64, code: u16) -> Result<Vec<u8>, Fail> {
+    let right = sweep_table(alloc, NO_PIECES)?;
+    let classes = Classes::open(alloc, NO_PIECES)?;
+    let mut codes = Vec::new(alloc);
+    for number in 0..right.class_count() {
+        let kept = code_of_value(right.value(number));
+        codes.push(chosen(number == class, code, kept))?;
+    }
+    assert_eq!(rt; codes.len() as u64, classes.class_count());
+    let table = Table::new(classes, codes);
+    let mut sink = MemSink::new(alloc);
+    write_table(alloc, &table, &mut sink)?;
+    Ok(sink.into_bytes())
+}
+
+// One of two numbers.
+fn chosen(first: bool, one: u16, other: u16) -> u16 {
+    if first { one } else { other }
+}
+
+#[test]
+fn answers_from_a_file(rt: HostRuntime) -> Result<(), Fail> {
+    let file = file_with(&rt, rt.alloc(), 54, 0)?;
+    let mut shelf = shelf_with(rt.alloc(), file)?;
+    let rows: [(&[&str], &str); 12] = [
+        (&["check", "--db", FILE], "consistent\n"),
+        (&["probe", "--db", FILE, "..l/.../L../... - -"], "win 3\n"),
+        (&["probe", ".../.../..l/L.. - -", "--db", FILE], "loss 2\n"),
+        (&["probe", "--db=000.db", ".l./.../.L./... - -"], "draw\n"),
+        (
+            &["line", "--db", FILE, "..l/.../L../... - -"],
+            "La2-a3 lc4-b4 La3xb4\n",
+        ),
+        (&["line", "--db", FILE, "..l/L../.../... - -"], "La3-a4\n"),
+        (&["line", "--db", FILE, ".../L../.../..l - -"], "end\n"),
+        (
+            &["line", "--db", FILE, ".../.../..l/L.. - -"],
+            "La1-b1 lc2xb1\n",
+        ),
+        (
+            &["line", "--db", FILE, ".l./.../.../.L. - -"],
+            "Lb1-b2 lb4-c4 Lb2-a3 lc4-b4 La3xb4\n",
+        ),
+        (&["line", "--db", FILE, ".l./.../.L./... - -"], "draw\n"),
+        (&["line", "--db", FILE, ".../.l./.L./... - -"], "Lb2xb3\n"),
+        (&["probe", "--db", FILE, ".../.l./.L./... - -"], "win 1\n"),
+    ];
+    for (words, line) in rows {
+        let told = run_over(&rt, rt.alloc(), &mut shelf, words);
+        assert_eq!(rt; told.out.as_slice(), line.as_bytes(), "{words:?}");
+        assert_eq!(rt; told.status, 0);
+        assert!(rt; told.err.is_empty());
+    }
+    Ok(())
+}
+
+// The position is read before the file is looked for, and the file before the table is asked.
+#[test]
+fn refused_by_a_file(rt: HostRuntime) -> Result<(), Fail> {
+    let file = file_with(&rt, rt.alloc(), 17, 8)?;
+    let mut shelf = shelf_with(rt.alloc(), file)?;
+    let long = ".l./.../.../.L. - -";
+    let rows: [(&[&str], u8, &str); 8] = [
+        (&["check", "--db", FILE], 1, "E21 Inconsistent class 17"),
+        (
+            &["line", "--db", FILE, long],
+            1,
+            "E21 Inconsistent class 17",
+        ),
+        (
+            &["probe", "--db", FILE, "..l/.../.../L.. C -"],
+            1,
+            "E7 OtherSet",
+        ),
+        (
+            &["line", "--db", FILE, "..l/.../.../L.. C -"],
+            1,
+            "E7 OtherSet",
+        ),
+        (&["probe", "--db", "none", long], 3, "E24 Io"),
+        (&["line", "--db", "none", ""], 1, "E1 Shape"),
+        (
+            &["probe", "--db", "none", "L../.../.../..l - -"],
+            1,
+            "E6 FarLion",
+        ),
+        (&["check", "--db", "none"], 3, "E24 Io"),
+    ];
+    for (words, status, fault) in rows {
+        let told = run_over(&rt, rt.alloc(), &mut shelf, words);
+        let line = format!(in rt.alloc(); "dobutsu: {fault}\n")?;
+        assert_eq!(rt; told.err.as_slice(), line.as_str().as_bytes(), "{words:?}");
+        assert_eq!(rt; told.status, status);
+        assert!(rt; told.out.is_empty());
+    }
+    let told = run_over(&rt, rt.alloc(), &mut shelf, &["probe", "--db", FILE, long]);
+    assert_eq!(rt; told.out.as_slice(), b"win 7\n".as_slice());
+    let mut empty = shelf_with(rt.alloc(), Vec::new(rt.alloc()))?;
+    let told = run_over(&rt, rt.alloc(), &mut empty, &["check", "--db", FILE]);
+    assert_eq!(rt; told.err.as_slice(), b"dobutsu: E15 Truncated\n".as_slice());
+    assert_eq!(rt; told.status, 1);
+    Ok(())
+}
+
 #[test]
 fn version_is_told(rt: HostRuntime) -> Result<(), Fail> {
-    answers(&rt, rt.alloc(), &["--version"], "dobutsu 0.1.0\n");
+    answers(&rt, rt.alloc(), &["--version"], "dobutsu 0.1.0\n")?;
+    Ok(())
+}
+
+#[test]
+fn the_first_break_of_a_file(rt: HostRuntime) -> Result<(), Fail> {
+    let file = file_with(&rt, rt.alloc(), 15, 0)?;
+    let mut shelf = shelf_with(rt.alloc(), file)?;
+    let told = run_over(&rt, rt.alloc(), &mut shelf, &["check", "--db", FILE]);
+    assert_eq!(rt;
+        told.err.as_slice(),
+        b"dobutsu: E21 Inconsistent class 9\n".as_slice()
+    );
+    assert_eq!(rt; told.status, 1);
     Ok(())
 }

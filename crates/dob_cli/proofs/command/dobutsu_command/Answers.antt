@@ -1,13 +1,33 @@
 -- Each subcommand joins the program.
 use Rattle.std.proofs.lemmas.Result.{IfOk-weaker}
-use Rattle.clap.specs.Words.{with_subcommand}
-use Rattle.dob_cli.specs.Forms.{count_form, value_form}
+use Rattle.clap.specs.Words.{App, with_subcommand}
+use Rattle.dob_cli.specs.Forms.{check_form, count_form, line_form, probe_form, value_form}
 use Rattle.dob_cli.specs.Shapes.{bare_app, form_app}
 use Rattle.dob_cli.proofs.Outcomes.{subcommand_shape}
 use Rattle.dob_cli.proofs.command.dobutsu_command.Goals as goal
 
+-- the program with its first subcommands
+abbrev with_value : App
+with_value = with_subcommand bare_app (form_app value_form).top
+
+abbrev with_count : App
+with_count = with_subcommand with_value (form_app count_form).top
+
+abbrev with_probe : App
+with_probe = with_subcommand with_count (form_app probe_form).top
+
+abbrev with_line : App
+with_line = with_subcommand with_probe (form_app line_form).top
+
 pub returns : goal.returns
 returns c =
-    let first = subcommand_shape _ _ c.in_ok-subcommand.field-0 bare_app (form_app value_form) c.in_ok-bare_command.ensures c.in_ok-value_command.ensures c.in_ok-subcommand.ensures in
-    IfOk-weaker c.subcommand-2.result _ _
-    (λ r adds. subcommand_shape _ _ r (with_subcommand bare_app (form_app value_form).top) (form_app count_form) first c.in_ok-count_command.ensures adds) c.subcommand-2.ensures
+    let first = subcommand_shape _ _ c.in_ok-subcommand.field-0 bare_app (form_app value_form) c.in_ok-bare_command.ensures c.in_ok-value_command.ensures
+    c.in_ok-subcommand.ensures in
+    let second = subcommand_shape _ _ c.in_ok-subcommand-2.field-0 with_value (form_app count_form) first c.in_ok-count_command.ensures
+    c.in_ok-subcommand-2.ensures in
+    let third = subcommand_shape _ _ c.in_ok-subcommand-3.field-0 with_count (form_app probe_form) second c.in_ok-probe_command.ensures
+    c.in_ok-subcommand-3.ensures in
+    let fourth = subcommand_shape _ _ c.in_ok-subcommand-4.field-0 with_probe (form_app line_form) third c.in_ok-line_command.ensures
+    c.in_ok-subcommand-4.ensures in
+    IfOk-weaker c.subcommand-5.result _ _
+    (λ r adds. subcommand_shape _ _ r with_line (form_app check_form) fourth c.in_ok-check_command.ensures adds) c.subcommand-5.ensures

@@ -1,0 +1,190 @@
+// Answers by the table of a database file.
+ghost use Rattle.std.specs.Prelude.{◌≡◌, ◌++◌, ◌∷◌, [], false, IfOk, IfErr, OnOk, string_bytes};
+ghost use Rattle.dob_text.specs.MoveText.{move_text};
+ghost use Rattle.dob_cli.specs.Endings.{ended};
+ghost use Rattle.dob_cli.specs.Streams.{change};
+ghost use Rattle.dob_cli.specs.Tables.{AnswersCheck, AnswersLine, AnswersProbe, HasFileFault, IsCheckFault, IsCheckLine, IsFileOf, IsMovesLine, IsOpeningFault, IsPositionFault, IsProbeLine, moves_line, moves_text, space_before};
+
+use crate::fault::Fault;
+use crate::output::Output;
+use crate::program::{line_of, tell, tell_fault};
+use crate::shelf::Shelf;
+use dob_dbfile::read_table;
+use dob_moves::Move;
+use dob_pieces::Memory;
+use dob_probe::{check, line, probe};
+use dob_text::{read_position, write_move};
+use dob_value::{Table, Value};
+use std::alloc::Global;
+use std::thread::Threads;
+
+/// Tells the value of the position that the text names, by the table of the file. The answer is the exit status.
+pub(crate) fn run_probe<S: Shelf, O: Output, E: Output>(
+    alloc: Global,
+    shelf: &mut S,
+    file: &str,
+    text: &str,
+    out: &mut O,
+    err: &mut E,
+) -> u8
+    ensures { AnswersProbe (S.has shelf.old file.now) text.now (ended result (change (O.state out.old) (O.state out.new)) (change (E.state err.old) (E.state err.new))) }
+{
+    match probed(alloc, shelf, file, text) {
+        Ok(line) => tell(alloc, line.as_str(), out, err),
+        Err(fault) => tell_fault(alloc, fault, err),
+    }
+}
+
+/// Tells the line of the position that the text names, by the table of the file. The answer is the exit status.
+pub(crate) fn run_line<S: Shelf, O: Output, E: Output>(
+    alloc: Global,
+    shelf: &mut S,
+    file: &str,
+    text: &str,
+    out: &mut O,
+    err: &mut E,
+) -> u8
+    ensures { AnswersLine (S.has shelf.old file.now) text.now (ended result (change (O.state out.old) (O.state out.new)) (change (E.state err.old) (E.state err.new))) }
+{
+    match lined(alloc, shelf, file, text) {
+        Ok(line) => tell(alloc, line.as_str(), out, err),
+        Err(fault) => tell_fault(alloc, fault, err),
+    }
+}
+
+/// Tells that the table of the file is consistent, and so the value table. The answer is the exit status.
+pub(crate) fn run_check<S: Shelf, O: Output, E: Output>(
+    rt: &(impl Threads + Sync),
+    alloc: Global,
+    shelf: &mut S,
+    file: &str,
+    out: &mut O,
+    err: &mut E,
+) -> u8
+    ensures { AnswersCheck (S.has shelf.old file.now) (ended result (change (O.state out.old) (O.state out.new)) (change (E.state err.old) (E.state err.new))) }
+{
+    match checked(rt, alloc, shelf, file) {
+        Ok(line) => tell(alloc, line, out, err),
+        Err(fault) => tell_fault(alloc, fault, err),
+    }
+}
+
+// The line that tells the value.
+fn probed<S: Shelf>(alloc: Global, shelf: &mut S, file: &str, text: &str) -> Result<String, Fault>
+    ensures ok { IfOk result (λ line. IsProbeLine (S.has shelf.old file.now) text.now (string_bytes line)) }
+    ensures err { IfErr result (IsPositionFault (S.has shelf.old file.now) text.now) }
+{
+    let position = read_position(text)?;
+    let table = open(alloc, shelf, file)?;
+    let value = probe(&table, &position)?;
+    Ok(line_of(alloc, value)?)
+}
+
+// The line that tells the moves.
+fn lined<S: Shelf>(alloc: Global, shelf: &mut S, file: &str, text: &str) -> Result<String, Fault>
+    ensures ok { IfOk result (λ line. IsMovesLine (S.has shelf.old file.now) text.now (string_bytes line)) }
+    ensures err { IfErr result (IsPositionFault (S.has shelf.old file.now) text.now) }
+{
+    let position = read_position(text)?;
+    let table = open(alloc, shelf, file)?;
+    let value = probe(&table, &position)?;
+    let moves = line(alloc, &table, &position)?;
+    Ok(moves_line(alloc, value, &moves)?)
+}
+
+// The line that tells that the file is consistent.
+fn checked<S: Shelf>(
+    rt: &(impl Threads + Sync),
+    alloc: Global,
+    shelf: &mut S,
+    file: &str,
+) -> Result<&'static str, Fault>
+    ensures ok { IfOk result (λ line. IsCheckLine (S.has shelf.old file.now) line.now) }
+    ensures err { IfErr result (IsCheckFault (S.has shelf.old file.now)) }
+{
+    let table = open(alloc, shelf, file)?;
+    check(rt, alloc, &table)?;
+    Ok("consistent\n")
+}
+
+// The table of the file.
+fn open<S: Shelf>(alloc: Global, shelf: &mut S, file: &str) -> Result<Table, Fault>
+    ensures table { IfOk result (λ table. IsFileOf (S.has shelf.old file.now) table) }
+    ensures fault { IfErr result (IsOpeningFault (S.has shelf.old file.now)) }
+{
+    let Some(mut source) = shelf.find(file) else {
+        return Err(Fault::Io);
+    };
+    Ok(read_table(alloc, &mut source)?)
+}
+
+// The line that tells the moves of a position of that value.
+fn moves_line(alloc: Global, value: Value, moves: &[Move]) -> Result<String, Memory>
+    ensures { IfOk result (λ line. string_bytes line ≡ moves_line value moves.now) }
+{
+    if moves.is_empty() {
+        Ok(end_line(value).to_string(alloc)?)
+    } else {
+        move_line(alloc, moves)
+    }
+}
+
+// The line where there are no moves.
+fn end_line(value: Value) -> &'static str
+    ensures { result.now ≡ moves_line value [] }
+{
+    match value {
+        Value::Draw => "draw\n",
+        Value::Win(_) | Value::Loss(_) => "end\n",
+    }
+}
+
+// The line of the moves.
+fn move_line(alloc: Global, moves: &[Move]) -> Result<String, Memory>
+    ensures { IfOk result (λ line. string_bytes line ≡ moves_text false moves.now ++ 10 ∷ []) }
+{
+    let mut line = String::new(alloc);
+    push_moves(alloc, &mut line, moves)?;
+    line.push_str("\n")?;
+    Ok(line)
+}
+
+// Writes the moves at the end.
+fn push_moves(alloc: Global, line: &mut String, moves: &[Move]) -> Result<(), Memory>
+    ensures { OnOk result (string_bytes line.new ≡ string_bytes line.old ++ moves_text false moves.now) }
+{
+    let mut second = false;
+    let mut left = moves;
+    while let Some((first, rest)) = left.split_first() {
+        push_move(alloc, line, *first, second, rest)?;
+        second = !second;
+        left = rest;
+    }
+    Ok(())
+}
+
+// Writes the move at the end, and a space where more moves follow.
+fn push_move(
+    alloc: Global,
+    line: &mut String,
+    choice: Move,
+    second: bool,
+    rest: &[Move],
+) -> Result<(), Memory>
+    ensures { OnOk result (string_bytes line.new ≡ string_bytes line.old ++ (move_text choice second ++ space_before rest.now)) }
+{
+    let text = write_move(alloc, choice, second)?;
+    line.push_str(text.as_str())?;
+    line.push_str(space_before(rest))?;
+    Ok(())
+}
+
+// A space where more moves follow.
+fn space_before(rest: &[Move]) -> &'static str
+    ensures { result.now ≡ space_before rest.now }
+{
+    match rest {
+        [] => "",
+        [_, ..] => " ",
+    }
+}
