@@ -1,4 +1,5 @@
 // The answer to a line.
+use crate::about_cell::about_cell;
 use crate::about_position::about_position;
 use crate::about_set::about_set;
 use crate::about_token::about_token;
@@ -21,6 +22,10 @@ pub(crate) fn reply(alloc: Global, opened: &mut Opened, line: &str) -> Result<St
         Some(Question::Set(matter, text)) => match PieceSet::read(text) {
             Err(fault) => fault_line(alloc, fault),
             Ok(set) => told(alloc, about_set(alloc, opened, matter, set)),
+        },
+        Some(Question::Cell(class, text, changes)) => match PieceSet::read(text) {
+            Err(fault) => fault_line(alloc, fault),
+            Ok(set) => told(alloc, about_cell(alloc, opened, set, class, changes)),
         },
         Some(Question::Token(matter)) => Ok(about_token(alloc, matter)?),
     }

@@ -8,6 +8,8 @@ pub(crate) enum Question<'a> {
     Position(OfPosition, &'a str),
     /// Something about the piece set of that text.
     Set(OfSet, &'a str),
+    /// What the cell of the class of that number, in the piece set of that text, answers to these changes.
+    Cell(u64, &'a str, &'a str),
     /// Something about tokens of the ring.
     Token(OfToken),
 }
@@ -76,6 +78,12 @@ impl<'a> Question<'a> {
                 let (set, classes) = rest.split_once(' ')?;
                 let (from, into) = two_numbers(classes)?;
                 Some(Question::Set(OfSet::Edges { from, into }, set))
+            }
+            "apply" => {
+                let (set, rest) = rest.split_once(' ')?;
+                let (class, changes) = rest.split_once(' ')?;
+                let class = class.parse::<u64>().ok()?;
+                Some(Question::Cell(class, set, changes))
             }
             _ => Some(Question::Token(OfToken::read(word, rest)?)),
         }

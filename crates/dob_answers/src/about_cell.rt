@@ -1,0 +1,129 @@
+// Answers about a cell: what the cell of a class of which nothing is known answers to changes of what its moves lead to,
+// one after another. A change is written `WAS>NOW`, with values as `w3`, `l0` and `d`. Its answer is `-` where the
+// class keeps its value, `WAS>NOW` where it is settled, `E12` or `E13` where the change is refused, and `none` where
+// that is no change.
+ghost use Rattle.std.specs.Prelude.{◌≤◌};
+ghost use Rattle.dob_rank.specs.Marks.{classes_of};
+
+use crate::opened::Opened;
+use dob_moves::{count_moves, status};
+use dob_pieces::PieceSet;
+use dob_rank::Classes;
+use dob_share::{Item, Opening, Share, owner};
+use dob_value::{Fault, Value};
+use std::alloc::{AllocError, Global};
+
+// Each share is that of the class's owner among so many.
+const OWNERS: usize = 3;
+
+// A share numbers its settlements up to there.
+const MOST_SETTLED: u64 = 1 << 62;
+
+/// What the class's cell answers to the changes; `none` where the set has no such class. An error is that of opening
+/// the set's classes, or no memory was left.
+pub(crate) fn about_cell(
+    alloc: Global,
+    opened: &mut Opened,
+    set: PieceSet,
+    class: u64,
+    changes: &str,
+) -> Result<String, Fault> {
+    let classes = opened.classes_of(alloc, set)?;
+    let count = classes.class_count();
+    if class >= count {
+        return Ok("none".to_string(alloc)?);
+    }
+    let openings = openings_of(alloc, classes, class + 1)?;
+    let mut share = Share::open(alloc, &openings, owner(class, OWNERS), OWNERS)?;
+    Ok(tell_replies(alloc, &mut share, class, changes)?)
+}
+
+/// The statuses and numbers of moves of that many first classes.
+fn openings_of(alloc: Global, classes: &Classes, count: u64) -> Result<Vec<Opening>, AllocError>
+    requires { count ≤ classes_of classes.now.set }
+{
+    let mut openings = Vec::new(alloc);
+    for class in 0..count {
+        let position = classes.class_at(class);
+        let status = status(&position);
+        let moves = count_moves(&position);
+        openings.push(Opening { status, moves })?;
+    }
+    Ok(openings)
+}
+
+/// What the class's cell in the share answers to the changes, one after another.
+fn tell_replies(
+    alloc: Global,
+    share: &mut Share,
+    class: u64,
+    changes: &str,
+) -> Result<String, AllocError> {
+    let mut text = String::new(alloc);
+    for change in changes.split_whitespace() {
+        if !text.is_empty() {
+            text.push(' ')?;
+        }
+        let reply = reply_to(alloc, share, class, change)?;
+        text.push_str(reply.as_str())?;
+    }
+    Ok(text)
+}
+
+/// What the class's cell in the share answers to the change.
+fn reply_to(
+    alloc: Global,
+    share: &mut Share,
+    class: u64,
+    change: &str,
+) -> Result<String, AllocError> {
+    let Some((was, now)) = read_change(change) else {
+        return "none".to_string(alloc);
+    };
+    if share.settled() >= MOST_SETTLED {
+        return "none".to_string(alloc);
+    }
+    let item = Item {
+        number: 0,
+        to: class,
+        was,
+        now,
+    };
+    match share.apply(item) {
+        Ok(None) => "-".to_string(alloc),
+        Ok(Some(settled)) => {
+            let was = name_of(alloc, settled.was)?;
+            let now = name_of(alloc, settled.now)?;
+            format!(in alloc; "{was}>{now}")
+        }
+        Err(dob_share::Fault::TooDeep) => "E12".to_string(alloc),
+        Err(dob_share::Fault::Contradiction(_)) => "E13".to_string(alloc),
+    }
+}
+
+/// The values of a change that is written `WAS>NOW`.
+fn read_change(text: &str) -> Option<(Value, Value)> {
+    let (was, now) = text.split_once('>')?;
+    Some((read_value(was)?, read_value(now)?))
+}
+
+/// The value of that name.
+fn read_value(name: &str) -> Option<Value> {
+    if name == "d" {
+        return Some(Value::Draw);
+    }
+    if let Some(plies) = name.strip_prefix('w') {
+        return Some(Value::Win(plies.parse::<u16>().ok()?));
+    }
+    let plies = name.strip_prefix('l')?;
+    Some(Value::Loss(plies.parse::<u16>().ok()?))
+}
+
+/// The name of the value.
+fn name_of(alloc: Global, value: Value) -> Result<String, AllocError> {
+    match value {
+        Value::Draw => "d".to_string(alloc),
+        Value::Win(plies) => format!(in alloc; "w{plies}"),
+        Value::Loss(plies) => format!(in alloc; "l{plies}"),
+    }
+}
