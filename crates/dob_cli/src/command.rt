@@ -7,7 +7,8 @@
 // - a record in proofs/Taken.antt, proofs/AllWords.antt and proofs/Lines.antt, by `refl`, and a line each in `all_fit` and
 //   `all_known`;
 // - its cases in the answers of `dobutsu_command`, `order_of` and `read_words`, as those of `count`;
-// - in program.rt an arm and a clause of `run_words`, with what it owes by a definition like `AnswersCount`.
+// - in program.rt an arm and a clause of `run_words`, with what it owes by a definition like `AnswersCount`;
+// - a field of `Ran` in specs/Runs.antt, and one in the answer of `run_texts`.
 ghost use Rattle.std.specs.Prelude.{◌≡◌, false, IfOk, IsSomeAnd, List, codes, map};
 ghost use Rattle.clap.specs.Words.{kind_of, rule_of, subcommand_rows_of};
 ghost use Rattle.dob_cli.specs.Forms.{Form, Text, check_form, count_form, file_option, forms, line_form, probe_form, value_form};
@@ -98,7 +99,8 @@ Answers: `consistent`; or `E21 Inconsistent class N` with the first class whose 
 Example: dobutsu check --db 000.db prints `consistent`.";
 
 /// Reads the words after the program's name. `--help`, `-h` and the subcommand `help` give the help.
-/// As the first word `--version` asks for the version. A word that begins with `-` is an option, but for a lone `-`, the first `--` and what follows it.
+/// As the first word `--version` asks for the version. A word that begins with `-` is an option, but for a lone `-`,
+/// the first `--` and what follows it.
 ///
 /// # Errors
 ///
