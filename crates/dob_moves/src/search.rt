@@ -61,13 +61,7 @@ fn step_onto(aim: Aim, cell: Option<Piece>, kind: Kind, from: Square, to: Square
 }
 
 /// The move by that step, if the board has the square and it is where the step is to end.
-pub(crate) fn step_by(
-    setup: &Setup,
-    aim: Aim,
-    kind: Kind,
-    from: Square,
-    step: Step,
-) -> Option<Move>
+pub(crate) fn step_by(setup: &Setup, aim: Aim, kind: Kind, from: Square, step: Step) -> Option<Move>
     ensures { result ≡ step_by aim setup.now kind from step }
 {
     match from.after(step) {

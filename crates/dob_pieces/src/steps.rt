@@ -30,7 +30,9 @@ const HEN: [Step; 6] = [(1, 0), (0, 1), (2, 1), (0, 2), (1, 2), (2, 2)];
 /// For each square the squares to which steps lead from there, as bits, square 0 as the lowest.
 type Targets = [u16; Square::COUNT];
 
-const LION_TARGETS: Targets = [26, 61, 50, 211, 495, 406, 1688, 3960, 3248, 1216, 3008, 1408];
+const LION_TARGETS: Targets = [
+    26, 61, 50, 211, 495, 406, 1688, 3960, 3248, 1216, 3008, 1408,
+];
 
 const GIRAFFE_TARGETS: Targets = [10, 21, 34, 81, 170, 276, 648, 1360, 2208, 1088, 2688, 1280];
 
@@ -38,7 +40,9 @@ const ELEPHANT_TARGETS: Targets = [16, 40, 16, 130, 325, 130, 1040, 2600, 1040, 
 
 const CHICK_TARGETS: Targets = [8, 16, 32, 64, 128, 256, 512, 1024, 2048, 0, 0, 0];
 
-const HEN_TARGETS: Targets = [26, 61, 50, 209, 490, 404, 1672, 3920, 3232, 1088, 2688, 1280];
+const HEN_TARGETS: Targets = [
+    26, 61, 50, 209, 490, 404, 1672, 3920, 3232, 1088, 2688, 1280,
+];
 
 impl Kind {
     /// The kind's steps, in the order of the squares to which they lead.

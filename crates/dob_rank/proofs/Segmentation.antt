@@ -38,30 +38,34 @@ pub place : {X Z : Type 0} (n i q r : ℕ) → (vs : List (Vec X Z)) → AreSegm
 place n i q r [] whole split below inside = absurd (omega arith)
 place n i zero r (v ∷ vs) whole split below inside =
     let same : i ≡ r = omega arith in
-    let fits : r < length v.items = head_inside n r v vs whole below (subst (λ (x : ℕ). x < length (v.items ++ joined vs)) same inside) in
-    (v, record {
-      within = omega arith;
-      found = λ d. refl;
-      inside = fits;
-      read = λ e. ap (λ (x : ℕ). get_or (v.items ++ joined vs) x e) same ∙ get_or_append_left v.items (joined vs) e r fits;
-      write = λ x w is. ap (λ xs. xs ++ joined vs) is ∙ sym (set-append_left v.items (joined vs) r x fits)
-          ∙ ap (λ (k : ℕ). set (v.items ++ joined vs) k x) (sym same);
-      kept = λ w same_length. (let most : length v.items ≤ n = whole.0 in omega arith, λ h. same_length ∙ whole.1 h, whole.2);
-    })
+    let fits : r < length v.items = head_inside n r v vs whole below (subst (λ (x : ℕ). x < length (v.items ++ joined vs)) same inside) in (
+      v,
+      record {
+        within = omega arith;
+        found = λ d. refl;
+        inside = fits;
+        read = λ e. ap (λ (x : ℕ). get_or (v.items ++ joined vs) x e) same ∙ get_or_append_left v.items (joined vs) e r fits;
+        write = λ x w is. ap (λ xs. xs ++ joined vs) is ∙ sym (set-append_left v.items (joined vs) r x fits)
+            ∙ ap (λ (k : ℕ). set (v.items ++ joined vs) k x) (sym same);
+        kept = λ w same_length. (let most : length v.items ≤ n = whole.0 in omega arith, λ h. same_length ∙ whole.1 h, whole.2);
+      },
+    )
 place n i (suc q) r (v ∷ vs) whole split below inside =
     let from : n ≤ i = omega arith in
     let full : length v.items ≡ n = head_full n i v vs whole from inside in
     let rest : i - n ≡ q * n + r = omega arith in
     let further : i - n < length (joined vs) = omega (arith, length-append v.items (joined vs)) in
-    let at = place n (i - n) q r vs whole.2 rest below further in
-    (at.0, record {
-      within = let w = at.1.within in omega arith;
-      found = λ d. at.1.found d;
-      inside = at.1.inside;
-      read = λ e. get_or-append_right v.items (joined vs) n i e full from ∙ at.1.read e;
-      write = λ x w is. ap (λ xs. v.items ++ xs) (at.1.write x w is) ∙ sym (set-append_right v.items (joined vs) n i x full from);
-      kept = λ w same_length. (whole.0, λ h. full, at.1.kept w same_length);
-    })
+    let at = place n (i - n) q r vs whole.2 rest below further in (
+      at.0,
+      record {
+        within = let w = at.1.within in omega arith;
+        found = λ d. at.1.found d;
+        inside = at.1.inside;
+        read = λ e. get_or-append_right v.items (joined vs) n i e full from ∙ at.1.read e;
+        write = λ x w is. ap (λ xs. v.items ++ xs) (at.1.write x w is) ∙ sym (set-append_right v.items (joined vs) n i x full from);
+        kept = λ w same_length. (whole.0, λ h. full, at.1.kept w same_length);
+      },
+    )
 
 -- The list ends in the segment q, at its place r, or a new segment is wanted there.
 pub record IsEnd {X Z : Type 0} (n : ℕ) (vs : List (Vec X Z)) (q r : ℕ) : Type 0 where
@@ -81,20 +85,22 @@ first_full n v (u ∷ us) whole from = whole.1 (omega arith)
 pub place_after : {X Z : Type 0} (n q r : ℕ) → (vs : List (Vec X Z)) → AreSegments n vs → length (joined vs) ≡ q * n + r →
     r < n → IsEnd n vs q r
 place_after n zero r [] whole split below = record {
-    reached = omega arith;
-    opened = λ _ v empty. (ap (λ xs. xs ++ []) empty, (rw empty (omega arith), λ h. absurd (omega arith), tt));
-    pushed = λ h. absurd (omega arith);
-    same = λ h. absurd (omega arith);
+  reached = omega arith;
+  opened = λ _ v empty. (ap (λ xs. xs ++ []) empty, (rw empty (omega arith), λ h. absurd (omega arith), tt));
+  pushed = λ h. absurd (omega arith);
+  same = λ h. absurd (omega arith);
 }
 place_after n (suc q) r [] whole split below = absurd (omega arith)
 place_after n zero r (v ∷ []) whole split below =
     let most : length v.items < n = omega (arith, length-append v.items []) in record {
-    reached = omega arith;
-    opened = λ h. absurd (omega arith);
-    pushed = λ _ d w x is. (ap (λ xs. xs ++ []) is ∙ append-nil (v.items ++ x ∷ []) ∙ ap (λ xs. xs ++ x ∷ []) (sym (append-nil v.items)),
-        (rw is (omega (arith, length-append v.items (x ∷ []))), λ h. absurd (omega arith), tt));
-    same = λ _ d w is. (ap (λ xs. xs ++ []) is, (rw is (omega arith), λ h. absurd (omega arith), tt));
-}
+      reached = omega arith;
+      opened = λ h. absurd (omega arith);
+      pushed = λ _ d w x is. (
+        ap (λ xs. xs ++ []) is ∙ append-nil (v.items ++ x ∷ []) ∙ ap (λ xs. xs ++ x ∷ []) (sym (append-nil v.items)),
+        (rw is (omega (arith, length-append v.items (x ∷ []))), λ h. absurd (omega arith), tt),
+      );
+      same = λ _ d w is. (ap (λ xs. xs ++ []) is, (rw is (omega arith), λ h. absurd (omega arith), tt));
+    }
 place_after n zero r (v ∷ u ∷ us) whole split below =
     let full : length v.items ≡ n = whole.1 (omega arith) in
     absurd (omega (arith, length-append v.items (joined (u ∷ us))))
@@ -102,14 +108,14 @@ place_after n (suc q) r (v ∷ vs) whole split below =
     let full : length v.items ≡ n = first_full n v vs whole (omega arith) in
     let rest : length (joined vs) ≡ q * n + r = omega (arith, length-append v.items (joined vs)) in
     let further = place_after n q r vs whole.2 rest below in record {
-    reached = let h = further.reached in omega arith;
-    opened = λ h u empty. let more = further.opened (omega arith) u empty in
-        (ap (λ xs. v.items ++ xs) more.0, (whole.0, λ _. full, more.1));
-    pushed = λ h d w x is. let more = further.pushed (omega arith) d w x is in
-        (ap (λ xs. v.items ++ xs) more.0 ∙ sym (append_assoc v.items (joined vs) (x ∷ [])), (whole.0, λ _. full, more.1));
-    same = λ h d w is. let more = further.same (omega arith) d w is in
-        (ap (λ xs. v.items ++ xs) more.0, (whole.0, λ _. full, more.1));
-}
+      reached = let h = further.reached in omega arith;
+      opened = λ h u empty. let more = further.opened (omega arith) u empty in
+          (ap (λ xs. v.items ++ xs) more.0, (whole.0, λ _. full, more.1));
+      pushed = λ h d w x is. let more = further.pushed (omega arith) d w x is in
+          (ap (λ xs. v.items ++ xs) more.0 ∙ sym (append_assoc v.items (joined vs) (x ∷ [])), (whole.0, λ _. full, more.1));
+      same = λ h d w is. let more = further.same (omega arith) d w is in
+          (ap (λ xs. v.items ++ xs) more.0, (whole.0, λ _. full, more.1));
+    }
 
 -- ---- by the shift
 
@@ -128,7 +134,6 @@ end_at s i vs whole at_end = place_after (2 ^ s) (i / 2 ^ s) (i % 2 ^ s) vs whol
 
 module _ {X Z A : Type 0} (s i q r : ℕ) (vs : Vec (Vec X Z) A) (xs : List X) (whole : AreSegments (2 ^ s) vs.items)
     (shown : joined vs.items ≡ xs) (inside : i < length xs) (q_is : q ≡ i / 2 ^ s) (r_is : r ≡ i % 2 ^ s) where
-
   found_at : (segment : Vec X Z) × IsAt (2 ^ s) vs.items i q r segment
   found_at = place (2 ^ s) i q r vs.items whole (rw (q_is, r_is) (split_is i s)) (rw r_is (rest_below i s))
       (subst (λ ys. i < length ys) (sym shown) inside)
@@ -148,15 +153,15 @@ module _ {X Z A : Type 0} (s i q r : ℕ) (vs : Vec (Vec X Z) A) (xs : List X) (
       (joined (set vs.items q w) ≡ set xs i x) × AreSegments (2 ^ s) (set vs.items q w)
   written_is v w x is written =
       let same : v ≡ found_at.0 = is ∙ sym (found_at.1.found v) in
-      let as_found : w.items ≡ set found_at.0.items r x = written ∙ ap (λ u. set u.items r x) same in
-      (found_at.1.write x w as_found ∙ ap (λ ys. set ys i x) shown,
-       found_at.1.kept w (ap length as_found ∙ length-set found_at.0.items r x))
+      let as_found : w.items ≡ set found_at.0.items r x = written ∙ ap (λ u. set u.items r x) same in (
+        found_at.1.write x w as_found ∙ ap (λ ys. set ys i x) shown,
+        found_at.1.kept w (ap length as_found ∙ length-set found_at.0.items r x),
+      )
 
 -- ---- an item is appended to the segment v, the last one
 
 module _ {X Z A : Type 0} (s i q : ℕ) (vs : Vec (Vec X Z) A) (xs : List X) (whole : AreSegments (2 ^ s) vs.items)
     (shown : joined vs.items ≡ xs) (count : i ≡ length xs) (q_is : q ≡ i / 2 ^ s) (opened : q < vec_len vs) where
-
   ends_at : IsEnd (2 ^ s) vs.items (i / 2 ^ s) (i % 2 ^ s)
   ends_at = end_at s i vs.items whole (count ∙ sym (ap length shown))
 
@@ -166,13 +171,15 @@ module _ {X Z A : Type 0} (s i q : ℕ) (vs : Vec (Vec X Z) A) (xs : List X) (wh
   pub pushed_is : (v w : Vec X Z) (x : X) → v ≡ get_or vs.items q v → w.items ≡ v.items ++ x ∷ [] →
       (joined (set vs.items q w) ≡ xs ++ x ∷ []) × AreSegments (2 ^ s) (set vs.items q w)
   pushed_is v w x is appended =
-      let more = ends_at.pushed reached_at v w x (appended ∙ ap (λ u. u.items ++ x ∷ []) (is ∙ ap (λ (k : ℕ). get_or vs.items k v) q_is)) in
-      (ap (λ (k : ℕ). joined (set vs.items k w)) q_is ∙ more.0 ∙ ap (λ ys. ys ++ x ∷ []) shown,
-       subst (λ (k : ℕ). AreSegments (2 ^ s) (set vs.items k w)) (sym q_is) more.1)
+      let more = ends_at.pushed reached_at v w x (appended ∙ ap (λ u. u.items ++ x ∷ []) (is ∙ ap (λ (k : ℕ). get_or vs.items k v) q_is)) in (
+        ap (λ (k : ℕ). joined (set vs.items k w)) q_is ∙ more.0 ∙ ap (λ ys. ys ++ x ∷ []) shown,
+        subst (λ (k : ℕ). AreSegments (2 ^ s) (set vs.items k w)) (sym q_is) more.1,
+      )
 
   pub same_is : (v w : Vec X Z) → v ≡ get_or vs.items q v → w.items ≡ v.items →
       (joined (set vs.items q w) ≡ xs) × AreSegments (2 ^ s) (set vs.items q w)
   same_is v w is kept =
-      let more = ends_at.same reached_at v w (kept ∙ ap (λ u. u.items) (is ∙ ap (λ (k : ℕ). get_or vs.items k v) q_is)) in
-      (ap (λ (k : ℕ). joined (set vs.items k w)) q_is ∙ more.0 ∙ shown,
-       subst (λ (k : ℕ). AreSegments (2 ^ s) (set vs.items k w)) (sym q_is) more.1)
+      let more = ends_at.same reached_at v w (kept ∙ ap (λ u. u.items) (is ∙ ap (λ (k : ℕ). get_or vs.items k v) q_is)) in (
+        ap (λ (k : ℕ). joined (set vs.items k w)) q_is ∙ more.0 ∙ shown,
+        subst (λ (k : ℕ). AreSegments (2 ^ s) (set vs.items k w)) (sym q_is) more.1,
+      )

@@ -152,7 +152,12 @@ fn split(place: u64, shift: u32) -> (usize, usize)
 
 // Opens the segment of that number where the last one is full. The first grows with its items; each further one is
 // reserved whole.
-fn open_segment<T: Copy>(alloc: Global, segments: &mut Vec<Vec<T>>, shift: u32, number: usize) -> Result<(), Memory>
+fn open_segment<T: Copy>(
+    alloc: Global,
+    segments: &mut Vec<Vec<T>>,
+    shift: u32,
+    number: usize,
+) -> Result<(), Memory>
     requires small { shift ≤ 20 }
     requires whole { AreSegments (2 ^ shift) segments.old.items }
     requires end { number ≡ length (joined segments.old.items) / 2 ^ shift }

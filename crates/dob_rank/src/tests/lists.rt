@@ -34,7 +34,11 @@ fn lists_in_short_segments(rt: HostRuntime) {
     for shift in [0, 1, 3] {
         let mut list = tens(&rt, rt.alloc(), shift, 20);
         for number in 0..20 {
-            assert_eq!(rt; list.get(number), 10 * number, "at {number} of shift {shift}");
+            assert_eq!(rt;
+                list.get(number),
+                10 * number,
+                "at {number} of shift {shift}"
+            );
         }
         list[7] = 1;
         list[19] = 2;

@@ -11,7 +11,7 @@ overflow_add-self g c = omega arith
 pub returns-clause-steps : goal.returns-clause-steps
 returns-clause-steps g c =
     drop_more c.args.self.now.list.now c.args.self.now.next c.get-item.result (omega arith)
-        ∙ ap (λ x. x ∷ drop (c.args.self.now.next + 1) c.args.self.now.list.now) (sym c.get-item.ensures.index)
+    ∙ ap (λ x. x ∷ drop (c.args.self.now.next + 1) c.args.self.now.list.now) (sym c.get-item.ensures.index)
 
 pub returns-clause-goes : goal.returns-clause-goes
 returns-clause-goes g c =
