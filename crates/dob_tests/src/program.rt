@@ -12,6 +12,9 @@ use std::thread::Threads;
 
 const FILE: &str = "000.db";
 
+// A position whose value takes seven plies.
+const LONG: &str = ".l./.../.../.L. - -";
+
 const NO_PIECES: PieceSet = PieceSet {
     chicks: 0,
     elephants: 0,
@@ -383,11 +386,10 @@ fn answers_from_a_file(rt: HostRuntime) -> Result<(), Fail> {
 fn refused_by_a_file(rt: HostRuntime) -> Result<(), Fail> {
     let file = file_with(&rt, rt.alloc(), 17, 8)?;
     let mut shelf = shelf_with(rt.alloc(), file)?;
-    let long = ".l./.../.../.L. - -";
     let rows: [(&[&str], u8, &str); 8] = [
         (&["check", "--db", FILE], 1, "E21 Inconsistent class 17"),
         (
-            &["line", "--db", FILE, long],
+            &["line", "--db", FILE, LONG],
             1,
             "E21 Inconsistent class 17",
         ),
@@ -401,7 +403,7 @@ fn refused_by_a_file(rt: HostRuntime) -> Result<(), Fail> {
             1,
             "E7 OtherSet",
         ),
-        (&["probe", "--db", "none", long], 3, "E24 Io"),
+        (&["probe", "--db", "none", LONG], 3, "E24 Io"),
         (&["line", "--db", "none", ""], 1, "E1 Shape"),
         (
             &["probe", "--db", "none", "L../.../.../..l - -"],
@@ -417,8 +419,22 @@ fn refused_by_a_file(rt: HostRuntime) -> Result<(), Fail> {
         assert_eq!(rt; told.status, status);
         assert!(rt; told.out.is_empty());
     }
-    let told = run_over(&rt, rt.alloc(), &mut shelf, &["probe", "--db", FILE, long]);
+    Ok(())
+}
+
+// One wrong value leaves the others as they are.
+#[test]
+fn answers_beside_a_wrong_value(rt: HostRuntime) -> Result<(), Fail> {
+    let file = file_with(&rt, rt.alloc(), 17, 8)?;
+    let mut shelf = shelf_with(rt.alloc(), file)?;
+    let words = ["probe", "--db", FILE, LONG];
+    let told = run_over(&rt, rt.alloc(), &mut shelf, &words);
     assert_eq!(rt; told.out.as_slice(), b"win 7\n".as_slice());
+    Ok(())
+}
+
+#[test]
+fn an_empty_file(rt: HostRuntime) -> Result<(), Fail> {
     let mut empty = shelf_with(rt.alloc(), Vec::new(rt.alloc()))?;
     let told = run_over(&rt, rt.alloc(), &mut empty, &["check", "--db", FILE]);
     assert_eq!(rt; told.err.as_slice(), b"dobutsu: E15 Truncated\n".as_slice());
