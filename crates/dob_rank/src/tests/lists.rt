@@ -42,18 +42,24 @@ fn lists_in_short_segments(rt: HostRuntime) {
         }
         list[7] = 1;
         list[19] = 2;
-        let mut walked = 0;
-        for (number, item) in list.iter().enumerate() {
-            let want = match number {
-                7 => 1,
-                19 => 2,
-                _ => 10 * number as u64,
-            };
-            assert_eq!(rt; item, want, "at {number} of shift {shift}");
-            assert_eq!(rt; list[number], want, "at {number} of shift {shift}");
-            walked += 1;
+        let mut walked = list.iter();
+        for number in 0..20 {
+            let want = changed_ten(number);
+            assert_eq!(rt; walked.next(), Some(want), "at {number} of shift {shift}");
+            assert_eq!(rt; list.get(number), want, "at {number} of shift {shift}");
         }
-        assert_eq!(rt; walked, 20);
+        assert_eq!(rt; walked.next(), None);
+    }
+}
+
+// What the list of tens has at a number once the places 7 and 19 are written.
+fn changed_ten(number: u64) -> u64
+    requires { number ≤ 100 }
+{
+    match number {
+        7 => 1,
+        19 => 2,
+        _ => 10 * number,
     }
 }
 
