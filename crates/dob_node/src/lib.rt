@@ -1,12 +1,17 @@
 // One node of a build: the history of the classes that it owns, and what it has to tell and to apply.
 #![tactic(auto)]
 
+mod cause;
 mod history;
 pub mod laws;
+mod node;
 mod openings;
+mod taking;
 mod telling;
 
+pub use cause::{Cause, Fault};
 pub use dob_share::Opening;
+pub use node::Node;
 pub use openings::opening;
 
 #[cfg(test)]
