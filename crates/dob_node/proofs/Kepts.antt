@@ -90,9 +90,10 @@ same_history history = ap (λ (xs : List Settlement). record history { settlemen
 same_owned : (old new : Share) → SameClasses old new → (class : ℕ) → IsOwn new class → IsOwn old class
 unfolding IsOwn places_of
 same_owned old new same class own =
-    let n_is : new.n ≡ old.n = same.n in
-    (subst (λ (m : ℕ). class % m ≡ old.id) n_is (own.0 ∙ same.id),
-    subst (λ (m : ℕ). class / m < length old.slots) n_is (subst (λ (m : ℕ). class / new.n < m) same.places own.1))
+    let n_is : new.n ≡ old.n = same.n in (
+      subst (λ (m : ℕ). class % m ≡ old.id) n_is (own.0 ∙ same.id),
+      subst (λ (m : ℕ). class / m < length old.slots) n_is (subst (λ (m : ℕ). class / new.n < m) same.places own.1),
+    )
 
 -- ---- what is asked of a settlement
 
@@ -100,7 +101,6 @@ module _ (set : PieceSet) (n id : ℕ) (share after : Share) (history : HistoryV
     (entries : HasEntries item) (same : SameClasses share after) (fits : Fits share item)
     (cell : SameCell (cell_at after item.to) (changed item.was item.now (cell_at share item.to)))
     (others : (class : ℕ) → IsOwn share class → class ≢ item.to → SameCell (cell_at after class) (cell_at share class)) where
-
   own : IsOwn share item.to
   own = fits_own share item fits
 
@@ -123,7 +123,6 @@ module _ (set : PieceSet) (n id : ℕ) (share after : Share) (history : HistoryV
           parities_same (cell_at after class) (cell_at share class) (others class before other) (kept.parities class before)
 
   module _ (s : Settlement) (settled : HasSettled share after item.to (Some s)) where
-
     pub number_is : s.number ≡ length history.settlements
     number_is = settled.1 ∙ kept.counted
 

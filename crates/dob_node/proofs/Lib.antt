@@ -19,3 +19,5 @@ pub mod Soles
 pub mod Sounds
 pub mod Opens
 pub mod SoleSteps
+pub mod SoleOpens
+pub mod SoleEnds

@@ -53,7 +53,7 @@ settled_low status n id count zero low = All-nil (λ (s : Settlement). s.class <
 settled_low status n id count (suc k) low =
     let before = opening_settlements status n id k in
     All-append (λ (s : Settlement). s.class < count) before _ (settled_low status n id count k (λ place less. low place (omega arith)))
-        (one_low count (length before) (class_of_place n id k) (opening_value (status (class_of_place n id k))) (low k (omega arith)))
+    (one_low count (length before) (class_of_place n id k) (opening_value (status (class_of_place n id k))) (low k (omega arith)))
 
 -- one place more
 pub opening_more : (openings : List Opening) (n id k : ℕ) (history new : HistoryView) (status : Status) → status ≡ status_in openings (k * n + id) →
@@ -61,10 +61,10 @@ pub opening_more : (openings : List Opening) (n id k : ℕ) (history new : Histo
     new ≡ record history { settlements = history.settlements ++ opening_settlement (length history.settlements) (k * n + id) (opening_value status) } →
     new ≡ record { id = id; n = n; settlements = opening_settlements (status_in openings) n id (k + 1) }
 opening_more openings n id k history new status listed was is = rw add-one (
-  is
-  ∙ ap (λ (v : HistoryView). record v { settlements = v.settlements ++ opening_settlement (length v.settlements) (k * n + id) (opening_value status) }) was
-  ∙ more (opening_settlements (status_in openings) n id k)
-)
+    is
+    ∙ ap (λ (v : HistoryView). record v { settlements = v.settlements ++ opening_settlement (length v.settlements) (k * n + id) (opening_value status) }) was
+    ∙ more (opening_settlements (status_in openings) n id k)
+    )
   where
     more : (xs : List Settlement) →
         ◌≡◌ {A = HistoryView}

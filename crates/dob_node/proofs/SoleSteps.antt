@@ -64,7 +64,6 @@ kept_sole set n id share history n_is id_is kept =
     subst (λ (m : ℕ). AreKept set m 0 share history) n_is (subst (λ (k : ℕ). AreKept set n k share history) id_is kept)
 
 module _ (old new : Node) (applied : List Item) (sole : IsSole old applied) (sound : IsSound new) (step : HasApplied old new) where
-
   set_is : new.set ≡ old.set
   set_is = step.same.0
 
@@ -106,7 +105,6 @@ made_applied old new sound step steps made =
 -- ---- a settlement expanded
 
 module _ (old new : Node) (applied : List Item) (sole : IsSole old applied) (sound : IsSound new) (step : IsExpanded old new) where
-
   set_same : new.set ≡ old.set
   set_same = step.same.0
 

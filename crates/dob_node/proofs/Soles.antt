@@ -84,7 +84,7 @@ lt_from a b is = grind (arith, nat_tests)
 
 -- ---- one node
 
-one_owner : (class : ℕ) → class % 1 ≡ 0
+pub one_owner : (class : ℕ) → class % 1 ≡ 0
 one_owner class = let less : class % 1 < 1 = omega arith in omega arith
 
 -- what is open has the value of its cell
@@ -100,7 +100,6 @@ module _ (set : PieceSet) (share after : Share) (history grown : HistoryView) (a
     (kept : AreKept set 1 0 share history) (kept_after : AreKept set 1 0 after grown) (taken : IsTaken item share after history grown)
     (lawful : IsLawful set 1 (sole_history history.settlements) (sole_applied applied) (cells_below (classes_of set) share) (value_of history.settlements))
     (next : sole_items set history.settlements ≡ applied ++ item ∷ rest) where
-
   abbrev pub h : List Settlement
   h = history.settlements
 

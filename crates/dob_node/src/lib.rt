@@ -4,6 +4,7 @@
 mod cause;
 mod history;
 pub mod laws;
+mod lone;
 mod node;
 mod openings;
 mod taking;
@@ -11,6 +12,7 @@ mod telling;
 
 pub use cause::{Cause, Fault};
 pub use dob_share::Opening;
+pub use lone::alone;
 pub use node::Node;
 pub use openings::opening;
 

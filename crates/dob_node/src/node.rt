@@ -9,8 +9,8 @@ use crate::cause::Cause;
 use crate::history::History;
 use crate::taking::take_item;
 use crate::telling::items_for;
-use dob_pieces::{Memory, PieceSet};
 use dob_moves::Status;
+use dob_pieces::{Memory, PieceSet};
 use dob_rank::Classes;
 use dob_share::{Item, Opening, Settlement, Share};
 use dob_unmove::back;
@@ -40,7 +40,13 @@ impl Node {
     /// class that is caught, tried or stuck, in the order of the classes.
     ///
     /// Error: `Memory`, also where the set has 2 to the power of 32 classes or more.
-    pub fn open(alloc: Global, openings: &[Opening], set: PieceSet, id: usize, n: usize) -> Result<Node, Memory>
+    pub fn open(
+        alloc: Global,
+        openings: &[Opening],
+        set: PieceSet,
+        id: usize,
+        n: usize,
+    ) -> Result<Node, Memory>
         requires openings { AreOpenings set openings.now }
         requires owner { id < n }
         requires owners { n ≤ 16 }

@@ -11,4 +11,4 @@ push_opening-requires-clause-own c = own_there c.loop-place.history c.args.n c.a
 pub loop-place-preserved : goal.loop-place-preserved
 loop-place-preserved c =
     opening_more c.args.openings.now c.args.n c.args.id c.loop-place.place c.loop-place.history c.push_opening.new.history
-        c.opening_at-status.result.status (ap (λ (o : Opening). o.status) c.opening_at-status.ensures) c.loop-place.invariant c.in_ok-push_opening.ensures
+    c.opening_at-status.result.status (ap (λ (o : Opening). o.status) c.opening_at-status.ensures) c.loop-place.invariant c.in_ok-push_opening.ensures

@@ -13,7 +13,7 @@ push-requires-clause-own c =
     let out = c.in_ok-given.ensures in
     let fits : Fits share item = sure_fits share item (λ no. let is = out.contradiction.1 no in cc) in
     own_is c.requires.kept.0 share.n share.id share after history item c.requires.kept.1 c.requires.entries out.classes fits out.cell out.others
-        c.in-Some.settlement (subst (λ given. HasSettled share after item.to given) c.in-Some.is out.settled)
+    c.in-Some.settlement (subst (λ given. HasSettled share after item.to given) c.in-Some.is out.settled)
 
 pub push-requires-clause-place : goal.push-requires-clause-place
 push-requires-clause-place c =
@@ -24,7 +24,7 @@ push-requires-clause-place c =
     let out = c.in_ok-given.ensures in
     let fits : Fits share item = sure_fits share item (λ no. let is = out.contradiction.1 no in cc) in
     place_is c.requires.kept.0 share.n share.id share after history item c.requires.kept.1 c.requires.entries out.classes fits out.cell out.others
-        c.in-Some.settlement (subst (λ given. HasSettled share after item.to given) c.in-Some.is out.settled)
+    c.in-Some.settlement (subst (λ given. HasSettled share after item.to given) c.in-Some.is out.settled)
 
 pub push-requires-clause-was : goal.push-requires-clause-was
 push-requires-clause-was c =
@@ -35,7 +35,7 @@ push-requires-clause-was c =
     let out = c.in_ok-given.ensures in
     let fits : Fits share item = sure_fits share item (λ no. let is = out.contradiction.1 no in cc) in
     was_is c.requires.kept.0 share.n share.id share after history item c.requires.kept.1 c.requires.entries out.classes fits out.cell out.others
-        c.in-Some.settlement (subst (λ given. HasSettled share after item.to given) c.in-Some.is out.settled)
+    c.in-Some.settlement (subst (λ given. HasSettled share after item.to given) c.in-Some.is out.settled)
 
 pub push-requires-clause-now : goal.push-requires-clause-now
 push-requires-clause-now c =
@@ -46,7 +46,7 @@ push-requires-clause-now c =
     let out = c.in_ok-given.ensures in
     let fits : Fits share item = sure_fits share item (λ no. let is = out.contradiction.1 no in cc) in
     now_is c.requires.kept.0 share.n share.id share after history item c.requires.kept.1 c.requires.entries out.classes fits out.cell out.others
-        c.in-Some.settlement (subst (λ given. HasSettled share after item.to given) c.in-Some.is out.settled)
+    c.in-Some.settlement (subst (λ given. HasSettled share after item.to given) c.in-Some.is out.settled)
 
 pub returns-in_ok-push-clause-taken : goal.returns-in_ok-push-clause-taken
 returns-in_ok-push-clause-taken c =
@@ -68,7 +68,7 @@ returns-in_ok-push-clause-kept c = λ set kept.
     let out = c.in_ok-given.ensures in
     let fits : Fits share item = sure_fits share item (λ no. let is = out.contradiction.1 no in cc) in
     kept_still set share.n share.id share after history item kept c.requires.entries out.classes fits out.cell out.others
-        (Some c.in-Some.settlement) (subst (λ given. HasSettled share after item.to given) c.in-Some.is out.settled) c.push.new.self c.in_ok-push.ensures.ok
+    (Some c.in-Some.settlement) (subst (λ given. HasSettled share after item.to given) c.in-Some.is out.settled) c.push.new.self c.in_ok-push.ensures.ok
 
 pub returns-in_default-clause-taken : goal.returns-in_default-clause-taken
 returns-in_default-clause-taken c =
@@ -90,4 +90,4 @@ returns-in_default-clause-kept c = λ set kept.
     let out = c.in_ok-given.ensures in
     let fits : Fits share item = sure_fits share item (λ no. let is = out.contradiction.1 no in cc) in
     kept_still set share.n share.id share after history item kept c.requires.entries out.classes fits out.cell out.others
-        None (subst (λ given. HasSettled share after item.to given) c.in_default.is out.settled) history (same_history history)
+    None (subst (λ given. HasSettled share after item.to given) c.in_default.is out.settled) history (same_history history)
