@@ -1,5 +1,5 @@
 -- What an item taken makes of a node's cells and of its history.
-use Rattle.std.proofs.Common.{◌≡◌, ◌≢◌, ◌↔◌, ℕ, ◌+◌, ◌/◌, ◌%◌, ◌^◌, ◌<◌, ◌≤◌, ◌⊎◌, inl, inr, refl, sym, ap, ◌∙◌, subst, arith, List, [], ◌∷◌, ◌++◌, length, Option, None, Some}
+use Rattle.std.proofs.Common.{◌≡◌, ◌≢◌, ℕ, ◌+◌, ◌/◌, ◌%◌, ◌^◌, ◌<◌, ◌≤◌, inl, inr, refl, sym, ap, ◌∙◌, subst, arith, List, [], ◌∷◌, ◌++◌, length, Option, None, Some}
 use Rattle.std.specs.List.{All}
 use Rattle.std.proofs.Math.Nat.{div-le_self}
 use Rattle.std.proofs.lemmas.Bool.{cases_order}
@@ -17,9 +17,9 @@ use Rattle.dob_share.specs.declared.news.Item.{Item}
 use Rattle.dob_share.specs.declared.share.Share.{Share}
 use Rattle.dob_share.specs.Owners.{owner_of}
 use Rattle.dob_share.specs.Cells.{Cell, SameCell, Takes, KnowsLossWithin, changed}
-use Rattle.dob_share.specs.Shares.{places_of, IsOwn, status_at, cell_at, HasValueNow, Fits, SameClasses, HasSettled}
+use Rattle.dob_share.specs.Shares.{places_of, IsOwn, status_at, cell_at, Fits, SameClasses, HasSettled}
 use Rattle.dob_node.specs.Stores.{HistoryView}
-use Rattle.dob_node.specs.Takes.{HasEntries, HasParities, AreKept, IsTaken, listed}
+use Rattle.dob_node.specs.Takes.{HasEntries, HasParities, AreKept, listed}
 use Rattle.dob_node.proofs.Parity.{parities_same, parities_changed, entry_now}
 
 -- ---- what is not refused fits

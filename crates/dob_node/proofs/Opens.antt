@@ -1,7 +1,7 @@
 -- A node as it is opened.
-use Rattle.std.proofs.Common.{◌≡◌, ◌↔◌, ℕ, zero, suc, ◌+◌, ◌*◌, ◌/◌, ◌%◌, ◌^◌, ◌<◌, ◌≤◌, refl, sym, ap, ◌∙◌, subst, arith, add-one, List, [], ◌∷◌, ◌++◌, length, Option, None, Some}
+use Rattle.std.proofs.Common.{◌≡◌, ◌↔◌, ℕ, zero, suc, ◌+◌, ◌*◌, ◌/◌, ◌%◌, ◌^◌, ◌<◌, ◌≤◌, refl, sym, ap, ◌∙◌, subst, arith, add-one, List, [], ◌++◌, length, Option, None, Some}
 use Rattle.std.specs.List.{All}
-use Rattle.std.proofs.lemmas.List.{length-append, append-nil}
+use Rattle.std.proofs.lemmas.List.{length-append}
 use Rattle.std.proofs.lemmas.List.Elements.{All-append, All-nil, All-cons}
 use Rattle.std.proofs.lemmas.Nat.{mod-mul-add, div-mul-add}
 use Rattle.dob_pieces.specs.declared.piece_set.PieceSet.{PieceSet}
@@ -12,10 +12,10 @@ use Rattle.dob_value.specs.declared.value.Value.{Value}
 use Rattle.dob_share.specs.declared.news.Settlement.{Settlement}
 use Rattle.dob_share.specs.declared.opening.Opening.{Opening}
 use Rattle.dob_share.specs.declared.share.Share.{Share}
-use Rattle.dob_share.specs.Owners.{owner_of, class_of_place}
-use Rattle.dob_share.specs.Cells.{Cell, SameCell, fresh}
+use Rattle.dob_share.specs.Owners.{class_of_place}
+use Rattle.dob_share.specs.Cells.{SameCell, fresh}
 use Rattle.dob_share.specs.Openings.{opening_of, settles, settled_among}
-use Rattle.dob_share.specs.Shares.{places_of, IsOwn, status_at, cell_at}
+use Rattle.dob_share.specs.Shares.{places_of, IsOwn, cell_at}
 use Rattle.dob_node.specs.Stores.{HistoryView}
 use Rattle.dob_node.specs.OpeningLists.{opening_value, opening_settlement, opening_settlements, status_in}
 use Rattle.dob_node.specs.Openings.{AreOpenings}

@@ -1,6 +1,5 @@
 -- Values at odd and even distances: what cells count and know keeps its parity, and so do their values.
-use Rattle.std.proofs.Common.{◌≡◌, ℕ, ◌+◌, ◌-◌, ◌%◌, ◌<◌, ◌≤◌, ◌⊎◌, inl, inr, ◌==◌, if◌then◌else◌, Bool, true, false, min, refl, sym, ap, ◌∙◌, subst, arith, Option, None, Some, lit≤}
-use Rattle.std.proofs.lemmas.Bool.{cases_order}
+use Rattle.std.proofs.Common.{◌≡◌, ℕ, ◌+◌, ◌-◌, ◌%◌, ◌<◌, ◌==◌, if◌then◌else◌, Bool, true, false, refl, sym, ◌∙◌, subst, arith, Option, None, Some, lit≤}
 use Rattle.dob_moves.specs.declared.outlook.Status.{Status}
 use Rattle.dob_moves.specs.declared.outlook.Status.TheVariants.{Caught, Tried, Stuck, Open}
 use Rattle.dob_value.specs.declared.value.Value.{Value}
@@ -8,7 +7,7 @@ use Rattle.dob_value.specs.declared.value.Value.TheVariants.{Win, Loss, Draw}
 use Rattle.dob_value.specs.declared.sweep.TheConstants.{MAX_DISTANCE}
 use Rattle.dob_value.specs.Follows.{IsEntry}
 use Rattle.dob_share.specs.declared.share.Share.{Share}
-use Rattle.dob_share.specs.Cells.{Cell, SameCell, CellValue, changed, more_at, less_at, lesser}
+use Rattle.dob_share.specs.Cells.{Cell, SameCell, CellValue, changed, less_at, lesser}
 use Rattle.dob_share.specs.Slots.{IsShortCell}
 use Rattle.dob_share.specs.Shares.{IsOwn, status_at, cell_at, IsValue, HasValueNow}
 use Rattle.dob_node.specs.Takes.{HasParities}

@@ -1,6 +1,5 @@
 -- The steps of one node that owns all classes.
-use Rattle.std.proofs.Common.{◌≡◌, ◌≢◌, ◌↔◌, ℕ, zero, suc, ◌+◌, ◌%◌, ◌<◌, ◌≤◌, ◌⊎◌, inl, inr, nat_lt, eqb, Bool, true, false, cond, refl, sym, ap, ◌∙◌, subst, arith, List, [], ◌∷◌, ◌++◌, length, take, drop, slice_get, Option, None, Some, append_assoc, lit<}
-use Rattle.std.proofs.lemmas.Bool.{cases_order}
+use Rattle.std.proofs.Common.{◌≡◌, ◌≢◌, ℕ, zero, suc, ◌+◌, ◌%◌, ◌<◌, ◌≤◌, ◌⊎◌, inl, inr, nat_lt, eqb, Bool, true, false, cond, refl, sym, ap, ◌∙◌, subst, arith, List, [], ◌∷◌, ◌++◌, length, Option, None, Some, lit<}
 use Rattle.std.proofs.lemmas.Bool.Decides.{nat_tests}
 use Rattle.std.proofs.lemmas.List.{append-nil}
 use Rattle.dob_pieces.specs.declared.piece_set.PieceSet.{PieceSet}
@@ -9,9 +8,6 @@ use Rattle.dob_moves.specs.declared.outlook.Status.TheVariants.{Open}
 use Rattle.dob_rank.specs.Marks.{classes_of}
 use Rattle.dob_value.specs.declared.value.Value.{Value}
 use Rattle.dob_value.specs.declared.value.Value.TheVariants.{Win, Loss, Draw}
-use Rattle.dob_value.specs.Codes.{IsShort}
-use Rattle.dob_value.specs.Follows.{IsEntry}
-use Rattle.dob_unmove.specs.Edges.{predecessors}
 use Rattle.dob_share.specs.declared.news.Settlement.{Settlement}
 use Rattle.dob_share.specs.declared.news.Item.{Item}
 use Rattle.dob_share.specs.declared.share.Share.{Share}
@@ -19,17 +15,13 @@ use Rattle.dob_share.specs.Cells.{Cell, SameCell, CellValue, IsGreatest, changed
 use Rattle.dob_share.specs.Shares.{IsOwn, status_at, cell_at, IsValue, HasValueNow, Fits, HasSettled}
 use Rattle.dob_share.specs.Values.{Better, NoWorse}
 use Rattle.dob_share.proofs.Changing.{short_value}
-use Rattle.dob_update.specs.Items.{items_of, items_from}
 use Rattle.dob_node.specs.Stores.{HistoryView}
 use Rattle.dob_node.specs.Histories.{value_of}
-use Rattle.dob_node.specs.Lawful.{IsLawful, IsNextItem, CanApply, AreAfter, IsApplied, AreSettled}
+use Rattle.dob_node.specs.Lawful.{IsLawful, IsNextItem, CanApply, IsApplied, AreSettled}
 use Rattle.dob_node.specs.Takes.{AreKept, IsTaken, listed}
-use Rattle.dob_node.specs.declared.node.Node.{Node}
-use Rattle.dob_node.specs.Nodes.{IsSound, HasApplied}
-use Rattle.dob_node.specs.Sole.{sole_history, sole_applied, sole_items, cells_below, IsSole}
-use Rattle.dob_node.proofs.Settles.{value_of-more, items_from-append}
+use Rattle.dob_node.specs.Sole.{sole_history, sole_applied, sole_items, cells_below}
+use Rattle.dob_node.proofs.Settles.{value_of-more}
 use Rattle.dob_node.proofs.Kept.{better_apart}
-use Rattle.dob_node.proofs.Takes.{CellValue-same}
 use Rattle.dob_node.proofs.Stored.{same_settlement}
 use Rattle.dob_node.proofs.Parity.{short_own}
 use Rattle.dob_node.proofs.Kepts.{fits_own}

@@ -1,5 +1,5 @@
 -- The values of the classes are those of the history.
-use Rattle.std.proofs.Common.{ℕ, ◌<◌, ◌∙◌, sym, subst}
+use Rattle.std.proofs.Common.{ℕ, ◌<◌, sym, subst}
 use Rattle.std.proofs.lemmas.List.Elements.{All-push}
 use Rattle.std.specs.List.{All}
 use Rattle.dob_node.proofs.SoleEnds.{shows, shows_entry, values_more}

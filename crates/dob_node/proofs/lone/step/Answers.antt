@@ -1,7 +1,7 @@
 -- One step more is made.
-use Rattle.std.proofs.Common.{◌≡◌, ℕ, Ok, true, false, OnOk, ap, sym, subst, ◌∙◌}
+use Rattle.std.proofs.Common.{◌≡◌, Ok, OnOk, ap, sym, subst}
 use Rattle.dob_node.specs.declared.node.Node.{Node}
-use Rattle.dob_node.specs.Nodes.{IsSound, IsExpanded, HasApplied}
+use Rattle.dob_node.specs.Nodes.{IsSound}
 use Rattle.dob_node.specs.Sole.{HasMade}
 use Rattle.dob_node.proofs.SoleSteps.{made_applied, made_expanded}
 use Rattle.dob_node.proofs.lone.step.Goals as goal

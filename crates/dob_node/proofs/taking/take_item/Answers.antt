@@ -1,7 +1,7 @@
 -- What fits is taken, and what it makes is kept.
 use Rattle.std.proofs.Common.{Some, None, subst}
 use Rattle.dob_share.specs.Shares.{Fits, HasSettled}
-use Rattle.dob_node.proofs.Kepts.{sure_fits, number_is, own_is, place_is, was_is, now_is, same_history, kept_still}
+use Rattle.dob_node.proofs.Kepts.{sure_fits, own_is, place_is, was_is, now_is, same_history, kept_still}
 use Rattle.dob_node.proofs.taking.take_item.Goals as goal
 
 pub push-requires-clause-own : goal.push-requires-clause-own
