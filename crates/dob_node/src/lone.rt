@@ -18,7 +18,7 @@ use std::alloc::Global;
 /// expansion or one item applied. `None` where the node has something left to do after them.
 ///
 /// Errors: `SetTooLarge` where the set has more than three pieces beside the lions; `TooDeep` where a class came to a
-/// value with a distance above the greatest that is kept; `Memory`.
+/// value with a distance above the greatest that is kept; `Contradiction` where an item didn't fit its cell; `Memory`.
 pub fn alone(alloc: Global, set: PieceSet, limit: u64) -> Result<Option<Table>, Fault>
     ensures too_large { IsErrOf result Fault.SetTooLarge ↔ (3 < set.chicks + set.elephants + set.giraffes) }
     ensures set { IfOk result (λ given. IfSome given (λ table. table.set ≡ set)) }
