@@ -13,3 +13,11 @@ pub mod Kept
 pub mod Steps
 pub mod Ends
 pub mod Stored
+pub mod Parity
+pub mod Kepts
+pub mod Soles
+pub mod Sounds
+pub mod Opens
+pub mod SoleSteps
+pub mod SoleOpens
+pub mod SoleEnds

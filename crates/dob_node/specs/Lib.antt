@@ -4,3 +4,8 @@ pub mod Openings
 pub mod Lawful
 pub mod Laws
 pub mod Stores
+pub mod Causes
+pub mod Takes
+pub mod OpeningLists
+pub mod Nodes
+pub mod Sole

@@ -56,7 +56,8 @@ impl History {
 
     /// How many settlements there are.
     pub(crate) fn len(&self) -> u64
-        ensures { result ≡ length self.now.settlements }
+        ensures count { result ≡ length self.now.settlements }
+        ensures bound { result ≤ 2 ^ 56 }
     {
         self.stored.len()
     }
@@ -64,7 +65,9 @@ impl History {
     /// The settlement of that number.
     pub(crate) fn get(&self, number: u64) -> Settlement
         requires { number < length self.now.settlements }
-        ensures { slice_get self.now.settlements number ≡ Some result }
+        ensures get { slice_get self.now.settlements number ≡ Some result }
+        ensures was { IsEntry result.was }
+        ensures now { IsEntry result.now }
     {
         let stored = self.stored.get(number);
         Settlement {

@@ -1,12 +1,19 @@
 // One node of a build: the history of the classes that it owns, and what it has to tell and to apply.
 #![tactic(auto)]
 
+mod cause;
 mod history;
 pub mod laws;
+mod lone;
+mod node;
 mod openings;
+mod taking;
 mod telling;
 
+pub use cause::{Cause, Fault};
 pub use dob_share::Opening;
+pub use lone::alone;
+pub use node::Node;
 pub use openings::opening;
 
 #[cfg(test)]

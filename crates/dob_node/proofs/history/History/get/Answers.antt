@@ -8,8 +8,8 @@ pub get-stored-requires : goal.get-stored-requires
 get-stored-requires c =
     subst (λ m. c.args.number < m) (sym (seen_length c.self.inside.n c.self.inside.id c.self.inside.stored c.args.self.now c.self.view_is)) c.requires
 
-pub returns : goal.returns
-returns c =
+pub returns-clause-get : goal.returns-clause-get
+returns-clause-get c =
     let stored = c.get-stored.result in
     seen_at c.self.inside.n c.self.inside.id c.args.number c.self.inside.stored c.args.self.now stored _ c.self.view_is c.get-stored.ensures.get
     (same_settlement c.args.number c.args.number (stored.place * c.self.inside.n + c.self.inside.id) (c.from.result * c.self.inside.n + c.self.inside.id)

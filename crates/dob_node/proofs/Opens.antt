@@ -1,0 +1,126 @@
+-- A node as it is opened.
+use Rattle.std.proofs.Common.{◌≡◌, ◌↔◌, ℕ, zero, suc, ◌+◌, ◌*◌, ◌/◌, ◌%◌, ◌^◌, ◌<◌, ◌≤◌, refl, sym, ap, ◌∙◌, subst, arith, add-one, List, [], ◌++◌, length, Option, None, Some}
+use Rattle.std.specs.List.{All}
+use Rattle.std.proofs.lemmas.List.{length-append}
+use Rattle.std.proofs.lemmas.List.Elements.{All-append, All-nil, All-cons}
+use Rattle.std.proofs.lemmas.Nat.{mod-mul-add, div-mul-add}
+use Rattle.dob_pieces.specs.declared.piece_set.PieceSet.{PieceSet}
+use Rattle.dob_moves.specs.declared.outlook.Status.{Status}
+use Rattle.dob_moves.specs.declared.outlook.Status.TheVariants.{Caught, Tried, Stuck, Open}
+use Rattle.dob_rank.specs.Marks.{classes_of}
+use Rattle.dob_value.specs.declared.value.Value.{Value}
+use Rattle.dob_share.specs.declared.news.Settlement.{Settlement}
+use Rattle.dob_share.specs.declared.opening.Opening.{Opening}
+use Rattle.dob_share.specs.declared.share.Share.{Share}
+use Rattle.dob_share.specs.Owners.{class_of_place}
+use Rattle.dob_share.specs.Cells.{SameCell, fresh}
+use Rattle.dob_share.specs.Openings.{opening_of, settles, settled_among}
+use Rattle.dob_share.specs.Shares.{places_of, IsOwn, cell_at}
+use Rattle.dob_node.specs.Stores.{HistoryView}
+use Rattle.dob_node.specs.OpeningLists.{opening_value, opening_settlement, opening_settlements, status_in}
+use Rattle.dob_node.specs.Openings.{AreOpenings}
+use Rattle.dob_node.specs.Takes.{HasParities, AreKept}
+use Rattle.dob_node.proofs.Parity.{parities_same}
+
+-- ---- the settlements
+
+one_settles : (status : Status) (number class : ℕ) → settles status ≡ length (opening_settlement number class (opening_value status))
+one_settles Caught number class = refl
+one_settles Tried number class = refl
+one_settles Stuck number class = refl
+one_settles Open number class = refl
+
+-- as many as a share counts
+pub settled_length : (status : ℕ → Status) (n id k : ℕ) →
+    settled_among (λ place. status (class_of_place n id place)) k ≡ length (opening_settlements status n id k)
+settled_length status n id zero = refl
+settled_length status n id (suc k) =
+    let before = opening_settlements status n id k in
+    let more = opening_settlement (length before) (class_of_place n id k) (opening_value (status (class_of_place n id k))) in
+    let sum : length (before ++ more) ≡ length before + length more = length-append before more in
+    let same : settled_among (λ place. status (class_of_place n id place)) k ≡ length before = settled_length status n id k in
+    let one : settles (status (class_of_place n id k)) ≡ length more = one_settles (status (class_of_place n id k)) (length before) (class_of_place n id k) in
+    omega arith
+
+one_low : (count number class : ℕ) (o : Option Value) → class < count → All (λ (s : Settlement). s.class < count) (opening_settlement number class o)
+one_low count number class None low = All-nil (λ (s : Settlement). s.class < count)
+one_low count number class (Some now) low = All-cons (λ (s : Settlement). s.class < count) _ [] low (All-nil (λ (s : Settlement). s.class < count))
+
+-- of the classes at the places
+pub settled_low : (status : ℕ → Status) (n id count k : ℕ) → ((place : ℕ) → place < k → place * n + id < count) →
+    All (λ (s : Settlement). s.class < count) (opening_settlements status n id k)
+settled_low status n id count zero low = All-nil (λ (s : Settlement). s.class < count)
+settled_low status n id count (suc k) low =
+    let before = opening_settlements status n id k in
+    All-append (λ (s : Settlement). s.class < count) before _ (settled_low status n id count k (λ place less. low place (omega arith)))
+    (one_low count (length before) (class_of_place n id k) (opening_value (status (class_of_place n id k))) (low k (omega arith)))
+
+-- one place more
+pub opening_more : (openings : List Opening) (n id k : ℕ) (history new : HistoryView) (status : Status) → status ≡ status_in openings (k * n + id) →
+    history ≡ record { id = id; n = n; settlements = opening_settlements (status_in openings) n id k } →
+    new ≡ record history { settlements = history.settlements ++ opening_settlement (length history.settlements) (k * n + id) (opening_value status) } →
+    new ≡ record { id = id; n = n; settlements = opening_settlements (status_in openings) n id (k + 1) }
+opening_more openings n id k history new status listed was is = rw add-one (
+    is
+    ∙ ap (λ (v : HistoryView). record v { settlements = v.settlements ++ opening_settlement (length v.settlements) (k * n + id) (opening_value status) }) was
+    ∙ more (opening_settlements (status_in openings) n id k)
+    )
+  where
+    more : (xs : List Settlement) →
+        ◌≡◌ {A = HistoryView}
+        (record { id = id; n = n; settlements = xs ++ opening_settlement (length xs) (k * n + id) (opening_value status) })
+        (record { id = id; n = n; settlements = xs ++ opening_settlement (length xs) (k * n + id) (opening_value (status_in openings (k * n + id))) })
+    more xs = ap {B = HistoryView} (λ (st : Status). record { id = id; n = n; settlements = xs ++ opening_settlement (length xs) (k * n + id) (opening_value st) }) listed
+
+-- ---- the places
+
+place_own : (share : Share) (n id place : ℕ) → share.n ≡ n → share.id ≡ id → id < n → place < places_of share → IsOwn share (place * n + id)
+unfolding IsOwn places_of
+place_own share n id place n_is id_is less low =
+    subst (λ (m : ℕ). ((place * n + id) % m ≡ share.id) × ((place * n + id) / m < length share.slots)) (sym n_is) (
+      mod-mul-add place n id less ∙ sym id_is,
+      subst (λ (k : ℕ). k < length share.slots) (sym (div-mul-add place n id less)) low,
+    )
+
+own_place : (share : Share) (n id place : ℕ) → share.n ≡ n → id < n → IsOwn share (place * n + id) → place < places_of share
+unfolding IsOwn places_of
+own_place share n id place n_is less own =
+    subst (λ (k : ℕ). k < length share.slots) (div-mul-add place n id less)
+    (subst (λ (m : ℕ). (place * n + id) / m < length share.slots) n_is own.1)
+
+-- the places are those of the owner's classes
+pub places_are : (share : Share) (openings : List Opening) (n id : ℕ) → (share.id ≡ id) × (share.n ≡ n) → id < n →
+    ((class : ℕ) → IsOwn share class ↔ ((class % n ≡ id) × (class < length openings))) →
+    (place : ℕ) → (place < places_of share) ↔ (place * n + id < length openings)
+places_are share openings n id who less owned place = (
+  λ low. ((owned (place * n + id)).0 (place_own share n id place who.1 who.0 less low)).1,
+  λ low. own_place share n id place who.1 less ((owned (place * n + id)).1 (mod-mul-add place n id less, low)),
+)
+
+-- ---- what is kept
+
+fresh_parities : (moves : ℕ) → HasParities (fresh moves)
+fresh_parities moves = record { wins = λ plies some. absurd (omega arith); least = λ plies is. absurd cc }
+
+pub opened_kept : (set : PieceSet) (openings : List Opening) (n id : ℕ) (share : Share) (history : HistoryView) → AreOpenings set openings →
+    id < n → length openings ≤ 2 ^ 32 → (share.id ≡ id) × (share.n ≡ n) →
+    ((class : ℕ) → IsOwn share class ↔ ((class % n ≡ id) × (class < length openings))) →
+    ((class : ℕ) → IsOwn share class → SameCell (cell_at share class) (fresh (opening_of openings class).moves)) →
+    share.settled ≡ settled_among (λ place. (opening_of openings (class_of_place n id place)).status) (places_of share) →
+    history ≡ record { id = id; n = n; settlements = opening_settlements (status_in openings) n id (places_of share) } →
+    AreKept set n id share history
+opened_kept set openings n id share history are less few who owned cells settled is = subst (λ v. AreKept set n id share v) (sym is) (record {
+  share_is = (who.1, who.0);
+  history_is = (refl, refl);
+  one_of_n = less;
+  few = subst (λ (count : ℕ). count ≤ 2 ^ 32) are.whole few;
+  owned = λ class. (
+    λ own. let there = (owned class).0 own in (there.0, subst (λ (count : ℕ). class < count) are.whole there.1),
+    λ mine. (owned class).1 (mine.0, subst (λ (count : ℕ). class < count) (sym are.whole) mine.1),
+  );
+  counted = settled ∙ settled_length (status_in openings) n id (places_of share);
+  classes = settled_low (status_in openings) n id (classes_of set) (places_of share)
+      (λ place low. subst (λ (count : ℕ). place * n + id < count) are.whole ((places_are share openings n id who less owned place).0 low));
+  parities = λ class own. parities_same (cell_at share class) (fresh (opening_of openings class).moves) (cells class own)
+      (fresh_parities (opening_of openings class).moves);
+})

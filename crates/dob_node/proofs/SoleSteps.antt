@@ -1,0 +1,140 @@
+-- The steps of one node that owns all classes: it stays lawful, and makes one step more.
+use Rattle.std.proofs.Common.{◌≡◌, ℕ, ◌+◌, ◌<◌, ◌≤◌, sym, ap, ◌∙◌, subst, arith, add-one, append_assoc, List, [], ◌∷◌, ◌++◌, length, take, drop, slice_get, Some}
+use Rattle.std.proofs.Math.Seq.{take-suc}
+use Rattle.std.proofs.lemmas.List.{append-nil, length-append, take-append-drop, take-append-le}
+use Rattle.std.proofs.lemmas.Option.{slice_get_within, get_or_from_slice_get}
+use Rattle.dob_pieces.specs.declared.piece_set.PieceSet.{PieceSet}
+use Rattle.dob_moves.specs.Statuses.{HasStatus}
+use Rattle.dob_rank.specs.Marks.{classes_of}
+use Rattle.dob_rank.specs.ClassRows.{class_setup}
+use Rattle.dob_unmove.specs.Edges.{predecessors}
+use Rattle.dob_share.specs.declared.news.Settlement.{Settlement}
+use Rattle.dob_share.specs.declared.news.Item.{Item}
+use Rattle.dob_share.specs.declared.share.Share.{Share}
+use Rattle.dob_share.specs.Shares.{status_at}
+use Rattle.dob_update.specs.Items.{items_of}
+use Rattle.dob_node.specs.Stores.{HistoryView}
+use Rattle.dob_node.specs.Histories.{value_of}
+use Rattle.dob_node.specs.Lawful.{IsLawful}
+use Rattle.dob_node.specs.Takes.{AreKept, listed}
+use Rattle.dob_node.specs.declared.node.Node.{Node}
+use Rattle.dob_node.specs.Nodes.{IsSound, IsExpanded, HasApplied}
+use Rattle.dob_node.specs.Sole.{sole_history, sole_applied, sole_items, cells_below, IsSole, HasMade}
+use Rattle.dob_node.proofs.Settles.{items_from-append}
+use Rattle.dob_node.proofs.Soles.{still_lawful}
+
+-- ---- items
+
+-- what is applied, what waits, and what comes with the settlements that aren't told yet
+pub all_items : (set : PieceSet) (h : List Settlement) (expanded : ℕ) (applied own : List Item) →
+    sole_items set (take expanded h) ≡ applied ++ own → sole_items set h ≡ applied ++ (own ++ sole_items set (drop expanded h))
+all_items set h expanded applied own told =
+    ap (λ xs. sole_items set xs) (sym (take-append-drop expanded h))
+    ∙ items_from-append (predecessors set) 1 0 (take expanded h) (drop expanded h)
+    ∙ ap (λ xs. xs ++ sole_items set (drop expanded h)) told
+    ∙ append_assoc applied own (sole_items set (drop expanded h))
+
+-- one settlement more
+more_items : (set : PieceSet) (h : List Settlement) (expanded : ℕ) (s : Settlement) (applied own new : List Item) →
+    slice_get h expanded ≡ Some s → sole_items set (take expanded h) ≡ applied ++ own → new ≡ own ++ items_of (predecessors set) 1 0 s →
+    sole_items set (take (expanded + 1) h) ≡ applied ++ new
+more_items set h expanded s applied own new there told is =
+    ap (λ xs. sole_items set xs) (rw add-one (take-suc h expanded s (slice_get_within h expanded s there)
+    ∙ ap (λ x. take expanded h ++ x ∷ []) (get_or_from_slice_get h expanded s s there)))
+    ∙ items_from-append (predecessors set) 1 0 (take expanded h) (s ∷ [])
+    ∙ ap (λ xs. xs ++ sole_items set (s ∷ [])) told
+    ∙ ap (λ xs. (applied ++ own) ++ xs) (append-nil (items_of (predecessors set) 1 0 s))
+    ∙ append_assoc applied own (items_of (predecessors set) 1 0 s)
+    ∙ ap (λ xs. applied ++ xs) (sym is)
+
+-- ---- an item applied
+
+same_told : (set : PieceSet) (h grown more : List Settlement) (expanded : ℕ) (item : Item) (applied own new : List Item) → expanded ≤ length h →
+    grown ≡ h ++ more → own ≡ item ∷ new → sole_items set (take expanded h) ≡ applied ++ own →
+    sole_items set (take expanded grown) ≡ (applied ++ item ∷ []) ++ new
+same_told set h grown more expanded item applied own new low is first told =
+    ap (λ xs. sole_items set (take expanded xs)) is
+    ∙ ap (λ xs. sole_items set xs) (take-append-le expanded h more low)
+    ∙ told
+    ∙ ap (λ xs. applied ++ xs) first
+    ∙ sym (append_assoc applied (item ∷ []) new)
+
+kept_sole : (set : PieceSet) (n id : ℕ) (share : Share) (history : HistoryView) → n ≡ 1 → id ≡ 0 → AreKept set n id share history → AreKept set 1 0 share history
+kept_sole set n id share history n_is id_is kept =
+    subst (λ (m : ℕ). AreKept set m 0 share history) n_is (subst (λ (k : ℕ). AreKept set n k share history) id_is kept)
+
+module _ (old new : Node) (applied : List Item) (sole : IsSole old applied) (sound : IsSound new) (step : HasApplied old new) where
+  set_is : new.set ≡ old.set
+  set_is = step.same.0
+
+  abbrev pub after : List Item
+  after = applied ++ step.item ∷ []
+
+  lawful_there : IsLawful old.set 1 (sole_history new.history.settlements) (sole_applied after) (cells_below (classes_of old.set) new.share)
+      (value_of new.history.settlements)
+  lawful_there = still_lawful old.set old.share new.share old.history new.history applied step.item
+      (new.own.items ++ sole_items old.set (drop old.expanded old.history.settlements))
+      (kept_sole old.set old.n old.id old.share old.history sole.alone.0 sole.alone.1 sole.sound.kept)
+      (kept_sole old.set new.n new.id new.share new.history (step.same.2 ∙ sole.alone.0) (step.same.1 ∙ sole.alone.1)
+      (subst (λ st. AreKept st new.n new.id new.share new.history) set_is sound.kept)) step.taken sole.lawful
+      (all_items old.set old.history.settlements old.expanded applied old.own.items sole.told
+      ∙ ap (λ xs. applied ++ (xs ++ sole_items old.set (drop old.expanded old.history.settlements))) step.first)
+
+  pub sole_after : IsSole new after
+  sole_after = record {
+    sound = sound;
+    alone = (step.same.2 ∙ sole.alone.0, step.same.1 ∙ sole.alone.1);
+    statuses = λ class low. subst (λ status. HasStatus (class_setup new.set class) status) (sym (step.taken.statuses class))
+        (subst (λ st. HasStatus (class_setup st class) (status_at old.share class)) (sym set_is)
+        (sole.statuses class (subst (λ st. class < classes_of st) set_is low)));
+    told = subst (λ st. sole_items st (take new.expanded new.history.settlements) ≡ after ++ new.own.items) (sym set_is)
+        (subst (λ k. sole_items old.set (take k new.history.settlements) ≡ after ++ new.own.items) (sym step.same.3)
+        (same_told old.set old.history.settlements new.history.settlements (listed step.taken.settled.0) old.expanded step.item applied old.own.items new.own.items
+        sole.sound.told (ap (λ (v : HistoryView). v.settlements) step.taken.settled.2) step.first sole.told));
+    lawful = subst (λ st. IsLawful st 1 (sole_history new.history.settlements) (sole_applied after) (cells_below (classes_of st) new.share)
+        (value_of new.history.settlements)) (sym set_is) lawful_there;
+  }
+
+pub made_applied : (old new : Node) → IsSound new → HasApplied old new → (steps : ℕ) → HasMade steps old → HasMade (steps + 1) new
+made_applied old new sound step steps made =
+    let longer : length (made.0 ++ step.item ∷ []) ≡ length made.0 + 1 = length-append made.0 (step.item ∷ []) in
+    let same : new.expanded ≡ old.expanded = step.same.3 in
+    let count : old.expanded + length made.0 ≡ steps = made.2 in
+    (made.0 ++ step.item ∷ [], sole_after old new made.0 made.1 sound step, omega arith)
+
+-- ---- a settlement expanded
+
+module _ (old new : Node) (applied : List Item) (sole : IsSole old applied) (sound : IsSound new) (step : IsExpanded old new) where
+  set_same : new.set ≡ old.set
+  set_same = step.same.0
+
+  history_is : new.history.settlements ≡ old.history.settlements
+  history_is = ap (λ (v : HistoryView). v.settlements) step.same.4
+
+  own_same : new.own.items ≡ old.own.items ++ items_of (predecessors old.set) 1 0 step.settlement
+  own_same = subst (λ (m : ℕ). new.own.items ≡ old.own.items ++ items_of (predecessors old.set) m 0 step.settlement) sole.alone.0
+      (subst (λ (k : ℕ). new.own.items ≡ old.own.items ++ items_of (predecessors old.set) old.n k step.settlement) sole.alone.1 step.own)
+
+  pub sole_expanded : IsSole new applied
+  sole_expanded = record {
+    sound = sound;
+    alone = (step.same.2 ∙ sole.alone.0, step.same.1 ∙ sole.alone.1);
+    statuses = λ class low. subst (λ share. HasStatus (class_setup new.set class) (status_at share class)) (sym step.same.3)
+        (subst (λ st. HasStatus (class_setup st class) (status_at old.share class)) (sym set_same)
+        (sole.statuses class (subst (λ st. class < classes_of st) set_same low)));
+    told = subst (λ st. sole_items st (take new.expanded new.history.settlements) ≡ applied ++ new.own.items) (sym set_same)
+        (subst (λ k. sole_items old.set (take k new.history.settlements) ≡ applied ++ new.own.items) (sym step.expanded)
+        (subst (λ h. sole_items old.set (take (old.expanded + 1) h) ≡ applied ++ new.own.items) (sym history_is)
+        (more_items old.set old.history.settlements old.expanded step.settlement applied old.own.items new.own.items step.first sole.told own_same)));
+    lawful = subst (λ st. IsLawful st 1 (sole_history new.history.settlements) (sole_applied applied) (cells_below (classes_of st) new.share)
+        (value_of new.history.settlements)) (sym set_same)
+        (subst (λ h. IsLawful old.set 1 (sole_history h) (sole_applied applied) (cells_below (classes_of old.set) new.share) (value_of h)) (sym history_is)
+        (subst (λ share. IsLawful old.set 1 (sole_history old.history.settlements) (sole_applied applied) (cells_below (classes_of old.set) share)
+        (value_of old.history.settlements)) (sym step.same.3) sole.lawful));
+  }
+
+pub made_expanded : (old new : Node) → IsSound new → IsExpanded old new → (steps : ℕ) → HasMade steps old → HasMade (steps + 1) new
+made_expanded old new sound step steps made =
+    let same : new.expanded ≡ old.expanded + 1 = step.expanded in
+    let count : old.expanded + length made.0 ≡ steps = made.2 in
+    (made.0, sole_expanded old new made.0 made.1 sound step, omega arith)

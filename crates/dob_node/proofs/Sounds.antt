@@ -1,0 +1,75 @@
+-- A node stays sound.
+use Rattle.std.proofs.Common.{◌≡◌, ℕ, ◌+◌, ◌<◌, ◌≤◌, inl, inr, sym, ap, ◌∙◌, subst, arith, map, slice_get, ◌*◌, List, [], ◌∷◌, ◌++◌, length, Some}
+use Rattle.std.specs.List.{All}
+use Rattle.std.proofs.lemmas.Bool.{cases_order}
+use Rattle.std.proofs.lemmas.List.{length-append}
+use Rattle.std.proofs.lemmas.List.Elements.{All-append, All-nil, All-cons}
+use Rattle.std.proofs.lemmas.Nat.{mod-mul-add}
+use Rattle.std.proofs.lemmas.Option.{slice_get_within, get_or_from_slice_get}
+use Rattle.dob_pieces.specs.declared.piece_set.PieceSet.{PieceSet}
+use Rattle.dob_share.specs.declared.news.Settlement.{Settlement}
+use Rattle.dob_share.specs.declared.news.Item.{Item}
+use Rattle.dob_share.specs.declared.share.Share.{Share}
+use Rattle.dob_share.specs.Owners.{owner_of}
+use Rattle.dob_value.specs.Follows.{IsEntry}
+use Rattle.dob_rank.specs.Marks.{classes_of}
+use Rattle.dob_update.specs.Items.{item_for}
+use Rattle.dob_node.specs.Stores.{HistoryView}
+use Rattle.dob_node.specs.Takes.{HasEntries, AreKept, IsTaken, listed}
+
+-- by the share's own numbers
+pub kept_own : (set : PieceSet) (n id : ℕ) (share : Share) (history : HistoryView) → AreKept set n id share history →
+    AreKept set share.n share.id share history
+kept_own set n id share history kept = subst (λ (m : ℕ). AreKept set m share.id share history) (sym kept.share_is.0)
+    (subst (λ (k : ℕ). AreKept set n k share history) (sym kept.share_is.1) kept)
+
+pub kept_back : (set : PieceSet) (n id : ℕ) (share after : Share) (history grown : HistoryView) → AreKept set n id share history →
+    ((any : PieceSet) → AreKept any share.n share.id share history → AreKept any share.n share.id after grown) → AreKept set n id after grown
+kept_back set n id share after history grown kept still = subst (λ (m : ℕ). AreKept set m id after grown) kept.share_is.0
+    (subst (λ (k : ℕ). AreKept set share.n k after grown) kept.share_is.1 (still set (kept_own set n id share history kept)))
+
+-- what is told is less than a longer history
+pub told_still : (item : Item) (share after : Share) (history grown : HistoryView) (expanded : ℕ) → IsTaken item share after history grown →
+    expanded ≤ length history.settlements → expanded ≤ length grown.settlements
+told_still item share after history grown expanded taken told =
+    let given = taken.settled.0 in
+    let longer : length (history.settlements ++ listed given) ≡ length history.settlements + length (listed given) = length-append history.settlements (listed given) in
+    let is : length grown.settlements ≡ length (history.settlements ++ listed given) = ap (λ (view : HistoryView). length view.settlements) taken.settled.2 in
+    omega arith
+
+-- ---- expansions
+
+-- one more is told where not all were
+pub next_told : (expanded all count : ℕ) → expanded ≤ all → count ≡ all → (expanded ≡ count → ⊥) → expanded + 1 ≤ all
+next_told expanded all count told is other = elim (cases_order expanded count) [
+  | inl same ↦ absurd (other same)
+  | inr order ↦ elim order [
+    | inl less ↦ omega arith
+    | inr more ↦ absurd (omega arith)
+  ]
+]
+
+-- a settlement of the history is of a class of the set
+pub class_low : (set : PieceSet) (n id : ℕ) (share : Share) (history : HistoryView) (number : ℕ) (s : Settlement) →
+    AreKept set n id share history → slice_get history.settlements number ≡ Some s → s.class < classes_of set
+class_low set n id share history number s kept there =
+    subst (λ (r : Settlement). r.class < classes_of set) (get_or_from_slice_get history.settlements number s s there)
+    (kept.classes number s (slice_get_within history.settlements number s there))
+
+-- the items of a settlement have its values
+pub entries_of : (s : Settlement) → IsEntry s.was → IsEntry s.now → (targets : List ℕ) → All HasEntries (map (item_for s) targets)
+entries_of s was now [] = All-nil HasEntries
+entries_of s was now (to ∷ targets) = All-cons HasEntries (item_for s to) (map (item_for s) targets) (was, now) (entries_of s was now targets)
+
+-- with them, the items to apply have such values
+pub entries_more : (s : Settlement) (own new items : List Item) (targets : List ℕ) → IsEntry s.was → IsEntry s.now → All HasEntries own →
+    items ≡ map (item_for s) targets → new ≡ own ++ items → All HasEntries new
+entries_more s own new items targets was now entries are is = subst (λ xs. All HasEntries xs) (sym (is ∙ ap (λ xs. own ++ xs) are))
+    (All-append HasEntries own (map (item_for s) targets) entries (entries_of s was now targets))
+
+-- ---- openings
+
+-- the class at a place is the owner's
+pub own_there : (view : HistoryView) (n id place : ℕ) (xs : List Settlement) → id < n → view ≡ record { id = id; n = n; settlements = xs } →
+    owner_of view.n (place * n + id) ≡ view.id
+own_there view n id place xs some is = ap (λ (v : HistoryView). owner_of v.n (place * n + id)) is ∙ mod-mul-add place n id some ∙ sym (ap (λ (v : HistoryView). v.id) is)

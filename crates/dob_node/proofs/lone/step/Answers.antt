@@ -1,0 +1,18 @@
+-- One step more is made.
+use Rattle.std.proofs.Common.{◌≡◌, Ok, OnOk, ap, sym, subst}
+use Rattle.dob_node.specs.declared.node.Node.{Node}
+use Rattle.dob_node.specs.Nodes.{IsSound}
+use Rattle.dob_node.specs.Sole.{HasMade}
+use Rattle.dob_node.proofs.SoleSteps.{made_applied, made_expanded}
+use Rattle.dob_node.proofs.lone.step.Goals as goal
+
+pub returns-then-branch-clause-made : goal.returns-then-branch-clause-made
+returns-then-branch-clause-made c = λ is steps made.
+    made_applied c.args.node.now c.apply_own.new.self c.in_ok-apply_own.ensures.sound
+    (c.in_ok-apply_own.ensures.applied (ap Ok c.if-branch.true)) steps made
+
+pub returns-clause-made : goal.returns-clause-made
+returns-clause-made c = λ is steps made.
+    let same : c.apply_own.new.self ≡ c.args.node.now = c.in_ok-apply_own.ensures.nothing (ap Ok c.if-branch.false) in
+    made_expanded c.apply_own.new.self c.expand.new.self (subst (λ r. OnOk r (IsSound c.expand.new.self)) is c.expand.ensures.sound)
+    (c.expand.ensures.expanded is) steps (subst (λ (node : Node). HasMade steps node) (sym same) made)

@@ -1,0 +1,40 @@
+-- What is opened is sound.
+use Rattle.std.proofs.Common.{◌≡◌, ◌<◌, ℕ, refl, ap, ◌∙◌, sym, subst, arith}
+use Rattle.std.specs.List.{All}
+use Rattle.std.proofs.lemmas.List.Elements.{All-nil}
+use Rattle.dob_node.specs.Stores.{HistoryView}
+use Rattle.dob_node.specs.OpeningLists.{opening_settlements, status_in}
+use Rattle.dob_node.specs.Takes.{HasEntries}
+use Rattle.dob_node.proofs.Opens.{places_are, opened_kept}
+use Rattle.dob_node.proofs.node.Node.open.Goals as goal
+
+pub opening_history-requires-clause-places : goal.opening_history-requires-clause-places
+opening_history-requires-clause-places c = λ place low.
+    let out = c.in_ok-share.ensures in
+    (places_are c.in_ok-share.share c.args.openings.now c.args.n c.args.id out.who c.requires.owner out.owned place).0
+    (subst (λ (k : ℕ). place < k) c.places.ensures low)
+
+pub returns-clause-opened : goal.returns-clause-opened
+returns-clause-opened c =
+    let out = c.in_ok-share.ensures in
+    record {
+      of = (refl, refl, refl);
+      history = ap (λ (v : HistoryView). v.settlements) c.in_ok-history.ensures
+          ∙ ap (λ k. opening_settlements (status_in c.args.openings.now) c.args.n c.args.id k) c.places.ensures;
+      places = places_are c.in_ok-share.share c.args.openings.now c.args.n c.args.id out.who c.requires.owner out.owned;
+      statuses = out.statuses;
+      cells = out.cells;
+      nothing = (refl, c.new.ensures.items);
+    }
+
+pub returns-clause-sound : goal.returns-clause-sound
+returns-clause-sound c =
+    let out = c.in_ok-share.ensures in
+    record {
+      kept = opened_kept c.args.set c.args.openings.now c.args.n c.args.id c.in_ok-share.share c.in_ok-history.history c.requires.openings c.requires.owner
+          (omega (arith, c.if-openings-from.false, c.from.ensures)) out.who out.owned out.cells out.settled
+          (subst (λ (k : ℕ). c.in_ok-history.history ≡ record { id = c.args.id; n = c.args.n; settlements = opening_settlements (status_in c.args.openings.now) c.args.n c.args.id k })
+          c.places.ensures c.in_ok-history.ensures);
+      told = omega arith;
+      entries = subst (λ xs. All HasEntries xs) (sym c.new.ensures.items) (All-nil HasEntries);
+    }

@@ -1,0 +1,10 @@
+-- The items so far are appended, and there is room for the others.
+use Rattle.std.proofs.Common.{◌≡◌, ◌+◌, ◌-◌, ◌≤◌, ◌++◌, length, take}
+use Rattle.std.specs.VecDeque.{deque_len, deque_capacity}
+use Rattle.dob_node.proofs.node.push_all.Given as goal
+
+abbrev pub invariant-loop-item : goal.invariant-loop-item
+invariant-loop-item l = record {
+  appended : l.queue.items ≡ l.initial.queue.items ++ take l.item-index l.items;
+  room : deque_len l.queue + (length l.items - l.item-index) ≤ deque_capacity l.queue;
+}

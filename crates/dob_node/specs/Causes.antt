@@ -1,0 +1,34 @@
+-- What each refusal is called, and which refusal of a part is which of a node's.
+use Rattle.std.specs.Prelude.{List, ℕ, ◌++◌, codes}
+use Rattle.std.specs.Fmt.{decimal}
+use Rattle.dob_rank.specs.declared.fault.Fault.{Fault as RankFault}
+use Rattle.dob_rank.specs.declared.fault.Fault.TheVariants as rank
+use Rattle.dob_share.specs.declared.fault.Fault.{Fault as ShareFault}
+use Rattle.dob_share.specs.declared.fault.Fault.TheVariants as share
+use Rattle.dob_node.specs.declared.cause.Cause.{Cause}
+use Rattle.dob_node.specs.declared.cause.Cause.TheVariants as cause
+use Rattle.dob_node.specs.declared.cause.Fault.{Fault}
+use Rattle.dob_node.specs.declared.cause.Fault.TheVariants.{SetTooLarge, TooDeep, Contradiction, Memory}
+
+-- the refusal's number and name
+abbrev pub fault_text : Fault → List ℕ
+fault_text SetTooLarge = codes "E8 SetTooLarge"
+fault_text TooDeep = codes "E12 TooDeep"
+fault_text (Contradiction class) = codes "E13 Contradiction class " ++ decimal class
+fault_text Memory = codes "E23 Memory"
+
+-- a refusal of a share, as a node's
+abbrev pub cause_of_share : ShareFault → Cause
+cause_of_share share.TooDeep = cause.TooDeep
+cause_of_share (share.Contradiction class) = cause.Contradiction class
+
+-- what stops the node, as why there is no table
+abbrev pub fault_of_cause : Cause → Fault
+fault_of_cause cause.TooDeep = TooDeep
+fault_of_cause (cause.Contradiction class) = Contradiction class
+fault_of_cause cause.Memory = Memory
+
+-- a refusal of the classes, as why there is no table
+abbrev pub fault_of_rank : RankFault → Fault
+fault_of_rank rank.SetTooLarge = SetTooLarge
+fault_of_rank rank.Memory = Memory

@@ -1,0 +1,32 @@
+-- The settlements of a node's opening.
+use Rattle.std.specs.Prelude.{ℕ, zero, suc, List, [], ◌∷◌, ◌++◌, length, Option, None, Some}
+use Rattle.dob_moves.specs.declared.outlook.Status.{Status}
+use Rattle.dob_moves.specs.declared.outlook.Status.TheVariants.{Caught, Tried, Stuck, Open}
+use Rattle.dob_value.specs.declared.value.Value.{Value}
+use Rattle.dob_value.specs.declared.value.Value.TheVariants.{Win, Loss, Draw}
+use Rattle.dob_share.specs.declared.news.Settlement.{Settlement}
+use Rattle.dob_share.specs.declared.opening.Opening.{Opening}
+use Rattle.dob_share.specs.Owners.{class_of_place}
+use Rattle.dob_share.specs.Openings.{opening_of}
+
+-- the value at which a class is settled at the opening
+abbrev pub opening_value : Status → Option Value
+opening_value Caught = Some (Win 1)
+opening_value Tried = Some (Loss 0)
+opening_value Stuck = Some (Loss 0)
+opening_value Open = None
+
+-- the settlement at the opening, where the class has one
+abbrev pub opening_settlement : ℕ → ℕ → Option Value → List Settlement
+opening_settlement number class None = []
+opening_settlement number class (Some now) = record { number = number; class = class; was = Draw; now = now } ∷ []
+
+-- the settlements at the opening, in the order of the classes, of owner `id` among n of that many classes
+abbrev pub opening_settlements : (ℕ → Status) → ℕ → ℕ → ℕ → List Settlement
+opening_settlements status n id zero = []
+opening_settlements status n id (suc places) = let before = opening_settlements status n id places in
+    before ++ opening_settlement (length before) (class_of_place n id places) (opening_value (status (class_of_place n id places)))
+
+-- the status that is listed of a class
+abbrev pub status_in : List Opening → ℕ → Status
+status_in openings class = (opening_of openings class).status

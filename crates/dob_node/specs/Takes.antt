@@ -1,0 +1,48 @@
+-- A node's cells with its history, and what an item that it takes makes of both.
+use Rattle.std.specs.Prelude.{◌≡◌, ◌≢◌, ℕ, ◌%◌, ◌^◌, ◌<◌, ◌≤◌, ◌↔◌, List, [], ◌∷◌, ◌++◌, length, Option, None, Some}
+use Rattle.std.specs.List.{All}
+use Rattle.dob_pieces.specs.declared.piece_set.PieceSet.{PieceSet}
+use Rattle.dob_rank.specs.Marks.{classes_of}
+use Rattle.dob_value.specs.Follows.{IsEntry}
+use Rattle.dob_share.specs.declared.news.Settlement.{Settlement}
+use Rattle.dob_share.specs.declared.news.Item.{Item}
+use Rattle.dob_share.specs.declared.share.Share.{Share}
+use Rattle.dob_share.specs.Owners.{owner_of}
+use Rattle.dob_share.specs.Cells.{Cell, SameCell, changed}
+use Rattle.dob_share.specs.Shares.{IsOwn, status_at, cell_at, Fits, HasSettled}
+use Rattle.dob_node.specs.Stores.{HistoryView}
+
+-- the item's values are such as a table can have
+abbrev pub HasEntries : Item → Type 0
+HasEntries item = IsEntry item.was × IsEntry item.now
+
+-- the cell counts wins in odd and knows a loss in an even number of plies
+pub record HasParities (cell : Cell) : Type 0 where
+  pub wins : (plies : ℕ) → 0 < cell.wins plies → plies % 2 ≡ 1
+  pub least : (plies : ℕ) → cell.least ≡ Some plies → plies % 2 ≡ 0
+
+-- The share and the history of owner `id` among n of a piece set's classes: the share has its own classes and gave as
+-- many settlements as the history has, each of an own class.
+pub record AreKept (set : PieceSet) (n id : ℕ) (share : Share) (history : HistoryView) : Type 0 where
+  pub share_is : (share.n ≡ n) × (share.id ≡ id)
+  pub history_is : (history.n ≡ n) × (history.id ≡ id)
+  pub one_of_n : id < n
+  pub few : classes_of set ≤ 2 ^ 32
+  pub owned : (class : ℕ) → IsOwn share class ↔ ((owner_of n class ≡ id) × (class < classes_of set))
+  pub counted : share.settled ≡ length history.settlements
+  pub classes : All (λ (s : Settlement). s.class < classes_of set) history.settlements
+  pub parities : (class : ℕ) → IsOwn share class → HasParities (cell_at share class)
+
+-- the settlement, where there is one
+abbrev pub listed : Option Settlement → List Settlement
+listed None = []
+listed (Some s) = s ∷ []
+
+-- The share takes the item, which fits, and the history has the settlement that this makes, where it makes one.
+pub record IsTaken (item : Item) (share after : Share) (history grown : HistoryView) : Type 0 where
+  pub fits : Fits share item
+  pub cell : SameCell (cell_at after item.to) (changed item.was item.now (cell_at share item.to))
+  pub others : (class : ℕ) → IsOwn share class → class ≢ item.to → SameCell (cell_at after class) (cell_at share class)
+  pub statuses : (class : ℕ) → status_at after class ≡ status_at share class
+  pub settled : (given : Option Settlement) × HasSettled share after item.to given
+      × (grown ≡ record history { settlements = history.settlements ++ listed given })

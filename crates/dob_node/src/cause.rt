@@ -1,0 +1,117 @@
+// Why a node stops, and why a build of one node gives no table.
+ghost use Rattle.std.specs.Prelude.{◌≡◌, Some};
+ghost use Rattle.dob_node.specs.declared.cause.Cause.TheVariants as cause;
+ghost use Rattle.dob_node.specs.declared.cause.Fault.TheVariants as fault;
+ghost use Rattle.dob_node.specs.Causes.{cause_of_share, fault_of_cause, fault_of_rank};
+
+use dob_pieces::Memory;
+use std::alloc::{AllocError, AllocFailed};
+use std::error::Error;
+use std::fmt;
+
+/// Why a node makes no further step.
+#[derive(Clone, Copy, Debug, PartialEq, Eq)]
+pub enum Cause {
+    /// E12: the value of a class would have a distance above the greatest that is kept.
+    TooDeep,
+    /// E13: an item to the class of that number doesn't fit its cell.
+    Contradiction(u64),
+    /// E23: a growth was refused, since no memory was left for it.
+    Memory,
+}
+
+/// Why one node alone gives no table.
+#[derive(Clone, Copy, Debug, PartialEq, Eq)]
+pub enum Fault {
+    /// E8: the piece set is larger than those that have classes.
+    SetTooLarge,
+    /// E12: the value of a class would have a distance above the greatest that is kept.
+    TooDeep,
+    /// E13: an item to the class of that number doesn't fit its cell.
+    Contradiction(u64),
+    /// E23: a growth was refused, since no memory was left for it.
+    Memory,
+}
+
+impl fmt::Display for Fault {
+    ghost use Rattle.dob_node.specs.Causes.{fault_text};
+
+    ghost output = { λ fault. Some (fault_text fault) };
+
+    fn fmt<W: fmt::Write>(&self, f: &mut fmt::Formatter<W>) -> fmt::Result {
+        match self {
+            Fault::SetTooLarge => write!(f, "E8 SetTooLarge"),
+            Fault::TooDeep => write!(f, "E12 TooDeep"),
+            Fault::Contradiction(class) => write!(f, "E13 Contradiction class {class}"),
+            Fault::Memory => write!(f, "E23 Memory"),
+        }
+    }
+}
+
+impl Error for Fault {}
+
+impl From<Memory> for Cause {
+    ghost from_gives = { λ _ given. given ≡ cause.Memory };
+
+    fn from(_refused: Memory) -> Cause {
+        Cause::Memory
+    }
+}
+
+impl From<AllocError> for Cause {
+    ghost from_gives = { λ _ given. given ≡ cause.Memory };
+
+    fn from(_refused: AllocError) -> Cause {
+        Cause::Memory
+    }
+}
+
+impl From<dob_share::Fault> for Cause {
+    ghost from_gives = { λ refused given. given ≡ cause_of_share refused };
+
+    fn from(refused: dob_share::Fault) -> Cause {
+        match refused {
+            dob_share::Fault::TooDeep => Cause::TooDeep,
+            dob_share::Fault::Contradiction(class) => Cause::Contradiction(class),
+        }
+    }
+}
+
+impl From<Cause> for Fault {
+    ghost from_gives = { λ refused given. given ≡ fault_of_cause refused };
+
+    fn from(refused: Cause) -> Fault {
+        match refused {
+            Cause::TooDeep => Fault::TooDeep,
+            Cause::Contradiction(class) => Fault::Contradiction(class),
+            Cause::Memory => Fault::Memory,
+        }
+    }
+}
+
+impl From<Memory> for Fault {
+    ghost from_gives = { λ _ given. given ≡ fault.Memory };
+
+    fn from(_refused: Memory) -> Fault {
+        Fault::Memory
+    }
+}
+
+impl<T: Drop> From<AllocFailed<T>> for Fault {
+    ghost from_gives = { λ _ given. given ≡ fault.Memory };
+
+    fn from(_refused: AllocFailed<T>) -> Fault {
+        Fault::Memory
+    }
+}
+
+impl From<dob_rank::Fault> for Fault {
+    ghost from_gives = { λ refused given. given ≡ fault_of_rank refused };
+
+    fn from(refused: dob_rank::Fault) -> Fault {
+        match refused {
+            dob_rank::Fault::SetTooLarge => Fault::SetTooLarge,
+            dob_rank::Fault::Memory => Fault::Memory,
+        }
+    }
+}

@@ -1,0 +1,80 @@
+// One node that owns all classes of a piece set, and makes its value table alone.
+ghost use Rattle.std.specs.Prelude.{◌≡◌, ℕ, ◌+◌, ◌<◌, ◌≤◌, ◌↔◌, ◌⊎◌, true, false, All, IfOk, IfSome, OnOk, IsErrOf};
+ghost use Rattle.dob_rank.specs.Marks.{classes_of};
+ghost use Rattle.dob_value.specs.Codes.{values_of_codes};
+ghost use Rattle.dob_value.specs.Follows.{IsValueTable};
+ghost use Rattle.dob_node.specs.Nodes.{IsSound};
+ghost use Rattle.dob_node.specs.Sole.{HasMade, IsIdle, IsUnderWay, AreValues};
+
+use crate::cause::{Cause, Fault};
+use crate::node::Node;
+use crate::openings::opening;
+use dob_pieces::{Memory, PieceSet};
+use dob_rank::Classes;
+use dob_value::{Table, code_of_value};
+use std::alloc::Global;
+
+/// The value table of a piece set, made by one node that owns all its classes in at most `limit` steps, each one
+/// expansion or one item applied. `None` where the node has something left to do after them.
+///
+/// Errors: `SetTooLarge` where the set has more than three pieces beside the lions; `TooDeep` where a class came to a
+/// value with a distance above the greatest that is kept; `Contradiction` where an item didn't fit its cell; `Memory`.
+pub fn alone(alloc: Global, set: PieceSet, limit: u64) -> Result<Option<Table>, Fault>
+    ensures too_large { IsErrOf result Fault.SetTooLarge ↔ (3 < set.chicks + set.elephants + set.giraffes) }
+    ensures set { IfOk result (λ given. IfSome given (λ table. table.set ≡ set)) }
+    ensures table { IfOk result (λ given. IfSome given (λ table. IsValueTable set table.values)) }
+    ensures none { result ≡ Ok None → IsUnderWay set limit }
+{
+    let classes = Classes::open(alloc, set)?;
+    let openings = opening(alloc, &classes)?;
+    let mut node = Node::open(alloc, &openings, set, 0, 1)?;
+    run(&mut node, &classes, limit)?;
+    if !node.is_idle() {
+        return Ok(None);
+    }
+    let codes = codes_of(alloc, &node, classes.class_count())?;
+    Ok(Some(Table::new(classes, codes)))
+}
+
+// One step of the node: the first own item, or where there is none the next expansion. False where it is idle.
+fn step(node: &mut Node, classes: &Classes) -> Result<bool, Cause>
+    requires set { classes.now.set ≡ node.old.set }
+    requires sound { IsSound node.old }
+    ensures set { OnOk result (node.new.set ≡ node.old.set) }
+    ensures idle { result ≡ Ok false → IsIdle node.new × (node.new ≡ node.old) }
+    ensures made { result ≡ Ok true → (steps : ℕ) → HasMade steps node.old → HasMade (steps + 1) node.new }
+{
+    if node.apply_own()? {
+        return Ok(true);
+    }
+    node.expand(classes)
+}
+
+// Steps of the node, up to that many.
+fn run(node: &mut Node, classes: &Classes, limit: u64) -> Result<(), Cause>
+    requires set { classes.now.set ≡ node.old.set }
+    requires opened { HasMade 0 node.old }
+    ensures set { OnOk result (node.new.set ≡ node.old.set) }
+    ensures made { OnOk result ((steps : ℕ) × HasMade steps node.new × ((steps ≡ limit) ⊎ IsIdle node.new)) }
+{
+    for _step in 0..limit {
+        if !step(node, classes)? {
+            return Ok(());
+        }
+    }
+    Ok(())
+}
+
+// The codes of the values of all classes.
+fn codes_of(alloc: Global, node: &Node, count: u64) -> Result<Vec<u16>, Memory>
+    requires made { (steps : ℕ) × HasMade steps node.now }
+    requires count { count ≡ classes_of node.now.set }
+    ensures codes { IfOk result (λ codes. All (λ code. code < 65536) codes.items) }
+    ensures values { IfOk result (λ codes. AreValues node.now.history.settlements count (values_of_codes codes.items)) }
+{
+    let mut codes = Vec::with_capacity(alloc, count as usize)?;
+    for class in 0..count {
+        codes.push(code_of_value(node.value(class)))?;
+    }
+    Ok(codes)
+}
