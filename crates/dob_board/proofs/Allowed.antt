@@ -9,7 +9,7 @@ use Rattle.dob_board.specs.declared.view.Stand.{Stand}
 use Rattle.dob_board.specs.declared.view.View.{View}
 use Rattle.dob_board.specs.Words.{posted_word, taken_word}
 use Rattle.dob_board.specs.Views.{one, posts_more, takes_more, sees}
-use Rattle.dob_board.specs.Histories.{Makes, Hears}
+use Rattle.dob_board.specs.Histories.{Makes, Hears, HasPosted}
 use Rattle.dob_board.specs.Rule.{IsHeld}
 use Rattle.dob_board.specs.Plays.{Posted, Looked, Took}
 use Rattle.dob_board.proofs.Places.{posted_place, taken_place}
@@ -89,7 +89,7 @@ looks_allows n i j id slots stand told i_in j_in s held len at small =
     let after : View = one n i (sees stand j number) log in
     let holds : IsHeld n s.words (slice_set s.views id after) =
     subst (λ (x : ℕ). IsHeld n s.words (slice_set s.views id (one n i (sees stand j x) log))) seen.1 seen.2 in
-    let heard : Hears n i j number (sees stand j number) told log = subst (λ (x : ℕ). Hears n i j x (sees stand j x) told log) seen.1 seen.5 in (
+    let heard : Hears n i (sees stand j number) told log (HasPosted j i number) = subst (λ (x : ℕ). Hears n i (sees stand j x) told log (HasPosted j i x)) seen.1 seen.5 in (
       after,
       keeps,
       tt,
@@ -98,7 +98,7 @@ looks_allows n i j id slots stand told i_in j_in s held len at small =
           let j_is : j ≡ k = (posted_place n j i k i i_in i_in place).0 in
           let stand_is : stand ≡ stand' = same_stand stand stand' stands in
           subst (λ (p : ℕ × Stand). (seated n i (sees stand j number) log ≡ seated n i (sees p.1 p.0 number) log)
-          × (slice_index p.1.seen p.0 ≤ number) × (slice_index p.1.taken p.0 ≤ number) × Hears n i p.0 number (sees p.1 p.0 number) told log)
+          × (slice_index p.1.seen p.0 ≤ number) × (slice_index p.1.taken p.0 ≤ number) × Hears n i (sees p.1 p.0 number) told log (HasPosted p.0 i number))
           (λ q. (j_is q, stand_is q)) (refl, omega (arith, seen.1, seen.3), omega (arith, seen.1, seen.4), heard),
     )
 
@@ -111,7 +111,7 @@ looks_call key n i j id slots word me stand told key_is me_is word_is i_in j_in 
 pub looks_tell : (n i j word found : ℕ) (me after : Seated) (stand : Stand) (told : List RingEvent) → me ≡ seated n i stand told → word ≡ posted_word n j i → j < n →
     Looked (step 0 word 0 0 none) me found after →
     (after ≡ seated n i (sees stand j found) after.0.told) × (slice_index stand.seen j ≤ found) × (slice_index stand.taken j ≤ found)
-    × Hears n i j found (sees stand j found) told after.0.told
+    × Hears n i (sees stand j found) told after.0.told (HasPosted j i found)
 looks_tell n i j word found me after stand told me_is word_is j_in tells =
     (subst (λ (p : Seated × ℕ). Looked (step 0 p.1 0 0 none) p.0 found after) (λ q. (me_is q, word_is q)) tells) j stand j_in refl refl
 

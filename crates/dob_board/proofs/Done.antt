@@ -81,7 +81,7 @@ makes_later n i j number event stand after told middle now on made = record {
   moved = made.moved;
   was_lawful = made.was_lawful;
   is_lawful = made.is_lawful;
-  shows_before = record { posted = made.shows_before.posted; taken = made.shows_before.taken; colour = made.shows_before.colour };
+  shows_before = record { posted = made.shows_before.posted; taken = made.shows_before.taken; colour = made.shows_before.colour; token = made.shows_before.token };
   shows_after = made.shows_after;
 }
 

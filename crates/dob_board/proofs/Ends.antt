@@ -10,6 +10,7 @@ use Rattle.dob_safra.specs.Tokens.{IsPacked}
 use Rattle.dob_safra.specs.Rings.{Ring}
 use Rattle.dob_board.specs.declared.view.Stand.{Stand}
 use Rattle.dob_board.specs.declared.view.View.{View}
+use Rattle.dob_board.specs.declared.halt.Halt.TheVariants.{Failed}
 use Rattle.dob_board.specs.Words.{posted_word, taken_word, ring_of}
 use Rattle.dob_board.specs.Views.{one, IsStand}
 use Rattle.dob_board.specs.Rule.{IsNode, IsView, IsHeld}
@@ -22,6 +23,7 @@ use Rattle.dob_safra.proofs.Kept.{same_or_not}
 use Rattle.dob_board.proofs.Places.{posted_within, taken_within}
 use Rattle.dob_board.proofs.Kept.{own_node}
 use Rattle.dob_board.proofs.Allowed.{Seated, seated, Held, set_same}
+use Rattle.dob_board.proofs.Halting.{same_halt, runs_on}
 use Rattle.dob_board.proofs.Starts.{port_of, port_here, port_else, elsewhere, view_from}
 
 -- ---- join
@@ -52,6 +54,7 @@ joins n i id other size words views stand behind told heard held at apart there 
       token = held.token;
       packed = held.packed;
       lawful = held.lawful;
+      halt_within = held.halt_within;
       log = held.log;
       runs = held.runs;
       owner = owner;
@@ -111,6 +114,9 @@ reads n w id words views stands told held at =
       token = λ w_is. (held.token, subst (λ (x : ℕ). IsPacked held.token (slice_index words x)) (sym w_is) held.packed);
       posted = λ i j stand e j_in w_is. ap (slice_index words) w_is ∙ sym ((node i stand e).is_stand.shows.posted j j_in);
       taken = λ i j stand e j_in w_is. ap (slice_index words) w_is ∙ sym ((node i stand e).is_stand.shows.taken j j_in);
+      halt_within = λ w_is. omega (arith, ap (slice_index words) w_is, held.halt_within);
+      halt_seen = λ w_is i stand e seen. ap (slice_index words) w_is ∙ (node i stand e).is_stand.halt_seen seen;
+      failed = λ w_is i stand e found. (node i stand e).is_stand.failed (ap (slice_index words) (sym w_is) ∙ found);
       all_white = λ w_is found i stand e. let at_i = node i stand e in at_i.is_stand.shows.colour ∙ held.lawful.all_white (announced w_is found) i at_i.within;
       all_taken = λ w_is found i j first second e f.
           let at_i = node i first e in
@@ -143,11 +149,11 @@ pub record AreLeft (board : TableId) (n : ℕ) (all : List Stand) (seats : List 
   pub all_are : all ≡ map stand_of seats ++ me.0.stands
   pub seats_are : (k : ℕ) (seat : NodeSeat) → slice_get seats k ≡ Some seat → IsSeatOf board n k seat
 
-last_there : {A : Type 0} → (xs : List A) (x : A) → slice_get (xs ++ x ∷ []) (length xs) ≡ Some x
+pub last_there : {A : Type 0} → (xs : List A) (x : A) → slice_get (xs ++ x ∷ []) (length xs) ≡ Some x
 last_there [] x = refl
 last_there (y ∷ ys) x = last_there ys x
 
-front_there : {A : Type 0} → (xs ys : List A) (k : ℕ) (x : A) → slice_get xs k ≡ Some x → slice_get (xs ++ ys) k ≡ Some x
+pub front_there : {A : Type 0} → (xs ys : List A) (k : ℕ) (x : A) → slice_get xs k ≡ Some x → slice_get (xs ++ ys) k ≡ Some x
 front_there [] ys k x e = absurd (cc)
 front_there (y ∷ xs) ys zero x e = e
 front_there (y ∷ xs) ys (suc k) x e = front_there xs ys k x e
@@ -230,6 +236,9 @@ are_words board n seats words are read = record {
   token = (read.words_are 1 (omega arith)).token refl;
   posted = λ i j seat e j_in. (read.words_are (posted_word n i j) (posted_within n i j (seat_within i seat e) j_in)).posted i j (stand_of seat) (stand_there seats i seat e) j_in refl;
   taken = λ i j seat e j_in. (read.words_are (taken_word n j i) (taken_within n j i j_in (seat_within i seat e))).taken i j (stand_of seat) (stand_there seats i seat e) j_in refl;
+  halt_within = (read.words_are 2 (omega arith)).halt_within refl;
+  halt_seen = λ i seat e seen. (read.words_are 2 (omega arith)).halt_seen refl i (stand_of seat) (stand_there seats i seat e) (runs_on seat.halt seen);
+  failed = λ i seat e found. same_halt seat.halt (Failed i) ((read.words_are 2 (omega arith)).failed refl i (stand_of seat) (stand_there seats i seat e) found);
   all_white = λ ended i seat e. (read.words_are 2 (omega arith)).all_white refl ended i (stand_of seat) (stand_there seats i seat e);
   all_taken = λ ended i j i_in j_in.
       let one' = seat_there seats i (omega (arith, are.count)) in

@@ -35,10 +35,10 @@ stand_stays n i k old new halt now stand within apart leaves is = record {
     posted = λ j j_in. is.shows.posted j j_in ∙ sym (leaves.posted k j within j_in apart);
     taken = λ j j_in. is.shows.taken j j_in ∙ sym (leaves.taken j k j_in within apart);
     colour = is.shows.colour ∙ sym (leaves.colour k within apart);
+    token = λ token e. let had = is.shows.token token e in
+        (had.0 ∙ sym (leaves.token k apart (sym (ap (λ (t : Token). t.at) had.0) ∙ had.1)), had.1);
   };
   seen = λ j j_in. omega (arith, is.seen j j_in, leaves.grows j k j_in within);
-  token = λ token e. let had = is.token token e in
-      (had.0 ∙ sym (leaves.token k apart (sym (ap (λ (t : Token). t.at) had.0) ∙ had.1)), had.1);
   halt_seen = λ ne. leaves.halt_seen stand.halt ne (is.halt_seen ne);
   failed = λ e. is.failed (leaves.failed k apart e);
 }
@@ -81,12 +81,12 @@ own_node n i id words views stand told held at =
 
 pub kept : (n i id : ℕ) (words after : List ℕ) (views : List View) (stand new : Stand) (told more : List RingEvent) (black : ℕ → Bool) (token : Token)
     (held : IsHeld n words views) → get_elem? views id ≡ some (one n i stand told) →
-    length after ≡ length words → slice_index after 0 ≡ slice_index words 0 → IsPacked token (slice_index after 1) →
+    length after ≡ length words → slice_index after 0 ≡ slice_index words 0 → IsPacked token (slice_index after 1) → slice_index after 2 < 2 + n →
     IsLawful n (ring_of n after black token) → Runs n (more ++ held.log) (ring_of n after black token) →
     Leaves n i (ring_of n words held.black held.token) (ring_of n after black token) (slice_index words 2) (slice_index after 2) →
     IsStand n (ring_of n after black token) (slice_index after 2) i new →
     IsHeld n after (slice_set views id (one n i new (more ++ held.log)))
-kept n i id words after views stand new told more black token held at long nodes packed lawful runs leaves is =
+kept n i id words after views stand new told more black token held at long nodes packed within lawful runs leaves is =
     let mine = own_node n i id words views stand told held at in
     record {
       size = held.size;
@@ -96,6 +96,7 @@ kept n i id words after views stand new told more black token held at long nodes
       token = token;
       packed = packed;
       lawful = lawful;
+      halt_within = within;
       log = more ++ held.log;
       runs = runs;
       owner = held.owner;

@@ -4,5 +4,7 @@ pub mod Steps
 pub mod Allowed
 pub mod Done
 pub mod Takings
+pub mod Passing
+pub mod Halting
 pub mod Starts
 pub mod Ends

@@ -73,6 +73,7 @@ splits n i id words views stand rest told held at =
       token = held.token;
       packed = held.packed;
       lawful = held.lawful;
+      halt_within = held.halt_within;
       log = held.log;
       runs = held.runs;
       owner = owner;
@@ -178,9 +179,9 @@ fresh_stand n word i within =
         posted = λ j j_in. zeros n j ∙ sym (start.posted i j within j_in);
         taken = λ j j_in. zeros n j ∙ sym (start.taken j i j_in within);
         colour = refl;
+        token = λ token e. absurd (cc);
       };
       seen = λ j j_in. omega (arith, zeros n j);
-      token = λ token e. absurd (cc);
       halt_seen = λ ne. absurd (ne refl);
       failed = λ e. absurd (omega (arith, e, first_zero n word 2 (omega arith)));
     }
@@ -201,6 +202,7 @@ begins n word size packed = record {
   packed = subst (IsPacked first_token)
       (sym (get_or-set_same (set (zeros_of (word_count n)) 0 n) 1 word 0 (omega (arith, length-set (zeros_of (word_count n)) 0 n, zeros_len (word_count n))))) packed;
   lawful = first_lawful n word size;
+  halt_within = omega (arith, first_zero n word 2 (omega arith));
   log = [];
   runs = first_start n word;
   owner = λ k. 0;

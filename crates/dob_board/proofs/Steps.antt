@@ -14,7 +14,7 @@ use Rattle.dob_board.specs.declared.view.Stand.{Stand}
 use Rattle.dob_board.specs.declared.view.View.{View}
 use Rattle.dob_board.specs.Words.{posted_word, taken_word, word_count, ring_of}
 use Rattle.dob_board.specs.Views.{one, posts_more, takes_more, sees, IsStand}
-use Rattle.dob_board.specs.Histories.{Makes, Hears}
+use Rattle.dob_board.specs.Histories.{Makes, Hears, HasPosted}
 use Rattle.dob_board.specs.Rule.{IsHeld}
 use Rattle.dob_board.proofs.Places.{posted_in, taken_in, posted_raised, taken_raised, taken_stays, posted_stays, head_stays}
 use Rattle.dob_board.proofs.Kept.{Leaves, own_node, kept}
@@ -70,9 +70,9 @@ posts_stand n i j old new halt now stand moved same is = record {
         ];
     taken = λ k k_in. is.shows.taken k k_in ∙ sym (moved.taken k i k_in moved.from);
     colour = is.shows.colour ∙ sym (moved.colours i moved.from);
+    token = λ token e. let had = is.shows.token token e in (had.0 ∙ sym moved.token, had.1);
   };
   seen = λ k k_in. omega (arith, is.seen k k_in, raised_at_least n i j k i old.posted new.posted k_in moved.from moved.posted);
-  token = λ token e. let had = is.token token e in (had.0 ∙ sym moved.token, had.1);
   halt_seen = λ ne. same ∙ is.halt_seen ne;
   failed = λ e. is.failed (sym same ∙ e);
 }
@@ -100,6 +100,7 @@ posts n i j id words views stand told held at j_in is_black room =
           (length-set words (posted_word n i j) (suc (posted_in n words i j)))
           (head_stays words (posted_word n i j) (suc (posted_in n words i j)) 0 (omega arith) (omega arith))
           (subst (IsPacked held.token) (sym (head_stays words (posted_word n i j) (suc (posted_in n words i j)) 1 (omega arith) (omega arith))) held.packed)
+          (omega (arith, halt, held.halt_within))
           lawful
           (old, held.runs, moved)
           (posts_leaves n i j old new (slice_index words 2) (slice_index (posted_after n i j words) 2) moved halt)
@@ -138,7 +139,7 @@ pub known : (n i id : ℕ) (words : List ℕ) (views : List View) (stand new : S
     IsStand n (ring_of n words held.black held.token) (slice_index words 2) i new →
     IsHeld n words (slice_set views id (one n i new held.log))
 known n i id words views stand new told held at is =
-    kept n i id words words views stand new told [] held.black held.token held at refl refl held.packed held.lawful held.runs
+    kept n i id words words views stand new told [] held.black held.token held at refl refl held.packed held.halt_within held.lawful held.runs
     (stays n i (ring_of n words held.black held.token) (slice_index words 2)) is
 
 sees_stand : (n i j halt : ℕ) (ring : Ring) (stand : Stand) → i < n → j < n → IsStand n ring halt i stand → IsStand n ring halt i (sees stand j (ring.posted j i))
@@ -146,14 +147,13 @@ sees_stand n i j halt ring stand i_in j_in is = record {
   posted_len = is.posted_len;
   taken_len = is.taken_len;
   seen_len = length-set stand.seen j (ring.posted j i) ∙ is.seen_len;
-  shows = record { posted = is.shows.posted; taken = is.shows.taken; colour = is.shows.colour };
+  shows = record { posted = is.shows.posted; taken = is.shows.taken; colour = is.shows.colour; token = is.shows.token };
   seen = λ k k_in.
       let place = changed stand.seen j k (ring.posted j i) (omega (arith, is.seen_len, j_in)) in
       elim (same_or_not k j) [
         | inl e ↦ omega (arith, place.0 e, ap (λ (a : ℕ). ring.posted a i) e)
         | inr apart ↦ omega (arith, place.1 apart, is.seen k k_in)
       ];
-  token = is.token;
   halt_seen = is.halt_seen;
   failed = is.failed;
 }
@@ -163,7 +163,7 @@ pub looks : (n i j id : ℕ) (words : List ℕ) (views : List View) (stand : Sta
     (number : ℕ) × (number ≡ slice_index words (posted_word n j i))
     × IsHeld n words (slice_set views id (one n i (sees stand j number) held.log))
     × (slice_index stand.seen j ≤ number) × (slice_index stand.taken j ≤ number)
-    × Hears n i j number (sees stand j number) told held.log
+    × Hears n i (sees stand j number) told held.log (HasPosted j i number)
 looks n i j id words views stand told held at j_in =
     let ring : Ring = ring_of n words held.black held.token in
     let mine = own_node n i id words views stand told held at in
@@ -180,7 +180,7 @@ looks n i j id words views stand told held at j_in =
         runs = held.runs;
         is_lawful = held.lawful;
         shows = after.shows;
-        number_is = refl;
+        is_so = refl;
       },
     )
 
@@ -245,9 +245,9 @@ takes_stand n i j old new halt now stand moved same is = record {
           | inr apart ↦ place.1 apart ∙ is.shows.taken k k_in ∙ sym (moved.taken.others k i k_in moved.to (inl apart))
         ];
     colour = sym moved.colours.colour_is;
+    token = λ token e. let had = is.shows.token token e in (had.0 ∙ sym moved.token, had.1);
   };
   seen = λ k k_in. omega (arith, is.seen k k_in, moved.posted k i k_in moved.to);
-  token = λ token e. let had = is.token token e in (had.0 ∙ sym moved.token, had.1);
   halt_seen = λ ne. same ∙ is.halt_seen ne;
   failed = λ e. is.failed (sym same ∙ e);
 }
@@ -274,6 +274,7 @@ takes n i j id words views stand told held at j_in waiting =
           (length-set words (taken_word n j i) write)
           (head_stays words (taken_word n j i) write 0 (omega arith) (omega arith))
           (subst (IsPacked held.token) (sym (head_stays words (taken_word n j i) write 1 (omega arith) (omega arith))) held.packed)
+          (omega (arith, halt, held.halt_within))
           lawful
           (old, held.runs, moved)
           (takes_leaves n i j old new (slice_index words 2) (slice_index (taken_after n j i words) 2) moved halt)

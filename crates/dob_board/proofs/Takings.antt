@@ -5,13 +5,13 @@ use Rattle.dob_safra.specs.declared.event.RingEvent.TheVariants.{Take}
 use Rattle.dob_board.specs.declared.view.Stand.{Stand}
 use Rattle.dob_board.specs.declared.seat.NodeSeat.{NodeSeat}
 use Rattle.dob_board.specs.Views.{sees, takes_more}
-use Rattle.dob_board.specs.Histories.{Makes, Hears}
+use Rattle.dob_board.specs.Histories.{Makes, Hears, HasPosted}
 use Rattle.dob_board.specs.Seats.{stand_of, told_of, IsSameSeat, TakesOne}
 use Rattle.dob_board.proofs.Done.{makes_later}
 
 pub take_one : (old middle new : NodeSeat) (from number : ℕ) → slice_index old.seen.items from ≤ number → slice_index old.taken.items from < number →
     stand_of middle ≡ sees (stand_of old) from number → IsSameSeat old middle → stand_of new ≡ takes_more (stand_of middle) from →
-    Hears old.nodes old.node from number (stand_of middle) (told_of old) (told_of middle) →
+    Hears old.nodes old.node (stand_of middle) (told_of old) (told_of middle) (HasPosted from old.node number) →
     Makes middle.nodes middle.node (Take from middle.node) (stand_of middle) (stand_of new) (told_of middle) (told_of new) → TakesOne old new from
 take_one old middle new from number not_less waiting noted same counted heard made = record {
   number = number;

@@ -1,5 +1,5 @@
 -- A board as its calls see it: its words as they were at the start, and the view of its nodes that have no seat.
-use Rattle.std.specs.Prelude.{◌≡◌, ℕ, ◌-◌, ◌<◌, true, false, List, [], ◌++◌, length, replicate, slice_index, slice_set, pos}
+use Rattle.std.specs.Prelude.{◌≡◌, ◌≢◌, ℕ, ◌+◌, ◌-◌, ◌<◌, true, false, List, [], ◌++◌, length, replicate, slice_index, slice_set, pos}
 use mathlib.Core.Option.{some}
 use lib.ListN.{get_elem?}
 use Rattle.atomic_table.specs.Table.{Me, Step}
@@ -41,6 +41,9 @@ pub record IsWord (n : ℕ) (stands : List Stand) (word found : ℕ) : Type 0 wh
   pub token : word ≡ 1 → (token : Token) × IsPacked token found
   pub posted : (i j : ℕ) (stand : Stand) → get_elem? stands i ≡ some stand → j < n → word ≡ posted_word n i j → found ≡ slice_index stand.posted j
   pub taken : (i j : ℕ) (stand : Stand) → get_elem? stands i ≡ some stand → j < n → word ≡ taken_word n j i → found ≡ slice_index stand.taken j
+  pub halt_within : word ≡ 2 → found < 2 + n
+  pub halt_seen : word ≡ 2 → (i : ℕ) (stand : Stand) → get_elem? stands i ≡ some stand → stand.halt ≢ 0 → found ≡ stand.halt
+  pub failed : word ≡ 2 → (i : ℕ) (stand : Stand) → get_elem? stands i ≡ some stand → found ≡ 2 + i → stand.halt ≡ 2 + i
   pub all_white : word ≡ 2 → found ≡ 1 → (i : ℕ) (stand : Stand) → get_elem? stands i ≡ some stand → stand.black ≡ false
   pub all_taken : word ≡ 2 → found ≡ 1 → (i j : ℕ) (one other : Stand) → get_elem? stands i ≡ some one → get_elem? stands j ≡ some other →
       slice_index one.posted j ≡ slice_index other.taken i

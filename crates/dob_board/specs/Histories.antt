@@ -1,5 +1,6 @@
 -- The history of a board: the events so far, the newest first, and what calls tell of it.
-use Rattle.std.specs.Prelude.{◌≡◌, ℕ, List, [], ◌∷◌, ◌++◌}
+use Rattle.std.specs.Prelude.{◌≡◌, ℕ, List, [], ◌∷◌, ◌++◌, ◌==◌}
+use Rattle.dob_safra.specs.declared.token.Token.{Token}
 use Rattle.dob_safra.specs.declared.event.RingEvent.{RingEvent}
 use Rattle.dob_safra.specs.Rings.{Ring, IsStart, IsLawful, Moved}
 use Rattle.dob_board.specs.declared.view.Stand.{Stand}
@@ -30,12 +31,23 @@ pub record Makes (n i : ℕ) (event : RingEvent) (before after : Stand) (told no
   pub shows_before : Shows n old i before
   pub shows_after : Shows n new i after
 
--- Node i was told of all events so far. They led to a lawful ring that shows how the node stands, and in which j has
--- posted that many batches to it.
-pub record Hears (n i j number : ℕ) (stand : Stand) (told now : List RingEvent) : Type 0 where
+-- Node i was told of all events so far. They led to a lawful ring that shows how the node stands, and of which this is so.
+pub record Hears (n i : ℕ) (stand : Stand) (told now : List RingEvent) (IsSo : Ring → Type 0) : Type 0 where
   pub went_on : GoesOn told now
   pub ring : Ring
   pub runs : Runs n now ring
   pub is_lawful : IsLawful n ring
   pub shows : Shows n ring i stand
-  pub number_is : number ≡ ring.posted j i
+  pub is_so : IsSo ring
+
+-- i has posted that many batches to j
+abbrev pub HasPosted : ℕ → ℕ → ℕ → Ring → Type 0
+HasPosted i j number ring = number ≡ ring.posted i j
+
+-- the token is that one
+abbrev pub HasToken : Token → Ring → Type 0
+HasToken token ring = ring.token ≡ token
+
+-- the end is announced where the halt word is 1, and nowhere else
+abbrev pub HasHalt : ℕ → Ring → Type 0
+HasHalt word ring = ring.announced ≡ (word == 1)

@@ -27,7 +27,7 @@ pub record IsView (n : ℕ) (owner : ℕ → ℕ) (ring : Ring) (halt : ℕ) (lo
   pub nodes : (k : ℕ) (stand : Stand) → get_elem? view.stands k ≡ some stand → IsNode n owner ring halt port view.size (view.from + k) stand
 
 -- The words and the views of a board of n nodes are right: word 0 is n; word 1 is the token's; the ring that the words
--- show, with some colours, is lawful, and the events of some log led to it; and each view is right.
+-- show, with some colours, is lawful, and the events of some log led to it; word 2 is the halt's; and each view is right.
 pub record IsHeld (n : ℕ) (words : List ℕ) (views : List View) : Type 0 where
   pub size : IsSize n
   pub wide : length words ≡ word_count n
@@ -36,6 +36,7 @@ pub record IsHeld (n : ℕ) (words : List ℕ) (views : List View) : Type 0 wher
   pub token : Token
   pub packed : IsPacked token (slice_index words 1)
   pub lawful : IsLawful n (ring_of n words black token)
+  pub halt_within : slice_index words 2 < 2 + n
   pub log : List RingEvent
   pub runs : Runs n log (ring_of n words black token)
   pub owner : ℕ → ℕ

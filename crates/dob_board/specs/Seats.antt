@@ -1,15 +1,17 @@
 -- Seats and boards as callers see them.
-use Rattle.std.specs.Prelude.{◌≡◌, ℕ, ◌<◌, ◌≤◌, List, Some, length, slice_get, slice_index, false}
+use Rattle.std.specs.Prelude.{◌≡◌, ◌≢◌, ℕ, ◌+◌, ◌<◌, ◌≤◌, ◌⊎◌, List, Some, length, slice_get, slice_index, true, false}
 use Rattle.atomic_table.specs.Seated.{TableId}
 use Rattle.dob_safra.specs.declared.token.Token.{Token}
 use Rattle.dob_safra.specs.declared.event.RingEvent.{RingEvent}
-use Rattle.dob_safra.specs.declared.event.RingEvent.TheVariants.{Take}
-use Rattle.dob_safra.specs.Tokens.{IsPacked}
+use Rattle.dob_safra.specs.declared.event.RingEvent.TheVariants.{Take, Announce}
+use Rattle.dob_safra.specs.Tokens.{IsPacked, MayAnnounce}
+use Rattle.dob_board.specs.declared.halt.Halt.{Halt}
+use Rattle.dob_board.specs.declared.halt.Halt.TheVariants.{Running, Ended, Failed}
 use Rattle.dob_board.specs.declared.view.Stand.{Stand}
 use Rattle.dob_board.specs.declared.seat.NodeSeat.{NodeSeat}
-use Rattle.dob_board.specs.Words.{posted_word, taken_word, word_count}
-use Rattle.dob_board.specs.Histories.{Makes, Hears}
-use Rattle.dob_board.specs.Views.{stand_from, sees, takes_more}
+use Rattle.dob_board.specs.Words.{posted_word, taken_word, word_count, halt_word}
+use Rattle.dob_board.specs.Histories.{Makes, Hears, HasPosted, HasHalt}
+use Rattle.dob_board.specs.Views.{stand_from, sees, takes_more, counter_of, finds}
 
 -- what the seat knows of its node
 abbrev pub stand_of : NodeSeat → Stand
@@ -51,15 +53,41 @@ pub record TakesNone (old new : NodeSeat) (from number : ℕ) : Type 0 where
   pub not_less : slice_index old.seen.items from ≤ number
   pub all_taken : slice_index old.taken.items from ≡ number
   pub noted : stand_of new ≡ sees (stand_of old) from number
-  pub heard : Hears old.nodes old.node from number (stand_of new) (told_of old) (told_of new)
+  pub heard : Hears old.nodes old.node (stand_of new) (told_of old) (told_of new) (HasPosted from old.node number)
 
--- The words of a board of n nodes with these seats: the counts are those of the seats, and where the end was announced
--- each node is white and each batch posted is taken.
+-- The node, as the seat knows, may announce the end.
+pub record MayEnd (stand : Stand) : Type 0 where
+  pub token : Token
+  pub known : stand.token ≡ Some token
+  pub may : MayAnnounce token (counter_of stand) stand.black true
+
+-- The seat found that halt, of one of the board's nodes if any, and the one that it knew if it knew one.
+pub record Finds (old new : NodeSeat) (halt : Halt) : Type 0 where
+  pub noted : stand_of new ≡ finds (stand_of old) (halt_word halt)
+  pub halt_is : new.halt ≡ halt
+  pub within : halt_word halt < 2 + old.nodes
+  pub stays : old.halt ≢ Running → halt ≡ old.halt
+
+-- The seat was told of all events so far, and whether they announced the end.
+abbrev pub HearsHalt : NodeSeat → NodeSeat → Halt → Type 0
+HearsHalt old new halt = Hears old.nodes old.node (stand_of new) (told_of old) (told_of new) (HasHalt (halt_word halt))
+
+-- The seat announced the end; or it was told of all events so far, and the run had ended or failed before.
+abbrev pub HasAnnounced : NodeSeat → NodeSeat → Halt → Type 0
+HasAnnounced old new halt =
+    ((halt ≡ Ended) × Makes old.nodes old.node Announce (stand_of old) (stand_of new) (told_of old) (told_of new)) ⊎ HearsHalt old new halt
+
+-- The words of a board of n nodes with these seats: the counts are those of the seats; the halt is the one that each seat
+-- knows that knows one, and names a node that knows that it failed; and where the end was announced each node is white and
+-- each batch posted is taken.
 pub record AreWords (n : ℕ) (seats : List NodeSeat) (words : List ℕ) : Type 0 where
   pub count : length words ≡ word_count n
   pub nodes : slice_index words 0 ≡ n
   pub token : (token : Token) × IsPacked token (slice_index words 1)
   pub posted : (i j : ℕ) (seat : NodeSeat) → slice_get seats i ≡ Some seat → j < n → slice_index words (posted_word n i j) ≡ slice_index seat.posted.items j
   pub taken : (i j : ℕ) (seat : NodeSeat) → slice_get seats i ≡ Some seat → j < n → slice_index words (taken_word n j i) ≡ slice_index seat.taken.items j
+  pub halt_within : slice_index words 2 < 2 + n
+  pub halt_seen : (i : ℕ) (seat : NodeSeat) → slice_get seats i ≡ Some seat → seat.halt ≢ Running → slice_index words 2 ≡ halt_word seat.halt
+  pub failed : (i : ℕ) (seat : NodeSeat) → slice_get seats i ≡ Some seat → slice_index words 2 ≡ 2 + i → seat.halt ≡ Failed i
   pub all_white : slice_index words 2 ≡ 1 → (i : ℕ) (seat : NodeSeat) → slice_get seats i ≡ Some seat → seat.black ≡ false
   pub all_taken : slice_index words 2 ≡ 1 → (i j : ℕ) → i < n → j < n → slice_index words (posted_word n i j) ≡ slice_index words (taken_word n i j)

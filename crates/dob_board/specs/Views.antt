@@ -1,7 +1,8 @@
 -- What a seat knows of its node, and when it is right.
-use Rattle.std.specs.Prelude.{◌≡◌, ◌≢◌, ℕ, suc, ◌+◌, ◌<◌, ◌≤◌, Bool, true, List, [], ◌∷◌, Option, Some, slice_index, slice_set, length}
+use Rattle.std.specs.Prelude.{◌≡◌, ◌≢◌, ℕ, suc, ◌+◌, ◌-◌, ◌*◌, ◌^◌, ◌<◌, ◌≤◌, Bool, true, false, cond, ◌==◌, List, [], ◌∷◌, Option, Some, None, slice_index, slice_set, length, sum, ℤ, pos, neg_ℤ, ◌-ℤ◌, ◌≤ℤ◌}
 use Rattle.dob_safra.specs.declared.token.Token.{Token}
 use Rattle.dob_safra.specs.declared.event.RingEvent.{RingEvent}
+use Rattle.dob_safra.specs.Tokens.{passed_on}
 use Rattle.dob_safra.specs.Rings.{Ring}
 use Rattle.dob_board.specs.declared.halt.Halt.{Halt}
 use Rattle.dob_board.specs.declared.view.Stand.{Stand}
@@ -24,22 +25,50 @@ takes_more stand j = record stand { taken = slice_set stand.taken j (suc (slice_
 abbrev pub sees : Stand → ℕ → ℕ → Stand
 sees stand j number = record stand { seen = slice_set stand.seen j number }
 
--- the counts and the colour of node i are those of the ring
+-- a lawful ring's token at node i has a sum in these bounds
+abbrev pub IsInBounds : ℕ → ℕ → Token → Type 0
+IsInBounds n i token = (token.at ≡ i) × (neg_ℤ (pos ((n - 1 - i) * 2 ^ 44)) ≤ℤ token.sum) × (token.sum ≤ℤ pos ((n - 1 - i) * 2 ^ 44))
+
+-- the token, if it is at node i
+abbrev pub token_at : ℕ → Token → Option Token
+token_at i token = cond (token.at == i) (Some token) None
+
+-- the token was looked for, and is that one
+abbrev pub meets : ℕ → Stand → Token → Stand
+meets i stand token = record stand { token = token_at i token }
+
+-- the node's counter: the batches that it posted less those that it took
+abbrev pub counter_of : Stand → ℤ
+counter_of stand = pos (sum stand.posted) -ℤ pos (sum stand.taken)
+
+-- the token after the node passed it, in a ring of n nodes
+abbrev pub passed_by : ℕ → Stand → Token → Token
+passed_by n stand token = passed_on n token (counter_of stand) stand.black
+
+-- node i passed the token, and is white
+abbrev pub passes : ℕ → ℕ → Stand → Token → Stand
+passes n i stand token = record stand { black = false; token = token_at i (passed_by n stand token) }
+
+-- that halt word was found
+abbrev pub finds : Stand → ℕ → Stand
+finds stand word = record stand { halt = word }
+
+-- the counts and the colour of node i are those of the ring, and a token that it knows is the ring's, at i
 pub record Shows (n : ℕ) (ring : Ring) (i : ℕ) (stand : Stand) : Type 0 where
   pub posted : (j : ℕ) → j < n → slice_index stand.posted j ≡ ring.posted i j
   pub taken : (j : ℕ) → j < n → slice_index stand.taken j ≡ ring.taken j i
   pub colour : stand.black ≡ ring.black i
+  pub token : (token : Token) → stand.token ≡ Some token → (token ≡ ring.token) × (token.at ≡ i)
 
 -- What node i knows is right where the ring and the halt word are these: its lists have a number for each node; its
--- counts and its colour are those of the ring; numbers seen are at most what was posted; a token seen is the token, at
--- i; a halt seen is the halt; and the halt names i only where i knows that it failed the run.
+-- counts, its colour and a token that it knows are those of the ring; numbers seen are at most what was posted; a halt
+-- seen is the halt; and the halt names i only where i knows that it failed the run.
 pub record IsStand (n : ℕ) (ring : Ring) (halt i : ℕ) (stand : Stand) : Type 0 where
   pub posted_len : length stand.posted ≡ n
   pub taken_len : length stand.taken ≡ n
   pub seen_len : length stand.seen ≡ n
   pub shows : Shows n ring i stand
   pub seen : (j : ℕ) → j < n → slice_index stand.seen j ≤ ring.posted j i
-  pub token : (token : Token) → stand.token ≡ Some token → (token ≡ ring.token) × (token.at ≡ i)
   pub halt_seen : stand.halt ≢ 0 → halt ≡ stand.halt
   pub failed : halt ≡ 2 + i → stand.halt ≡ 2 + i
 

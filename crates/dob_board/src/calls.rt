@@ -3,7 +3,7 @@ ghost use Rattle.std.specs.Prelude.{◌≡◌, ◌≢◌, ℕ, suc, ◌+◌, ◌
 ghost use Rattle.dob_safra.specs.declared.event.RingEvent.TheVariants.{Post, Take};
 ghost use Rattle.dob_board.specs.Words.{posted_word, taken_word};
 ghost use Rattle.dob_board.specs.Views.{posts_more, takes_more, sees};
-ghost use Rattle.dob_board.specs.Histories.{Makes, Hears};
+ghost use Rattle.dob_board.specs.Histories.{Makes, Hears, HasPosted};
 ghost use Rattle.dob_board.specs.Seats.{stand_of, told_of, IsSameSeat, TakesOne, TakesNone};
 
 use crate::rule::{Looks, Posts, Takes};
@@ -59,7 +59,7 @@ impl NodeSeat {
         ensures same { IsSameSeat self.old self.new }
         ensures not_less { slice_index self.old.seen.items from ≤ result }
         ensures taken_first { slice_index self.old.taken.items from ≤ result }
-        ensures heard { Hears self.old.nodes self.old.node from result (stand_of self.new) (told_of self.old) (told_of self.new) }
+        ensures heard { Hears self.old.nodes self.old.node (stand_of self.new) (told_of self.old) (told_of self.new) (HasPosted from self.old.node result) }
     {
         let word = posted_index(self.nodes, from, self.node);
         let number = self.board.shared.load::<Looks>(&mut self.seat, word);

@@ -11,6 +11,8 @@ mod halt;
 mod opening;
 mod rule;
 mod seat;
+mod stops;
+mod tokens;
 mod view;
 
 pub use board::{Board, Closed};

@@ -40,6 +40,51 @@ impl Play<(), View> for Takes {
     ghost then = { Took };
 }
 
+// A look for the token.
+pub struct Meets;
+
+impl Play<(), View> for Meets {
+    ghost use Rattle.dob_board.specs.Plays.{Met};
+
+    ghost then = { Met };
+}
+
+// The token is passed.
+pub struct Passes;
+
+impl Play<(), View> for Passes {
+    ghost use Rattle.dob_board.specs.Plays.{Passed};
+
+    ghost then = { Passed };
+}
+
+// A look at the halt word.
+pub struct Halts;
+
+impl Play<(), View> for Halts {
+    ghost use Rattle.dob_board.specs.Plays.{Halted};
+
+    ghost then = { Halted };
+}
+
+// The run fails, if it goes on.
+pub struct Fails;
+
+impl Play<(), View> for Fails {
+    ghost use Rattle.dob_board.specs.Plays.{FailedRun};
+
+    ghost then = { FailedRun };
+}
+
+// The end is announced, if the run goes on.
+pub struct Announces;
+
+impl Play<(), View> for Announces {
+    ghost use Rattle.dob_board.specs.Plays.{Announced};
+
+    ghost then = { Announced };
+}
+
 // The first node gets a seat of its own.
 pub struct FirstNode;
 

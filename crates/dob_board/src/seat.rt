@@ -1,8 +1,9 @@
 // The seat of a node.
-ghost use Rattle.std.specs.Prelude.{◌≡◌, ◌<◌, ◌≤◌, ◌^◌, ℕ, [], slice_index, vec_len};
+ghost use Rattle.std.specs.Prelude.{◌≡◌, ◌+◌, ◌<◌, ◌≤◌, ◌^◌, ℕ, [], Some, slice_index, vec_len};
 ghost use Rattle.std.specs.Arc.{arc_value};
-ghost use Rattle.dob_board.specs.Words.{word_count};
-ghost use Rattle.dob_board.specs.Views.{one, stand_from};
+ghost use Rattle.dob_safra.specs.declared.token.Token.{Token};
+ghost use Rattle.dob_board.specs.Words.{word_count, halt_word};
+ghost use Rattle.dob_board.specs.Views.{one, stand_from, IsInBounds};
 
 use crate::Halt;
 use crate::rule::Order;
@@ -46,5 +47,7 @@ pub struct NodeSeat {
     pub ghost seen_len: { vec_len seen ≡ nodes },
     pub ghost few_posted: { (k : ℕ) → k < nodes → slice_index posted.items k ≤ 2 ^ 40 },
     pub ghost few_taken: { (k : ℕ) → k < nodes → slice_index taken.items k ≤ 2 ^ 40 },
+    pub ghost in_bounds: { (t : Token) → token ≡ Some t → IsInBounds nodes node t },
+    pub ghost halt_within: { halt_word halt < 2 + nodes },
     pub ghost view_is: { seat.me ≡ (one nodes node (stand_from posted.items taken.items seen.items black token halt) seat.me.0.told, []) },
 }

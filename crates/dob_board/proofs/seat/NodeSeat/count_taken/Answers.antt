@@ -41,6 +41,8 @@ invariant_of-self c =
       seen_len = seat.seen_len;
       few_posted = seat.few_posted;
       few_taken = done.few.taken;
+      in_bounds = seat.in_bounds;
+      halt_within = seat.halt_within;
       view_is = done.view_is;
     }
 

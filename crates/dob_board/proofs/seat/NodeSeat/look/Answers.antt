@@ -30,6 +30,8 @@ invariant_of-self c =
       seen_len = search rules;
       few_posted = seat.few_posted;
       few_taken = seat.few_taken;
+      in_bounds = seat.in_bounds;
+      halt_within = seat.halt_within;
       view_is = told.0;
     }
 

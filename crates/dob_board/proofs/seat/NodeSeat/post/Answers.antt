@@ -31,6 +31,8 @@ invariant_of-self c =
       seen_len = seat.seen_len;
       few_posted = done.few.posted;
       few_taken = seat.few_taken;
+      in_bounds = seat.in_bounds;
+      halt_within = seat.halt_within;
       view_is = done.view_is;
     }
 

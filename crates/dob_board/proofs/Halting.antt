@@ -1,0 +1,430 @@
+-- The halt of a board: a look at it, a failure, and the announcement of the end.
+use Rattle.std.proofs.Common.{◌≡◌, ◌≢◌, ℕ, ◌+◌, ◌<◌, ◌⊎◌, List, [], ◌∷◌, length, set, get_or, Bool, true, false, Option, cond, eqb, eq-eqb, ne_eqb, refl, sym, ap, ◌∙◌, subst, inl, inr, arith, length-set, get_or-set_same, get_or-set_other}
+use Rattle.std.specs.Prelude.{slice_index, slice_set}
+use prog.Atomic.{either}
+use mathlib.Core.Option.{none, some}
+use lib.ListN.{get_elem?}
+use Rattle.atomic_table.specs.Table.{step, keeps, Allows}
+use Rattle.dob_safra.specs.declared.token.Token.{Token}
+use Rattle.dob_safra.specs.declared.event.RingEvent.{RingEvent}
+use Rattle.dob_safra.specs.declared.event.RingEvent.TheVariants.{Announce}
+use Rattle.dob_safra.specs.Tokens.{IsPacked, MayAnnounce}
+use Rattle.dob_safra.specs.Rings.{Ring, counter, IsLawful, Announces}
+use Rattle.dob_safra.specs.Laws.{HasFew}
+use Rattle.dob_safra.proofs.Kept.{moved_kept, same_or_not}
+use Rattle.dob_board.specs.declared.halt.Halt.{Halt}
+use Rattle.dob_board.specs.declared.halt.Halt.TheVariants.{Running, Ended, Failed}
+use Rattle.dob_board.specs.declared.view.Stand.{Stand}
+use Rattle.dob_board.specs.declared.view.View.{View}
+use Rattle.dob_board.specs.Words.{halt_word, halt_after, ring_of}
+use Rattle.dob_board.specs.Views.{one, counter_of, finds, stand_from, IsStand}
+use Rattle.dob_board.specs.Histories.{Runs, Makes, Hears, HasHalt}
+use Rattle.dob_board.specs.Rule.{IsHeld}
+use Rattle.dob_board.specs.Seats.{MayEnd}
+use Rattle.dob_board.specs.Plays.{Found, Halted, FailedRun, Announced}
+use Rattle.dob_board.proofs.Kept.{Leaves, own_node, kept}
+use Rattle.dob_board.proofs.Steps.{known}
+use Rattle.dob_board.proofs.Allowed.{Seated, Held, seated, same_stand, set_same}
+use Rattle.dob_board.proofs.Passing.{posted_apart, taken_apart, counter_is}
+
+-- the word of a halt is no other's
+pub same_halt : (one other : Halt) → halt_word one ≡ halt_word other → one ≡ other
+same_halt Running Running e = refl
+same_halt Running Ended e = absurd (omega (arith, e))
+same_halt Running (Failed j) e = absurd (omega (arith, e))
+same_halt Ended Running e = absurd (omega (arith, e))
+same_halt Ended Ended e = refl
+same_halt Ended (Failed j) e = absurd (omega (arith, e))
+same_halt (Failed i) Running e = absurd (omega (arith, e))
+same_halt (Failed i) Ended e = absurd (omega (arith, e))
+same_halt (Failed i) (Failed j) e = let same : i ≡ j = omega (arith, e) in ap Failed same
+
+-- one that isn't Running has a word above 0
+pub runs_on : (halt : Halt) → halt ≢ Running → halt_word halt ≢ 0
+runs_on halt other e = other (same_halt halt Running e)
+
+-- the halt word after an exchange, as the table and as the board say it
+pub exchanged : (found mark : ℕ) → either (eqb found 0) mark found ≡ halt_after found mark
+exchanged found mark = exchanged_by (eqb found 0) found mark
+  where
+    exchanged_by : (b : Bool) (found mark : ℕ) → either b mark found ≡ cond b mark found
+    exchanged_by true found mark = refl
+    exchanged_by false found mark = refl
+
+pub halt_marked : (found mark : ℕ) → found ≡ 0 → halt_after found mark ≡ mark
+halt_marked found mark none_is = let yes : eqb found 0 ≡ true = eq-eqb found 0 none_is in rw yes refl
+
+pub halt_found : (found mark : ℕ) → found ≢ 0 → halt_after found mark ≡ found
+halt_found found mark some_is = let no' : eqb found 0 ≡ false = ne_eqb found 0 some_is in rw no' refl
+
+-- ---- what a node knows of the halt
+
+pub finds_stand : (n i halt : ℕ) (ring : Ring) (stand : Stand) → IsStand n ring halt i stand → IsStand n ring halt i (finds stand halt)
+finds_stand n i halt ring stand is = record {
+  posted_len = is.posted_len;
+  taken_len = is.taken_len;
+  seen_len = is.seen_len;
+  shows = record { posted = is.shows.posted; taken = is.shows.taken; colour = is.shows.colour; token = is.shows.token };
+  seen = is.seen;
+  halt_seen = λ ne. refl;
+  failed = λ e. e;
+}
+
+-- What a step that left the halt word at that number, and made no event, tells.
+pub record Finding (n i id : ℕ) (words : List ℕ) (views : List View) (log : List RingEvent) (stand : Stand) (told : List RingEvent) (now : List ℕ) (word : ℕ) : Type 0 where
+  pub held : IsHeld n now (slice_set views id (one n i (finds stand word) log))
+  pub within : word < 2 + n
+  pub stays : stand.halt ≢ 0 → word ≡ stand.halt
+  pub heard : Hears n i (finds stand word) told log (HasHalt word)
+
+-- a look
+pub looks_at_halt : (n i id : ℕ) (words : List ℕ) (views : List View) (stand : Stand) (told : List RingEvent) (held : IsHeld n words views) →
+    get_elem? views id ≡ some (one n i stand told) → Finding n i id words views held.log stand told words (slice_index words 2)
+looks_at_halt n i id words views stand told held at =
+    let ring : Ring = ring_of n words held.black held.token in
+    let mine = own_node n i id words views stand told held at in
+    let now : IsStand n ring (slice_index words 2) i (finds stand (slice_index words 2)) = finds_stand n i (slice_index words 2) ring stand mine.is_stand in
+    record {
+      held = known n i id words views stand (finds stand (slice_index words 2)) told held at now;
+      within = held.halt_within;
+      stays = mine.is_stand.halt_seen;
+      heard = record {
+        went_on = (held.views_are id (one n i stand told) at).was_told;
+        ring = ring;
+        runs = held.runs;
+        is_lawful = held.lawful;
+        shows = now.shows;
+        is_so = refl;
+      };
+    }
+
+-- ---- fail
+
+-- a halt word other than 1 in place of another one leaves the ring
+same_ring : (n v : ℕ) (words : List ℕ) (black : ℕ → Bool) (token : Token) → 2 < length words → slice_index words 2 ≢ 1 → v ≢ 1 →
+    ring_of n words black token ≡ ring_of n (set words 2 v) black token
+same_ring n v words black token wide was now =
+    let there : get_or (set words 2 v) 2 0 ≡ v = get_or-set_same words 2 v 0 wide in
+    let before : eqb (slice_index words 2) 1 ≡ false = ne_eqb (slice_index words 2) 1 was in
+    let after : eqb (get_or (set words 2 v) 2 0) 1 ≡ false = ap (λ (h : ℕ). eqb h 1) there ∙ ne_eqb v 1 now in
+    λ q. record {
+      posted = λ i j. (sym (posted_apart n 2 v words (omega arith) i j)) q;
+      taken = λ i j. (sym (taken_apart n 2 v words (omega arith) i j)) q;
+      black = black;
+      token = token;
+      announced = (before ∙ sym after) q;
+    }
+
+fails_leaves : (n i : ℕ) (ring : Ring) → Leaves n i ring ring 0 (2 + i)
+fails_leaves n i ring = record {
+  posted = λ k j k_in j_in apart. refl;
+  grows = λ j k j_in k_in. omega arith;
+  taken = λ j k j_in k_in apart. refl;
+  colour = λ k k_in apart. refl;
+  token = λ k apart e. refl;
+  halt_seen = λ word ne e. absurd (ne (sym e));
+  failed = λ k apart e. absurd (apart (omega (arith, e)));
+}
+
+fails_stand : (n i : ℕ) (ring : Ring) (stand : Stand) → IsStand n ring 0 i stand → IsStand n ring (2 + i) i (finds stand (2 + i))
+fails_stand n i ring stand is = record {
+  posted_len = is.posted_len;
+  taken_len = is.taken_len;
+  seen_len = is.seen_len;
+  shows = record { posted = is.shows.posted; taken = is.shows.taken; colour = is.shows.colour; token = is.shows.token };
+  seen = is.seen;
+  halt_seen = λ ne. refl;
+  failed = λ e. e;
+}
+
+pub fails : (n i id : ℕ) (words : List ℕ) (views : List View) (stand : Stand) (told : List RingEvent) (held : IsHeld n words views) →
+    get_elem? views id ≡ some (one n i stand told) → slice_index words 2 ≡ 0 →
+    Finding n i id words views held.log stand told (set words 2 (2 + i)) (2 + i)
+fails n i id words views stand told held at running =
+    let after : List ℕ = set words 2 (2 + i) in
+    let old : Ring = ring_of n words held.black held.token in
+    let new : Ring = ring_of n after held.black held.token in
+    let mine = own_node n i id words views stand told held at in
+    let wide : 2 < length words = omega (arith, held.wide) in
+    let same : old ≡ new = same_ring n (2 + i) words held.black held.token wide (λ e. omega (arith, e, running)) (λ e. omega (arith, e)) in
+    let there : get_or after 2 0 ≡ 2 + i = get_or-set_same words 2 (2 + i) 0 wide in
+    let is : IsStand n old 0 i stand = subst (λ (h : ℕ). IsStand n old h i stand) running mine.is_stand in
+    let now : IsStand n new (slice_index after 2) i (finds stand (2 + i)) =
+    subst (λ (p : Ring × ℕ). IsStand n p.0 p.1 i (finds stand (2 + i))) (λ q. (same q, sym there q)) (fails_stand n i old stand is) in
+    let leaves : Leaves n i old new (slice_index words 2) (slice_index after 2) =
+    subst (λ (p : Ring × ℕ × ℕ). Leaves n i old p.0 p.1 p.2) (λ q. (same q, sym running q, sym there q)) (fails_leaves n i old) in
+    record {
+      held = kept n i id words after views stand (finds stand (2 + i)) told [] held.black held.token held at
+          (length-set words 2 (2 + i))
+          (get_or-set_other words 2 0 (2 + i) 0 (λ e. omega (arith, e)))
+          (subst (IsPacked held.token) (sym (get_or-set_other words 2 1 (2 + i) 0 (λ e. omega (arith, e)))) held.packed)
+          (omega (arith, there, mine.within))
+          (subst (IsLawful n) same held.lawful)
+          (subst (Runs n held.log) same held.runs)
+          leaves
+          now;
+      within = omega (arith, mine.within);
+      stays = λ ne. absurd (ne (sym (is.halt_seen ne)));
+      heard = record {
+        went_on = (held.views_are id (one n i stand told) at).was_told;
+        ring = new;
+        runs = subst (Runs n held.log) same held.runs;
+        is_lawful = subst (IsLawful n) same held.lawful;
+        shows = now.shows;
+        is_so = ap (λ (h : ℕ). eqb h 1) there;
+      };
+    }
+
+-- ---- announce
+
+announces_moved : (n : ℕ) (words : List ℕ) (black : ℕ → Bool) (token : Token) → 2 < length words →
+    MayAnnounce token (counter n (ring_of n words black token) 0) (black 0) true →
+    Announces n (ring_of n words black token) (ring_of n (set words 2 1) black token)
+announces_moved n words black token wide may = record {
+  announceable = may;
+  posted = λ k l k_in l_in. posted_apart n 2 1 words (omega arith) k l;
+  taken = λ k l k_in l_in. taken_apart n 2 1 words (omega arith) k l;
+  colours = λ k k_in. refl;
+  token = refl;
+  announced = eq-eqb (get_or (set words 2 1) 2 0) 1 (get_or-set_same words 2 1 0 wide);
+}
+
+announces_leaves : (n i : ℕ) (old new : Ring) → Announces n old new → Leaves n i old new 0 1
+announces_leaves n i old new moved = record {
+  posted = λ k l k_in l_in apart. moved.posted k l k_in l_in;
+  grows = λ k l k_in l_in. omega (arith, moved.posted k l k_in l_in);
+  taken = λ k l k_in l_in apart. moved.taken k l k_in l_in;
+  colour = λ k k_in apart. moved.colours k k_in;
+  token = λ k apart e. moved.token;
+  halt_seen = λ word ne e. absurd (ne (sym e));
+  failed = λ k apart e. absurd (omega (arith, e));
+}
+
+announces_stand : (n i : ℕ) (old new : Ring) (stand : Stand) → i < n → Announces n old new → IsStand n old 0 i stand → IsStand n new 1 i (finds stand 1)
+announces_stand n i old new stand within moved is = record {
+  posted_len = is.posted_len;
+  taken_len = is.taken_len;
+  seen_len = is.seen_len;
+  shows = record {
+    posted = λ k k_in. is.shows.posted k k_in ∙ sym (moved.posted i k within k_in);
+    taken = λ k k_in. is.shows.taken k k_in ∙ sym (moved.taken k i k_in within);
+    colour = is.shows.colour ∙ sym (moved.colours i within);
+    token = λ token e. let had = is.shows.token token e in (had.0 ∙ sym moved.token, had.1);
+  };
+  seen = λ k k_in. omega (arith, is.seen k k_in, moved.posted k i k_in within);
+  halt_seen = λ ne. refl;
+  failed = λ e. absurd (omega (arith, e));
+}
+
+pub announces : (n i id : ℕ) (words : List ℕ) (views : List View) (stand : Stand) (told : List RingEvent) (held : IsHeld n words views) →
+    get_elem? views id ≡ some (one n i stand told) → MayEnd stand → slice_index words 2 ≡ 0 →
+    IsHeld n (set words 2 1) (slice_set views id (one n i (finds stand 1) (Announce ∷ held.log)))
+    × (stand.halt ≢ 0 → 1 ≡ stand.halt)
+    × Makes n i Announce stand (finds stand 1) told (Announce ∷ held.log)
+announces n i id words views stand told held at may running =
+    let after : List ℕ = set words 2 1 in
+    let old : Ring = ring_of n words held.black held.token in
+    let new : Ring = ring_of n after held.black held.token in
+    let mine = own_node n i id words views stand told held at in
+    let wide : 2 < length words = omega (arith, held.wide) in
+    let is : IsStand n old 0 i stand = subst (λ (h : ℕ). IsStand n old h i stand) running mine.is_stand in
+    let known_token = is.shows.token may.token may.known in
+    let first : i ≡ 0 = sym known_token.1 ∙ may.may.at_first in
+    let sums : counter n old i ≡ counter_of stand = counter_is n 0 i old stand is in
+    let may_i : MayAnnounce held.token (counter n old i) (held.black i) true =
+    subst (λ (p : Token × _ × Bool). MayAnnounce p.0 p.1 p.2 true) (λ q. (known_token.0 q, sym sums q, is.shows.colour q)) may.may in
+    let may_first : MayAnnounce held.token (counter n old 0) (held.black 0) true =
+    subst (λ (k : ℕ). MayAnnounce held.token (counter n old k) (held.black k) true) first may_i in
+    let moved : Announces n old new = announces_moved n words held.black held.token wide may_first in
+    let few : HasFew n new = λ k l k_in l_in. omega (arith, moved.posted k l k_in l_in, held.lawful.few k l k_in l_in) in
+    let lawful : IsLawful n new = moved_kept n old new Announce held.size held.lawful moved few in
+    let there : get_or after 2 0 ≡ 1 = get_or-set_same words 2 1 0 wide in
+    let now : IsStand n new (slice_index after 2) i (finds stand 1) =
+    subst (λ (h : ℕ). IsStand n new h i (finds stand 1)) (sym there) (announces_stand n i old new stand mine.within moved is) in
+    let leaves : Leaves n i old new (slice_index words 2) (slice_index after 2) =
+    subst (λ (p : ℕ × ℕ). Leaves n i old new p.0 p.1) (λ q. (sym running q, sym there q)) (announces_leaves n i old new moved) in (
+      kept n i id words after views stand (finds stand 1) told (Announce ∷ []) held.black held.token held at
+          (length-set words 2 1)
+          (get_or-set_other words 2 0 1 0 (λ e. omega (arith, e)))
+          (subst (IsPacked held.token) (sym (get_or-set_other words 2 1 1 0 (λ e. omega (arith, e)))) held.packed)
+          (omega (arith, there))
+          lawful
+          (old, held.runs, moved)
+          leaves
+          now,
+      (λ ne. absurd (ne (sym (is.halt_seen ne)))),
+      record {
+        log = held.log;
+        went_on = (held.views_are id (one n i stand told) at).was_told;
+        is_next = refl;
+        old = old;
+        new = new;
+        runs = held.runs;
+        moved = moved;
+        was_lawful = held.lawful;
+        is_lawful = lawful;
+        shows_before = is.shows;
+        shows_after = now.shows;
+      },
+    )
+
+-- ---- what the calls ask and are told
+
+halts_allows : (n i id slots : ℕ) (stand : Stand) (told : List RingEvent) →
+    Allows (Held n) slots id (seated n i stand told) 2 (λ x. x) (Halted (step slots 2 0 0 none) (seated n i stand told))
+halts_allows n i id slots stand told s held len at small =
+    let found : ℕ = slice_index s.words 2 in
+    let log = held.log in
+    let made = looks_at_halt n i id s.words s.views stand told held at in (
+      one n i (finds stand found) log,
+      keeps,
+      tt,
+      subst (λ (ws : List ℕ). IsHeld n ws (slice_set s.views id (one n i (finds stand found) log))) (sym (set_same s.words 2)) made.held,
+      λ stand' place stands.
+          subst (λ (p : Stand). ((seated n i (finds stand found) log ≡ seated n i (finds p found) log) × (found < 2 + n) × (p.halt ≢ 0 → found ≡ p.halt))
+          × Hears n i (finds p found) told log (HasHalt found))
+          (same_stand stand stand' stands) ((refl, made.within, made.stays), made.heard),
+    )
+
+pub halts_call : (key n i id slots : ℕ) (me : Seated) (stand : Stand) (told : List RingEvent) → key ≡ n → me ≡ seated n i stand told →
+    Allows (Held key) slots id me 2 (λ x. x) (Halted (step slots 2 0 0 none) me)
+halts_call key n i id slots me stand told key_is me_is =
+    subst (λ (p : ℕ × Seated). Allows (Held p.0) slots id p.1 2 (λ x. x) (Halted (step slots 2 0 0 none) p.1))
+    (λ q. (sym key_is q, sym me_is q)) (halts_allows n i id slots stand told)
+
+pub halts_tell : (n i found : ℕ) (me after : Seated) (stand : Stand) (told : List RingEvent) → me ≡ seated n i stand told →
+    Halted (step 0 2 0 0 none) me found after →
+    Found (seated n i stand told) stand found after × Hears n i (finds stand found) told after.0.told (HasHalt found)
+halts_tell n i found me after stand told me_is tells =
+    (subst (λ (p : Seated). Halted (step 0 2 0 0 none) p found after) me_is tells) stand refl refl
+
+fails_finding : (n i id : ℕ) (words : List ℕ) (views : List View) (stand : Stand) (told : List RingEvent) (held : IsHeld n words views) →
+    get_elem? views id ≡ some (one n i stand told) →
+    Finding n i id words views held.log stand told (set words 2 (either (eqb (slice_index words 2) 0) (2 + i) (slice_index words 2))) (halt_after (slice_index words 2) (2 + i))
+fails_finding n i id words views stand told held at =
+    let found : ℕ = slice_index words 2 in
+    let with : (after : ℕ) → halt_after found (2 + i) ≡ after → Finding n i id words views held.log stand told (set words 2 after) after →
+    Finding n i id words views held.log stand told (set words 2 (either (eqb found 0) (2 + i) found)) (halt_after found (2 + i)) =
+    λ after is made. subst (λ (p : ℕ × ℕ). Finding n i id words views held.log stand told (set words 2 p.0) p.1)
+    (λ q. (sym (exchanged found (2 + i) ∙ is) q, sym is q)) made in
+    elim (same_or_not found 0) [
+      | inl running ↦ with (2 + i) (halt_marked found (2 + i) running) (fails n i id words views stand told held at running)
+      | inr stopped ↦ with found (halt_found found (2 + i) stopped)
+          (subst (λ (ws : List ℕ). Finding n i id words views held.log stand told ws found) (sym (set_same words 2)) (looks_at_halt n i id words views stand told held at))
+    ]
+
+fails_allows : (n i id slots : ℕ) (stand : Stand) (told : List RingEvent) →
+    Allows (Held n) slots id (seated n i stand told) 2 (λ x. either (eqb x 0) (2 + i) x) (FailedRun (step slots 2 0 (2 + i) none) (seated n i stand told))
+fails_allows n i id slots stand told s held len at small =
+    let word : ℕ = halt_after (slice_index s.words 2) (2 + i) in
+    let log = held.log in
+    let made = fails_finding n i id s.words s.views stand told held at in (
+      one n i (finds stand word) log,
+      keeps,
+      tt,
+      made.held,
+      λ stand' place mark stands.
+          subst (λ (p : Stand). ((seated n i (finds stand word) log ≡ seated n i (finds p word) log) × (word < 2 + n) × (p.halt ≢ 0 → word ≡ p.halt))
+          × Hears n i (finds p word) told log (HasHalt word))
+          (same_stand stand stand' stands) ((refl, made.within, made.stays), made.heard),
+    )
+
+pub fails_call : (key n i id slots mark : ℕ) (me : Seated) (stand : Stand) (told : List RingEvent) → key ≡ n → me ≡ seated n i stand told → mark ≡ 2 + i →
+    Allows (Held key) slots id me 2 (λ x. either (eqb x 0) mark x) (FailedRun (step slots 2 0 mark none) me)
+fails_call key n i id slots mark me stand told key_is me_is mark_is =
+    subst (λ (p : ℕ × Seated × ℕ). Allows (Held p.0) slots id p.1 2 (λ x. either (eqb x 0) p.2 x) (FailedRun (step slots 2 0 p.2 none) p.1))
+    (λ q. (sym key_is q, sym me_is q, sym mark_is q)) (fails_allows n i id slots stand told)
+
+pub fails_tell : (n i found mark : ℕ) (me after : Seated) (stand : Stand) (told : List RingEvent) → me ≡ seated n i stand told → mark ≡ 2 + i →
+    FailedRun (step 0 2 0 mark none) me found after →
+    Found (seated n i stand told) stand (halt_after found mark) after × Hears n i (finds stand (halt_after found mark)) told after.0.told (HasHalt (halt_after found mark))
+fails_tell n i found mark me after stand told me_is mark_is tells =
+    (subst (λ (p : Seated). FailedRun (step 0 2 0 mark none) p found after) me_is tells) stand refl mark_is refl
+
+announces_allows : (n i id slots : ℕ) (stand : Stand) (told : List RingEvent) → MayEnd stand →
+    Allows (Held n) slots id (seated n i stand told) 2 (λ x. either (eqb x 0) 1 x) (Announced (step slots 2 0 1 none) (seated n i stand told))
+announces_allows n i id slots stand told may s held len at small =
+    let found : ℕ = slice_index s.words 2 in
+    let word : ℕ = halt_after found 1 in
+    elim (same_or_not found 0) [
+      | inl running ↦ let made = announces n i id s.words s.views stand told held at may running in
+          let log = Announce ∷ held.log in
+          let word_is : word ≡ 1 = halt_marked found 1 running in
+          let view_is : one n i (finds stand 1) log ≡ one n i (finds stand word) log = ap (λ (w : ℕ). one n i (finds stand w) log) (sym word_is) in (
+            one n i (finds stand 1) log,
+            keeps,
+            tt,
+            subst (λ (w : ℕ). IsHeld n (set s.words 2 w) (slice_set s.views id (one n i (finds stand 1) log))) (sym (exchanged found 1 ∙ word_is)) made.0,
+            λ stand' place stands.
+                subst (λ (p : Stand). ((seated n i (finds stand 1) log ≡ seated n i (finds p word) log) × (word < 2 + n) × (p.halt ≢ 0 → word ≡ p.halt))
+                × (found ≡ 0 → Makes n i Announce p (finds p 1) told log) × (found ≢ 0 → Hears n i (finds p found) told log (HasHalt found)))
+                (same_stand stand stand' stands)
+                ((ap (λ (v : View). (v, [])) view_is, omega (arith, word_is, held.size.0), (λ ne. word_is ∙ made.1 ne)), (λ e. made.2), (λ ne. absurd (ne running))),
+          )
+      | inr stopped ↦ let made = looks_at_halt n i id s.words s.views stand told held at in
+          let log = held.log in
+          let word_is : word ≡ found = halt_found found 1 stopped in
+          let view_is : one n i (finds stand found) log ≡ one n i (finds stand word) log = ap (λ (w : ℕ). one n i (finds stand w) log) (sym word_is) in (
+            one n i (finds stand found) log,
+            keeps,
+            tt,
+            subst (λ (ws : List ℕ). IsHeld n ws (slice_set s.views id (one n i (finds stand found) log)))
+                (sym (ap (set s.words 2) (exchanged found 1 ∙ word_is) ∙ set_same s.words 2)) made.held,
+            λ stand' place stands.
+                subst (λ (p : Stand). ((seated n i (finds stand found) log ≡ seated n i (finds p word) log) × (word < 2 + n) × (p.halt ≢ 0 → word ≡ p.halt))
+                × (found ≡ 0 → Makes n i Announce p (finds p 1) told log) × (found ≢ 0 → Hears n i (finds p found) told log (HasHalt found)))
+                (same_stand stand stand' stands)
+                ((ap (λ (v : View). (v, [])) view_is, omega (arith, word_is, made.within), (λ ne. word_is ∙ made.stays ne)), (λ e. absurd (stopped e)), (λ ne. made.heard)),
+          )
+    ]
+
+pub announces_call : (key n i id slots : ℕ) (me : Seated) (stand : Stand) (told : List RingEvent) → key ≡ n → me ≡ seated n i stand told → MayEnd stand →
+    Allows (Held key) slots id me 2 (λ x. either (eqb x 0) 1 x) (Announced (step slots 2 0 1 none) me)
+announces_call key n i id slots me stand told key_is me_is may =
+    subst (λ (p : ℕ × Seated). Allows (Held p.0) slots id p.1 2 (λ x. either (eqb x 0) 1 x) (Announced (step slots 2 0 1 none) p.1))
+    (λ q. (sym key_is q, sym me_is q)) (announces_allows n i id slots stand told may)
+
+pub announces_tell : (n i found : ℕ) (me after : Seated) (stand : Stand) (told : List RingEvent) → me ≡ seated n i stand told →
+    Announced (step 0 2 0 1 none) me found after →
+    Found (seated n i stand told) stand (halt_after found 1) after × (found ≡ 0 → Makes n i Announce stand (finds stand 1) told after.0.told)
+    × (found ≢ 0 → Hears n i (finds stand found) told after.0.told (HasHalt found))
+announces_tell n i found me after stand told me_is tells =
+    (subst (λ (p : Seated). Announced (step 0 2 0 1 none) p found after) me_is tells) stand refl refl
+
+-- ---- what a seat's fields are afterwards
+
+-- The seat's view after it found a halt, and the halt that it knows.
+pub record HasFound (n i : ℕ) (stand : Halt → Stand) (old new : Halt) (after : Seated) : Type 0 where
+  pub view_is : after ≡ seated n i (stand new) after.0.told
+  pub within : halt_word new < 2 + n
+  pub stays : old ≢ Running → new ≡ old
+
+pub found_done : (n i word : ℕ) (posted taken seen : List ℕ) (black : Bool) (token : Option Token) (old new : Halt) (told : List RingEvent) (after : Seated) →
+    Found (seated n i (stand_from posted taken seen black token old) told) (stand_from posted taken seen black token old) word after → halt_word new ≡ word →
+    HasFound n i (stand_from posted taken seen black token) old new after
+found_done n i word posted taken seen black token old new told after found new_is = record {
+  view_is = found.0 ∙ ap (λ (w : ℕ). seated n i (finds (stand_from posted taken seen black token old) w) after.0.told) (sym new_is);
+  within = omega (arith, found.1, new_is);
+  stays = λ stopped. same_halt new old (new_is ∙ found.2 (runs_on old stopped));
+}
+
+-- what was heard with the word was heard with its halt
+pub heard_halt : (n i word : ℕ) (posted taken seen : List ℕ) (black : Bool) (token : Option Token) (old new : Halt) (told now : List RingEvent) →
+    Hears n i (finds (stand_from posted taken seen black token old) word) told now (HasHalt word) → halt_word new ≡ word →
+    Hears n i (stand_from posted taken seen black token new) told now (HasHalt (halt_word new))
+heard_halt n i word posted taken seen black token old new told now heard new_is =
+    subst (λ (w : ℕ). Hears n i (finds (stand_from posted taken seen black token old) w) told now (HasHalt w)) (sym new_is) heard
+
+-- an announcement, or what was heard in its place
+pub announced_done : (n i found : ℕ) (posted taken seen : List ℕ) (black : Bool) (token : Option Token) (old new : Halt) (told now : List RingEvent) →
+    (found ≡ 0 → Makes n i Announce (stand_from posted taken seen black token old) (finds (stand_from posted taken seen black token old) 1) told now) →
+    (found ≢ 0 → Hears n i (finds (stand_from posted taken seen black token old) found) told now (HasHalt found)) → halt_word new ≡ halt_after found 1 →
+    ((new ≡ Ended) × Makes n i Announce (stand_from posted taken seen black token old) (stand_from posted taken seen black token new) told now)
+    ⊎ Hears n i (stand_from posted taken seen black token new) told now (HasHalt (halt_word new))
+announced_done n i found posted taken seen black token old new told now made heard new_is =
+    let before : Stand = stand_from posted taken seen black token old in
+    elim (same_or_not found 0) [
+      | inl running ↦ let word_is : halt_word new ≡ 1 = new_is ∙ halt_marked found 1 running in
+          inl (same_halt new Ended word_is, subst (λ (w : ℕ). Makes n i Announce before (finds before w) told now) (sym word_is) (made running))
+      | inr stopped ↦ inr (heard_halt n i found posted taken seen black token old new told now (heard stopped) (new_is ∙ halt_found found 1 stopped))
+    ]

@@ -1,0 +1,53 @@
+use Rattle.std.proofs.Common.{rules, refl, arith}
+use Rattle.dob_board.specs.Views.{stand_from}
+use Rattle.dob_board.proofs.Halting.{halts_call, halts_tell, found_done, heard_halt}
+use Rattle.dob_board.proofs.seat.NodeSeat.halted.Goals as goal
+
+pub load-word-requires : goal.load-word-requires
+load-word-requires c =
+    let seat = c.args.self.now in (
+      search rules,
+      rw (c.deref.ensures, seat.words) (omega arith),
+      halts_call _ seat.nodes seat.node _ _ _ (stand_from seat.posted.items seat.taken.items seat.seen.items seat.black seat.token seat.halt) seat.seat.me.0.told
+          (search rules) seat.view_is,
+    )
+
+pub invariant_of-self : goal.invariant_of-self
+invariant_of-self c =
+    let seat = c.args.self.now in
+    let told = halts_tell seat.nodes seat.node c.load-word.result seat.seat.me c.load-word.new.seat.me
+    (stand_from seat.posted.items seat.taken.items seat.seen.items seat.black seat.token seat.halt) seat.seat.me.0.told seat.view_is c.load-word.ensures.2 in
+    let done = found_done seat.nodes seat.node c.load-word.result seat.posted.items seat.taken.items seat.seen.items seat.black seat.token seat.halt c.halt_of-self.result
+    seat.seat.me.0.told c.load-word.new.seat.me told.0 c.halt_of-self.ensures in
+    record {
+      size = seat.size;
+      within = seat.within;
+      of_board = search rules;
+      words = seat.words;
+      key = seat.key;
+      posted_len = seat.posted_len;
+      taken_len = seat.taken_len;
+      seen_len = seat.seen_len;
+      few_posted = seat.few_posted;
+      few_taken = seat.few_taken;
+      in_bounds = seat.in_bounds;
+      halt_within = done.within;
+      view_is = done.view_is;
+    }
+
+pub returns-clause-found : goal.returns-clause-found
+returns-clause-found c =
+    let seat = c.args.self.now in
+    let told = halts_tell seat.nodes seat.node c.load-word.result seat.seat.me c.load-word.new.seat.me
+    (stand_from seat.posted.items seat.taken.items seat.seen.items seat.black seat.token seat.halt) seat.seat.me.0.told seat.view_is c.load-word.ensures.2 in
+    let done = found_done seat.nodes seat.node c.load-word.result seat.posted.items seat.taken.items seat.seen.items seat.black seat.token seat.halt c.halt_of-self.result
+    seat.seat.me.0.told c.load-word.new.seat.me told.0 c.halt_of-self.ensures in
+    record { noted = refl; halt_is = refl; within = done.within; stays = done.stays }
+
+pub returns-clause-heard : goal.returns-clause-heard
+returns-clause-heard c =
+    let seat = c.args.self.now in
+    let told = halts_tell seat.nodes seat.node c.load-word.result seat.seat.me c.load-word.new.seat.me
+    (stand_from seat.posted.items seat.taken.items seat.seen.items seat.black seat.token seat.halt) seat.seat.me.0.told seat.view_is c.load-word.ensures.2 in
+    heard_halt seat.nodes seat.node c.load-word.result seat.posted.items seat.taken.items seat.seen.items seat.black seat.token seat.halt c.halt_of-self.result
+    seat.seat.me.0.told c.load-word.new.seat.me.0.told told.1 c.halt_of-self.ensures

@@ -1,0 +1,13 @@
+use Rattle.std.proofs.Common.{rules, arith}
+use Rattle.dob_board.specs.Views.{stand_from}
+use Rattle.dob_board.proofs.Passing.{meets_call}
+use Rattle.dob_board.proofs.seat.NodeSeat.token.Goals as goal
+
+pub load-word-requires : goal.load-word-requires
+load-word-requires c =
+    let seat = c.args.self.now in (
+      search rules,
+      rw (c.deref.ensures, seat.words) (omega arith),
+      meets_call _ seat.nodes seat.node _ _ _ (stand_from seat.posted.items seat.taken.items seat.seen.items seat.black seat.token seat.halt) seat.seat.me.0.told
+          (search rules) seat.view_is,
+    )

@@ -1,0 +1,9 @@
+use Rattle.std.proofs.Common.{◌≡◌, ◌*◌, ◌^◌, ◌≤◌, take}
+use Rattle.std.specs.Prelude.{sum}
+use Rattle.dob_board.proofs.tokens.total.Given as goal
+
+abbrev pub invariant-loop-count : goal.invariant-loop-count
+invariant-loop-count l = record {
+  so_far : l.total ≡ sum (take l.count-index l.counts);
+  few : l.total ≤ l.count-index * 2 ^ 40;
+}

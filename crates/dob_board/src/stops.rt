@@ -1,0 +1,82 @@
+// How a seat finds out that the run ended or failed, and says so.
+ghost use Rattle.std.specs.Prelude.{◌≡◌, ◌≢◌};
+ghost use Rattle.dob_board.specs.declared.halt.Halt.TheVariants.{Running};
+ghost use Rattle.dob_board.specs.Words.{halt_word, halt_after};
+ghost use Rattle.dob_board.specs.Seats.{stand_of, IsSameSeat, MayEnd, Finds, HearsHalt, HasAnnounced};
+
+use crate::rule::{Announces, Fails, Halts};
+use crate::{Halt, NodeSeat};
+
+// The word of the halt, and what it says.
+const HALT: usize = 2;
+
+const RUNNING: u64 = 0;
+
+const ENDED: u64 = 1;
+
+const FAILED: u64 = 2;
+
+// The halt of the word.
+fn halt_of(word: u64) -> Halt
+    ensures { halt_word result ≡ word }
+{
+    match word {
+        RUNNING => Halt::Running,
+        ENDED => Halt::Ended,
+        _ => Halt::Failed((word - FAILED) as usize),
+    }
+}
+
+// The halt word after it was found as it was and, if the run went on, exchanged for the mark.
+fn halt_after(found: u64, mark: u64) -> u64
+    ensures { result ≡ halt_after found mark }
+{
+    if found == RUNNING { mark } else { found }
+}
+
+impl NodeSeat {
+    /// Whether the run goes on. Once a seat found that it doesn't, it finds the same for ever.
+    pub fn halted(&mut self) -> Halt
+        ensures found { Finds self.old self.new result }
+        ensures same { IsSameSeat self.old self.new }
+        ensures heard { HearsHalt self.old self.new result }
+    {
+        let word = self.board.shared.load::<Halts>(&mut self.seat, HALT);
+        self.halt = halt_of(word);
+        self.halt
+    }
+
+    /// Announces the end, which the node may do by the token that it saw, its counter and its colour. The answer is Ended, or
+    /// the failure of a node that came before.
+    pub fn announce(&mut self) -> Halt
+        requires { MayEnd (stand_of self.old) }
+        ensures found { Finds self.old self.new result }
+        ensures stopped { result ≢ Running }
+        ensures same { IsSameSeat self.old self.new }
+        ensures event { HasAnnounced self.old self.new result }
+    {
+        let found = self
+            .board
+            .shared
+            .compare_exchange::<Announces>(&mut self.seat, HALT, RUNNING, ENDED);
+        self.halt = halt_of(halt_after(found, ENDED));
+        self.halt
+    }
+
+    /// Says that this node failed the run. The answer is its failure, or the end or the failure of another node that came
+    /// before.
+    pub fn fail(&mut self) -> Halt
+        ensures found { Finds self.old self.new result }
+        ensures stopped { result ≢ Running }
+        ensures same { IsSameSeat self.old self.new }
+        ensures heard { HearsHalt self.old self.new result }
+    {
+        let mark = FAILED + self.node as u64;
+        let found = self
+            .board
+            .shared
+            .compare_exchange::<Fails>(&mut self.seat, HALT, RUNNING, mark);
+        self.halt = halt_of(halt_after(found, mark));
+        self.halt
+    }
+}
