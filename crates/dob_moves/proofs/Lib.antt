@@ -6,6 +6,7 @@ pub mod Firsts
 pub mod Runs
 pub mod Tables
 pub mod Reach
+pub mod Masked
 pub mod Verdicts
 pub mod Appends
 pub mod MoveLists
