@@ -7,6 +7,7 @@ pub mod Runs
 pub mod Tables
 pub mod Reach
 pub mod Masked
+pub mod Listed
 pub mod Verdicts
 pub mod Appends
 pub mod MoveLists

@@ -67,11 +67,19 @@ fn lion_can_step(position: &Position, masks: &Masks) -> bool
     Kind::Lion.targets(own_lion(position, masks)) & masks.ends != 0
 }
 
-/// Whether the mover has a step, other than onto the enemy lion, or a drop.
-fn can_move(position: &Position) -> bool
+/// Whether a step, other than onto the enemy lion, or a drop of the mover is found.
+fn finds_move(position: &Position) -> bool
     ensures { IsTrue result ↔ ((move : Moved) × CanGo position.now.setup move) }
 {
     first_step(&position.setup, Aim::Elsewhere).is_some() || first_drop(&position.setup).is_some()
+}
+
+/// Whether the mover has a move while its steps onto the enemy lion aren't counted.
+fn can_move(position: &Position, masks: &Masks) -> bool
+    requires { AreMasks position.now.setup masks.now }
+    ensures { IsTrue result ↔ ((move : Moved) × CanGo position.now.setup move) }
+{
+    lion_can_step(position, masks) || finds_move(position)
 }
 
 /// The status of the position: a catch is looked for first, then a try, then a move.
@@ -82,6 +90,7 @@ pub fn status(position: &Position) -> Status
 }
 
 /// The same of a position with those masks.
+#[tactic(auto, using(crate::proofs::Masked::tried_by))]
 pub(crate) fn status_by(position: &Position, masks: &Masks) -> Status
     requires { AreMasks position.now.setup masks.now }
     ensures { HasStatus position.now.setup result }
@@ -91,7 +100,7 @@ pub(crate) fn status_by(position: &Position, masks: &Masks) -> Status
         Status::Caught
     } else if lion.row() == 0 {
         Status::Tried
-    } else if lion_can_step(position, masks) || can_move(position) {
+    } else if can_move(position, masks) {
         Status::Open
     } else {
         Status::Stuck

@@ -45,21 +45,29 @@ module _ {X : Type 0} where
     items_are = sym (append-nil before);
   }
 
-  pub walk_next : (test : ℕ → Bool) (g : ℕ → List X) (left place : ℕ) (before items new : List X) → IsQuiet test g → (w : IsWalked test g left before items)
-      → 0 < left → place ≡ trailing_zeros w16 left → new ≡ items ++ g place → IsWalked test g (without left place) before new
-  walk_next test g left place before items new quiet w some e more =
+  pub walk_less : (test : ℕ → Bool) (g : ℕ → List X) (left place after : ℕ) (before items : List X) → IsWalked test g left before items
+      → 0 < left → place ≡ trailing_zeros w16 left → after ≡ without left place → after < left
+  walk_less test g left place after before items w some e gone = rw gone (next_left test w.upto left place w.left_are some e).less
+
+  pub walk_next_at : (test : ℕ → Bool) (g : ℕ → List X) (left place after : ℕ) (before items new : List X) → IsQuiet test g → (w : IsWalked test g left before items)
+      → 0 < left → place ≡ trailing_zeros w16 left → after ≡ without left place → (test place ≡ true → new ≡ items ++ g place) → (next : IsWalked test g after before new) × (next.upto ≡ suc place)
+  walk_next_at test g left place after before items new quiet w some e gone more =
       let it = next_left test w.upto left place w.left_are some e in
       let lt = it.on_board in
-      record {
+      rw gone (record {
         upto = suc place;
         bound = omega (arith, lt);
         left_are = it.left;
         items_are =
-            more ∙ ap (λ (xs : List X). xs ++ g place)
+            more it.passes ∙ ap (λ (xs : List X). xs ++ g place)
             (w.items_are ∙ ap (λ (xs : List X). before ++ xs)
             (sym (each-quiet g w.upto place it.not_before (λ k ge lt. quiet k (it.between k ge lt)))))
             ∙ append_assoc before (each_below g place) (g place);
-      }
+      }, refl)
+
+  pub walk_next : (test : ℕ → Bool) (g : ℕ → List X) (left place after : ℕ) (before items new : List X) → IsQuiet test g → IsWalked test g left before items
+      → 0 < left → place ≡ trailing_zeros w16 left → after ≡ without left place → (test place ≡ true → new ≡ items ++ g place) → IsWalked test g after before new
+  walk_next test g left place after before items new quiet w some e gone more = (walk_next_at test g left place after before items new quiet w some e gone more).0
 
   pub walk_end : (test : ℕ → Bool) (g : ℕ → List X) (left : ℕ) (before items : List X) → IsQuiet test g → IsWalked test g left before items
       → left ≡ 0 → items ≡ before ++ each_below g 12
