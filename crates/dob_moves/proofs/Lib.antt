@@ -10,5 +10,6 @@ pub mod Masked
 pub mod Listed
 pub mod Verdicts
 pub mod Appends
+pub mod PlainLists
 pub mod MoveLists
 pub mod MoveCounts

@@ -68,7 +68,7 @@ fn lion_can_step(position: &Position, masks: &Masks) -> bool
 }
 
 /// Whether a step, other than onto the enemy lion, or a drop of the mover is found.
-fn finds_move(position: &Position) -> bool
+pub(crate) fn finds_move(position: &Position) -> bool
     ensures { IsTrue result ↔ ((move : Moved) × CanGo position.now.setup move) }
 {
     first_step(&position.setup, Aim::Elsewhere).is_some() || first_drop(&position.setup).is_some()

@@ -8,6 +8,7 @@ mod judge;
 pub mod laws;
 mod listing;
 mod outlook;
+pub mod plain;
 mod search;
 
 pub use applied::apply;
