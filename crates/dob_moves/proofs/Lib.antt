@@ -6,7 +6,10 @@ pub mod Firsts
 pub mod Runs
 pub mod Tables
 pub mod Reach
+pub mod Masked
+pub mod Listed
 pub mod Verdicts
 pub mod Appends
+pub mod PlainLists
 pub mod MoveLists
 pub mod MoveCounts

@@ -1,41 +1,33 @@
 -- Moves counted piece by piece.
-use Rattle.std.proofs.Common.{◌≡◌, ◌≢◌, ℕ, ◌+◌, ◌<◌, ◌||◌, if◌then◌else◌, Bool, true, false, List, [], ◌∷◌, ◌++◌, Option, Some, None, length, get_or, take, refl, sym, ap, ◌∙◌, arith, add-one, option_to_list, Contains}
+use Rattle.std.proofs.Common.{◌≡◌, ◌≢◌, ℕ, ◌+◌, ◌*◌, ◌<◌, ◌≤◌, ◌||◌, if◌then◌else◌, Bool, true, false, List, [], ◌∷◌, ◌++◌, Option, Some, None, length, get_or, take, refl, sym, ap, ◌∙◌, arith, option_to_list, Contains, bit_and, count_ones}
 use Rattle.std.specs.List.{filter_map}
+use Rattle.std.specs.Int.{trailing_zeros, w16}
 use Rattle.std.specs.Option.{is_some}
 use Rattle.std.proofs.lemmas.List.{length-append}
 use Rattle.dob_pieces.specs.Lists.{each_below}
+use Rattle.dob_pieces.specs.declared.kind.Kind.{Kind}
+use Rattle.dob_pieces.specs.declared.kind.HandKind.{HandKind}
 use Rattle.dob_pieces.specs.declared.setup.Setup.{Setup}
+use Rattle.dob_pieces.specs.Pieces.{leads}
+use Rattle.dob_pieces.specs.Setups.{at, held}
+use Rattle.dob_pieces.specs.Masks.{IsMask, is_end}
+use Rattle.dob_pieces.proofs.MaskBits.{without, next_left}
+use Rattle.dob_pieces.proofs.MaskWalks.{IsWalked, IsCounted, walk_start, walk_next_at, walk_end, counted_ones}
+use Rattle.dob_moves.proofs.Listed.{own_at, empty_at, may_step, steps_to, puts_on, from_quiet, steps_counting, puts_counting, may_step_mask, drops_all}
+use Rattle.dob_moves.proofs.Tables.{steps_by-squares}
 use Rattle.dob_pieces.proofs.Lists.{head_in}
 use Rattle.dob_moves.specs.declared.choice.Move.{Move}
 use Rattle.dob_moves.specs.declared.outlook.Status.{Status}
 use Rattle.dob_moves.specs.declared.outlook.Status.TheVariants.{Open}
 use Rattle.dob_moves.specs.declared.search.Aim.TheVariants.{AtLion, Elsewhere}
 use Rattle.dob_moves.specs.Statuses.{HasStatus}
-use Rattle.dob_moves.specs.Walks.{first, all_steps, all_drops}
+use Rattle.dob_moves.specs.Walks.{first, steps_by, steps_from, all_steps, drops_of, all_drops}
 use Rattle.dob_moves.specs.MoveLists.{has_tried, moves_of}
 use Rattle.dob_moves.proofs.Cases.{one_status}
-use Rattle.dob_moves.proofs.Appends.{taken_more}
 use Rattle.dob_moves.proofs.MoveLists.{tried_at, AreMoves-moves_of}
 use Rattle.dob_moves.proofs.Verdicts.{catch_answer}
 
--- one more item of a list, and what it gives
-pub counted_more : (f : ℕ × ℕ → Option Move) (xs : List (ℕ × ℕ)) (i count new : ℕ) → i < length xs → count ≡ length (filter_map f (take i xs)) →
-    new ≡ count + length (option_to_list (f (get_or xs i (0, 0)))) → new ≡ length (filter_map f (take (i + 1) xs))
-counted_more f xs i count new below before is =
-    let more = taken_more f xs (0, 0) i [] (filter_map f (take i xs)) (filter_map f (take i xs) ++ option_to_list (f (get_or xs i (0, 0)))) below refl refl in
-    let sum : length (filter_map f (take i xs) ++ option_to_list (f (get_or xs i (0, 0)))) ≡ length (filter_map f (take i xs)) + length (option_to_list (f (get_or xs i (0, 0)))) =
-    length-append (filter_map f (take i xs)) (option_to_list (f (get_or xs i (0, 0)))) in
-    let same : length (filter_map f (take i xs) ++ option_to_list (f (get_or xs i (0, 0)))) ≡ length (filter_map f (take (i + 1) xs)) = ap length more in
-    omega arith
-
--- what one more number gives
-pub counted_below : (g : ℕ → List Move) (i count new : ℕ) → count ≡ length (each_below g i) → new ≡ count + length (g i) →
-    new ≡ length (each_below g (i + 1))
-counted_below g i count new before is =
-    let sum : length (each_below g i ++ g i) ≡ length (each_below g i) + length (g i) = length-append (each_below g i) (g i) in
-    rw add-one (omega arith)
-
-pub ruleset counts = (counted_more, counted_below, length-append)
+pub ruleset counts = (length-append)
 
 -- ---- all moves
 
@@ -68,3 +60,60 @@ pub other_count : (p : Setup) (s : Status) → length p.board ≡ 12 → HasStat
 other_count p s twelve is other =
     nothing_there (HasStatus p Open) (moves_of p) (λ m there. ((AreMoves-moves_of p twelve).sound m there).0)
     (λ is_open. other (one_status p s Open is is_open))
+
+-- ---- by masks
+
+pub counted_steps : (p : Setup) (kind : Kind) (from targets ends : ℕ) → from < 12 → IsMask (leads kind from) targets → IsMask (λ square. is_end (at p square)) ends
+    → IsCounted (length (steps_by Elsewhere p kind from)) (count_ones (bit_and targets ends))
+counted_steps p kind from targets ends lt are may =
+    let each = counted_ones (may_step p kind from) (steps_to p kind from) (bit_and targets ends) (steps_counting p kind from) (may_step_mask p kind from targets ends are may) in
+    rw (steps_by-squares Elsewhere p kind from lt) each
+
+pub counted_drops : (p : Setup) (kind : HandKind) (empty : ℕ) → 0 < held p.hands.mover kind → IsMask (empty_at p) empty
+    → IsCounted (length (drops_of p kind)) (count_ones empty)
+counted_drops p kind empty some are =
+    rw (drops_all p kind some) (counted_ones (empty_at p) (puts_on p kind) empty (puts_counting p kind) are)
+
+-- Steps counted while the squares of a mask are gone over: the items are those whose number is known.
+pub record AreCounted (p : Setup) (left count : ℕ) : Type 0 where
+  pub items : List Move
+  pub walk : IsWalked (own_at p) (steps_from Elsewhere p) left [] items
+  pub number : count ≡ length items
+  pub few : count ≤ 12 * walk.upto
+
+pub count_start : (p : Setup) (own : ℕ) → IsMask (own_at p) own → AreCounted p own 0
+count_start p own are = record { items = []; walk = walk_start (own_at p) (steps_from Elsewhere p) own [] are; number = refl; few = omega arith }
+
+-- one more square
+pub record CountsOn (p : Setup) (left after count new : ℕ) : Type 0 where
+  pub small : new ≤ 144
+  pub less : after < left
+  pub next : AreCounted p after new
+
+pub count_next : (p : Setup) (left place after count steps : ℕ) → AreCounted p left count → 0 < left → place ≡ trailing_zeros w16 left → after ≡ without left place
+    → steps ≡ length (steps_from Elsewhere p place) → steps ≤ 12 → CountsOn p left after count (count + steps)
+count_next p left place after count steps w some e gone is few =
+    let it = next_left (own_at p) w.walk.upto left place w.walk.left_are some e in
+    let sum = length-append w.items (steps_from Elsewhere p place) in
+    let lt = it.on_board in let le = it.not_before in let low = w.few in let number = w.number in
+    let next = walk_next_at (own_at p) (steps_from Elsewhere p) left place after [] w.items (w.items ++ steps_from Elsewhere p place)
+    (from_quiet p) w.walk some e gone (λ passes. refl) in
+    let upto = next.1 in
+    let less = it.less in
+    record {
+      small = omega (arith, lt, le, low, few);
+      less = omega (arith, gone, less);
+      next = record {
+        items = w.items ++ steps_from Elsewhere p place;
+        walk = next.0;
+        number = omega (arith, sum, is, number);
+        few = omega (arith, upto, le, low, few);
+      };
+    }
+
+pub count_end : (p : Setup) (left count : ℕ) → AreCounted p left count → left ≡ 0 → (count ≡ length (all_steps Elsewhere p)) × (count ≤ 144)
+unfolding all_steps
+count_end p left count w none = (
+  w.number ∙ ap length (walk_end (own_at p) (steps_from Elsewhere p) left [] w.items (from_quiet p) w.walk none),
+  (let few = w.few in let bound = w.walk.bound in omega (arith, few, bound)),
+)

@@ -70,7 +70,7 @@ piece_sound Elsewhere p Enemy Hen kind from to m s e h =
     let same : Step kind from to true (grows_at kind to) ≡ m = cc in
     subst (λ (x : Move). CanGo p x) same (go_catch p kind from to (grows_at kind to) hand.Chick s (Hen, e, refl) refl)
 
-step_sound : (aim : Aim) (p : Setup) (kind : Kind) (from to : ℕ) (cell : Cell) (m : Move) → IsStep p kind from to → at p to ≡ cell → step_onto aim cell kind from to ≡ Some m → Meets aim p m
+pub step_sound : (aim : Aim) (p : Setup) (kind : Kind) (from to : ℕ) (cell : Cell) (m : Move) → IsStep p kind from to → at p to ≡ cell → step_onto aim cell kind from to ≡ Some m → Meets aim p m
 step_sound AtLion p kind from to None m s e h = cc
 step_sound Elsewhere p kind from to None m s e h =
     let same : Step kind from to false (grows_at kind to) ≡ m = cc in

@@ -1,97 +1,86 @@
 // The number of a position's moves, counted without a list of them.
-ghost use Rattle.std.specs.Prelude.{◌≡◌, ◌≤◌, ◌+◌, length, option_to_list};
+ghost use Rattle.std.specs.Prelude.{◌≡◌, ◌≤◌, length};
+ghost use Rattle.dob_pieces.specs.Masks.{AreMasks};
 ghost use Rattle.dob_moves.specs.Walks.{steps_by, steps_from, all_steps, drops_of, all_drops};
 ghost use Rattle.dob_moves.specs.MoveLists.{moves_of};
 ghost use Rattle.dob_moves.specs.declared.search.Aim.TheVariants.{Elsewhere};
 
-use crate::choice::Move;
-use crate::judge::status;
+use crate::judge::status_by;
 use crate::outlook::Status;
-use crate::search::{Aim, own_kind, put_on, step_by};
-use dob_pieces::{HandKind, Kind, Position, Setup, Square};
-
-/// 1 where there is a move, else 0.
-fn one_if_found(found: Option<Move>) -> u8
-    ensures number { result ≡ length (option_to_list found) }
-    ensures few { result ≤ 1 }
-{
-    match found {
-        Some(_) => 1,
-        None => 0,
-    }
-}
+use crate::search::own_kind;
+use dob_pieces::{HandKind, Kind, Masks, Position, Setup, Square, lowest_square, without_square};
 
 /// The number of steps of a piece of that kind on that square, other than onto the enemy lion.
-#[tactic(auto, using(crate::proofs::MoveCounts::counts), unfolding(crate::specs::Walks::steps_by))]
-fn count_steps_by(setup: &Setup, kind: Kind, from: Square) -> u8
+fn count_steps_by(setup: &Setup, masks: &Masks, kind: Kind, from: Square) -> u8
+    requires { AreMasks setup.now masks.now }
     ensures number { result ≡ length (steps_by Elsewhere setup.now kind from) }
-    ensures few { result ≤ 8 }
+    ensures few { result ≤ 12 }
 {
-    let mut count = 0;
-    for step in kind.steps() {
-        count += one_if_found(step_by(setup, Aim::Elsewhere, kind, from, *step));
-    }
-    count
+    (kind.targets(from) & masks.ends).count_ones() as u8
 }
 
 /// The number of the mover's steps from that square.
 #[tactic(auto, unfolding(crate::specs::Walks::steps_from))]
-fn count_steps_from(setup: &Setup, from: Square) -> u8
+fn count_steps_from(setup: &Setup, masks: &Masks, from: Square) -> u8
+    requires { AreMasks setup.now masks.now }
     ensures number { result ≡ length (steps_from Elsewhere setup.now from) }
-    ensures few { result ≤ 8 }
+    ensures few { result ≤ 12 }
 {
     match own_kind(setup.at(from)) {
-        Some(kind) => count_steps_by(setup, kind, from),
+        Some(kind) => count_steps_by(setup, masks, kind, from),
         None => 0,
     }
 }
 
 /// The number of the mover's steps.
-#[tactic(auto, using(crate::proofs::MoveCounts::counts), unfolding(crate::specs::Walks::all_steps))]
-fn count_steps(setup: &Setup) -> u8
+fn count_steps(setup: &Setup, masks: &Masks) -> u8
+    requires { AreMasks setup.now masks.now }
     ensures number { result ≡ length (all_steps Elsewhere setup.now) }
-    ensures few { result ≤ 96 }
+    ensures few { result ≤ 144 }
 {
     let mut count = 0;
-    for index in 0..Square::COUNT {
-        count += count_steps_from(setup, Square::new(index));
+    let mut left = masks.own;
+    while left != 0 {
+        let from = lowest_square(left);
+        count += count_steps_from(setup, masks, from);
+        left = without_square(left, from);
     }
     count
 }
 
 /// The number of drops of that kind.
-#[tactic(auto, using(crate::proofs::MoveCounts::counts), unfolding(crate::specs::Walks::drops_of))]
-fn count_drops_of(setup: &Setup, kind: HandKind) -> u8
+fn count_drops_of(setup: &Setup, masks: &Masks, kind: HandKind) -> u8
+    requires { AreMasks setup.now masks.now }
     ensures number { result ≡ length (drops_of setup.now kind) }
     ensures few { result ≤ 12 }
 {
     if setup.hands.mover.count(kind) == 0 {
         return 0;
     }
-    let mut count = 0;
-    for index in 0..Square::COUNT {
-        count += one_if_found(put_on(setup, kind, Square::new(index)));
-    }
-    count
+    masks.empty.count_ones() as u8
 }
 
 /// The number of drops.
 #[tactic(auto, using(crate::proofs::MoveCounts::counts), unfolding(crate::specs::Walks::all_drops))]
-fn count_drops(setup: &Setup) -> u8
+fn count_drops(setup: &Setup, masks: &Masks) -> u8
+    requires { AreMasks setup.now masks.now }
     ensures number { result ≡ length (all_drops setup.now) }
     ensures few { result ≤ 36 }
 {
-    count_drops_of(setup, HandKind::Chick)
-        + count_drops_of(setup, HandKind::Elephant)
-        + count_drops_of(setup, HandKind::Giraffe)
+    count_drops_of(setup, masks, HandKind::Chick)
+        + count_drops_of(setup, masks, HandKind::Elephant)
+        + count_drops_of(setup, masks, HandKind::Giraffe)
 }
 
 /// The number of moves of the position, as many as `moves` lists: 0 where it isn't open.
 pub fn count_moves(position: &Position) -> u8
     ensures { result ≡ length (moves_of position.now.setup) }
 {
-    match status(position) {
-        Status::Open => count_steps(&position.setup) + count_drops(&position.setup),
+    let masks = Masks::of(&position.setup);
+    match status_by(position, &masks) {
+        Status::Open => {
+            count_steps(&position.setup, &masks) + count_drops(&position.setup, &masks)
+        }
         _ => 0,
     }
 }

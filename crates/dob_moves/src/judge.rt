@@ -1,60 +1,106 @@
-// The status of a position, and the first step that catches the enemy lion.
-ghost use Rattle.std.specs.Prelude.{◌↔◌, ◌≡◌, IsTrue, MatchOption, is_some};
-ghost use Rattle.dob_moves.specs.Statuses.{CanCatch, HasTried, HasStatus, IsFirstCatch};
+// The status of a position, and the first step that catches the enemy lion, looked at from the lions' squares.
+ghost use Rattle.std.specs.Prelude.{◌↔◌, ◌≡◌, IsTrue, MatchOption};
+ghost use Rattle.dob_pieces.specs.Masks.{AreMasks};
 ghost use Rattle.dob_pieces.specs.Setups.{at, piece_of};
-ghost use Rattle.dob_moves.specs.Moves.{CanGo};
+ghost use Rattle.dob_moves.specs.Moves.{CanGo, grows_at};
+ghost use Rattle.dob_moves.specs.Statuses.{CanCatch, HasStatus, IsFirstCatch};
 ghost use Rattle.dob_moves.specs.declared.choice.Move.{Move as Moved};
 
 use crate::choice::Move;
 use crate::outlook::Status;
-use crate::search::{Aim, first_drop, first_step};
-use dob_pieces::{Kind, Piece, Position, Side, Square};
+use crate::search::{Aim, first_drop, first_step, grows_at, own_kind};
+use dob_pieces::{Kind, Masks, Position, Side, Square, lowest_square};
+
+/// The enemy lion's square.
+fn enemy_lion(position: &Position, masks: &Masks) -> Square
+    requires { AreMasks position.now.setup masks.now }
+    ensures { at position.now.setup result ≡ Some (piece_of Side.Enemy Kind.Lion) }
+{
+    lowest_square(masks.enemy_lion)
+}
+
+/// The mover's lion's square.
+fn own_lion(position: &Position, masks: &Masks) -> Square
+    requires { AreMasks position.now.setup masks.now }
+    ensures { at position.now.setup result ≡ Some (piece_of Side.Mover Kind.Lion) }
+{
+    lowest_square(masks.lion)
+}
 
 /// The first step in the move order that catches the enemy lion, or `None` where no step does.
 pub fn first_catch(position: &Position) -> Option<Move>
     ensures { MatchOption result (¬ CanCatch position.now.setup) (λ m. IsFirstCatch position.now.setup m) }
 {
-    first_step(&position.setup, Aim::AtLion)
+    let masks = Masks::of(&position.setup);
+    let to = enemy_lion(position, &masks);
+    let attackers = masks.attackers(to);
+    if attackers == 0 {
+        return None;
+    }
+    let from = lowest_square(attackers);
+    match own_kind(position.setup.at(from)) {
+        Some(kind) => Some(Move::Step {
+            kind,
+            from,
+            to,
+            catch: true,
+            grows: grows_at(kind, to),
+        }),
+        None => unreachable!(),
+    }
 }
 
-/// Whether the enemy lion stands on that square.
-fn holds_enemy_lion(position: &Position, square: Square) -> bool
-    ensures { IsTrue result ↔ (at position.now.setup square ≡ Some (piece_of Side.Enemy Kind.Lion)) }
+/// Whether some step of the mover ends on the enemy lion, which stands on that square.
+fn can_catch(position: &Position, masks: &Masks, lion: Square) -> bool
+    requires masks { AreMasks position.now.setup masks.now }
+    requires lion { at position.now.setup lion ≡ Some (piece_of Side.Enemy Kind.Lion) }
+    ensures { IsTrue result ↔ CanCatch position.now.setup }
 {
-    matches!(
-        position.setup.at(square),
-        Some(Piece {
-            side: Side::Enemy,
-            kind: Kind::Lion
-        })
-    )
+    masks.attackers(lion) != 0
 }
 
-/// Whether the enemy lion stands on row 1.
-fn has_tried(position: &Position) -> bool
-    ensures { IsTrue result ↔ HasTried position.now.setup }
+/// Whether the mover's lion has a step, other than onto the enemy lion. Most positions that have a move have one.
+fn lion_can_step(position: &Position, masks: &Masks) -> bool
+    requires { AreMasks position.now.setup masks.now }
+    ensures { IsTrue result → (move : Moved) × CanGo position.now.setup move }
 {
-    holds_enemy_lion(position, Square::new(0))
-        || holds_enemy_lion(position, Square::new(1))
-        || holds_enemy_lion(position, Square::new(2))
+    Kind::Lion.targets(own_lion(position, masks)) & masks.ends != 0
 }
 
-/// Whether the mover has a step, other than onto the enemy lion, or a drop.
-fn can_move(position: &Position) -> bool
+/// Whether a step, other than onto the enemy lion, or a drop of the mover is found.
+pub(crate) fn finds_move(position: &Position) -> bool
     ensures { IsTrue result ↔ ((move : Moved) × CanGo position.now.setup move) }
 {
     first_step(&position.setup, Aim::Elsewhere).is_some() || first_drop(&position.setup).is_some()
+}
+
+/// Whether the mover has a move while its steps onto the enemy lion aren't counted.
+fn can_move(position: &Position, masks: &Masks) -> bool
+    requires { AreMasks position.now.setup masks.now }
+    ensures { IsTrue result ↔ ((move : Moved) × CanGo position.now.setup move) }
+{
+    lion_can_step(position, masks) || finds_move(position)
 }
 
 /// The status of the position: a catch is looked for first, then a try, then a move.
 pub fn status(position: &Position) -> Status
     ensures { HasStatus position.now.setup result }
 {
-    if first_catch(position).is_some() {
+    status_by(position, &Masks::of(&position.setup))
+}
+
+/// The same of a position with those masks.
+#[tactic(auto, using(crate::proofs::Masked::tried_by))]
+pub(crate) fn status_by(position: &Position, masks: &Masks) -> Status
+    requires { AreMasks position.now.setup masks.now }
+    ensures { HasStatus position.now.setup result }
+{
+    let lion = enemy_lion(position, masks);
+    if can_catch(position, masks, lion) {
         Status::Caught
-    } else if has_tried(position) {
+    } else if lion.row() == 0 {
         Status::Tried
-    } else if can_move(position) {
+    } else if can_move(position, masks) {
         Status::Open
     } else {
         Status::Stuck

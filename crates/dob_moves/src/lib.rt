@@ -8,13 +8,14 @@ mod judge;
 pub mod laws;
 mod listing;
 mod outlook;
+pub mod plain;
 mod search;
 
 pub use applied::apply;
 pub use choice::Move;
 pub use count::count_moves;
 pub use judge::{first_catch, status};
-pub use listing::moves;
+pub use listing::{moves, moves_into};
 pub use outlook::Status;
 
 #[cfg(test)]

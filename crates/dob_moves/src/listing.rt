@@ -1,88 +1,125 @@
-// The list of a position's moves.
-ghost use Rattle.std.specs.Prelude.{◌≡◌, ◌++◌, IfOk, OnOk, option_to_list};
-ghost use Rattle.dob_moves.specs.Statuses.{AreMoves};
-ghost use Rattle.dob_moves.specs.Walks.{steps_by, steps_from, all_steps, put_on, drops_of, all_drops};
+// The list of a position's moves: the squares that masks tell, from the lowest on, which is the move order.
+ghost use Rattle.std.specs.Prelude.{◌≡◌, ◌++◌, IfOk, OnOk};
+ghost use Rattle.dob_pieces.specs.Masks.{AreMasks};
+ghost use Rattle.dob_moves.specs.Statuses.{HasStatus, AreMoves};
+ghost use Rattle.dob_moves.specs.Walks.{steps_by, steps_from, all_steps, drops_of, all_drops};
 ghost use Rattle.dob_moves.specs.declared.search.Aim.TheVariants.{Elsewhere};
 
 use crate::choice::Move;
-use crate::judge::status;
+use crate::judge::status_by;
 use crate::outlook::Status;
-use crate::search::{Aim, own_kind, put_on, step_by};
-use dob_pieces::{HandKind, Kind, Memory, Position, Setup, Square};
+use crate::search::{grows_at, own_kind};
+use dob_pieces::{
+    HandKind, Kind, Masks, Memory, Position, Setup, Square, lowest_square, without_square,
+};
 use std::alloc::Global;
 
-/// Appends the move, if there is one.
-fn push_found(moves: &mut Vec<Move>, found: Option<Move>) -> Result<(), Memory>
-    ensures { OnOk result (moves.new.items ≡ moves.old.items ++ option_to_list found) }
-{
-    if let Some(found) = found {
-        moves.push(found)?;
-    }
-    Ok(())
-}
-
 /// Appends the steps of a piece of that kind on that square, other than onto the enemy lion.
-#[tactic(auto, using(crate::proofs::Appends::appends), unfolding(crate::specs::Walks::steps_by))]
 fn push_steps_by(
     moves: &mut Vec<Move>,
     setup: &Setup,
+    masks: &Masks,
     kind: Kind,
     from: Square,
 ) -> Result<(), Memory>
+    requires { AreMasks setup.now masks.now }
     ensures { OnOk result (moves.new.items ≡ moves.old.items ++ steps_by Elsewhere setup.now kind from) }
 {
-    for step in kind.steps() {
-        let found = step_by(setup, Aim::Elsewhere, kind, from, *step);
-        push_found(moves, found)?;
+    let mut left = kind.targets(from) & masks.ends;
+    while left != 0 {
+        let to = lowest_square(left);
+        moves.push(Move::Step {
+            kind,
+            from,
+            to,
+            catch: setup.at(to).is_some(),
+            grows: grows_at(kind, to),
+        })?;
+        left = without_square(left, to);
     }
     Ok(())
 }
 
 /// Appends the mover's steps from that square.
 #[tactic(auto, using(crate::proofs::Appends::appends), unfolding(crate::specs::Walks::steps_from))]
-fn push_steps_from(moves: &mut Vec<Move>, setup: &Setup, from: Square) -> Result<(), Memory>
+fn push_steps_from(
+    moves: &mut Vec<Move>,
+    setup: &Setup,
+    masks: &Masks,
+    from: Square,
+) -> Result<(), Memory>
+    requires { AreMasks setup.now masks.now }
     ensures { OnOk result (moves.new.items ≡ moves.old.items ++ steps_from Elsewhere setup.now from) }
 {
     match own_kind(setup.at(from)) {
-        Some(kind) => push_steps_by(moves, setup, kind, from),
+        Some(kind) => push_steps_by(moves, setup, masks, kind, from),
         None => Ok(()),
     }
 }
 
 /// Appends the mover's steps.
-#[tactic(auto, using(crate::proofs::Appends::appends), unfolding(crate::specs::Walks::all_steps))]
-fn push_steps(moves: &mut Vec<Move>, setup: &Setup) -> Result<(), Memory>
+fn push_steps(moves: &mut Vec<Move>, setup: &Setup, masks: &Masks) -> Result<(), Memory>
+    requires { AreMasks setup.now masks.now }
     ensures { OnOk result (moves.new.items ≡ moves.old.items ++ all_steps Elsewhere setup.now) }
 {
-    for index in 0..Square::COUNT {
-        push_steps_from(moves, setup, Square::new(index))?;
+    let mut left = masks.own;
+    while left != 0 {
+        let from = lowest_square(left);
+        push_steps_from(moves, setup, masks, from)?;
+        left = without_square(left, from);
     }
     Ok(())
 }
 
 /// Appends the drops of that kind.
-#[tactic(auto, using(crate::proofs::Appends::appends), unfolding(crate::specs::Walks::drops_of))]
-fn push_drops_of(moves: &mut Vec<Move>, setup: &Setup, kind: HandKind) -> Result<(), Memory>
+fn push_drops_of(
+    moves: &mut Vec<Move>,
+    setup: &Setup,
+    masks: &Masks,
+    kind: HandKind,
+) -> Result<(), Memory>
+    requires { AreMasks setup.now masks.now }
     ensures { OnOk result (moves.new.items ≡ moves.old.items ++ drops_of setup.now kind) }
 {
     if setup.hands.mover.count(kind) == 0 {
         return Ok(());
     }
-    for index in 0..Square::COUNT {
-        let put = put_on(setup, kind, Square::new(index));
-        push_found(moves, put)?;
+    let mut left = masks.empty;
+    while left != 0 {
+        let to = lowest_square(left);
+        moves.push(Move::Put { kind, to })?;
+        left = without_square(left, to);
     }
     Ok(())
 }
 
 /// Appends the drops.
 #[tactic(auto, using(crate::proofs::Appends::appends), unfolding(crate::specs::Walks::all_drops))]
-fn push_drops(moves: &mut Vec<Move>, setup: &Setup) -> Result<(), Memory>
+fn push_drops(moves: &mut Vec<Move>, setup: &Setup, masks: &Masks) -> Result<(), Memory>
+    requires { AreMasks setup.now masks.now }
     ensures { OnOk result (moves.new.items ≡ moves.old.items ++ all_drops setup.now) }
 {
-    push_drops_of(moves, setup, HandKind::Chick)?;
-    push_drops_of(moves, setup, HandKind::Elephant)?;
-    push_drops_of(moves, setup, HandKind::Giraffe)
+    push_drops_of(moves, setup, masks, HandKind::Chick)?;
+    push_drops_of(moves, setup, masks, HandKind::Elephant)?;
+    push_drops_of(moves, setup, masks, HandKind::Giraffe)
+}
+
+/// Clears the list, writes the moves of an open position into it, each once, in the move order, and no moves of any
+/// other position, and gives the position's status. Fails where memory runs out, and leaves a part of them then.
+pub fn moves_into(moves: &mut Vec<Move>, position: &Position) -> Result<Status, Memory>
+    ensures moves { OnOk result (AreMoves position.now.setup moves.new.items) }
+    ensures status { IfOk result (λ s. HasStatus position.now.setup s) }
+{
+    moves.clear();
+    let masks = Masks::of(&position.setup);
+    match status_by(position, &masks) {
+        Status::Open => {
+            push_steps(moves, &position.setup, &masks)?;
+            push_drops(moves, &position.setup, &masks)?;
+            Ok(Status::Open)
+        }
+        other => Ok(other),
+    }
 }
 
 /// The moves of an open position, each once, in the move order; no moves of any other position. Fails where memory
@@ -91,12 +128,6 @@ pub fn moves(alloc: Global, position: &Position) -> Result<Vec<Move>, Memory>
     ensures { IfOk result (λ v. AreMoves position.now.setup v.items) }
 {
     let mut moves = Vec::new(alloc);
-    match status(position) {
-        Status::Open => {
-            push_steps(&mut moves, &position.setup)?;
-            push_drops(&mut moves, &position.setup)?;
-            Ok(moves)
-        }
-        _ => Ok(moves),
-    }
+    moves_into(&mut moves, position)?;
+    Ok(moves)
 }

@@ -1,5 +1,6 @@
 // The search for the first step or drop, in the move order.
 ghost use Rattle.std.specs.Prelude.{◌≡◌};
+ghost use Rattle.dob_moves.specs.Moves.{grows_at};
 ghost use Rattle.dob_moves.specs.Walks.{first, own_kind, may_end, step_onto, step_by, steps_by, steps_from, all_steps, put_on, drops_of, all_drops};
 
 use crate::choice::Move;
@@ -41,13 +42,20 @@ fn may_end(aim: Aim, cell: Option<Piece>) -> bool
     }
 }
 
+/// Whether a step of that kind that ends there makes a hen.
+pub(crate) fn grows_at(kind: Kind, to: Square) -> bool
+    ensures { result ≡ grows_at kind to }
+{
+    matches!(kind, Kind::Chick) && to.row() == 3
+}
+
 /// The step that ends on what stands there, if it may end there.
 fn step_onto(aim: Aim, cell: Option<Piece>, kind: Kind, from: Square, to: Square) -> Option<Move>
     ensures { result ≡ step_onto aim cell kind from to }
 {
     if may_end(aim, cell) {
         let catch = cell.is_some();
-        let grows = matches!(kind, Kind::Chick) && to.row() == 3;
+        let grows = grows_at(kind, to);
         Some(Move::Step {
             kind,
             from,

@@ -2,4 +2,8 @@ pub mod Lists
 pub mod Boards
 pub mod Legality
 pub mod Symmetries
+pub mod MaskBits
+pub mod MaskWalks
+pub mod Attacks
 pub mod Targets
+pub mod Planes

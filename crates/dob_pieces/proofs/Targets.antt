@@ -1,36 +1,26 @@
--- The bits of the targets of each square are the steps of the kind: computed for each kind and each two squares.
-use Rattle.std.proofs.Common.{◌≡◌, ℕ, ◌<◌, ◌/◌, ◌^◌, nat_eq, bit_and, Bool, true, false, List, [], ◌∷◌, get_or, refl, sym, ap, ◌∙◌}
+-- The masks of the tables are the steps of the kinds: computed for each kind and each two squares.
+use Rattle.std.proofs.Common.{◌≡◌, ℕ, ◌<◌, ltb, eqb, ◌&&◌, Bool, true, cond, List, [], ◌∷◌, get_or, refl, sym, subst}
+use Rattle.std.specs.Int.{bit_at}
+use Rattle.std.proofs.lemmas.Bool.{and_parts, ltb-true, eqb-true}
 use Rattle.dob_pieces.specs.declared.kind.Kind.{Kind}
 use Rattle.dob_pieces.specs.declared.kind.Kind.TheVariants.{Lion, Giraffe, Elephant, Chick, Hen}
 use Rattle.dob_pieces.specs.Pieces.{leads}
+use Rattle.dob_pieces.specs.Masks.{IsMask}
 use Rattle.dob_pieces.proofs.Boards.{all_below, all_below-at}
 
-abbrev same : Bool → Bool → Bool
-same true true = true
-same true false = false
-same false true = false
-same false false = true
+-- the mask has just the squares that pass the test
+abbrev has_bits : (ℕ → Bool) → ℕ → Bool
+has_bits test mask = ltb mask 4096 && all_below (λ square. eqb (bit_at mask square) (cond (test square) 1 0)) 12
 
-same-true : (a b : Bool) → same a b ≡ true → a ≡ b
-same-true true true h = refl
-same-true true false h = cc
-same-true false true h = cc
-same-true false false h = refl
-
--- the bit of that place
-abbrev pub has_bit : ℕ → ℕ → Bool
-has_bit bits place = nat_eq (bit_and (bits / 2 ^ place) 1) 1
-
-abbrev agree : Kind → List ℕ → ℕ → Bool
-agree kind targets from = all_below (λ to. same (has_bit (get_or targets from 0) to) (leads kind from to)) 12
-
-abbrev agreed : Kind → List ℕ → Bool
-agreed kind targets = all_below (agree kind targets) 12
-
-tells : (kind : Kind) (targets : List ℕ) → agreed kind targets ≡ true → (from to : ℕ) → from < 12 → to < 12 → has_bit (get_or targets from 0) to ≡ leads kind from to
-tells kind targets all from to low below =
-    same-true (has_bit (get_or targets from 0) to) (leads kind from to)
-    (all_below-at (λ to. same (has_bit (get_or targets from 0) to) (leads kind from to)) 12 to (all_below-at (agree kind targets) 12 from all low) below)
+is_mask : (test : ℕ → Bool) (mask : ℕ) → has_bits test mask ≡ true → IsMask test mask
+is_mask test mask h =
+    let parts = and_parts (ltb mask 4096) (all_below (λ square. eqb (bit_at mask square) (cond (test square) 1 0)) 12) h in
+    record {
+      within = ltb-true mask 4096 parts.0;
+      bits = λ square lt.
+          eqb-true (bit_at mask square) (cond (test square) 1 0)
+          (all_below-at (λ square. eqb (bit_at mask square) (cond (test square) 1 0)) 12 square parts.1 lt);
+    }
 
 abbrev pub lion_targets : List ℕ
 lion_targets = 26 ∷ 61 ∷ 50 ∷ 211 ∷ 495 ∷ 406 ∷ 1688 ∷ 3960 ∷ 3248 ∷ 1216 ∷ 3008 ∷ 1408 ∷ []
@@ -54,20 +44,47 @@ targets_of Elephant = elephant_targets
 targets_of Chick = chick_targets
 targets_of Hen = hen_targets
 
-computed : (kind : Kind) → agreed kind (targets_of kind) ≡ true
+abbrev pub chick_sources : List ℕ
+chick_sources = 0 ∷ 0 ∷ 0 ∷ 1 ∷ 2 ∷ 4 ∷ 8 ∷ 16 ∷ 32 ∷ 64 ∷ 128 ∷ 256 ∷ []
+
+abbrev pub hen_sources : List ℕ
+hen_sources = 10 ∷ 21 ∷ 34 ∷ 83 ∷ 175 ∷ 278 ∷ 664 ∷ 1400 ∷ 2224 ∷ 1216 ∷ 3008 ∷ 1408 ∷ []
+
+abbrev pub sources_of : Kind → List ℕ
+sources_of Lion = lion_targets
+sources_of Giraffe = giraffe_targets
+sources_of Elephant = elephant_targets
+sources_of Chick = chick_sources
+sources_of Hen = hen_sources
+
+targets_computed : (kind : Kind) → all_below (λ from. has_bits (leads kind from) (get_or (targets_of kind) from 0)) 12 ≡ true
 unfolding leads
-computed Lion = refl
-computed Giraffe = refl
-computed Elephant = refl
-computed Chick = refl
-computed Hen = refl
+targets_computed Lion = refl
+targets_computed Giraffe = refl
+targets_computed Elephant = refl
+targets_computed Chick = refl
+targets_computed Hen = refl
 
-pub bit_leads : (kind : Kind) (from to : ℕ) → from < 12 → to < 12 → has_bit (get_or (targets_of kind) from 0) to ≡ leads kind from to
-bit_leads kind from to = tells kind (targets_of kind) (computed kind) from to
+sources_computed : (kind : Kind) → all_below (λ to. has_bits (λ from. leads kind from to) (get_or (sources_of kind) to 0)) 12 ≡ true
+unfolding leads
+sources_computed Lion = refl
+sources_computed Giraffe = refl
+sources_computed Elephant = refl
+sources_computed Chick = refl
+sources_computed Hen = refl
 
--- the same of a number that was read from the table
-pub read_leads : (kind self : Kind) (from to index place bits : ℕ) → self ≡ kind → index ≡ from → index < 12 → place ≡ to → place < 12
-    → bits ≡ get_or (targets_of kind) index 0 → has_bit bits place ≡ leads self from to
-read_leads kind self from to index place bits is at low on below read =
-    ap (λ (b : ℕ). has_bit b place) read ∙ bit_leads kind index place low below
-    ∙ (λ i. leads (sym is i) (at i) (on i))
+-- a mask read from the table of targets
+pub target_mask : (kind self : Kind) (from index : ℕ) → self ≡ kind → index ≡ from → index < 12 → IsMask (leads self from) (get_or (targets_of kind) index 0)
+target_mask kind self from index is at low =
+    let mask = is_mask (leads kind index) (get_or (targets_of kind) index 0)
+    (all_below-at (λ from. has_bits (leads kind from) (get_or (targets_of kind) from 0)) 12 index (targets_computed kind) low) in
+    subst (λ (k : Kind). IsMask (leads k from) (get_or (targets_of kind) index 0)) (sym is)
+    (subst (λ (i : ℕ). IsMask (leads kind i) (get_or (targets_of kind) index 0)) at mask)
+
+-- and from that of sources
+pub source_mask : (kind self : Kind) (to index : ℕ) → self ≡ kind → index ≡ to → index < 12 → IsMask (λ from. leads self from to) (get_or (sources_of kind) index 0)
+source_mask kind self to index is at low =
+    let mask = is_mask (λ from. leads kind from index) (get_or (sources_of kind) index 0)
+    (all_below-at (λ to. has_bits (λ from. leads kind from to) (get_or (sources_of kind) to 0)) 12 index (sources_computed kind) low) in
+    subst (λ (k : Kind). IsMask (λ from. leads k from to) (get_or (sources_of kind) index 0)) (sym is)
+    (subst (λ (i : ℕ). IsMask (λ from. leads kind from i) (get_or (sources_of kind) index 0)) at mask)

@@ -1,6 +1,7 @@
 // Where the steps of a kind lead: the one table of steps.
 ghost use Rattle.std.specs.Prelude.{◌≡◌};
 ghost use Rattle.dob_pieces.specs.Pieces.{leads, square_after, steps_of};
+ghost use Rattle.dob_pieces.specs.Masks.{IsMask};
 
 use crate::kind::Kind;
 use crate::square::Square;
@@ -44,6 +45,11 @@ const HEN_TARGETS: Targets = [
     26, 61, 50, 209, 490, 404, 1672, 3920, 3232, 1088, 2688, 1280,
 ];
 
+/// For each square the squares from which steps lead there. The steps of the other kinds lead back again.
+const CHICK_SOURCES: Targets = [0, 0, 0, 1, 2, 4, 8, 16, 32, 64, 128, 256];
+
+const HEN_SOURCES: Targets = [10, 21, 34, 83, 175, 278, 664, 1400, 2224, 1216, 3008, 1408];
+
 impl Kind {
     /// The kind's steps, in the order of the squares to which they lead.
     pub fn steps(self) -> &'static [Step]
@@ -58,18 +64,37 @@ impl Kind {
         }
     }
 
-    /// Whether one of the kind's steps leads from the one square to the other.
-    pub fn leads(self, from: Square, to: Square) -> bool
-        ensures { result ≡ leads self from to }
+    /// The squares to which the kind's steps lead from the square, as a mask: square 0 is the lowest bit.
+    pub fn targets(self, from: Square) -> u16
+        ensures { IsMask (leads self from) result }
     {
-        let targets = match self {
+        match self {
             Kind::Lion => LION_TARGETS[from.index()],
             Kind::Giraffe => GIRAFFE_TARGETS[from.index()],
             Kind::Elephant => ELEPHANT_TARGETS[from.index()],
             Kind::Chick => CHICK_TARGETS[from.index()],
             Kind::Hen => HEN_TARGETS[from.index()],
-        };
-        targets >> to.index() & 1 == 1
+        }
+    }
+
+    /// The squares from which the kind's steps lead to the square, as a mask.
+    pub fn sources(self, to: Square) -> u16
+        ensures { IsMask (λ from. leads self from to) result }
+    {
+        match self {
+            Kind::Lion => LION_TARGETS[to.index()],
+            Kind::Giraffe => GIRAFFE_TARGETS[to.index()],
+            Kind::Elephant => ELEPHANT_TARGETS[to.index()],
+            Kind::Chick => CHICK_SOURCES[to.index()],
+            Kind::Hen => HEN_SOURCES[to.index()],
+        }
+    }
+
+    /// Whether one of the kind's steps leads from the one square to the other.
+    pub fn leads(self, from: Square, to: Square) -> bool
+        ensures { result ≡ leads self from to }
+    {
+        self.targets(from) >> to.index() & 1 == 1
     }
 }
 

@@ -6,9 +6,9 @@ ghost use Rattle.dob_moves.specs.Moves.{Goes, CanGo};
 ghost use Rattle.dob_moves.specs.Statuses.{HasStatus};
 ghost use Rattle.dob_rank.specs.Order.{IsPositionOf};
 ghost use Rattle.dob_rank.specs.Marks.{classes_of};
-ghost use Rattle.dob_value.specs.Graphs.{ClassStandsFor, AreSuccessors, IsGraph, status_at, successors_at};
+ghost use Rattle.dob_value.specs.Graphs.{ClassStandsFor, IsNode, IsGraph, status_at, successors_at};
 
-use dob_moves::{Move, Status, apply, moves, status};
+use dob_moves::{Move, Status, apply, moves_into};
 use dob_pieces::{Memory, PieceSet, Position};
 use dob_rank::Classes;
 use std::alloc::Global;
@@ -61,23 +61,24 @@ fn number_after(classes: &Classes, position: &Position, choice: Move) -> usize
     number_of(classes, &apply(position, choice))
 }
 
-// Appends the numbers of the classes to which the position's moves lead.
+// Appends the numbers of the classes to which the position's moves lead, and gives its status. The list of choices is
+// room for its moves.
 fn push_successors(
-    alloc: Global,
     classes: &Classes,
     position: &Position,
+    choices: &mut Vec<Move>,
     successors: &mut Vec<usize>,
-) -> Result<(), Memory>
+) -> Result<Status, Memory>
     requires { IsPositionOf classes.now.set position.now.setup }
-    ensures { IfOk result (λ _. (numbers : List ℕ) × (successors.new.items ≡ successors.old.items ++ numbers)
-        × AreSuccessors (ClassStandsFor classes.now.set) position.now.setup numbers) }
+    ensures { IfOk result (λ status. (numbers : List ℕ) × (successors.new.items ≡ successors.old.items ++ numbers)
+        × IsNode (ClassStandsFor classes.now.set) position.now.setup status numbers) }
 {
-    let choices = moves(alloc, position)?;
-    for choice in &choices {
+    let status = moves_into(choices, position)?;
+    for choice in choices.iter() {
         let number = number_after(classes, position, *choice);
         successors.push(number)?;
     }
-    Ok(())
+    Ok(status)
 }
 
 /// The graph of the classes.
@@ -90,11 +91,12 @@ pub(crate) fn graph_of(alloc: Global, classes: &Classes) -> Result<Graph, Memory
     let mut statuses = Vec::new(alloc);
     let mut starts = Vec::new(alloc);
     let mut successors = Vec::new(alloc);
+    let mut choices = Vec::new(alloc);
     starts.push(0)?;
     for number in 0..classes.class_count() {
         let position = classes.class_at(number);
-        push_successors(alloc, classes, &position, &mut successors)?;
-        statuses.push(status(&position))?;
+        let status = push_successors(classes, &position, &mut choices, &mut successors)?;
+        statuses.push(status)?;
         starts.push(successors.len())?;
     }
     Ok(Graph {

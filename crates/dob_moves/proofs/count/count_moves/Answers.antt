@@ -9,4 +9,4 @@ returns-in-Open c =
 
 pub returns-in_default : goal.returns-in_default
 returns-in_default c =
-    other_count c.args.position.now.setup c.status.result c.args.position.now.legal.squares c.status.ensures c.in_default.not-Open
+    other_count c.args.position.now.setup c.status_by.result c.args.position.now.legal.squares c.status_by.ensures c.in_default.not-Open

@@ -1,9 +1,10 @@
--- The drops on the squares so far are appended.
-use Rattle.std.proofs.Common.{◌≡◌, ◌++◌, option_to_list}
-use Rattle.dob_pieces.specs.Lists.{each_below}
-use Rattle.dob_moves.specs.Walks.{put_on}
+-- What the squares gone over give is appended.
+use Rattle.dob_pieces.proofs.MaskWalks.{IsWalked}
+use Rattle.dob_moves.proofs.Listed.{empty_at, puts_on}
 use Rattle.dob_moves.proofs.listing.push_drops_of.Given as goal
 
-abbrev pub invariant-loop-index : goal.invariant-loop-index
-invariant-loop-index l =
-    l.moves.items ≡ l.initial.moves.items ++ each_below (λ to. option_to_list (put_on l.setup l.kind to)) l.index
+abbrev pub invariant-loop-left : goal.invariant-loop-left
+invariant-loop-left l = IsWalked (empty_at l.setup) (puts_on l.setup l.kind) l.left l.initial.moves.items l.moves.items
+
+abbrev pub decreases-loop-left : goal.decreases-loop-left
+decreases-loop-left l = l.left

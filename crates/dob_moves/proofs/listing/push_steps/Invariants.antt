@@ -1,9 +1,12 @@
--- The steps from the squares so far are appended.
-use Rattle.std.proofs.Common.{◌≡◌, ◌++◌}
-use Rattle.dob_pieces.specs.Lists.{each_below}
+-- What the squares gone over give is appended.
 use Rattle.dob_moves.specs.declared.search.Aim.TheVariants.{Elsewhere}
 use Rattle.dob_moves.specs.Walks.{steps_from}
+use Rattle.dob_pieces.proofs.MaskWalks.{IsWalked}
+use Rattle.dob_moves.proofs.Listed.{own_at}
 use Rattle.dob_moves.proofs.listing.push_steps.Given as goal
 
-abbrev pub invariant-loop-index : goal.invariant-loop-index
-invariant-loop-index l = l.moves.items ≡ l.initial.moves.items ++ each_below (steps_from Elsewhere l.setup) l.index
+abbrev pub invariant-loop-left : goal.invariant-loop-left
+invariant-loop-left l = IsWalked (own_at l.setup) (steps_from Elsewhere l.setup) l.left l.initial.moves.items l.moves.items
+
+abbrev pub decreases-loop-left : goal.decreases-loop-left
+decreases-loop-left l = l.left

@@ -1,13 +1,37 @@
--- the next step's move is appended
-use Rattle.std.proofs.Common.{rules, ◌∙◌, ◌++◌, ap, option_to_list}
+-- The squares of the mask are gone over from the lowest on, and the others give nothing.
+use Rattle.std.proofs.Common.{rules, ◌≡◌, ◌∷◌, [], ◌++◌, ◌<◌, ℕ, true, List, sym, ap, ◌∙◌, arith}
+use Rattle.dob_moves.specs.declared.choice.Move.{Move}
+use Rattle.dob_moves.specs.declared.choice.Move.TheVariants.{Step}
 use Rattle.dob_moves.specs.declared.search.Aim.TheVariants.{Elsewhere}
-use Rattle.dob_moves.specs.Walks.{step_by}
-use Rattle.dob_moves.proofs.Appends.{taken_more}
+use Rattle.std.specs.Option.{is_some}
+use Rattle.dob_pieces.specs.Setups.{at}
+use Rattle.dob_moves.specs.Moves.{grows_at}
+use Rattle.dob_moves.specs.Walks.{steps_by}
+use Rattle.dob_moves.proofs.Tables.{steps_by-squares}
+use Rattle.dob_moves.proofs.Listed.{may_step, steps_to, steps_quiet, step_there, may_step_mask}
+use Rattle.dob_pieces.proofs.MaskWalks.{walk_start, walk_less, walk_next, walk_end}
 use Rattle.dob_moves.proofs.listing.push_steps_by.Goals as goal
 
-pub loop-step-preserved : goal.loop-step-preserved
-loop-step-preserved c =
-    let items = c.loop-step.moves.items in
-    taken_more (step_by Elsewhere c.args.setup.now c.args.kind c.args.from) c.steps-step-items.result.now (0, 0)
-    c.loop-step.step-index c.args.moves.now.items items c.push_found.new.moves.items (search rules) c.loop-step.invariant
-    (c.in_ok-push_found.ensures ∙ ap (λ found. items ++ option_to_list found) c.step_by-found.ensures)
+pub loop-left-init : goal.loop-left-init
+loop-left-init c = walk_start (may_step c.args.setup.now c.args.kind c.args.from) (steps_to c.args.setup.now c.args.kind c.args.from) _ c.args.moves.now.items (may_step_mask c.args.setup.now c.args.kind c.args.from c.targets.result c.args.masks.now.ends c.targets.ensures c.requires.ends_are)
+
+pub loop-left-smaller : goal.loop-left-smaller
+loop-left-smaller c =
+    walk_less (may_step c.args.setup.now c.args.kind c.args.from) (steps_to c.args.setup.now c.args.kind c.args.from) c.loop-left.left c.lowest_square-to.result c.without_square-left.result
+    c.args.moves.now.items c.loop-left.moves.items c.loop-left.invariant (omega arith) c.lowest_square-to.ensures c.without_square-left.ensures
+
+pub loop-left-preserved : goal.loop-left-preserved
+loop-left-preserved c =
+    walk_next (may_step c.args.setup.now c.args.kind c.args.from) (steps_to c.args.setup.now c.args.kind c.args.from) c.loop-left.left c.lowest_square-to.result c.without_square-left.result
+    c.args.moves.now.items c.loop-left.moves.items _ (steps_quiet c.args.setup.now c.args.kind c.args.from) c.loop-left.invariant (omega arith) c.lowest_square-to.ensures c.without_square-left.ensures
+    (λ passes.
+    let to = c.lowest_square-to.result in
+    let step : Step c.args.kind c.args.from to c.is_some.result c.grows_at.result ≡ Step c.args.kind c.args.from to (is_some (at c.args.setup.now to)) (grows_at c.args.kind to)
+    = (λ i. Step c.args.kind c.args.from to ((c.is_some.ensures ∙ ap is_some c.at.ensures) i) (c.grows_at.ensures i)) in
+    c.in_ok-push.ensures.items ∙ ap (λ (m : Move). c.loop-left.moves.items ++ m ∷ []) step
+    ∙ ap (λ (ms : List Move). c.loop-left.moves.items ++ ms) (sym (step_there c.args.setup.now c.args.kind c.args.from to passes)))
+
+pub returns : goal.returns
+returns c =
+    (walk_end (may_step c.args.setup.now c.args.kind c.args.from) (steps_to c.args.setup.now c.args.kind c.args.from) c.loop-left.left c.args.moves.now.items c.loop-left.moves.items (steps_quiet c.args.setup.now c.args.kind c.args.from) c.loop-left.invariant (omega arith))
+    ∙ ap (λ (ms : List Move). c.args.moves.now.items ++ ms) (sym (steps_by-squares Elsewhere c.args.setup.now c.args.kind c.args.from (search rules)))

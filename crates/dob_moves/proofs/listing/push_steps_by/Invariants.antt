@@ -1,10 +1,10 @@
--- The moves by the steps so far are appended.
-use Rattle.std.proofs.Common.{◌≡◌, ◌++◌, take}
-use Rattle.std.specs.List.{filter_map}
-use Rattle.dob_moves.specs.declared.search.Aim.TheVariants.{Elsewhere}
-use Rattle.dob_moves.specs.Walks.{step_by}
+-- What the squares gone over give is appended.
+use Rattle.dob_pieces.proofs.MaskWalks.{IsWalked}
+use Rattle.dob_moves.proofs.Listed.{may_step, steps_to}
 use Rattle.dob_moves.proofs.listing.push_steps_by.Given as goal
 
-abbrev pub invariant-loop-step : goal.invariant-loop-step
-invariant-loop-step l =
-    l.moves.items ≡ l.initial.moves.items ++ filter_map (step_by Elsewhere l.setup l.kind l.from) (take l.step-index l.step-items)
+abbrev pub invariant-loop-left : goal.invariant-loop-left
+invariant-loop-left l = IsWalked (may_step l.setup l.kind l.from) (steps_to l.setup l.kind l.from) l.left l.initial.moves.items l.moves.items
+
+abbrev pub decreases-loop-left : goal.decreases-loop-left
+decreases-loop-left l = l.left

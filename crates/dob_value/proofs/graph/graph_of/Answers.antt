@@ -12,14 +12,14 @@ pub loop-number-preserved : goal.loop-number-preserved
 loop-number-preserved c =
     let set = c.args.classes.now.set in
     let number = c.loop-number.number in
-    let found = c.in_ok-push_successors.ensures in
+    let found = c.in_ok-status.ensures in
     let within : number < classes_of set = omega (arith, c.class_count-number-end.ensures.number) in
     let is : c.class_at-position.result.setup ≡ class_setup set number =
     class_setup_only set c.class_at-position.result.setup number (classes_of set) (HasClasses-classes_of set) within
     c.class_at-position.ensures.representative c.class_at-position.ensures.class in
-    let known : IsNode (ClassStandsFor set) (class_setup set number) c.status.result found.0 =
-    subst (λ p. IsNode (ClassStandsFor set) p c.status.result found.0) is
-    (record { status = c.status.ensures; successors = found.2 }) in
-    nodes_grown set number c.loop-number.statuses.items c.loop-number.starts.items c.loop-number.successors.items c.status.result found.0
+    let status = c.in_ok-status.status in
+    let known : IsNode (ClassStandsFor set) (class_setup set number) status found.0 =
+    subst (λ p. IsNode (ClassStandsFor set) p status found.0) is found.2 in
+    nodes_grown set number c.loop-number.statuses.items c.loop-number.starts.items c.loop-number.successors.items status found.0
     _ _ _ _ c.loop-number.invariant known c.in_ok-push-2.ensures.items c.in_ok-push-3.ensures.items
     (c.len.ensures ∙ c.push_successors.new.successors.ok.0) found.1

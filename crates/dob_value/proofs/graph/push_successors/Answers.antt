@@ -9,7 +9,7 @@ use Rattle.dob_value.proofs.graph.push_successors.Goals.{After-deref-choice-item
 
 -- what is known of the list of moves
 choices_are : (c : After-deref-choice-items) → AreMoves c.args.position.now.setup c.deref-choice-items.result.now
-choices_are c = subst (λ xs. AreMoves c.args.position.now.setup xs) (sym c.deref-choice-items.ensures.value) c.in_ok-choices.ensures
+choices_are c = subst (λ xs. AreMoves c.args.position.now.setup xs) (sym c.deref-choice-items.ensures.value) c.in_ok-status.ensures.moves
 
 pub loop-choice-init : goal.loop-choice-init
 loop-choice-init c =
@@ -47,7 +47,11 @@ pub returns : goal.returns
 returns c = (
   c.loop-choice.invariant.0,
   c.loop-choice.invariant.1,
-  successors_all (ClassStandsFor c.args.classes.now.set) c.args.position.now.setup c.deref-choice-items.result.now
-      c.loop-choice.choice-index c.loop-choice.invariant.0 c.loop-choice-test.false
-      (choices_are (goal.at.returns c).After-deref-choice-items) c.loop-choice.invariant.2,
+  record {
+    status = c.in_ok-status.ensures.status;
+    successors =
+        successors_all (ClassStandsFor c.args.classes.now.set) c.args.position.now.setup c.deref-choice-items.result.now
+        c.loop-choice.choice-index c.loop-choice.invariant.0 c.loop-choice-test.false
+        (choices_are (goal.at.returns c).After-deref-choice-items) c.loop-choice.invariant.2;
+  },
 )

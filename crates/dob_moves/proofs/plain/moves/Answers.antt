@@ -1,7 +1,7 @@
 -- The steps and then the drops are the moves of an open position, and no other position has any.
 use Rattle.std.proofs.Common.{rules}
 use Rattle.dob_moves.proofs.Verdicts.{open_answer, other_answer}
-use Rattle.dob_moves.proofs.listing.moves.Goals as goal
+use Rattle.dob_moves.proofs.plain.moves.Goals as goal
 
 pub returns-in_ok-push_drops-in-Open : goal.returns-in_ok-push_drops-in-Open
 returns-in_ok-push_drops-in-Open c =

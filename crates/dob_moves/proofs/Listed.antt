@@ -1,0 +1,111 @@
+-- The steps and drops that masks tell are those of the walk over all squares.
+use Rattle.std.proofs.Common.{◌≡◌, ℕ, ◌<◌, ◌&&◌, nat_lt, Bool, true, false, bit_and, cond, List, [], ◌∷◌, Option, Some, None, length, refl, sym, ap, ◌∙◌, subst, option_to_list}
+use Rattle.std.specs.Option.{is_some}
+use Rattle.std.proofs.lemmas.Bool.{lt-ltb}
+use Rattle.dob_pieces.specs.declared.kind.Kind.{Kind}
+use Rattle.dob_pieces.specs.declared.kind.HandKind.{HandKind}
+use Rattle.dob_pieces.specs.declared.kind.Piece.{Piece}
+use Rattle.dob_pieces.specs.declared.kind.Side.{Side}
+use Rattle.dob_pieces.specs.declared.kind.Side.TheVariants.{Mover, Enemy}
+use Rattle.dob_pieces.specs.declared.setup.Setup.{Setup}
+use Rattle.dob_pieces.specs.Lists.{each_below}
+use Rattle.dob_pieces.specs.Pieces.{leads}
+use Rattle.dob_pieces.specs.Setups.{Cell, at, held}
+use Rattle.dob_pieces.specs.Masks.{IsMask, is_own, is_end, is_empty}
+use Rattle.dob_pieces.proofs.MaskBits.{bit_if, IsMask-and}
+use Rattle.dob_pieces.proofs.MaskWalks.{IsQuiet, IsCounting}
+use Rattle.dob_moves.specs.declared.choice.Move.{Move}
+use Rattle.dob_moves.specs.declared.choice.Move.TheVariants.{Step, Put}
+use Rattle.dob_moves.specs.declared.search.Aim.TheVariants.{Elsewhere}
+use Rattle.dob_moves.specs.Moves.{grows_at}
+use Rattle.dob_moves.specs.Walks.{may_end, step_onto, steps_by, own_kind, steps_if, steps_from, put_if, put_on, drops_of}
+use Rattle.dob_moves.proofs.Masked.{end_is}
+use Rattle.dob_moves.proofs.Tables.{step_to, steps_by-squares}
+
+-- ---- the steps of a piece
+
+-- the squares on which its steps may end
+abbrev pub may_step : Setup → Kind → ℕ → ℕ → Bool
+may_step p kind from to = leads kind from to && is_end (at p to)
+
+-- the step to a square
+abbrev pub steps_to : Setup → Kind → ℕ → ℕ → List Move
+steps_to p kind from to = option_to_list (step_to Elsewhere p kind from to)
+
+abbrev the_step : Setup → Kind → ℕ → ℕ → Move
+the_step p kind from to = Step kind from to (is_some (at p to)) (grows_at kind to)
+
+step_by_tests : (a b : Bool) (move : Move) → option_to_list (cond a (cond b (Some move) None) None) ≡ cond (a && b) (move ∷ []) []
+step_by_tests true true move = refl
+step_by_tests true false move = refl
+step_by_tests false b move = refl
+
+-- there is one just on those
+pub steps_to-is : (p : Setup) (kind : Kind) (from to : ℕ) → steps_to p kind from to ≡ cond (may_step p kind from to) (the_step p kind from to ∷ []) []
+steps_to-is p kind from to =
+    step_by_tests (leads kind from to) (may_end Elsewhere (at p to)) (the_step p kind from to)
+    ∙ ap (λ (b : Bool). cond (leads kind from to && b) (the_step p kind from to ∷ []) []) (sym (end_is (at p to)))
+
+pub steps_quiet : (p : Setup) (kind : Kind) (from : ℕ) → IsQuiet (may_step p kind from) (steps_to p kind from)
+steps_quiet p kind from to isnt = steps_to-is p kind from to ∙ ap (λ (b : Bool). cond b (the_step p kind from to ∷ []) []) isnt
+
+pub step_there : (p : Setup) (kind : Kind) (from to : ℕ) → may_step p kind from to ≡ true → steps_to p kind from to ≡ the_step p kind from to ∷ []
+step_there p kind from to is = steps_to-is p kind from to ∙ ap (λ (b : Bool). cond b (the_step p kind from to ∷ []) []) is
+
+length_if : (b : Bool) (move : Move) → length (cond b (move ∷ []) []) ≡ bit_if b
+length_if true move = refl
+length_if false move = refl
+
+pub steps_counting : (p : Setup) (kind : Kind) (from : ℕ) → IsCounting (may_step p kind from) (steps_to p kind from)
+steps_counting p kind from to = ap length (steps_to-is p kind from to) ∙ length_if (may_step p kind from to) (the_step p kind from to)
+
+pub may_step_mask : (p : Setup) (kind : Kind) (from targets ends : ℕ) → IsMask (leads kind from) targets → IsMask (λ square. is_end (at p square)) ends
+    → IsMask (may_step p kind from) (bit_and targets ends)
+may_step_mask p kind from targets ends are may = IsMask-and (leads kind from) (λ square. is_end (at p square)) targets ends are may
+
+-- ---- the steps from a square
+
+no_own : (cell : Cell) → is_own cell ≡ false → own_kind cell ≡ None
+no_own None h = refl
+no_own (Some piece) h = by_side piece.side piece.kind h where
+  by_side : (side : Side) (kind : Kind) → is_own (Some (record { side = side; kind = kind })) ≡ false → own_kind (Some (record { side = side; kind = kind })) ≡ None
+  by_side Mover kind h = cc
+  by_side Enemy kind h = refl
+
+-- the mover's piece stands there
+abbrev pub own_at : Setup → ℕ → Bool
+own_at p square = is_own (at p square)
+
+pub from_quiet : (p : Setup) → IsQuiet (own_at p) (steps_from Elsewhere p)
+unfolding steps_from
+from_quiet p from isnt = ap (steps_if Elsewhere p from) (no_own (at p from) isnt)
+
+-- ---- drops
+
+-- nothing stands there
+abbrev pub empty_at : Setup → ℕ → Bool
+empty_at p square = is_empty (at p square)
+
+abbrev pub puts_on : Setup → HandKind → ℕ → List Move
+puts_on p kind to = option_to_list (put_on p kind to)
+
+put_cell : (cell : Cell) (kind : HandKind) (to : ℕ) → option_to_list (put_if cell kind to) ≡ cond (is_empty cell) (Put kind to ∷ []) []
+put_cell None kind to = refl
+put_cell (Some piece) kind to = refl
+
+pub puts_quiet : (p : Setup) (kind : HandKind) → IsQuiet (empty_at p) (puts_on p kind)
+puts_quiet p kind to isnt = put_cell (at p to) kind to ∙ ap (λ (b : Bool). cond b (Put kind to ∷ []) []) isnt
+
+pub put_there : (p : Setup) (kind : HandKind) (to : ℕ) → is_empty (at p to) ≡ true → puts_on p kind to ≡ Put kind to ∷ []
+put_there p kind to is = put_cell (at p to) kind to ∙ ap (λ (b : Bool). cond b (Put kind to ∷ []) []) is
+
+pub puts_counting : (p : Setup) (kind : HandKind) → IsCounting (empty_at p) (puts_on p kind)
+puts_counting p kind to = ap length (put_cell (at p to) kind to) ∙ length_if (is_empty (at p to)) (Put kind to)
+
+pub drops_none : (p : Setup) (kind : HandKind) → held p.hands.mover kind ≡ 0 → drops_of p kind ≡ []
+unfolding drops_of
+drops_none p kind e = ap (λ (n : ℕ). cond (nat_lt 0 n) (each_below (puts_on p kind) 12) []) e
+
+pub drops_all : (p : Setup) (kind : HandKind) → 0 < held p.hands.mover kind → drops_of p kind ≡ each_below (puts_on p kind) 12
+unfolding drops_of
+drops_all p kind some = ap (λ (b : Bool). cond b (each_below (puts_on p kind) 12) []) (lt-ltb 0 (held p.hands.mover kind) some)

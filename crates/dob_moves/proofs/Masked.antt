@@ -1,0 +1,130 @@
+-- What the masks of a position say of its status.
+use Rattle.std.proofs.Common.{◌≡◌, ◌≢◌, ℕ, ◌+◌, ◌*◌, ◌/◌, ◌<◌, ◌≤◌, ◌&&◌, not, Bool, true, false, true≢false, bit_and, Some, None, length, refl, sym, ap, ◌∙◌, subst, arith, inl, inr}
+use Rattle.std.specs.Int.{trailing_zeros, w16}
+use Rattle.std.specs.Option.{is_some}
+use Rattle.std.proofs.lemmas.Bool.{and_parts, cases_lt}
+use Rattle.dob_pieces.specs.declared.kind.Kind.{Kind}
+use Rattle.dob_pieces.specs.declared.kind.Kind.TheVariants.{Lion, Giraffe, Elephant, Chick, Hen}
+use Rattle.dob_pieces.specs.declared.kind.Side.{Side}
+use Rattle.dob_pieces.specs.declared.kind.Side.TheVariants.{Mover, Enemy}
+use Rattle.dob_pieces.specs.declared.setup.Setup.{Setup}
+use Rattle.dob_pieces.specs.Pieces.{leads}
+use Rattle.dob_pieces.specs.Setups.{Cell, at, piece_of, HasLions}
+use Rattle.dob_pieces.specs.Masks.{IsMask, is_prey, is_end, attacks, attacks_by}
+use Rattle.dob_pieces.proofs.Boards.{one_lion, within-from_piece}
+use Rattle.dob_pieces.proofs.MaskBits.{IsMask-and, IsLowest, lowest_is, none_passes}
+use Rattle.dob_pieces.proofs.Attacks.{attacks_piece, own_attacks}
+use Rattle.dob_moves.specs.declared.choice.Move.{Move}
+use Rattle.dob_moves.specs.declared.choice.Move.TheVariants.{Step, Put}
+use Rattle.dob_moves.specs.declared.search.Aim.TheVariants.{Elsewhere}
+use Rattle.dob_moves.specs.Moves.{CanGo, CatchesLion, grows_at, place}
+use Rattle.dob_moves.specs.Statuses.{CanCatch, HasTried, IsFirstCatch}
+use Rattle.dob_moves.specs.Walks.{may_end, own_kind, step_onto}
+use Rattle.dob_moves.proofs.Reach.{IsStep, step_sound}
+
+-- ---- who catches the enemy lion
+
+catches_from : (p : Setup) (from lion : ℕ) (kind : Kind) → at p lion ≡ Some (piece_of Enemy Lion) → at p from ≡ Some (piece_of Mover kind)
+    → attacks p from lion ≡ true → CatchesLion p (Step kind from lion true (grows_at kind lion))
+catches_from p from lion kind stands own is =
+    (own, sym (own_attacks (at p from) kind from lion own) ∙ is, stands, refl)
+
+-- a piece that attacks the lion catches it
+pub catch_by : (p : Setup) (from lion : ℕ) → at p lion ≡ Some (piece_of Enemy Lion) → attacks p from lion ≡ true → CanCatch p
+catch_by p from lion stands is =
+    let found = attacks_piece (at p from) from lion is in
+    (Step found.0 from lion true (grows_at found.0 lion), catches_from p from lion found.0 stands found.1 is)
+
+-- and one that catches it attacks it
+record IsAttack (p : Setup) (lion from to : ℕ) : Type 0 where
+  on_board : from < 12
+  at_lion : to ≡ lion
+  attacks_it : attacks p from lion ≡ true
+
+attack_of : (p : Setup) (lion : ℕ) (kind : Kind) (from to : ℕ) (grows : Bool) → length p.board ≡ 12 → HasLions p
+    → at p lion ≡ Some (piece_of Enemy Lion) → CatchesLion p (Step kind from to true grows) → IsAttack p lion from to
+attack_of p lion kind from to grows twelve lions stands h =
+    let here = one_lion Enemy p to lion lions h.2 stands in
+    let within = within-from_piece p from (piece_of Mover kind) h.0 in
+    record {
+      on_board = omega (arith, within, twelve);
+      at_lion = here;
+      attacks_it = ap (λ (x : ℕ). attacks p from x) (sym here) ∙ own_attacks (at p from) kind from to h.0 ∙ h.1;
+    }
+
+pub no_attack : (p : Setup) (lion mask : ℕ) → length p.board ≡ 12 → HasLions p → at p lion ≡ Some (piece_of Enemy Lion)
+    → IsMask (λ from. attacks p from lion) mask → mask ≡ 0 → ¬ CanCatch p
+no_attack p lion mask twelve lions stands are none (Step kind from to true grows, h) =
+    let a = attack_of p lion kind from to grows twelve lions stands h in
+    true≢false (sym a.attacks_it ∙ none_passes (λ from. attacks p from lion) mask are none from a.on_board)
+no_attack p lion mask twelve lions stands are none (Step kind from to false grows, h) = h
+no_attack p lion mask twelve lions stands are none (Put kind to, h) = h
+
+pub some_attack : (p : Setup) (lion mask : ℕ) → at p lion ≡ Some (piece_of Enemy Lion)
+    → IsMask (λ from. attacks p from lion) mask → mask ≢ 0 → CanCatch p
+some_attack p lion mask stands are some =
+    let it = lowest_is (λ from. attacks p from lion) mask (trailing_zeros w16 mask) are (omega (arith, some)) refl in
+    catch_by p (trailing_zeros w16 mask) lion stands it.passes
+
+-- the catch from the lowest square is the first
+pub first_attack : (p : Setup) (lion mask from : ℕ) (kind : Kind) → length p.board ≡ 12 → HasLions p → at p lion ≡ Some (piece_of Enemy Lion)
+    → IsMask (λ from. attacks p from lion) mask → mask ≢ 0 → from ≡ trailing_zeros w16 mask → at p from ≡ Some (piece_of Mover kind)
+    → IsFirstCatch p (Step kind from lion true (grows_at kind lion))
+first_attack p lion mask from kind twelve lions stands are some e own =
+    let it = lowest_is (λ from. attacks p from lion) mask from are (omega (arith, some)) e in
+    record { catches = catches_from p from lion kind stands own it.passes; first = least it } where
+      least : IsLowest (λ from. attacks p from lion) mask from → (other : Move) → CatchesLion p other → place (Step kind from lion true (grows_at kind lion)) ≤ place other
+      least it (Step other start to true grows) h =
+          let a = attack_of p lion other start to grows twelve lions stands h in
+          let same = a.at_lion in
+          elim (cases_lt start from) [
+            | inl before ↦ absurd (true≢false (sym a.attacks_it ∙ it.lowest start before))
+            | inr after ↦ omega (arith, same, after)
+          ]
+      least it (Step other start to false grows) h = absurd h
+      least it (Put other to) h = absurd h
+
+-- a piece that attacks is the mover's
+pub own_attacker : (p : Setup) (lion mask from : ℕ) → IsMask (λ from. attacks p from lion) mask → mask ≢ 0 → from ≡ trailing_zeros w16 mask
+    → (kind : Kind) × (at p from ≡ Some (piece_of Mover kind))
+own_attacker p lion mask from are some e =
+    let it = lowest_is (λ from. attacks p from lion) mask from are (omega (arith, some)) e in
+    let found = attacks_piece (at p from) from lion it.passes in
+    (found.0, found.1)
+
+-- ---- a try
+
+pub tried_by : (p : Setup) (lion : ℕ) → HasLions p → at p lion ≡ Some (piece_of Enemy Lion) → HasTried p → lion / 3 ≡ 0
+tried_by p lion lions stands t =
+    let here = one_lion Enemy p t.0 lion lions t.2 stands in
+    let low = t.1 in
+    omega (arith, here, low)
+
+-- ---- where steps may end
+
+pub end_is : (cell : Cell) → is_end cell ≡ may_end Elsewhere cell
+end_is None = refl
+end_is (Some piece) = by_piece piece.side piece.kind where
+  by_piece : (side : Side) (kind : Kind) → is_prey side kind ≡ may_end Elsewhere (Some (piece_of side kind))
+  by_piece Mover kind = refl
+  by_piece Enemy Lion = refl
+  by_piece Enemy Giraffe = refl
+  by_piece Enemy Elephant = refl
+  by_piece Enemy Chick = refl
+  by_piece Enemy Hen = refl
+
+ends_step : (p : Setup) (kind : Kind) (from to : ℕ) → IsStep p kind from to → is_end (at p to) ≡ true → (move : Move) × CanGo p move
+ends_step p kind from to step is =
+    let move = Step kind from to (is_some (at p to)) (grows_at kind to) in
+    let found : step_onto Elsewhere (at p to) kind from to ≡ Some move = rw (sym (end_is (at p to)), is) refl in
+    (move, step_sound Elsewhere p kind from to (at p to) move step refl found)
+
+pub some_step : (p : Setup) (kind : Kind) (from targets ends : ℕ) → at p from ≡ Some (piece_of Mover kind) → IsMask (leads kind from) targets
+    → IsMask (λ square. is_end (at p square)) ends → bit_and targets ends ≢ 0 → (move : Move) × CanGo p move
+some_step p kind from targets ends own to are some =
+    let test : ℕ → Bool = λ square. leads kind from square && is_end (at p square) in
+    let mask = bit_and targets ends in
+    let it = lowest_is test mask (trailing_zeros w16 mask) (IsMask-and (leads kind from) (λ square. is_end (at p square)) targets ends to are) (omega (arith, some)) refl in
+    let t = trailing_zeros w16 mask in
+    let parts = and_parts (leads kind from t) (is_end (at p t)) it.passes in
+    ends_step p kind from t (record { own = own; leads = parts.0 }) parts.1

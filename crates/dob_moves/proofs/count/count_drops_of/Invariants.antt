@@ -1,9 +1,0 @@
--- The drops on the squares so far are counted.
-use Rattle.std.proofs.Common.{◌≡◌, ◌≤◌, length, option_to_list}
-use Rattle.dob_pieces.specs.Lists.{each_below}
-use Rattle.dob_moves.specs.Walks.{put_on}
-use Rattle.dob_moves.proofs.count.count_drops_of.Given as goal
-
-abbrev pub invariant-loop-index : goal.invariant-loop-index
-invariant-loop-index l =
-    (l.count ≡ length (each_below (λ to. option_to_list (put_on l.setup l.kind to)) l.index)) × (l.count ≤ l.index)

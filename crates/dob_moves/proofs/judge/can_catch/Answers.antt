@@ -1,0 +1,15 @@
+-- The lion can be caught where some piece attacks it.
+use Rattle.std.proofs.Common.{◌≡◌, true≢false, sym, ◌∙◌}
+use Rattle.std.proofs.lemmas.Bool.{not-true, not_from_false, eqb-false, eqb-true, cases_Bool, ne_eqb}
+use Rattle.dob_moves.proofs.Masked.{no_attack, some_attack}
+use Rattle.dob_moves.proofs.judge.can_catch.Goals as goal
+
+pub returns : goal.returns
+returns c =
+    let p = c.args.position.now.setup in
+    let are = c.attackers.ensures p c.requires.masks in
+    let mask = c.attackers.result in (
+      λ h. some_attack p c.args.lion mask c.requires.lion are (λ e. eqb-false mask 0 (not-true _ h) e),
+      λ catch. not_from_false _ (ne_eqb mask 0
+          (λ none. no_attack p c.args.lion mask c.args.position.now.legal.squares c.args.position.now.legal.lions c.requires.lion are none catch)),
+    )

@@ -1,0 +1,148 @@
+// The plain program of the rules, square by square as the definitions go. It is for comparisons with the bodies that go by
+// masks, which a test and a measurement make; nothing else calls it.
+ghost use Rattle.std.specs.Prelude.{◌↔◌, ◌≡◌, ◌++◌, IfOk, OnOk, IsTrue, MatchOption, option_to_list};
+ghost use Rattle.dob_pieces.specs.Setups.{at, piece_of};
+ghost use Rattle.dob_moves.specs.Statuses.{AreMoves, CanCatch, HasTried, HasStatus, IsFirstCatch};
+ghost use Rattle.dob_moves.specs.Walks.{steps_by, steps_from, all_steps, put_on, drops_of, all_drops};
+ghost use Rattle.dob_moves.specs.declared.search.Aim.TheVariants.{Elsewhere};
+
+use crate::choice::Move;
+use crate::judge::finds_move;
+use crate::outlook::Status;
+use crate::search::{Aim, first_step, own_kind, put_on, step_by};
+use dob_pieces::{HandKind, Kind, Memory, Piece, Position, Setup, Side, Square};
+use std::alloc::Global;
+
+/// The first step in the move order that catches the enemy lion, or `None` where no step does.
+pub fn first_catch(position: &Position) -> Option<Move>
+    ensures { MatchOption result (¬ CanCatch position.now.setup) (λ m. IsFirstCatch position.now.setup m) }
+{
+    first_step(&position.setup, Aim::AtLion)
+}
+
+/// Whether the enemy lion stands on that square.
+fn holds_enemy_lion(position: &Position, square: Square) -> bool
+    ensures { IsTrue result ↔ (at position.now.setup square ≡ Some (piece_of Side.Enemy Kind.Lion)) }
+{
+    matches!(
+        position.setup.at(square),
+        Some(Piece {
+            side: Side::Enemy,
+            kind: Kind::Lion
+        })
+    )
+}
+
+/// Whether the enemy lion stands on row 1.
+fn has_tried(position: &Position) -> bool
+    ensures { IsTrue result ↔ HasTried position.now.setup }
+{
+    holds_enemy_lion(position, Square::new(0))
+        || holds_enemy_lion(position, Square::new(1))
+        || holds_enemy_lion(position, Square::new(2))
+}
+
+/// The status of the position: a catch is looked for first, then a try, then a move.
+pub fn status(position: &Position) -> Status
+    ensures { HasStatus position.now.setup result }
+{
+    if first_catch(position).is_some() {
+        Status::Caught
+    } else if has_tried(position) {
+        Status::Tried
+    } else if finds_move(position) {
+        Status::Open
+    } else {
+        Status::Stuck
+    }
+}
+
+/// Appends the move, if there is one.
+fn push_found(moves: &mut Vec<Move>, found: Option<Move>) -> Result<(), Memory>
+    ensures { OnOk result (moves.new.items ≡ moves.old.items ++ option_to_list found) }
+{
+    if let Some(found) = found {
+        moves.push(found)?;
+    }
+    Ok(())
+}
+
+/// Appends the steps of a piece of that kind on that square, other than onto the enemy lion.
+#[tactic(auto, using(crate::proofs::PlainLists::appends), unfolding(crate::specs::Walks::steps_by))]
+fn push_steps_by(
+    moves: &mut Vec<Move>,
+    setup: &Setup,
+    kind: Kind,
+    from: Square,
+) -> Result<(), Memory>
+    ensures { OnOk result (moves.new.items ≡ moves.old.items ++ steps_by Elsewhere setup.now kind from) }
+{
+    for step in kind.steps() {
+        let found = step_by(setup, Aim::Elsewhere, kind, from, *step);
+        push_found(moves, found)?;
+    }
+    Ok(())
+}
+
+/// Appends the mover's steps from that square.
+#[tactic(auto, using(crate::proofs::PlainLists::appends), unfolding(crate::specs::Walks::steps_from))]
+fn push_steps_from(moves: &mut Vec<Move>, setup: &Setup, from: Square) -> Result<(), Memory>
+    ensures { OnOk result (moves.new.items ≡ moves.old.items ++ steps_from Elsewhere setup.now from) }
+{
+    match own_kind(setup.at(from)) {
+        Some(kind) => push_steps_by(moves, setup, kind, from),
+        None => Ok(()),
+    }
+}
+
+/// Appends the mover's steps.
+#[tactic(auto, using(crate::proofs::PlainLists::appends), unfolding(crate::specs::Walks::all_steps))]
+fn push_steps(moves: &mut Vec<Move>, setup: &Setup) -> Result<(), Memory>
+    ensures { OnOk result (moves.new.items ≡ moves.old.items ++ all_steps Elsewhere setup.now) }
+{
+    for index in 0..Square::COUNT {
+        push_steps_from(moves, setup, Square::new(index))?;
+    }
+    Ok(())
+}
+
+/// Appends the drops of that kind.
+#[tactic(auto, using(crate::proofs::PlainLists::appends), unfolding(crate::specs::Walks::drops_of))]
+fn push_drops_of(moves: &mut Vec<Move>, setup: &Setup, kind: HandKind) -> Result<(), Memory>
+    ensures { OnOk result (moves.new.items ≡ moves.old.items ++ drops_of setup.now kind) }
+{
+    if setup.hands.mover.count(kind) == 0 {
+        return Ok(());
+    }
+    for index in 0..Square::COUNT {
+        let put = put_on(setup, kind, Square::new(index));
+        push_found(moves, put)?;
+    }
+    Ok(())
+}
+
+/// Appends the drops.
+#[tactic(auto, using(crate::proofs::PlainLists::appends), unfolding(crate::specs::Walks::all_drops))]
+fn push_drops(moves: &mut Vec<Move>, setup: &Setup) -> Result<(), Memory>
+    ensures { OnOk result (moves.new.items ≡ moves.old.items ++ all_drops setup.now) }
+{
+    push_drops_of(moves, setup, HandKind::Chick)?;
+    push_drops_of(moves, setup, HandKind::Elephant)?;
+    push_drops_of(moves, setup, HandKind::Giraffe)
+}
+
+/// The moves of an open position, each once, in the move order; no moves of any other position. Fails where memory
+/// runs out.
+pub fn moves(alloc: Global, position: &Position) -> Result<Vec<Move>, Memory>
+    ensures { IfOk result (λ v. AreMoves position.now.setup v.items) }
+{
+    let mut moves = Vec::new(alloc);
+    match status(position) {
+        Status::Open => {
+            push_steps(&mut moves, &position.setup)?;
+            push_drops(&mut moves, &position.setup)?;
+            Ok(moves)
+        }
+        _ => Ok(moves),
+    }
+}

@@ -1,0 +1,151 @@
+-- Who attacks a square, and where the lions stand, by masks.
+use Rattle.std.proofs.Common.{◌≡◌, ℕ, suc, ◌+◌, ◌<◌, ◌&&◌, ◌||◌, Bool, true, false, bit_and, bit_or, List, [], ◌∷◌, Some, None, cond, length, get_or, refl, sym, ap, ◌∙◌, inl, inr, arith}
+use Rattle.std.specs.List.{count_by}
+use Rattle.std.proofs.lemmas.Bool.{and_parts, cases_Bool}
+use Rattle.std.proofs.lemmas.List.Sums.{sum_by-cons}
+use Rattle.std.specs.Int.{trailing_zeros, w16}
+use Rattle.dob_pieces.specs.declared.kind.Kind.{Kind}
+use Rattle.dob_pieces.specs.declared.kind.Kind.TheVariants.{Lion, Giraffe, Elephant, Chick, Hen}
+use Rattle.dob_pieces.specs.declared.kind.Piece.{Piece}
+use Rattle.dob_pieces.specs.declared.kind.Side.{Side}
+use Rattle.dob_pieces.specs.declared.kind.Side.TheVariants.{Mover, Enemy}
+use Rattle.dob_pieces.specs.declared.setup.Setup.{Setup}
+use Rattle.dob_pieces.specs.declared.masks.Masks.{Masks}
+use Rattle.dob_pieces.specs.Pieces.{leads, is_side, is_lion}
+use Rattle.dob_pieces.specs.Setups.{Cell, at, piece_of, holds_lion, HasLions}
+use Rattle.dob_pieces.specs.Masks.{IsMask, AreSquares, AreMasks, is_piece, attacks, attacks_by}
+use Rattle.dob_pieces.proofs.MaskBits.{IsMask-and, IsMask-or, IsMask-same, lowest_is, some_passes}
+
+-- ---- the lions
+
+lion_by : (side own : Side) (kind : Kind) → (is_side side own && is_lion kind) ≡ true → (own ≡ side) × (kind ≡ Lion)
+lion_by Mover Enemy kind h = cc
+lion_by Enemy Mover kind h = cc
+lion_by Mover Mover Lion h = (refl, refl)
+lion_by Mover Mover Giraffe h = cc
+lion_by Mover Mover Elephant h = cc
+lion_by Mover Mover Chick h = cc
+lion_by Mover Mover Hen h = cc
+lion_by Enemy Enemy Lion h = (refl, refl)
+lion_by Enemy Enemy Giraffe h = cc
+lion_by Enemy Enemy Elephant h = cc
+lion_by Enemy Enemy Chick h = cc
+lion_by Enemy Enemy Hen h = cc
+
+pub is_that_lion : (side : Side) (cell : Cell) → holds_lion side cell ≡ true → cell ≡ Some (piece_of side Lion)
+is_that_lion side None h = cc
+is_that_lion side (Some piece) h = let parts = lion_by side piece.side piece.kind h in λ i. Some (piece_of (parts.0 i) (parts.1 i))
+
+piece_lion : (side own : Side) (kind : Kind) → is_piece side Lion (Some (piece_of own kind)) ≡ holds_lion side (Some (piece_of own kind))
+piece_lion side own Lion = refl
+piece_lion side own Giraffe = refl
+piece_lion side own Elephant = refl
+piece_lion side own Chick = refl
+piece_lion side own Hen = refl
+
+cell_lion : (side : Side) (cell : Cell) → is_piece side Lion cell ≡ holds_lion side cell
+cell_lion side None = refl
+cell_lion side (Some piece) = piece_lion side piece.side piece.kind
+
+-- what is counted stands somewhere
+counted : (test : Cell → Bool) (cells : List Cell) → 0 < count_by test cells → (k : ℕ) × (k < length cells) × (test (get_or cells k None) ≡ true)
+counted test [] h = absurd (omega arith)
+counted test (c ∷ cs) h =
+    let sum : count_by test (c ∷ cs) ≡ cond (test c) 1 0 + count_by test cs = sum_by-cons (λ x. cond (test x) 1 0) c cs in
+    elim (cases_Bool (test c)) [
+      | inl is ↦ (0, omega arith, is)
+      | inr isnt ↦
+          let first : cond {A = ℕ} (test c) 1 0 ≡ 0 = ap (λ b. cond b 1 0) isnt in
+          let w = counted test cs (omega (arith, sum, first, h)) in
+          let lt = w.1 in
+          (suc w.0, omega (arith, lt), w.2)
+    ]
+
+-- a side's lion has a mask with a bit
+pub lion_mask : (p : Setup) (side : Side) (mask : ℕ) → length p.board ≡ 12 → HasLions p → AreSquares p (is_piece side Lion) mask → 0 < mask
+lion_mask p side mask twelve lions are =
+    let one = lions side in
+    let w = counted (holds_lion side) p.board (omega (arith, one)) in
+    let lt = w.1 in
+    some_passes (λ square. is_piece side Lion (at p square)) mask w.0 are (omega (arith, lt, twelve)) (cell_lion side (at p w.0) ∙ w.2)
+
+-- which says where it stands
+pub lion_at : (p : Setup) (side : Side) (mask place : ℕ) → length p.board ≡ 12 → HasLions p → AreSquares p (is_piece side Lion) mask
+    → place ≡ trailing_zeros w16 mask → at p place ≡ Some (piece_of side Lion)
+lion_at p side mask place twelve lions are e =
+    let it = lowest_is (λ square. is_piece side Lion (at p square)) mask place are (lion_mask p side mask twelve lions are) e in
+    is_that_lion side (at p place) (sym (cell_lion side (at p place)) ∙ it.passes)
+
+-- ---- attackers
+
+-- the pieces of the kind that step by the test
+abbrev of_kind : Cell → Kind → Bool → Bool
+of_kind cell kind steps = is_piece Mover kind cell && steps
+
+alone : (b : Bool) → ((((b || false) || false) || false) || false) ≡ b
+alone true = refl
+alone false = refl
+
+alone_3 : (b : Bool) → (((b || false) || false) || false) ≡ b
+alone_3 true = refl
+alone_3 false = refl
+
+alone_2 : (b : Bool) → ((b || false) || false) ≡ b
+alone_2 true = refl
+alone_2 false = refl
+
+alone_1 : (b : Bool) → (b || false) ≡ b
+alone_1 true = refl
+alone_1 false = refl
+
+abbrev any_kind : Cell → (Kind → Bool) → Bool
+any_kind cell steps =
+    of_kind cell Lion (steps Lion) || of_kind cell Giraffe (steps Giraffe) || of_kind cell Elephant (steps Elephant)
+    || of_kind cell Chick (steps Chick) || of_kind cell Hen (steps Hen)
+
+any_piece : (side : Side) (kind : Kind) (steps : Kind → Bool) → any_kind (Some (piece_of side kind)) steps ≡ (is_side Mover side && steps kind)
+any_piece Enemy kind steps = refl
+any_piece Mover Lion steps = alone (steps Lion)
+any_piece Mover Giraffe steps = alone_3 (steps Giraffe)
+any_piece Mover Elephant steps = alone_2 (steps Elephant)
+any_piece Mover Chick steps = alone_1 (steps Chick)
+any_piece Mover Hen steps = refl
+
+any_attacks : (cell : Cell) (from to : ℕ) → any_kind cell (λ kind. leads kind from to) ≡ attacks_by cell from to
+any_attacks None from to = refl
+any_attacks (Some piece) from to = any_piece piece.side piece.kind (λ kind. leads kind from to)
+
+-- the squares of each kind, and those from which it steps to the target
+pub attackers_are : (p : Setup) (masks : Masks) (target lion giraffe elephant chick hen : ℕ) → AreMasks p masks
+    → IsMask (λ from. leads Lion from target) lion → IsMask (λ from. leads Giraffe from target) giraffe
+    → IsMask (λ from. leads Elephant from target) elephant → IsMask (λ from. leads Chick from target) chick
+    → IsMask (λ from. leads Hen from target) hen
+    → IsMask (λ from. attacks p from target)
+    (bit_or (bit_or (bit_or (bit_or (bit_and masks.lion lion) (bit_and masks.giraffes giraffe)) (bit_and masks.elephants elephant)) (bit_and masks.chicks chick)) (bit_and masks.hens hen))
+attackers_are p masks target lion giraffe elephant chick hen are to_lion to_giraffe to_elephant to_chick to_hen =
+    IsMask-same _ (λ from. attacks p from target) _ (λ from lt. any_attacks (at p from) from target)
+    (IsMask-or _ _ _ _
+    (IsMask-or _ _ _ _
+    (IsMask-or _ _ _ _
+    (IsMask-or _ _ _ _
+    (IsMask-and _ _ _ _ are.lion_is to_lion)
+    (IsMask-and _ _ _ _ are.giraffes_are to_giraffe))
+    (IsMask-and _ _ _ _ are.elephants_are to_elephant))
+    (IsMask-and _ _ _ _ are.chicks_are to_chick))
+    (IsMask-and _ _ _ _ are.hens_are to_hen))
+
+-- ---- who attacks
+
+by_side : (piece : Piece) (from to : ℕ) → (is_side Mover piece.side && leads piece.kind from to) ≡ true → (piece.side ≡ Mover) × (leads piece.kind from to ≡ true)
+by_side piece from to h = let parts = and_parts (is_side Mover piece.side) (leads piece.kind from to) h in (movers piece.side parts.0, parts.1) where
+  movers : (side : Side) → is_side Mover side ≡ true → side ≡ Mover
+  movers Mover e = refl
+  movers Enemy e = cc
+
+pub attacks_piece : (cell : Cell) (from to : ℕ) → attacks_by cell from to ≡ true → (kind : Kind) × (cell ≡ Some (piece_of Mover kind)) × (leads kind from to ≡ true)
+attacks_piece None from to h = cc
+attacks_piece (Some piece) from to h =
+    let parts = by_side piece from to h in (piece.kind, (λ i. Some (piece_of (parts.0 i) piece.kind)), parts.1)
+
+pub own_attacks : (cell : Cell) (kind : Kind) (from to : ℕ) → cell ≡ Some (piece_of Mover kind) → attacks_by cell from to ≡ leads kind from to
+own_attacks cell kind from to e = ap (λ (c : Cell). attacks_by c from to) e

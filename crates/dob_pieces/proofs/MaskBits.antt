@@ -1,0 +1,186 @@
+-- Sets of squares as masks: what the operations on bits make of them.
+use Rattle.std.proofs.Common.{◌≡◌, ◌≢◌, ℕ, zero, suc, ◌+◌, ◌-◌, ◌*◌, ◌/◌, ◌%◌, ◌^◌, ◌<◌, ◌≤◌, min, max, nat_eq, nat_le, bit_and, bit_or, Bool, true, false, true≢false, not, ◌&&◌, ◌||◌, cond, refl, sym, ap, ◌∙◌, subst, arith, inl, inr, w16}
+use Rattle.std.specs.Int.{bit_at, bit_not, trailing_zeros}
+use Rattle.std.proofs.lemmas.Bool.{and_parts, cases_lt, cases_eq, le-leb, lt-leb, leb-true}
+use Rattle.std.proofs.lemmas.Nat.{and_le_l, or_lt}
+use Rattle.std.proofs.lemmas.Nat.Bits.{shr_and_one, bit_at_and, bit_at_or, bit_at-trailing_zeros, bit_at_clear_same, bit_at_clear_other, bit_at_above, bit_at-lt, bit_at-zero, same_from_bits_below}
+use Rattle.dob_pieces.specs.Masks.{IsMask}
+
+abbrev pub bit_if : Bool → ℕ
+bit_if b = cond b 1 0
+
+bit_if-eq : (b : Bool) → nat_eq (bit_if b) 1 ≡ b
+bit_if-eq true = refl
+bit_if-eq false = refl
+
+-- the bit as the code tests it
+pub bit_is : (test : ℕ → Bool) (mask square index : ℕ) → IsMask test mask → index ≡ square → index < 12
+    → nat_eq (bit_and (mask / 2 ^ index) 1) 1 ≡ test square
+bit_is test mask square index is at lt =
+    ap (λ (n : ℕ). nat_eq n 1) (shr_and_one mask index ∙ is.bits index lt)
+    ∙ bit_if-eq (test index) ∙ ap test at
+
+min-bits : (a b : Bool) → min (bit_if a) (bit_if b) ≡ bit_if (a && b)
+min-bits true true = refl
+min-bits true false = refl
+min-bits false true = refl
+min-bits false false = refl
+
+max-bits : (a b : Bool) → max (bit_if a) (bit_if b) ≡ bit_if (a || b)
+max-bits true true = refl
+max-bits true false = refl
+max-bits false true = refl
+max-bits false false = refl
+
+-- the squares of both
+pub IsMask-and : (f g : ℕ → Bool) (a b : ℕ) → IsMask f a → IsMask g b → IsMask (λ square. f square && g square) (bit_and a b)
+IsMask-and f g a b is are = record {
+  within = let le = and_le_l a b in let lt = is.within in omega (arith, le, lt);
+  bits = λ square lt.
+      bit_at_and a b square ∙ ap (λ (n : ℕ). min n (bit_at b square)) (is.bits square lt)
+      ∙ ap (λ (n : ℕ). min (bit_if (f square)) n) (are.bits square lt) ∙ min-bits (f square) (g square);
+}
+
+-- the squares of either
+pub IsMask-or : (f g : ℕ → Bool) (a b : ℕ) → IsMask f a → IsMask g b → IsMask (λ square. f square || g square) (bit_or a b)
+IsMask-or f g a b is are = record {
+  within = or_lt 12 a b is.within are.within;
+  bits = λ square lt.
+      bit_at_or a b square ∙ ap (λ (n : ℕ). max n (bit_at b square)) (is.bits square lt)
+      ∙ ap (λ (n : ℕ). max (bit_if (f square)) n) (are.bits square lt) ∙ max-bits (f square) (g square);
+}
+
+-- a mask by a test that says the same
+pub IsMask-same : (f g : ℕ → Bool) (a : ℕ) → ((square : ℕ) → square < 12 → f square ≡ g square) → IsMask f a → IsMask g a
+IsMask-same f g a same is = record {
+  within = is.within;
+  bits = λ square lt. is.bits square lt ∙ ap bit_if (same square lt);
+}
+
+from_bit : (b : Bool) → bit_if b ≡ 1 → b ≡ true
+from_bit true e = refl
+from_bit false e = absurd (omega arith)
+
+from_no_bit : (b : Bool) → bit_if b ≡ 0 → b ≡ false
+from_no_bit true e = absurd (omega arith)
+from_no_bit false e = refl
+
+-- no square of an empty mask passes the test
+pub none_passes : (test : ℕ → Bool) (mask : ℕ) → IsMask test mask → mask ≡ 0 → (square : ℕ) → square < 12 → test square ≡ false
+none_passes test mask is e square lt =
+    from_no_bit (test square) (sym (is.bits square lt) ∙ ap (λ (n : ℕ). bit_at n square) e ∙ bit_at-zero square)
+
+-- the lowest square of a mask that has one
+pub record IsLowest (test : ℕ → Bool) (mask place : ℕ) : Type 0 where
+  pub on_board : place < 12
+  pub passes : test place ≡ true
+  pub lowest : (square : ℕ) → square < place → test square ≡ false
+
+pub lowest-lt : (mask : ℕ) → 0 < mask → mask < 4096 → trailing_zeros w16 mask < 12
+lowest-lt mask some within =
+    let found = bit_at-trailing_zeros w16 mask some (omega (arith, within)) in
+    elim (cases_lt (trailing_zeros w16 mask) 12) [
+      | inl lt ↦ lt
+      | inr ge ↦ let no = bit_at_above mask 12 (trailing_zeros w16 mask) (omega (arith, within)) ge in absurd (omega (arith, no, found.1))
+    ]
+
+pub lowest_is : (test : ℕ → Bool) (mask place : ℕ) → IsMask test mask → 0 < mask → place ≡ trailing_zeros w16 mask → IsLowest test mask place
+lowest_is test mask place is some e =
+    let within = is.within in
+    let t = trailing_zeros w16 mask in
+    let found = bit_at-trailing_zeros w16 mask some (omega (arith, within)) in
+    let lt = lowest-lt mask some within in
+    rw e (record {
+      on_board = lt;
+      passes = from_bit (test t) (sym (is.bits t lt) ∙ found.1);
+      lowest = λ square below.
+          from_no_bit (test square) (sym (is.bits square (let lt : square < 12 = omega arith in lt)) ∙ found.2 square below);
+    })
+
+-- a mask with a square that passes isn't empty
+pub some_passes : (test : ℕ → Bool) (mask square : ℕ) → IsMask test mask → square < 12 → test square ≡ true → 0 < mask
+some_passes test mask square is lt passes =
+    elim (cases_lt 0 mask) [
+      | inl some ↦ some
+      | inr none ↦ absurd (true≢false (sym passes ∙ none_passes test mask is (omega arith) square lt))
+    ]
+
+-- without a square
+abbrev pub without : ℕ → ℕ → ℕ
+without mask place = bit_and mask (bit_not w16 (1 * 2 ^ place % 2 ^ 16))
+
+-- ---- the squares of a mask, one after the other
+
+-- the squares from a place on that pass the test
+abbrev pub IsLeft : (ℕ → Bool) → ℕ → ℕ → Type 0
+IsLeft test from = IsMask (λ square. nat_le from square && test square)
+
+-- the next of them, and what is left then
+pub record IsNext (test : ℕ → Bool) (from mask place : ℕ) : Type 0 where
+  pub not_before : from ≤ place
+  pub on_board : place < 12
+  pub passes : test place ≡ true
+  pub between : (square : ℕ) → from ≤ square → square < place → test square ≡ false
+  pub left : IsLeft test (suc place) (without mask place)
+  pub less : without mask place < mask
+
+pub all_left : (test : ℕ → Bool) (mask : ℕ) → IsMask test mask → IsLeft test 0 mask
+all_left test mask is = IsMask-same test (λ square. nat_le 0 square && test square) mask
+    (λ square lt. ap (λ (b : Bool). b && test square) (sym (le-leb 0 square (omega arith)))) is
+
+-- nothing passes from there on where no square is left
+pub none_left : (test : ℕ → Bool) (from mask : ℕ) → IsLeft test from mask → mask ≡ 0 → (square : ℕ) → from ≤ square → square < 12 → test square ≡ false
+none_left test from mask is e square le lt =
+    ap (λ (b : Bool). b && test square) (sym (le-leb from square le))
+    ∙ none_passes (λ square. nat_le from square && test square) mask is e square lt
+
+cleared : (test : ℕ → Bool) (from place square : ℕ) → from ≤ place → square ≢ place
+    → ((s : ℕ) → from ≤ s → s < place → test s ≡ false) → (nat_le from square && test square) ≡ (nat_le (suc place) square && test square)
+cleared test from place square le apart between =
+    let gate : (b c : Bool) → b ≡ c → (b && test square) ≡ (c && test square) = λ b c e. ap (λ (x : Bool). x && test square) e in
+    elim (cases_lt square place) [
+      | inl below ↦
+          let after : nat_le (suc place) square ≡ false = lt-leb (suc place) square (omega arith) in
+          elim (cases_lt square from) [
+            | inl out ↦ gate _ false (lt-leb from square out) ∙ sym (gate _ false after)
+            | inr in_range ↦ gate _ true (le-leb from square in_range) ∙ between square in_range below ∙ sym (gate _ false after)
+          ]
+      | inr above ↦
+          let more : suc place ≤ square = omega arith in
+          gate _ true (le-leb from square (omega arith)) ∙ sym (gate _ true (le-leb (suc place) square more))
+    ]
+
+pub next_left : (test : ℕ → Bool) (from mask place : ℕ) → IsLeft test from mask → 0 < mask → place ≡ trailing_zeros w16 mask → IsNext test from mask place
+next_left test from mask place is some e =
+    let it = lowest_is (λ square. nat_le from square && test square) mask place is some e in
+    let parts = and_parts (nat_le from place) (test place) it.passes in
+    let le = leb-true from place parts.0 in
+    let lt = it.on_board in
+    let here : place < 16 = omega (arith, lt) in
+    let between : (s : ℕ) → from ≤ s → s < place → test s ≡ false =
+    λ s ge below. ap (λ (b : Bool). b && test s) (sym (le-leb from s ge)) ∙ it.lowest s below in
+    let smaller : without mask place ≤ mask = and_le_l mask (bit_not w16 (1 * 2 ^ place % 2 ^ 16)) in
+    let off = bit_at_clear_same w16 mask place here in
+    let on = is.bits place lt ∙ ap bit_if it.passes in
+    let low = is.within in
+    record {
+      not_before = le;
+      on_board = lt;
+      passes = parts.1;
+      between = between;
+      left = record {
+        within = omega (arith, smaller, low);
+        bits = λ square below.
+            elim (cases_eq square place) [
+              | inl same ↦ rw same (off ∙ sym (ap (λ (b : Bool). bit_if (b && test place)) (lt-leb (suc place) place (omega arith))))
+              | inr apart ↦ bit_at_clear_other w16 mask place here square (omega (arith, below)) apart ∙ is.bits square below
+                  ∙ ap bit_if (cleared test from place square le apart between)
+            ];
+      };
+      less = elim (cases_lt (without mask place) mask) [
+        | inl less ↦ less
+        | inr ge ↦
+            let same : without mask place ≡ mask = omega (arith, smaller, ge) in
+            let wrong = sym off ∙ ap (λ (n : ℕ). bit_at n place) same ∙ on in absurd (omega (arith, wrong))
+      ];
+    }

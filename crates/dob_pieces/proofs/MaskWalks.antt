@@ -1,0 +1,137 @@
+-- Walks over the squares of a mask, from the lowest on, and counts of them.
+use Rattle.std.proofs.Common.{◌≡◌, ℕ, zero, suc, ◌+◌, ◌^◌, ◌<◌, ◌≤◌, ◌⊎◌, Bool, true, false, cond, List, [], ◌∷◌, ◌++◌, length, map, count_ones, refl, sym, ap, ◌∙◌, subst, arith, inl, inr, append_assoc, append-nil}
+use Rattle.std.specs.Int.{bit_at, trailing_zeros, w16}
+use Rattle.std.specs.List.{count_by, range_with_len}
+use Rattle.std.specs.Simd.Lanes.{mask_l}
+use Rattle.std.proofs.lemmas.Bool.{cases_lt, cases_Bool}
+use Rattle.std.proofs.lemmas.List.{length-append}
+use Rattle.std.proofs.lemmas.List.FromFn.{get_or-map-range_with_len, length-map-range_with_len}
+use Rattle.std.proofs.lemmas.Nat.Bits.{same_from_bits_below}
+use Rattle.std.proofs.lemmas.Simd.{mask_l-lt, bit_mask_l, ones-mask_l}
+use Rattle.dob_pieces.specs.Lists.{each_below}
+use Rattle.dob_pieces.specs.Masks.{IsMask}
+use Rattle.dob_pieces.proofs.MaskBits.{bit_if, IsLeft, IsNext, without, all_left, next_left, none_left}
+
+-- what gives nothing is passed
+module _ {X : Type 0} where
+  pub each-quiet : (g : ℕ → List X) (from n : ℕ) → from ≤ n → ((k : ℕ) → from ≤ k → k < n → g k ≡ []) → each_below g n ≡ each_below g from
+  each-quiet g from zero le quiet = let e : from ≡ 0 = omega arith in rw e refl
+  each-quiet g from (suc n) le quiet =
+      elim (cases_lt n from) [
+        | inl last ↦ let e : from ≡ suc n = omega arith in rw e refl
+        | inr more ↦
+            let none : g n ≡ [] = quiet n more (omega arith) in
+            ap (λ (xs : List X). each_below g n ++ xs) none ∙ append-nil (each_below g n)
+            ∙ each-quiet g from n more (λ k ge lt. quiet k ge (omega (arith, lt)))
+      ]
+
+  -- where the test fails there is nothing
+  abbrev pub IsQuiet : (ℕ → Bool) → (ℕ → List X) → Type 0
+  IsQuiet test g = (k : ℕ) → test k ≡ false → g k ≡ []
+
+-- The squares that are left of a mask, and the items so far, which are those before and what the squares gone over give.
+pub record IsWalked {X : Type 0} (test : ℕ → Bool) (g : ℕ → List X) (left : ℕ) (before items : List X) : Type 0 where
+  pub upto : ℕ
+  pub bound : upto ≤ 12
+  pub left_are : IsLeft test upto left
+  pub items_are : items ≡ before ++ each_below g upto
+
+module _ {X : Type 0} where
+  pub walk_start : (test : ℕ → Bool) (g : ℕ → List X) (mask : ℕ) (before : List X) → IsMask test mask → IsWalked test g mask before before
+  walk_start test g mask before is = record {
+    upto = 0;
+    bound = omega arith;
+    left_are = all_left test mask is;
+    items_are = sym (append-nil before);
+  }
+
+  pub walk_less : (test : ℕ → Bool) (g : ℕ → List X) (left place after : ℕ) (before items : List X) → IsWalked test g left before items
+      → 0 < left → place ≡ trailing_zeros w16 left → after ≡ without left place → after < left
+  walk_less test g left place after before items w some e gone = rw gone (next_left test w.upto left place w.left_are some e).less
+
+  pub walk_next_at : (test : ℕ → Bool) (g : ℕ → List X) (left place after : ℕ) (before items new : List X) → IsQuiet test g → (w : IsWalked test g left before items)
+      → 0 < left → place ≡ trailing_zeros w16 left → after ≡ without left place → (test place ≡ true → new ≡ items ++ g place) → (next : IsWalked test g after before new) × (next.upto ≡ suc place)
+  walk_next_at test g left place after before items new quiet w some e gone more =
+      let it = next_left test w.upto left place w.left_are some e in
+      let lt = it.on_board in
+      rw gone (record {
+        upto = suc place;
+        bound = omega (arith, lt);
+        left_are = it.left;
+        items_are =
+            more it.passes ∙ ap (λ (xs : List X). xs ++ g place)
+            (w.items_are ∙ ap (λ (xs : List X). before ++ xs)
+            (sym (each-quiet g w.upto place it.not_before (λ k ge lt. quiet k (it.between k ge lt)))))
+            ∙ append_assoc before (each_below g place) (g place);
+      }, refl)
+
+  pub walk_next : (test : ℕ → Bool) (g : ℕ → List X) (left place after : ℕ) (before items new : List X) → IsQuiet test g → IsWalked test g left before items
+      → 0 < left → place ≡ trailing_zeros w16 left → after ≡ without left place → (test place ≡ true → new ≡ items ++ g place) → IsWalked test g after before new
+  walk_next test g left place after before items new quiet w some e gone more = (walk_next_at test g left place after before items new quiet w some e gone more).0
+
+  pub walk_end : (test : ℕ → Bool) (g : ℕ → List X) (left : ℕ) (before items : List X) → IsQuiet test g → IsWalked test g left before items
+      → left ≡ 0 → items ≡ before ++ each_below g 12
+  walk_end test g left before items quiet w none =
+      w.items_are
+      ∙ ap (λ (xs : List X). before ++ xs)
+      (sym (each-quiet g w.upto 12 w.bound (λ k ge lt. quiet k (none_left test w.upto left w.left_are none k ge lt))))
+
+  -- each square of the mask gives one item, and each other none
+  abbrev pub IsCounting : (ℕ → Bool) → (ℕ → List X) → Type 0
+  IsCounting test g = (k : ℕ) → length (g k) ≡ bit_if (test k)
+
+abbrev sum_upto : (ℕ → ℕ) → ℕ → ℕ
+sum_upto f zero = 0
+sum_upto f (suc n) = sum_upto f n + f n
+
+module _ {X : Type 0} where
+  length-each : (g : ℕ → List X) (n : ℕ) → length (each_below g n) ≡ sum_upto (λ k. length (g k)) n
+  length-each g zero = refl
+  length-each g (suc n) = let sum = length-append (each_below g n) (g n) in let more = length-each g n in omega (arith, sum, more)
+
+-- a mask by its bits
+pub mask_by_bits : (test : ℕ → Bool) (mask : ℕ) → IsMask test mask → mask ≡ mask_l (map test (range_with_len 0 12))
+mask_by_bits test mask is =
+    let bound : mask_l (map test (range_with_len 0 12)) < 2 ^ 12 = mask_l-lt (map test (range_with_len 0 12)) in
+    same_from_bits_below 12 mask (mask_l (map test (range_with_len 0 12))) is.within bound
+    (λ k lt. is.bits k lt
+    ∙ sym (bit_mask_l (map test (range_with_len 0 12)) k
+    ∙ ap (λ (b : Bool). cond b 1 0) (get_or-map-range_with_len test 0 12 k k false lt (omega arith))))
+
+pub ones_of_mask : (test : ℕ → Bool) (mask : ℕ) → IsMask test mask → count_ones mask ≡ count_by test (range_with_len 0 12)
+ones_of_mask test mask is = ap count_ones (mask_by_bits test mask is) ∙ ones-mask_l test (range_with_len 0 12)
+
+bit_if-le : (b : Bool) → bit_if b ≤ 1
+bit_if-le true = omega arith
+bit_if-le false = omega arith
+
+-- so many items as the mask has squares
+pub record IsCounted (number ones : ℕ) : Type 0 where
+  pub counted : ones ≡ number
+  pub few : ones ≤ 12
+
+module _ {X : Type 0} where
+  pub counted_ones : (test : ℕ → Bool) (g : ℕ → List X) (mask : ℕ) → IsCounting test g → IsMask test mask
+      → IsCounted (length (each_below g 12)) (count_ones mask)
+  counted_ones test g mask h is =
+      let e = ones_of_mask test mask is in
+      let sum = length-each g 12 in
+      record {
+        counted = omega (arith, e, sum, h 0, h 1, h 2, h 3, h 4, h 5, h 6, h 7, h 8, h 9, h 10, h 11);
+        few = omega (
+          arith,
+          e,
+          bit_if-le (test 0),
+          bit_if-le (test 1),
+          bit_if-le (test 2),
+          bit_if-le (test 3),
+          bit_if-le (test 4),
+          bit_if-le (test 5),
+          bit_if-le (test 6),
+          bit_if-le (test 7),
+          bit_if-le (test 8),
+          bit_if-le (test 9),
+          bit_if-le (test 10),
+          bit_if-le (test 11),
+        );
+      }

@@ -1,0 +1,91 @@
+-- Sets of squares as the bits of a number, square 0 as the lowest.
+use Rattle.std.specs.Prelude.{◌≡◌, ℕ, ◌+◌, ◌*◌, ◌<◌, ◌&&◌, Bool, true, false, cond, Some, None}
+use Rattle.std.specs.Int.{bit_at}
+use Rattle.dob_pieces.specs.declared.kind.Kind.{Kind}
+use Rattle.dob_pieces.specs.declared.kind.Kind.TheVariants.{Lion, Giraffe, Elephant, Chick, Hen}
+use Rattle.dob_pieces.specs.declared.kind.Side.{Side}
+use Rattle.dob_pieces.specs.declared.kind.Side.TheVariants.{Mover, Enemy}
+use Rattle.dob_pieces.specs.declared.setup.Setup.{Setup}
+use Rattle.dob_pieces.specs.declared.masks.Masks.{Masks}
+use Rattle.dob_pieces.specs.Pieces.{is_side, leads}
+use Rattle.dob_pieces.specs.Setups.{Cell, at}
+
+-- just the squares of the board that pass the test
+pub record IsMask (test : ℕ → Bool) (mask : ℕ) : Type 0 where
+  pub within : mask < 4096
+  pub bits : (square : ℕ) → square < 12 → bit_at mask square ≡ cond (test square) 1 0
+
+abbrev pub is_kind : Kind → Kind → Bool
+is_kind Lion Lion = true
+is_kind Giraffe Giraffe = true
+is_kind Elephant Elephant = true
+is_kind Chick Chick = true
+is_kind Hen Hen = true
+is_kind _ _ = false
+
+-- a piece of that side and kind
+abbrev pub is_piece : Side → Kind → Cell → Bool
+is_piece side kind None = false
+is_piece side kind (Some piece) = is_side side piece.side && is_kind kind piece.kind
+
+-- a piece of the mover
+abbrev pub is_own : Cell → Bool
+is_own None = false
+is_own (Some piece) = is_side Mover piece.side
+
+-- a step of the mover may end on an enemy piece other than a lion
+abbrev pub is_prey : Side → Kind → Bool
+is_prey Mover kind = false
+is_prey Enemy Lion = false
+is_prey Enemy kind = true
+
+-- and on an empty square
+abbrev pub is_end : Cell → Bool
+is_end None = true
+is_end (Some piece) = is_prey piece.side piece.kind
+
+abbrev pub is_empty : Cell → Bool
+is_empty None = true
+is_empty (Some piece) = false
+
+-- the squares of the setup whose cells pass the test
+abbrev pub AreSquares : Setup → (Cell → Bool) → ℕ → Type 0
+AreSquares setup test = IsMask (λ square. test (at setup square))
+
+-- a piece of the mover that stands there steps from the one square to the other
+abbrev pub attacks_by : Cell → ℕ → ℕ → Bool
+attacks_by None from to = false
+attacks_by (Some piece) from to = is_side Mover piece.side && leads piece.kind from to
+
+-- the mover's piece on the first square attacks the second
+abbrev pub attacks : Setup → ℕ → ℕ → Bool
+attacks p from to = attacks_by (at p from) from to
+
+-- each mask has the squares that its name says
+pub record AreMasks (setup : Setup) (masks : Masks) : Type 0 where
+  pub lion_is : AreSquares setup (is_piece Mover Lion) masks.lion
+  pub giraffes_are : AreSquares setup (is_piece Mover Giraffe) masks.giraffes
+  pub elephants_are : AreSquares setup (is_piece Mover Elephant) masks.elephants
+  pub chicks_are : AreSquares setup (is_piece Mover Chick) masks.chicks
+  pub hens_are : AreSquares setup (is_piece Mover Hen) masks.hens
+  pub own_are : AreSquares setup is_own masks.own
+  pub ends_are : AreSquares setup is_end masks.ends
+  pub empty_are : AreSquares setup is_empty masks.empty
+  pub enemy_lion_is : AreSquares setup (is_piece Enemy Lion) masks.enemy_lion
+
+-- the places of the kinds and of the sides in their lists
+abbrev pub kind_place : Kind → ℕ
+kind_place Lion = 0
+kind_place Giraffe = 1
+kind_place Elephant = 2
+kind_place Chick = 3
+kind_place Hen = 4
+
+abbrev pub side_place : Side → ℕ
+side_place Mover = 0
+side_place Enemy = 1
+
+-- a number for what stands on a square: the mover's kinds, the enemy's, nothing
+abbrev pub code_of : Cell → ℕ
+code_of None = 10
+code_of (Some piece) = kind_place piece.kind + 5 * side_place piece.side

@@ -1,0 +1,134 @@
+// What stands where as sets of squares: a mask has a bit for each square, that of square 0 as the lowest. All masks of a
+// setup come from one pass over its board, without a branch on what stands there.
+ghost use Rattle.std.specs.Prelude.{◌≡◌, ◌<◌, ◌*◌, ◌/◌, ◌%◌, ◌^◌, bit_and};
+ghost use Rattle.std.specs.Int.{bit_not, trailing_zeros, w16};
+ghost use Rattle.dob_pieces.specs.Masks.{IsMask, AreMasks, attacks, code_of};
+ghost use Rattle.dob_pieces.specs.declared.setup.Setup.{Setup};
+
+use crate::kind::{Kind, Piece, Side};
+use crate::setup::Setup;
+use crate::square::Square;
+
+/// The squares of a setup, by what stands there. Those of a kind are the mover's.
+#[derive(Clone, Copy, Debug, PartialEq, Eq)]
+pub struct Masks {
+    pub lion: u16,
+    pub giraffes: u16,
+    pub elephants: u16,
+    pub chicks: u16,
+    pub hens: u16,
+    /// The mover's pieces.
+    pub own: u16,
+    /// Where a step of the mover may end: empty squares, and enemy pieces other than the lion.
+    pub ends: u16,
+    pub empty: u16,
+    pub enemy_lion: u16,
+}
+
+impl Masks {
+    /// The masks of the setup.
+    pub fn of(setup: &Setup) -> Masks
+        ensures { AreMasks setup.now result }
+    {
+        let mut kinds: u64 = 0;
+        let mut others: u64 = 0;
+        for square in (0..Square::COUNT).rev() {
+            let code = code_of(setup.board[square]);
+            kinds = 2 * kinds + KINDS[code];
+            others = 2 * others + OTHERS[code];
+        }
+        Masks {
+            lion: plane(kinds, 1),
+            giraffes: plane(kinds, 4096),
+            elephants: plane(kinds, 16_777_216),
+            chicks: plane(kinds, 68_719_476_736),
+            hens: plane(kinds, 281_474_976_710_656),
+            own: plane(others, 1),
+            ends: plane(others, 4096),
+            empty: plane(others, 16_777_216),
+            enemy_lion: plane(others, 68_719_476_736),
+        }
+    }
+}
+
+impl Masks {
+    /// The mover's pieces that attack the square, as a mask.
+    pub fn attackers(&self, target: Square) -> u16
+        ensures { (setup : Setup) → AreMasks setup self.now → IsMask (λ from. attacks setup from target) result }
+    {
+        self.lion & Kind::Lion.sources(target)
+            | self.giraffes & Kind::Giraffe.sources(target)
+            | self.elephants & Kind::Elephant.sources(target)
+            | self.chicks & Kind::Chick.sources(target)
+            | self.hens & Kind::Hen.sources(target)
+    }
+}
+
+/// The lowest square of a mask that has one.
+pub fn lowest_square(mask: u16) -> Square
+    requires some { 0 < mask }
+    requires within { mask < 4096 }
+    ensures { result ≡ trailing_zeros w16 mask }
+{
+    Square::new(mask.trailing_zeros() as usize)
+}
+
+/// The mask without that square.
+pub fn without_square(mask: u16, square: Square) -> u16
+    ensures { result ≡ bit_and mask (bit_not w16 (1 * 2 ^ square % 2 ^ 16)) }
+{
+    mask & !(1 << square.index())
+}
+
+// By the code of a cell the lowest bit of each mask, first those of the mover's kinds, in the order of `Kind`, ..
+const KINDS: [u64; 11] = [
+    1,
+    4096,
+    16_777_216,
+    68_719_476_736,
+    281_474_976_710_656,
+    0,
+    0,
+    0,
+    0,
+    0,
+    0,
+];
+
+// .. and then those of the mover's pieces, the ends of steps, the empty squares and the enemy lion.
+const OTHERS: [u64; 11] = [
+    1,
+    1,
+    1,
+    1,
+    1,
+    68_719_476_736,
+    4096,
+    4096,
+    4096,
+    4096,
+    16_781_312,
+];
+
+// Stands for no piece where a piece has to be read.
+const NOBODY: Piece = Piece {
+    side: Side::Mover,
+    kind: Kind::Lion,
+};
+
+// A number for what stands on a square: the mover's kinds, the enemy's kinds, nothing.
+fn code_of(cell: Option<Piece>) -> usize
+    ensures code { result ≡ code_of cell }
+    ensures bound { result < 11 }
+{
+    let piece = cell.unwrap_or(NOBODY);
+    piece.kind as usize + 5 * (piece.side as usize) + 10 * (cell.is_none() as usize)
+}
+
+// The mask whose lowest bit has that value in the word.
+fn plane(planes: u64, unit: u64) -> u16
+    requires { 0 < unit }
+    ensures { result ≡ planes / unit % 4096 }
+{
+    (planes / unit % 4096) as u16
+}
