@@ -2,6 +2,7 @@
 ghost use Rattle.std.specs.Prelude.{◌≡◌, Some};
 ghost use Rattle.dob_board.specs.declared.fault.Fault.TheVariants as fault;
 
+use dob_pieces::Memory;
 use std::alloc::{AllocError, AllocFailed};
 use std::error::Error;
 use std::fmt;
@@ -23,7 +24,7 @@ impl fmt::Display for Fault {
     fn fmt<W: fmt::Write>(&self, f: &mut fmt::Formatter<W>) -> fmt::Result {
         match self {
             Fault::Nodes => write!(f, "E9 Nodes"),
-            Fault::Memory => write!(f, "E23 Memory"),
+            Fault::Memory => write!(f, "{Memory}"),
         }
     }
 }

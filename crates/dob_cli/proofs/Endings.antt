@@ -13,7 +13,8 @@ use Rattle.dob_cli.specs.declared.fault.Fault.TheVariants.{Text, SetText, SetToo
 use Rattle.dob_cli.specs.Faults.{fault_of_value}
 use Rattle.dob_cli.specs.Streams.{Change, State, change}
 use Rattle.dob_cli.specs.Endings.{Answers, Ending, Tells, TellsOneFault, ended}
-use Rattle.dob_cli.specs.Program.{HasManyPieces, IsFaultOf}
+use Rattle.dob_rank.specs.Limits.{HasManyPieces}
+use Rattle.dob_cli.specs.Program.{IsFaultOf}
 use Rattle.dob_cli.specs.Words.{Text as Word}
 use Rattle.dob_cli.specs.Runs.{Ran, RanOn}
 use Rattle.dob_cli.specs.Sizes.{IsCountFaultOf, IsFaultOfSet}

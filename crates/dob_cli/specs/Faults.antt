@@ -1,8 +1,11 @@
 -- The program's faults as they are printed, and their exit statuses.
 use Rattle.std.specs.Prelude.{ℕ, List, [], ◌∷◌, ◌++◌, codes}
+use Rattle.dob_pieces.specs.Faults.{memory_text, set_fault_text}
 use Rattle.dob_text.specs.Faults as position
+use Rattle.dob_value.specs.Faults as value_texts
 use Rattle.dob_value.specs.declared.fault.Fault as value
 use Rattle.dob_value.specs.declared.fault.Fault.TheVariants as value_fault
+use Rattle.dob_rank.specs.Faults as rank_texts
 use Rattle.dob_rank.specs.declared.fault.Fault as rank
 use Rattle.dob_rank.specs.declared.fault.Fault.TheVariants as rank_fault
 use Rattle.dob_dbfile.specs.FaultTexts as file
@@ -14,13 +17,13 @@ use Rattle.dob_cli.specs.declared.fault.Fault.TheVariants.{Text, SetText, SetToo
 
 abbrev pub fault_text : Fault → List ℕ
 fault_text (Text fault) = position.fault_text fault
-fault_text SetText = codes "E25 SetText"
-fault_text SetTooLarge = codes "E8 SetTooLarge"
-fault_text TooDeep = codes "E12 TooDeep"
+fault_text SetText = set_fault_text
+fault_text SetTooLarge = rank_texts.fault_text rank_fault.SetTooLarge
+fault_text TooDeep = value_texts.fault_text value_fault.TooDeep
 fault_text (File fault) = file.fault_text fault
 fault_text (Table fault) = table.fault_text fault
-fault_text Memory = codes "E23 Memory"
-fault_text Io = codes "E24 Io"
+fault_text Memory = memory_text
+fault_text Io = file.fault_text (file_fault.Io 0)
 
 -- the line on standard error
 abbrev pub fault_line : Fault → List ℕ

@@ -1,11 +1,11 @@
 -- What the program owes where it is asked for the value of a position.
-use Rattle.std.specs.Prelude.{◌+◌, ◌≡◌, ℕ, ◌<◌, List, [], ◌∷◌, ◌++◌, codes}
+use Rattle.std.specs.Prelude.{◌≡◌, ℕ, List, [], ◌∷◌, ◌++◌, codes}
 use Rattle.std.specs.Fmt.{decimal}
 use Rattle.dob_pieces.specs.declared.setup.Setup.{Setup}
-use Rattle.dob_pieces.specs.declared.kind.HandKind.TheVariants as hand
-use Rattle.dob_pieces.specs.Setups.{IsLegal, total}
+use Rattle.dob_pieces.specs.Setups.{IsLegal}
 use Rattle.dob_text.specs.PositionText.{Spells}
 use Rattle.dob_text.specs.Faults.{HasFault}
+use Rattle.dob_rank.specs.Limits.{HasManyPieces}
 use Rattle.dob_value.specs.declared.value.Value.{Value}
 use Rattle.dob_value.specs.declared.value.Value.TheVariants.{Win, Loss, Draw}
 use Rattle.dob_value.specs.Values.{HasValue}
@@ -30,10 +30,6 @@ pub record IsValueOf (text : List ℕ) (value : Value) : Type 0 where
 -- the bytes are the line of the value that the text's position has
 abbrev pub IsValueLineOf : List ℕ → List ℕ → Type 0
 IsValueLineOf text line = (value : Value) × IsValueOf text value × (line ≡ value_line value)
-
--- there are more than three pieces besides the lions
-abbrev pub HasManyPieces : Setup → Type 0
-HasManyPieces position = 3 < total hand.Chick position + total hand.Elephant position + total hand.Giraffe position
 
 -- The fault is given only where it is one of the text's, or memory failed.
 abbrev pub IsFaultOf : List ℕ → Fault → Type 0

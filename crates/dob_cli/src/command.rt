@@ -49,6 +49,33 @@ pub enum Reading<'a> {
     Usage(String),
 }
 
+const PROGRAM_HELP: &str =
+    "`dobutsu value --help` says how a position is written, `dobutsu count --help` how a piece set is.
+
+A fault is one line on standard error. The status is 1, and 3 for E23 and E24:
+
+  E1 Shape         the text isn't fifteen bytes with `/` at 3, 7 and 11, then twice a space and a word
+  E2 Letter        a square is none of `.LGECHlgech`
+  E3 Hand          a hand is neither `-` nor letters of C, E, G in that order, in the case of its side
+  E4 Lions         a side hasn't just one lion
+  E5 Count         there are more than two pieces of a kind, hens counted as chicks
+  E6 FarLion       the lion of the side to move stands on row 4
+  E7 OtherSet      the position's piece set isn't the file's
+  E8 SetTooLarge   there are more than three pieces besides the lions
+  E15 Truncated    the file ends too early
+  E16 Magic        the file doesn't begin as database files do
+  E17 SetByte      the file names no piece set
+  E18 ClassCount   the file counts other classes than its piece set has
+  E19 Trailing     the file goes on after its end
+  E20 Digest       the file's digest isn't that of its bytes
+  E21 Inconsistent class N
+                   the value of class N doesn't follow from those one ply later
+  E23 Memory       no memory is left
+  E24 Io           standard output or the file failed
+  E25 SetText      the piece set isn't three digits, each 0, 1 or 2
+
+Words that the program doesn't know are told with status 2.";
+
 const POSITION_HELP: &str =
     "A position: four rows of three letters, row 4 (the far row of the side to move) first, joined
 by `/`, then a space and the hand of the side to move, a space and the hand of the other side.
@@ -154,7 +181,7 @@ fn bare_command<'a>(alloc: Global) -> Result<Command<'a>, AllocError>
         .no_binary_name(true)
         .subcommand_required(true)
         .about("Values of positions of Dobutsu shogi, and the sizes of its piece sets")
-        .after_help(POSITION_HELP);
+        .after_help(PROGRAM_HELP);
     Ok(command)
 }
 

@@ -57,13 +57,13 @@ impl fmt::Display for Fault {
     fn fmt<W: fmt::Write>(&self, f: &mut fmt::Formatter<W>) -> fmt::Result {
         match self {
             Fault::Text(fault) => write!(f, "{fault}"),
-            Fault::SetText => write!(f, "E25 SetText"),
-            Fault::SetTooLarge => write!(f, "E8 SetTooLarge"),
-            Fault::TooDeep => write!(f, "E12 TooDeep"),
+            Fault::SetText => write!(f, "{SetText}"),
+            Fault::SetTooLarge => write!(f, "{}", dob_rank::Fault::SetTooLarge),
+            Fault::TooDeep => write!(f, "{}", dob_value::Fault::TooDeep),
             Fault::File(fault) => write!(f, "{fault}"),
             Fault::Table(fault) => write!(f, "{fault}"),
-            Fault::Memory => write!(f, "E23 Memory"),
-            Fault::Io => write!(f, "E24 Io"),
+            Fault::Memory => write!(f, "{Memory}"),
+            Fault::Io => write!(f, "{}", dob_dbfile::Fault::Io(0)),
         }
     }
 }

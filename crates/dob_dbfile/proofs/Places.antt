@@ -8,7 +8,8 @@ use Rattle.dob_dbfile.specs.declared.fault.Fault.{Fault}
 use Rattle.dob_dbfile.specs.declared.fault.Fault.TheVariants as fault
 use Rattle.dob_dbfile.specs.Devices.{Stream}
 use Rattle.dob_dbfile.specs.Format.{set_bytes}
-use Rattle.dob_dbfile.specs.Faults.{HasTitle, NamesSet, IsSmall, NamesSmallSet, CountsClasses, header, HasHeader, IsOfSet, IsWhole, IsNoLonger, Ends, HasDigest, HasFault}
+use Rattle.dob_rank.specs.Limits.{IsSmall}
+use Rattle.dob_dbfile.specs.Faults.{HasTitle, NamesSet, NamesSmallSet, CountsClasses, header, HasHeader, IsOfSet, IsWhole, IsNoLonger, Ends, HasDigest, HasFault}
 
 -- ---- one set
 

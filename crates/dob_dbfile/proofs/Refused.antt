@@ -1,39 +1,42 @@
--- Why a header is refused.
-use Rattle.std.proofs.Common.{◌≡◌, ◌↔◌, ◌+◌, ◌<◌, ◌≤◌, ◌⊎◌, List, ℕ, Ok, Err, arith, inl, inr, refl, sym, subst, ◌∙◌}
+-- The faults of a header.
+use Rattle.std.proofs.Common.{◌≡◌, ◌↔◌, ◌<◌, ◌≤◌, ◌⊎◌, List, ℕ, Ok, Err, arith, inl, inr, refl, sym, subst, ◌∙◌}
 use Rattle.std.specs.Result.{IsErrOf}
 use Rattle.std.proofs.lemmas.Bool.{cases_lt}
 use Rattle.dob_pieces.specs.declared.piece_set.PieceSet.{PieceSet}
+use Rattle.dob_pieces.specs.Sets.{piece_count}
+use Rattle.dob_rank.specs.Limits.{IsSmall, IsTooLarge}
+use Rattle.dob_rank.specs.declared.limit.TheConstants.{MOST_PIECES}
 use Rattle.dob_rank.specs.declared.classes.Classes.{Classes}
 use Rattle.dob_rank.specs.declared.fault.Fault.{Fault as RankFault}
 use Rattle.dob_rank.specs.declared.fault.Fault.TheVariants as rank
 use Rattle.dob_dbfile.specs.declared.fault.Fault.{Fault}
 use Rattle.dob_dbfile.specs.declared.fault.Fault.TheVariants as fault
 use Rattle.dob_dbfile.specs.FaultTexts.{fault_of_rank}
-use Rattle.dob_dbfile.specs.Faults.{NamesSet, IsSmall, NamesSmallSet, HasHeaderFault}
+use Rattle.dob_dbfile.specs.Faults.{NamesSet, NamesSmallSet, HasHeaderFault}
 
--- the refusal of the classes of the set that the header names
+-- the fault of the classes of the set that the header names
 pub set_refused : (header : List ℕ) (set : PieceSet) (refused : RankFault) (given : Fault) → NamesSet set header
-    → (IsErrOf {T = Classes} (Err refused) rank.SetTooLarge ↔ (3 < set.chicks + set.elephants + set.giraffes))
+    → (IsErrOf {T = Classes} (Err refused) rank.SetTooLarge ↔ IsTooLarge set)
     → given ≡ fault_of_rank refused → (given ≡ fault.Memory) ⊎ HasHeaderFault header given
 set_refused header set rank.SetTooLarge given names large is =
-    let many : 3 < set.chicks + set.elephants + set.giraffes = large.0 refl in
-    inr (subst (HasHeaderFault header) (sym is) (set, names, λ few. let le : set.chicks + set.elephants + set.giraffes ≤ 3 = few in omega (arith, le)))
+    let many : IsTooLarge set = large.0 refl in
+    inr (subst (HasHeaderFault header) (sym is) (set, names, λ few. let le : piece_count set ≤ 3 = few in omega (arith, le)))
 set_refused header set rank.Memory given names large is = inl is
 
--- memory is refused only to the classes of a small set
+-- memory fails only for the classes of a small set
 pub memory_refused : (header : List ℕ) (set : PieceSet) (refused : RankFault) (given : Fault) → NamesSet set header
-    → (IsErrOf {T = Classes} (Err refused) rank.SetTooLarge ↔ (3 < set.chicks + set.elephants + set.giraffes))
+    → (IsErrOf {T = Classes} (Err refused) rank.SetTooLarge ↔ IsTooLarge set)
     → given ≡ fault_of_rank refused → given ≡ fault.Memory → (named : PieceSet) × NamesSmallSet named header
 memory_refused header set rank.SetTooLarge given names large is none = let never : fault.SetTooLarge ≡ fault.Memory = sym is ∙ none in absurd (cc)
-memory_refused header set rank.Memory given names large is none = elim (cases_lt 3 (set.chicks + set.elephants + set.giraffes)) [
+memory_refused header set rank.Memory given names large is none = elim (cases_lt MOST_PIECES (piece_count set)) [
   | inl many ↦ let never : IsErrOf {T = Classes} (Err rank.Memory) rank.SetTooLarge = large.1 many in absurd (cc)
   | inr few ↦ (set, (names, few))
 ]
 
 -- a set whose classes are opened is small
 pub small : (set : PieceSet) (classes : Classes)
-    → (IsErrOf {E = RankFault} (Ok classes) rank.SetTooLarge ↔ (3 < set.chicks + set.elephants + set.giraffes)) → IsSmall set
-small set classes large = elim (cases_lt 3 (set.chicks + set.elephants + set.giraffes)) [
+    → (IsErrOf {E = RankFault} (Ok classes) rank.SetTooLarge ↔ IsTooLarge set) → IsSmall set
+small set classes large = elim (cases_lt MOST_PIECES (piece_count set)) [
   | inl many ↦ let never : Ok classes ≡ Err rank.SetTooLarge = large.1 many in absurd (cc)
   | inr few ↦ few
 ]

@@ -18,7 +18,8 @@ use Rattle.dob_dbfile.specs.declared.fault.Fault.{Fault}
 use Rattle.dob_dbfile.specs.declared.fault.Fault.TheVariants as fault
 use Rattle.dob_dbfile.specs.Devices.{Stream, whole}
 use Rattle.dob_dbfile.specs.Format.{title, set_bytes, count_bytes, records, contents, bytes_of}
-use Rattle.dob_dbfile.specs.Faults.{IsSmall, CountsClasses, contents_len, HasDigest, HasFault}
+use Rattle.dob_rank.specs.Limits.{IsSmall}
+use Rattle.dob_dbfile.specs.Faults.{CountsClasses, contents_len, HasDigest, HasFault}
 use Rattle.dob_dbfile.proofs.Decoded.{same_records, length-records}
 use Rattle.dob_dbfile.proofs.Places.{same_set, no_fault}
 

@@ -2,6 +2,7 @@
 use Rattle.std.specs.Prelude.{◌≡◌, ℕ, ◌+◌, ◌*◌, ◌≤◌, ◌⊎◌, Bool, true, false, List, length, take, drop, Result, Ok, Err}
 use Rattle.sha2.specs.Sha256.{sha256}
 use Rattle.dob_pieces.specs.declared.piece_set.PieceSet.{PieceSet}
+use Rattle.dob_rank.specs.Limits.{IsSmall}
 use Rattle.dob_rank.specs.Marks.{classes_of}
 use Rattle.dob_dbfile.specs.declared.fault.Fault.{Fault}
 use Rattle.dob_dbfile.specs.declared.fault.Fault.TheVariants.{SetTooLarge, Truncated, Magic, SetByte, ClassCount, Trailing, Digest, Memory, Io}
@@ -24,9 +25,6 @@ HasTitle header = take 8 header ≡ title
 
 abbrev pub NamesSet : PieceSet → List ℕ → Type 0
 NamesSet set header = HasTitle header × (take 4 (drop 8 header) ≡ set_bytes set)
-
-abbrev pub IsSmall : PieceSet → Type 0
-IsSmall set = set.chicks + set.elephants + set.giraffes ≤ 3
 
 abbrev pub NamesSmallSet : PieceSet → List ℕ → Type 0
 NamesSmallSet set header = NamesSet set header × IsSmall set

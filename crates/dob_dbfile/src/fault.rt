@@ -1,4 +1,4 @@
-// The refusals of this crate.
+// The faults of this crate.
 ghost use Rattle.std.specs.Prelude.{◌≡◌, Some};
 ghost use Rattle.dob_dbfile.specs.declared.fault.Fault.TheVariants as fault;
 
@@ -37,14 +37,14 @@ impl fmt::Display for Fault {
 
     fn fmt<W: fmt::Write>(&self, f: &mut fmt::Formatter<W>) -> fmt::Result {
         match self {
-            Fault::SetTooLarge => write!(f, "E8 SetTooLarge"),
+            Fault::SetTooLarge => write!(f, "{}", dob_rank::Fault::SetTooLarge),
             Fault::Truncated => write!(f, "E15 Truncated"),
             Fault::Magic => write!(f, "E16 Magic"),
             Fault::SetByte => write!(f, "E17 SetByte"),
             Fault::ClassCount => write!(f, "E18 ClassCount"),
             Fault::Trailing => write!(f, "E19 Trailing"),
             Fault::Digest => write!(f, "E20 Digest"),
-            Fault::Memory => write!(f, "E23 Memory"),
+            Fault::Memory => write!(f, "{Memory}"),
             Fault::Io(_) => write!(f, "E24 Io"),
         }
     }

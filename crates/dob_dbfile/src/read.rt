@@ -7,7 +7,8 @@ ghost use Rattle.dob_dbfile.specs.declared.fault.Fault.{Fault as AnyFault};
 ghost use Rattle.sha2.specs.Hashers.{Holds256};
 ghost use Rattle.dob_dbfile.specs.Devices.{Stream, after, whole};
 ghost use Rattle.dob_dbfile.specs.Format.{bytes_of};
-ghost use Rattle.dob_dbfile.specs.Faults.{is_io_error, IsSmall, NamesSmallSet, NamesClasses, CountsClasses, HasHeaderFault, HasDigest, HasFault};
+ghost use Rattle.dob_rank.specs.Limits.{IsSmall};
+ghost use Rattle.dob_dbfile.specs.Faults.{is_io_error, NamesSmallSet, NamesClasses, CountsClasses, HasHeaderFault, HasDigest, HasFault};
 ghost use Rattle.dob_dbfile.specs.Reading.{Takes, IsCut, IsNoEnd, ReadsCodes, HashesNext, EndsWith, IsDigest, HasDigestFault, HasRestFault};
 
 use crate::device::{Failed, Source};

@@ -1,6 +1,8 @@
--- What each refusal is called, and which refusal of a part is which of a node's.
-use Rattle.std.specs.Prelude.{◌≡◌, List, ℕ, ◌++◌, codes}
-use Rattle.std.specs.Fmt.{decimal}
+-- What each fault is called, and which fault of a part is which of a node's.
+use Rattle.std.specs.Prelude.{◌≡◌, List, ℕ, codes}
+use Rattle.dob_pieces.specs.Faults.{memory_text}
+use Rattle.dob_rank.specs.Faults as rank_texts
+use Rattle.dob_share.specs.Faults as share_texts
 use Rattle.dob_rank.specs.declared.fault.Fault.{Fault as RankFault}
 use Rattle.dob_rank.specs.declared.fault.Fault.TheVariants as rank
 use Rattle.dob_share.specs.declared.fault.Fault.{Fault as ShareFault}
@@ -12,20 +14,20 @@ use Rattle.dob_node.specs.declared.cause.Fault.TheVariants.{SetTooLarge, TooDeep
 
 -- the cause's number, where it has one, and its name
 abbrev pub cause_text : Cause → List ℕ
-cause_text cause.TooDeep = codes "E12 TooDeep"
-cause_text (cause.Contradiction class) = codes "E13 Contradiction class " ++ decimal class
-cause_text cause.Memory = codes "E23 Memory"
+cause_text cause.TooDeep = share_texts.fault_text share.TooDeep
+cause_text (cause.Contradiction class) = share_texts.fault_text (share.Contradiction class)
+cause_text cause.Memory = memory_text
 cause_text cause.Held = codes "Held"
 cause_text cause.Counts = codes "Counts"
 
--- the refusal's number and name
+-- the fault's number and name
 abbrev pub fault_text : Fault → List ℕ
-fault_text SetTooLarge = codes "E8 SetTooLarge"
-fault_text TooDeep = codes "E12 TooDeep"
-fault_text (Contradiction class) = codes "E13 Contradiction class " ++ decimal class
-fault_text Memory = codes "E23 Memory"
+fault_text SetTooLarge = rank_texts.fault_text rank.SetTooLarge
+fault_text TooDeep = share_texts.fault_text share.TooDeep
+fault_text (Contradiction class) = share_texts.fault_text (share.Contradiction class)
+fault_text Memory = memory_text
 
--- a refusal of a share, as a node's
+-- a fault of a share, as a node's
 abbrev pub cause_of_share : ShareFault → Cause
 cause_of_share share.TooDeep = cause.TooDeep
 cause_of_share (share.Contradiction class) = cause.Contradiction class
@@ -38,7 +40,7 @@ IsFaultOf cause.Memory fault = fault ≡ Memory
 IsFaultOf cause.Held fault = ⊥
 IsFaultOf cause.Counts fault = ⊥
 
--- a refusal of the classes, as why there is no table
+-- a fault of the classes, as why there is no table
 abbrev pub fault_of_rank : RankFault → Fault
 fault_of_rank rank.SetTooLarge = SetTooLarge
 fault_of_rank rank.Memory = Memory

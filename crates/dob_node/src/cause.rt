@@ -44,9 +44,9 @@ impl fmt::Display for Cause {
 
     fn fmt<W: fmt::Write>(&self, f: &mut fmt::Formatter<W>) -> fmt::Result {
         match self {
-            Cause::TooDeep => write!(f, "E12 TooDeep"),
-            Cause::Contradiction(class) => write!(f, "E13 Contradiction class {class}"),
-            Cause::Memory => write!(f, "E23 Memory"),
+            Cause::TooDeep => write!(f, "{}", dob_share::Fault::TooDeep),
+            Cause::Contradiction(class) => write!(f, "{}", dob_share::Fault::Contradiction(*class)),
+            Cause::Memory => write!(f, "{Memory}"),
             Cause::Held => write!(f, "Held"),
             Cause::Counts => write!(f, "Counts"),
         }
@@ -62,10 +62,10 @@ impl fmt::Display for Fault {
 
     fn fmt<W: fmt::Write>(&self, f: &mut fmt::Formatter<W>) -> fmt::Result {
         match self {
-            Fault::SetTooLarge => write!(f, "E8 SetTooLarge"),
-            Fault::TooDeep => write!(f, "E12 TooDeep"),
-            Fault::Contradiction(class) => write!(f, "E13 Contradiction class {class}"),
-            Fault::Memory => write!(f, "E23 Memory"),
+            Fault::SetTooLarge => write!(f, "{}", dob_rank::Fault::SetTooLarge),
+            Fault::TooDeep => write!(f, "{}", dob_share::Fault::TooDeep),
+            Fault::Contradiction(class) => write!(f, "{}", dob_share::Fault::Contradiction(*class)),
+            Fault::Memory => write!(f, "{Memory}"),
         }
     }
 }

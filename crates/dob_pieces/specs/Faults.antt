@@ -17,3 +17,11 @@ abbrev pub fault_text : PositionFault → List ℕ
 fault_text Lions = codes "E4 Lions"
 fault_text Count = codes "E5 Count"
 fault_text FarLion = codes "E6 FarLion"
+
+-- of the fault for want of memory
+abbrev pub memory_text : List ℕ
+memory_text = codes "E23 Memory"
+
+-- of the fault of a text that is no set's
+abbrev pub set_fault_text : List ℕ
+set_fault_text = codes "E25 SetText"

@@ -1,5 +1,6 @@
-// The refusal for want of memory.
-ghost use Rattle.std.specs.Prelude.{Some, codes};
+// The fault for want of memory.
+ghost use Rattle.std.specs.Prelude.{Some};
+ghost use Rattle.dob_pieces.specs.Faults.{memory_text};
 
 use std::alloc::{AllocError, AllocFailed};
 use std::error::Error;
@@ -10,7 +11,7 @@ use std::fmt;
 pub struct Memory;
 
 impl fmt::Display for Memory {
-    ghost output = { λ _. Some (codes "E23 Memory") };
+    ghost output = { λ _. Some memory_text };
 
     fn fmt<W: fmt::Write>(&self, f: &mut fmt::Formatter<W>) -> fmt::Result {
         write!(f, "E23 Memory")

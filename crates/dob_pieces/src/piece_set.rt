@@ -1,5 +1,5 @@
 // The piece set, which no move changes.
-ghost use Rattle.std.specs.Prelude.{◌≢◌, ◌≡◌, ◌≤◌, Some, IfOk, OnErr, codes};
+ghost use Rattle.std.specs.Prelude.{◌≢◌, ◌≡◌, ◌≤◌, Some, IfOk, OnErr};
 
 use std::error::Error;
 use std::fmt;
@@ -46,7 +46,9 @@ impl PieceSet {
 pub struct SetText;
 
 impl fmt::Display for SetText {
-    ghost output = { λ _. Some (codes "E25 SetText") };
+    ghost use Rattle.dob_pieces.specs.Faults.{set_fault_text};
+
+    ghost output = { λ _. Some set_fault_text };
 
     fn fmt<W: fmt::Write>(&self, f: &mut fmt::Formatter<W>) -> fmt::Result {
         write!(f, "E25 SetText")

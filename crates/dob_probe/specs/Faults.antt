@@ -1,8 +1,9 @@
--- What each refusal is called, and when it is given.
+-- What each fault is called, and when it is given.
 use Rattle.std.specs.Prelude.{◌≡◌, List, ℕ, ◌++◌, codes}
 use Rattle.std.specs.declared.result.Result.{Result}
 use Rattle.std.specs.declared.result.Result.TheVariants.{Ok, Err}
 use Rattle.std.specs.Fmt.{decimal}
+use Rattle.dob_pieces.specs.Faults.{memory_text}
 use Rattle.dob_pieces.specs.declared.setup.Setup.{Setup}
 use Rattle.dob_moves.specs.declared.choice.Move.{Move}
 use Rattle.dob_rank.specs.Order.{IsPositionOf, IsInClass}
@@ -13,11 +14,15 @@ use Rattle.dob_probe.specs.declared.fault.Fault.TheVariants.{OtherSet, Inconsist
 use Rattle.dob_probe.specs.Lines.{GivenBy, LeadsTo, BreaksAt}
 use Rattle.dob_probe.specs.Checks.{ClassFollows, ClassBreaks, IsFirstBroken}
 
--- the refusal's number and name
+-- what is printed of the fault of a position of another set
+abbrev pub other_set_text : List ℕ
+other_set_text = codes "E7 OtherSet"
+
+-- the fault's number and name
 abbrev pub fault_text : Fault → List ℕ
-fault_text OtherSet = codes "E7 OtherSet"
+fault_text OtherSet = other_set_text
 fault_text (Inconsistent class) = codes "E21 Inconsistent class " ++ decimal class
-fault_text Memory = codes "E23 Memory"
+fault_text Memory = memory_text
 
 -- a fault of looking for a move to that value: none leads there from the position, of that class, or memory failed
 abbrev pub IsGap : ClassTable → Setup → Value → Fault → Type 0

@@ -1,5 +1,5 @@
-// The refusals of this crate.
-ghost use Rattle.std.specs.Prelude.{◌≡◌, Some, codes};
+// The faults of this crate.
+ghost use Rattle.std.specs.Prelude.{◌≡◌, Some};
 ghost use Rattle.dob_probe.specs.declared.fault.Fault.TheVariants as fault;
 
 use dob_pieces::Memory;
@@ -12,7 +12,9 @@ use std::fmt;
 pub struct OtherSet;
 
 impl fmt::Display for OtherSet {
-    ghost output = { λ _. Some (codes "E7 OtherSet") };
+    ghost use Rattle.dob_probe.specs.Faults.{other_set_text};
+
+    ghost output = { λ _. Some other_set_text };
 
     fn fmt<W: fmt::Write>(&self, f: &mut fmt::Formatter<W>) -> fmt::Result {
         write!(f, "E7 OtherSet")
@@ -39,9 +41,9 @@ impl fmt::Display for Fault {
 
     fn fmt<W: fmt::Write>(&self, f: &mut fmt::Formatter<W>) -> fmt::Result {
         match self {
-            Fault::OtherSet => write!(f, "E7 OtherSet"),
+            Fault::OtherSet => write!(f, "{OtherSet}"),
             Fault::Inconsistent(class) => write!(f, "E21 Inconsistent class {class}"),
-            Fault::Memory => write!(f, "E23 Memory"),
+            Fault::Memory => write!(f, "{Memory}"),
         }
     }
 }

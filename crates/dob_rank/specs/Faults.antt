@@ -1,9 +1,10 @@
--- What each refusal is called.
+-- What each fault is called.
 use Rattle.std.specs.Prelude.{List, ℕ, codes}
+use Rattle.dob_pieces.specs.Faults.{memory_text}
 use Rattle.dob_rank.specs.declared.fault.Fault.{Fault}
 use Rattle.dob_rank.specs.declared.fault.Fault.TheVariants.{SetTooLarge, Memory}
 
--- the refusal's number and name
+-- the fault's number and name
 abbrev pub fault_text : Fault → List ℕ
 fault_text SetTooLarge = codes "E8 SetTooLarge"
-fault_text Memory = codes "E23 Memory"
+fault_text Memory = memory_text

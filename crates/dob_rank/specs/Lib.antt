@@ -6,6 +6,7 @@ pub mod Runs
 pub mod RunTables
 pub mod BlockTables
 pub mod Laws
+pub mod Limits
 pub mod Faults
 pub mod Segmented
 pub mod SegmentsLeft

@@ -1,4 +1,4 @@
-// The refusals of this crate.
+// The faults of this crate.
 ghost use Rattle.std.specs.Prelude.{◌≡◌, Some};
 ghost use Rattle.dob_rank.specs.declared.fault.Fault.TheVariants as fault;
 
@@ -24,7 +24,7 @@ impl fmt::Display for Fault {
     fn fmt<W: fmt::Write>(&self, f: &mut fmt::Formatter<W>) -> fmt::Result {
         match self {
             Fault::SetTooLarge => write!(f, "E8 SetTooLarge"),
-            Fault::Memory => write!(f, "E23 Memory"),
+            Fault::Memory => write!(f, "{Memory}"),
         }
     }
 }

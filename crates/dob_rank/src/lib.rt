@@ -14,6 +14,7 @@ mod fault;
 mod forms;
 pub mod laws;
 mod layers;
+mod limit;
 mod radix;
 mod ranks;
 mod runs;
@@ -21,6 +22,7 @@ mod segmented;
 
 pub use classes::Classes;
 pub use fault::Fault;
+pub use limit::MOST_PIECES;
 pub use ranks::{rank, representative, size, unrank};
 pub use segmented::{Segments, SegmentsIter};
 

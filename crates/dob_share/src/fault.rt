@@ -1,4 +1,4 @@
-// The refusals of an item.
+// The faults of an item.
 ghost use Rattle.std.specs.Prelude.{Some};
 
 use std::error::Error;
@@ -20,7 +20,7 @@ impl fmt::Display for Fault {
 
     fn fmt<W: fmt::Write>(&self, f: &mut fmt::Formatter<W>) -> fmt::Result {
         match self {
-            Fault::TooDeep => write!(f, "E12 TooDeep"),
+            Fault::TooDeep => write!(f, "{}", dob_value::Fault::TooDeep),
             Fault::Contradiction(class) => write!(f, "E13 Contradiction class {class}"),
         }
     }

@@ -1,11 +1,11 @@
 -- A text is joined from its parts in one way.
-use Rattle.std.proofs.Common.{Bool, ◌≡◌, ◌≢◌, ◌==◌, ◌<◌, ◌≤◌, ◌+◌, ℕ, List, [], ◌∷◌, ◌++◌, length, get_or, take, drop, All, Some, None, true, false, refl, sym, subst, ap, ◌∙◌, arith, append_assoc, length-append}
+use Rattle.std.proofs.Common.{◌≡◌, ◌≢◌, ◌<◌, ◌≤◌, ◌+◌, ℕ, List, [], ◌∷◌, ◌++◌, length, get_or, take, drop, All, Some, None, true, false, refl, sym, subst, ap, ◌∙◌, arith, append_assoc, length-append}
 use Rattle.std.specs.List.{position, position_or_len, before_first, after_first}
 use Rattle.std.proofs.lemmas.List.{take_at, drop_at, get_or_at, get_or_append_left, take-append-drop, drop_more}
 use Rattle.std.proofs.lemmas.List.Quantifiers.{position-Some}
 use Rattle.std.proofs.lemmas.List.Sums.{position_or_len_is}
 use Rattle.std.proofs.lemmas.Bool.Decides.{nat_tests}
-use Rattle.dob_text.specs.PositionText.{IsWord, AreWords, AreParts, HasShape}
+use Rattle.dob_text.specs.PositionText.{is_space, IsWord, AreWords, AreParts, HasShape}
 
 -- the fronts are of one length
 pub same_split : (a b x y : List ℕ) → length a ≡ length b → a ++ x ≡ b ++ y → (a ≡ b) × (x ≡ y)
@@ -13,9 +13,6 @@ same_split a b x y size joined = (
   sym (take_at a x (length a) refl) ∙ ap (take (length a)) joined ∙ take_at b y (length a) (sym size),
   sym (drop_at a x (length a) refl) ∙ ap (drop (length a)) joined ∙ drop_at b y (length a) (sym size),
 )
-
-abbrev pub is_space : ℕ → Bool
-is_space byte = byte == 32
 
 -- the first space stands behind a front that has none
 pub space_at : (a x : List ℕ) → All (λ byte. byte ≢ 32) a → position_or_len is_space (a ++ 32 ∷ x) ≡ length a

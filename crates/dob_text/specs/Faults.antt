@@ -1,6 +1,8 @@
 -- The faults of a text that is no position's, in the order in which they are tested.
-use Rattle.std.specs.Prelude.{ℕ, List, codes}
+use Rattle.std.specs.Prelude.{ℕ, List, Some, codes}
 use Rattle.dob_pieces.specs.declared.setup.Setup.{Setup}
+use Rattle.dob_pieces.specs.declared.fault.PositionFault.TheVariants as position_fault
+use Rattle.dob_pieces.specs.Faults as position
 use Rattle.dob_pieces.specs.Setups.{HasLions, HasFewPieces, HasLionAtHome}
 use Rattle.dob_text.specs.declared.fault.TextFault.{TextFault}
 use Rattle.dob_text.specs.declared.fault.TextFault.TheVariants.{Shape, Letter, Hand, Lions, Count, FarLion}
@@ -11,9 +13,9 @@ abbrev pub fault_text : TextFault → List ℕ
 fault_text Shape = codes "E1 Shape"
 fault_text Letter = codes "E2 Letter"
 fault_text Hand = codes "E3 Hand"
-fault_text Lions = codes "E4 Lions"
-fault_text Count = codes "E5 Count"
-fault_text FarLion = codes "E6 FarLion"
+fault_text Lions = position.fault_text position_fault.Lions
+fault_text Count = position.fault_text position_fault.Count
+fault_text FarLion = position.fault_text position_fault.FarLion
 
 -- the first fault of the text: what it lacks, and that it has all that is tested before
 abbrev pub HasFault : List ℕ → TextFault → Type 0
@@ -26,9 +28,9 @@ HasFault text FarLion = (setup : Setup) × Spells text setup × HasLions setup �
 
 -- why the setup that a text spells is no position
 abbrev pub IsRefused : Setup → TextFault → Type 0
-IsRefused setup Lions = ¬ HasLions setup
-IsRefused setup Count = HasLions setup × ¬ HasFewPieces setup
-IsRefused setup FarLion = HasLions setup × HasFewPieces setup × ¬ HasLionAtHome setup
+IsRefused setup Lions = position.HasFault setup (Some position_fault.Lions)
+IsRefused setup Count = position.HasFault setup (Some position_fault.Count)
+IsRefused setup FarLion = position.HasFault setup (Some position_fault.FarLion)
 IsRefused setup Shape = ⊥
 IsRefused setup Letter = ⊥
 IsRefused setup Hand = ⊥

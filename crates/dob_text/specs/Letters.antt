@@ -6,14 +6,15 @@ use Rattle.dob_pieces.specs.declared.kind.Kind.TheVariants.{Lion, Giraffe, Eleph
 use Rattle.dob_pieces.specs.declared.kind.Side.{Side}
 use Rattle.dob_pieces.specs.declared.kind.Side.TheVariants.{Mover, Enemy}
 use Rattle.dob_pieces.specs.Setups.{Cell}
+use Rattle.dob_pieces.specs.Bytes.{full_stop, upper_c, upper_e, upper_g, upper_h, upper_l}
 
--- the kind's letter: L, G, E, C or H
+-- the kind's letter
 abbrev pub letter_of_kind : Kind → ℕ
-letter_of_kind Lion = 76
-letter_of_kind Giraffe = 71
-letter_of_kind Elephant = 69
-letter_of_kind Chick = 67
-letter_of_kind Hen = 72
+letter_of_kind Lion = upper_l
+letter_of_kind Giraffe = upper_g
+letter_of_kind Elephant = upper_e
+letter_of_kind Chick = upper_c
+letter_of_kind Hen = upper_h
 
 -- a letter for a piece of that side: upper case for the mover's pieces, lower case for the enemy's
 abbrev pub cased : Side → ℕ → ℕ
@@ -22,5 +23,5 @@ cased Enemy letter = to_ascii_lowercase letter
 
 -- the letter of what stands on a square, a full stop where nothing does
 abbrev pub letter_of : Cell → ℕ
-letter_of None = 46
+letter_of None = full_stop
 letter_of (Some piece) = cased piece.side (letter_of_kind piece.kind)

@@ -2,6 +2,7 @@
 use Rattle.std.specs.Prelude.{ℕ, ◌+◌, Bool, List, [], ◌∷◌, ◌++◌, if◌then◌else◌}
 use Rattle.dob_pieces.specs.declared.kind.Side.{Side}
 use Rattle.dob_pieces.specs.declared.kind.Side.TheVariants.{Mover, Enemy}
+use Rattle.dob_pieces.specs.Bytes.{asterisk, digit_one, hyphen, lower_a, lower_x, plus_sign}
 use Rattle.dob_pieces.specs.Squares.{column, row, turned_square}
 use Rattle.dob_pieces.specs.Pieces.{kind_on_board}
 use Rattle.dob_moves.specs.declared.choice.Move.{Move}
@@ -18,7 +19,7 @@ seen second square = if second then turned_square square else square
 
 -- a square's name: the column's letter from a on, the row's digit from 1 on
 abbrev pub square_text : ℕ → List ℕ
-square_text square = (97 + column square) ∷ (49 + row square) ∷ []
+square_text square = (lower_a + column square) ∷ (digit_one + row square) ∷ []
 
 -- A step: the letter before it, the square that it leaves, `x` for a catch and else `-`, the square that it reaches,
 -- and `+` where a chick becomes a hen. A drop: the letter, `*`, the square.
@@ -26,10 +27,10 @@ abbrev pub move_text : Move → Bool → List ℕ
 move_text (Step kind from to catch grows) second =
     cased (side_of second) (letter_of_kind kind) ∷ []
     ++ square_text (seen second from)
-    ++ (if catch then 120 else 45) ∷ []
+    ++ (if catch then lower_x else hyphen) ∷ []
     ++ square_text (seen second to)
-    ++ (if grows then 43 ∷ [] else [])
+    ++ (if grows then plus_sign ∷ [] else [])
 move_text (Put kind to) second =
     cased (side_of second) (letter_of_kind (kind_on_board kind)) ∷ []
-    ++ 42 ∷ []
+    ++ asterisk ∷ []
     ++ square_text (seen second to)

@@ -2,6 +2,7 @@
 ghost use Rattle.std.specs.Prelude.{Some};
 ghost use Rattle.dob_text.specs.Faults.{fault_text};
 
+use dob_pieces::PositionFault;
 use std::error::Error;
 use std::fmt;
 
@@ -30,9 +31,9 @@ impl fmt::Display for TextFault {
             TextFault::Shape => write!(f, "E1 Shape"),
             TextFault::Letter => write!(f, "E2 Letter"),
             TextFault::Hand => write!(f, "E3 Hand"),
-            TextFault::Lions => write!(f, "E4 Lions"),
-            TextFault::Count => write!(f, "E5 Count"),
-            TextFault::FarLion => write!(f, "E6 FarLion"),
+            TextFault::Lions => write!(f, "{}", PositionFault::Lions),
+            TextFault::Count => write!(f, "{}", PositionFault::Count),
+            TextFault::FarLion => write!(f, "{}", PositionFault::FarLion),
         }
     }
 }

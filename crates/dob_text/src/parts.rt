@@ -1,6 +1,6 @@
 // The parts of a position's text: fifteen bytes of board and two words.
-ghost use Rattle.std.specs.Prelude.{◌≡◌, ◌==◌, ◌↔◌, ℕ, List, length, position, MatchOption, IsTrue, IsAscii};
-ghost use Rattle.dob_text.specs.PositionText.{IsWord, IsGrid, AreWords, AreParts, HasShape};
+ghost use Rattle.std.specs.Prelude.{◌≡◌, ◌↔◌, ℕ, List, length, position, MatchOption, IsTrue, IsAscii};
+ghost use Rattle.dob_text.specs.PositionText.{is_space, IsWord, IsGrid, AreWords, AreParts, HasShape};
 
 /// How many bytes the board takes.
 const GRID_LEN: usize = 15;
@@ -40,7 +40,7 @@ fn is_word(word: &[u8]) -> bool
 
 /// The place of the first space.
 fn first_space(text: &[u8]) -> Option<usize>
-    ensures { result ≡ position (λ byte. byte == 32) text.now }
+    ensures { result ≡ position is_space text.now }
 {
     text.iter().position(|byte| *byte == b' ')
 }

@@ -1,5 +1,5 @@
-// The refusals of this crate.
-ghost use Rattle.std.specs.Prelude.{◌≡◌, Some, codes};
+// The faults of this crate.
+ghost use Rattle.std.specs.Prelude.{◌≡◌, Some};
 ghost use Rattle.dob_value.specs.declared.fault.Fault.TheVariants as fault;
 ghost use Rattle.dob_value.specs.Faults.{fault_of_rank};
 
@@ -26,9 +26,9 @@ impl fmt::Display for Fault {
 
     fn fmt<W: fmt::Write>(&self, f: &mut fmt::Formatter<W>) -> fmt::Result {
         match self {
-            Fault::SetTooLarge => write!(f, "E8 SetTooLarge"),
+            Fault::SetTooLarge => write!(f, "{}", dob_rank::Fault::SetTooLarge),
             Fault::TooDeep => write!(f, "E12 TooDeep"),
-            Fault::Memory => write!(f, "E23 Memory"),
+            Fault::Memory => write!(f, "{Memory}"),
         }
     }
 }

@@ -1,7 +1,6 @@
 // The values of a whole piece set, and the value of one position.
-ghost use Rattle.std.specs.Prelude.{◌≡◌, ◌+◌, ◌<◌, ◌↔◌, IfOk, IsErrOf};
-ghost use Rattle.dob_pieces.specs.declared.kind.HandKind.TheVariants as hand;
-ghost use Rattle.dob_pieces.specs.Setups.{total};
+ghost use Rattle.std.specs.Prelude.{◌≡◌, ◌↔◌, IfOk, IsErrOf};
+ghost use Rattle.dob_rank.specs.Limits.{IsTooLarge, HasManyPieces};
 ghost use Rattle.dob_rank.specs.Order.{IsPositionOf};
 ghost use Rattle.dob_value.specs.Values.{HasValue};
 ghost use Rattle.dob_value.specs.Rosters.{SomeTooDeep, HasSamePieces};
@@ -23,7 +22,7 @@ use std::alloc::Global;
 pub fn sweep_table(alloc: Global, set: PieceSet) -> Result<Table, Fault>
     ensures set { IfOk result (λ table. table.set ≡ set) }
     ensures values { IfOk result (λ table. IsValueTable set table.values) }
-    ensures large { IsErrOf result Fault.SetTooLarge ↔ (3 < set.chicks + set.elephants + set.giraffes) }
+    ensures large { IsErrOf result Fault.SetTooLarge ↔ IsTooLarge set }
     ensures deep { IsErrOf result Fault.TooDeep → SomeTooDeep (IsPositionOf set) }
 {
     let classes = Classes::open(alloc, set)?;
@@ -39,8 +38,7 @@ pub fn sweep_table(alloc: Global, set: PieceSet) -> Result<Table, Fault>
 /// position with the same pieces is won or lost in more than `MAX_DISTANCE` plies; `Memory`.
 pub fn sweep_value(alloc: Global, position: &Position) -> Result<Value, Fault>
     ensures value { IfOk result (λ value. HasValue position.now.setup value) }
-    ensures large { IsErrOf result Fault.SetTooLarge
-        ↔ (3 < total hand.Chick position.now.setup + total hand.Elephant position.now.setup + total hand.Giraffe position.now.setup) }
+    ensures large { IsErrOf result Fault.SetTooLarge ↔ HasManyPieces position.now.setup }
     ensures deep { IsErrOf result Fault.TooDeep → SomeTooDeep (HasSamePieces position.now.setup) }
 {
     let table = sweep_table(alloc, position.piece_set())?;

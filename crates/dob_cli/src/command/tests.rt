@@ -13,6 +13,29 @@ const POSITION_TAUGHT: [&str; 6] = [
     "dobutsu value \"..l/.../L../... - -\" prints `win 3`",
 ];
 
+const FAULTS_TAUGHT: [&str; 20] = [
+    "`dobutsu value --help` says how a position is written",
+    "E1 Shape ",
+    "E2 Letter ",
+    "E3 Hand ",
+    "E4 Lions ",
+    "E5 Count ",
+    "E6 FarLion ",
+    "E7 OtherSet ",
+    "E8 SetTooLarge ",
+    "E15 Truncated ",
+    "E16 Magic ",
+    "E17 SetByte ",
+    "E18 ClassCount ",
+    "E19 Trailing ",
+    "E20 Digest ",
+    "E21 Inconsistent class N",
+    "E23 Memory ",
+    "E24 Io ",
+    "E25 SetText ",
+    "with status 2",
+];
+
 const SET_TAUGHT: [&str; 6] = [
     "three digits CEG, each 0, 1 or 2",
     "chicks (hens counted with them)",
@@ -59,16 +82,23 @@ fn expect_usage<'a>(
 #[test]
 fn help_teaches_the_position_text(rt: HostRuntime) -> Result<(), Fail> {
     let alloc = rt.alloc();
-    let top = "Usage: dobutsu <COMMAND>";
     let taught = POSITION_TAUGHT.as_slice();
-    expect_help(&rt, alloc, &["--help"], top, taught)?;
-    expect_help(&rt, alloc, &["-h"], top, taught)?;
-    expect_help(&rt, alloc, &["help"], top, taught)?;
     let usage = "Usage: dobutsu value <POSITION>";
     expect_help(&rt, alloc, &["value", "--help"], usage, taught)?;
     expect_help(&rt, alloc, &["value", "-h"], usage, taught)?;
     expect_help(&rt, alloc, &["help", "value"], usage, taught)?;
     expect_help(&rt, alloc, &["value", "-", "--help"], usage, taught)?;
+    Ok(())
+}
+
+#[test]
+fn help_names_the_faults(rt: HostRuntime) -> Result<(), Fail> {
+    let alloc = rt.alloc();
+    let usage = "Usage: dobutsu <COMMAND>";
+    let taught = FAULTS_TAUGHT.as_slice();
+    expect_help(&rt, alloc, &["--help"], usage, taught)?;
+    expect_help(&rt, alloc, &["-h"], usage, taught)?;
+    expect_help(&rt, alloc, &["help"], usage, taught)?;
     Ok(())
 }
 
