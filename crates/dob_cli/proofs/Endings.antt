@@ -8,11 +8,11 @@ use Rattle.dob_text.specs.PositionText.{Spells}
 use Rattle.dob_value.specs.Rosters.{SomeTooDeep, HasSamePieces}
 use Rattle.dob_value.specs.declared.fault.Fault as value
 use Rattle.dob_value.specs.declared.fault.Fault.TheVariants as value_fault
+use Rattle.dob_dbfile.specs.Sinks.{Change, State, change}
 use Rattle.dob_cli.specs.declared.fault.Fault.{Fault}
 use Rattle.dob_cli.specs.declared.fault.Fault.TheVariants.{Text, SetText, SetTooLarge, TooDeep, File, Table, Memory, Io}
 use Rattle.dob_cli.specs.Faults.{fault_of_value}
-use Rattle.dob_cli.specs.Streams.{Change, State, change}
-use Rattle.dob_cli.specs.Endings.{Answers, Ending, Tells, TellsOneFault, ended}
+use Rattle.dob_cli.specs.Endings.{Answers, Ending, Tells, TellsMemory, TellsOneFault, ended}
 use Rattle.dob_rank.specs.Limits.{HasManyPieces}
 use Rattle.dob_cli.specs.Program.{IsFaultOf}
 use Rattle.dob_cli.specs.Words.{Text as Word}
@@ -43,6 +43,11 @@ pub refused : (AreLines : List ℕ → Type 0) (Holds : Fault → Type 0) (fault
     → Holds Memory → Holds fault → TellsOneFault fault status err → Answers AreLines Holds (ended status (change out out) err)
 refused AreLines Holds fault status out err memory holds (inl told) = inr (inl (record { fault = fault; holds = holds; told = told; silent = refl }))
 refused AreLines Holds fault status out err memory holds (inr told) = inr (inl (record { fault = Memory; holds = memory; told = told; silent = refl }))
+
+-- want of memory, with nothing on standard output
+pub memory_told : (status : ℕ) (out : State) (err : Change) → TellsOneFault Memory status err → TellsMemory (ended status (change out out) err)
+memory_told status out err (inl told) = (told, refl)
+memory_told status out err (inr told) = (told, refl)
 
 -- lines that are right
 pub answered : (AreLines : List ℕ → Type 0) (Holds : Fault → Type 0) (lines : List ℕ) (e : Ending) → AreLines lines → Tells lines e → Answers AreLines Holds e

@@ -1,9 +1,10 @@
 -- How the program ends: an exit status, and what it writes on standard output and standard error.
 use Rattle.std.specs.Prelude.{◌≡◌, ℕ, ◌⊎◌, List, [], ◌∷◌, ◌++◌, codes}
+use Rattle.dob_dbfile.specs.Sinks.{Change, IsUntouched, Puts, Says, Stops}
 use Rattle.dob_cli.specs.declared.fault.Fault.{Fault}
 use Rattle.dob_cli.specs.declared.fault.Fault.TheVariants.{Memory, Io}
 use Rattle.dob_cli.specs.Faults.{fault_line, status_of}
-use Rattle.dob_cli.specs.Streams.{Change, Puts, PutsPart, Says}
+use Rattle.dob_cli.specs.Signs.{line_feed}
 
 -- an exit status, and what happened to standard output and standard error
 pub record Ending : Type 0 where
@@ -13,10 +14,6 @@ pub record Ending : Type 0 where
 
 abbrev pub ended : ℕ → Change → Change → Ending
 ended status out err = record { status = status; out = out; err = err }
-
--- nothing happened to it
-abbrev pub IsUntouched : Change → Type 0
-IsUntouched c = c.after ≡ c.before
 
 -- the fault's status, and its line on standard error
 abbrev pub TellsFaultAs : Fault → ℕ → Change → Type 0
@@ -45,7 +42,7 @@ pub record TellsFault (Holds : Fault → Type 0) (e : Ending) : Type 0 where
 pub record FailsToTell (AreLines : List ℕ → Type 0) (e : Ending) : Type 0 where
   pub lines : List ℕ
   pub right : AreLines lines
-  pub part : PutsPart e.out lines
+  pub part : Stops e.out lines
   pub told : TellsOneFault Io e.status e.err
 
 -- what the program does where it owes such lines, or the line of a fault that holds
@@ -55,7 +52,7 @@ Answers AreLines Holds e = TellsLines AreLines e ⊎ (TellsFault Holds e ⊎ Fai
 -- the text on standard output and status 0; or a beginning of it, and the fault of a failing output
 abbrev pub Tells : List ℕ → Ending → Type 0
 Tells text e =
-    ((e.status ≡ 0) × Puts e.out text × IsUntouched e.err) ⊎ (PutsPart e.out text × TellsOneFault Io e.status e.err)
+    ((e.status ≡ 0) × Puts e.out text × IsUntouched e.err) ⊎ (Stops e.out text × TellsOneFault Io e.status e.err)
 
 -- that no memory was left, and nothing else
 abbrev pub TellsMemory : Ending → Type 0
@@ -67,7 +64,7 @@ AnswersHelp e = ((text : List ℕ) × Tells text e) ⊎ TellsMemory e
 
 -- the line of the version
 abbrev pub version_line : List ℕ
-version_line = codes "dobutsu 0.1.0" ++ 10 ∷ []
+version_line = codes "dobutsu 0.1.0" ++ line_feed ∷ []
 
 -- what it does where its version is asked for
 abbrev pub AnswersVersion : Ending → Type 0

@@ -12,6 +12,7 @@ use Rattle.dob_dbfile.specs.FaultTexts as file
 use Rattle.dob_dbfile.specs.declared.fault.Fault.TheVariants as file_fault
 use Rattle.dob_probe.specs.Faults as table
 use Rattle.dob_probe.specs.declared.fault.Fault.TheVariants as table_fault
+use Rattle.dob_cli.specs.Signs.{line_feed}
 use Rattle.dob_cli.specs.declared.fault.Fault.{Fault}
 use Rattle.dob_cli.specs.declared.fault.Fault.TheVariants.{Text, SetText, SetTooLarge, TooDeep, File, Table, Memory, Io}
 
@@ -27,7 +28,7 @@ fault_text Io = file.fault_text (file_fault.Io 0)
 
 -- the line on standard error
 abbrev pub fault_line : Fault → List ℕ
-fault_line fault = codes "dobutsu: " ++ fault_text fault ++ 10 ∷ []
+fault_line fault = codes "dobutsu: " ++ fault_text fault ++ line_feed ∷ []
 
 -- 1 where what was asked is refused, 3 where the program failed
 abbrev pub status_of : Fault → ℕ

@@ -1,10 +1,11 @@
+pub mod Signs
 pub mod Forms
 pub mod Words
 pub mod Lines
 pub mod Shapes
 pub mod Readings
 pub mod Faults
-pub mod Streams
+pub mod Shelves
 pub mod Endings
 pub mod Program
 pub mod Tables

@@ -12,13 +12,14 @@ use Rattle.dob_value.specs.Values.{HasValue}
 use Rattle.dob_value.specs.Rosters.{SomeTooDeep, HasSamePieces}
 use Rattle.dob_cli.specs.declared.fault.Fault.{Fault}
 use Rattle.dob_cli.specs.declared.fault.Fault.TheVariants.{Text, SetText, SetTooLarge, TooDeep, File, Table, Memory, Io}
+use Rattle.dob_cli.specs.Signs.{line_feed}
 use Rattle.dob_cli.specs.Endings.{Answers, Ending}
 
 -- the line that tells a value, with its line feed
 abbrev pub value_line : Value → List ℕ
-value_line (Win plies) = codes "win " ++ decimal plies ++ 10 ∷ []
-value_line (Loss plies) = codes "loss " ++ decimal plies ++ 10 ∷ []
-value_line Draw = codes "draw" ++ 10 ∷ []
+value_line (Win plies) = codes "win " ++ decimal plies ++ line_feed ∷ []
+value_line (Loss plies) = codes "loss " ++ decimal plies ++ line_feed ∷ []
+value_line Draw = codes "draw" ++ line_feed ∷ []
 
 -- the text is a legal position's, whose value this is by definition
 pub record IsValueOf (text : List ℕ) (value : Value) : Type 0 where

@@ -1,8 +1,9 @@
 -- What the program does with its words, whatever they are.
 use Rattle.std.specs.Prelude.{◌≡◌, ◌⊎◌, ℕ, List, [], ◌∷◌, ◌++◌, codes}
-use Rattle.dob_cli.specs.Words.{Text, check, count, help, line, line_feed, meaning_of, probe, topic, usage, value, version}
-use Rattle.dob_cli.specs.Streams.{Says}
-use Rattle.dob_cli.specs.Endings.{AnswersHelp, AnswersUsage, AnswersVersion, Ending, IsUntouched, TellsMemory}
+use Rattle.dob_dbfile.specs.Sinks.{IsUntouched, Says}
+use Rattle.dob_cli.specs.Words.{Text, check, count, help, line, meaning_of, probe, topic, usage, value, version}
+use Rattle.dob_cli.specs.Signs.{line_feed}
+use Rattle.dob_cli.specs.Endings.{AnswersHelp, AnswersUsage, AnswersVersion, Ending, TellsMemory}
 use Rattle.dob_cli.specs.Program.{AnswersValue}
 use Rattle.dob_cli.specs.Sizes.{AnswersCount}
 use Rattle.dob_cli.specs.Tables.{AnswersCheck, AnswersLine, AnswersProbe}

@@ -8,6 +8,7 @@ use Rattle.dob_rank.specs.Order.{HasSize, HasClasses}
 use Rattle.dob_cli.specs.declared.counts.Counts.{Counts}
 use Rattle.dob_cli.specs.declared.fault.Fault.{Fault}
 use Rattle.dob_cli.specs.declared.fault.Fault.TheVariants.{SetText, SetTooLarge, Memory}
+use Rattle.dob_cli.specs.Signs.{line_feed}
 use Rattle.dob_cli.specs.Endings.{Answers, Ending}
 
 -- the set is small, and these are its numbers of positions and classes
@@ -22,7 +23,7 @@ AreCountsOf text counts = (set : PieceSet) × (text ≡ set_text set) × HasCoun
 
 -- a line with a name and a number, and its line feed
 abbrev pub count_line : List ℕ → ℕ → List ℕ
-count_line name number = name ++ decimal number ++ 10 ∷ []
+count_line name number = name ++ decimal number ++ line_feed ∷ []
 
 -- the two lines that tell the numbers
 abbrev pub count_lines : Counts → List ℕ

@@ -20,6 +20,7 @@ use Rattle.dob_probe.specs.Lines.{GivenBy, IsLine, BreaksAt}
 use Rattle.dob_probe.specs.Checks.{IsFirstBroken}
 use Rattle.dob_cli.specs.declared.fault.Fault.{Fault}
 use Rattle.dob_cli.specs.declared.fault.Fault.TheVariants.{Text, File, Table, Memory, Io}
+use Rattle.dob_cli.specs.Signs.{line_feed, space}
 use Rattle.dob_cli.specs.Program.{value_line}
 use Rattle.dob_cli.specs.Endings.{Answers, Ending}
 
@@ -52,7 +53,7 @@ pub record IsProbeLine (Has : List ℕ → Type 0) (words lines : List ℕ) : Ty
 -- a space where more moves follow
 abbrev pub space_before : List Move → List ℕ
 space_before [] = []
-space_before (move ∷ moves) = 32 ∷ []
+space_before (move ∷ moves) = space ∷ []
 
 -- the moves in turn, with a space between two
 abbrev pub moves_text : Bool → List Move → List ℕ
@@ -66,8 +67,8 @@ end_text _ = codes "end"
 
 -- the line that tells moves, of a position of that value
 abbrev pub moves_line : Value → List Move → List ℕ
-moves_line value [] = end_text value ++ 10 ∷ []
-moves_line value moves = moves_text false moves ++ 10 ∷ []
+moves_line value [] = end_text value ++ line_feed ∷ []
+moves_line value moves = moves_text false moves ++ line_feed ∷ []
 
 -- the lines tell the line of the text's position by the file's table
 pub record IsMovesLine (Has : List ℕ → Type 0) (words lines : List ℕ) : Type 0 where
@@ -86,7 +87,7 @@ pub record IsCheckLine (Has : List ℕ → Type 0) (lines : List ℕ) : Type 0 w
   pub table : ClassTable
   pub file : IsFileOf Has table
   pub right : IsValueTable table.set table.values
-  pub same : lines ≡ codes "consistent" ++ 10 ∷ []
+  pub same : lines ≡ codes "consistent" ++ line_feed ∷ []
 
 -- ---- faults
 

@@ -16,9 +16,6 @@ hyphen = 45
 abbrev pub equals_sign : ℕ
 equals_sign = 61
 
-abbrev pub line_feed : ℕ
-line_feed = 10
-
 abbrev pub letter_h : ℕ
 letter_h = 104
 

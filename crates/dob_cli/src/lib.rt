@@ -4,12 +4,10 @@
 pub mod command;
 mod counts;
 mod fault;
-mod output;
 mod program;
 mod shelf;
 mod tables;
 
 pub use fault::Fault;
-pub use output::{Failed, Output, Watched};
 pub use program::{run_given, run_words, tell_memory};
 pub use shelf::{DiskShelf, MemShelf, Shelf};

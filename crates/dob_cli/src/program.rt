@@ -1,10 +1,10 @@
 // The program: from its words to what it prints and its exit status.
 ghost use Rattle.std.specs.Prelude.{◌≡◌, ◌≢◌, ◌⊎◌, ℕ, List, IfOk, IfErr, drop, map, string_bytes};
+ghost use Rattle.dob_dbfile.specs.Sinks.{Says, change};
 ghost use Rattle.std.specs.IoError.{error_kind};
 ghost use Rattle.std.specs.declared.io.ErrorKind.TheVariants.{OutOfMemory};
 ghost use Rattle.std.specs.Vec.Iter.{into_iter_items};
 ghost use Rattle.dob_cli.specs.Words.{meaning_of, value as asks_value, count as asks_count, probe as asks_probe, line as asks_line, check as asks_check, help as asks_help, version as asks_version, topic as asks_topic, usage as asks_nothing};
-ghost use Rattle.dob_cli.specs.Streams.{change};
 ghost use Rattle.dob_cli.specs.Runs.{RanOn, TellsNoText};
 ghost use Rattle.dob_cli.specs.Endings.{AnswersHelp, AnswersUsage, AnswersVersion, Tells, TellsFaultAs, TellsMemory, TellsOneFault, ended};
 ghost use Rattle.dob_cli.specs.Program.{AnswersValue, IsValueLineOf, IsFaultOf, value_line};
@@ -15,9 +15,9 @@ ghost use Rattle.dob_cli.specs.declared.fault.Fault.TheVariants.{Memory};
 use crate::command::{Order, Reading, read_words};
 use crate::counts::run_count;
 use crate::fault::Fault;
-use crate::output::{Output, put_all, say};
 use crate::shelf::Shelf;
 use crate::tables::{run_check, run_line, run_probe};
+use dob_dbfile::{Sink, put_all, write_all};
 use dob_text::read_position;
 use dob_value::{Value, sweep_value};
 use std::alloc::{AllocError, Global};
@@ -35,12 +35,13 @@ const VERSION: &str = "dobutsu 0.1.0\n";
 const NO_TEXT: &[u8] = b"error: an argument is not UTF-8\n\nFor more information, try '--help'.\n";
 
 /// Runs the program by its words, those after the program's name. Database files come from the shelf. What it tells goes
-/// to `out`, a fault's line and a word on wrong usage to `err`; the answer is the exit status.
+/// to `out`, a fault's line and a word on wrong usage to `err`, which are sinks as a file's is; a writer of the standard
+/// library is one behind `Std`. The answer is the exit status.
 ///
 /// The status is 0 where it is done or help was asked for, 1 where what was asked is refused, 2 for words that it
 /// doesn't know, 3 for want of memory, for a distance above 65,534 plies and where `out` fails. Where `err` fails,
 /// the status is the same.
-pub fn run_words<'a, S: Shelf, O: Output, E: Output>(
+pub fn run_words<'a, S: Shelf, O: Sink, E: Sink>(
     rt: &(impl Threads + Sync),
     alloc: Global,
     words: &'a [&'a str],
@@ -99,7 +100,7 @@ pub fn run_words<'a, S: Shelf, O: Output, E: Output>(
 }
 
 // Tells the value of the position that the text names.
-fn run_value<O: Output, E: Output>(alloc: Global, text: &str, out: &mut O, err: &mut E) -> u8
+fn run_value<O: Sink, E: Sink>(alloc: Global, text: &str, out: &mut O, err: &mut E) -> u8
     ensures { AnswersValue text.now (ended result (change (O.state out.old) (O.state out.new)) (change (E.state err.old) (E.state err.new))) }
 {
     match value_of(alloc, text) {
@@ -130,18 +131,24 @@ pub(crate) fn line_of(alloc: Global, value: Value) -> Result<String, AllocError>
 }
 
 // Tells a line, or a few, on standard output.
-pub(crate) fn tell<O: Output, E: Output>(alloc: Global, line: &str, out: &mut O, err: &mut E) -> u8
+pub(crate) fn tell<O: Sink, E: Sink>(alloc: Global, line: &str, out: &mut O, err: &mut E) -> u8
     ensures { Tells line.now (ended result (change (O.state out.old) (O.state out.new)) (change (E.state err.old) (E.state err.new))) }
 {
-    if put_all(out, line.as_bytes()) {
-        0
-    } else {
-        tell_fault(alloc, Fault::Io, err)
+    match put_all(out, line.as_bytes()) {
+        Ok(()) => 0,
+        Err(_failed) => tell_fault(alloc, Fault::Io, err),
     }
 }
 
+// Writes the bytes as far as the stream takes them.
+fn say<E: Sink>(err: &mut E, bytes: &[u8])
+    ensures { Says (change (E.state err.old) (E.state err.new)) bytes.now }
+{
+    let _written = write_all(err, bytes);
+}
+
 // Tells a fault on standard error, or that no memory was left to tell it.
-pub(crate) fn tell_fault<E: Output>(alloc: Global, fault: Fault, err: &mut E) -> u8
+pub(crate) fn tell_fault<E: Sink>(alloc: Global, fault: Fault, err: &mut E) -> u8
     ensures { TellsOneFault fault result (change (E.state err.old) (E.state err.new)) }
 {
     match format!(in alloc; "dobutsu: {fault}\n") {
@@ -155,7 +162,7 @@ pub(crate) fn tell_fault<E: Output>(alloc: Global, fault: Fault, err: &mut E) ->
 
 /// Tells on `err` that no memory was left, as where the words themselves can't be kept. It takes no memory itself. The
 /// answer is the exit status.
-pub fn tell_memory<E: Output>(err: &mut E) -> u8
+pub fn tell_memory<E: Sink>(err: &mut E) -> u8
     ensures { TellsFaultAs Memory result (change (E.state err.old) (E.state err.new)) }
 {
     say(err, b"dobutsu: E23 Memory\n");
@@ -167,7 +174,7 @@ pub fn tell_memory<E: Output>(err: &mut E) -> u8
 ///
 /// It does what `run_words` does with the words after the name. Where memory for them was refused, it says so (E23,
 /// status 3); where one of them isn't UTF-8, it says that (status 2).
-pub fn run_given<S: Shelf, O: Output, E: Output>(
+pub fn run_given<S: Shelf, O: Sink, E: Sink>(
     rt: &(impl Threads + Sync),
     alloc: Global,
     given: io::Result<Args>,
@@ -195,7 +202,7 @@ pub fn run_given<S: Shelf, O: Output, E: Output>(
 }
 
 // Runs the program by its arguments, of which the first is its name.
-fn run_args<S: Shelf, O: Output, E: Output>(
+fn run_args<S: Shelf, O: Sink, E: Sink>(
     rt: &(impl Threads + Sync),
     alloc: Global,
     args: Args,
@@ -234,7 +241,7 @@ fn after_first<'a>(given: &'a [String]) -> &'a [String]
 }
 
 // Runs the program by its words, as they were given.
-fn run_texts<S: Shelf, O: Output, E: Output>(
+fn run_texts<S: Shelf, O: Sink, E: Sink>(
     rt: &(impl Threads + Sync),
     alloc: Global,
     given: &[String],

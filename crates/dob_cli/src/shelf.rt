@@ -1,8 +1,11 @@
-// Where the program finds database files.
-ghost use Rattle.std.specs.Prelude.{◌≡◌, ℕ, List, false, IfSome, string_bytes};
+// Where the program finds and keeps database files.
+ghost use Rattle.std.specs.Prelude.{◌≡◌, ℕ, List, [], Bool, Some, false, true, IfSome, OnErr, IfNone, OnOk, IsTrue};
 ghost use Rattle.dob_dbfile.specs.Devices.{whole};
+ghost use Rattle.dob_cli.specs.Shelves.{HasJust, SameFiles, SameOthers, bytes_in};
 
-use dob_dbfile::{MemSource, Source, Std};
+use dob_dbfile::{MemSink, MemSource, Sink, Source, Std};
+use std::alloc::{AllocError, Global};
+use std::collections::BTreeMap;
 use std::fs;
 use std::rt::Files;
 
@@ -11,35 +14,95 @@ pub trait Shelf {
     /// What the bytes of a file are read from.
     type Src: Source + Drop;
 
+    /// What the bytes of a new file are written to.
+    type Dst: Sink + Drop;
+
     // The file of this name has just these bytes, where that is known.
     ghost has: { Self → List ℕ → List ℕ → Type 0 };
+
+    // Whether it is known of each file.
+    ghost tells: { Self → Bool };
 
     /// A source of the bytes of the file of that name, from the first on; `None` where there is none, or it can't be
     /// opened. The files keep their bytes.
     fn find(&mut self, name: &str) -> Option<Self::Src>
         ensures working { IfSome result (λ source. Self.Src.has_failed source ≡ false) }
         ensures found { (bytes : List ℕ) → has self.old name.now bytes → IfSome result (λ source. Self.Src.gives source (whole bytes)) }
-        ensures kept { (other bytes : List ℕ) → has self.old other bytes → has self.new other bytes };
+        ensures kept { SameFiles (has self.old) (has self.new) }
+        ensures told { tells self.new ≡ tells self.old };
+
+    /// An empty sink for the bytes of a file of that name, which has no bytes from here on; `None` where it can't be
+    /// made, and then nothing has changed. Other files keep their bytes.
+    fn make(&mut self, name: &str) -> Option<Self::Dst>
+        ensures working { IfSome result (λ sink. (Self.Dst.state sink).has_failed ≡ false) }
+        ensures empty { IfSome result (λ sink. IsTrue (tells self.old) → (Self.Dst.state sink).received ≡ Some []) }
+        ensures made { IfSome result (λ _. IsTrue (tells self.old) → HasJust name.now [] (has self.new)) }
+        ensures others { SameOthers name.now (has self.old) (has self.new) }
+        ensures refused { IfNone result (SameFiles (has self.old) (has self.new)) }
+        ensures told { tells self.new ≡ tells self.old };
+
+    /// Keeps just the sink's bytes under that name, for which `make` gave a sink. Other files keep their bytes.
+    fn keep(&mut self, name: &str, sink: Self::Dst)
+        requires { IsTrue (tells self.old) → (bytes : List ℕ) × has self.old name.now bytes }
+        ensures kept { (bytes : List ℕ) → IsTrue (tells self.old) → (Self.Dst.state sink).received ≡ Some bytes → HasJust name.now bytes (has self.new) }
+        ensures others { SameOthers name.now (has self.old) (has self.new) }
+        ensures told { tells self.new ≡ tells self.old };
 }
 
-/// A shelf with one file in memory, for tests.
-#[derive(Debug, Drop)]
+/// A shelf of files in memory, for tests.
+#[derive(Drop)]
 pub struct MemShelf {
-    pub name: String,
-    pub bytes: Vec<u8>,
+    files: BTreeMap<String, Vec<u8>>,
+    alloc: Global,
+}
+
+impl MemShelf {
+    /// A shelf with no files.
+    pub fn new(alloc: Global) -> MemShelf {
+        MemShelf {
+            files: BTreeMap::new(alloc),
+            alloc,
+        }
+    }
+
+    // Puts an empty file under the name.
+    fn clear(&mut self, name: &str) -> Result<(), AllocError>
+        ensures cleared { OnOk result (HasJust name.now [] (λ other bytes. bytes_in self.new.files other ≡ Some bytes)) }
+        ensures others { SameOthers name.now (λ other bytes. bytes_in self.old.files other ≡ Some bytes)
+            (λ other bytes. bytes_in self.new.files other ≡ Some bytes) }
+        ensures refused { OnErr result (SameFiles (λ other bytes. bytes_in self.old.files other ≡ Some bytes)
+            (λ other bytes. bytes_in self.new.files other ≡ Some bytes)) }
+    {
+        let name = name.to_string(self.alloc)?;
+        self.files.insert(name, Vec::new(self.alloc))?;
+        Ok(())
+    }
 }
 
 impl Shelf for MemShelf {
     type Src = MemSource;
 
-    ghost has = { λ shelf name bytes. (string_bytes shelf.name ≡ name) × (shelf.bytes.items ≡ bytes) };
+    type Dst = MemSink;
+
+    ghost has = { λ shelf name bytes. bytes_in shelf.files name ≡ Some bytes };
+
+    ghost tells = { λ _. true };
 
     fn find(&mut self, name: &str) -> Option<MemSource> {
-        if self.name.as_str() == name {
-            let bytes = self.bytes.clone().ok()?;
-            Some(MemSource::new(bytes))
-        } else {
-            None
+        let bytes = self.files.get(name)?.clone().ok()?;
+        Some(MemSource::new(bytes))
+    }
+
+    fn make(&mut self, name: &str) -> Option<MemSink> {
+        match self.clear(name) {
+            Ok(()) => Some(MemSink::new(self.alloc)),
+            Err(AllocError) => None,
+        }
+    }
+
+    fn keep(&mut self, name: &str, sink: MemSink) {
+        if let Some(bytes) = self.files.get_mut(name) {
+            *bytes = sink.into_bytes();
         }
     }
 }
@@ -53,10 +116,21 @@ pub struct DiskShelf<'a, R> {
 impl<R: Files> Shelf for DiskShelf<'_, R> {
     type Src = Std<R::File>;
 
+    type Dst = Std<R::File>;
+
     ghost has = { λ _ _ _. ⊥ };
+
+    ghost tells = { λ _. false };
 
     fn find(&mut self, name: &str) -> Option<Std<R::File>> {
         let file = fs::open(self.rt, name).ok()?;
         Some(Std::new(file))
     }
+
+    fn make(&mut self, name: &str) -> Option<Std<R::File>> {
+        let file = fs::create(self.rt, name).ok()?;
+        Some(Std::new(file))
+    }
+
+    fn keep(&mut self, _name: &str, _sink: Std<R::File>) {}
 }

@@ -1,15 +1,15 @@
 // Answers by the table of a database file.
 ghost use Rattle.std.specs.Prelude.{◌≡◌, ◌++◌, ◌∷◌, [], false, IfOk, IfErr, OnOk, string_bytes};
+ghost use Rattle.dob_dbfile.specs.Sinks.{change};
 ghost use Rattle.dob_text.specs.MoveText.{move_text};
+ghost use Rattle.dob_cli.specs.Signs.{line_feed};
 ghost use Rattle.dob_cli.specs.Endings.{ended};
-ghost use Rattle.dob_cli.specs.Streams.{change};
 ghost use Rattle.dob_cli.specs.Tables.{AnswersCheck, AnswersLine, AnswersProbe, HasFileFault, IsCheckFault, IsCheckLine, IsFileOf, IsMovesLine, IsOpeningFault, IsPositionFault, IsProbeLine, moves_line, moves_text, space_before};
 
 use crate::fault::Fault;
-use crate::output::Output;
 use crate::program::{line_of, tell, tell_fault};
 use crate::shelf::Shelf;
-use dob_dbfile::read_table;
+use dob_dbfile::{Sink, read_table};
 use dob_moves::Move;
 use dob_pieces::Memory;
 use dob_probe::{check, line, probe};
@@ -19,7 +19,7 @@ use std::alloc::Global;
 use std::thread::Threads;
 
 /// Tells the value of the position that the text names, by the table of the file. The answer is the exit status.
-pub(crate) fn run_probe<S: Shelf, O: Output, E: Output>(
+pub(crate) fn run_probe<S: Shelf, O: Sink, E: Sink>(
     alloc: Global,
     shelf: &mut S,
     file: &str,
@@ -36,7 +36,7 @@ pub(crate) fn run_probe<S: Shelf, O: Output, E: Output>(
 }
 
 /// Tells the line of the position that the text names, by the table of the file. The answer is the exit status.
-pub(crate) fn run_line<S: Shelf, O: Output, E: Output>(
+pub(crate) fn run_line<S: Shelf, O: Sink, E: Sink>(
     alloc: Global,
     shelf: &mut S,
     file: &str,
@@ -53,7 +53,7 @@ pub(crate) fn run_line<S: Shelf, O: Output, E: Output>(
 }
 
 /// Tells that the table of the file is consistent, and so the value table. The answer is the exit status.
-pub(crate) fn run_check<S: Shelf, O: Output, E: Output>(
+pub(crate) fn run_check<S: Shelf, O: Sink, E: Sink>(
     rt: &(impl Threads + Sync),
     alloc: Global,
     shelf: &mut S,
@@ -141,7 +141,7 @@ fn end_line(value: Value) -> &'static str
 
 // The line of the moves.
 fn move_line(alloc: Global, moves: &[Move]) -> Result<String, Memory>
-    ensures { IfOk result (λ line. string_bytes line ≡ moves_text false moves.now ++ 10 ∷ []) }
+    ensures { IfOk result (λ line. string_bytes line ≡ moves_text false moves.now ++ line_feed ∷ []) }
 {
     let mut line = String::new(alloc);
     push_moves(alloc, &mut line, moves)?;

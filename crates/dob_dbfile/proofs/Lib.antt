@@ -8,6 +8,6 @@ mod Filled
 mod Pieces
 mod Places
 mod Refused
-mod Streams
+mod Sinks
 mod Verdicts
 mod Written

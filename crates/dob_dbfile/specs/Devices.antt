@@ -1,6 +1,5 @@
--- What a source still gives, and what one call of a source or a sink does.
-use Rattle.std.specs.Prelude.{◌≡◌, ℕ, ◌<◌, ◌≤◌, Bool, true, false, List, [], ◌∷◌, length, take, drop, Option, Some}
-use Rattle.std.specs.Io.KnownBytes.{Appends}
+-- What a source still gives, and what one call of it does.
+use Rattle.std.specs.Prelude.{◌≡◌, ℕ, ◌<◌, ◌≤◌, Bool, true, false, List, [], length, take, drop}
 
 -- What a source gives from here on: these bytes, and then its end or, where it fails, a failure in the end's place.
 pub record Stream : Type 0 where
@@ -32,7 +31,3 @@ pub record Fills (stream : Stream) (count : ℕ) (room : List ℕ) : Type 0 wher
   pub within : count ≤ length stream.bytes
   pub same : take count room ≡ take count stream.bytes
   pub end : count < length room → stream ≡ whole (take count room)
-
--- the place of the flush, where the sink's bytes are known, comes to those of the flushes before
-abbrev pub AddsFlush : Option (List ℕ) → Option (List ℕ) → Option (List ℕ) → Type 0
-AddsFlush received old new = (bytes : List ℕ) → received ≡ Some bytes → Appends old new (length bytes ∷ [])

@@ -1,4 +1,5 @@
 pub mod Devices
+pub mod Sinks
 pub mod Memory
 pub mod Format
 pub mod Faults

@@ -1,11 +1,11 @@
 -- What a sink has of a file where writing stops.
-use Rattle.std.specs.Prelude.{ℕ, ◌≤◌, List, Option, length, take}
-use Rattle.std.specs.Io.KnownBytes.{Appends, Keeps}
+use Rattle.std.specs.Prelude.{List, ℕ}
 use Rattle.dob_dbfile.specs.declared.fault.Fault.{Fault}
 use Rattle.dob_dbfile.specs.declared.fault.Fault.TheVariants.{Memory, Io}
+use Rattle.dob_dbfile.specs.Sinks.{Change, IsUntouched, StopsAfter}
 
--- a sink that fails has received just so many bytes of those, and where memory is refused nothing is sent
-abbrev pub StopsAt : List ℕ → Option (List ℕ) → Option (List ℕ) → Fault → Type 0
-StopsAt bytes old new (Io count) = (count ≤ length bytes) × Appends old new (take count bytes)
-StopsAt bytes old new Memory = Keeps old new
-StopsAt bytes old new _ = ⊥
+-- a sink that fails has received just so many bytes of those, and where memory is refused nothing happens to it
+abbrev pub StopsAt : Change → List ℕ → Fault → Type 0
+StopsAt c bytes (Io count) = StopsAfter c bytes count
+StopsAt c bytes Memory = IsUntouched c
+StopsAt c bytes _ = ⊥

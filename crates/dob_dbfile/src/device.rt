@@ -1,7 +1,8 @@
 // What bytes are read from and written to, and how these fail.
-ghost use Rattle.std.specs.Prelude.{◌≡◌, ℕ, ◌<◌, ◌≤◌, ◌||◌, [], Bool, List, Option, length, is_err, IfOk, OnOk, OnErr};
+ghost use Rattle.std.specs.Prelude.{◌≡◌, ℕ, ◌<◌, ◌≤◌, ◌||◌, [], Bool, length, is_err, IfOk, OnOk, OnErr};
 ghost use Rattle.std.specs.Io.KnownBytes.{Keeps, WriteAppends};
-ghost use Rattle.dob_dbfile.specs.Devices.{Stream, after, broken, GivesFirst, AddsFlush};
+ghost use Rattle.dob_dbfile.specs.Devices.{Stream, after, broken, GivesFirst};
+ghost use Rattle.dob_dbfile.specs.Sinks.{State, AddsFlush};
 
 /// A device didn't do what it was asked, and no byte was moved by that call.
 #[derive(Clone, Copy, Debug, PartialEq, Eq)]
@@ -38,31 +39,25 @@ pub trait Source {
 
 /// A place for bytes, which are taken one after the other.
 pub trait Sink {
-    // The bytes that it has received, where they are known.
-    ghost received: { Self → Option (List ℕ) };
-
-    // After how many bytes it was flushed, each time, where that is known.
-    ghost flushes: { Self → Option (List ℕ) };
-
-    // Whether some call of it has failed.
-    ghost has_failed: { Self → Bool };
+    // What is known of it: its bytes, where it was flushed, and whether some call of it has failed.
+    ghost state: { Self → State };
 
     /// Takes the first bytes of the piece and answers how many: at least one, where there is one.
     fn write(&mut self, piece: &[u8]) -> Result<usize, Failed>
         ensures within { IfOk result (λ count. count ≤ length piece.now) }
         ensures some { IfOk result (λ count. 0 < length piece.now → 0 < count) }
-        ensures bytes { WriteAppends (received self.old) (received self.new) result piece.now }
-        ensures flushes { Keeps (flushes self.old) (flushes self.new) }
-        ensures failed { has_failed self.new ≡ (has_failed self.old || is_err result) };
+        ensures bytes { WriteAppends (state self.old).received (state self.new).received result piece.now }
+        ensures flushes { Keeps (state self.old).flushes (state self.new).flushes }
+        ensures failed { (state self.new).has_failed ≡ ((state self.old).has_failed || is_err result) };
 
     /// Brings the bytes that were taken to where they belong.
     fn flush(&mut self) -> Result<(), Failed>
-        ensures bytes { Keeps (received self.old) (received self.new) }
-        ensures flushed { OnOk result (AddsFlush (received self.old) (flushes self.old) (flushes self.new)) }
-        ensures unflushed { OnErr result (Keeps (flushes self.old) (flushes self.new)) }
-        ensures failed { has_failed self.new ≡ (has_failed self.old || is_err result) };
+        ensures bytes { Keeps (state self.old).received (state self.new).received }
+        ensures flushed { OnOk result (AddsFlush (state self.old).received (state self.old).flushes (state self.new).flushes) }
+        ensures unflushed { OnErr result (Keeps (state self.old).flushes (state self.new).flushes) }
+        ensures failed { (state self.new).has_failed ≡ ((state self.old).has_failed || is_err result) };
 
     /// Whether some call of it has failed.
     fn failed(&self) -> bool
-        ensures { result ≡ has_failed self.now };
+        ensures { result ≡ (state self.now).has_failed };
 }

@@ -129,11 +129,7 @@ impl MemSink {
 }
 
 impl Sink for MemSink {
-    ghost received = { λ sink. Some sink.bytes.items };
-
-    ghost flushes = { λ sink. Some sink.flushes.items };
-
-    ghost has_failed = { λ sink. sink.has_failed };
+    ghost state = { λ sink. record { received = Some sink.bytes.items; flushes = Some sink.flushes.items; has_failed = sink.has_failed } };
 
     fn write(&mut self, piece: &[u8]) -> Result<usize, Failed> {
         let count = piece.len().min(self.longest).min(self.room);

@@ -4,8 +4,9 @@ ghost use Rattle.std.specs.Prelude.{◌≡◌, None, false};
 use crate::device::{Failed, Sink, Source};
 use std::io::{Read, Write};
 
-/// A reader or a writer of the standard library as a device. Of its bytes nothing is told. Every error is a failure,
-/// one that asks for another try included, and so is a `write` that takes nothing.
+/// A reader or a writer of the standard library as a device. Of a reader's bytes nothing is told, and of a writer's
+/// just what the writer tells. Every error is a failure, one that asks for another try included, and so is a `write`
+/// that takes nothing.
 #[derive(Debug, Drop)]
 pub struct Std<T> {
     inner: T,
@@ -15,7 +16,8 @@ pub struct Std<T> {
 impl<T> Std<T> {
     /// The device over it, which hasn't failed.
     pub fn new(inner: T) -> Std<T>
-        ensures { result.has_failed ≡ false }
+        ensures failed { result.has_failed ≡ false }
+        ensures inner { result.inner ≡ inner }
     {
         Std {
             inner,
@@ -52,11 +54,7 @@ impl<T: Read> Source for Std<T> {
 }
 
 impl<T: Write> Sink for Std<T> {
-    ghost received = { λ _. None };
-
-    ghost flushes = { λ _. None };
-
-    ghost has_failed = { λ device. device.has_failed };
+    ghost state = { λ device. record { received = T.contents device.inner; flushes = None; has_failed = device.has_failed } };
 
     fn write(&mut self, piece: &[u8]) -> Result<usize, Failed> {
         match self.inner.write(piece) {

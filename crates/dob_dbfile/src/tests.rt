@@ -1,3 +1,4 @@
 // What the contracts don't say: outside bytes, and each place where a device fails.
 mod devices;
 mod files;
+mod std_devices;

@@ -1,7 +1,7 @@
 // Whole runs of bytes over devices that move them in pieces.
 ghost use Rattle.std.specs.Prelude.{◌≡◌, ℕ, ◌+◌, ◌-◌, ◌<◌, ◌≤◌, ◌||◌, [], take, drop, length, is_err, IfOk, IfErr, OnOk};
-ghost use Rattle.std.specs.Io.KnownBytes.{Appends, Keeps};
 ghost use Rattle.dob_dbfile.specs.Devices.{Stream, after, broken, Fills};
+ghost use Rattle.dob_dbfile.specs.Sinks.{Puts, StopsAfter, Writes, change};
 
 use crate::device::{Failed, FailedAfter, Sink, Source};
 
@@ -9,11 +9,8 @@ use crate::device::{Failed, FailedAfter, Sink, Source};
 ///
 /// Error: the sink failed, and has received just the first bytes, as many as the answer says.
 pub fn write_all<W: Sink>(sink: &mut W, bytes: &[u8]) -> Result<(), FailedAfter>
-    ensures done { OnOk result (Appends (W.received sink.old) (W.received sink.new) bytes.now) }
-    ensures part { IfErr result (λ failed. (failed.bytes ≤ length bytes.now)
-        × Appends (W.received sink.old) (W.received sink.new) (take failed.bytes bytes.now)) }
-    ensures flushes { Keeps (W.flushes sink.old) (W.flushes sink.new) }
-    ensures failed { W.has_failed sink.new ≡ (W.has_failed sink.old || is_err result) }
+    ensures done { OnOk result (Writes (change (W.state sink.old) (W.state sink.new)) bytes.now) }
+    ensures part { IfErr result (λ failed. StopsAfter (change (W.state sink.old) (W.state sink.new)) bytes.now failed.bytes) }
 {
     let mut done = 0;
     while done < bytes.len() {
@@ -23,6 +20,21 @@ pub fn write_all<W: Sink>(sink: &mut W, bytes: &[u8]) -> Result<(), FailedAfter>
         }
     }
     Ok(())
+}
+
+/// Writes all the bytes, and flushes the sink once after them.
+///
+/// Error: the sink failed, and has received just the first bytes, as many as the answer says: all of them where it
+/// failed to flush.
+pub fn put_all<W: Sink>(sink: &mut W, bytes: &[u8]) -> Result<(), FailedAfter>
+    ensures done { OnOk result (Puts (change (W.state sink.old) (W.state sink.new)) bytes.now) }
+    ensures part { IfErr result (λ failed. StopsAfter (change (W.state sink.old) (W.state sink.new)) bytes.now failed.bytes) }
+{
+    write_all(sink, bytes)?;
+    match sink.flush() {
+        Ok(()) => Ok(()),
+        Err(Failed) => Err(FailedAfter { bytes: bytes.len() }),
+    }
 }
 
 /// Fills the room with the next bytes, in as many pieces as the source makes of them, and answers how many there are:

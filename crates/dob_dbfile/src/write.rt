@@ -1,16 +1,15 @@
 // Writing a table as a file.
 ghost use Rattle.std.specs.Prelude.{◌≡◌, false, IfOk, IfErr, OnOk};
-ghost use Rattle.std.specs.Io.KnownBytes.{Appends, append_known};
-ghost use Rattle.dob_dbfile.specs.Devices.{AddsFlush};
 ghost use Rattle.dob_dbfile.specs.Format.{contents, bytes_of};
 ghost use Rattle.dob_dbfile.specs.Faults.{is_io_error};
+ghost use Rattle.dob_dbfile.specs.Sinks.{Puts, change};
 ghost use Rattle.dob_dbfile.specs.Writing.{StopsAt};
 
-use crate::device::{Failed, Sink};
+use crate::device::{FailedAfter, Sink};
 use crate::fault::Fault;
 use crate::header::push_header;
 use crate::records::push_records;
-use crate::transfer::write_all;
+use crate::transfer::put_all;
 use dob_pieces::Memory;
 use dob_value::Table;
 use sha2::{Digest, Sha256};
@@ -35,19 +34,14 @@ fn file_bytes(alloc: Global, table: &Table) -> Result<Vec<u8>, Memory>
 /// Errors: `Memory`, before anything is written; `Io` where the sink fails in this call, which then has received just
 /// the first bytes of the file, as many as the fault says, and all of them where it failed to flush.
 pub fn write_table<W: Sink>(alloc: Global, table: &Table, sink: &mut W) -> Result<(), Fault>
-    requires { W.has_failed sink.old ≡ false }
-    ensures written { OnOk result (Appends (W.received sink.old) (W.received sink.new) (bytes_of table.now)) }
-    ensures flushed { OnOk result (AddsFlush (append_known (W.received sink.old) (bytes_of table.now))
-        (W.flushes sink.old) (W.flushes sink.new)) }
-    ensures stopped { IfErr result (StopsAt (bytes_of table.now) (W.received sink.old) (W.received sink.new)) }
-    ensures failed { W.has_failed sink.new ≡ is_io_error result }
+    requires { (W.state sink.old).has_failed ≡ false }
+    ensures written { OnOk result (Puts (change (W.state sink.old) (W.state sink.new)) (bytes_of table.now)) }
+    ensures stopped { IfErr result (StopsAt (change (W.state sink.old) (W.state sink.new)) (bytes_of table.now)) }
+    ensures failed { (W.state sink.new).has_failed ≡ is_io_error result }
 {
     let bytes = file_bytes(alloc, table)?;
-    if let Err(failed) = write_all(sink, &bytes) {
-        return Err(Fault::Io(failed.bytes as u64));
-    }
-    match sink.flush() {
+    match put_all(sink, &bytes) {
         Ok(()) => Ok(()),
-        Err(Failed) => Err(Fault::Io(bytes.len() as u64)),
+        Err(FailedAfter { bytes: count }) => Err(Fault::Io(count as u64)),
     }
 }

@@ -6,7 +6,7 @@ use sha2::{Digest, Sha256};
 use std::process::Abort;
 
 /// How many bytes the file has.
-const FILE_LEN: usize = 160;
+pub(super) const FILE_LEN: usize = 160;
 
 /// How many of them stand before the digest.
 const CONTENTS_LEN: usize = 128;
@@ -17,12 +17,12 @@ const DIGEST: [u8; 32] = [
     0x18, 0x13, 0x33, 0xf8, 0x61, 0x22, 0xef, 0x38, 0x42, 0x78, 0xd1, 0x0c, 0x81, 0x88, 0x30, 0x74,
 ];
 
-fn table(rt: &(impl Abort + AllocGlobal)) -> Table {
+pub(super) fn table(rt: &(impl Abort + AllocGlobal)) -> Table {
     let set = PieceSet::read("000").expect(rt, "a set");
     sweep_table(rt.alloc(), set).expect(rt, "a table")
 }
 
-fn file(rt: &(impl Abort + AllocGlobal)) -> Vec<u8> {
+pub(super) fn file(rt: &(impl Abort + AllocGlobal)) -> Vec<u8> {
     let mut sink = MemSink::new(rt.alloc());
     write_table(rt.alloc(), &table(rt), &mut sink).expect(rt, "a file");
     sink.into_bytes()
@@ -172,5 +172,24 @@ fn a_wrong_record_is_read_as_it_is(rt: HostRuntime) {
     assert!(rt; table.class_count() == 54);
     if 17 < table.class_count() {
         assert!(rt; table.value(17) == Value::Win(7));
+    }
+}
+
+#[test]
+fn refusals_are_printed(rt: HostRuntime) {
+    let texts = [
+        (Fault::SetTooLarge, "E8 SetTooLarge"),
+        (Fault::Truncated, "E15 Truncated"),
+        (Fault::Magic, "E16 Magic"),
+        (Fault::SetByte, "E17 SetByte"),
+        (Fault::ClassCount, "E18 ClassCount"),
+        (Fault::Trailing, "E19 Trailing"),
+        (Fault::Digest, "E20 Digest"),
+        (Fault::Memory, "E23 Memory"),
+        (Fault::Io(30), "E24 Io"),
+    ];
+    for (fault, text) in texts {
+        let printed = format!(in rt.alloc(); "{fault}").expect(&rt, "memory");
+        assert!(rt; printed.as_str() == text);
     }
 }

@@ -1,0 +1,52 @@
+-- What a map has under its names after one of them is given other bytes.
+use Rattle.std.proofs.Common.{◌≡◌, ℕ, Bool, true, false, cond, List, Option, Some, sym, ap, ◌∙◌, refl, string_bytes}
+use Rattle.std.specs.Prelude.{◌≢◌, String, Vec, option_map, Result, Ok, Err}
+use Rattle.std.specs.Result.{OnErr}
+use Rattle.std.specs.BTreeMap.{BTreeMap, get_by_text, is_at}
+use Rattle.std.specs.Map.{lookup, update}
+use Rattle.std.specs.Ordering.{nat_cmp}
+use Rattle.std.specs.Cmp.Lexicographic.{slice_cmp}
+use Rattle.std.specs.Str.{bytes_eq}
+use Rattle.std.proofs.lemmas.Bool.{false_from_ne_true}
+use Rattle.std.proofs.lemmas.Slice.Eq.{bytes_eq-Decides}
+use Rattle.dob_cli.specs.Shelves.{HasJust, SameFiles, SameOthers, bytes_in}
+
+-- where all names have what they had
+pub same_files : (old new : List ℕ → Option (List ℕ)) → ((name : List ℕ) → new name ≡ old name) → SameFiles (λ name bytes. old name ≡ Some bytes) (λ name bytes. new name ≡ Some bytes)
+same_files old new same name bytes = (λ e. same name ∙ e, λ e. sym (same name) ∙ e)
+
+-- where all but one have
+pub same_others : (name : List ℕ) (old new : List ℕ → Option (List ℕ)) → ((other : List ℕ) → other ≢ name → new other ≡ old other)
+    → SameOthers name (λ other bytes. old other ≡ Some bytes) (λ other bytes. new other ≡ Some bytes)
+same_others name old new same other bytes differs = (λ e. same other differs ∙ e, λ e. sym (same other differs) ∙ e)
+
+some_is : (a b : List ℕ) → Some a ≡ Some b → a ≡ b
+some_is a b e = cc
+
+-- where the name has these bytes
+pub has_just : (name bytes : List ℕ) (new : List ℕ → Option (List ℕ)) → new name ≡ Some bytes → HasJust name bytes (λ other found. new other ≡ Some found)
+has_just name bytes new has found = (λ e. some_is found bytes (sym e ∙ has), λ e. has ∙ ap (λ (x : List ℕ). Some x) (sym e))
+
+module _ {X Y : Type 0} (old new : BTreeMap (String X) (Vec ℕ Y)) (name : List ℕ) (value : Vec ℕ Y)
+    (sets : (other : List ℕ) → get_by_text new other ≡ update bytes_eq (get_by_text old) name (Some value) other) where
+  -- another name has what it had
+  pub keeps_other : (other : List ℕ) → other ≢ name → bytes_in new other ≡ bytes_in old other
+  keeps_other other differs =
+      let no : bytes_eq name other ≡ false = false_from_ne_true (bytes_eq name other) (λ e. differs (sym ((bytes_eq-Decides name other).0 e))) in
+      ap (option_map (λ bytes. bytes.items)) (sets other ∙ ap (λ (b : Bool). cond b (Some value) (get_by_text old other)) no)
+
+  -- the name has the new bytes
+  pub gives_new : bytes_in new name ≡ Some value.items
+  gives_new =
+      let yes : bytes_eq name name ≡ true = (bytes_eq-Decides name name).1 refl in
+      ap (option_map (λ bytes. bytes.items)) (sets name ∙ ap (λ (b : Bool). cond b (Some value) (get_by_text old name)) yes)
+
+-- what holds anyway holds at an error
+pub on_error : {V E : Type 0} (r : Result V E) (P : Type 0) → P → OnErr r P
+on_error (Ok v) P holds = tt
+on_error (Err e) P holds = holds
+
+-- a map with the same entries
+pub same_entries : {X Y : Type 0} (old new : BTreeMap (String X) (Vec ℕ Y)) → new.entries ≡ old.entries → (name : List ℕ) → bytes_in new name ≡ bytes_in old name
+same_entries old new same name =
+    ap (λ es. option_map (λ bytes. bytes.items) (lookup (is_at (λ k. slice_cmp nat_cmp name (string_bytes k))) es)) same

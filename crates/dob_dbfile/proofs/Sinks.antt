@@ -1,0 +1,92 @@
+-- What sinks have received after one call and another.
+use Rattle.std.proofs.Common.{◌≡◌, ℕ, ◌+◌, ◌≤◌, Bool, true, false, List, [], ◌∷◌, ◌++◌, length, Option, Some, None, take, drop, sym, ap, ◌∙◌, append_assoc, append-nil, take-add, refl, arith}
+use Rattle.std.specs.Prelude.{◌||◌}
+use Rattle.std.proofs.Math.Seq.{take-length}
+use Rattle.std.specs.Io.KnownBytes.{Appends, Keeps, append_known}
+use Rattle.dob_dbfile.specs.Sinks.{AddsFlush, IsNotFlushed, Puts, State, StopsAfter, Takes, Works, Writes, change}
+
+-- bytes after bytes
+pub Appends-append : (a b c : Option (List ℕ)) (xs ys : List ℕ) → Appends a b xs → Appends b c ys → Appends a c (xs ++ ys)
+Appends-append None b c xs ys p q = tt
+Appends-append (Some a) None c xs ys p q = absurd p
+Appends-append (Some a) (Some b) None xs ys p q = absurd q
+Appends-append (Some a) (Some b) (Some c) xs ys p q = q ∙ ap (λ l. l ++ ys) p ∙ append_assoc a xs ys
+
+-- nothing
+pub Appends-nil : (a : Option (List ℕ)) → Appends a a []
+Appends-nil None = tt
+Appends-nil (Some a) = sym (append-nil a)
+
+-- a beginning, and then the beginning of the rest
+pub Appends-take : (a b c : Option (List ℕ)) (xs : List ℕ) (k n : ℕ) → Appends a b (take k xs) → Appends b c (take n (drop k xs)) → Appends a c (take (k + n) xs)
+Appends-take a b c xs k n p q = let joined = Appends-append a b c (take k xs) (take n (drop k xs)) p q in rw (take-add k n xs) joined
+
+-- what is kept twice is kept
+pub Keeps-trans : (a b c : Option (List ℕ)) → Keeps a b → Keeps b c → Keeps a c
+Keeps-trans None b c p q = tt
+Keeps-trans (Some a) None c p q = absurd p
+Keeps-trans (Some a) (Some b) None p q = absurd q
+Keeps-trans (Some a) (Some b) (Some c) p q = q ∙ p
+
+-- what isn't touched is kept
+pub Keeps-self : (a : Option (List ℕ)) → Keeps a a
+Keeps-self None = tt
+Keeps-self (Some a) = refl
+
+-- bytes after what is kept
+pub Keeps-Appends : (a b c : Option (List ℕ)) (xs : List ℕ) → Keeps a b → Appends b c xs → Appends a c xs
+Keeps-Appends None b c xs p q = tt
+Keeps-Appends (Some a) None c xs p q = absurd p
+Keeps-Appends (Some a) (Some b) None xs p q = absurd q
+Keeps-Appends (Some a) (Some b) (Some c) xs p q = q ∙ ap (λ l. l ++ xs) p
+
+-- the flush after some bytes
+pub flushed_after : (a b f g h : Option (List ℕ)) (xs : List ℕ) → Appends a b xs → Keeps f g → AddsFlush b g h → AddsFlush (append_known a xs) f h
+flushed_after None b f g h xs p kept adds = λ bytes is. absurd (cc)
+flushed_after (Some a) None f g h xs p kept adds = absurd p
+flushed_after (Some a) (Some b) f g h xs p kept adds = λ bytes is.
+    Keeps-Appends f g h (length bytes ∷ []) kept (adds bytes (ap Some p ∙ is))
+
+-- and then nothing more
+pub Appends-keep : (a b c : Option (List ℕ)) (xs : List ℕ) → Appends a b xs → Keeps b c → Appends a c xs
+Appends-keep None b c xs p q = tt
+Appends-keep (Some a) None c xs p q = absurd p
+Appends-keep (Some a) (Some b) None xs p q = absurd q
+Appends-keep (Some a) (Some b) (Some c) xs p q = q ∙ p
+
+or_no : (b : Bool) → (b || false) ≡ b
+or_no true = refl
+or_no false = refl
+
+or_yes : (b : Bool) → (b || true) ≡ true
+or_yes true = refl
+or_yes false = refl
+
+-- a call that doesn't fail after others that didn't
+pub works_on : (a b c : State) → Works (change a b) → c.has_failed ≡ (b.has_failed || false) → Works (change a c)
+works_on a b c works notes = notes ∙ or_no b.has_failed ∙ works
+
+-- a part of the bytes, and then a call that fails
+pub stops_after : (a b c : State) (bytes : List ℕ) (count : ℕ) → count ≤ length bytes → Takes (change a b) (take count bytes) → IsNotFlushed (change a b)
+    → Keeps b.received c.received → Keeps b.flushes c.flushes → c.has_failed ≡ (b.has_failed || true) → StopsAfter (change a c) bytes count
+stops_after a b c bytes count within part unflushed kept flushes notes = record {
+  within = within;
+  part = Appends-keep a.received b.received c.received (take count bytes) part kept;
+  unflushed = Keeps-trans a.flushes b.flushes c.flushes unflushed flushes;
+  fails = notes ∙ or_yes b.has_failed;
+}
+
+-- all of it, and then a flush
+pub put_whole : (a b c : State) (bytes : List ℕ) → Writes (change a b) bytes → Keeps b.received c.received → AddsFlush b.received b.flushes c.flushes
+    → c.has_failed ≡ (b.has_failed || false) → Puts (change a c) bytes
+put_whole a b c bytes wrote kept flushed notes = record {
+  all = Appends-keep a.received b.received c.received bytes wrote.all kept;
+  flushed = flushed_after a.received b.received a.flushes b.flushes c.flushes bytes wrote.all wrote.unflushed flushed;
+  works = works_on a b c wrote.works notes;
+}
+
+-- all of it, and then a flush that failed
+pub put_unflushed : (a b c : State) (bytes : List ℕ) → Writes (change a b) bytes → Keeps b.received c.received → Keeps b.flushes c.flushes
+    → c.has_failed ≡ (b.has_failed || true) → StopsAfter (change a c) bytes (length bytes)
+put_unflushed a b c bytes wrote kept flushes notes =
+    stops_after a b c bytes (length bytes) (omega arith) (rw (take-length bytes) wrote.all) wrote.unflushed kept flushes notes

@@ -1,0 +1,67 @@
+-- What is known of a sink, and how calls change it.
+use Rattle.std.specs.Prelude.{◌≡◌, ◌≤◌, ◌⊎◌, ℕ, Bool, true, List, [], ◌∷◌, Option, Some, take, length}
+use Rattle.std.specs.Io.KnownBytes.{Appends, Keeps, append_known}
+
+-- what is known of a sink
+pub record State : Type 0 where
+  -- the bytes that it has received, where they are known
+  pub received : Option (List ℕ)
+  -- after how many bytes it was flushed, each time, where that is known
+  pub flushes : Option (List ℕ)
+  -- whether some call of it has failed
+  pub has_failed : Bool
+
+-- what was there, and what is there after
+pub record Change : Type 0 where
+  pub before : State
+  pub after : State
+
+abbrev pub change : State → State → Change
+change before after = record { before = before; after = after }
+
+-- nothing happened to it
+abbrev pub IsUntouched : Change → Type 0
+IsUntouched c = c.after ≡ c.before
+
+-- no call failed
+abbrev pub Works : Change → Type 0
+Works c = c.after.has_failed ≡ c.before.has_failed
+
+-- just the bytes came in
+abbrev pub Takes : Change → List ℕ → Type 0
+Takes c bytes = Appends c.before.received c.after.received bytes
+
+-- it wasn't flushed
+abbrev pub IsNotFlushed : Change → Type 0
+IsNotFlushed c = Keeps c.before.flushes c.after.flushes
+
+-- the place of the flush, where the sink's bytes are known, comes to those of the flushes before
+abbrev pub AddsFlush : Option (List ℕ) → Option (List ℕ) → Option (List ℕ) → Type 0
+AddsFlush received old new = (bytes : List ℕ) → received ≡ Some bytes → Appends old new (length bytes ∷ [])
+
+-- all the bytes came in, it wasn't flushed, and no call failed
+pub record Writes (c : Change) (bytes : List ℕ) : Type 0 where
+  pub all : Takes c bytes
+  pub unflushed : IsNotFlushed c
+  pub works : Works c
+
+-- all the bytes came in, it was flushed once after them, and no call failed
+pub record Puts (c : Change) (bytes : List ℕ) : Type 0 where
+  pub all : Takes c bytes
+  pub flushed : AddsFlush (append_known c.before.received bytes) c.before.flushes c.after.flushes
+  pub works : Works c
+
+-- so many of the first bytes came in, it wasn't flushed, and a call failed
+pub record StopsAfter (c : Change) (bytes : List ℕ) (count : ℕ) : Type 0 where
+  pub within : count ≤ length bytes
+  pub part : Takes c (take count bytes)
+  pub unflushed : IsNotFlushed c
+  pub fails : c.after.has_failed ≡ true
+
+-- a beginning of the bytes came in, and a call failed
+abbrev pub Stops : Change → List ℕ → Type 0
+Stops c bytes = (count : ℕ) × StopsAfter c bytes count
+
+-- all the bytes came in, or a call failed after a beginning of them
+abbrev pub Says : Change → List ℕ → Type 0
+Says c bytes = Writes c bytes ⊎ Stops c bytes
