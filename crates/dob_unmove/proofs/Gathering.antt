@@ -7,6 +7,7 @@ use Rattle.dob_pieces.specs.declared.setup.Setup.{Setup}
 use Rattle.dob_pieces.specs.Setups.{IsLegal, turned, mirrored}
 use Rattle.dob_moves.specs.declared.outlook.Status.TheVariants.{Open}
 use Rattle.dob_moves.specs.Statuses.{HasStatus}
+use Rattle.dob_rank.specs.declared.classes.Classes.{Classes}
 use Rattle.dob_unmove.specs.Unmoves.{IsNumbering, HasEdges, CountEdges, ArePredecessors, IsOpenPosition}
 use Rattle.dob_unmove.specs.Gathers.{Finds, Adds}
 use Rattle.dob_unmove.specs.declared.undo.Undo.{Undo}
@@ -53,18 +54,18 @@ sorted_counts IsFirst q xs ys c moved rises = record {
 -- ---- the walks
 
 -- what one way adds to the gathered classes
-abbrev pub Gathering : {N : Type 0} → (N → Setup → ℕ → Type 0) → Setup → Gathered N → Undo → Gathered N → Type 0
+abbrev pub Gathering : (Classes → Setup → ℕ → Type 0) → Setup → Gathered → Undo → Gathered → Type 0
 Gathering first t old undo new =
     (new.classes ≡ old.classes) × Adds (first old.classes.now) t undo old.found.items new.found.items
 
-gathered_by : {N : Type 0} (first : N → Setup → ℕ → Type 0) (t : Setup) (us : List Undo) (old new : Gathered N)
+gathered_by : (first : Classes → Setup → ℕ → Type 0) (t : Setup) (us : List Undo) (old new : Gathered)
     → TakesAll (Gathering first t) old us new
     → (new.classes ≡ old.classes) × Gathers (first old.classes.now) t us old.found.items new.found.items
-gathered_by {N} first t us old new h =
-    all_gathered (λ (s : Gathered N). s.classes) (λ (s : Gathered N). s.found.items) (λ c. first c.now) t us old new h
+gathered_by first t us old new h =
+    all_gathered (λ (s : Gathered). s.classes) (λ (s : Gathered). s.found.items) (λ c. first c.now) t us old new h
 
 -- a first walk begins with no numbers
-first_walk : {N : Type 0} (first : N → Setup → ℕ → Type 0) (q t : Setup) (old new : Gathered N)
+first_walk : (first : Classes → Setup → ℕ → Type 0) (q t : Setup) (old new : Gathered)
     → t ≡ turned q → old.found.items ≡ [] → TakesAll (Gathering first t) old (undoes t) new
     → Gathers (first old.classes.now) (turned q) (undoes (turned q)) [] new.found.items
 first_walk first q t old new e none h =
@@ -72,7 +73,7 @@ first_walk first q t old new e none h =
     let there = subst (λ (x : Setup). Gathers (first old.classes.now) x (undoes x) old.found.items new.found.items) e g in
     subst (λ (xs : List ℕ). Gathers (first old.classes.now) (turned q) (undoes (turned q)) xs new.found.items) none there
 
-pub walked_alone : {N : Type 0} (first : N → Setup → ℕ → Type 0) (q t : Setup) (old new : Gathered N)
+pub walked_alone : (first : Classes → Setup → ℕ → Type 0) (q t : Setup) (old new : Gathered)
     → IsNumbering (first old.classes.now) → IsLegal q → mirrored q ≡ q
     → t ≡ turned q → old.found.items ≡ [] → TakesAll (Gathering first t) old (undoes t) new
     → CountEdges (first old.classes.now) q new.found.items
@@ -80,7 +81,7 @@ walked_alone first q t old new n legal own e none h =
     counts_alone (first old.classes.now) n q new.found.items legal.squares own (first_walk first q t old new e none h)
 
 -- two walks, of which the second goes on with the classes and the numbers of the first
-pub walked_both : {N : Type 0} (first : N → Setup → ℕ → Type 0) (q image t s : Setup) (old mid next new : Gathered N)
+pub walked_both : (first : Classes → Setup → ℕ → Type 0) (q image t s : Setup) (old mid next new : Gathered)
     → IsNumbering (first old.classes.now) → IsLegal q → mirrored q ≢ q → image ≡ mirrored q
     → t ≡ turned q → s ≡ turned image → old.found.items ≡ [] → TakesAll (Gathering first t) old (undoes t) mid
     → next.classes ≡ mid.classes → next.found.items ≡ mid.found.items → TakesAll (Gathering first s) next (undoes s) new

@@ -2,9 +2,13 @@
 -- did from where it stood.
 use Rattle.std.proofs.Common.{◌≡◌, ◌≢◌, ℕ, zero, suc, ◌+◌, ◌-◌, ◌<◌, ◌==◌, ◌&&◌, if◌then◌else◌, not, Bool, true, false, true≢false, List, [], ◌∷◌, Option, Some, None, length, get_or, set, refl, sym, ap, ◌∙◌, subst, inl, inr, arith, cond}
 use Rattle.std.specs.List.{count_by}
-use Rattle.std.proofs.lemmas.Bool.{and_parts, cases_Bool, cases_eq, eq-eqb, ne_eqb}
+use Rattle.std.proofs.lemmas.Bool.{and_parts, cases_Bool, cases_lt, cases_eq, eq-eqb, ne_eqb}
 use Rattle.std.proofs.lemmas.List.{length-set, get_or_past, get_or-set_same, get_or-set_other}
 use Rattle.std.proofs.lemmas.List.Sums.{sum_by-cons}
+use Rattle.std.specs.Int.{trailing_zeros, w16}
+use Rattle.dob_pieces.specs.Masks.{IsMask}
+use Rattle.dob_pieces.proofs.MaskBits.{without, all_left, next_left, none_left, none_passes}
+use Rattle.dob_pieces.proofs.Attacks.{attacks_piece, own_attacks}
 use Rattle.dob_pieces.specs.declared.kind.Kind.{Kind}
 use Rattle.dob_pieces.specs.declared.kind.Kind.TheVariants.{Lion, Giraffe, Elephant, Chick, Hen}
 use Rattle.dob_pieces.specs.declared.kind.HandKind.{HandKind}
@@ -28,7 +32,8 @@ use Rattle.dob_unmove.specs.Classes.{IsTurned}
 use Rattle.dob_unmove.specs.Undoes.{choice, arrives_at, enemy_cell, earlier, CanGiveBack, CanUnstep, CanUndo}
 use Rattle.dob_unmove.specs.Walks.{is_movers}
 use Rattle.dob_unmove.proofs.Undone.{Goes-from_undo}
-use Rattle.dob_unmove.specs.Threats.{attacks_by, attacks, and_one, elsewhere, stood_before, AreAttackers, IsThreat}
+use Rattle.dob_pieces.specs.Masks.{attacks_by, attacks}
+use Rattle.dob_unmove.specs.Threats.{elsewhere, stood_before, AreAttackers, IsThreat}
 
 abbrev side_of : Cell → Side
 side_of None = Enemy
@@ -38,90 +43,49 @@ abbrev kind_of : Cell → Kind
 kind_of None = Hen
 kind_of (Some piece) = piece.kind
 
--- ---- attackers found one square after the other
+-- ---- attackers by their mask
 
-pub passed : (p : Setup) (target i : ℕ) (found : Attackers) → attacks p i target ≡ false → AreAttackers p target i found → AreAttackers p target (i + 1) found
-passed p target i Nobody none h = λ s lt. elim (cases_eq s i) [
-  | inl e ↦ subst (λ (x : ℕ). attacks p x target ≡ false) (sym e) none
-  | inr ne ↦ h s (omega (arith, lt, ne))
-]
-passed p target i (One a) none h = (
-  (let below = h.0 in omega (arith, below)),
-  h.1,
-  λ s lt is. elim (cases_eq s i) [
-    | inl e ↦ absurd (true≢false (sym is ∙ ap (λ (x : ℕ). attacks p x target) e ∙ none))
-    | inr ne ↦ h.2 s (omega (arith, lt, ne)) is
-  ],
-)
-passed p target i Several none h = h
+-- none, where the mask is empty
+pub nobody : (p : Setup) (target mask : ℕ) → IsMask (λ from. attacks p from target) mask → mask ≡ 0 → AreAttackers p target 12 Nobody
+nobody p target mask are none = none_passes (λ from. attacks p from target) mask are none
 
-pub joined : (p : Setup) (target i : ℕ) (found : Attackers) → attacks p i target ≡ true → AreAttackers p target i found → AreAttackers p target (i + 1) (and_one found i)
-joined p target i Nobody is h = (
-  omega arith,
-  is,
-  λ s lt yes_s. elim (cases_eq s i) [
-    | inl e ↦ e
-    | inr ne ↦ absurd (true≢false (sym yes_s ∙ h s (omega (arith, lt, ne))))
-  ],
-)
-joined p target i (One a) is h = (a, i, (λ e. let below = h.0 in omega (arith, below, e)), h.1, is)
-joined p target i Several is h = h
+-- one, where it has no other square than the lowest
+pub one_alone : (p : Setup) (target mask place : ℕ) → IsMask (λ from. attacks p from target) mask → mask ≢ 0 → place ≡ trailing_zeros w16 mask
+    → without mask place ≡ 0 → AreAttackers p target 12 (One place)
+one_alone p target mask place are some e alone =
+    let test : ℕ → Bool = λ from. attacks p from target in
+    let it = next_left test 0 mask place (all_left test mask are) (omega (arith, some)) e in (
+      it.on_board,
+      it.passes,
+      λ s lt is. elim (cases_lt s place) [
+        | inl before ↦ absurd (true≢false (sym is ∙ it.between s (omega arith) before))
+        | inr after ↦ elim (cases_eq s place) [
+          | inl same ↦ same
+          | inr apart ↦ absurd (true≢false (sym is ∙ none_left test (suc place) (without mask place) it.left alone s (omega (arith, after, apart)) lt))
+        ]
+      ],
+    )
 
-pub ruleset finding = (passed, joined)
+-- and several else
+pub several : (p : Setup) (target mask place : ℕ) → IsMask (λ from. attacks p from target) mask → mask ≢ 0 → place ≡ trailing_zeros w16 mask
+    → without mask place ≢ 0 → AreAttackers p target 12 Several
+several p target mask place are some e more =
+    let test : ℕ → Bool = λ from. attacks p from target in
+    let it = next_left test 0 mask place (all_left test mask are) (omega (arith, some)) e in
+    let rest = without mask place in
+    let second = next_left test (suc place) rest (trailing_zeros w16 rest) it.left (omega (arith, more)) refl in
+    let after = second.not_before in
+    (place, trailing_zeros w16 rest, (λ same. omega (arith, after, same)), it.passes, second.passes)
 
 -- ---- the enemy lion is there
 
-lion_by : (side : Side) (kind : Kind) → (is_side Enemy side && is_lion kind) ≡ true → (side ≡ Enemy) × (kind ≡ Lion)
-lion_by Mover kind h = cc
-lion_by Enemy Lion h = (refl, refl)
-lion_by Enemy Giraffe h = cc
-lion_by Enemy Elephant h = cc
-lion_by Enemy Chick h = cc
-lion_by Enemy Hen h = cc
-
-is_that_lion : (cell : Cell) → holds_lion Enemy cell ≡ true → cell ≡ Some (piece_of Enemy Lion)
-is_that_lion None h = cc
-is_that_lion (Some piece) h = let parts = lion_by piece.side piece.kind h in λ i. Some (piece_of (parts.0 i) (parts.1 i))
-
-none_counted : (test : Cell → Bool) (cells : List Cell) → ((k : ℕ) → k < length cells → test (get_or cells k None) ≡ false) → count_by test cells ≡ 0
-none_counted test [] h = refl
-none_counted test (c ∷ cs) h =
-    let sum : count_by test (c ∷ cs) ≡ cond (test c) 1 0 + count_by test cs = sum_by-cons (λ x. cond (test x) 1 0) c cs in
-    let first : cond {A = ℕ} (test c) 1 0 ≡ 0 = ap (λ b. cond b 1 0) (h 0 (omega arith)) in
-    let rest = none_counted test cs (λ k lt. h (suc k) (omega (arith, lt))) in
-    omega (arith, sum, first, rest)
-
-turned_squares : (p : Setup) → IsTurned IsLegal p → length p.board ≡ 12
+pub turned_squares : (p : Setup) → IsTurned IsLegal p → length p.board ≡ 12
 turned_squares p t = ap (λ (x : Setup). length x.board) t.2 ∙ length-turned t.0
 
-turned_lions : (p : Setup) → IsTurned IsLegal p → HasLions p
+pub turned_lions : (p : Setup) → IsTurned IsLegal p → HasLions p
 turned_lions p t = subst HasLions (sym t.2) (HasLions-turned t.0 t.1.squares t.1.lions)
 
-pub has_lion : (p : Setup) → IsTurned IsLegal p → ((k : ℕ) → k < 12 → at p k ≢ Some (piece_of Enemy Lion)) → ⊥
-has_lion p t none =
-    let twelve = turned_squares p t in
-    let one = turned_lions p t Enemy in
-    let zero_count = none_counted (holds_lion Enemy) p.board (λ k lt. elim (cases_Bool (holds_lion Enemy (at p k))) [
-      | inl is ↦ absurd (none k (omega (arith, lt, twelve)) (is_that_lion (at p k) is))
-      | inr isnt ↦ isnt
-    ]) in
-    omega (arith, one, zero_count)
-
 -- ---- who catches, attacks
-
-by_side : (piece : Piece) (from to : ℕ) → (is_movers piece.side && leads piece.kind from to) ≡ true → (piece.side ≡ Mover) × (leads piece.kind from to ≡ true)
-by_side piece from to h = let parts = and_parts (is_movers piece.side) (leads piece.kind from to) h in (movers piece.side parts.0, parts.1) where
-  movers : (side : Side) → is_movers side ≡ true → side ≡ Mover
-  movers Mover e = refl
-  movers Enemy e = cc
-
-attacks_piece : (cell : Cell) (from to : ℕ) → attacks_by cell from to ≡ true → (kind : Kind) × (cell ≡ Some (piece_of Mover kind)) × (leads kind from to ≡ true)
-attacks_piece None from to h = cc
-attacks_piece (Some piece) from to h =
-    let parts = by_side piece from to h in (piece.kind, (λ i. Some (piece_of (parts.0 i) piece.kind)), parts.1)
-
-own_attacks : (cell : Cell) (kind : Kind) (from to : ℕ) → cell ≡ Some (piece_of Mover kind) → attacks_by cell from to ≡ leads kind from to
-own_attacks cell kind from to e = ap (λ (c : Cell). attacks_by c from to) e
 
 catches_by : (p : Setup) (from to : ℕ) → attacks p from to ≡ true → at p to ≡ Some (piece_of Enemy Lion) → CanCatch p
 catches_by p from to is lion =

@@ -4,22 +4,13 @@ use Rattle.dob_pieces.specs.declared.kind.Kind.TheVariants.{Lion}
 use Rattle.dob_pieces.specs.declared.kind.Side.TheVariants.{Enemy}
 use Rattle.dob_pieces.specs.declared.setup.Setup.{Setup}
 use Rattle.dob_pieces.specs.Pieces.{leads}
-use Rattle.dob_pieces.specs.Setups.{Cell, at, piece_of}
+use Rattle.dob_pieces.specs.Setups.{at, piece_of}
+pub use Rattle.dob_pieces.specs.Masks.{attacks_by, attacks}
 use Rattle.dob_unmove.specs.declared.attackers.Attackers.{Attackers}
 use Rattle.dob_unmove.specs.declared.attackers.Attackers.TheVariants.{Nobody, One, Several}
 use Rattle.dob_unmove.specs.declared.attackers.Threat.{Threat}
 use Rattle.dob_unmove.specs.declared.undo.Undo.{Undo}
 use Rattle.dob_unmove.specs.declared.undo.Undo.TheVariants.{Unstep, Unput}
-use Rattle.dob_unmove.specs.Walks.{is_movers}
-
--- a piece of the mover that stands there steps from the one square to the other
-abbrev pub attacks_by : Cell → ℕ → ℕ → Bool
-attacks_by None from to = false
-attacks_by (Some piece) from to = is_movers piece.side && leads piece.kind from to
-
--- the mover's piece on the first square attacks the second
-abbrev pub attacks : Setup → ℕ → ℕ → Bool
-attacks p from to = attacks_by (at p from) from to
 
 -- of the squares below the bound none, just that one, or several have a piece that attacks the target
 abbrev pub AreAttackers : Setup → ℕ → ℕ → Attackers → Type 0
@@ -33,12 +24,6 @@ AreAttackers p target bound Several =
 pub record IsThreat (p : Setup) (threat : Threat) : Type 0 where
   pub lion : at p threat.lion ≡ Some (piece_of Enemy Lion)
   pub attackers : AreAttackers p threat.lion 12 threat.attackers
-
--- attackers and one more
-abbrev pub and_one : Attackers → ℕ → Attackers
-and_one Nobody square = One square
-and_one (One attacker) square = Several
-and_one Several square = Several
 
 -- there is one on another square
 abbrev pub elsewhere : Attackers → ℕ → Bool

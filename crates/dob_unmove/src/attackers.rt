@@ -1,13 +1,15 @@
 // The mover's pieces that attack the enemy lion. Where one did before a move, the position was no open one: the lion could
 // have been caught. So most ways to take a move back are told from the attackers that stand there now, without the setup
 // that was before.
-ghost use Rattle.std.specs.Prelude.{◌≡◌, ◌↔◌, ◌<◌, IsTrue};
-ghost use Rattle.dob_pieces.specs.Setups.{at, piece_of, IsLegal};
+ghost use Rattle.std.specs.Prelude.{◌≡◌, ◌<◌, ℕ};
+ghost use Rattle.dob_pieces.specs.declared.setup.Setup.{Setup};
+ghost use Rattle.dob_pieces.specs.Masks.{IsMask, attacks};
+ghost use Rattle.dob_pieces.specs.Setups.{IsLegal};
 ghost use Rattle.dob_unmove.specs.Classes.{IsTurned};
-ghost use Rattle.dob_unmove.specs.Threats.{and_one, attacks, elsewhere, stood_before, AreAttackers, IsThreat};
+ghost use Rattle.dob_unmove.specs.Threats.{elsewhere, stood_before, AreAttackers, IsThreat};
 
 use crate::undo::Undo;
-use dob_pieces::{Kind, Piece, Setup, Side, Square};
+use dob_pieces::{Masks, Setup, Square, lowest_square, without_square};
 
 /// From which squares a square is attacked.
 #[derive(Clone, Copy, Debug, PartialEq, Eq)]
@@ -25,16 +27,6 @@ pub(crate) struct Threat {
 }
 
 impl Attackers {
-    // These and one more.
-    fn and(self, square: Square) -> Attackers
-        ensures { result ≡ and_one self square }
-    {
-        match self {
-            Attackers::Nobody => Attackers::One(square),
-            Attackers::One(_) | Attackers::Several => Attackers::Several,
-        }
-    }
-
     // Whether there is one on another square.
     fn elsewhere(self, square: Square) -> bool
         ensures { result ≡ elsewhere self square }
@@ -47,60 +39,20 @@ impl Attackers {
     }
 }
 
-// Whether the mover's piece on the first square attacks the second.
-fn attacks(setup: &Setup, from: Square, to: Square) -> bool
-    ensures { result ≡ attacks setup.now from to }
+// Who attacks the square, by the mask of the squares from which it is attacked.
+fn attackers_in(attackers: u16) -> Attackers
+    requires { attackers < 4096 }
+    ensures { (setup : Setup) (target : ℕ) → IsMask (λ from. attacks setup from target) attackers → AreAttackers setup target 12 result }
 {
-    match setup.at(from) {
-        Some(
-            Piece {
-                side: Side::Mover,
-                kind,
-            },
-        ) => kind.leads(from, to),
-        _ => false,
+    if attackers == 0 {
+        return Attackers::Nobody;
     }
-}
-
-// Who attacks the square.
-fn attackers_of(setup: &Setup, target: Square) -> Attackers
-    ensures { AreAttackers setup.now target 12 result }
-{
-    let mut found = Attackers::Nobody;
-    for index in 0..Square::COUNT {
-        let from = Square::new(index);
-        if attacks(setup, from, target) {
-            found = found.and(from);
-        }
+    let first = lowest_square(attackers);
+    if without_square(attackers, first) == 0 {
+        Attackers::One(first)
+    } else {
+        Attackers::Several
     }
-    found
-}
-
-// The enemy lion's square.
-fn enemy_lion(setup: &Setup) -> Square
-    requires { IsTurned IsLegal setup.now }
-    ensures { at setup.now result ≡ Some (piece_of Side.Enemy Kind.Lion) }
-{
-    for index in 0..Square::COUNT {
-        let square = Square::new(index);
-        if is_enemy_lion(setup.at(square)) {
-            return square;
-        }
-    }
-    unreachable!()
-}
-
-// Whether the enemy lion stands there.
-fn is_enemy_lion(cell: Option<Piece>) -> bool
-    ensures { IsTrue result ↔ (cell ≡ Some (piece_of Side.Enemy Kind.Lion)) }
-{
-    matches!(
-        cell,
-        Some(Piece {
-            side: Side::Enemy,
-            kind: Kind::Lion
-        })
-    )
 }
 
 impl Threat {
@@ -109,10 +61,11 @@ impl Threat {
         requires { IsTurned IsLegal after.now }
         ensures { IsThreat after.now result }
     {
-        let lion = enemy_lion(after);
+        let masks = Masks::of(after);
+        let lion = lowest_square(masks.enemy_lion);
         Threat {
             lion,
-            attackers: attackers_of(after, lion),
+            attackers: attackers_in(masks.attackers(lion)),
         }
     }
 

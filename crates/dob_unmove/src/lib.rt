@@ -3,12 +3,13 @@
 
 mod attackers;
 mod earlier;
-mod numbering;
 mod predecessors;
 mod undo;
 mod walk;
 
-pub use predecessors::back;
+pub use predecessors::{back, back_into};
 
+#[cfg(test)]
+mod rules_tests;
 #[cfg(test)]
 mod tests;

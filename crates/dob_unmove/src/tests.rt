@@ -1,7 +1,7 @@
 // Predecessors against lists of another program, and against the moves of whole small sets.
 ghost use Rattle.dob_moves.specs.Statuses.{AreMoves};
 
-use crate::back;
+use crate::{back, back_into};
 use dob_moves::{Move, apply, moves};
 use dob_pieces::{Hand, Hands, Kind, Memory, Piece, PieceSet, Position, Side, Square};
 use dob_rank::Classes;
@@ -197,8 +197,9 @@ fn pairs_made(
 // For each class, in order, the class and each of its predecessors.
 fn pairs_taken_back(alloc: Global, classes: &Classes) -> Result<Vec<(u64, u64)>, Memory> {
     let mut pairs = Vec::new(alloc);
+    let mut found = Vec::new(alloc);
     for class in 0..classes.class_count() {
-        let found = back(alloc, classes, class)?;
+        found = back_into(found, classes, class)?;
         for before in found.iter() {
             pairs.push((class, *before))?;
         }

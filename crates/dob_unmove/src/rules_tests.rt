@@ -1,0 +1,49 @@
+// The rules by masks against the plain program of the rules, on whole small sets and on a part of a larger one.
+ghost use Rattle.std.specs.Prelude.{◌<◌};
+
+use dob_moves::{count_moves, first_catch, moves, moves_into, plain, status};
+use dob_pieces::{Memory, PieceSet, Position};
+use dob_rank::Classes;
+use std::alloc::Global;
+use std::process::Abort;
+
+// Both programs say the same of the position.
+fn agree_on(rt: &impl Abort, alloc: Global, position: &Position) -> Result<(), Memory> {
+    assert!(rt; status(position) == plain::status(position));
+    assert!(rt; first_catch(position) == plain::first_catch(position));
+    let expected = plain::moves(alloc, position)?;
+    let listed = moves(alloc, position)?;
+    assert!(rt; listed.as_slice() == expected.as_slice());
+    assert!(rt; usize::from(count_moves(position)) == expected.len());
+    let mut kept = listed;
+    let found = moves_into(&mut kept, position)?;
+    assert!(rt; found == status(position));
+    assert!(rt; kept.as_slice() == expected.as_slice());
+    Ok(())
+}
+
+// On each of the classes of the set of that name whose number the stride divides.
+fn agree_on_set(rt: &impl Abort, alloc: Global, name: &str, stride: u64) -> Result<(), Memory>
+    requires { 0 < stride }
+{
+    let set = PieceSet::read(name).expect(rt, "a set");
+    let classes = Classes::open(alloc, set).expect(rt, "classes");
+    for class in 0..classes.class_count() {
+        if class % stride == 0 {
+            agree_on(rt, alloc, &classes.class_at(class))?;
+        }
+    }
+    Ok(())
+}
+
+#[test]
+fn rules_of_small_sets_agree(rt: HostRuntime) -> Result<(), Memory> {
+    agree_on_set(&rt, rt.alloc(), "100", 1)?;
+    agree_on_set(&rt, rt.alloc(), "200", 1)?;
+    agree_on_set(&rt, rt.alloc(), "011", 1)
+}
+
+#[test]
+fn rules_of_three_pieces_agree(rt: HostRuntime) -> Result<(), Memory> {
+    agree_on_set(&rt, rt.alloc(), "111", 97)
+}
