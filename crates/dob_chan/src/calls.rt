@@ -39,6 +39,13 @@ pub fn pair(alloc: Global, capacity: usize) -> Result<(SendEnd, TakeEnd), Memory
 }
 
 impl SendEnd {
+    /// How many batches the end has sent.
+    pub fn sent_count(&self) -> u64
+        ensures { result ≡ length (sent_by self.now) }
+    {
+        self.sent
+    }
+
     /// Sends a batch, if the channel has room; tries once. `Full` with the batch where it held its capacity at some moment
     /// of the call, or answered that its taking end is gone; then nothing is sent. Its promises hold if it returns.
     pub fn offer<R: Wait>(&mut self, rt: &R, batch: Batch) -> Result<(), Full>
@@ -66,6 +73,13 @@ impl SendEnd {
 }
 
 impl TakeEnd {
+    /// How many batches the end has taken.
+    pub fn taken_count(&self) -> u64
+        ensures { result ≡ length (taken_by self.now) }
+    {
+        self.taken
+    }
+
     /// Takes the next batch, if the channel has one; tries once. `None` only where it was empty at some moment of the
     /// call. Its promises hold if it returns.
     pub fn next<R: Wait>(&mut self, rt: &R) -> Option<Batch>
