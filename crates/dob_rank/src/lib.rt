@@ -14,10 +14,12 @@ mod fault;
 mod forms;
 pub mod laws;
 mod layers;
+mod placing;
 mod radix;
 mod ranks;
 mod runs;
 mod segmented;
+mod starts;
 
 pub use classes::Classes;
 pub use fault::Fault;
