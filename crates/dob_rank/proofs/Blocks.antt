@@ -5,6 +5,7 @@ use Rattle.std.proofs.lemmas.Bool.{cases_lt}
 use Rattle.std.proofs.lemmas.Nat.{mul-le}
 use Rattle.dob_pieces.specs.declared.piece_set.PieceSet.{PieceSet}
 use Rattle.dob_rank.specs.Numbers.{product, digits_of, HasDigits, sum_below, choose, with_first, bases, bases_by, block_bases, block_size, size_of}
+use Rattle.dob_rank.specs.Placing.{AreChoices}
 use Rattle.dob_rank.proofs.MixedRadix.{HasDigits-digits_of}
 use Rattle.dob_rank.proofs.Choices.{choose-split}
 use Rattle.dob_rank.proofs.FormDigits.{power_positive}
@@ -53,13 +54,13 @@ choose-positive m k h l = (let a : choose 2 k ≤ choose m k = choose-grows 2 m 
 
 -- ---- powers
 
-four_small : (k : ℕ) → k ≤ 2 → 4 ^ k ≤ 16
+pub four_small : (k : ℕ) → k ≤ 2 → 4 ^ k ≤ 16
 four_small zero h = (let x : 1 ≤ 16 = omega arith in x)
 four_small (suc zero) h = (let x : 4 ≤ 16 = omega arith in x)
 four_small (suc (suc zero)) h = (let x : 16 ≤ 16 = omega arith in x)
 four_small (suc (suc (suc k))) h = absurd (omega arith)
 
-two_small : (k : ℕ) → k ≤ 2 → 2 ^ k ≤ 4
+pub two_small : (k : ℕ) → k ≤ 2 → 2 ^ k ≤ 4
 two_small zero h = (let x : 1 ≤ 4 = omega arith in x)
 two_small (suc zero) h = (let x : 2 ≤ 4 = omega arith in x)
 two_small (suc (suc zero)) h = (let x : 4 ≤ 4 = omega arith in x)
@@ -72,7 +73,7 @@ pub record AreFew (set : PieceSet) (i j k : ℕ) : Type 0 where
   pub elephants : j ≤ set.elephants
   pub giraffes : k ≤ set.giraffes
 
-few_of_three : (c i : ℕ) → c ≤ 2 → i ≤ c → i ≤ 2
+pub few_of_three : (c i : ℕ) → c ≤ 2 → i ≤ c → i ≤ 2
 few_of_three c i h l = omega arith
 
 in_hand : (c i : ℕ) → c ≤ 2 → c - i + 1 ≤ 3
@@ -271,15 +272,29 @@ start_step set start size earlier block h lt e s i b =
     less_word start size earlier blocks h k l m = omega arith
 
 -- past the last block nothing is left
-pub none_left : (set : PieceSet) (rank place block blocks : ℕ) → rank < size_of set → blocks ≡ product (block_bases set) → blocks ≤ block → block ≤ blocks
-    → sum_below (block_size set) block + place ≡ rank → ⊥
-none_left set rank place block blocks h e l m i =
+pub none_left : (set : PieceSet) (rank start block blocks : ℕ) → rank < size_of set → blocks ≡ product (block_bases set) → blocks ≤ block → block ≤ blocks
+    → start ≡ sum_below (block_size set) block → start ≤ rank → ⊥
+none_left set rank start block blocks h e l m i k =
     let same : block ≡ product (block_bases set) = equal block blocks (product (block_bases set)) l m e in
-    let whole : sum_below (block_size set) (product (block_bases set)) + place ≡ rank = ap (λ (b : ℕ). sum_below (block_size set) b + place) (sym same) ∙ i in
-    over (size_of set) (sum_below (block_size set) (product (block_bases set))) place rank h (size_of-sum set) whole
+    over (size_of set) (sum_below (block_size set) (product (block_bases set))) start rank h (size_of-sum set) (i ∙ ap (sum_below (block_size set)) same) k
   where
     equal : (a b c : ℕ) → b ≤ a → a ≤ b → b ≡ c → a ≡ c
     equal a b c h k l = omega arith
 
-    over : (size sum place rank : ℕ) → rank < size → size ≡ sum → sum + place ≡ rank → ⊥
-    over size sum place rank h k l = omega arith
+    over : (size sum start rank : ℕ) → rank < size → size ≡ sum → start ≡ sum → start ≤ rank → ⊥
+    over size sum start rank h e i k = absurd (omega arith)
+
+-- digits below their bases are choices of squares
+pub AreChoices-digits : (set : PieceSet) (ob ds : List ℕ) → HasDigits (block_bases set) ob → HasDigits (bases_by set ob) ds → AreChoices ob ds
+AreChoices-digits set ob ds h k =
+    let few = few_from_digits set ob h in
+    record {
+      chicks = few_of_three set.chicks (slice_index ob 0) set.few_chicks few.chicks;
+      elephants = few_of_three set.elephants (slice_index ob 1) set.few_elephants few.elephants;
+      giraffes = few_of_three set.giraffes (slice_index ob 2) set.few_giraffes few.giraffes;
+      own_lion = digit-at (bases_by set ob) ds 3 k (le_by 4 7);
+      other_lion = digit-at (bases_by set ob) ds 4 k (le_by 5 6);
+      chick_squares = digit-at (bases_by set ob) ds 5 k (le_by 6 5);
+      elephant_squares = digit-at (bases_by set ob) ds 6 k (le_by 7 4);
+      giraffe_squares = digit-at (bases_by set ob) ds 7 k (le_by 8 3);
+    }

@@ -62,11 +62,15 @@ ranked set s block place start block_is place_is g =
 
 -- ---- the position of a rank
 
+pub place_in : (set : PieceSet) (block place : ℕ) (nums : List ℕ) → place < block_size set block → nums ≡ digits_of (block_bases set) block → place < product (bases_by set nums)
+place_in set block place nums h e =
+    subst (λ (x : ℕ). place < x) (block_size-product set block ∙ ap (λ (xs : List ℕ). product (bases_by set xs)) (sym e)) h
+
 pub HasDigits-found : (set : PieceSet) (block place : ℕ) (nums bs ds : List ℕ) → place < block_size set block → nums ≡ digits_of (block_bases set) block → bs ≡ bases_by set nums
     → ds ≡ digits_of bs place → HasDigits (bases_by set nums) ds
 HasDigits-found set block place nums bs ds h e f g =
-    let low : place < product (bases_by set nums) = subst (λ (x : ℕ). place < x) (block_size-product set block ∙ ap (λ (xs : List ℕ). product (bases_by set xs)) (sym e)) h in
-    subst (HasDigits (bases_by set nums)) (sym (g ∙ ap (λ (xs : List ℕ). digits_of xs place) f)) (HasDigits-digits_of (bases_by set nums) place low)
+    subst (HasDigits (bases_by set nums)) (sym (g ∙ ap (λ (xs : List ℕ). digits_of xs place) f))
+    (HasDigits-digits_of (bases_by set nums) place (place_in set block place nums h e))
 
 -- the position that the code makes of a place
 pub made_at : (set : PieceSet) (block place : ℕ) (nums bs ds : List ℕ) (s : Setup) → block < product (block_bases set) → place < block_size set block

@@ -8,12 +8,14 @@ pub mod Counted  -- lists without repeats, and counts
 pub mod Choices  -- the numbers of choices of squares
 pub mod Settled  -- a choice settles its layer again
 pub mod FormDigits  -- forms as digits
+pub mod EmptySquares  -- pieces placed on the squares that are left
 pub mod LayerCounts  -- what the layers of a position count
 pub mod KeyParts  -- squares and forms, layer by layer
 -- Ranks.
 pub mod Digits  -- a position's digits, and back
 pub mod Made  -- digits make a position
 pub mod Keys  -- keys and digits have one order
+pub mod Placed  -- a piece more on the board
 pub mod Numbering  -- ranks number the positions in their order
 pub mod Loops  -- what the code's loops keep
 pub mod Blocks  -- blocks are small
@@ -30,5 +32,8 @@ pub mod RunPlaces  -- a place is a run and a place in it
 pub mod RunMarks  -- the marks of runs
 pub mod RunTables  -- the tables of runs and words grow
 pub mod BlockTables  -- the blocks of a set
+pub mod BlockStarts  -- the table of the blocks' starts
+pub mod DigitParts  -- the digits of a place, part by part
+pub mod Pairs  -- the tables of choices of two squares
 -- Long lists.
 pub mod Segmentation  -- lists in segments

@@ -30,7 +30,7 @@ pub record AreChosen (i j k n0 n1 n2 n3 n4 : ℕ) (ls : List ℕ) : Type 0 where
   pub giraffe_squares : choice 4 ls ≡ n4
 
 -- the squares that are left
-empty_after : (t p n : ℕ) (ls rs : List ℕ) → t < 5 → IsSettled t p n ls rs → count 5 rs + p ≡ count 5 ls
+pub empty_after : (t p n : ℕ) (ls rs : List ℕ) → t < 5 → IsSettled t p n ls rs → count 5 rs + p ≡ count 5 ls
 empty_after t p n ls rs h i =
     let a : count 5 rs ≡ count_from (suc t) rs = count_five (suc t) rs (omega arith) i.shown in
     let b : count_from (suc t) rs + count t rs ≡ count_from t rs = count_from-next t rs in

@@ -1,6 +1,6 @@
 -- Mixed radix numbers: the number of the digits and the digits of the number, in order.
-use Rattle.std.proofs.Common.{◌≡◌, ℕ, zero, suc, ◌+◌, ◌*◌, ◌%◌, ◌<◌, List, [], ◌∷◌, refl, ap, inl, inr, arith}
-use Rattle.std.proofs.Math.Nat.{mul_comm}
+use Rattle.std.proofs.Common.{◌≡◌, ℕ, zero, suc, ◌+◌, ◌*◌, ◌%◌, ◌<◌, ◌/◌, List, [], ◌∷◌, ◌++◌, length, get_or, refl, sym, ap, ◌∙◌, subst, inl, inr, arith}
+use Rattle.std.proofs.Math.Nat.{mul_comm, mul_assoc, add-mul}
 use Rattle.std.proofs.lemmas.Nat.{div-mul-add, mod-mul-add, div-add-mod', mul-add-lt, div_below, mod_below}
 use Rattle.dob_rank.specs.Order.{Precedes}
 use Rattle.dob_rank.specs.Numbers.{product, number_of, digits_of, HasDigits}
@@ -61,3 +61,98 @@ digits_of-number_of (b ∷ bs) (d ∷ ds) h =
     let low : number_of bs ds < product bs = number_of-below bs ds h.1 in
     let rest : digits_of bs (number_of bs ds) ≡ ds = digits_of-number_of bs ds h.1 in
     rw (div-mul-add d (product bs) (number_of bs ds) low, mod-mul-add d (product bs) (number_of bs ds) low, rest)
+
+-- ---- in two parts
+
+pub product-append : (bs cs : List ℕ) → product (bs ++ cs) ≡ product bs * product cs
+product-append [] cs = omega arith
+product-append (b ∷ bs) cs = ap (λ n. b * n) (product-append bs cs) ∙ sym (mul_assoc b (product bs) (product cs))
+
+pub number_of-append : (bs cs xs ys : List ℕ) → length bs ≡ length xs →
+    number_of (bs ++ cs) (xs ++ ys) ≡ number_of bs xs * product cs + number_of cs ys
+number_of-append [] cs [] ys e = omega arith
+number_of-append [] cs (x ∷ xs) ys e = absurd (omega arith)
+number_of-append (b ∷ bs) cs [] ys e = absurd (omega arith)
+number_of-append (b ∷ bs) cs (x ∷ xs) ys e =
+    let rest : number_of (bs ++ cs) (xs ++ ys) ≡ number_of bs xs * product cs + number_of cs ys =
+    number_of-append bs cs xs ys (omega arith) in
+    let front : x * product (bs ++ cs) ≡ x * product bs * product cs =
+    ap (λ n. x * n) (product-append bs cs) ∙ sym (mul_assoc x (product bs) (product cs)) in
+    let sum : (x * product bs + number_of bs xs) * product cs ≡ x * product bs * product cs + number_of bs xs * product cs =
+    add-mul (x * product bs) (number_of bs xs) (product cs) in
+    omega (arith, rest, front, sum)
+
+length-digits_of : (bs : List ℕ) (n : ℕ) → length bs ≡ length (digits_of bs n)
+length-digits_of [] n = refl
+length-digits_of (b ∷ bs) n = ap suc (length-digits_of bs (n % product bs))
+
+HasDigits-append : (bs cs xs ys : List ℕ) → HasDigits bs xs → HasDigits cs ys → HasDigits (bs ++ cs) (xs ++ ys)
+HasDigits-append [] cs [] ys h k = k
+HasDigits-append [] cs (x ∷ xs) ys h k = absurd h
+HasDigits-append (b ∷ bs) cs [] ys h k = absurd h
+HasDigits-append (b ∷ bs) cs (x ∷ xs) ys h k = (h.0, HasDigits-append bs cs xs ys h.1 k)
+
+-- the digits of a number are those of its two parts
+pub digits_of-append : (bs cs : List ℕ) (n : ℕ) → n < product (bs ++ cs) →
+    digits_of (bs ++ cs) n ≡ digits_of bs (n / product cs) ++ digits_of cs (n % product cs)
+digits_of-append bs cs n h =
+    let below : n < product bs * product cs = subst (λ (m : ℕ). n < m) (product-append bs cs) h in
+    let some : 0 < product cs = factor_positive n (product bs) (product cs) below in
+    let high : n / product cs < product bs = div_below n (product cs) (product bs) some below in
+    let low : n % product cs < product cs = mod_below n (product cs) some in
+    let whole : number_of (bs ++ cs) (digits_of bs (n / product cs) ++ digits_of cs (n % product cs)) ≡ n =
+    number_of-append bs cs (digits_of bs (n / product cs)) (digits_of cs (n % product cs)) (length-digits_of bs (n / product cs))
+    ∙ ap (λ (x : ℕ). x * product cs + number_of cs (digits_of cs (n % product cs))) (number_of-digits_of bs (n / product cs) high)
+    ∙ ap (λ (x : ℕ). n / product cs * product cs + x) (number_of-digits_of cs (n % product cs) low)
+    ∙ div-add-mod' n (product cs) in
+    ap (digits_of (bs ++ cs)) (sym whole)
+    ∙ digits_of-number_of (bs ++ cs) (digits_of bs (n / product cs) ++ digits_of cs (n % product cs))
+    (HasDigits-append bs cs (digits_of bs (n / product cs)) (digits_of cs (n % product cs)) (HasDigits-digits_of bs (n / product cs) high)
+    (HasDigits-digits_of cs (n % product cs) low))
+
+once : (n : ℕ) → n * 1 ≡ n
+once n = omega arith
+
+whole : (n : ℕ) → n / 1 ≡ n
+whole n = omega arith
+
+pub digits_of-one : (b n : ℕ) → digits_of (b ∷ []) n ≡ n ∷ []
+digits_of-one b n = ap (λ (x : ℕ). x ∷ []) (whole n)
+
+pub digits_of-two : (b c n : ℕ) → n < b * (c * 1) → digits_of (b ∷ c ∷ []) n ≡ n / c ∷ n % c ∷ []
+digits_of-two b c n h =
+    digits_of-append (b ∷ []) (c ∷ []) n h
+    ∙ ap (λ (m : ℕ). n / m / 1 ∷ n % m / 1 ∷ []) (once c)
+    ∙ ap (λ (x : ℕ). x ∷ n % c / 1 ∷ []) (whole (n / c))
+    ∙ ap (λ (x : ℕ). n / c ∷ x ∷ []) (whole (n % c))
+
+-- the digits of three bases, the last first
+pub digits_of-three : (a b c n : ℕ) → n < a * (b * (c * 1)) → digits_of (a ∷ b ∷ c ∷ []) n ≡ n / c / b ∷ n / c % b ∷ n % c ∷ []
+digits_of-three a b c n h =
+    let below : n < a * (b * 1) * (c * 1) = subst (λ (m : ℕ). n < m) (product-append (a ∷ b ∷ []) (c ∷ [])) h in
+    let some : 0 < c * 1 = factor_positive n (a * (b * 1)) (c * 1) below in
+    let high : n / (c * 1) < a * (b * 1) = div_below n (c * 1) (a * (b * 1)) some below in
+    digits_of-append (a ∷ b ∷ []) (c ∷ []) n h
+    ∙ ap (λ (xs : List ℕ). xs ++ digits_of (c ∷ []) (n % (c * 1))) (digits_of-two a b (n / (c * 1)) high)
+    ∙ ap (λ (m : ℕ). n / m / b ∷ n / m % b ∷ n % m / 1 ∷ []) (once c)
+    ∙ ap (λ (x : ℕ). n / c / b ∷ n / c % b ∷ x ∷ []) (whole (n % c))
+
+-- the same of a list of three bases, none of which is 0
+pub record AreThree (bs : List ℕ) (n : ℕ) : Type 0 where
+  pub third_some : 0 < get_or bs 2 0
+  pub second_some : 0 < get_or bs 1 0
+  pub digits_are : n / get_or bs 2 0 / get_or bs 1 0 ∷ n / get_or bs 2 0 % get_or bs 1 0 ∷ n % get_or bs 2 0 ∷ [] ≡ digits_of bs n
+
+pub three : (bs : List ℕ) (n : ℕ) → length bs ≡ 3 → n < product bs → AreThree bs n
+three [] n e h = absurd (omega arith)
+three (a ∷ []) n e h = absurd (omega arith)
+three (a ∷ b ∷ []) n e h = absurd (omega arith)
+three (a ∷ b ∷ c ∷ d ∷ ds) n e h = absurd (omega arith)
+three (a ∷ b ∷ c ∷ []) n e h =
+    let two : 0 < b * (c * 1) = factor_positive n a (b * (c * 1)) h in
+    let one : 0 < c * 1 = factor_positive 0 b (c * 1) two in
+    record { third_some = omega arith; second_some = first_some b (c * 1) two; digits_are = sym (digits_of-three a b c n h) }
+  where
+    first_some : (b m : ℕ) → 0 < b * m → 0 < b
+    first_some zero m h = absurd (omega arith)
+    first_some (suc b) m h = omega arith

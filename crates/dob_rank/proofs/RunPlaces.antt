@@ -15,33 +15,13 @@ use Rattle.dob_rank.specs.Numbers.{layer, count, choice, forms_number, product, 
 use Rattle.dob_rank.specs.Marks.{is_first, marked}
 use Rattle.dob_rank.specs.Runs.{run_bases, local_bases, runs_in, run_size, run_start, lions_of, run_kind}
 use Rattle.dob_rank.proofs.Blocks.{AreBases-by, few_in_block, block_size-small}
-use Rattle.dob_rank.proofs.MixedRadix.{digit_below, number_of-below}
+use Rattle.dob_rank.proofs.MixedRadix.{digit_below, number_of-below, product-append, number_of-append}
 use Rattle.dob_rank.proofs.Digits.{HasParts, HasParts-from_position, HasDigits-digits}
 use Rattle.dob_rank.proofs.Numbering.{place_of, rank_of-place, block_size-product, on_board-block, HasBlock, HasBlock-setup_in, IsPlace, rank_of-block, rank_of-below, nth-rank_of}
 use Rattle.dob_rank.proofs.Found.{IsPositionOf-mirrored}
 use Rattle.dob_rank.proofs.Marks.{first-marked, marked-first, marked-first_of}
 use Rattle.dob_rank.proofs.Representatives.{first_by_rank, rank_of_first}
 use Rattle.dob_rank.proofs.Lions.{mirror_layers, layers-mirrored, image_lions, lions_of-mirrored, lions_of-below, first_lions, later_lions, mixed_lions}
-
--- ---- mixed radix in two parts
-
-product-append : (bs cs : List ℕ) → product (bs ++ cs) ≡ product bs * product cs
-product-append [] cs = omega arith
-product-append (b ∷ bs) cs = ap (λ n. b * n) (product-append bs cs) ∙ sym (mul_assoc b (product bs) (product cs))
-
-number_of-append : (bs cs xs ys : List ℕ) → length bs ≡ length xs →
-    number_of (bs ++ cs) (xs ++ ys) ≡ number_of bs xs * product cs + number_of cs ys
-number_of-append [] cs [] ys e = omega arith
-number_of-append [] cs (x ∷ xs) ys e = absurd (omega arith)
-number_of-append (b ∷ bs) cs [] ys e = absurd (omega arith)
-number_of-append (b ∷ bs) cs (x ∷ xs) ys e =
-    let rest : number_of (bs ++ cs) (xs ++ ys) ≡ number_of bs xs * product cs + number_of cs ys =
-    number_of-append bs cs xs ys (omega arith) in
-    let front : x * product (bs ++ cs) ≡ x * product bs * product cs =
-    ap (λ n. x * n) (product-append bs cs) ∙ sym (mul_assoc x (product bs) (product cs)) in
-    let sum : (x * product bs + number_of bs xs) * product cs ≡ x * product bs * product cs + number_of bs xs * product cs =
-    add-mul (x * product bs) (number_of bs xs) (product cs) in
-    omega (arith, rest, front, sum)
 
 -- ---- a position's run, and its place there
 

@@ -1,5 +1,6 @@
 pub mod Order
 pub mod Numbers
+pub mod Placing
 pub mod Marks
 pub mod ClassRows
 pub mod Runs

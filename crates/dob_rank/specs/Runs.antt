@@ -1,6 +1,6 @@
 -- Runs: the positions of a block with the same hands and the same lions, which stand in a row. Their numbers within
 -- the block, their sizes, and what the columns of the lions say of them.
-use Rattle.std.specs.Prelude.{ℕ, zero, suc, ◌+◌, ◌-◌, ◌*◌, ◌/◌, ◌%◌, ◌^◌, nat_lt, if◌then◌else◌, List, [], ◌∷◌, map, slice_index}
+use Rattle.std.specs.Prelude.{◌≤◌, ℕ, zero, suc, ◌+◌, ◌-◌, ◌*◌, ◌/◌, ◌%◌, ◌^◌, nat_lt, if◌then◌else◌, List, [], ◌∷◌, map, slice_index}
 use Rattle.dob_pieces.specs.declared.piece_set.PieceSet.{PieceSet}
 use Rattle.dob_pieces.specs.declared.setup.Setup.{Setup}
 use Rattle.dob_rank.specs.Numbers.{product, number_of, digits_of, layer, choose, choice, block_bases, start_of}
@@ -20,6 +20,16 @@ local_bases on_board =
     let j = slice_index on_board 1 in
     let k = slice_index on_board 2 in
     choose 10 i ∷ choose (10 - i) j ∷ choose (10 - i - j) k ∷ (4 ^ i) ∷ (2 ^ j) ∷ (2 ^ k) ∷ []
+
+-- the bases of the forms alone
+abbrev pub form_bases : List ℕ → List ℕ
+form_bases on_board = (4 ^ slice_index on_board 0) ∷ (2 ^ slice_index on_board 1) ∷ (2 ^ slice_index on_board 2) ∷ []
+
+-- at most two of each kind on the board
+pub record AreFewOnBoard (on_board : List ℕ) : Type 0 where
+  pub chicks : slice_index on_board 0 ≤ 2
+  pub elephants : slice_index on_board 1 ≤ 2
+  pub giraffes : slice_index on_board 2 ≤ 2
 
 -- how many runs the block has, how many positions each of them has, and the rank of a run's first position
 unfoldable pub runs_in : PieceSet → ℕ → ℕ

@@ -1,10 +1,11 @@
 // The blocks of a piece set: the positions with the same numbers of chicks, elephants and giraffes on the board.
 // The blocks stand in the order of those numbers.
 ghost use Rattle.std.specs.Prelude.{◌≡◌, ◌<◌, ◌≤◌, ◌+◌, ◌*◌, ◌^◌, slice_index};
-ghost use Rattle.dob_rank.specs.Numbers.{product, digits_of, sum_below, bases_by, block_bases, block_size as size_of_block, size_of};
-ghost use Rattle.dob_rank.specs.Runs.{runs_in, run_size};
+ghost use Rattle.dob_rank.specs.Numbers.{product, HasDigits, digits_of, sum_below, bases_by, block_bases, block_size as size_of_block, size_of};
+ghost use Rattle.dob_rank.specs.Runs.{runs_in, run_size, form_bases, AreFewOnBoard};
 
-use crate::{layers, radix};
+use crate::runs::LIONS;
+use crate::{layers, radix, starts};
 use dob_pieces::PieceSet;
 
 /// One number for each kind of piece: chicks (hens counted with them), elephants, giraffes.
@@ -38,9 +39,7 @@ pub(crate) fn numbers_in(set: PieceSet, block: u64) -> EachKind
     requires { block < product (block_bases set) }
     ensures { result ≡ digits_of (block_bases set) block }
 {
-    let mut numbers = [0; 3];
-    radix::write_digits(&block_bases_of(set), block, &mut numbers);
-    numbers
+    radix::three_digits(&block_bases_of(set), block)
 }
 
 /// The bases of the digits in the block of those numbers on the board.
@@ -66,6 +65,56 @@ pub(crate) fn bases_in(set: PieceSet, on_board: &EachKind) -> [u64; DIGITS]
         power(2, elephants),
         power(2, giraffes),
     ]
+}
+
+/// The digits of a place in the block of those numbers on the board.
+pub(crate) fn digits_in(set: PieceSet, on_board: &EachKind, place: u64) -> [u64; DIGITS]
+    requires on_board { HasDigits (block_bases set) on_board.now }
+    requires place { place < product (bases_by set on_board.now) }
+    ensures { result ≡ digits_of (bases_by set on_board.now) place }
+{
+    let bases = bases_in(set, on_board);
+    let forms = forms_in(on_board);
+    let size = bases[5] * (bases[6] * (bases[7] * forms));
+    let run = place / size;
+    let local = place % size;
+    let hands = radix::three_digits(&[bases[0], bases[1], bases[2]], run / LIONS);
+    let lions = run % LIONS;
+    let squares = radix::three_digits(&[bases[5], bases[6], bases[7]], local / forms);
+    let forms = form_digits(on_board, local % forms);
+    [
+        hands[0],
+        hands[1],
+        hands[2],
+        lions / 11,
+        lions % 11,
+        squares[0],
+        squares[1],
+        squares[2],
+        forms[0],
+        forms[1],
+        forms[2],
+    ]
+}
+
+/// How many forms the pieces of those numbers on the board have.
+fn forms_in(on_board: &EachKind) -> u64
+    requires { AreFewOnBoard on_board.now }
+    ensures { result ≡ product (form_bases on_board.now) }
+{
+    1 << (2 * on_board[0] + on_board[1] + on_board[2])
+}
+
+/// The digits of the forms for those numbers on the board.
+fn form_digits(on_board: &EachKind, number: u64) -> EachKind
+    requires few { AreFewOnBoard on_board.now }
+    requires number { number < product (form_bases on_board.now) }
+    ensures { result ≡ digits_of (form_bases on_board.now) number }
+{
+    let elephants = 1 << on_board[1];
+    let giraffes = 1 << on_board[2];
+    let rest = number / giraffes;
+    [rest / elephants, rest % elephants, number % giraffes]
 }
 
 /// The power of a small base, for an exponent of at most 2.
@@ -113,19 +162,6 @@ pub(crate) fn run_size_in(set: PieceSet, block: u64) -> u64
     radix::product(&bases_in(set, &on_board)[5..])
 }
 
-/// How many positions stand before the block of that number.
-pub(crate) fn block_start(set: PieceSet, block: u64) -> u64
-    requires { block ≤ product (block_bases set) }
-    ensures value { result ≡ sum_below (size_of_block set) block }
-    ensures bound { result ≤ 27 * 2 ^ 36 }
-{
-    let mut start = 0;
-    for earlier in 0..block {
-        start += block_size(set, earlier);
-    }
-    start
-}
-
 /// The block in which a rank below the set's size lies, and the place there.
 pub(crate) fn find_block(set: PieceSet, rank: u64) -> (u64, u64)
     requires { rank < size_of set }
@@ -133,14 +169,14 @@ pub(crate) fn find_block(set: PieceSet, rank: u64) -> (u64, u64)
     ensures place { result.1 < size_of_block set result.0 }
     ensures whole { sum_below (size_of_block set) result.0 + result.1 ≡ rank }
 {
-    let mut place = rank;
     let blocks = blocks(set);
+    let mut start = 0;
     for block in 0..blocks {
-        let size = block_size(set, block);
-        if place < size {
-            return (block, place);
+        let end = starts::block_start(set, block + 1);
+        if rank < end {
+            return (block, rank - start);
         }
-        place -= size;
+        start = end;
     }
-    (blocks, place)
+    (blocks, 0)
 }

@@ -2,9 +2,9 @@
 ghost use Rattle.std.specs.Prelude.{◌≡◌, ◌<◌, ◌≤◌, map, length, slice_index};
 ghost use Rattle.std.specs.List.{All};
 ghost use Rattle.dob_rank.specs.Order.{form};
-ghost use Rattle.dob_rank.specs.Numbers.{layer as layer_in, count as number_in, base_of as base_in, forms_number as forms_number_of, cell_of as cell_in, board_of as board_in};
+ghost use Rattle.dob_rank.specs.Numbers.{layer as layer_in, count as number_in, base_of as base_in, forms_number as forms_number_of, cell_of as cell_in};
 
-use crate::layers::{Layers, layer_of};
+use crate::layers::layer_of;
 use dob_pieces::{Kind, Piece, Side, Square};
 
 /// How many forms a piece of that layer has.
@@ -75,21 +75,4 @@ pub(crate) fn cell_of(layer: u8, form: u64) -> Option<Piece>
         _ => return None,
     };
     Some(Piece { side, kind })
-}
-
-/// The board of these layers on which the forms of each layer have the number that stands in its place.
-pub(crate) fn board_of(layers: &Layers, numbers: &[u64; 6]) -> [Option<Piece>; Square::COUNT]
-    requires { All (λ t. t ≤ 5) layers.now }
-    ensures { result ≡ board_in (slice_index numbers.now) layers.now }
-{
-    let mut rest = *numbers;
-    let mut board = [None; Square::COUNT];
-    for square in (0..Square::COUNT).rev() {
-        let layer = layers[square];
-        let base = base_of(layer);
-        let number = rest[layer as usize];
-        board[square] = cell_of(layer, number % base);
-        rest[layer as usize] = number / base;
-    }
-    board
 }

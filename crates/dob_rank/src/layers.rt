@@ -3,7 +3,7 @@
 // layer are a choice among the squares that no earlier layer has, and choices are numbered in the lexicographic
 // order of their ascending lists.
 ghost use Rattle.std.specs.Prelude.{◌≡◌, ◌<◌, ◌≤◌, ◌+◌, map};
-ghost use Rattle.dob_rank.specs.Numbers.{layer as layer_in, count as number_in, choose as ways_to_choose, with_first as ways_with_first, choice as choice_of, settle as settled};
+ghost use Rattle.dob_rank.specs.Numbers.{layer as layer_in, count as number_in, choose as ways_to_choose, with_first as ways_with_first, choice as choice_of};
 
 use dob_pieces::{Kind, Piece, Side, Square};
 
@@ -101,26 +101,4 @@ pub(crate) fn choice(layers: &Layers, layer: u8) -> u64
         }
     }
     number
-}
-
-/// Gives the layer to the empty squares that the choice of that number takes.
-pub(crate) fn settle(layers: &mut Layers, layer: u8, pieces: u64, number: u64)
-    requires few { pieces ≤ 2 }
-    ensures { layers.new ≡ settled layer pieces number layers.old }
-{
-    let mut squares = count(layers, EMPTY);
-    let mut pieces = pieces;
-    let mut number = number;
-    for square in 0..Square::COUNT {
-        if layers[square] == EMPTY {
-            squares -= 1;
-            let first = with_first(squares, pieces);
-            if number < first {
-                layers[square] = layer;
-                pieces -= 1;
-            } else {
-                number -= first;
-            }
-        }
-    }
 }

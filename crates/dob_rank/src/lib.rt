@@ -15,10 +15,12 @@ mod forms;
 pub mod laws;
 mod layers;
 mod limit;
+mod placing;
 mod radix;
 mod ranks;
 mod runs;
 mod segmented;
+mod starts;
 
 pub use classes::Classes;
 pub use fault::Fault;

@@ -1,5 +1,5 @@
 // Numbers in mixed radix: a list of bases, and for each base a digit below it, the first of most weight.
-ghost use Rattle.std.specs.Prelude.{◌≡◌, ◌<◌, ◌^◌, length};
+ghost use Rattle.std.specs.Prelude.{◌≡◌, ◌<◌, ◌^◌, ◌/◌, ◌%◌};
 ghost use Rattle.std.specs.List.{All};
 ghost use Rattle.dob_rank.specs.Numbers.{product as product_of, number_of as value_of, digits_of as all_digits_of, HasDigits};
 
@@ -31,18 +31,26 @@ pub(crate) fn number_of(bases: &[u64], digits: &[u64]) -> u64
     number
 }
 
-/// Writes the digits of a number into `digits`, which has the length of `bases`.
-pub(crate) fn write_digits(bases: &[u64], number: u64, digits: &mut [u64])
-    requires positive { All (λ base. 0 < base) bases.now }
-    requires fits { product_of bases.now < 2 ^ 64 }
-    requires room { length digits.old ≡ length bases.now }
-    ensures { digits.new ≡ all_digits_of bases.now number }
+/// The three digits of a number.
+pub(crate) fn three_digits(bases: &[u64; 3], number: u64) -> [u64; 3]
+    requires { number < product_of bases.now }
+    ensures { result ≡ all_digits_of bases.now number }
 {
-    let mut weight = product(bases);
-    let mut rest = number;
-    for i in 0..bases.len() {
-        weight /= bases[i];
-        digits[i] = rest / weight;
-        rest %= weight;
+    let (rest, third) = split(number, bases[2]);
+    let (first, second) = split(rest, bases[1]);
+    [first, second, third]
+}
+
+/// The quotient and the remainder by a base. Most bases are at most 3, and need no division by a variable.
+fn split(number: u64, base: u64) -> (u64, u64)
+    requires { 0 < base }
+    ensures quotient { result.0 ≡ number / base }
+    ensures rest { result.1 ≡ number % base }
+{
+    match base {
+        1 => (number, 0),
+        2 => (number / 2, number % 2),
+        3 => (number / 3, number % 3),
+        _ => (number / base, number % base),
     }
 }

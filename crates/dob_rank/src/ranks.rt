@@ -6,8 +6,7 @@ ghost use Rattle.dob_rank.specs.Order.{IsPositionOf, HasSize, HasRank, Represent
 ghost use Rattle.dob_rank.specs.Numbers.{size_of, rank_of, product, block_bases, block_of, block_size, place_of as place_in_block, HasBlock, bases_by, on_board as on_board_of, digits as all_digits_of, setup_by, hands_by, HasDigits};
 
 use crate::block::{self, DIGITS, EachKind};
-use crate::layers::{self, EMPTY};
-use crate::{forms, radix};
+use crate::{forms, layers, placing, radix, starts};
 use dob_pieces::{Hand, Hands, PieceSet, Position, Setup};
 
 /// How many positions the piece set has.
@@ -16,7 +15,7 @@ pub fn size(set: PieceSet) -> u64
     ensures number { result ≡ size_of set }
     ensures bound { result < 2 ^ 42 }
 {
-    block::block_start(set, block::blocks(set))
+    starts::block_start(set, block::blocks(set))
 }
 
 /// How many positions of its piece set stand before the position.
@@ -26,7 +25,7 @@ pub fn rank(position: &Position) -> u64
 {
     let set = position.piece_set();
     let (block, place) = place_of(set, position);
-    block::block_start(set, block) + place
+    starts::block_start(set, block) + place
 }
 
 /// The position of the set that has that rank, which is below the set's size.
@@ -60,8 +59,7 @@ pub(crate) fn position_at(set: PieceSet, block: u64, place: u64) -> Position
     ensures { HasBlock set block place result.setup }
 {
     let on_board = block::numbers_in(set, block);
-    let mut digits = [0; DIGITS];
-    radix::write_digits(&block::bases_in(set, &on_board), place, &mut digits);
+    let digits = block::digits_in(set, &on_board, place);
     Position::new(setup_of(set, &on_board, &digits))
 }
 
@@ -118,15 +116,8 @@ fn setup_of(set: PieceSet, on_board: &EachKind, digits: &[u64; DIGITS]) -> Setup
     requires digits { HasDigits (bases_by set on_board.now) digits.now }
     ensures { result ≡ setup_by set on_board.now digits.now }
 {
-    let mut squares = [EMPTY; 12];
-    layers::settle(&mut squares, 0, 1, digits[3]);
-    layers::settle(&mut squares, 1, 1, digits[4]);
-    layers::settle(&mut squares, 2, on_board[0], digits[5]);
-    layers::settle(&mut squares, 3, on_board[1], digits[6]);
-    layers::settle(&mut squares, 4, on_board[2], digits[7]);
-    let numbers = [0, 0, digits[8], digits[9], digits[10], 0];
     Setup {
-        board: forms::board_of(&squares, &numbers),
+        board: placing::board_by(on_board, digits),
         hands: hands_of(set, on_board, digits),
     }
 }

@@ -1,6 +1,9 @@
-use Rattle.std.proofs.Common.{◌≡◌, ◌+◌}
+use Rattle.std.proofs.Common.{◌≡◌, ◌≤◌}
 use Rattle.dob_rank.specs.Numbers.{sum_below, block_size}
 use Rattle.dob_rank.proofs.block.find_block.Given as goal
 
 abbrev pub invariant-loop-block : goal.invariant-loop-block
-invariant-loop-block l = sum_below (block_size l.set) l.block + l.place ≡ l.rank
+invariant-loop-block l = record {
+  start_is : l.start ≡ sum_below (block_size l.set) l.block;
+  upto : l.start ≤ l.rank;
+}

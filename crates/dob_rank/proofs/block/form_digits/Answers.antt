@@ -1,0 +1,6 @@
+-- The bases of the forms are powers of 2.
+use Rattle.dob_rank.proofs.DigitParts.{form_digits_are}
+use Rattle.dob_rank.proofs.block.form_digits.Goals as goal
+
+pub returns : goal.returns
+returns c = form_digits_are c.args.on_board.now c.args.number c.requires.few c.requires.number

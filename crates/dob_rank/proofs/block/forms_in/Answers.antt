@@ -1,0 +1,5 @@
+use Rattle.dob_rank.proofs.DigitParts.{forms_shifted}
+use Rattle.dob_rank.proofs.block.forms_in.Goals as goal
+
+pub returns : goal.returns
+returns c = forms_shifted _ _ _ c.requires.chicks c.requires.elephants c.requires.giraffes

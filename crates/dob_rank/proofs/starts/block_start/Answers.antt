@@ -1,0 +1,13 @@
+use Rattle.std.proofs.Common.{ℕ, ◌≤◌, ◌+◌, ◌*◌, subst, sym}
+use Rattle.dob_rank.proofs.BlockStarts.{start_is, start_in}
+use Rattle.dob_rank.proofs.Blocks.{blocks_small}
+use Rattle.dob_rank.proofs.RunMarks.{start_small}
+use Rattle.dob_rank.proofs.starts.block_start.Goals as goal
+
+pub returns-clause-value : goal.returns-clause-value
+returns-clause-value c = start_is c.args.set c.args.block c.requires (blocks_small c.args.set)
+
+pub returns-clause-bound : goal.returns-clause-bound
+returns-clause-bound c =
+    subst (λ (n : ℕ). n ≤ 1855425871872) (sym (start_is c.args.set c.args.block c.requires (blocks_small c.args.set)))
+    (start_small c.args.set c.args.block c.requires)

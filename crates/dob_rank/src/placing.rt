@@ -1,0 +1,130 @@
+// Placing pieces: the squares that a choice takes of those that are left, and a board with a piece on each of them.
+ghost use Rattle.std.specs.Prelude.{◌≡◌, ◌<◌, ◌≤◌, ◌+◌, ◌^◌};
+ghost use Rattle.dob_rank.specs.Numbers.{choose, board_of, numbers_by, layers_by};
+ghost use Rattle.dob_rank.specs.Placing.{past, lower_of, higher_of, first_place, second_place, put, AreChoices};
+
+use crate::block::{DIGITS, EachKind};
+use crate::forms::{base_of, cell_of};
+use dob_pieces::{Piece, Square};
+
+/// The place of a piece that isn't there, beyond all squares.
+const NOWHERE: u64 = 12;
+
+/// The two numbers of each choice of two, counted from the end, as distances from the last number.
+const FIRST_FROM_END: [u8; 45] = [
+    1, 2, 2, 3, 3, 3, 4, 4, 4, 4, 5, 5, 5, 5, 5, 6, 6, 6, 6, 6, 6, 7, 7, 7, 7, 7, 7, 7, 8, 8, 8, 8,
+    8, 8, 8, 8, 9, 9, 9, 9, 9, 9, 9, 9, 9,
+];
+
+const SECOND_FROM_END: [u8; 45] = [
+    0, 0, 1, 0, 1, 2, 0, 1, 2, 3, 0, 1, 2, 3, 4, 0, 1, 2, 3, 4, 5, 0, 1, 2, 3, 4, 5, 6, 0, 1, 2, 3,
+    4, 5, 6, 7, 0, 1, 2, 3, 4, 5, 6, 7, 8,
+];
+
+/// The number-th of the squares other than one that is taken.
+pub(crate) fn past(taken: u64, number: u64) -> u64
+    requires { number ≤ 2 ^ 32 }
+    ensures value { result ≡ past taken number }
+    ensures bound { result ≤ number + 1 }
+{
+    if number < taken { number } else { number + 1 }
+}
+
+/// Two places among the squares other than two that are taken, the lower of which is taken first.
+pub(crate) fn among(taken: (u64, u64), places: (u64, u64)) -> (u64, u64)
+    requires first { places.0 ≤ 2 ^ 30 }
+    requires second { places.1 ≤ 2 ^ 30 }
+    ensures first { result.0 ≡ past taken.1 (past taken.0 places.0) }
+    ensures second { result.1 ≡ past taken.1 (past taken.0 places.1) }
+    ensures first_bound { result.0 ≤ places.0 + 2 }
+    ensures second_bound { result.1 ≤ places.1 + 2 }
+{
+    (
+        past(taken.1, past(taken.0, places.0)),
+        past(taken.1, past(taken.0, places.1)),
+    )
+}
+
+/// The board of those numbers on the board and those digits.
+pub(crate) fn board_by(
+    on_board: &EachKind,
+    digits: &[u64; DIGITS],
+) -> [Option<Piece>; Square::COUNT]
+    requires { AreChoices on_board.now digits.now }
+    ensures { result ≡ board_of (numbers_by digits.now) (layers_by on_board.now digits.now) }
+{
+    let chicks = places_of(10, on_board[0], digits[5]);
+    let elephants = places_of(10 - on_board[0], on_board[1], digits[6]);
+    let giraffes = places_of(10 - on_board[0] - on_board[1], on_board[2], digits[7]);
+    let own = digits[3];
+    let enemy = digits[4];
+    let lions = (enemy, own);
+    let mut board = [None; Square::COUNT];
+    board[own as usize] = cell_of(0, 0);
+    board[past(own, enemy) as usize] = cell_of(1, 0);
+    let chick_squares = among(lions, chicks);
+    put(&mut board, 2, on_board[0], chick_squares, digits[8]);
+    let elephant_squares = among(lions, among(chicks, elephants));
+    put(&mut board, 3, on_board[1], elephant_squares, digits[9]);
+    let giraffe_squares = among(lions, among(chicks, among(elephants, giraffes)));
+    put(&mut board, 4, on_board[2], giraffe_squares, digits[10]);
+    board
+}
+
+/// The places among so many squares that a choice of at most two takes, the lower first.
+pub(crate) fn places_of(squares: u64, pieces: u64, number: u64) -> (u64, u64)
+    requires few { pieces ≤ 2 }
+    requires squares { squares ≤ 10 }
+    requires number { number < choose squares pieces }
+    ensures first { result.0 ≡ first_place squares pieces number }
+    ensures second { result.1 ≡ second_place squares pieces number }
+    ensures first_bound { result.0 ≤ 12 }
+    ensures second_bound { result.1 ≤ 12 }
+{
+    match pieces {
+        0 => (NOWHERE, NOWHERE),
+        1 => (number, NOWHERE),
+        _ => pair_of(squares, number),
+    }
+}
+
+/// The places among so many squares that a choice of two takes, the lower first.
+fn pair_of(squares: u64, number: u64) -> (u64, u64)
+    requires squares { squares ≤ 10 }
+    requires number { number < choose squares 2 }
+    ensures lower { result.0 ≡ lower_of squares number }
+    ensures higher { result.1 ≡ higher_of squares number }
+    ensures lower_bound { result.0 ≤ 12 }
+    ensures higher_bound { result.1 ≤ 12 }
+{
+    let last = squares - 1;
+    let from_end = (squares * last / 2 - 1 - number) as usize;
+    (
+        last - u64::from(FIRST_FROM_END[from_end]),
+        last - u64::from(SECOND_FROM_END[from_end]),
+    )
+}
+
+/// Puts as many pieces of a layer, at most two, on those squares; the number's digits are their forms.
+pub(crate) fn put(
+    board: &mut [Option<Piece>; Square::COUNT],
+    layer: u8,
+    pieces: u64,
+    squares: (u64, u64),
+    number: u64,
+)
+    requires few { pieces ≤ 2 }
+    requires first { 0 < pieces → squares.0 < 12 }
+    requires second { 1 < pieces → squares.1 < 12 }
+    ensures { board.new ≡ put layer pieces squares.0 squares.1 number board.old }
+{
+    let base = base_of(layer);
+    match pieces {
+        0 => {}
+        1 => board[squares.0 as usize] = cell_of(layer, number % base),
+        _ => {
+            board[squares.1 as usize] = cell_of(layer, number % base);
+            board[squares.0 as usize] = cell_of(layer, number / base % base);
+        }
+    }
+}
