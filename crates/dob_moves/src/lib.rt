@@ -16,6 +16,3 @@ pub use count::count_moves;
 pub use judge::{first_catch, status};
 pub use listing::moves;
 pub use outlook::Status;
-
-#[cfg(test)]
-mod tests;
