@@ -99,6 +99,3 @@ fn with_caught(position: &Position, to: Square) -> Hand
         },
     }
 }
-
-#[cfg(test)]
-mod tests;

@@ -17,6 +17,3 @@ pub use count::count_moves;
 pub use judge::{first_catch, status};
 pub use listing::{moves, moves_into};
 pub use outlook::Status;
-
-#[cfg(test)]
-mod tests;

@@ -1,6 +1,6 @@
-// Ranks and classes against values from outside (sizes, positions of ranks, the classes of lions alone), and
+// Ranks and classes against values from outside (sizes, the classes of lions alone), and
 // against a plain program that walks whole sets.
-ghost use Rattle.std.specs.Prelude.{◌<◌, ◌≤◌};
+ghost use Rattle.std.specs.Prelude.{◌<◌};
 
 mod key;
 mod lists;
@@ -9,53 +9,10 @@ mod plain;
 use self::key::{is_first, key};
 use self::plain::starts;
 use crate::{Classes, Fault, rank, representative, size, unrank};
-use dob_pieces::{Kind, Piece, PieceSet, Position, Side, Square};
+use dob_pieces::{Kind, Piece, PieceSet, Position, Side};
 use std::alloc::Global;
 use std::process::Abort;
 use std::test::Fail;
-
-// The letter of a cell: upper case for the mover, lower case for the enemy.
-fn letter(cell: Option<Piece>) -> u8 {
-    let Some(piece) = cell else {
-        return b'.';
-    };
-    match (piece.side, piece.kind) {
-        (Side::Mover, Kind::Lion) => b'L',
-        (Side::Mover, Kind::Giraffe) => b'G',
-        (Side::Mover, Kind::Elephant) => b'E',
-        (Side::Mover, Kind::Chick) => b'C',
-        (Side::Mover, Kind::Hen) => b'H',
-        (Side::Enemy, Kind::Lion) => b'l',
-        (Side::Enemy, Kind::Giraffe) => b'g',
-        (Side::Enemy, Kind::Elephant) => b'e',
-        (Side::Enemy, Kind::Chick) => b'c',
-        (Side::Enemy, Kind::Hen) => b'h',
-    }
-}
-
-// The board of the position is the one of the text: four rows of three letters, row 4 first, joined by '/'.
-fn shows(position: &Position, text: &str) -> bool {
-    let bytes = text.as_bytes();
-    for square in 0..Square::COUNT {
-        let place = 4 * (3 - square / 3) + square % 3;
-        if bytes.len() <= place || bytes[place] != letter(position.setup.board[square]) {
-            return false;
-        }
-    }
-    true
-}
-
-// The square of the first cell with that letter.
-fn square_of(position: &Position, wanted: u8) -> usize
-    ensures { result ≤ 12 }
-{
-    for square in 0..Square::COUNT {
-        if letter(position.setup.board[square]) == wanted {
-            return square;
-        }
-    }
-    Square::COUNT
-}
 
 #[test]
 fn sets_have_their_sizes(rt: HostRuntime) {
@@ -75,39 +32,6 @@ fn sets_have_their_sizes(rt: HostRuntime) {
     ] {
         let set = PieceSet::read(text).expect(&rt, "a set");
         assert_eq!(rt; size(set), want, "of {text}");
-    }
-}
-
-#[test]
-fn ranks_have_their_positions(rt: HostRuntime) {
-    for (text, number, board, in_hand) in [
-        ("001", 994, ".G./.l./L../...", (0, 0, 0)),
-        ("010", 1829, ".../eL./.l./...", (0, 0, 0)),
-        ("100", 1816, ".../..l/L.c/...", (0, 0, 0)),
-        ("100", 729, ".../.../lh./.L.", (0, 0, 0)),
-        ("002", 1471, "G../.../l.L/...", (0, 0, 0)),
-        ("011", 4570, "..l/..E/.../L..", (0, 0, 0)),
-        ("020", 17547, ".E./L.l/..e/...", (0, 0, 0)),
-        ("101", 80865, ".../glL/.../..c", (0, 0, 0)),
-        ("110", 46583, ".../e.H/lL./...", (0, 0, 0)),
-        ("200", 22732, "hl./.../.../CL.", (0, 0, 0)),
-        ("012", 337983, ".l./Lg./.../G.E", (0, 0, 0)),
-        ("021", 390410, "G../..L/.El/..e", (0, 0, 0)),
-        ("102", 129933, ".../..H/.lg/L..", (0, 0, 1)),
-        ("111", 300642, ".l./LE./.H./...", (0, 0, 0)),
-        ("111", 248440, "..C/.E./l../L..", (0, 0, 0)),
-        ("111", 1245683, "lg./L.e/c../...", (0, 0, 0)),
-        ("120", 31997, ".l./.e./e../..L", (1, 0, 0)),
-        ("201", 317120, ".H./Gh./.../Ll.", (0, 0, 0)),
-        ("210", 526857, "l.e/.../H../CL.", (0, 0, 0)),
-    ] {
-        let set = PieceSet::read(text).expect(&rt, "a set");
-        assert!(rt; number < size(set));
-        let position = unrank(set, number);
-        let hand = position.setup.hands.mover;
-        assert!(rt; shows(&position, board), "rank {number} of {text}");
-        assert_eq!(rt; (hand.chicks, hand.elephants, hand.giraffes), in_hand);
-        assert_eq!(rt; rank(&position), number, "of {text}");
     }
 }
 
@@ -169,6 +93,14 @@ const LIONS: [(usize, usize); 54] = [
     (7, 10),
 ];
 
+// Whether that side's lion stands on the square.
+fn has_lion(position: &Position, square: usize, side: Side) -> bool
+    requires { square < 12 }
+{
+    let kind = Kind::Lion;
+    position.setup.board[square] == Some(Piece { side, kind })
+}
+
 #[test]
 fn classes_of_lions_alone(rt: HostRuntime) {
     let set = PieceSet::read("000").expect(&rt, "a set");
@@ -177,9 +109,10 @@ fn classes_of_lions_alone(rt: HostRuntime) {
         let position = unrank(set, number);
         if rank(&representative(&position)) == number {
             assert!(rt; classes < LIONS.len());
-            let lions = LIONS[classes];
-            assert_eq!(rt; square_of(&position, b'L'), lions.0);
-            assert_eq!(rt; square_of(&position, b'l'), lions.1);
+            let (mover, enemy) = LIONS[classes];
+            assert!(rt; mover < 12 && enemy < 12);
+            assert!(rt; has_lion(&position, mover, Side::Mover), "class {classes}");
+            assert!(rt; has_lion(&position, enemy, Side::Enemy), "class {classes}");
             classes += 1;
         }
     }
@@ -202,14 +135,6 @@ fn sets_of_four_pieces_are_refused(rt: HostRuntime) {
         let opened = Classes::open(rt.alloc(), set);
         assert!(rt; matches!(opened, Err(Fault::SetTooLarge)), "{text}");
     }
-}
-
-#[test]
-fn a_class_has_its_position(rt: HostRuntime) {
-    let set = PieceSet::read("000").expect(&rt, "a set");
-    let classes = Classes::open(rt.alloc(), set).expect(&rt, "memory");
-    assert!(rt; 17 < classes.class_count());
-    assert!(rt; shows(&classes.class_at(17), ".l./.../.../.L."));
 }
 
 // Goes over the set as the plain program walks it. The keys must ascend, and each `step`-th position and

@@ -1,5 +1,16 @@
-// Tests that cross crates: what the program prints, against values from outside and values worked out by hand.
+// Tests that cross crates, and those that set up boards, which are read from their texts: against values from outside and
+// values worked out by hand.
 #![tactic(auto)]
 
 #[cfg(test)]
+mod moves;
+#[cfg(test)]
+mod positions;
+#[cfg(test)]
 mod program;
+#[cfg(test)]
+mod ranks;
+#[cfg(test)]
+mod unmoves;
+#[cfg(test)]
+mod values;

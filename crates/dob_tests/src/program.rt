@@ -7,6 +7,7 @@ use dob_value::{Table, code_of_value, sweep_table};
 use std::alloc::{AllocError, Global};
 use std::io::{self, ErrorKind, Write};
 use std::process::Abort;
+use std::str;
 use std::test::Fail;
 use std::thread::Threads;
 
@@ -180,51 +181,59 @@ fn refused_sets(rt: HostRuntime) -> Result<(), Fail> {
     Ok(())
 }
 
+/// The bytes are a text that has that part.
+fn tells(bytes: &[u8], part: &str) -> bool {
+    match str::from_utf8(bytes) {
+        Ok(text) => text.contains(part),
+        Err(_) => false,
+    }
+}
+
 #[test]
 fn wrong_words_are_usage(rt: HostRuntime) -> Result<(), Fail> {
-    let rows: [&[&str]; 16] = [
-        &[],
-        &["value"],
-        &["value", "a", "b"],
-        &["value", "-x"],
-        &["worth", "a"],
-        &["--value"],
-        &["count"],
-        &["count", "100"],
-        &["count", "--set"],
-        &["count", "--set", "100", "100"],
-        &["probe", "a"],
-        &["probe", "--db", "a"],
-        &["line", "--db", "a"],
-        &["check"],
-        &["check", "a"],
-        &["check", "--db", "a", "b"],
+    let rows: [(&[&str], &str); 16] = [
+        (&[], "requires a subcommand"),
+        (&["value"], "<POSITION>"),
+        (&["value", "a", "b"], "'b'"),
+        (&["value", "-x"], "'-x'"),
+        (&["worth", "a"], "'worth'"),
+        (&["--value"], "'--value'"),
+        (&["count"], "--set <CEG>"),
+        (&["count", "100"], "'100'"),
+        (&["count", "--set"], "--set <CEG>"),
+        (&["count", "--set", "100", "100"], "'100'"),
+        (&["probe", "a"], "--db <FILE>"),
+        (&["probe", "--db", "a"], "<POSITION>"),
+        (&["line", "--db", "a"], "<POSITION>"),
+        (&["check"], "--db <FILE>"),
+        (&["check", "a"], "'a'"),
+        (&["check", "--db", "a", "b"], "'b'"),
     ];
-    for words in rows {
+    for (words, part) in rows {
         let told = run(&rt, rt.alloc(), words)?;
         assert_eq!(rt; told.status, 2);
         assert!(rt; told.out.is_empty());
-        assert!(rt; !told.err.is_empty());
+        assert!(rt; tells(told.err.as_slice(), part), "{part}");
     }
     Ok(())
 }
 
 #[test]
 fn help_is_told_on_standard_output(rt: HostRuntime) -> Result<(), Fail> {
-    let rows: [&[&str]; 8] = [
-        &["--help"],
-        &["-h"],
-        &["help"],
-        &["value", "--help"],
-        &["count", "--help"],
-        &["probe", "--help"],
-        &["line", "--help"],
-        &["check", "--help"],
+    let rows: [(&[&str], &str); 8] = [
+        (&["--help"], "Usage: dobutsu"),
+        (&["-h"], "Usage: dobutsu"),
+        (&["help"], "Usage: dobutsu"),
+        (&["value", "--help"], "Usage: dobutsu value"),
+        (&["count", "--help"], "Usage: dobutsu count"),
+        (&["probe", "--help"], "Usage: dobutsu probe"),
+        (&["line", "--help"], "Usage: dobutsu line"),
+        (&["check", "--help"], "Usage: dobutsu check"),
     ];
-    for words in rows {
+    for (words, part) in rows {
         let told = run(&rt, rt.alloc(), words)?;
         assert_eq!(rt; told.status, 0);
-        assert!(rt; !told.out.is_empty());
+        assert!(rt; tells(told.out.as_slice(), part), "{part}");
         assert!(rt; told.err.is_empty());
     }
     Ok(())
@@ -422,6 +431,42 @@ fn refused_by_a_file(rt: HostRuntime) -> Result<(), Fail> {
     Ok(())
 }
 
+// A line goes by what the file says, wrong or not; but a lion that can be caught is, whatever the file says.
+#[test]
+fn lines_by_wrong_values(rt: HostRuntime) -> Result<(), Fail> {
+    let catch = ".../.l./.L./... - -";
+    let rows = [
+        (17, 0, LONG, "draw\n"),
+        (17, 1, LONG, "end\n"),
+        (33, 0, catch, "Lb2xb3\n"),
+        (33, 1, catch, "Lb2xb3\n"),
+        (33, 4, catch, "Lb2xb3\n"),
+        (33, 5, catch, "Lb2xb3\n"),
+    ];
+    for (class, code, text, line) in rows {
+        let file = file_with(&rt, rt.alloc(), class, code)?;
+        let mut shelf = shelf_with(rt.alloc(), file)?;
+        let words = ["line", "--db", FILE, text];
+        let told = run_over(&rt, rt.alloc(), &mut shelf, &words);
+        assert_eq!(rt; told.out.as_slice(), line.as_bytes(), "{class} as {code}");
+    }
+    Ok(())
+}
+
+// Where the enemy has tried, no move is left that a win or a loss in the file could be forced by.
+#[test]
+fn no_line_after_a_try(rt: HostRuntime) -> Result<(), Fail> {
+    for code in [2, 3] {
+        let file = file_with(&rt, rt.alloc(), 38, code)?;
+        let mut shelf = shelf_with(rt.alloc(), file)?;
+        let words = ["line", "--db", FILE, ".../L../.../..l - -"];
+        let told = run_over(&rt, rt.alloc(), &mut shelf, &words);
+        let line = b"dobutsu: E21 Inconsistent class 38\n".as_slice();
+        assert_eq!(rt; told.err.as_slice(), line, "as {code}");
+    }
+    Ok(())
+}
+
 // One wrong value leaves the others as they are.
 #[test]
 fn answers_beside_a_wrong_value(rt: HostRuntime) -> Result<(), Fail> {
@@ -448,15 +493,28 @@ fn version_is_told(rt: HostRuntime) -> Result<(), Fail> {
     Ok(())
 }
 
+// Class 9 wins by a move to class 15, so it is the first that doesn't follow where class 15 is changed.
 #[test]
 fn the_first_break_of_a_file(rt: HostRuntime) -> Result<(), Fail> {
-    let file = file_with(&rt, rt.alloc(), 15, 0)?;
-    let mut shelf = shelf_with(rt.alloc(), file)?;
-    let told = run_over(&rt, rt.alloc(), &mut shelf, &["check", "--db", FILE]);
-    assert_eq!(rt;
-        told.err.as_slice(),
-        b"dobutsu: E21 Inconsistent class 9\n".as_slice()
-    );
-    assert_eq!(rt; told.status, 1);
+    let rows = [
+        // a draw where it is a loss
+        (15, 0, 9),
+        // the greatest loss, after which no win can come
+        (15, 65_535, 9),
+        // a win in 7 where it is one in 5
+        (17, 8, 17),
+        // a loss in 2 where the enemy has tried
+        (36, 3, 36),
+        // a draw where the lion can be caught
+        (1, 0, 1),
+    ];
+    for (class, code, broken) in rows {
+        let file = file_with(&rt, rt.alloc(), class, code)?;
+        let mut shelf = shelf_with(rt.alloc(), file)?;
+        let told = run_over(&rt, rt.alloc(), &mut shelf, &["check", "--db", FILE]);
+        let line = format!(in rt.alloc(); "dobutsu: E21 Inconsistent class {broken}\n")?;
+        assert_eq!(rt; told.err.as_slice(), line.as_str().as_bytes(), "{class}");
+        assert_eq!(rt; told.status, 1);
+    }
     Ok(())
 }

@@ -1,19 +1,6 @@
-// Values of positions that were worked out by hand or by another program.
-ghost use Rattle.std.specs.Prelude.{◌<◌};
-
-use crate::sweep::first_value;
-use crate::{
-    Fault, MAX_DISTANCE, Table, Value, code_of_value, sweep_table, sweep_value, value_of_code,
-};
-use dob_moves::{Status, status};
-use dob_pieces::{Hand, Hands, Kind, Piece, PieceSet, Position, Side, Square};
-use std::process::Abort;
-
-const EMPTY: Hand = Hand {
-    chicks: 0,
-    elephants: 0,
-    giraffes: 0,
-};
+// Tables of values by another program, and the codes and faults.
+use crate::{Fault, MAX_DISTANCE, Table, Value, code_of_value, sweep_table, value_of_code};
+use dob_pieces::PieceSet;
 
 const NO_PIECES: PieceSet = PieceSet {
     chicks: 0,
@@ -33,91 +20,6 @@ const CODES_OF_LIONS_ALONE: [u16; 54] = [
     2, 2, 4, 0, 1, 1, 1, 2, 2, 2, 2, 2, 2, 2, 2, 1, 1, 2, 2, 2, 2, 2,
 ];
 
-// The position with the lions on those two squares, and with that in the mover's hand.
-fn lions(rt: &impl Abort, mover: usize, enemy: usize, hand: Hand) -> Position
-    requires mover_on_board { mover < 12 }
-    requires enemy_on_board { enemy < 12 }
-{
-    let mut board = [None; Square::COUNT];
-    board[mover] = Some(Piece {
-        side: Side::Mover,
-        kind: Kind::Lion,
-    });
-    board[enemy] = Some(Piece {
-        side: Side::Enemy,
-        kind: Kind::Lion,
-    });
-    Position::of(
-        board,
-        Hands {
-            mover: hand,
-            enemy: EMPTY,
-        },
-    )
-    .expect(rt, "a position")
-}
-
-#[test]
-fn values_of_lions_alone(rt: HostRuntime) {
-    let table = [
-        // a catch in three plies, and the shortest of them
-        (3, 11, Value::Win(3)),
-        (4, 7, Value::Win(1)),
-        // tries: that succeeds, that was made already, that is caught
-        (6, 11, Value::Win(1)),
-        (6, 2, Value::Loss(0)),
-        (4, 0, Value::Win(1)),
-        // each step loses
-        (0, 5, Value::Loss(2)),
-        // the longest
-        (1, 10, Value::Win(5)),
-        (1, 7, Value::Loss(4)),
-        (0, 6, Value::Loss(6)),
-        (0, 9, Value::Win(7)),
-        // neither side can force an end
-        (4, 10, Value::Draw),
-    ];
-    for (mover, enemy, value) in table {
-        assert!(rt; mover < 12 && enemy < 12);
-        let position = lions(&rt, mover, enemy, EMPTY);
-        assert_eq!(rt;
-            sweep_value(rt.alloc(), &position),
-            Ok(value),
-            "at {mover} and {enemy}"
-        );
-    }
-}
-
-#[test]
-fn values_with_a_piece_in_hand(rt: HostRuntime) {
-    let chick = Hand { chicks: 1, ..EMPTY };
-    let elephant = Hand {
-        elephants: 1,
-        ..EMPTY
-    };
-    let giraffe = Hand {
-        giraffes: 1,
-        ..EMPTY
-    };
-    let table = [
-        (6, 0, chick, Value::Loss(0)),
-        (7, 3, chick, Value::Win(1)),
-        (0, 10, elephant, Value::Win(5)),
-        (3, 5, elephant, Value::Win(3)),
-        (6, 0, giraffe, Value::Loss(0)),
-        (6, 7, giraffe, Value::Win(1)),
-    ];
-    for (mover, enemy, hand, value) in table {
-        assert!(rt; mover < 12 && enemy < 12);
-        let position = lions(&rt, mover, enemy, hand);
-        assert_eq!(rt;
-            sweep_value(rt.alloc(), &position),
-            Ok(value),
-            "at {mover} and {enemy}"
-        );
-    }
-}
-
 #[test]
 fn table_of_lions_alone(rt: HostRuntime) -> Result<(), Fault> {
     let table = sweep_table(rt.alloc(), NO_PIECES)?;
@@ -131,62 +33,6 @@ fn table_of_lions_alone(rt: HostRuntime) -> Result<(), Fault> {
         );
     }
     Ok(())
-}
-
-#[test]
-fn mirror_images_have_one_entry(rt: HostRuntime) -> Result<(), Fault> {
-    let chick = Hand { chicks: 1, ..EMPTY };
-    for (mover, enemy, value) in [(7, 3, Value::Win(1)), (6, 0, Value::Loss(0))] {
-        let seen = lions(&rt, mover, enemy, chick);
-        for position in [seen, seen.mirrored()] {
-            let table = sweep_table(rt.alloc(), position.piece_set())?;
-            assert_eq!(rt; table.value_of(&position), value, "at {mover} and {enemy}");
-        }
-    }
-    Ok(())
-}
-
-// The position with those pieces alone, at those squares and none of them in hand.
-fn placed(rt: &impl Abort, pieces: &[(usize, Side, Kind)]) -> Position {
-    let mut board = [None; Square::COUNT];
-    for (square, side, kind) in pieces {
-        assert!(rt; *square < 12);
-        board[*square] = Some(Piece {
-            side: *side,
-            kind: *kind,
-        });
-    }
-    Position::of(
-        board,
-        Hands {
-            mover: EMPTY,
-            enemy: EMPTY,
-        },
-    )
-    .expect(rt, "a position")
-}
-
-// The board is `GEx/LGE/CCy/...`, with the enemy's lion as x or as y.
-#[test]
-fn stuck_is_lost(rt: HostRuntime) {
-    for lion in [11, 5] {
-        let position = placed(
-            &rt,
-            &[
-                (9, Side::Mover, Kind::Giraffe),
-                (10, Side::Mover, Kind::Elephant),
-                (6, Side::Mover, Kind::Lion),
-                (7, Side::Mover, Kind::Giraffe),
-                (8, Side::Mover, Kind::Elephant),
-                (3, Side::Mover, Kind::Chick),
-                (4, Side::Mover, Kind::Chick),
-                (lion, Side::Enemy, Kind::Lion),
-            ],
-        );
-        let found = status(&position);
-        assert_eq!(rt; found, Status::Stuck);
-        assert_eq!(rt; first_value(found), Value::Loss(0));
-    }
 }
 
 // How many classes are won, lost and drawn, and the longest win.
@@ -233,31 +79,15 @@ fn codes_tell_values(rt: HostRuntime) {
 
 #[test]
 fn refuses_larger_sets(rt: HostRuntime) {
-    let hands = [
-        Hand {
-            chicks: 2,
-            elephants: 2,
-            giraffes: 0,
-        },
-        Hand {
-            chicks: 2,
-            elephants: 1,
-            giraffes: 1,
-        },
-        Hand {
-            chicks: 2,
-            elephants: 2,
-            giraffes: 2,
-        },
-    ];
-    for hand in hands {
-        let position = lions(&rt, 0, 11, hand);
-        assert_eq!(rt; sweep_value(rt.alloc(), &position), Err(Fault::SetTooLarge));
+    for text in ["220", "211", "222"] {
+        let set = PieceSet::read(text).expect(&rt, "a set");
+        let swept = sweep_table(rt.alloc(), set);
+        assert!(rt; matches!(swept, Err(Fault::SetTooLarge)), "{text}");
     }
 }
 
 #[test]
-fn refusals_are_printed(rt: HostRuntime) -> Result<(), Fault> {
+fn faults_are_printed(rt: HostRuntime) -> Result<(), Fault> {
     let texts = [
         (Fault::SetTooLarge, "E8 SetTooLarge"),
         (Fault::TooDeep, "E12 TooDeep"),
