@@ -1,9 +1,9 @@
 // What a worker has besides its node: its seat on the board and the ends of its channels.
-ghost use Rattle.std.specs.Prelude.{◌≡◌, ◌≢◌, ℕ, ◌^◌, ◌<◌, true, Some, None, ◌∷◌, [], ◌++◌, slice_get, slice_index, length, vec_len, slice_set};
+ghost use Rattle.std.specs.Prelude.{◌≡◌, ◌≢◌, ℕ, ◌^◌, ◌<◌, true, Some, None, ◌∷◌, [], ◌++◌, slice_get, slice_index, length, vec_len, slice_set, IfSome, IfNone};
 ghost use Rattle.dob_safra.specs.declared.event.RingEvent.TheVariants.{Post};
 ghost use Rattle.dob_board.specs.Views.{posts_more};
 ghost use Rattle.dob_board.specs.Histories.{Makes};
-ghost use Rattle.dob_board.specs.Seats.{IsSameSeat, stand_of, told_of};
+ghost use Rattle.dob_board.specs.Seats.{IsSameSeat, TakesOne, stand_of, told_of};
 ghost use Rattle.dob_chan.specs.Ends.{SendsOnSame, TakesOnSame};
 ghost use Rattle.dob_run.specs.Links.{offered, worked};
 ghost use Rattle.dob_run.specs.Mails.{AreCounts, HasChangedOne};
@@ -65,5 +65,27 @@ impl Mail {
         ensures outlets { self.new.outlets ≡ self.old.outlets }
     {
         self.inlets[from].receive(rt);
+    }
+
+    /// The batch in the hand for the node `from`, another one, if the board says that it was posted: it is counted on the
+    /// board, which blackens the node, and now it is the node's to work in. Otherwise it stays in the hand, uncounted.
+    pub fn accept(&mut self, from: usize) -> Option<Batch>
+        requires node { from < self.old.seat.nodes }
+        requires other { from ≢ self.old.seat.node }
+        ensures same { IsSameSeat self.old.seat self.new.seat }
+        ensures outlets { self.new.outlets ≡ self.old.outlets }
+        ensures taken { IfSome result (λ batch. TakesOne self.old.seat self.new.seat from) }
+        ensures worked { IfSome result (λ batch.
+            HasChangedOne (λ old new. (new.end ≡ old.end) × (worked new ≡ worked old ++ batch ∷ [])) from self.old.inlets.items self.new.inlets.items) }
+        ensures kept { IfNone result (self.new.inlets ≡ self.old.inlets) }
+        ensures uncounted { IfNone result ((self.new.seat.taken.items ≡ self.old.seat.taken.items) × (self.new.seat.black ≡ self.old.seat.black)) }
+    {
+        if !self.inlets[from].is_full() {
+            return None;
+        }
+        if self.seat.take(from).is_err() {
+            return None;
+        }
+        self.inlets[from].release()
     }
 }
