@@ -1,0 +1,31 @@
+use Rattle.std.proofs.Common.{◌≡◌, suc, List, ℕ, [], ◌∷◌, length, Some, rules, arith, refl, sym, ap, ◌∙◌, subst, length-append}
+use Rattle.std.specs.Prelude.{slice_get, slice_set}
+use Rattle.dob_board.specs.declared.view.Stand.{Stand}
+use Rattle.dob_run.specs.Links.{offered, worked}
+use Rattle.dob_run.specs.Mails.{AreCounts}
+use Rattle.dob_run.proofs.Counted.{counts_rise, got_there}
+use Rattle.dob_run.proofs.mail.Mail.post.Goals as goal
+
+pub invariant_of-self : goal.invariant_of-self
+invariant_of-self c =
+    let mail = c.args.self.now in
+    let old = c.index_mut.result.now in
+    let at : slice_get mail.outlets.items c.args.to ≡ Some old = got_there mail.outlets.items c.args.to old (search rules) c.index_mut.ensures.value in
+    let more : length (offered c.hold.new.self) ≡ suc (length (offered old)) =
+    omega (arith, ap length c.hold.ensures.offered, length-append (offered old) (c.args.batch ∷ [])) in
+    let posted_is = ap (λ (s : Stand). s.posted) c.post.ensures.counted in
+    let taken_is = ap (λ (s : Stand). s.taken) c.post.ensures.counted in
+    record {
+      outlets_len = mail.outlets_len ∙ sym c.post.ensures.same.nodes;
+      inlets_len = mail.inlets_len ∙ sym c.post.ensures.same.nodes;
+      posted = subst (λ (counts : List ℕ). AreCounts offered counts (slice_set mail.outlets.items c.args.to c.hold.new.self)) (sym posted_is)
+          (counts_rise offered mail.seat.posted.items mail.outlets.items c.args.to old c.hold.new.self mail.posted at (omega (arith, mail.seat.posted_len, c.requires.node)) more);
+      taken = subst (λ (counts : List ℕ). AreCounts worked counts mail.inlets.items) (sym taken_is) mail.taken;
+    }
+
+pub returns-clause-offered : goal.returns-clause-offered
+returns-clause-offered c =
+    let mail = c.args.self.now in
+    let old = c.index_mut.result.now in
+    let at : slice_get mail.outlets.items c.args.to ≡ Some old = got_there mail.outlets.items c.args.to old (search rules) c.index_mut.ensures.value in
+    (old, c.hold.new.self, at, (c.hold.ensures.end, c.hold.ensures.offered), refl)

@@ -1,0 +1,12 @@
+-- What the steps of a worker keep of its seat and its links.
+use Rattle.std.specs.Prelude.{◌≡◌, ℕ, List, Some, length, slice_get, slice_index, slice_set}
+use Rattle.dob_update.specs.Batches.{BatchView}
+
+-- for each place, the count is the number of batches of the link that stands there
+abbrev pub AreCounts : {L : Type 0} → (L → List BatchView) → List ℕ → List L → Type 0
+AreCounts {L} batches counts links = (j : ℕ) (link : L) → slice_get links j ≡ Some link → slice_index counts j ≡ length (batches link)
+
+-- the link at place k changed in that way, and the others stayed
+abbrev pub HasChangedOne : {L : Type 0} → (L → L → Type 0) → ℕ → List L → List L → Type 0
+HasChangedOne {L} Changed k old new =
+    (before : L) × (after : L) × (slice_get old k ≡ Some before) × Changed before after × (new ≡ slice_set old k after)

@@ -1,0 +1,92 @@
+// What a worker does with its ends: it holds and offers batches, and receives and releases them.
+ghost use Rattle.std.specs.Prelude.{◌≡◌, ◌≢◌, ◌≤◌, ◌⊎◌, ◌↔◌, IsTrue, None, ◌∷◌, [], ◌++◌, length, MatchOption};
+ghost use Rattle.dob_chan.specs.Channels.{most_batches};
+ghost use Rattle.dob_chan.specs.Ends.{SendsOnSame, TakesOnSame};
+ghost use Rattle.dob_run.specs.Hands.{in_hand};
+ghost use Rattle.dob_run.specs.Links.{offered, worked};
+
+use crate::hands::{Inlet, Outlet};
+use dob_chan::{SendEnd, TakeEnd};
+use dob_update::Batch;
+use std::sync::Wait;
+
+impl Outlet {
+    /// An outlet whose hand is empty.
+    pub fn new(end: SendEnd) -> Outlet
+        ensures end { result.end ≡ end }
+        ensures hand { result.hand ≡ None }
+    {
+        Outlet { end, hand: None }
+    }
+
+    /// Whether a batch is in the hand.
+    pub fn is_full(&self) -> bool
+        ensures { IsTrue result ↔ (self.now.hand ≢ None) }
+    {
+        self.hand.is_some()
+    }
+
+    /// Puts a batch into the hand, which is empty.
+    pub fn hold(&mut self, batch: Batch)
+        requires { self.old.hand ≡ None }
+        ensures offered { offered self.new ≡ offered self.old ++ batch ∷ [] }
+        ensures end { self.new.end ≡ self.old.end }
+    {
+        self.hand = Some(batch);
+    }
+
+    /// Offers the batch in the hand to the channel; tries once. A batch that isn't taken stays in the hand. Its promises
+    /// hold if it returns.
+    pub fn offer<R: Wait>(&mut self, rt: &R)
+        requires { length (offered self.old) ≤ most_batches }
+        ensures offered { offered self.new ≡ offered self.old }
+        ensures same { SendsOnSame self.old.end self.new.end }
+        ensures hand { (self.new.hand ≡ self.old.hand) ⊎ (self.new.hand ≡ None) }
+    {
+        let Some(batch) = self.hand.take() else {
+            return;
+        };
+        if let Err(full) = self.end.offer(rt, batch) {
+            self.hand = Some(full.batch);
+        }
+    }
+}
+
+impl Inlet {
+    /// An inlet whose hand is empty.
+    pub fn new(end: TakeEnd) -> Inlet
+        ensures end { result.end ≡ end }
+        ensures hand { result.hand ≡ None }
+    {
+        Inlet { end, hand: None }
+    }
+
+    /// Whether a batch is in the hand.
+    pub fn is_full(&self) -> bool
+        ensures { IsTrue result ↔ (self.now.hand ≢ None) }
+    {
+        self.hand.is_some()
+    }
+
+    /// Takes the channel's next batch into the hand, if that is empty; tries once. Its promises hold if it returns.
+    pub fn receive<R: Wait>(&mut self, rt: &R)
+        ensures worked { worked self.new ≡ worked self.old }
+        ensures same { TakesOnSame self.old.end self.new.end }
+        ensures held { self.old.hand ≢ None → self.new.hand ≡ self.old.hand }
+    {
+        if self.hand.is_some() {
+            return;
+        }
+        self.hand = self.end.next(rt);
+    }
+
+    /// The batch in the hand, which is empty afterwards: now it is the node's to work in.
+    pub fn release(&mut self) -> Option<Batch>
+        ensures batch { result ≡ self.old.hand }
+        ensures worked { worked self.new ≡ worked self.old ++ in_hand self.old.hand }
+        ensures end { self.new.end ≡ self.old.end }
+        ensures empty { self.new.hand ≡ None }
+    {
+        self.hand.take()
+    }
+}

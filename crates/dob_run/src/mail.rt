@@ -1,0 +1,91 @@
+// What a worker has besides its node: its seat on the board and the ends of its channels.
+ghost use Rattle.std.specs.Prelude.{◌≡◌, ◌≢◌, ℕ, ◌^◌, ◌<◌, true, Some, None, ◌∷◌, [], ◌++◌, slice_get, slice_index, length, vec_len, slice_set, IfSome, IfNone};
+ghost use Rattle.dob_safra.specs.declared.event.RingEvent.TheVariants.{Post};
+ghost use Rattle.dob_board.specs.Views.{posts_more};
+ghost use Rattle.dob_board.specs.Histories.{Makes};
+ghost use Rattle.dob_board.specs.Seats.{IsSameSeat, TakesOne, stand_of, told_of};
+ghost use Rattle.dob_chan.specs.Ends.{SendsOnSame, TakesOnSame};
+ghost use Rattle.dob_run.specs.Links.{offered, worked};
+ghost use Rattle.dob_run.specs.Mails.{AreCounts, HasChangedOne};
+
+use crate::hands::{Inlet, Outlet};
+use dob_board::NodeSeat;
+use dob_update::Batch;
+use std::sync::Wait;
+
+/// A worker's seat, and an outlet and an inlet for each node, its own included. The seat counts the batches that went into
+/// the outlets, and those that the node got from the inlets.
+#[derive(Drop)]
+pub struct Mail {
+    pub(crate) seat: NodeSeat,
+    pub(crate) outlets: Vec<Outlet>,
+    pub(crate) inlets: Vec<Inlet>,
+    ghost outlets_len: { vec_len outlets ≡ seat.nodes },
+    ghost inlets_len: { vec_len inlets ≡ seat.nodes },
+    ghost posted: { AreCounts offered seat.posted.items outlets.items },
+    ghost taken: { AreCounts worked seat.taken.items inlets.items },
+}
+
+impl Mail {
+    /// Counts a batch for another node on the board and puts it into the hand for that node, which is empty. The node is
+    /// black, and has counted fewer than 2^40 batches for the other one.
+    pub fn post(&mut self, to: usize, batch: Batch)
+        requires node { to < self.old.seat.nodes }
+        requires other { to ≢ self.old.seat.node }
+        requires black { self.old.seat.black ≡ true }
+        requires few { slice_index self.old.seat.posted.items to < 2 ^ 40 }
+        requires empty { (outlet : Outlet) → slice_get self.old.outlets.items to ≡ Some outlet → outlet.hand ≡ None }
+        ensures counted { stand_of self.new.seat ≡ posts_more (stand_of self.old.seat) to }
+        ensures same { IsSameSeat self.old.seat self.new.seat }
+        ensures event { Makes self.old.seat.nodes self.old.seat.node (Post self.old.seat.node to)
+            (stand_of self.old.seat) (stand_of self.new.seat) (told_of self.old.seat) (told_of self.new.seat) }
+        ensures offered { HasChangedOne (λ old new. (new.end ≡ old.end) × (offered new ≡ offered old ++ batch ∷ [])) to self.old.outlets.items self.new.outlets.items }
+        ensures inlets { self.new.inlets ≡ self.old.inlets }
+    {
+        self.seat.post(to);
+        self.outlets[to].hold(batch);
+    }
+
+    /// Offers the batch in the hand for the node `to` to its channel; tries once. Its promises hold if it returns.
+    pub fn offer<R: Wait>(&mut self, rt: &R, to: usize)
+        requires { to < self.old.seat.nodes }
+        ensures seat { self.new.seat ≡ self.old.seat }
+        ensures offered { HasChangedOne (λ old new. SendsOnSame old.end new.end × (offered new ≡ offered old)) to self.old.outlets.items self.new.outlets.items }
+        ensures inlets { self.new.inlets ≡ self.old.inlets }
+    {
+        self.outlets[to].offer(rt);
+    }
+
+    /// Takes the next batch of the channel from the node `from` into the hand for it, if that is empty; tries once. Its
+    /// promises hold if it returns.
+    pub fn receive<R: Wait>(&mut self, rt: &R, from: usize)
+        requires { from < self.old.seat.nodes }
+        ensures seat { self.new.seat ≡ self.old.seat }
+        ensures worked { HasChangedOne (λ old new. TakesOnSame old.end new.end × (worked new ≡ worked old)) from self.old.inlets.items self.new.inlets.items }
+        ensures outlets { self.new.outlets ≡ self.old.outlets }
+    {
+        self.inlets[from].receive(rt);
+    }
+
+    /// The batch in the hand for the node `from`, another one, if the board says that it was posted: it is counted on the
+    /// board, which blackens the node, and now it is the node's to work in. Otherwise it stays in the hand, uncounted.
+    pub fn accept(&mut self, from: usize) -> Option<Batch>
+        requires node { from < self.old.seat.nodes }
+        requires other { from ≢ self.old.seat.node }
+        ensures same { IsSameSeat self.old.seat self.new.seat }
+        ensures outlets { self.new.outlets ≡ self.old.outlets }
+        ensures taken { IfSome result (λ batch. TakesOne self.old.seat self.new.seat from) }
+        ensures worked { IfSome result (λ batch.
+            HasChangedOne (λ old new. (new.end ≡ old.end) × (worked new ≡ worked old ++ batch ∷ [])) from self.old.inlets.items self.new.inlets.items) }
+        ensures kept { IfNone result (self.new.inlets ≡ self.old.inlets) }
+        ensures uncounted { IfNone result ((self.new.seat.taken.items ≡ self.old.seat.taken.items) × (self.new.seat.black ≡ self.old.seat.black)) }
+    {
+        if !self.inlets[from].is_full() {
+            return None;
+        }
+        if self.seat.take(from).is_err() {
+            return None;
+        }
+        self.inlets[from].release()
+    }
+}
