@@ -27,6 +27,23 @@ pub struct Mail {
 }
 
 impl Mail {
+    /// The mail of that seat, with an outlet and an inlet for each node, of which the seat has counted the batches.
+    pub fn new(seat: NodeSeat, outlets: Vec<Outlet>, inlets: Vec<Inlet>) -> Mail
+        requires outlets { vec_len outlets ≡ seat.nodes }
+        requires inlets { vec_len inlets ≡ seat.nodes }
+        requires posted { AreCounts offered seat.posted.items outlets.items }
+        requires taken { AreCounts worked seat.taken.items inlets.items }
+        ensures seat { result.seat ≡ seat }
+        ensures outlets { result.outlets ≡ outlets }
+        ensures inlets { result.inlets ≡ inlets }
+    {
+        Mail {
+            seat,
+            outlets,
+            inlets,
+        }
+    }
+
     /// Counts a batch for another node on the board and puts it into the hand for that node, which is empty. The node is
     /// black, and has counted fewer than 2^40 batches for the other one.
     pub fn post(&mut self, to: usize, batch: Batch)
