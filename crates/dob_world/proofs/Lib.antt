@@ -1,0 +1,5 @@
+pub mod Places
+pub mod Applied
+pub mod Linked
+pub mod Kept
+pub mod Rest

@@ -1,0 +1,4 @@
+pub mod Worlds
+pub mod Events
+pub mod Runs
+pub mod Laws
