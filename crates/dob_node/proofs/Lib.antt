@@ -21,3 +21,7 @@ pub mod Opens
 pub mod SoleSteps
 pub mod SoleOpens
 pub mod SoleEnds
+pub mod Sends
+pub mod TakenLists
+pub mod Parts
+pub mod SoleStops

@@ -24,7 +24,7 @@ use Rattle.dob_node.specs.Histories.{value_of}
 use Rattle.dob_node.specs.Openings.{AreOpenings}
 use Rattle.dob_node.specs.Lawful.{IsLawful}
 use Rattle.dob_node.specs.declared.node.Node.{Node}
-use Rattle.dob_node.specs.Sole.{sole_history, sole_applied, sole_items, cells_below, HasMade, IsIdle, AreValues, IsUnderWay}
+use Rattle.dob_node.specs.Sole.{sole_history, sole_applied, sole_items, cells_below, HasMade, IsDone, AreValues, IsUnderWay}
 use Rattle.dob_node.proofs.Kept.{last_now-entry}
 use Rattle.dob_node.proofs.Soles.{one_value, one_owner, cell_below}
 use Rattle.dob_node.proofs.Ends.{lawful_is_right}
@@ -95,8 +95,8 @@ nothing_more xs (y ∷ ys) is =
     absurd (omega arith)
 
 -- not idle, it is under way
-pub under_way : (node : Node) (set : PieceSet) (limit steps : ℕ) → node.set ≡ set → HasMade steps node → (steps ≡ limit) ⊎ IsIdle node →
-    (IsIdle node → ⊥) → IsUnderWay set limit
+pub under_way : (node : Node) (set : PieceSet) (limit steps : ℕ) → node.set ≡ set → HasMade steps node → (steps ≡ limit) ⊎ IsDone node →
+    (IsDone node → ⊥) → IsUnderWay set limit
 under_way node set limit steps of made (inr idle) busy = absurd (busy idle)
 under_way node set limit steps of made (inl same) busy = subst (λ st. IsUnderWay st limit) of (record {
   history = node.history.settlements;
@@ -115,7 +115,7 @@ under_way node set limit steps of made (inl same) busy = subst (λ st. IsUnderWa
 
 -- idle, it has the value table
 pub sole_right : (node : Node) (set : PieceSet) (steps count : ℕ) (openings : List Opening) (values : List Value) → node.set ≡ set →
-    HasMade steps node → IsIdle node → AreOpenings set openings → AreValues node.history.settlements count values → count ≡ classes_of set →
+    HasMade steps node → IsDone node → AreOpenings set openings → AreValues node.history.settlements count values → count ≡ classes_of set →
     IsValueTable set values
 sole_right node set steps count openings values of made idle are listed count_is = subst (λ st. IsValueTable st values) of
     (lawful_is_right node.set 1 (sole_history node.history.settlements) (sole_applied made.0) (cells_below (classes_of node.set) node.share)

@@ -1,5 +1,5 @@
 -- What each refusal is called, and which refusal of a part is which of a node's.
-use Rattle.std.specs.Prelude.{List, ℕ, ◌++◌, codes}
+use Rattle.std.specs.Prelude.{◌≡◌, List, ℕ, ◌++◌, codes}
 use Rattle.std.specs.Fmt.{decimal}
 use Rattle.dob_rank.specs.declared.fault.Fault.{Fault as RankFault}
 use Rattle.dob_rank.specs.declared.fault.Fault.TheVariants as rank
@@ -9,6 +9,14 @@ use Rattle.dob_node.specs.declared.cause.Cause.{Cause}
 use Rattle.dob_node.specs.declared.cause.Cause.TheVariants as cause
 use Rattle.dob_node.specs.declared.cause.Fault.{Fault}
 use Rattle.dob_node.specs.declared.cause.Fault.TheVariants.{SetTooLarge, TooDeep, Contradiction, Memory}
+
+-- the cause's number, where it has one, and its name
+abbrev pub cause_text : Cause → List ℕ
+cause_text cause.TooDeep = codes "E12 TooDeep"
+cause_text (cause.Contradiction class) = codes "E13 Contradiction class " ++ decimal class
+cause_text cause.Memory = codes "E23 Memory"
+cause_text cause.Held = codes "Held"
+cause_text cause.Counts = codes "Counts"
 
 -- the refusal's number and name
 abbrev pub fault_text : Fault → List ℕ
@@ -22,11 +30,13 @@ abbrev pub cause_of_share : ShareFault → Cause
 cause_of_share share.TooDeep = cause.TooDeep
 cause_of_share (share.Contradiction class) = cause.Contradiction class
 
--- what stops the node, as why there is no table
-abbrev pub fault_of_cause : Cause → Fault
-fault_of_cause cause.TooDeep = TooDeep
-fault_of_cause (cause.Contradiction class) = Contradiction class
-fault_of_cause cause.Memory = Memory
+-- What stops the one node, as why there is no table: no gate holds it back, and it cuts no batches.
+abbrev pub IsFaultOf : Cause → Fault → Type 0
+IsFaultOf cause.TooDeep fault = fault ≡ TooDeep
+IsFaultOf (cause.Contradiction class) fault = fault ≡ Contradiction class
+IsFaultOf cause.Memory fault = fault ≡ Memory
+IsFaultOf cause.Held fault = ⊥
+IsFaultOf cause.Counts fault = ⊥
 
 -- a refusal of the classes, as why there is no table
 abbrev pub fault_of_rank : RankFault → Fault

@@ -6,6 +6,7 @@ pub mod Laws
 pub mod Stores
 pub mod Causes
 pub mod Takes
+pub mod Outboxes
 pub mod OpeningLists
 pub mod Nodes
 pub mod Sole

@@ -1,28 +1,42 @@
 -- A node as it is opened, and what its steps make of it.
-use Rattle.std.specs.Prelude.{◌≡◌, ℕ, ◌+◌, ◌*◌, ◌<◌, ◌≤◌, ◌↔◌, List, [], ◌∷◌, ◌++◌, length, slice_get, Some}
+use Rattle.std.specs.Prelude.{◌≡◌, ◌≢◌, ℕ, ◌+◌, ◌*◌, ◌<◌, ◌≤◌, ◌↔◌, List, [], ◌∷◌, ◌++◌, length, slice_get, Some}
 use Rattle.std.specs.List.{All}
 use Rattle.dob_pieces.specs.declared.piece_set.PieceSet.{PieceSet}
+use Rattle.dob_value.specs.declared.value.Value.{Value}
 use Rattle.dob_unmove.specs.Edges.{predecessors}
 use Rattle.dob_share.specs.declared.news.Settlement.{Settlement}
 use Rattle.dob_share.specs.declared.news.Item.{Item}
 use Rattle.dob_share.specs.declared.opening.Opening.{Opening}
+use Rattle.dob_share.specs.declared.share.Share.{Share}
+use Rattle.dob_share.specs.Owners.{class_of_place}
 use Rattle.dob_share.specs.Cells.{SameCell, fresh}
 use Rattle.dob_share.specs.Openings.{opening_of}
-use Rattle.dob_share.specs.Shares.{places_of, IsOwn, status_at, cell_at}
+use Rattle.dob_share.specs.Shares.{places_of, IsOwn, status_at, cell_at, HasValueNow}
 use Rattle.dob_update.specs.Items.{items_of}
+use Rattle.dob_update.specs.Batches.{BatchView, OutboxView, empty_outbox, added, IsCut}
+use Rattle.dob_node.specs.declared.cause.Cause.{Cause}
 use Rattle.dob_node.specs.declared.node.Node.{Node}
 use Rattle.dob_node.specs.OpeningLists.{opening_settlements, status_in}
-use Rattle.dob_node.specs.Takes.{HasEntries, AreKept, IsTaken}
+use Rattle.dob_node.specs.Takes.{HasEntries, AreKept, IsTaken, AreTaken, IsRefused}
+use Rattle.dob_node.specs.Outboxes.{outbox_in, IsOutboxTo}
 
--- The node keeps its cells and its history; it has expanded only what the history has, and the items that it has to
--- apply have such values as a table can have.
+-- what the node has still to send to another
+abbrev pub outbox_to : Node → ℕ → OutboxView
+outbox_to node to = outbox_in node.set node.n node.id node.outboxes.items to
+
+-- The node keeps its cells and its history; it has expanded only what the history has; it has an outbox for each node,
+-- and nothing in the one for itself; and the items that it has to apply and to send have such values as a table can
+-- have.
 pub record IsSound (node : Node) : Type 0 where
   pub kept : AreKept node.set node.n node.id node.share node.history
   pub told : node.expanded ≤ length node.history.settlements
   pub entries : All HasEntries node.own.items
+  pub receivers : length node.outboxes.items ≡ node.n
+  pub addressed : (to : ℕ) → IsOutboxTo node.set node.n node.id to (outbox_to node to)
+  pub nothing_to_self : (outbox_to node node.id).items ≡ []
 
 -- The node is that of owner `id` among n, and has made no step: its history is that of the opening, nothing is known of
--- the moves of its classes.
+-- the moves of its classes, and it has nothing to send.
 pub record IsOpened (openings : List Opening) (set : PieceSet) (id n : ℕ) (node : Node) : Type 0 where
   pub of : (node.set ≡ set) × (node.id ≡ id) × (node.n ≡ n)
   pub history : node.history.settlements ≡ opening_settlements (status_in openings) n id (places_of node.share)
@@ -30,12 +44,17 @@ pub record IsOpened (openings : List Opening) (set : PieceSet) (id n : ℕ) (nod
   pub statuses : (class : ℕ) → IsOwn node.share class → status_at node.share class ≡ status_in openings class
   pub cells : (class : ℕ) → IsOwn node.share class → SameCell (cell_at node.share class) (fresh (opening_of openings class).moves)
   pub nothing : (node.expanded ≡ 0) × (node.own.items ≡ [])
+  pub outboxes : (to : ℕ) → outbox_to node to ≡ empty_outbox set n id to
 
--- The first settlement that wasn't expanded is, and its items for the node itself are the last that it has to apply.
+-- The first settlement that wasn't expanded is: its items for the node itself are the last that it has to apply, and
+-- those for each other node are added to the outbox for it.
 pub record IsExpanded (old new : Node) : Type 0 where
   pub settlement : Settlement
   pub first : slice_get old.history.settlements old.expanded ≡ Some settlement
   pub own : new.own.items ≡ old.own.items ++ items_of (predecessors old.set) old.n old.id settlement
+  pub sent : (to : ℕ) → to < old.n → to ≢ old.id →
+      outbox_to new to ≡ added (outbox_to old to) settlement (items_of (predecessors old.set) old.n to settlement)
+  pub unsent : outbox_to new old.id ≡ outbox_to old old.id
   pub expanded : new.expanded ≡ old.expanded + 1
   pub same : (new.set ≡ old.set) × (new.id ≡ old.id) × (new.n ≡ old.n) × (new.share ≡ old.share) × (new.history ≡ old.history)
 
@@ -45,3 +64,45 @@ pub record HasApplied (old new : Node) : Type 0 where
   pub first : old.own.items ≡ item ∷ new.own.items
   pub taken : IsTaken item old.share new.share old.history new.history
   pub same : (new.set ≡ old.set) × (new.id ≡ old.id) × (new.n ≡ old.n) × (new.expanded ≡ old.expanded)
+  pub outboxes : new.outboxes.items ≡ old.outboxes.items
+
+-- the first of the own items is refused
+pub record HasRefused (node : Node) (why : Cause) : Type 0 where
+  pub item : Item
+  pub behind : List Item
+  pub first : node.own.items ≡ item ∷ behind
+  pub refused : IsRefused item node.share why
+
+-- The items are applied, in order.
+pub record HasTaken (items : List Item) (old new : Node) : Type 0 where
+  pub taken : AreTaken items old.share new.share old.history new.history
+  pub same : (new.set ≡ old.set) × (new.id ≡ old.id) × (new.n ≡ old.n) × (new.expanded ≡ old.expanded)
+  pub own : new.own.items ≡ old.own.items
+  pub outboxes : new.outboxes.items ≡ old.outboxes.items
+
+-- The batch, which is from the node to that other one, is cut from the outbox for it.
+pub record HasCut (to size : ℕ) (batch : BatchView) (old new : Node) : Type 0 where
+  pub of : (batch.set ≡ old.set) × (batch.n ≡ old.n) × (batch.from ≡ old.id) × (batch.to ≡ to)
+  pub cut : IsCut (outbox_to old to) size batch (outbox_to new to)
+  pub entries : All HasEntries batch.items
+  pub others : (other : ℕ) → other ≢ to → outbox_to new other ≡ outbox_to old other
+  pub same : (new.set ≡ old.set) × (new.id ≡ old.id) × (new.n ≡ old.n) × (new.expanded ≡ old.expanded)
+  pub kept : (new.share ≡ old.share) × (new.history ≡ old.history) × (new.own.items ≡ old.own.items)
+
+-- The node is as it was.
+pub record IsUnchanged (old new : Node) : Type 0 where
+  pub same : (new.set ≡ old.set) × (new.id ≡ old.id) × (new.n ≡ old.n) × (new.expanded ≡ old.expanded)
+  pub kept : (new.share ≡ old.share) × (new.history ≡ old.history) × (new.own.items ≡ old.own.items)
+  pub outboxes : new.outboxes.items ≡ old.outboxes.items
+
+-- The node has nothing to expand, to apply or to send.
+pub record IsIdle (node : Node) : Type 0 where
+  pub expanded : node.expanded ≡ length node.history.settlements
+  pub applied : node.own.items ≡ []
+  pub sent : (to : ℕ) → (outbox_to node to).items ≡ []
+
+-- the present values of the share's classes, in the order of the classes
+pub record AreValuesNow (share : Share) (values : List Value) : Type 0 where
+  pub whole : length values ≡ places_of share
+  pub each : (place : ℕ) (value : Value) → slice_get values place ≡ Some value →
+      HasValueNow share (class_of_place share.n share.id place) value

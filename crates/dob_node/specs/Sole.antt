@@ -1,5 +1,5 @@
 -- One node that owns all classes, and its way to the value table.
-use Rattle.std.specs.Prelude.{◌≡◌, ℕ, zero, suc, ◌+◌, ◌<◌, nat_lt, cond, List, [], ◌++◌, length, take, slice_get, Some}
+use Rattle.std.specs.Prelude.{◌≡◌, ℕ, zero, suc, ◌+◌, ◌<◌, nat_lt, cond, List, [], ◌++◌, length, take, slice_get, ◌∷◌, Some}
 use Rattle.dob_pieces.specs.declared.piece_set.PieceSet.{PieceSet}
 use Rattle.dob_moves.specs.Statuses.{HasStatus}
 use Rattle.dob_rank.specs.Marks.{classes_of}
@@ -9,11 +9,14 @@ use Rattle.dob_unmove.specs.Edges.{predecessors}
 use Rattle.dob_share.specs.declared.news.Settlement.{Settlement}
 use Rattle.dob_share.specs.declared.news.Item.{Item}
 use Rattle.dob_share.specs.declared.share.Share.{Share}
-use Rattle.dob_share.specs.Cells.{Cell, fresh}
+use Rattle.dob_share.specs.Cells.{Cell, Takes, changed, fresh}
+use Rattle.dob_share.specs.Steps.{IsTooDeep}
 use Rattle.dob_share.specs.Shares.{status_at, cell_at}
 use Rattle.dob_update.specs.Items.{items_from}
 use Rattle.dob_node.specs.Histories.{value_of}
 use Rattle.dob_node.specs.Lawful.{IsLawful}
+use Rattle.dob_node.specs.declared.cause.Cause.{Cause}
+use Rattle.dob_node.specs.declared.cause.Cause.TheVariants.{TooDeep, Contradiction, Memory, Held, Counts}
 use Rattle.dob_node.specs.declared.node.Node.{Node}
 use Rattle.dob_node.specs.Nodes.{IsSound}
 
@@ -51,8 +54,8 @@ abbrev pub HasMade : ℕ → Node → Type 0
 HasMade steps node = (applied : List Item) × IsSole node applied × (node.expanded + length applied ≡ steps)
 
 -- the node has nothing to expand or to apply
-abbrev pub IsIdle : Node → Type 0
-IsIdle node = (node.expanded ≡ length node.history.settlements) × (node.own.items ≡ [])
+abbrev pub IsDone : Node → Type 0
+IsDone node = (node.expanded ≡ length node.history.settlements) × (node.own.items ≡ [])
 
 -- the values of the classes below a number after a history, in order
 pub record AreValues (history : List Settlement) (count : ℕ) (values : List Value) : Type 0 where
@@ -70,3 +73,25 @@ pub record IsUnderWay (set : PieceSet) (steps : ℕ) : Type 0 where
   pub made : expanded + length applied ≡ steps
   pub told : (waiting : List Item) × (sole_items set (take expanded history) ≡ applied ++ waiting)
   pub left : (expanded ≡ length history) × (sole_items set history ≡ applied) → ⊥
+
+-- Some way of one node has come to fewer than that many steps, lawful as above, and the item that it has to apply next
+-- fits, but would give its class a value that is too deep.
+pub record IsTooDeepWithin (set : PieceSet) (limit : ℕ) : Type 0 where
+  pub history : List Settlement
+  pub applied : List Item
+  pub expanded : ℕ
+  pub cell : ℕ → Cell
+  pub lawful : IsLawful set 1 (sole_history history) (sole_applied applied) cell (value_of history)
+  pub made : expanded + length applied < limit
+  pub item : Item
+  pub next : (waiting : List Item) × (sole_items set (take expanded history) ≡ applied ++ item ∷ waiting)
+  pub fits : Takes item.was item.now (cell item.to)
+  pub deep : IsTooDeep (changed item.was item.now (cell item.to))
+
+-- Why the one node has stopped before that many steps: never that an item doesn't fit.
+abbrev pub HasStopped : PieceSet → ℕ → Cause → Type 0
+HasStopped set limit TooDeep = IsTooDeepWithin set limit
+HasStopped set limit (Contradiction class) = ⊥
+HasStopped set limit Memory = Unit {0}
+HasStopped set limit Held = ⊥
+HasStopped set limit Counts = ⊥

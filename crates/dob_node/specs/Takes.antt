@@ -9,8 +9,10 @@ use Rattle.dob_share.specs.declared.news.Item.{Item}
 use Rattle.dob_share.specs.declared.share.Share.{Share}
 use Rattle.dob_share.specs.Owners.{owner_of}
 use Rattle.dob_share.specs.Cells.{Cell, SameCell, changed}
-use Rattle.dob_share.specs.Shares.{IsOwn, status_at, cell_at, Fits, HasSettled}
+use Rattle.dob_share.specs.Shares.{IsOwn, status_at, cell_at, Fits, GoesTooDeep, SameClasses, HasSettled}
 use Rattle.dob_node.specs.Stores.{HistoryView}
+use Rattle.dob_node.specs.declared.cause.Cause.{Cause}
+use Rattle.dob_node.specs.declared.cause.Cause.TheVariants.{TooDeep, Contradiction, Memory, Held, Counts}
 
 -- the item's values are such as a table can have
 abbrev pub HasEntries : Item → Type 0
@@ -41,8 +43,35 @@ listed (Some s) = s ∷ []
 -- The share takes the item, which fits, and the history has the settlement that this makes, where it makes one.
 pub record IsTaken (item : Item) (share after : Share) (history grown : HistoryView) : Type 0 where
   pub fits : Fits share item
+  pub classes : SameClasses share after
   pub cell : SameCell (cell_at after item.to) (changed item.was item.now (cell_at share item.to))
   pub others : (class : ℕ) → IsOwn share class → class ≢ item.to → SameCell (cell_at after class) (cell_at share class)
   pub statuses : (class : ℕ) → status_at after class ≡ status_at share class
   pub settled : (given : Option Settlement) × HasSettled share after item.to given
       × (grown ≡ record history { settlements = history.settlements ++ listed given })
+
+-- The items are taken, one after the other.
+abbrev pub AreTaken : List Item → Share → Share → HistoryView → HistoryView → Type 0
+AreTaken [] share after history grown = (after ≡ share) × (grown ≡ history)
+AreTaken (item ∷ items) share after history grown = (between : Share) × (longer : HistoryView)
+    × IsTaken item share between history longer × AreTaken items between after longer grown
+
+-- Why the share doesn't take the item: it doesn't fit, or it fits and would give its class a value that is too deep. Of
+-- want of memory nothing is said.
+abbrev pub IsRefused : Item → Share → Cause → Type 0
+IsRefused item share (Contradiction class) = (class ≡ item.to) × (¬ Fits share item)
+IsRefused item share TooDeep = Fits share item × GoesTooDeep share item
+IsRefused item share Memory = Unit {0}
+IsRefused item share Held = ⊥
+IsRefused item share Counts = ⊥
+
+-- Those before one of the items are taken, and it is refused.
+pub record StopsAt (items : List Item) (share : Share) (history : HistoryView) (why : Cause) : Type 0 where
+  pub front : List Item
+  pub item : Item
+  pub behind : List Item
+  pub items_are : items ≡ front ++ item ∷ behind
+  pub after : Share
+  pub grown : HistoryView
+  pub taken : AreTaken front share after history grown
+  pub refused : IsRefused item after why

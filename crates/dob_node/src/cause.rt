@@ -2,7 +2,7 @@
 ghost use Rattle.std.specs.Prelude.{◌≡◌, Some};
 ghost use Rattle.dob_node.specs.declared.cause.Cause.TheVariants as cause;
 ghost use Rattle.dob_node.specs.declared.cause.Fault.TheVariants as fault;
-ghost use Rattle.dob_node.specs.Causes.{cause_of_share, fault_of_cause, fault_of_rank};
+ghost use Rattle.dob_node.specs.Causes.{cause_of_share, fault_of_rank};
 
 use dob_pieces::Memory;
 use std::alloc::{AllocError, AllocFailed};
@@ -18,6 +18,10 @@ pub enum Cause {
     Contradiction(u64),
     /// E23: a growth was refused, since no memory was left for it.
     Memory,
+    /// The gate of a run held the node back.
+    Held,
+    /// As many batches as are counted were cut for one other node, and there is more for it.
+    Counts,
 }
 
 /// Why one node alone gives no table.
@@ -32,6 +36,24 @@ pub enum Fault {
     /// E23: a growth was refused, since no memory was left for it.
     Memory,
 }
+
+impl fmt::Display for Cause {
+    ghost use Rattle.dob_node.specs.Causes.{cause_text};
+
+    ghost output = { λ why. Some (cause_text why) };
+
+    fn fmt<W: fmt::Write>(&self, f: &mut fmt::Formatter<W>) -> fmt::Result {
+        match self {
+            Cause::TooDeep => write!(f, "E12 TooDeep"),
+            Cause::Contradiction(class) => write!(f, "E13 Contradiction class {class}"),
+            Cause::Memory => write!(f, "E23 Memory"),
+            Cause::Held => write!(f, "Held"),
+            Cause::Counts => write!(f, "Counts"),
+        }
+    }
+}
+
+impl Error for Cause {}
 
 impl fmt::Display for Fault {
     ghost use Rattle.dob_node.specs.Causes.{fault_text};
@@ -73,18 +95,6 @@ impl From<dob_share::Fault> for Cause {
         match refused {
             dob_share::Fault::TooDeep => Cause::TooDeep,
             dob_share::Fault::Contradiction(class) => Cause::Contradiction(class),
-        }
-    }
-}
-
-impl From<Cause> for Fault {
-    ghost from_gives = { λ refused given. given ≡ fault_of_cause refused };
-
-    fn from(refused: Cause) -> Fault {
-        match refused {
-            Cause::TooDeep => Fault::TooDeep,
-            Cause::Contradiction(class) => Fault::Contradiction(class),
-            Cause::Memory => Fault::Memory,
         }
     }
 }

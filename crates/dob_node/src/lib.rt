@@ -7,13 +7,13 @@ pub mod laws;
 mod lone;
 mod node;
 mod openings;
+mod outboxes;
 mod taking;
-mod telling;
 
 pub use cause::{Cause, Fault};
 pub use dob_share::Opening;
 pub use lone::alone;
-pub use node::Node;
+pub use node::{MAX_BATCHES, Node, Part};
 pub use openings::opening;
 
 #[cfg(test)]

@@ -1,10 +1,12 @@
 // One node that owns all classes of a piece set, and makes its value table alone.
-ghost use Rattle.std.specs.Prelude.{◌≡◌, ℕ, ◌+◌, ◌<◌, ◌≤◌, ◌↔◌, ◌⊎◌, true, false, All, IfOk, IfSome, OnOk, IsErrOf};
+ghost use Rattle.std.specs.Prelude.{◌≡◌, ℕ, ◌+◌, ◌<◌, ◌≤◌, ◌↔◌, ◌⊎◌, true, false, All, Err, IfOk, IfErr, IfSome, OnOk, IsErrOf};
+ghost use Rattle.dob_pieces.specs.declared.piece_set.PieceSet.{PieceSet as Set};
 ghost use Rattle.dob_rank.specs.Marks.{classes_of};
 ghost use Rattle.dob_value.specs.Codes.{values_of_codes};
 ghost use Rattle.dob_value.specs.Follows.{IsValueTable};
 ghost use Rattle.dob_node.specs.Nodes.{IsSound};
-ghost use Rattle.dob_node.specs.Sole.{HasMade, IsIdle, IsUnderWay, AreValues};
+ghost use Rattle.dob_node.specs.Causes.{IsFaultOf};
+ghost use Rattle.dob_node.specs.Sole.{HasMade, IsDone, IsUnderWay, HasStopped, IsTooDeepWithin, AreValues};
 
 use crate::cause::{Cause, Fault};
 use crate::node::Node;
@@ -18,9 +20,11 @@ use std::alloc::Global;
 /// expansion or one item applied. `None` where the node has something left to do after them.
 ///
 /// Errors: `SetTooLarge` where the set has more than three pieces beside the lions; `TooDeep` where a class came to a
-/// value with a distance above the greatest that is kept; `Contradiction` where an item didn't fit its cell; `Memory`.
+/// value with a distance above the greatest that is kept; `Memory`. An item that doesn't fit its cell never comes.
 pub fn alone(alloc: Global, set: PieceSet, limit: u64) -> Result<Option<Table>, Fault>
     ensures too_large { IsErrOf result Fault.SetTooLarge ↔ (3 < set.chicks + set.elephants + set.giraffes) }
+    ensures too_deep { result ≡ Err Fault.TooDeep → IsTooDeepWithin set limit }
+    ensures fits { (class : ℕ) → ¬ (result ≡ Err (Fault.Contradiction class)) }
     ensures set { IfOk result (λ given. IfSome given (λ table. table.set ≡ set)) }
     ensures table { IfOk result (λ given. IfSome given (λ table. IsValueTable set table.values)) }
     ensures none { result ≡ Ok None → IsUnderWay set limit }
@@ -28,7 +32,10 @@ pub fn alone(alloc: Global, set: PieceSet, limit: u64) -> Result<Option<Table>, 
     let classes = Classes::open(alloc, set)?;
     let openings = opening(alloc, &classes)?;
     let mut node = Node::open(alloc, &openings, set, 0, 1)?;
-    run(&mut node, &classes, limit)?;
+    match run(&mut node, &classes, limit) {
+        Ok(()) => {}
+        Err(why) => return Err(fault_of(why)),
+    }
     if !node.is_idle() {
         return Ok(None);
     }
@@ -36,12 +43,26 @@ pub fn alone(alloc: Global, set: PieceSet, limit: u64) -> Result<Option<Table>, 
     Ok(Some(Table::new(classes, codes)))
 }
 
+// Why there is no table where the node has stopped.
+fn fault_of(why: Cause) -> Fault
+    requires { (set : Set) × (limit : ℕ) × HasStopped set limit why }
+    ensures { IsFaultOf why result }
+{
+    match why {
+        Cause::TooDeep => Fault::TooDeep,
+        Cause::Contradiction(class) => Fault::Contradiction(class),
+        Cause::Memory => Fault::Memory,
+        Cause::Held | Cause::Counts => unreachable!(),
+    }
+}
+
 // One step of the node: the first own item, or where there is none the next expansion. False where it is idle.
 fn step(node: &mut Node, classes: &Classes) -> Result<bool, Cause>
     requires set { classes.now.set ≡ node.old.set }
     requires sound { IsSound node.old }
     ensures set { OnOk result (node.new.set ≡ node.old.set) }
-    ensures idle { result ≡ Ok false → IsIdle node.new × (node.new ≡ node.old) }
+    ensures stopped { IfErr result (λ why. (steps limit : ℕ) → HasMade steps node.old → steps < limit → HasStopped node.old.set limit why) }
+    ensures idle { result ≡ Ok false → IsDone node.new × (node.new ≡ node.old) }
     ensures made { result ≡ Ok true → (steps : ℕ) → HasMade steps node.old → HasMade (steps + 1) node.new }
 {
     if node.apply_own()? {
@@ -55,7 +76,8 @@ fn run(node: &mut Node, classes: &Classes, limit: u64) -> Result<(), Cause>
     requires set { classes.now.set ≡ node.old.set }
     requires opened { HasMade 0 node.old }
     ensures set { OnOk result (node.new.set ≡ node.old.set) }
-    ensures made { OnOk result ((steps : ℕ) × HasMade steps node.new × ((steps ≡ limit) ⊎ IsIdle node.new)) }
+    ensures stopped { IfErr result (λ why. HasStopped node.old.set limit why) }
+    ensures made { OnOk result ((steps : ℕ) × HasMade steps node.new × ((steps ≡ limit) ⊎ IsDone node.new)) }
 {
     for _step in 0..limit {
         if !step(node, classes)? {

@@ -1,22 +1,29 @@
-// A node: the cells of one owner's classes with their history, and the items that it has for itself.
-ghost use Rattle.std.specs.Prelude.{◌≡◌, ℕ, ◌+◌, ◌*◌, ◌/◌, ◌^◌, ◌<◌, ◌≤◌, ◌↔◌, [], ◌++◌, length, true, false, IsTrue, IfOk, OnOk};
+// A node: the cells of one owner's classes with their history, the items that it has for itself, and its outboxes.
+ghost use Rattle.std.specs.Prelude.{◌≡◌, ◌≢◌, ◌⊎◌, ℕ, ◌+◌, ◌*◌, ◌/◌, ◌^◌, ◌<◌, ◌≤◌, ◌↔◌, [], ◌++◌, length, slice_get, true, false, Some, IsTrue, IfOk, IfErr, IfSome, OnOk, OnErr};
+ghost use Rattle.std.specs.List.{All};
 ghost use Rattle.std.specs.VecDeque.{deque_len, deque_capacity};
 ghost use Rattle.dob_share.specs.Openings.{opening_of};
 ghost use Rattle.dob_share.specs.Owners.{owner_of};
+ghost use Rattle.dob_node.specs.declared.cause.Cause.TheVariants as cause;
 ghost use Rattle.dob_node.specs.OpeningLists.{opening_value, opening_settlement, opening_settlements, status_in};
+ghost use Rattle.dob_node.specs.Takes.{HasEntries, StopsAt};
 
 use crate::cause::Cause;
 use crate::history::History;
-use crate::taking::take_item;
-use crate::telling::items_for;
+use crate::outboxes::{add_for_others, are_empty, cut_at, empty_outboxes};
+use crate::taking::{take_item, take_items};
 use dob_moves::Status;
 use dob_pieces::{Memory, PieceSet};
 use dob_rank::Classes;
 use dob_share::{Item, Opening, Settlement, Share};
 use dob_unmove::back;
+use dob_update::{Batch, Outbox, push_items};
 use dob_value::Value;
 use std::alloc::Global;
 use std::collections::VecDeque;
+
+/// How many batches a node may cut for another.
+pub const MAX_BATCHES: u64 = 1 << 40;
 
 /// A node that owns the classes k * n + id of a piece set, one of n.
 #[derive(Drop)]
@@ -29,11 +36,19 @@ pub struct Node {
     history: History,
     expanded: u64,
     own: VecDeque<Item>,
+    outboxes: Vec<Outbox>,
+}
+
+/// What a node has to give when it is done: the values of its own classes, in the order of the classes.
+#[derive(Debug, Drop)]
+pub struct Part {
+    pub id: usize,
+    pub values: Vec<Value>,
 }
 
 impl Node {
     ghost use Rattle.dob_node.specs.Openings.{AreOpenings};
-    ghost use Rattle.dob_node.specs.Nodes.{IsSound, IsOpened, IsExpanded, HasApplied};
+    ghost use Rattle.dob_node.specs.Nodes.{outbox_to, IsSound, IsOpened, IsExpanded, HasApplied, HasRefused, HasTaken, HasCut, IsUnchanged, IsIdle, AreValuesNow};
     ghost use Rattle.dob_share.specs.Shares.{IsOwn, HasValueNow};
 
     /// The node of owner `id`, one of `n`, at most 16, before its first step. Its history has a settlement for each own
@@ -58,6 +73,7 @@ impl Node {
         }
         let share = Share::open(alloc, openings, id, n)?;
         let history = opening_history(alloc, openings, share.places(), id, n)?;
+        let outboxes = empty_outboxes(alloc, set, n, id)?;
         Ok(Node {
             alloc,
             set,
@@ -67,19 +83,21 @@ impl Node {
             history,
             expanded: 0,
             own: VecDeque::new(alloc),
+            outboxes,
         })
     }
 
-    /// Expands the first settlement of the history that isn't: its items for the own classes are to be applied. False
-    /// where there is none.
+    /// Expands the first settlement of the history that isn't: its items for the own classes are to be applied, those for
+    /// other nodes' classes are to be sent. False where there is none.
     ///
-    /// Error: `Memory`, which leaves the node as it was.
+    /// Error: `Memory`, after which the node is of no use.
     pub fn expand(&mut self, classes: &Classes) -> Result<bool, Cause>
         requires set { classes.now.set ≡ self.old.set }
         requires sound { IsSound self.old }
         ensures done { (result ≡ Ok false) ↔ (self.old.expanded ≡ length self.old.history.settlements) }
         ensures nothing { result ≡ Ok false → self.new ≡ self.old }
         ensures expanded { result ≡ Ok true → IsExpanded self.old self.new }
+        ensures memory { IfErr result (λ why. why ≡ cause.Memory) }
         ensures sound { OnOk result (IsSound self.new) }
     {
         if self.expanded == self.history.len() {
@@ -87,11 +105,26 @@ impl Node {
         }
         let settlement = self.history.get(self.expanded);
         let targets = back(self.alloc, classes, settlement.class)?;
-        let items = items_for(self.alloc, settlement, &targets, self.n, self.id)?;
+        let mut items = Vec::new(self.alloc);
+        push_items(&mut items, settlement, &targets, self.n, self.id)?;
         self.own.reserve(items.len())?;
+        add_for_others(
+            self.alloc,
+            &mut self.outboxes,
+            settlement,
+            &targets,
+            self.id,
+        )?;
         push_all(&mut self.own, &items);
         self.expanded += 1;
         Ok(true)
+    }
+
+    /// The first of the own items, where there is one.
+    pub fn first_own(&self) -> Option<Item>
+        ensures { result ≡ slice_get self.now.own.items 0 }
+    {
+        self.own.front().copied()
     }
 
     /// Applies the first of the own items. False where there is none.
@@ -103,6 +136,7 @@ impl Node {
         ensures done { (result ≡ Ok false) ↔ (self.old.own.items ≡ []) }
         ensures nothing { result ≡ Ok false → self.new ≡ self.old }
         ensures applied { result ≡ Ok true → HasApplied self.old self.new }
+        ensures stopped { IfErr result (λ why. HasRefused self.old why) }
         ensures sound { OnOk result (IsSound self.new) }
     {
         if self.own.is_empty() {
@@ -114,11 +148,79 @@ impl Node {
         Ok(true)
     }
 
-    /// Whether it has nothing to expand or to apply.
-    pub fn is_idle(&self) -> bool
-        ensures { IsTrue result ↔ ((self.now.expanded ≡ length self.now.history.settlements) × (self.now.own.items ≡ [])) }
+    /// Applies the items of a batch of the node's piece set and number of nodes that is for it, in order.
+    ///
+    /// Errors, after which the node is of no use: `Contradiction` where an item, once those before it are applied, doesn't
+    /// fit its class's cell; `TooDeep` where it fits and its class's value would be too deep; `Memory`.
+    pub fn apply_batch(&mut self, batch: &Batch) -> Result<(), Cause>
+        requires sound { IsSound self.old }
+        requires set { batch.now.set ≡ self.old.set }
+        requires n { batch.now.n ≡ self.old.n }
+        requires to { batch.now.to ≡ self.old.id }
+        requires entries { All HasEntries batch.now.items }
+        ensures taken { OnOk result (HasTaken batch.now.items self.old self.new) }
+        ensures stopped { IfErr result (λ why. StopsAt batch.now.items self.old.share self.old.history why) }
+        ensures sound { OnOk result (IsSound self.new) }
     {
-        self.expanded == self.history.len() && self.own.is_empty()
+        take_items(&mut self.share, &mut self.history, batch.items())?;
+        Ok(())
+    }
+
+    /// Cuts a batch of at most `size` items, from 1 to 4096, of those that the node has to send to the node `to`. `None`
+    /// where it has none.
+    ///
+    /// Errors, which leave the node as it was: `Counts` where something is left to send and 2 to the power of 40 batches
+    /// were cut for that node before; `Memory`.
+    pub fn cut_for(&mut self, to: usize, size: usize) -> Result<Option<Batch>, Cause>
+        requires sound { IsSound self.old }
+        requires to { to < self.old.n }
+        requires some { 0 < size }
+        requires at_most { size ≤ 4096 }
+        ensures none { (result ≡ Ok None) ↔ ((outbox_to self.old to).items ≡ []) }
+        ensures nothing { result ≡ Ok None → self.new ≡ self.old }
+        ensures cut { IfOk result (λ given. IfSome given (λ batch. HasCut to size batch self.old self.new)) }
+        ensures counts { (result ≡ Err cause.Counts) ↔ (((outbox_to self.old to).items ≢ []) × (2 ^ 40 ≤ (outbox_to self.old to).next)) }
+        ensures why { IfErr result (λ why. (why ≡ cause.Counts) ⊎ (why ≡ cause.Memory)) }
+        ensures refused { OnErr result (IsUnchanged self.old self.new) }
+        ensures sound { IsSound self.new }
+    {
+        if self.outboxes[to].is_empty() {
+            return Ok(None);
+        }
+        if self.outboxes[to].cut_count() >= MAX_BATCHES {
+            return Err(Cause::Counts);
+        }
+        let batch = cut_at(&mut self.outboxes, to, size)?;
+        Ok(batch)
+    }
+
+    /// Whether it has nothing to expand, to apply or to send.
+    pub fn is_idle(&self) -> bool
+        ensures { IsTrue result ↔ IsIdle self.now }
+    {
+        if self.expanded != self.history.len() {
+            return false;
+        }
+        if !self.own.is_empty() {
+            return false;
+        }
+        are_empty(&self.outboxes)
+    }
+
+    /// How many settlements its history has.
+    pub fn settled(&self) -> u64
+        ensures count { result ≡ length self.now.history.settlements }
+        ensures bound { result ≤ 2 ^ 56 }
+    {
+        self.history.len()
+    }
+
+    /// The settlement of that number of its history.
+    pub fn settlement(&self, number: u64) -> Settlement
+        requires { number < length self.now.history.settlements }
+        ensures { slice_get self.now.history.settlements number ≡ Some result }
+    {
+        self.history.get(number)
     }
 
     /// The present value of an own class.
@@ -127,6 +229,35 @@ impl Node {
         ensures { HasValueNow self.now.share class result }
     {
         self.share.value(class)
+    }
+
+    /// The values of the own classes. All else of the node is gone.
+    ///
+    /// Error: `Memory`, which gives the node up.
+    pub fn into_part(self) -> Result<Part, Memory>
+        requires { IsSound self }
+        ensures id { IfOk result (λ part. part.id ≡ self.id) }
+        ensures values { IfOk result (λ part. AreValuesNow self.share part.values.items) }
+    {
+        let values = self.own_values()?;
+        Ok(Part {
+            id: self.id,
+            values,
+        })
+    }
+
+    // The values of the own classes.
+    fn own_values(&self) -> Result<Vec<Value>, Memory>
+        requires { IsSound self.now }
+        ensures { IfOk result (λ values. AreValuesNow self.now.share values.items) }
+    {
+        let places = self.share.places();
+        let mut values = Vec::with_capacity(self.alloc, places as usize)?;
+        for place in 0..places {
+            let class = place * self.n as u64 + self.id as u64;
+            values.push(self.share.value(class))?;
+        }
+        Ok(values)
     }
 }
 

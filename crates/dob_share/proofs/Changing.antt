@@ -38,6 +38,7 @@ pub refused : (to : ℕ) (was now : Value) (cell : Cell) (slot : Slot) → (Take
 refused to was now cell slot misfit = record {
   misfit = (λ _. misfit, λ _. refl);
   deep = (λ e. absurd (cc), λ both. absurd (misfit both.0));
+  named = λ class e. (cc);
   fits = λ next e. absurd (cc);
   made = λ next e. absurd (cc);
 }
@@ -47,6 +48,7 @@ pub goes_deep : (to : ℕ) (was now : Value) (cell : Cell) (slot : Slot) → Tak
 goes_deep to was now cell slot takes deep = record {
   misfit = (λ e. absurd (cc), λ misfit. absurd (misfit takes));
   deep = (λ _. (takes, deep), λ _. refl);
+  named = λ class e. absurd (cc);
   fits = λ next e. absurd (cc);
   made = λ next e. absurd (cc);
 }
@@ -57,6 +59,7 @@ pub stepped : (to : ℕ) (was now : Value) (cell : Cell) (slot next : Slot) → 
 stepped to was now cell slot next takes short start status left least = record {
   misfit = (λ e. absurd (cc), λ misfit. absurd (misfit takes));
   deep = (λ e. absurd (cc), λ both. absurd (not_too_deep (changed was now cell) short both.1));
+  named = λ class e. absurd (cc);
   fits = λ other e. (takes, short);
   made = λ other e. (let same : next ≡ other = cc in
       subst (λ s. (s.start ≡ slot.start) × (s.status ≡ slot.status) × (s.left ≡ (changed was now cell).left) × (least_of s.win ≡ (changed was now cell).least))

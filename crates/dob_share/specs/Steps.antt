@@ -17,6 +17,7 @@ IsTooDeep cell = (value : Value) × CellValue cell value × ¬ IsShort value
 pub record IsStep (to : ℕ) (was now : Value) (cell : Cell) (slot : Slot) (result : Result Slot Fault) : Type 0 where
   pub misfit : (result ≡ Err (Contradiction to)) ↔ (¬ Takes was now cell)
   pub deep : (result ≡ Err TooDeep) ↔ (Takes was now cell × IsTooDeep (changed was now cell))
+  pub named : (class : ℕ) → result ≡ Err (Contradiction class) → class ≡ to
   pub fits : (next : Slot) → result ≡ Ok next → Takes was now cell × IsShortCell (changed was now cell)
   pub made : (next : Slot) → result ≡ Ok next → (next.start ≡ slot.start) × (next.status ≡ slot.status)
       × (next.left ≡ (changed was now cell).left) × (least_of next.win ≡ (changed was now cell).least)

@@ -107,6 +107,7 @@ impl Share {
         requires numbers { self.old.settled < 2 ^ 63 }
         ensures contradiction { (result ≡ Err (fault.Contradiction item.to)) ↔ (¬ Fits self.old item) }
         ensures too_deep { (result ≡ Err fault.TooDeep) ↔ (Fits self.old item × GoesTooDeep self.old item) }
+        ensures named { (class : ℕ) → result ≡ Err (fault.Contradiction class) → class ≡ item.to }
         ensures refused { OnErr result (self.new ≡ self.old) }
         ensures classes { SameClasses self.old self.new }
         ensures cell { OnOk result (SameCell (cell_at self.new item.to) (changed item.was item.now (cell_at self.old item.to))) }

@@ -49,6 +49,7 @@ pub(crate) fn apply_at(
     requires within { run.start + run.room ≤ length pool.old }
     ensures misfit { (result ≡ Err (fault.Contradiction to)) ↔ (¬ Takes was now (cell_in slots.old pool.old place)) }
     ensures deep { (result ≡ Err fault.TooDeep) ↔ (Takes was now (cell_in slots.old pool.old place) × IsTooDeep (changed was now (cell_in slots.old pool.old place))) }
+    ensures named { (class : ℕ) → result ≡ Err (fault.Contradiction class) → class ≡ to }
     ensures refused { OnErr result ((slots.new ≡ slots.old) × (pool.new ≡ pool.old)) }
     ensures pooled { ArePooled slots.new pool.new }
     ensures places { length slots.new ≡ length slots.old }

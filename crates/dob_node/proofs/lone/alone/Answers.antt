@@ -7,7 +7,11 @@ use Rattle.dob_node.specs.Openings.{AreOpenings}
 use Rattle.dob_node.specs.Nodes.{IsOpened}
 use Rattle.dob_node.proofs.SoleOpens.{made_none}
 use Rattle.dob_node.proofs.SoleEnds.{under_way, sole_right}
+use Rattle.dob_node.proofs.SoleStops.{done_idle, idle_done}
 use Rattle.dob_node.proofs.lone.alone.Goals as goal
+
+pub fault_of-requires : goal.fault_of-requires
+fault_of-requires c = (c.in_ok-node.node.set, c.args.limit, c.in-Err.ensures.stopped)
 
 pub run-requires-clause-opened : goal.run-requires-clause-opened
 run-requires-clause-opened c =
@@ -17,15 +21,15 @@ run-requires-clause-opened c =
 
 pub returns-then-not-is_idle-clause-none : goal.returns-then-not-is_idle-clause-none
 returns-then-not-is_idle-clause-none c = λ is.
-    let made = c.in_ok-run.ensures.made in
-    under_way c.run.new.node c.args.set c.args.limit made.0 (c.in_ok-run.ensures.set ∙ c.in_ok-node.ensures.opened.of.0) made.1 made.2
-    (λ idle. let both = sym (c.is_idle.ensures.1 idle) ∙ c.if-not-is_idle.true in cc)
+    let made = c.in-Ok.ensures.made in
+    under_way c.run.new.node c.args.set c.args.limit made.0 (c.in-Ok.ensures.set ∙ c.in_ok-node.ensures.opened.of.0) made.1 made.2
+    (λ done. let both = sym (c.is_idle.ensures.1 (done_idle c.run.new.node made.0 made.1 done)) ∙ c.if-not-is_idle.true in cc)
 
 pub returns-clause-table : goal.returns-clause-table
 returns-clause-table c =
-    let made = c.in_ok-run.ensures.made in
+    let made = c.in-Ok.ensures.made in
     subst (λ (table : ClassTable). IsValueTable c.args.set table.values) (sym c.new.ensures)
     (sole_right c.run.new.node c.args.set made.0 c.class_count.result c.in_ok-openings.openings.items (values_of_codes c.in_ok-codes.codes.items)
-    (c.in_ok-run.ensures.set ∙ c.in_ok-node.ensures.opened.of.0) made.1 (c.is_idle.ensures.0 c.if-not-is_idle.false)
+    (c.in-Ok.ensures.set ∙ c.in_ok-node.ensures.opened.of.0) made.1 (idle_done c.run.new.node (c.is_idle.ensures.0 c.if-not-is_idle.false))
     (subst (λ set. AreOpenings set c.in_ok-openings.openings.items) c.in_ok-classes.ensures.set c.in_ok-openings.ensures) c.in_ok-codes.ensures.values
     (c.class_count.ensures.number ∙ ap (λ set. classes_of set) c.in_ok-classes.ensures.set))

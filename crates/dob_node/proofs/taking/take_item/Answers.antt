@@ -53,6 +53,7 @@ returns-in_ok-push-clause-taken c =
     let out = c.in_ok-given.ensures in
     record {
       fits = sure_fits c.args.share.now c.args.item (λ no. let is = out.contradiction.1 no in cc);
+      classes = out.classes;
       cell = out.cell;
       others = out.others;
       statuses = out.classes.statuses;
@@ -75,6 +76,7 @@ returns-in_default-clause-taken c =
     let out = c.in_ok-given.ensures in
     record {
       fits = sure_fits c.args.share.now c.args.item (λ no. let is = out.contradiction.1 no in cc);
+      classes = out.classes;
       cell = out.cell;
       others = out.others;
       statuses = out.classes.statuses;

@@ -1,19 +1,42 @@
 -- One more settlement is told, and its items have its values.
-use Rattle.std.proofs.Common.{◌==◌, ap, ◌∙◌, ◌++◌}
+use Rattle.std.proofs.Common.{◌==◌, ℕ, ap, ◌∙◌, ◌++◌, sym, subst}
 use Rattle.std.specs.List.{filter}
+use Rattle.dob_unmove.specs.Edges.{predecessors}
 use Rattle.dob_share.specs.Owners.{owner_of}
+use Rattle.dob_update.specs.Items.{items_of}
+use Rattle.dob_node.specs.Outboxes.{IsOutboxTo, outbox_in}
 use Rattle.dob_node.proofs.Sounds.{next_told, entries_more}
+use Rattle.dob_node.proofs.Sends.{ready_added}
 use Rattle.dob_node.proofs.node.Node.expand.Goals as goal
+
+pub add_for_others-requires : goal.add_for_others-requires
+add_for_others-requires c =
+    let node = c.args.self.now in
+    record {
+      addressed = (
+        node.set,
+        c.deref-2.ensures.value ∙ c.in_ok-targets.ensures.list ∙ ap (λ st. predecessors st c.get-settlement.result.class) c.requires.set,
+        λ to. subst (λ (m : ℕ). IsOutboxTo node.set m node.id to (outbox_in node.set m node.id node.outboxes.items to)) (sym c.requires.sound.receivers)
+            (c.requires.sound.addressed to),
+      );
+    }
 
 pub returns-clause-sound : goal.returns-clause-sound
 returns-clause-sound c =
     let node = c.args.self.now in
+    let sound = c.requires.sound in
     let s = c.get-settlement.result in
+    let ready = ready_added node.set c.deref-2.result.now s node.n node.id node.outboxes.items c.add_for_others.new.outboxes.items
+    c.get-settlement.ensures.was c.get-settlement.ensures.now c.in_ok-add_for_others.ensures
+    (record { receivers = sound.receivers; addressed = sound.addressed; nothing_to_self = sound.nothing_to_self }) in
     record {
-      kept = c.requires.sound.kept;
-      told = next_told node.expanded _ _ c.requires.sound.told c.len.ensures.count c.if-self-len.false;
-      entries = entries_more s node.own.items c.push_all.new.queue.items c.in_ok-items.items.items
+      kept = sound.kept;
+      told = next_told node.expanded _ _ sound.told c.len.ensures.count c.if-self-len.false;
+      entries = entries_more s node.own.items c.push_all.new.queue.items c.push_items.new.items.items
           (filter (λ to. owner_of node.n to == node.id) c.deref.result.now) c.get-settlement.ensures.was c.get-settlement.ensures.now
-          c.requires.sound.entries c.in_ok-items.ensures
-          (c.push_all.ensures ∙ ap (λ xs. xs ++ c.deref-2.result.now) c.reserve.ensures.items ∙ ap (λ xs. node.own.items ++ xs) c.deref-2.ensures.value);
+          sound.entries (c.in_ok-push_items.ensures ∙ ap (λ xs. xs ++ items_of (λ _. c.deref.result.now) node.n node.id s) c.new-items.ensures.items)
+          (c.push_all.ensures ∙ ap (λ xs. xs ++ c.deref-3.result.now) c.reserve.ensures.items ∙ ap (λ xs. node.own.items ++ xs) c.deref-3.ensures.value);
+      receivers = ready.receivers;
+      addressed = ready.addressed;
+      nothing_to_self = ready.nothing_to_self;
     }

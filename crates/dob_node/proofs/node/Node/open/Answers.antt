@@ -2,10 +2,12 @@
 use Rattle.std.proofs.Common.{◌≡◌, ◌<◌, ℕ, refl, ap, ◌∙◌, sym, subst, arith}
 use Rattle.std.specs.List.{All}
 use Rattle.std.proofs.lemmas.List.Elements.{All-nil}
+use Rattle.dob_update.specs.Batches.{OutboxView}
 use Rattle.dob_node.specs.Stores.{HistoryView}
 use Rattle.dob_node.specs.OpeningLists.{opening_settlements, status_in}
 use Rattle.dob_node.specs.Takes.{HasEntries}
 use Rattle.dob_node.proofs.Opens.{places_are, opened_kept}
+use Rattle.dob_node.proofs.Sends.{addressed_empty}
 use Rattle.dob_node.proofs.node.Node.open.Goals as goal
 
 pub opening_history-requires-clause-places : goal.opening_history-requires-clause-places
@@ -25,6 +27,7 @@ returns-clause-opened c =
       statuses = out.statuses;
       cells = out.cells;
       nothing = (refl, c.new.ensures.items);
+      outboxes = c.in_ok-outboxes.ensures.empty;
     }
 
 pub returns-clause-sound : goal.returns-clause-sound
@@ -37,4 +40,7 @@ returns-clause-sound c =
           c.places.ensures c.in_ok-history.ensures);
       told = omega arith;
       entries = subst (λ xs. All HasEntries xs) (sym c.new.ensures.items) (All-nil HasEntries);
+      receivers = c.in_ok-outboxes.ensures.whole;
+      addressed = addressed_empty c.args.set c.args.n c.args.id c.in_ok-outboxes.outboxes.items c.in_ok-outboxes.ensures.empty;
+      nothing_to_self = ap (λ (o : OutboxView). o.items) (c.in_ok-outboxes.ensures.empty c.args.id);
     }

@@ -1,0 +1,66 @@
+-- The values of a node's own classes, by their places.
+use Rattle.std.proofs.Common.{◌≡◌, ℕ, ◌+◌, ◌*◌, ◌^◌, ◌<◌, ◌≤◌, inl, inr, refl, sym, ap, ◌∙◌, subst, arith, List, [], ◌∷◌, ◌++◌, length, Some, slice_get}
+use Rattle.std.proofs.lemmas.List.{length-append}
+use Rattle.std.proofs.lemmas.Nat.{mod-mul-add, div-mul-add}
+use Rattle.std.proofs.lemmas.Option.{slice_get_within}
+use Rattle.dob_pieces.specs.declared.piece_set.PieceSet.{PieceSet}
+use Rattle.dob_rank.specs.Marks.{classes_of}
+use Rattle.dob_value.specs.declared.value.Value.{Value}
+use Rattle.dob_share.specs.declared.share.Share.{Share}
+use Rattle.dob_share.specs.Owners.{class_of_place}
+use Rattle.dob_share.specs.Shares.{places_of, IsOwn, HasValueNow}
+use Rattle.dob_node.specs.Stores.{HistoryView}
+use Rattle.dob_node.specs.Takes.{AreKept}
+use Rattle.dob_node.proofs.Starts.{slice_get_pushed}
+
+module _ (set : PieceSet) (n id : ℕ) (share : Share) (history : HistoryView) (kept : AreKept set n id share history) (place : ℕ)
+    (low : place < places_of share) where
+  own_by_share : place < length share.slots → IsOwn share (place * share.n + share.id)
+  unfolding IsOwn
+  own_by_share less = (
+    mod-mul-add place share.n share.id small,
+    subst (λ (k : ℕ). k < length share.slots) (sym (div-mul-add place share.n share.id small)) less,
+  )
+    where
+      small : share.id < share.n
+      small = subst (λ (k : ℕ). k < share.n) (sym kept.share_is.1) (subst (λ (m : ℕ). id < m) (sym kept.share_is.0) kept.one_of_n)
+
+  slots_low : place < length share.slots
+  unfolding places_of
+  slots_low = low
+
+  -- the class at a place is the node's own
+  pub own_at : IsOwn share (place * n + id)
+  own_at = subst (λ (m : ℕ). IsOwn share (place * m + id)) kept.share_is.0
+      (subst (λ (k : ℕ). IsOwn share (place * share.n + k)) kept.share_is.1 (own_by_share slots_low))
+
+  pub class_at_low : place * n + id < 2 ^ 32
+  class_at_low =
+      let below : place * n + id < classes_of set = ((kept.owned (place * n + id)).0 own_at).1 in
+      let few : classes_of set ≤ 2 ^ 32 = kept.few in
+      omega arith
+
+-- the values of the classes at the places so far
+pub record AreValuesBelow (share : Share) (upto : ℕ) (values : List Value) : Type 0 where
+  pub whole : length values ≡ upto
+  pub each : (place : ℕ) (value : Value) → slice_get values place ≡ Some value → HasValueNow share (class_of_place share.n share.id place) value
+
+pub values_none : (share : Share) → AreValuesBelow share 0 []
+values_none share = record {
+  whole = refl;
+  each = λ place value there. let none : place < 0 = slice_get_within [] place value there in absurd (omega arith);
+}
+
+pub values_more : (set : PieceSet) (n id : ℕ) (share : Share) (history : HistoryView) (upto : ℕ) (values new : List Value) (value : Value) →
+    AreKept set n id share history → AreValuesBelow share upto values → new ≡ values ++ value ∷ [] → HasValueNow share (upto * n + id) value →
+    AreValuesBelow share (upto + 1) new
+values_more set n id share history upto values new value kept before is has = subst (λ xs. AreValuesBelow share (upto + 1) xs) (sym is) (record {
+  whole = length-append values (value ∷ []) ∙ ap (λ (k : ℕ). k + 1) before.whole;
+  each = λ place other there. elim (slice_get_pushed values value other place there) [
+    | inl earlier ↦ before.each place other earlier
+    | inr last ↦ subst (λ v. HasValueNow share (class_of_place share.n share.id place) v) last.1
+        (subst (λ (k : ℕ). HasValueNow share (class_of_place share.n share.id k) value) (sym (last.0 ∙ before.whole))
+        (subst (λ (m : ℕ). HasValueNow share (upto * m + share.id) value) (sym kept.share_is.0)
+        (subst (λ (k : ℕ). HasValueNow share (upto * n + k) value) (sym kept.share_is.1) has)))
+  ];
+})

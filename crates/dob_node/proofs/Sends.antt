@@ -1,0 +1,226 @@
+-- The outboxes of a node: empty ones, and what one settlement more adds to them.
+use Rattle.std.proofs.Common.{◌≡◌, ◌≢◌, ℕ, ◌+◌, ◌<◌, inl, inr, refl, sym, ap, ◌∙◌, subst, arith, List, [], ◌∷◌, ◌++◌, length, get_or, set, drop, ◌==◌, Option, None, Some}
+use Rattle.std.specs.Prelude.{IfSome, IsNone}
+use Rattle.std.specs.List.{All, filter}
+use Rattle.std.proofs.Math.ListN.{get_or-eq_default}
+use Rattle.std.proofs.Math.Seq.{drop-nil}
+use Rattle.std.proofs.lemmas.Bool.{cases_order, cases_lt}
+use Rattle.std.proofs.lemmas.List.{length-append, length-set, get_or-set_same, get_or-set_other, get_or_append_left, get_or_push, get_or_default}
+use Rattle.std.proofs.lemmas.List.Elements.{All-append, All-nil, All-drop, All-take}
+use Rattle.dob_pieces.specs.declared.piece_set.PieceSet.{PieceSet}
+use Rattle.dob_value.specs.Follows.{IsEntry}
+use Rattle.dob_unmove.specs.Edges.{predecessors}
+use Rattle.dob_share.specs.declared.news.Settlement.{Settlement}
+use Rattle.dob_share.specs.declared.news.Item.{Item}
+use Rattle.dob_share.specs.Owners.{owner_of}
+use Rattle.dob_update.specs.Items.{items_of}
+use Rattle.dob_update.specs.Batches.{BatchView, OutboxView, empty_outbox, added, IsCut}
+use Rattle.dob_node.specs.Takes.{HasEntries}
+use Rattle.dob_node.specs.Outboxes.{outbox_in, IsOutboxTo, AreAdded, IsCutFrom}
+use Rattle.dob_node.proofs.Sounds.{entries_of}
+
+-- ---- empty ones
+
+pub empties_more : (set : PieceSet) (n from k : ℕ) (xs new : List OutboxView) → length xs ≡ k →
+    ((to : ℕ) → outbox_in set n from xs to ≡ empty_outbox set n from to) → new ≡ xs ++ empty_outbox set n from k ∷ [] →
+    (to : ℕ) → outbox_in set n from new to ≡ empty_outbox set n from to
+empties_more set n from k xs new count empty is to = ap (λ ys. get_or ys to (empty_outbox set n from to)) is ∙ elim (cases_order to k) [
+  | inl same ↦ get_or_push xs (empty_outbox set n from k) (empty_outbox set n from to) to (count ∙ sym same)
+      ∙ ap (λ j. empty_outbox set n from j) (sym same)
+  | inr order ↦ elim order [
+    | inl less ↦ get_or_append_left xs (empty_outbox set n from k ∷ []) (empty_outbox set n from to) to (omega arith) ∙ empty to
+    | inr more ↦ get_or-eq_default (xs ++ empty_outbox set n from k ∷ []) (empty_outbox set n from to)
+        (let sum : length (xs ++ empty_outbox set n from k ∷ []) ≡ length xs + 1 = length-append xs (empty_outbox set n from k ∷ []) in omega arith)
+  ]
+]
+
+-- ---- one settlement more
+
+module _ (targets : List ℕ) (settlement : Settlement) (n from k : ℕ) (old mid : List OutboxView)
+    (so_far : AreAdded targets settlement n from k old mid) where
+  -- the node's own outbox is left out
+  pub added_own : k ≡ from → AreAdded targets settlement n from (k + 1) old mid
+  added_own own = record {
+    whole = so_far.whole;
+    sent = λ to default low other. so_far.sent to default (omega arith) other;
+    unsent = so_far.unsent;
+    later = λ to default high. so_far.later to default (omega arith);
+  }
+
+  pub added_one : (any : OutboxView) (new : List OutboxView) → k ≢ from → k < length old →
+      ((default : OutboxView) → new ≡ set mid k (added (get_or mid k default) settlement (items_of (λ _. targets) n k settlement))) →
+      AreAdded targets settlement n from (k + 1) old new
+  added_one any new other low is = record {
+    whole = ap length (is any) ∙ length-set mid k (more any) ∙ so_far.whole;
+    sent = λ to default below apart. elim (cases_order to k) [
+      | inl same ↦ subst (λ (j : ℕ). get_or new j default ≡ added (get_or old j default) settlement (items_of (λ _. targets) n j settlement)) (sym same)
+          (ap (λ xs. get_or xs k default) (is default) ∙ get_or-set_same mid k (more default) default (subst (λ (m : ℕ). k < m) (sym so_far.whole) low)
+          ∙ ap (λ (o : OutboxView). added o settlement (items_of (λ _. targets) n k settlement)) (so_far.later k default (omega arith)))
+      | inr order ↦ elim order [
+        | inl less ↦ elsewhere to default (λ same. omega arith) ∙ so_far.sent to default less apart
+        | inr more ↦ absurd (omega arith)
+      ]
+    ];
+    unsent = λ default. elsewhere from default (λ same. other (sym same)) ∙ so_far.unsent default;
+    later = λ to default high. elsewhere to default (λ same. omega arith) ∙ so_far.later to default (omega arith);
+  }
+    where
+      more : OutboxView → OutboxView
+      more default = added (get_or mid k default) settlement (items_of (λ _. targets) n k settlement)
+
+      elsewhere : (to : ℕ) (default : OutboxView) → to ≢ k → get_or new to default ≡ get_or mid to default
+      elsewhere to default apart = ap (λ xs. get_or xs to default) (is default) ∙ get_or-set_other mid k to (more default) default apart
+
+-- none is added yet
+pub added_none : (targets : List ℕ) (settlement : Settlement) (n from : ℕ) (old : List OutboxView) → AreAdded targets settlement n from 0 old old
+added_none targets settlement n from old = record {
+  whole = refl;
+  sent = λ to default low other. absurd (omega arith);
+  unsent = λ default. refl;
+  later = λ to default high. refl;
+}
+
+-- what is asked of the items for an outbox that has nothing of the settlement yet
+pub items_asked : (targets : List ℕ) (settlement : Settlement) (n from k : ℕ) (old mid : List OutboxView) (items : List Item) →
+    AreAdded targets settlement n from k old mid →
+    (set : PieceSet) × (targets ≡ predecessors set settlement.class) × ((to : ℕ) → IsOutboxTo set n from to (outbox_in set n from old to)) →
+    k < length old → items ≡ items_of (λ _. targets) n k settlement → (default : OutboxView) →
+    items ≡ items_of (predecessors (get_or mid k default).set) (get_or mid k default).n (get_or mid k default).to settlement
+items_asked targets settlement n from k old mid items so_far of low are default =
+    subst (λ (o : OutboxView). items ≡ items_of (predecessors o.set) o.n o.to settlement) (sym at_last) (there of.2 of.1)
+  where
+    at_last : get_or mid k default ≡ outbox_in of.0 n from old k
+    at_last = so_far.later k default (omega arith) ∙ get_or_default old k default (empty_outbox of.0 n from k) low
+
+    there : ((to : ℕ) → IsOutboxTo of.0 n from to (outbox_in of.0 n from old to)) → targets ≡ predecessors of.0 settlement.class →
+        let o = outbox_in of.0 n from old k in items ≡ items_of (predecessors o.set) o.n o.to settlement
+    there all same =
+        let o = outbox_in of.0 n from old k in
+        subst (λ (st : PieceSet). items ≡ items_of (predecessors st) o.n o.to settlement) (sym (all k).of.0)
+        (subst (λ (m : ℕ). items ≡ items_of (predecessors of.0) m o.to settlement) (sym (all k).of.1)
+        (subst (λ (j : ℕ). items ≡ items_of (predecessors of.0) n j settlement) (sym (all k).of.3)
+        (subst (λ (ts : List ℕ). items ≡ items_of (λ _. ts) n k settlement) same are)))
+
+-- ---- what the outboxes are for
+
+pub addressed_empty : (set : PieceSet) (n from : ℕ) (xs : List OutboxView) → ((to : ℕ) → outbox_in set n from xs to ≡ empty_outbox set n from to) →
+    (to : ℕ) → IsOutboxTo set n from to (outbox_in set n from xs to)
+addressed_empty set n from xs empty to = subst (λ (o : OutboxView). IsOutboxTo set n from to o) (sym (empty to))
+    (record { of = (refl, refl, refl, refl); entries = All-nil HasEntries })
+
+added_to : (set : PieceSet) (n from to : ℕ) (o : OutboxView) (s : Settlement) (targets : List ℕ) → IsEntry s.was → IsEntry s.now →
+    IsOutboxTo set n from to o → IsOutboxTo set n from to (added o s (items_of (λ _. targets) n to s))
+added_to set n from to o s targets was now is = record {
+  of = is.of;
+  entries = All-append HasEntries o.items _ is.entries (entries_of s was now (filter (λ p. owner_of n p == to) targets));
+}
+
+pub addressed_added : (set : PieceSet) (targets : List ℕ) (s : Settlement) (n from : ℕ) (old new : List OutboxView) → IsEntry s.was → IsEntry s.now →
+    AreAdded targets s n from n old new → ((to : ℕ) → IsOutboxTo set n from to (outbox_in set n from old to)) →
+    (to : ℕ) → IsOutboxTo set n from to (outbox_in set n from new to)
+addressed_added set targets s n from old new was now are all to = elim (cases_order to from) [
+  | inl own ↦ subst (λ (j : ℕ). IsOutboxTo set n from j (outbox_in set n from new j)) (sym own)
+      (subst (λ (o : OutboxView). IsOutboxTo set n from from o) (sym (are.unsent (empty_outbox set n from from))) (all from))
+  | inr order ↦ other (λ same. elim order [ inl less ↦ omega arith | inr more ↦ omega arith ])
+]
+  where
+    other : to ≢ from → IsOutboxTo set n from to (outbox_in set n from new to)
+    other apart = elim (cases_lt to n) [
+      | inl low ↦ subst (λ (o : OutboxView). IsOutboxTo set n from to o) (sym (are.sent to (empty_outbox set n from to) low apart))
+          (added_to set n from to (outbox_in set n from old to) s targets was now (all to))
+      | inr high ↦ subst (λ (o : OutboxView). IsOutboxTo set n from to o) (sym (are.later to (empty_outbox set n from to) high)) (all to)
+    ]
+
+-- ---- what is empty
+
+pub all_empty : (xs : List OutboxView) → All (λ (o : OutboxView). o.items ≡ []) xs → (set : PieceSet) (n from to : ℕ) → (outbox_in set n from xs to).items ≡ []
+all_empty xs all set n from to = elim (cases_lt to (length xs)) [
+  | inl low ↦ all to (empty_outbox set n from to) low
+  | inr high ↦ ap (λ (o : OutboxView). o.items) (get_or-eq_default xs (empty_outbox set n from to) high)
+]
+
+pub empty_all : (xs : List OutboxView) (set : PieceSet) (n from : ℕ) → ((to : ℕ) → (outbox_in set n from xs to).items ≡ []) →
+    All (λ (o : OutboxView). o.items ≡ []) xs
+empty_all xs set n from empty = λ to default low.
+    ap (λ (o : OutboxView). o.items) (get_or_default xs to default (empty_outbox set n from to) low) ∙ empty to
+
+-- ---- a batch cut
+
+pub cut_there : (to size : ℕ) (batch : BatchView) (old new : List OutboxView) (cut : OutboxView) → to < length old →
+    ((default : OutboxView) → IsCut (get_or old to default) size batch cut) → new ≡ set old to cut → IsCutFrom to size batch old new
+cut_there to size batch old new cut low is new_is = record {
+  whole = ap length new_is ∙ length-set old to cut;
+  cut = λ default. subst (λ (o : OutboxView). IsCut (get_or old to default) size batch o)
+      (sym (ap (λ xs. get_or xs to default) new_is ∙ get_or-set_same old to cut default low)) (is default);
+  others = λ other default apart. ap (λ xs. get_or xs other default) new_is ∙ get_or-set_other old to other cut default apart;
+}
+
+-- what is left has the same values, and so has what is cut
+cut_to : (set : PieceSet) (n from to size : ℕ) (batch : BatchView) (old new : OutboxView) → IsCut old size batch new → IsOutboxTo set n from to old →
+    IsOutboxTo set n from to new
+cut_to set n from to size batch old new cut is = record {
+  of = (cut.same_link.0 ∙ is.of.0, cut.same_link.1 ∙ is.of.1, cut.same_link.2 ∙ is.of.2, cut.same_link.3 ∙ is.of.3);
+  entries = subst (λ xs. All HasEntries xs) (sym cut.left) (All-drop HasEntries size old.items is.entries);
+}
+
+pub cut_entries : (set : PieceSet) (n from to size : ℕ) (batch : BatchView) (old new : OutboxView) → IsCut old size batch new → IsOutboxTo set n from to old →
+    All HasEntries batch.items
+cut_entries set n from to size batch old new cut is = subst (λ xs. All HasEntries xs) (sym cut.items) (All-take HasEntries size old.items is.entries)
+
+-- the batch is of the same link
+pub cut_of : (set : PieceSet) (n from to size : ℕ) (batch : BatchView) (old new : OutboxView) → IsCut old size batch new → IsOutboxTo set n from to old →
+    (batch.set ≡ set) × (batch.n ≡ n) × (batch.from ≡ from) × (batch.to ≡ to)
+cut_of set n from to size batch old new cut is = (
+  cut.of_link.0 ∙ is.of.0,
+  cut.of_link.1 ∙ is.of.1,
+  cut.of_link.2 ∙ is.of.2,
+  cut.of_link.3 ∙ is.of.3,
+)
+
+pub addressed_cut : (set : PieceSet) (n from to size : ℕ) (batch : BatchView) (old new : List OutboxView) → IsCutFrom to size batch old new →
+    ((k : ℕ) → IsOutboxTo set n from k (outbox_in set n from old k)) → (k : ℕ) → IsOutboxTo set n from k (outbox_in set n from new k)
+addressed_cut set n from to size batch old new cut all k = elim (cases_order k to) [
+  | inl same ↦ subst (λ (j : ℕ). IsOutboxTo set n from j (outbox_in set n from new j)) (sym same)
+      (cut_to set n from to size batch (outbox_in set n from old to) (outbox_in set n from new to) (cut.cut (empty_outbox set n from to)) (all to))
+  | inr order ↦ other (λ same. elim order [ inl less ↦ omega arith | inr more ↦ omega arith ])
+]
+  where
+    other : k ≢ to → IsOutboxTo set n from k (outbox_in set n from new k)
+    other apart = subst (λ (o : OutboxView). IsOutboxTo set n from k o) (sym (cut.others k (empty_outbox set n from k) apart)) (all k)
+
+drop_none : (size : ℕ) (xs : List Item) → xs ≡ [] → drop size xs ≡ []
+drop_none size xs none = ap (λ (ys : List Item). drop size ys) none ∙ drop-nil size
+
+pub nothing_cut : (set : PieceSet) (n from own to size : ℕ) (batch : BatchView) (old new : List OutboxView) → IsCutFrom to size batch old new →
+    (outbox_in set n from old own).items ≡ [] → (outbox_in set n from new own).items ≡ []
+nothing_cut set n from own to size batch old new cut none = elim (cases_order own to) [
+  | inl same ↦ subst (λ (j : ℕ). (outbox_in set n from new j).items ≡ []) (sym same)
+      ((cut.cut (empty_outbox set n from to)).left ∙ drop_none size (outbox_in set n from old to).items
+      (subst (λ (j : ℕ). (outbox_in set n from old j).items ≡ []) same none))
+  | inr order ↦ ap (λ (o : OutboxView). o.items) (cut.others own (empty_outbox set n from own) (λ same. elim order [ inl less ↦ omega arith | inr more ↦ omega arith ])) ∙ none
+]
+
+-- ---- all of them
+
+-- an outbox for each of n nodes, and nothing in that for the node itself
+pub record AreReady (set : PieceSet) (n from : ℕ) (outboxes : List OutboxView) : Type 0 where
+  pub receivers : length outboxes ≡ n
+  pub addressed : (to : ℕ) → IsOutboxTo set n from to (outbox_in set n from outboxes to)
+  pub nothing_to_self : (outbox_in set n from outboxes from).items ≡ []
+
+pub ready_added : (set : PieceSet) (targets : List ℕ) (s : Settlement) (n from : ℕ) (old new : List OutboxView) → IsEntry s.was → IsEntry s.now →
+    AreAdded targets s (length old) from (length old) old new → AreReady set n from old → AreReady set n from new
+ready_added set targets s n from old new was now are ready = record {
+  receivers = are.whole ∙ ready.receivers;
+  addressed = addressed_added set targets s n from old new was now (subst (λ (m : ℕ). AreAdded targets s m from m old new) ready.receivers are) ready.addressed;
+  nothing_to_self = ap (λ (o : OutboxView). o.items) (are.unsent (empty_outbox set n from from)) ∙ ready.nothing_to_self;
+}
+
+pub ready_cut : (set : PieceSet) (n from to size : ℕ) (given : Option BatchView) (old new : List OutboxView) →
+    IfSome given (λ batch. IsCutFrom to size batch old new) → (IsNone given → new ≡ old) → AreReady set n from old → AreReady set n from new
+ready_cut set n from to size None old new cut nothing ready = subst (λ xs. AreReady set n from xs) (sym (nothing refl)) ready
+ready_cut set n from to size (Some batch) old new cut nothing ready = record {
+  receivers = cut.whole ∙ ready.receivers;
+  addressed = addressed_cut set n from to size batch old new cut ready.addressed;
+  nothing_to_self = nothing_cut set n from from to size batch old new cut ready.nothing_to_self;
+}

@@ -1,0 +1,129 @@
+-- One node that owns all classes: where it stops, and when it has nothing left to do.
+use Rattle.std.proofs.Common.{◌≡◌, ℕ, ◌<◌, ◌%◌, lit<, inl, inr, sym, ap, ◌∙◌, subst, arith, List, [], ◌∷◌, ◌++◌, length, drop}
+use Rattle.std.proofs.Math.ListN.{get_or-eq_default}
+use Rattle.std.proofs.lemmas.Bool.{cases_eq}
+use Rattle.dob_moves.specs.declared.outlook.Status.TheVariants.{Open}
+use Rattle.dob_moves.proofs.Cases.{one_status}
+use Rattle.dob_rank.specs.Marks.{classes_of}
+use Rattle.dob_rank.specs.ClassRows.{class_setup}
+use Rattle.dob_pieces.specs.declared.piece_set.PieceSet.{PieceSet}
+use Rattle.dob_share.specs.declared.news.Settlement.{Settlement}
+use Rattle.dob_share.specs.declared.news.Item.{Item}
+use Rattle.dob_share.specs.Cells.{Takes, changed}
+use Rattle.dob_share.specs.Steps.{IsTooDeep}
+use Rattle.dob_share.specs.Shares.{status_at, Fits, GoesTooDeep}
+use Rattle.dob_update.specs.Batches.{OutboxView, empty_outbox}
+use Rattle.dob_node.specs.declared.cause.Cause.{Cause}
+use Rattle.dob_node.specs.declared.cause.Cause.TheVariants as cause
+use Rattle.dob_node.specs.declared.cause.Fault.{Fault}
+use Rattle.dob_node.specs.declared.cause.Fault.TheVariants as fault
+use Rattle.dob_node.specs.declared.node.Node.{Node}
+use Rattle.dob_node.specs.Causes.{IsFaultOf}
+use Rattle.dob_node.specs.Histories.{value_of}
+use Rattle.dob_node.specs.Lawful.{IsNextItem, CanApply}
+use Rattle.dob_node.specs.Nodes.{outbox_to, HasRefused, IsIdle}
+use Rattle.dob_node.specs.Sole.{sole_history, sole_applied, sole_items, cells_below, HasMade, IsDone, IsTooDeepWithin, HasStopped}
+use Rattle.dob_node.proofs.Soles.{cell_below, one_owner}
+use Rattle.dob_node.proofs.SoleSteps.{all_items}
+use Rattle.dob_node.proofs.Steps.{can_apply}
+
+-- ---- the item that it has to apply next
+
+module _ (node : Node) (steps limit : ℕ) (made : HasMade steps node) (low : steps < limit) (item : Item) (behind : List Item)
+    (first : node.own.items ≡ item ∷ behind) where
+  abbrev pub h : List Settlement
+  h = node.history.settlements
+
+  next : IsNextItem node.set 1 (sole_history h) (sole_applied made.0) 0 0 item
+  next = (
+    behind ++ sole_items node.set (drop node.expanded h),
+    all_items node.set h node.expanded made.0 node.own.items made.1.told
+        ∙ ap (λ xs. made.0 ++ (xs ++ sole_items node.set (drop node.expanded h))) first,
+  )
+
+  can : CanApply node.set 1 0 (cells_below (classes_of node.set) node.share) item
+  can = can_apply node.set 1 (sole_history h) (sole_applied made.0) (cells_below (classes_of node.set) node.share) (value_of h) (lit< tt) made.1.lawful 0 0 (lit< tt)
+      (lit< tt) item next
+
+  -- it fits
+  pub next_fits : Fits node.share item
+  unfolding Fits
+  next_fits = (
+    (made.1.sound.kept.owned item.to).1 (
+      subst (λ (m : ℕ). item.to % m ≡ node.id) (sym made.1.alone.0) (one_owner item.to ∙ sym made.1.alone.1),
+      can.below,
+    ),
+    one_status (class_setup node.set item.to) (status_at node.share item.to) Open (made.1.statuses item.to can.below) can.is_open,
+    subst (λ c. Takes item.was item.now c) (cell_below (classes_of node.set) node.share item.to can.below) can.takes,
+  )
+
+  deep_there : GoesTooDeep node.share item → IsTooDeep (changed item.was item.now (cells_below (classes_of node.set) node.share item.to))
+  unfolding GoesTooDeep
+  deep_there deep = subst (λ c. IsTooDeep (changed item.was item.now c)) (sym (cell_below (classes_of node.set) node.share item.to can.below)) deep
+
+  -- it can only go too deep
+  pub deep_within : GoesTooDeep node.share item → IsTooDeepWithin node.set limit
+  deep_within deep = record {
+    history = h;
+    applied = made.0;
+    expanded = node.expanded;
+    cell = cells_below (classes_of node.set) node.share;
+    lawful = made.1.lawful;
+    made = subst (λ (k : ℕ). k < limit) (sym made.2) low;
+    item = item;
+    next = (behind, made.1.told ∙ ap (λ xs. made.0 ++ xs) first);
+    fits = can.takes;
+    deep = deep_there deep;
+  }
+
+pub stopped_sole : (node : Node) (steps limit : ℕ) (why : Cause) → HasMade steps node → steps < limit → HasRefused node why → HasStopped node.set limit why
+stopped_sole node steps limit cause.TooDeep made low refused = deep_within node steps limit made low refused.item refused.behind refused.first refused.refused.1
+stopped_sole node steps limit (cause.Contradiction class) made low refused =
+    refused.refused.1 (next_fits node steps limit made low refused.item refused.behind refused.first)
+stopped_sole node steps limit cause.Memory made low refused = tt
+stopped_sole node steps limit cause.Held made low refused = refused.refused
+stopped_sole node steps limit cause.Counts made low refused = refused.refused
+
+-- ---- why there is no table
+
+pub fault_deep : (why : Cause) (given : Fault) (set : PieceSet) (limit : ℕ) → IsFaultOf why given → HasStopped set limit why → given ≡ fault.TooDeep →
+    IsTooDeepWithin set limit
+fault_deep cause.TooDeep given set limit is stopped same = stopped
+fault_deep (cause.Contradiction class) given set limit is stopped same = absurd stopped
+fault_deep cause.Memory given set limit is stopped same = absurd cc
+fault_deep cause.Held given set limit is stopped same = absurd stopped
+fault_deep cause.Counts given set limit is stopped same = absurd stopped
+
+pub fault_fits : (why : Cause) (given : Fault) (set : PieceSet) (limit class : ℕ) → IsFaultOf why given → HasStopped set limit why →
+    given ≡ fault.Contradiction class → ⊥
+fault_fits cause.TooDeep given set limit class is stopped same = cc
+fault_fits (cause.Contradiction other) given set limit class is stopped same = stopped
+fault_fits cause.Memory given set limit class is stopped same = cc
+fault_fits cause.Held given set limit class is stopped same = stopped
+fault_fits cause.Counts given set limit class is stopped same = stopped
+
+pub fault_small : (why : Cause) (given : Fault) (set : PieceSet) (limit : ℕ) → IsFaultOf why given → HasStopped set limit why →
+    given ≡ fault.SetTooLarge → ⊥
+fault_small cause.TooDeep given set limit is stopped same = cc
+fault_small (cause.Contradiction other) given set limit is stopped same = stopped
+fault_small cause.Memory given set limit is stopped same = cc
+fault_small cause.Held given set limit is stopped same = stopped
+fault_small cause.Counts given set limit is stopped same = stopped
+
+-- ---- nothing left to do
+
+-- there is nobody to send to
+pub done_idle : (node : Node) (steps : ℕ) → HasMade steps node → IsDone node → IsIdle node
+done_idle node steps made done = record {
+  expanded = done.0;
+  applied = done.1;
+  sent = λ to. elim (cases_eq to 0) [
+    | inl self ↦ subst (λ (k : ℕ). (outbox_to node k).items ≡ []) (made.1.alone.1 ∙ sym self) made.1.sound.nothing_to_self
+    | inr other ↦
+        let one : length node.outboxes.items ≡ 1 = made.1.sound.receivers ∙ made.1.alone.0 in
+        ap (λ (o : OutboxView). o.items) (get_or-eq_default node.outboxes.items (empty_outbox node.set node.n node.id to) (omega arith))
+  ];
+}
+
+pub idle_done : (node : Node) → IsIdle node → IsDone node
+idle_done node idle = (idle.expanded, idle.applied)

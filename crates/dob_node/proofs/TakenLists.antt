@@ -1,0 +1,63 @@
+-- Items taken one after the other.
+use Rattle.std.proofs.Common.{◌≡◌, ℕ, ◌+◌, ◌<◌, ◌≤◌, refl, sym, ap, ◌∙◌, subst, add-one, List, [], ◌∷◌, ◌++◌, length, take, drop, get_or, Result}
+use Rattle.std.specs.Result.{IfErr, IsErrAnd}
+use Rattle.std.proofs.lemmas.Result.{err_from_is_err_and}
+use Rattle.std.proofs.Math.Seq.{take-suc, drop-cons}
+use Rattle.std.proofs.lemmas.List.{take-append-drop}
+use Rattle.dob_share.specs.declared.news.Item.{Item}
+use Rattle.dob_share.specs.declared.share.Share.{Share}
+use Rattle.dob_node.specs.declared.cause.Cause.{Cause}
+use Rattle.dob_node.specs.Stores.{HistoryView}
+use Rattle.dob_node.proofs.Sounds.{told_still}
+use Rattle.dob_node.specs.Takes.{IsTaken, AreTaken, IsRefused, StopsAt}
+
+-- one more at the end
+pub taken_more : (front : List Item) (item : Item) (share mid after : Share) (history longer grown : HistoryView) →
+    AreTaken front share mid history longer → IsTaken item mid after longer grown → AreTaken (front ++ item ∷ []) share after history grown
+taken_more [] item share mid after history longer grown none taken = (
+  after,
+  grown,
+  subst (λ (s : Share). IsTaken item s after history grown) none.0 (subst (λ (h : HistoryView). IsTaken item mid after h grown) none.1 taken),
+  (refl, refl),
+)
+taken_more (first ∷ front) item share mid after history longer grown before taken = (
+  before.0,
+  before.1,
+  before.2,
+  taken_more front item before.0 mid after before.1 longer grown before.3 taken,
+)
+
+-- the one at a place is the next
+pub taken_next : (items : List Item) (k : ℕ) (default : Item) (share mid after : Share) (history longer grown : HistoryView) → k < length items →
+    AreTaken (take k items) share mid history longer → IsTaken (get_or items k default) mid after longer grown →
+    AreTaken (take (k + 1) items) share after history grown
+taken_next items k default share mid after history longer grown low before taken =
+    subst (λ xs. AreTaken xs share after history grown) (sym (rw add-one (take-suc items k default low)))
+    (taken_more (take k items) (get_or items k default) share mid after history longer grown before taken)
+
+pub stops_there : (items : List Item) (k : ℕ) (default : Item) (share mid : Share) (history longer : HistoryView) (why : Cause) → k < length items →
+    AreTaken (take k items) share mid history longer → IsRefused (get_or items k default) mid why → StopsAt items share history why
+stops_there items k default share mid history longer why low before refused = record {
+  front = take k items;
+  item = get_or items k default;
+  behind = drop (k + 1) items;
+  items_are = sym (take-append-drop k items) ∙ ap (λ xs. take k items ++ xs) (rw add-one (drop-cons items k default low));
+  after = mid;
+  grown = longer;
+  taken = before;
+  refused = refused;
+}
+
+-- what holds of an error holds of it where it is handed on
+pub carried : {T : Type 0} (Q : Cause → Type 0) (r : Result T Cause) (why : Cause) → IsErrAnd r (λ given. given ≡ why) → Q why → IfErr r Q
+carried Q r why is holds =
+    let given = err_from_is_err_and r is in
+    subst (λ s. IfErr s Q) (sym given.1) (subst Q (sym given.2) holds)
+
+-- what is told is less than the longer history
+pub told_all : (items : List Item) (share after : Share) (history grown : HistoryView) (expanded : ℕ) → AreTaken items share after history grown →
+    expanded ≤ length history.settlements → expanded ≤ length grown.settlements
+told_all [] share after history grown expanded none told =
+    subst (λ (h : HistoryView). expanded ≤ length h.settlements) (sym none.1) told
+told_all (item ∷ items) share after history grown expanded taken told =
+    told_all items taken.0 after taken.1 grown expanded taken.3 (told_still item share taken.0 history taken.1 expanded taken.2 told)

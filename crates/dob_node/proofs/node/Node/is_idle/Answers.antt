@@ -1,0 +1,19 @@
+-- Nothing is left where each list is empty.
+use Rattle.std.proofs.Common.{◌≡◌, [], List, rules, arith, subst, sym}
+use Rattle.std.specs.List.{All}
+use Rattle.std.proofs.lemmas.Grind.{common_steps}
+use Rattle.dob_update.specs.Batches.{OutboxView}
+use Rattle.dob_node.proofs.Sends.{all_empty, empty_all}
+use Rattle.dob_node.proofs.node.Node.is_idle.Goals as goal
+
+pub returns : goal.returns
+returns c =
+    let node = c.args.self.now in
+    let Nothing : List OutboxView → Type 0 = λ xs. All (λ (o : OutboxView). o.items ≡ []) xs in (
+      λ yes. record {
+        expanded = search rules;
+        applied = grind (arith, common_steps, c.if-not-is_empty.ensures);
+        sent = λ to. all_empty node.outboxes.items (subst Nothing c.deref.ensures.value (c.are_empty.ensures.0 yes)) node.set node.n node.id to;
+      },
+      λ idle. c.are_empty.ensures.1 (subst Nothing (sym c.deref.ensures.value) (empty_all node.outboxes.items node.set node.n node.id idle.sent)),
+    )

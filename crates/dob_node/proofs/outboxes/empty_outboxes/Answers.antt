@@ -1,0 +1,16 @@
+-- One empty outbox more.
+use Rattle.std.proofs.Common.{◌≡◌, ℕ, ◌+◌, ◌++◌, ◌∷◌, [], length, ap, ◌∙◌}
+use Rattle.std.proofs.lemmas.List.{length-append}
+use Rattle.dob_update.specs.Batches.{OutboxView}
+use Rattle.dob_node.proofs.Sends.{empties_more}
+use Rattle.dob_node.proofs.outboxes.empty_outboxes.Goals as goal
+
+pub loop-to-preserved : goal.loop-to-preserved
+loop-to-preserved c =
+    let old = c.loop-to.outboxes.items in
+    let is : c.push.new.self.items ≡ old ++ c.new.result ∷ [] = c.in_ok-push.ensures.items in
+    record {
+      whole = ap length is ∙ length-append old (c.new.result ∷ []) ∙ ap (λ (k : ℕ). k + 1) c.loop-to.invariant.whole;
+      empty = empties_more c.args.set c.args.n c.args.from c.loop-to.to old c.push.new.self.items c.loop-to.invariant.whole c.loop-to.invariant.empty
+          (is ∙ ap (λ (o : OutboxView). old ++ o ∷ []) c.new.ensures);
+    }

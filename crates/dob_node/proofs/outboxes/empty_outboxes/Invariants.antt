@@ -1,0 +1,11 @@
+-- The outboxes so far are empty.
+use Rattle.std.proofs.Common.{◌≡◌, ℕ, length}
+use Rattle.dob_update.specs.Batches.{empty_outbox}
+use Rattle.dob_node.specs.Outboxes.{outbox_in}
+use Rattle.dob_node.proofs.outboxes.empty_outboxes.Given as goal
+
+abbrev pub invariant-loop-to : goal.invariant-loop-to
+invariant-loop-to l = record {
+  whole : length l.outboxes.items ≡ l.to;
+  empty : (k : ℕ) → outbox_in l.set l.n l.from l.outboxes.items k ≡ empty_outbox l.set l.n l.from k;
+}

@@ -1,0 +1,12 @@
+-- The items so far are taken.
+use Rattle.std.proofs.Common.{take}
+use Rattle.dob_pieces.specs.declared.piece_set.PieceSet.{PieceSet}
+use Rattle.dob_node.specs.Takes.{AreKept, AreTaken}
+use Rattle.dob_node.proofs.taking.take_items.Given as goal
+
+abbrev pub invariant-loop-item : goal.invariant-loop-item
+invariant-loop-item l = record {
+  taken : AreTaken (take l.item-index l.items) l.initial.share l.share l.initial.history l.history;
+  kept : (set : PieceSet) → AreKept set l.initial.share.n l.initial.share.id l.initial.share l.initial.history →
+      AreKept set l.initial.share.n l.initial.share.id l.share l.history;
+}

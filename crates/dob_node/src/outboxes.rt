@@ -1,0 +1,104 @@
+// The outboxes of a node, one for each node: what it has still to send.
+ghost use Rattle.std.specs.Prelude.{◌≡◌, ℕ, ◌+◌, ◌<◌, ◌≤◌, ◌↔◌, [], length, vec_len, slice_index_or, slice_set, ◌*◌, ◌^◌, IsTrue, IsNone, IfOk, IfSome, OnOk, OnErr};
+ghost use Rattle.std.specs.List.{All};
+ghost use Rattle.dob_pieces.specs.declared.piece_set.PieceSet.{PieceSet as Set};
+ghost use Rattle.dob_unmove.specs.Edges.{predecessors};
+ghost use Rattle.dob_update.specs.Items.{items_of};
+ghost use Rattle.dob_update.specs.Batches.{OutboxView, empty_outbox, added};
+ghost use Rattle.dob_node.specs.Outboxes.{outbox_in, IsOutboxTo, AreAdded, IsCutFrom};
+
+use dob_pieces::{Memory, PieceSet};
+use dob_share::{Item, Settlement};
+use dob_update::{Batch, Outbox, push_items};
+use std::alloc::Global;
+
+/// Outboxes with nothing to send, of node `from` among `n`, for each node.
+pub(crate) fn empty_outboxes(
+    alloc: Global,
+    set: PieceSet,
+    n: usize,
+    from: usize,
+) -> Result<Vec<Outbox>, Memory>
+    ensures whole { IfOk result (λ list. length list.items ≡ n) }
+    ensures empty { IfOk result (λ list. (to : ℕ) → outbox_in set n from list.items to ≡ empty_outbox set n from to) }
+{
+    let mut outboxes = Vec::with_capacity(alloc, n)?;
+    for to in 0..n {
+        outboxes.push(Outbox::new(alloc, set, n, from, to))?;
+    }
+    Ok(outboxes)
+}
+
+/// Adds a settlement to the outbox for each node but `from`, with its items for that node; `targets` are the classes
+/// with a move into the settled one.
+///
+/// Error: `Memory`, after which some of the outboxes may have the settlement.
+pub(crate) fn add_for_others(
+    alloc: Global,
+    outboxes: &mut Vec<Outbox>,
+    settlement: Settlement,
+    targets: &[u64],
+    from: usize,
+) -> Result<(), Memory>
+    requires addressed { let n = length outboxes.old.items in (set : Set) × (targets.now ≡ predecessors set settlement.class) × ((to : ℕ) → IsOutboxTo set n from to (outbox_in set n from outboxes.old.items to)) }
+    ensures { let n = length outboxes.old.items in OnOk result (AreAdded targets.now settlement n from n outboxes.old.items outboxes.new.items) }
+{
+    let n = outboxes.len();
+    let mut items = Vec::new(alloc);
+    for to in 0..n {
+        if to != from {
+            items.clear();
+            push_items(&mut items, settlement, targets, n, to)?;
+            add_to(outboxes, to, settlement, &items)?;
+        }
+    }
+    Ok(())
+}
+
+// Adds a settlement with its items to the outbox for a node. After `Memory` the outboxes are unchanged.
+fn add_to(
+    outboxes: &mut Vec<Outbox>,
+    to: usize,
+    settlement: Settlement,
+    items: &[Item],
+) -> Result<(), Memory>
+    requires there { to < vec_len outboxes.old }
+    requires items { (default : OutboxView) → let outbox = slice_index_or outboxes.old.items to default in items.now ≡ items_of (predecessors outbox.set) outbox.n outbox.to settlement }
+    ensures { OnOk result ((default : OutboxView) → outboxes.new.items ≡ slice_set outboxes.old.items to (added (slice_index_or outboxes.old.items to default) settlement items.now)) }
+{
+    let outbox = &mut outboxes[to];
+    outbox.add(settlement, items)
+}
+
+/// Cuts a batch of the first `size` items, from 1 to 4096, from the outbox for a node that has some.
+///
+/// Error: `Memory`, which leaves the outboxes as they were.
+pub(crate) fn cut_at(
+    outboxes: &mut Vec<Outbox>,
+    to: usize,
+    size: usize,
+) -> Result<Option<Batch>, Memory>
+    requires there { to < vec_len outboxes.old }
+    requires some { 0 < size }
+    requires at_most { size ≤ 4096 }
+    requires counted { (default : OutboxView) → (slice_index_or outboxes.old.items to default).next + 1 < 2 ^ 64 }
+    ensures none { IfOk result (λ given. IsNone given → (default : OutboxView) → (slice_index_or outboxes.old.items to default).items ≡ []) }
+    ensures nothing { IfOk result (λ given. IsNone given → outboxes.new.items ≡ outboxes.old.items) }
+    ensures cut { IfOk result (λ given. IfSome given (λ batch. IsCutFrom to size batch outboxes.old.items outboxes.new.items)) }
+    ensures err { OnErr result (outboxes.new.items ≡ outboxes.old.items) }
+{
+    let outbox = &mut outboxes[to];
+    outbox.cut(size)
+}
+
+/// Whether nothing is left to send.
+pub(crate) fn are_empty(outboxes: &[Outbox]) -> bool
+    ensures { IsTrue result ↔ All (λ (o : OutboxView). o.items ≡ []) outboxes.now }
+{
+    for outbox in outboxes {
+        if !outbox.is_empty() {
+            return false;
+        }
+    }
+    true
+}
