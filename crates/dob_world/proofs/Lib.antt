@@ -3,3 +3,12 @@ pub mod Applied
 pub mod Linked
 pub mod Kept
 pub mod Rest
+pub mod Taken
+pub mod Firsts
+pub mod Slots
+pub mod Expanded
+pub mod Moves
+pub mod Made
+pub mod Outcomes
+pub mod Stands
+pub mod Stopped

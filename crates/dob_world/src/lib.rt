@@ -2,6 +2,14 @@
 #![tactic(auto)]
 
 mod event;
+mod fault;
+mod lane;
 pub mod laws;
+mod step;
+mod steps;
+mod world;
 
 pub use event::Event;
+pub use fault::Fault;
+pub use step::Step;
+pub use world::World;
