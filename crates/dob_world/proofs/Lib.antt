@@ -12,3 +12,6 @@ pub mod Made
 pub mod Outcomes
 pub mod Stands
 pub mod Stopped
+pub mod Openings
+pub mod Starts
+pub mod Pushed

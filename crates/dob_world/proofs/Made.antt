@@ -32,6 +32,21 @@ use Rattle.dob_world.proofs.Moves.{applies_one, applies_many}
 
 -- ---- nodes and lanes that are kept
 
+pub kept_sound : (k : Setting) (i : ℕ) (node : Node) → IsSound node → (node.set ≡ k.set) × (node.id ≡ i) × (node.n ≡ k.n) →
+    AreKept k.set k.n i node.share node.history
+kept_sound k i node sound of =
+    subst (λ (st : PieceSet). AreKept st k.n i node.share node.history) of.0
+    (subst (λ (m : ℕ). AreKept node.set m i node.share node.history) of.2
+    (subst (λ (m : ℕ). AreKept node.set node.n m node.share node.history) of.1 sound.kept))
+
+pub low_own : (k : Setting) (i : ℕ) (node : Node) → IsSound node → (node.set ≡ k.set) × (node.id ≡ i) × (node.n ≡ k.n) → (class : ℕ) →
+    IsOwn node.share class → class < classes_of k.set
+low_own k i node sound of class own = (((kept_sound k i node sound of).owned class).0 own).1
+
+pub node_opened : (k : Setting) (i : ℕ) (node : Node) → IsSound node → (node.set ≡ k.set) × (node.id ≡ i) × (node.n ≡ k.n) →
+    ((class : ℕ) → IsOwn node.share class → HasStatus (class_setup k.set class) (status_at node.share class)) → IsNodeOf k i node
+node_opened k i node sound of statuses = record { sound = sound; of = of; statuses = statuses }
+
 pub kept_of : (k : Setting) (i : ℕ) (node : Node) → IsNodeOf k i node → AreKept k.set k.n i node.share node.history
 kept_of k i node is =
     subst (λ (st : PieceSet). AreKept st k.n i node.share node.history) is.of.0

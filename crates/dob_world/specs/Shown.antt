@@ -9,8 +9,9 @@ use Rattle.dob_share.specs.declared.opening.Opening.{Opening}
 use Rattle.dob_share.specs.Owners.{owner_of}
 use Rattle.dob_share.specs.Cells.{fresh}
 use Rattle.dob_share.specs.Shares.{IsOwn, status_at, cell_at}
+use Rattle.dob_link.specs.Links.{link_of}
 use Rattle.dob_node.specs.declared.node.Node.{Node}
-use Rattle.dob_node.specs.Nodes.{IsSound, outbox_to}
+use Rattle.dob_node.specs.Nodes.{IsSound, IsOpened, outbox_to}
 use Rattle.dob_node.specs.Openings.{AreOpenings}
 use Rattle.dob_world.specs.declared.event.Event.{Event}
 use Rattle.dob_world.specs.declared.lane.Lane.{Lane}
@@ -109,3 +110,30 @@ pub record IsMade (event : Event) (old new : World) : Type 0 where
   pub can : CanHappen (setting_of old) (state_of old) event
   pub happens : Happens (setting_of old) (state_of old) event (state_of new)
   pub standing : IsStanding new
+
+-- ---- the start
+
+-- a lane over which nothing has gone
+pub record IsEmptyLane (capacity : ℕ) (lane : Lane) : Type 0 where
+  pub link : lane.link ≡ link_of [] capacity
+  pub sent : lane.sent.items ≡ []
+  pub applied : lane.applied.items ≡ []
+
+pub record AreEmptyLanes (capacity count : ℕ) (lanes : List Lane) : Type 0 where
+  pub whole : length lanes ≡ count
+  pub each : (place : ℕ) (lane : Lane) → slice_get lanes place ≡ Some lane → IsEmptyLane capacity lane
+
+-- the nodes below a number among n, as they are opened
+pub record AreOpenedNodes (openings : List Opening) (set : PieceSet) (n upto : ℕ) (nodes : List Node) : Type 0 where
+  pub whole : length nodes ≡ upto
+  pub each : (i : ℕ) (node : Node) → slice_get nodes i ≡ Some node → IsOpened openings set i n node × IsSound node
+
+-- The state before the first event: each node is opened, and nothing has gone over a lane.
+pub record IsStart (k : Setting) (state : State) : Type 0 where
+  pub openings : List Opening
+  pub are_openings : AreOpenings k.set openings
+  pub nodes : List Node
+  pub lanes : List Lane
+  pub opened : AreOpenedNodes openings k.set k.n k.n nodes
+  pub empty : AreEmptyLanes k.capacity (k.n * k.n) lanes
+  pub state_is : state ≡ state_shown k.set k.n nodes lanes

@@ -1,13 +1,15 @@
 // The world: nodes that own the classes of a piece set, and a lane from each to each.
-ghost use Rattle.std.specs.Prelude.{◌≡◌, ◌≢◌, ◌+◌, ◌*◌, ◌^◌, ◌<◌, ◌≤◌, ◌↔◌, true, false, IfOk, IfErr, IfSome, MatchOption};
-ghost use Rattle.dob_share.specs.Shares.{IsOwn};
+ghost use Rattle.std.specs.Prelude.{◌≡◌, ◌≢◌, ◌+◌, ◌*◌, ◌^◌, ◌<◌, ◌≤◌, ◌↔◌, true, false, IfOk, IfErr, IfSome};
+ghost use Rattle.dob_node.specs.Openings.{AreOpenings};
+ghost use Rattle.dob_world.specs.Shown.{AreOpenedNodes, AreEmptyLanes};
 
 use crate::event::Event;
 use crate::fault::Fault;
 use crate::lane::Lane;
 use crate::step::Step;
 use crate::steps::{apply_own, post, receive};
-use dob_node::Node;
+use dob_node::{Node, Opening, opening};
+use dob_pieces::{Memory, PieceSet};
 use dob_rank::Classes;
 use std::alloc::Global;
 
@@ -30,8 +32,52 @@ impl World {
     ghost use Rattle.dob_world.specs.declared.event.Event.TheVariants.{Expand, Own, Post, Take};
     ghost use Rattle.dob_world.specs.Worlds.{IsLinked};
     ghost use Rattle.dob_world.specs.Events.{CanHappen};
+    ghost use Rattle.dob_world.specs.declared.fault.Fault.TheVariants as fault;
     ghost use Rattle.dob_world.specs.Faults.{IsStop};
-    ghost use Rattle.dob_world.specs.Shown.{setting_of, state_of, IsStanding, IsKept, IsUnchanged, IsMade};
+    ghost use Rattle.dob_world.specs.Shown.{setting_of, state_of, IsStanding, IsKept, IsUnchanged, IsMade, IsStart};
+
+    /// A world of `n` nodes before its first event, with batches of at most `batch` items and links with room for
+    /// `capacity` batches.
+    ///
+    /// Errors, tested in this order: `SetTooLarge` where the set has more than three pieces besides the lions; `Nodes`
+    /// where `n` isn't 1 to 16; `Sizes` where `batch` isn't 1 to 4096 or `capacity` not 1 to 1024; `Memory`.
+    pub fn open(
+        alloc: Global,
+        set: PieceSet,
+        n: usize,
+        batch: usize,
+        capacity: usize,
+    ) -> Result<World, Fault>
+        ensures too_large { result ≡ Err fault.SetTooLarge ↔ (3 < set.chicks + set.elephants + set.giraffes) }
+        ensures setting { IfOk result (λ world. setting_of world ≡ record { set = set; n = n; batch = batch; capacity = capacity }) }
+        ensures standing { IfOk result (λ world. IsStanding world × (world.failed ≡ None) × (world.steps ≡ 0)) }
+        ensures opened { IfOk result (λ world. IsStart (setting_of world) (state_of world)) }
+    {
+        if set.chicks + set.elephants + set.giraffes > 3 {
+            return Err(Fault::SetTooLarge);
+        }
+        if n < 1 || n > 16 {
+            return Err(Fault::Nodes);
+        }
+        if batch < 1 || batch > 4096 || capacity < 1 || capacity > 1024 {
+            return Err(Fault::Sizes);
+        }
+        let classes = Classes::open(alloc, set)?;
+        let openings = opening(alloc, &classes)?;
+        let nodes = open_nodes(alloc, &openings, set, n)?;
+        let lanes = open_lanes(alloc, n * n, capacity)?;
+        Ok(World {
+            alloc,
+            classes,
+            n,
+            batch,
+            capacity,
+            nodes,
+            lanes,
+            steps: 0,
+            failed: None,
+        })
+    }
 
     /// Makes the event happen, or skips it where it can't.
     ///
@@ -138,4 +184,35 @@ impl World {
             Err(cause) => Err(Fault::Stopped { node: to, cause }),
         }
     }
+}
+
+// The nodes of all owners, as they are opened.
+fn open_nodes(
+    alloc: Global,
+    openings: &[Opening],
+    set: PieceSet,
+    n: usize,
+) -> Result<Vec<Node>, Memory>
+    requires openings { AreOpenings set openings.now }
+    requires owners { n ≤ 16 }
+    ensures { IfOk result (λ nodes. AreOpenedNodes openings.now set n n nodes.items) }
+{
+    let mut nodes = Vec::new(alloc);
+    for id in 0..n {
+        nodes.push(Node::open(alloc, openings, set, id, n)?)?;
+    }
+    Ok(nodes)
+}
+
+// So many lanes over which nothing has gone.
+fn open_lanes(alloc: Global, count: usize, capacity: usize) -> Result<Vec<Lane>, Memory>
+    requires some { 1 ≤ capacity }
+    requires at_most { capacity ≤ 1024 }
+    ensures { IfOk result (λ lanes. AreEmptyLanes capacity count lanes.items) }
+{
+    let mut lanes = Vec::new(alloc);
+    for _place in 0..count {
+        lanes.push(Lane::open(alloc, capacity)?)?;
+    }
+    Ok(lanes)
 }
