@@ -1,5 +1,5 @@
 // A link as a ring of slots.
-ghost use Rattle.std.specs.Prelude.{◌≡◌, ◌≤◌, [], IfOk};
+ghost use Rattle.std.specs.Prelude.{◌≡◌, ◌≤◌, ◌↔◌, [], length, IsTrue, IfOk};
 ghost use Rattle.dob_link.specs.Links.{link_of};
 
 use crate::link::{Full, Link};
@@ -33,6 +33,13 @@ impl ListLink {
     {
         let slots = HeapCircularBuffer::with_capacity(alloc, capacity)?;
         Ok(ListLink { slots })
+    }
+
+    /// Whether it holds its capacity.
+    pub fn is_full(&self) -> bool
+        ensures { IsTrue result ↔ (self.now.capacity ≤ length self.now.waiting) }
+    {
+        self.slots.capacity() <= self.slots.len()
     }
 }
 

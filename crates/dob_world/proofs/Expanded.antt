@@ -1,0 +1,90 @@
+-- A settlement that a node of the world expands.
+use Rattle.std.proofs.Common.{◌≡◌, ◌≢◌, ℕ, ◌+◌, ◌<◌, arith, refl, sym, ap, ◌∙◌, subst, cond, nat_lt, List, [], ◌++◌, length, Some, slice_get, set}
+use Rattle.std.proofs.lemmas.Option.{slice_get_within}
+use Rattle.std.proofs.lemmas.List.{length-set}
+use Rattle.dob_moves.specs.Statuses.{HasStatus}
+use Rattle.dob_rank.specs.Marks.{classes_of}
+use Rattle.dob_rank.specs.ClassRows.{class_setup}
+use Rattle.dob_unmove.specs.Edges.{predecessors}
+use Rattle.dob_share.specs.declared.news.Item.{Item}
+use Rattle.dob_share.specs.declared.share.Share.{Share}
+use Rattle.dob_share.specs.Owners.{owner_of}
+use Rattle.dob_share.specs.Cells.{fresh}
+use Rattle.dob_share.specs.Shares.{IsOwn, status_at, cell_at}
+use Rattle.dob_update.specs.Items.{items_of}
+use Rattle.dob_update.specs.Batches.{OutboxView}
+use Rattle.dob_node.specs.Stores.{HistoryView}
+use Rattle.dob_node.specs.declared.node.Node.{Node}
+use Rattle.dob_node.specs.Nodes.{IsSound, IsExpanded, outbox_to}
+use Rattle.dob_world.specs.declared.lane.Lane.{Lane}
+use Rattle.dob_world.specs.Worlds.{Setting}
+use Rattle.dob_world.specs.Events.{Expands}
+use Rattle.dob_world.specs.Shown.{part, nodes_shown, state_shown, IsNodeOf, AreInPlace}
+use Rattle.dob_world.proofs.Slots.{here, was, elsewhere, stays, set_cases}
+
+pub in_place_node : (k : Setting) (nodes : List Node) (lanes : List Lane) (i : ℕ) (node after : Node) → slice_get nodes i ≡ Some node →
+    AreInPlace k nodes lanes → IsNodeOf k i after → AreInPlace k (set nodes i after) lanes
+in_place_node k nodes lanes i node after there places is = record {
+  nodes_whole = length-set nodes i after ∙ places.nodes_whole;
+  lanes_whole = places.lanes_whole;
+  node = set_cases nodes i node after there (IsNodeOf k) is places.node;
+  lane = places.lane;
+}
+
+module _ (k : Setting) (nodes : List Node) (lanes : List Lane) (i : ℕ) (node after : Node) (there : slice_get nodes i ≡ Some node)
+    (is : IsNodeOf k i node) (step : IsExpanded node after) where
+  items_same : (j : ℕ) → items_of (predecessors node.set) node.n j step.settlement ≡ items_of (predecessors k.set) k.n j step.settlement
+  items_same j = ap (λ st. items_of (predecessors st) node.n j step.settlement) is.of.0
+      ∙ ap (λ m. items_of (predecessors k.set) m j step.settlement) is.of.2
+
+  pub still_node : IsSound after → IsNodeOf k i after
+  still_node sound = record {
+    sound = sound;
+    of = (step.same.0 ∙ is.of.0, step.same.1 ∙ is.of.1, step.same.2 ∙ is.of.2);
+    statuses = subst (λ (share : Share). (class : ℕ) → IsOwn share class → HasStatus (class_setup k.set class) (status_at share class))
+        (sym step.same.3) is.statuses;
+  }
+
+  pub expands : Expands k i (state_shown k.set k.n nodes lanes) (state_shown k.set k.n (set nodes i after) lanes)
+  unfolding state_shown nodes_shown
+  expands = record {
+    settlement = step.settlement;
+    is_next = ap (λ o. slice_get (part [] (λ (x : Node). x.history.settlements) o) (part 0 (λ (x : Node). x.expanded) o)) there ∙ step.first;
+    expanded = here nodes i node after there 0 (λ (x : Node). x.expanded) ∙ step.expanded
+        ∙ ap (λ (e : ℕ). e + 1) (sym (was nodes i node after there 0 (λ (x : Node). x.expanded)));
+    own = here nodes i node after there [] (λ (x : Node). x.own.items) ∙ step.own
+        ∙ ap (λ m. node.own.items ++ items_of (predecessors node.set) node.n m step.settlement) is.of.1
+        ∙ ap (λ xs. node.own.items ++ xs) (items_same i)
+        ∙ ap (λ xs. xs ++ items_of (predecessors k.set) k.n i step.settlement) (sym (was nodes i node after there [] (λ (x : Node). x.own.items)));
+    outboxes = λ j low differs. here nodes i node after there [] (λ (x : Node). (outbox_to x j).items)
+        ∙ ap (λ (o : OutboxView). o.items) (step.sent j (subst (λ (m : ℕ). j < m) (sym is.of.2) low) (λ same. differs (same ∙ is.of.1)))
+        ∙ ap (λ xs. (outbox_to node j).items ++ xs) (items_same j)
+        ∙ ap (λ xs. xs ++ items_of (predecessors k.set) k.n j step.settlement) (sym (was nodes i node after there [] (λ (x : Node). (outbox_to x j).items)));
+    others = (
+      elsewhere nodes i node after there 0 (λ (x : Node). x.expanded),
+      elsewhere nodes i node after there [] (λ (x : Node). x.own.items),
+      λ m other. λ d. λ j. elsewhere nodes i node after there [] (λ (x : Node). (outbox_to x j).items) m other d,
+    );
+    nodes = record {
+      history = stays nodes i node after there [] (λ (x : Node). x.history.settlements) (ap (λ (h : HistoryView). h.settlements) step.same.4);
+      applied = λ m l. refl;
+      cell = λ class. ap (λ c. cond (nat_lt class (classes_of k.set)) c (fresh 0))
+          (stays nodes i node after there (fresh 0) (λ (x : Node). cell_at x.share class) (ap (λ (s : Share). cell_at s class) step.same.3) (owner_of k.n class));
+    };
+    links = (λ m l. refl, λ m l. refl);
+  }
+
+  pub can_expand : (state_shown k.set k.n nodes lanes).expanded i < length ((state_shown k.set k.n nodes lanes).nodes.history i)
+  unfolding state_shown nodes_shown
+  can_expand = slice_get_within (part [] (λ (x : Node). x.history.settlements) (slice_get nodes i)) (part 0 (λ (x : Node). x.expanded) (slice_get nodes i)) step.settlement
+      (ap (λ o. slice_get (part [] (λ (x : Node). x.history.settlements) o) (part 0 (λ (x : Node). x.expanded) o)) there ∙ step.first)
+
+module _ (k : Setting) (nodes : List Node) (lanes : List Lane) (i : ℕ) (node after : Node) (there : slice_get nodes i ≡ Some node) where
+  pub cant_expand : node.expanded ≡ length node.history.settlements →
+      (state_shown k.set k.n nodes lanes).expanded i < length ((state_shown k.set k.n nodes lanes).nodes.history i) → ⊥
+  unfolding state_shown nodes_shown
+  cant_expand all less =
+      let e : part 0 (λ (x : Node). x.expanded) (slice_get nodes i) ≡ node.expanded = was nodes i node after there 0 (λ (x : Node). x.expanded) in
+      let h : length (part [] (λ (x : Node). x.history.settlements) (slice_get nodes i)) ≡ length node.history.settlements =
+      ap length (was nodes i node after there [] (λ (x : Node). x.history.settlements)) in
+      omega arith

@@ -1,0 +1,19 @@
+-- First elements, and calls that can't have failed.
+use Rattle.std.proofs.Common.{◌≡◌, refl, sym, ap, ◌∙◌, List, [], ◌∷◌, Option, Some, None, slice_get, Result, Ok, Err, OnOk, OnErr}
+
+pub none_first : {X : Type 0} (xs : List X) → slice_get xs 0 ≡ None → xs ≡ []
+none_first [] is = refl
+none_first (x ∷ xs) is = cc
+
+pub first_same : {X : Type 0} (xs rest : List X) (x y : X) → slice_get xs 0 ≡ Some x → xs ≡ y ∷ rest → x ≡ y
+first_same xs rest x y there is = let e : Some x ≡ Some y = sym there ∙ ap (λ zs. slice_get zs 0) is in cc
+
+pub some_first : {X : Type 0} (xs : List X) (x : X) → slice_get xs 0 ≡ Some x → xs ≡ [] → ⊥
+some_first xs x there is = let e : Some x ≡ None = sym there ∙ ap (λ zs. slice_get zs 0) is in cc
+
+pub went_well : {T E : Type 0} (r : Result T E) (A B : Type 0) → OnOk r A → OnErr r B → (B → ⊥) → A
+went_well (Ok v) A B good bad not = good
+went_well (Err e) A B good bad not = absurd (not bad)
+
+pub ok_is : {T E : Type 0} (a b : T) → ◌≡◌ {A = Result T E} (Ok a) (Ok b) → a ≡ b
+ok_is a b e = cc

@@ -1,0 +1,115 @@
+-- Each event, and any events one after another, leave a lawful and linked world so; the next item always fits.
+use Rattle.std.proofs.Common.{◌≡◌, ◌≢◌, ℕ, ◌<◌, inl, inr, sym, ap, ◌∙◌, subst, append_assoc, List, [], ◌∷◌, ◌++◌, drop}
+use Rattle.dob_unmove.specs.Edges.{predecessors}
+use Rattle.dob_share.specs.declared.news.Item.{Item}
+use Rattle.dob_update.specs.Items.{items_from}
+use Rattle.dob_update.specs.Batches.{BatchView}
+use Rattle.dob_world.specs.declared.event.Event.{Event}
+use Rattle.dob_world.specs.declared.event.Event.TheVariants.{Expand, Own, Post, Take}
+use Rattle.dob_world.specs.Worlds.{Setting, Nodes, World, items_in, items_of_batches, AreLawful, IsLinked}
+use Rattle.dob_world.specs.Events.{Happens}
+use Rattle.dob_world.specs.Runs.{IsAfter}
+use Rattle.dob_world.specs.Laws.{HappeningKeepsAll, EventsKeepAll, ListsAreBeginnings, OwnItemFits, TakenItemFits}
+use Rattle.dob_world.proofs.Places.{lawful_stay}
+use Rattle.dob_world.proofs.Applied.{next_fits, lawful_step, step_grows, next_after, all_applied}
+use Rattle.dob_world.proofs.Linked.{told_all, linked_expanded, linked_own, linked_posted, linked_taken}
+
+-- ---- what comes next on a node's way to itself and on a link
+
+-- of the own items
+pub next_own : (k : Setting) (world : World) (i : ℕ) (items : List Item) → IsLinked k world → i < k.n → world.own i ≡ items →
+    items_in k world.nodes i i ≡ world.nodes.applied i i ++ (items ++ items_from (predecessors k.set) k.n i (drop (world.expanded i) (world.nodes.history i)))
+next_own k world i items linked low is =
+    let later = items_from (predecessors k.set) k.n i (drop (world.expanded i) (world.nodes.history i)) in
+    told_all (predecessors k.set) k.n i (world.nodes.history i) (world.expanded i)
+    ∙ ap (λ xs. xs ++ later) (linked.own i low)
+    ∙ append_assoc (world.nodes.applied i i) (world.own i) later
+    ∙ ap (λ xs. world.nodes.applied i i ++ (xs ++ later)) is
+
+-- of the batches that wait
+pub next_waiting : (k : Setting) (world : World) (i j : ℕ) (batch : BatchView) (batches : List BatchView) → IsLinked k world → i < k.n → j < k.n →
+    i ≢ j → world.waiting i j ≡ batch ∷ batches →
+    items_in k world.nodes i j ≡ world.nodes.applied i j ++ (batch.items ++ (items_of_batches batches ++ (world.outbox i j
+    ++ items_from (predecessors k.set) k.n j (drop (world.expanded i) (world.nodes.history i)))))
+next_waiting k world i j batch batches linked low_i low_j differs is =
+    let later = items_from (predecessors k.set) k.n j (drop (world.expanded i) (world.nodes.history i)) in
+    told_all (predecessors k.set) k.n j (world.nodes.history i) (world.expanded i)
+    ∙ ap (λ xs. xs ++ later) (linked.posted i j low_i low_j differs)
+    ∙ append_assoc (world.sent i j) (world.outbox i j) later
+    ∙ ap (λ xs. xs ++ (world.outbox i j ++ later)) (linked.taken i j low_i low_j differs)
+    ∙ append_assoc (world.nodes.applied i j) (items_of_batches (world.waiting i j)) (world.outbox i j ++ later)
+    ∙ ap (λ bs. world.nodes.applied i j ++ (items_of_batches bs ++ (world.outbox i j ++ later))) is
+    ∙ ap (λ xs. world.nodes.applied i j ++ xs) (append_assoc batch.items (items_of_batches batches) (world.outbox i j ++ later))
+
+-- ---- events
+
+pub happening_keeps_all : HappeningKeepsAll
+happening_keeps_all k old new (Expand i) some lawful linked can step = (
+  lawful_stay k old.nodes new.nodes step.nodes lawful,
+  linked_expanded k i old new can.0 linked step,
+)
+happening_keeps_all k old new (Own i) some lawful linked can step =
+    let next = next_own k old i (step.item ∷ new.own i) linked can.0 step.first in
+    let later = items_from (predecessors k.set) k.n i (drop (old.expanded i) (old.nodes.history i)) in (
+      lawful_step k some i i can.0 can.0 step.item old.nodes lawful (new.own i ++ later) next new.nodes step.applied,
+      linked_own k i old new can.0 linked step (step_grows k i i step.item old.nodes new.nodes step.applied),
+    )
+happening_keeps_all k old new (Post i j) some lawful linked can step = (
+  lawful_stay k old.nodes new.nodes step.nodes lawful,
+  linked_posted k i j old new can.0 can.1 can.2 linked step,
+)
+happening_keeps_all k old new (Take i j) some lawful linked can step =
+    let next = next_waiting k old i j step.batch (new.waiting i j) linked can.0 can.1 can.2 step.first in
+    let later = items_from (predecessors k.set) k.n j (drop (old.expanded i) (old.nodes.history i)) in
+    let both = all_applied k some i j can.0 can.1 can.2 step.batch.items (items_of_batches (new.waiting i j) ++ (old.outbox i j ++ later))
+    old.nodes new.nodes lawful next step.applied in (
+      both.0,
+      linked_taken k i j old new can.2 linked step both.1,
+    )
+
+pub events_keep_all : EventsKeepAll
+events_keep_all k old new [] some lawful linked after = (
+  subst (λ (w : World). AreLawful k w.nodes) (sym after) lawful,
+  subst (λ (w : World). IsLinked k w) (sym after) linked,
+)
+events_keep_all k old new (event ∷ events) some lawful linked after = elim after.1 [
+  | inl done ↦
+      let both = happening_keeps_all k old after.0 event some lawful linked done.0 done.1 in
+      events_keep_all k after.0 new events some both.0 both.1 after.2
+  | inr skipped ↦
+      events_keep_all k after.0 new events some (subst (λ (w : World). AreLawful k w.nodes) (sym skipped.1) lawful)
+      (subst (λ (w : World). IsLinked k w) (sym skipped.1) linked) after.2
+]
+
+-- ---- lists
+
+pub lists_are_beginnings : ListsAreBeginnings
+lists_are_beginnings k world i j linked low_i low_j differs =
+    let later = items_from (predecessors k.set) k.n j (drop (world.expanded i) (world.nodes.history i)) in (
+      (
+        world.outbox i j ++ later,
+        told_all (predecessors k.set) k.n j (world.nodes.history i) (world.expanded i)
+            ∙ ap (λ xs. xs ++ later) (linked.posted i j low_i low_j differs)
+            ∙ append_assoc (world.sent i j) (world.outbox i j) later,
+      ),
+      (items_of_batches (world.waiting i j), linked.taken i j low_i low_j differs),
+    )
+
+-- ---- no contradiction
+
+pub own_item_fits : OwnItemFits
+own_item_fits k world i item rest some lawful linked low is =
+    let later = items_from (predecessors k.set) k.n i (drop (world.expanded i) (world.nodes.history i)) in
+    next_fits k some i i low low item world.nodes lawful (rest ++ later) (next_own k world i (item ∷ rest) linked low is)
+
+pub taken_item_fits : TakenItemFits
+taken_item_fits k world i j batch batches front item behind nodes some lawful linked low_i low_j differs first items_are applied =
+    let later = items_from (predecessors k.set) k.n j (drop (world.expanded i) (world.nodes.history i)) in
+    let others = items_of_batches batches ++ (world.outbox i j ++ later) in
+    let next : items_in k world.nodes i j ≡ world.nodes.applied i j ++ (front ++ ((item ∷ behind) ++ others)) =
+    next_waiting k world i j batch batches linked low_i low_j differs first
+    ∙ ap (λ xs. world.nodes.applied i j ++ (xs ++ others)) items_are
+    ∙ ap (λ xs. world.nodes.applied i j ++ xs) (append_assoc front (item ∷ behind) others) in
+    let both = all_applied k some i j low_i low_j differs front ((item ∷ behind) ++ others) world.nodes nodes lawful next applied in
+    next_fits k some i j low_i low_j item nodes both.0 (behind ++ others)
+    (next_after k i j front ((item ∷ behind) ++ others) world.nodes nodes differs both.1 next)

@@ -1,0 +1,17 @@
+pub mod Places
+pub mod Applied
+pub mod Linked
+pub mod Kept
+pub mod Rest
+pub mod Taken
+pub mod Firsts
+pub mod Slots
+pub mod Expanded
+pub mod Moves
+pub mod Made
+pub mod Outcomes
+pub mod Stands
+pub mod Stopped
+pub mod Openings
+pub mod Starts
+pub mod Pushed

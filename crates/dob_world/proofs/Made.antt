@@ -1,0 +1,235 @@
+-- Own items applied, batches taken and batches posted in a world that stands.
+use Rattle.std.proofs.Common.{◌≡◌, ◌≢◌, ℕ, ◌+◌, ◌*◌, ◌<◌, ◌≤◌, ◌⊎◌, inl, inr, cond, nat_lt, arith, refl, sym, ap, ◌∙◌, subst, List, [], ◌∷◌, ◌++◌, length, take, drop, Some, slice_get, set}
+use Rattle.std.specs.List.{All}
+use Rattle.std.proofs.lemmas.List.Elements.{All-head, All-tail, All-append, All-cons, All-nil}
+use Rattle.dob_moves.specs.declared.outlook.Status.{Status}
+use Rattle.dob_moves.specs.Statuses.{HasStatus}
+use Rattle.dob_pieces.specs.declared.piece_set.PieceSet.{PieceSet}
+use Rattle.dob_rank.specs.Marks.{classes_of}
+use Rattle.dob_rank.specs.ClassRows.{class_setup}
+use Rattle.dob_unmove.specs.Edges.{predecessors}
+use Rattle.dob_share.specs.declared.news.Item.{Item}
+use Rattle.dob_share.specs.declared.share.Share.{Share}
+use Rattle.dob_share.specs.Owners.{owner_of}
+use Rattle.dob_share.specs.Cells.{fresh}
+use Rattle.dob_share.specs.Shares.{IsOwn, status_at, cell_at}
+use Rattle.dob_update.specs.Items.{items_from}
+use Rattle.dob_update.specs.Batches.{BatchView, OutboxView}
+use Rattle.dob_link.specs.Links.{LinkView}
+use Rattle.dob_node.specs.Stores.{HistoryView}
+use Rattle.dob_node.specs.Outboxes.{outbox_in}
+use Rattle.dob_node.specs.Takes.{HasEntries, AreKept, AreTaken}
+use Rattle.dob_node.specs.declared.node.Node.{Node}
+use Rattle.dob_node.specs.Nodes.{IsSound, outbox_to}
+use Rattle.dob_world.specs.declared.lane.Lane.{Lane}
+use Rattle.dob_world.specs.Worlds.{Setting, AreLawful, IsLinked, items_of_batches}
+use Rattle.dob_world.specs.Events.{AppliesOwn, TakesBatch, Posts}
+use Rattle.dob_world.specs.Lanes.{IsBatchFor, HasListed, HasReceived, HasPosted}
+use Rattle.dob_world.specs.Shown.{part, lane_at, nodes_shown, state_shown, IsNodeOf, IsLaneOf}
+use Rattle.dob_world.proofs.Slots.{here, was, elsewhere, stays, lane_here, lane_was, lane_else, lane_stays}
+use Rattle.dob_world.proofs.Kept.{next_own, next_waiting}
+use Rattle.dob_world.proofs.Moves.{applies_one, applies_many}
+
+-- ---- nodes and lanes that are kept
+
+pub kept_sound : (k : Setting) (i : ℕ) (node : Node) → IsSound node → (node.set ≡ k.set) × (node.id ≡ i) × (node.n ≡ k.n) →
+    AreKept k.set k.n i node.share node.history
+kept_sound k i node sound of =
+    subst (λ (st : PieceSet). AreKept st k.n i node.share node.history) of.0
+    (subst (λ (m : ℕ). AreKept node.set m i node.share node.history) of.2
+    (subst (λ (m : ℕ). AreKept node.set node.n m node.share node.history) of.1 sound.kept))
+
+pub low_own : (k : Setting) (i : ℕ) (node : Node) → IsSound node → (node.set ≡ k.set) × (node.id ≡ i) × (node.n ≡ k.n) → (class : ℕ) →
+    IsOwn node.share class → class < classes_of k.set
+low_own k i node sound of class own = (((kept_sound k i node sound of).owned class).0 own).1
+
+pub node_opened : (k : Setting) (i : ℕ) (node : Node) → IsSound node → (node.set ≡ k.set) × (node.id ≡ i) × (node.n ≡ k.n) →
+    ((class : ℕ) → IsOwn node.share class → HasStatus (class_setup k.set class) (status_at node.share class)) → IsNodeOf k i node
+node_opened k i node sound of statuses = record { sound = sound; of = of; statuses = statuses }
+
+pub kept_of : (k : Setting) (i : ℕ) (node : Node) → IsNodeOf k i node → AreKept k.set k.n i node.share node.history
+kept_of k i node is =
+    subst (λ (st : PieceSet). AreKept st k.n i node.share node.history) is.of.0
+    (subst (λ (m : ℕ). AreKept node.set m i node.share node.history) is.of.2
+    (subst (λ (m : ℕ). AreKept node.set node.n m node.share node.history) is.of.1 is.sound.kept))
+
+outbox_same : (old new : Node) → new.set ≡ old.set → new.id ≡ old.id → new.n ≡ old.n → new.outboxes.items ≡ old.outboxes.items → (to : ℕ) →
+    outbox_to new to ≡ outbox_to old to
+outbox_same old new set_is id_is n_is boxes to =
+    ap (λ st. outbox_in st new.n new.id new.outboxes.items to) set_is
+    ∙ ap (λ m. outbox_in old.set m new.id new.outboxes.items to) n_is
+    ∙ ap (λ m. outbox_in old.set old.n m new.outboxes.items to) id_is
+    ∙ ap (λ xs. outbox_in old.set old.n old.id xs to) boxes
+
+pub node_after : (k : Setting) (i : ℕ) (node after : Node) → IsNodeOf k i node → IsSound after → after.set ≡ node.set → after.id ≡ node.id →
+    after.n ≡ node.n → ((class : ℕ) → status_at after.share class ≡ status_at node.share class) → IsNodeOf k i after
+node_after k i node after is sound set_is id_is n_is statuses = record {
+  sound = sound;
+  of = of_after;
+  statuses = λ class own. subst (λ (s : Status). HasStatus (class_setup k.set class) s) (sym (statuses class))
+      (is.statuses class (((kept_of k i node is).owned class).1 ((kept_there.owned class).0 own)));
+}
+  where
+    of_after : (after.set ≡ k.set) × (after.id ≡ i) × (after.n ≡ k.n)
+    of_after = (set_is ∙ is.of.0, id_is ∙ is.of.1, n_is ∙ is.of.2)
+
+    kept_there : AreKept k.set k.n i after.share after.history
+    kept_there =
+        subst (λ (st : PieceSet). AreKept st k.n i after.share after.history) of_after.0
+        (subst (λ (m : ℕ). AreKept after.set m i after.share after.history) of_after.2
+        (subst (λ (m : ℕ). AreKept after.set after.n m after.share after.history) of_after.1 sound.kept))
+
+pub chain_statuses : (items : List Item) (share after : Share) (history grown : HistoryView) → AreTaken items share after history grown → (class : ℕ) →
+    status_at after class ≡ status_at share class
+chain_statuses [] share after history grown taken class = ap (λ (s : Share). status_at s class) taken.0
+chain_statuses (item ∷ items) share after history grown taken class =
+    chain_statuses items taken.0 after taken.1 grown taken.3 class ∙ taken.2.statuses class
+
+-- ---- an own item
+
+module _ (k : Setting) (nodes : List Node) (lanes : List Lane) (i : ℕ) (low : i < k.n) (node after : Node) (lane next : Lane)
+    (there_n : slice_get nodes i ≡ Some node) (there_l : lane_at k.n lanes i i ≡ Some lane) (whole : length lanes ≡ k.n * k.n)
+    (is : IsNodeOf k i node) (step : HasListed node lane after next) where
+  pub node_owned : IsSound after → IsNodeOf k i after
+  node_owned sound = node_after k i node after is sound step.applied.same.0 step.applied.same.1 step.applied.same.2 step.applied.taken.statuses
+
+  pub lane_owned : IsLaneOf k i i lane → IsLaneOf k i i next
+  lane_owned of = record {
+    capacity = ap (λ (l : LinkView). l.capacity) step.same.0 ∙ of.capacity;
+    batches = subst (λ (l : LinkView). All (IsBatchFor k.set k.n i) l.waiting) (sym step.same.0) of.batches;
+  }
+
+  own_first : (state_shown k.set k.n nodes lanes).own i ≡ step.applied.item ∷ after.own.items
+  unfolding state_shown
+  own_first = was nodes i node after there_n [] (λ (x : Node). x.own.items) ∙ step.applied.first
+
+  pub owns : 0 < k.n → AreLawful k (state_shown k.set k.n nodes lanes).nodes → IsLinked k (state_shown k.set k.n nodes lanes) →
+      AppliesOwn k i (state_shown k.set k.n nodes lanes) (state_shown k.set k.n (set nodes i after) (set lanes (i * k.n + i) next))
+  unfolding state_shown
+  owns some lawful linked = record {
+    item = step.applied.item;
+    first = own_first ∙ ap (λ xs. step.applied.item ∷ xs) (sym (here nodes i node after there_n [] (λ (x : Node). x.own.items)));
+    applied = applies_one k nodes lanes i i low low node after lane next there_n there_l whole some step.applied.item
+        (after.own.items ++ items_from (predecessors k.set) k.n i (drop ((state_shown k.set k.n nodes lanes).expanded i) ((state_shown k.set k.n nodes lanes).nodes.history i)))
+        (kept_of k i node is) step.applied.taken lawful
+        (next_own k (state_shown k.set k.n nodes lanes) i (step.applied.item ∷ after.own.items) linked low own_first) step.listed;
+    others = elsewhere nodes i node after there_n [] (λ (x : Node). x.own.items);
+    same = (
+      stays nodes i node after there_n 0 (λ (x : Node). x.expanded) step.applied.same.3,
+      λ m l. stays nodes i node after there_n [] (λ (x : Node). (outbox_to x l).items) (ap (λ (o : OutboxView). o.items)
+          (outbox_same node after step.applied.same.0 step.applied.same.1 step.applied.same.2 step.applied.outboxes l)) m,
+    );
+    links = (
+      lane_stays k.n lanes i i lane next low low whole there_l [] (λ (x : Lane). x.link.waiting) (ap (λ (l : LinkView). l.waiting) step.same.0),
+      lane_stays k.n lanes i i lane next low low whole there_l [] (λ (x : Lane). x.sent.items) step.same.1,
+    );
+  }
+
+-- ---- a batch taken
+
+module _ (k : Setting) (nodes : List Node) (lanes : List Lane) (i j : ℕ) (low_i : i < k.n) (low_j : j < k.n) (differs : i ≢ j) (node after : Node)
+    (lane next : Lane) (there_n : slice_get nodes j ≡ Some node) (there_l : lane_at k.n lanes i j ≡ Some lane) (whole : length lanes ≡ k.n * k.n)
+    (is : IsNodeOf k j node) (is_lane : IsLaneOf k i j lane) (step : HasReceived node lane after next) where
+  pub node_received : IsSound after → IsNodeOf k j after
+  node_received sound = node_after k j node after is sound step.taken.same.0 step.taken.same.1 step.taken.same.2
+      (chain_statuses step.batch.items node.share after.share node.history after.history step.taken.taken)
+
+  waits_are : lane.link.waiting ≡ step.batch ∷ next.link.waiting
+  waits_are = ap (λ (l : LinkView). l.waiting) step.first
+
+  batches_are : All (IsBatchFor k.set k.n j) (step.batch ∷ next.link.waiting)
+  batches_are = subst (λ bs. All (IsBatchFor k.set k.n j) bs) waits_are is_lane.batches
+
+  pub lane_received : IsLaneOf k i j next
+  lane_received = record {
+    capacity = sym (ap (λ (l : LinkView). l.capacity) step.first) ∙ is_lane.capacity;
+    batches = All-tail (IsBatchFor k.set k.n j) step.batch next.link.waiting batches_are;
+  }
+
+  pub waits_first : (state_shown k.set k.n nodes lanes).waiting i j ≡ step.batch ∷ next.link.waiting
+  unfolding state_shown
+  waits_first = lane_was k.n lanes i j lane next low_i low_j whole there_l [] (λ (x : Lane). x.link.waiting) ∙ waits_are
+
+  pub receives : 0 < k.n → AreLawful k (state_shown k.set k.n nodes lanes).nodes → IsLinked k (state_shown k.set k.n nodes lanes) →
+      TakesBatch k i j (state_shown k.set k.n nodes lanes) (state_shown k.set k.n (set nodes j after) (set lanes (i * k.n + j) next))
+  unfolding state_shown
+  receives some lawful linked = record {
+    batch = step.batch;
+    first = waits_first ∙ ap (λ bs. step.batch ∷ bs) (sym (lane_here k.n lanes i j lane next low_i low_j whole there_l [] (λ (x : Lane). x.link.waiting)));
+    applied = applies_many k nodes lanes i j low_i low_j node after lane next there_n there_l whole some step.batch.items
+        (items_of_batches next.link.waiting ++ ((state_shown k.set k.n nodes lanes).outbox i j
+        ++ items_from (predecessors k.set) k.n j (drop ((state_shown k.set k.n nodes lanes).expanded i) ((state_shown k.set k.n nodes lanes).nodes.history i))))
+        differs (kept_of k j node is) (All-head (IsBatchFor k.set k.n j) step.batch next.link.waiting batches_are).entries step.taken.taken lawful
+        (next_waiting k (state_shown k.set k.n nodes lanes) i j step.batch next.link.waiting linked low_i low_j differs waits_first) step.listed;
+    others = lane_else k.n lanes i j lane next low_i low_j whole there_l [] (λ (x : Lane). x.link.waiting);
+    same = (
+      stays nodes j node after there_n 0 (λ (x : Node). x.expanded) step.taken.same.3,
+      stays nodes j node after there_n [] (λ (x : Node). x.own.items) step.taken.own,
+      λ m l. stays nodes j node after there_n [] (λ (x : Node). (outbox_to x l).items) (ap (λ (o : OutboxView). o.items)
+          (outbox_same node after step.taken.same.0 step.taken.same.1 step.taken.same.2 step.taken.outboxes l)) m,
+      lane_stays k.n lanes i j lane next low_i low_j whole there_l [] (λ (x : Lane). x.sent.items) step.same,
+    );
+  }
+
+-- ---- a batch posted
+
+module _ (k : Setting) (nodes : List Node) (lanes : List Lane) (i j : ℕ) (low_i : i < k.n) (low_j : j < k.n) (node after : Node)
+    (lane next : Lane) (there_n : slice_get nodes i ≡ Some node) (there_l : lane_at k.n lanes i j ≡ Some lane) (whole : length lanes ≡ k.n * k.n)
+    (is : IsNodeOf k i node) (is_lane : IsLaneOf k i j lane) (step : HasPosted j k.batch node lane after next) where
+  pub node_posted : IsSound after → IsNodeOf k i after
+  node_posted sound = node_after k i node after is sound step.cut.same.0 step.cut.same.1 step.cut.same.2
+      (λ class. ap (λ (s : Share). status_at s class) step.cut.kept.0)
+
+  batch_for : IsBatchFor k.set k.n j step.batch
+  batch_for = record {
+    of = (
+      step.cut.cut.of_link.0 ∙ (is.sound.addressed j).of.0 ∙ is.of.0,
+      step.cut.cut.of_link.1 ∙ (is.sound.addressed j).of.1 ∙ is.of.2,
+      step.cut.cut.of_link.3 ∙ (is.sound.addressed j).of.3,
+    );
+    entries = step.cut.entries;
+  }
+
+  pub lane_posted : IsLaneOf k i j next
+  lane_posted = record {
+    capacity = ap (λ (l : LinkView). l.capacity) step.link ∙ is_lane.capacity;
+    batches = subst (λ (l : LinkView). All (IsBatchFor k.set k.n j) l.waiting) (sym step.link)
+        (All-append (IsBatchFor k.set k.n j) lane.link.waiting (step.batch ∷ []) is_lane.batches
+        (All-cons (IsBatchFor k.set k.n j) step.batch [] batch_for (All-nil (IsBatchFor k.set k.n j))));
+  }
+
+  pub posts : Posts k i j (state_shown k.set k.n nodes lanes) (state_shown k.set k.n (set nodes i after) (set lanes (i * k.n + j) next))
+  unfolding state_shown nodes_shown
+  posts = record {
+    batch = step.batch;
+    items = step.cut.cut.items ∙ ap (λ xs. take k.batch xs) (sym (was nodes i node after there_n [] (λ (x : Node). (outbox_to x j).items)));
+    left = here nodes i node after there_n [] (λ (x : Node). (outbox_to x j).items) ∙ step.cut.cut.left
+        ∙ ap (λ xs. drop k.batch xs) (sym (was nodes i node after there_n [] (λ (x : Node). (outbox_to x j).items)));
+    waits = lane_here k.n lanes i j lane next low_i low_j whole there_l [] (λ (x : Lane). x.link.waiting)
+        ∙ ap (λ (l : LinkView). l.waiting) step.link
+        ∙ ap (λ bs. bs ++ step.batch ∷ []) (sym (lane_was k.n lanes i j lane next low_i low_j whole there_l [] (λ (x : Lane). x.link.waiting)));
+    sent = lane_here k.n lanes i j lane next low_i low_j whole there_l [] (λ (x : Lane). x.sent.items)
+        ∙ step.sent
+        ∙ ap (λ xs. xs ++ step.batch.items) (sym (lane_was k.n lanes i j lane next low_i low_j whole there_l [] (λ (x : Lane). x.sent.items)));
+    others = (
+      outbox_else,
+      lane_else k.n lanes i j lane next low_i low_j whole there_l [] (λ (x : Lane). x.link.waiting),
+      lane_else k.n lanes i j lane next low_i low_j whole there_l [] (λ (x : Lane). x.sent.items),
+    );
+    same = (
+      stays nodes i node after there_n 0 (λ (x : Node). x.expanded) step.cut.same.3,
+      stays nodes i node after there_n [] (λ (x : Node). x.own.items) step.cut.kept.2,
+    );
+    nodes = record {
+      history = stays nodes i node after there_n [] (λ (x : Node). x.history.settlements) (ap (λ (h : HistoryView). h.settlements) step.cut.kept.1);
+      applied = lane_stays k.n lanes i j lane next low_i low_j whole there_l [] (λ (x : Lane). x.applied.items) step.same;
+      cell = λ class. ap (λ c. cond (nat_lt class (classes_of k.set)) c (fresh 0)) (stays nodes i node after there_n (fresh 0)
+          (λ (x : Node). cell_at x.share class) (ap (λ (s : Share). cell_at s class) step.cut.kept.0) (owner_of k.n class));
+    };
+  }
+    where
+      outbox_else : (m l : ℕ) → (m ≢ i) ⊎ (l ≢ j) →
+          part [] (λ (x : Node). (outbox_to x l).items) (slice_get (set nodes i after) m) ≡ part [] (λ (x : Node). (outbox_to x l).items) (slice_get nodes m)
+      outbox_else m l (inl other) = elsewhere nodes i node after there_n [] (λ (x : Node). (outbox_to x l).items) m other
+      outbox_else m l (inr other) = stays nodes i node after there_n [] (λ (x : Node). (outbox_to x l).items)
+          (ap (λ (o : OutboxView). o.items) (step.cut.others l other)) m

@@ -1,0 +1,120 @@
+-- Elements of lists after a write, and nodes and lanes among them.
+use Rattle.std.proofs.Common.{◌≡◌, ◌≢◌, ℕ, zero, suc, ◌+◌, ◌*◌, ◌<◌, ◌⊎◌, inl, inr, nat_lt, Bool, true, false, cond, refl, sym, ap, ◌∙◌, subst, arith, List, [], ◌∷◌, length, Option, None, Some, slice_get, set, get_or}
+use Rattle.std.proofs.lemmas.Bool.{cases_Bool, cases_eq}
+use Rattle.std.proofs.lemmas.Bool.Decides.{nat_tests}
+use Rattle.std.proofs.lemmas.Nat.{mul-add-lt, same_from_place}
+use Rattle.std.proofs.lemmas.Option.{slice_get-get_or, slice_get_within}
+use Rattle.dob_node.specs.declared.node.Node.{Node}
+use Rattle.dob_world.specs.declared.lane.Lane.{Lane}
+use Rattle.dob_world.specs.Shown.{part, lane_at}
+use Rattle.dob_world.proofs.Places.{at_node, at_link}
+
+pub get_set_same : {X : Type 0} (xs : List X) (i : ℕ) (y : X) → i < length xs → slice_get (set xs i y) i ≡ Some y
+get_set_same [] i y within = absurd (omega arith)
+get_set_same (x ∷ xs) zero y within = refl
+get_set_same (x ∷ xs) (suc i) y within = get_set_same xs i y (omega arith)
+
+pub get_set_other : {X : Type 0} (xs : List X) (i m : ℕ) (y : X) → m ≢ i → slice_get (set xs i y) m ≡ slice_get xs m
+get_set_other [] i m y other = refl
+get_set_other (x ∷ xs) zero zero y other = absurd (other refl)
+get_set_other (x ∷ xs) zero (suc m) y other = refl
+get_set_other (x ∷ xs) (suc i) zero y other = refl
+get_set_other (x ∷ xs) (suc i) (suc m) y other = get_set_other xs i m y (λ same. other (ap suc same))
+
+pub set_same : {X : Type 0} (xs : List X) (i : ℕ) (y : X) → slice_get xs i ≡ Some y → set xs i y ≡ xs
+set_same [] i y there = refl
+set_same (x ∷ xs) zero y there = let e : x ≡ y = cc in ap (λ z. z ∷ xs) (sym e)
+set_same (x ∷ xs) (suc i) y there = ap (λ zs. x ∷ zs) (set_same xs i y there)
+
+pub there_by : {X : Type 0} (xs : List X) (i : ℕ) (x : X) → i < length xs → x ≡ get_or xs i x → slice_get xs i ≡ Some x
+there_by xs i x within is = slice_get-get_or xs i x within ∙ ap Some (sym is)
+
+some_is : {X : Type 0} (a b : X) → Some a ≡ Some b → a ≡ b
+some_is a b e = cc
+
+-- ---- nodes
+
+module _ (nodes : List Node) (i : ℕ) (node after : Node) (there : slice_get nodes i ≡ Some node) where
+  pub here : {Y : Type 0} (d : Y) (f : Node → Y) → part d f (slice_get (set nodes i after) i) ≡ f after
+  here d f = ap (part d f) (get_set_same nodes i after (slice_get_within nodes i node there))
+
+  pub was : {Y : Type 0} (d : Y) (f : Node → Y) → part d f (slice_get nodes i) ≡ f node
+  was d f = ap (part d f) there
+
+  pub elsewhere : {Y : Type 0} (d : Y) (f : Node → Y) (m : ℕ) → m ≢ i → part d f (slice_get (set nodes i after) m) ≡ part d f (slice_get nodes m)
+  elsewhere d f m other = ap (part d f) (get_set_other nodes i m after other)
+
+  -- what stays of the node stays of all
+  pub stays : {Y : Type 0} (d : Y) (f : Node → Y) → f after ≡ f node → (m : ℕ) → part d f (slice_get (set nodes i after) m) ≡ part d f (slice_get nodes m)
+  stays d f same m = at_node (λ a. part d f (slice_get (set nodes i after) a) ≡ part d f (slice_get nodes a)) i m
+      (here d f ∙ same ∙ sym (was d f)) (elsewhere d f m)
+
+  pub set_cases : (P : ℕ → Node → Type 0) → P i after → ((m : ℕ) (x : Node) → slice_get nodes m ≡ Some x → P m x) → (m : ℕ) (x : Node) →
+      slice_get (set nodes i after) m ≡ Some x → P m x
+  set_cases P at others m x is = elim (cases_same m) [
+    | inl same ↦ subst (λ a. P a x) (sym same)
+        (subst (P i) (some_is after x (sym (get_set_same nodes i after (slice_get_within nodes i node there)) ∙ subst (λ a. slice_get (set nodes i after) a ≡ Some x) same is)) at)
+    | inr other ↦ others m x (sym (get_set_other nodes i m after other) ∙ is)
+  ]
+    where
+      cases_same : (m : ℕ) → (m ≡ i) ⊎ (m ≢ i)
+      cases_same m = cases_eq m i
+
+-- ---- lanes
+
+lt_true : (a b : ℕ) → a < b → nat_lt a b ≡ true
+lt_true a b less = grind (arith, nat_tests)
+
+lt_from : (a b : ℕ) → nat_lt a b ≡ true → a < b
+lt_from a b is = grind (arith, nat_tests)
+
+pub lane_is : (n : ℕ) (lanes : List Lane) (i j : ℕ) → j < n → lane_at n lanes i j ≡ slice_get lanes (i * n + j)
+lane_is n lanes i j low = ap (λ b. cond b (slice_get lanes (i * n + j)) None) (lt_true j n low)
+
+module _ (n : ℕ) (lanes : List Lane) (i j : ℕ) (lane after : Lane) (low_i : i < n) (low_j : j < n) (whole : length lanes ≡ n * n)
+    (there : lane_at n lanes i j ≡ Some lane) where
+  abbrev pub place : ℕ
+  place = i * n + j
+
+  set_there : lane_at n (set lanes place after) i j ≡ Some after
+  set_there = lane_is n (set lanes place after) i j low_j
+      ∙ get_set_same lanes place after (let below : i * n + j < n * n = mul-add-lt i n j n low_i low_j in omega arith)
+
+  set_else : (m l : ℕ) → (m ≢ i) ⊎ (l ≢ j) → lane_at n (set lanes place after) m l ≡ lane_at n lanes m l
+  set_else m l other = by (nat_lt l n) refl
+    where
+      by : (b : Bool) → nat_lt l n ≡ b → cond b (slice_get (set lanes place after) (m * n + l)) None ≡ cond b (slice_get lanes (m * n + l)) None
+      by true is = get_set_other lanes place (m * n + l) after (λ same.
+          let both = same_from_place m l i j n (lt_from l n is) low_j same in
+          elim other [ inl ne ↦ ne both.0 | inr ne ↦ ne both.1 ])
+      by false is = refl
+
+  pub lane_here : {Y : Type 0} (d : Y) (f : Lane → Y) → part d f (lane_at n (set lanes place after) i j) ≡ f after
+  lane_here d f = ap (part d f) set_there
+
+  pub lane_was : {Y : Type 0} (d : Y) (f : Lane → Y) → part d f (lane_at n lanes i j) ≡ f lane
+  lane_was d f = ap (part d f) there
+
+  pub lane_else : {Y : Type 0} (d : Y) (f : Lane → Y) (m l : ℕ) → (m ≢ i) ⊎ (l ≢ j) →
+      part d f (lane_at n (set lanes place after) m l) ≡ part d f (lane_at n lanes m l)
+  lane_else d f m l other = ap (part d f) (set_else m l other)
+
+  pub lane_stays : {Y : Type 0} (d : Y) (f : Lane → Y) → f after ≡ f lane → (m l : ℕ) →
+      part d f (lane_at n (set lanes place after) m l) ≡ part d f (lane_at n lanes m l)
+  lane_stays d f same m l = at_link (λ a b. part d f (lane_at n (set lanes place after) a b) ≡ part d f (lane_at n lanes a b)) i j m l
+      (lane_here d f ∙ same ∙ sym (lane_was d f)) (lane_else d f m l)
+
+  pub lane_cases : (P : ℕ → ℕ → Lane → Type 0) → P i j after → ((m l : ℕ) (x : Lane) → lane_at n lanes m l ≡ Some x → P m l x) →
+      (m l : ℕ) (x : Lane) → lane_at n (set lanes place after) m l ≡ Some x → P m l x
+  lane_cases P at others m l x is = elim (cases_same m i) [
+    | inl same ↦ elim (cases_same l j) [
+      | inl alike ↦ subst (λ a. P a l x) (sym same) (subst (λ b. P i b x) (sym alike) (subst (P i j)
+          (some_is after x (sym set_there ∙ subst (λ b. lane_at n (set lanes place after) i b ≡ Some x) alike
+          (subst (λ a. lane_at n (set lanes place after) a l ≡ Some x) same is))) at))
+      | inr other ↦ others m l x (sym (set_else m l (inr other)) ∙ is)
+    ]
+    | inr other ↦ others m l x (sym (set_else m l (inl other)) ∙ is)
+  ]
+    where
+      cases_same : (a b : ℕ) → (a ≡ b) ⊎ (a ≢ b)
+      cases_same a b = cases_eq a b

@@ -1,0 +1,188 @@
+-- A world of opened nodes with empty lanes is lawful and linked.
+use Rattle.std.proofs.Common.{◌≡◌, ◌≢◌, ℕ, zero, suc, ◌+◌, ◌*◌, ◌/◌, ◌%◌, ◌<◌, ◌≤◌, ◌⊎◌, inl, inr, nat_lt, Bool, true, false, cond, refl, sym, ap, ◌∙◌, subst, arith, List, [], ◌∷◌, ◌++◌, length, take, Option, None, Some, slice_get}
+use Rattle.std.specs.List.{All}
+use Rattle.std.proofs.Math.Nat.{mod-add-div'}
+use Rattle.std.proofs.lemmas.Option.{slice_get_within}
+use Rattle.dob_pieces.specs.declared.piece_set.PieceSet.{PieceSet}
+use Rattle.dob_moves.specs.declared.outlook.Status.{Status}
+use Rattle.dob_moves.specs.declared.outlook.Status.TheVariants.{Open}
+use Rattle.dob_moves.specs.MoveLists.{moves_of}
+use Rattle.dob_moves.specs.Statuses.{HasStatus}
+use Rattle.dob_moves.proofs.Cases.{one_status}
+use Rattle.dob_rank.specs.Marks.{classes_of}
+use Rattle.dob_rank.specs.ClassRows.{class_setup}
+use Rattle.dob_value.specs.declared.value.Value.{Value}
+use Rattle.dob_value.specs.declared.value.Value.TheVariants.{Draw}
+use Rattle.dob_value.specs.Follows.{IsEntry}
+use Rattle.dob_unmove.specs.Edges.{predecessors}
+use Rattle.dob_share.specs.declared.news.Settlement.{Settlement}
+use Rattle.dob_share.specs.declared.news.Item.{Item}
+use Rattle.dob_share.specs.declared.opening.Opening.{Opening}
+use Rattle.dob_share.specs.Owners.{owner_of}
+use Rattle.dob_share.specs.Openings.{opening_of}
+use Rattle.dob_share.specs.Cells.{SameCell, SumsUp, CellValue, fresh}
+use Rattle.dob_share.specs.Shares.{places_of, IsOwn, cell_at}
+use Rattle.dob_update.specs.Items.{items_from}
+use Rattle.dob_update.specs.Batches.{BatchView, OutboxView}
+use Rattle.dob_node.specs.Histories.{value_of, IsChained}
+use Rattle.dob_node.specs.Quiet.{FollowsAtStatus}
+use Rattle.dob_node.specs.Openings.{AreOpenings}
+use Rattle.dob_node.specs.OpeningLists.{opening_value, opening_settlements, status_in}
+use Rattle.dob_node.specs.Lawful.{known_of}
+use Rattle.dob_node.specs.declared.node.Node.{Node}
+use Rattle.dob_node.specs.Nodes.{IsSound, IsOpened, outbox_to}
+use Rattle.dob_node.proofs.Takes.{SumsUp-same, CellValue-same}
+use Rattle.dob_node.proofs.Totals.{start_sums}
+use Rattle.dob_node.proofs.Rest.{below_owner}
+use Rattle.dob_node.proofs.SoleOpens.{listed_opening}
+use Rattle.dob_world.specs.declared.lane.Lane.{Lane}
+use Rattle.dob_world.specs.Worlds.{Setting, Nodes, value_in, AreLawful, IsLinked, items_of_batches}
+use Rattle.dob_world.specs.Shown.{part, lane_at, nodes_shown, state_shown, IsNodeOf, IsLaneOf, AreInPlace, AreOpenedNodes, AreEmptyLanes, IsEmptyLane}
+use Rattle.dob_world.specs.Lanes.{IsBatchFor}
+use Rattle.dob_link.specs.Links.{LinkView}
+use Rattle.std.proofs.lemmas.List.Elements.{All-nil}
+use Rattle.dob_world.proofs.Made.{kept_of, node_opened, low_own}
+use Rattle.dob_world.proofs.Taken.{lt_true}
+use Rattle.dob_world.proofs.Openings.{or_else, closed_follows, opened_value, opened_chained, opened_entries}
+
+some_at : {X : Type 0} (xs : List X) (i : ℕ) → i < length xs → (x : X) × (slice_get xs i ≡ Some x)
+some_at [] i within = absurd (omega arith)
+some_at (x ∷ xs) zero within = (x, refl)
+some_at (x ∷ xs) (suc i) within = some_at xs i (omega arith)
+
+part_nil : {X Y : Type 0} (f : X → List Y) (o : Option X) → ((x : X) → o ≡ Some x → f x ≡ []) → part [] f o ≡ []
+part_nil f None none = refl
+part_nil f (Some x) none = none x refl
+
+module _ (k : Setting) (openings : List Opening) (nodes : List Node) (lanes : List Lane) (some : 0 < k.n) (are : AreOpenings k.set openings)
+    (opened : AreOpenedNodes openings k.set k.n k.n nodes) (empty : AreEmptyLanes k.capacity (k.n * k.n) lanes) where
+  abbrev status : ℕ → Status
+  status = status_in openings
+
+  abbrev shown : Nodes
+  shown = nodes_shown k.set k.n nodes lanes
+
+  of_n : (i : ℕ) → i < k.n → (node : Node) × (slice_get nodes i ≡ Some node)
+  of_n i low = some_at nodes i (subst (λ (m : ℕ). i < m) (sym opened.whole) low)
+
+  low_by : (i : ℕ) (node : Node) → slice_get nodes i ≡ Some node → i < k.n
+  low_by i node there = subst (λ (m : ℕ). i < m) opened.whole (slice_get_within nodes i node there)
+
+  is_node : (i : ℕ) (node : Node) → slice_get nodes i ≡ Some node → IsNodeOf k i node
+  is_node i node there = let o = opened.each i node there in
+      node_opened k i node o.1 o.0.of (λ class own. subst (λ (s : Status). HasStatus (class_setup k.set class) s) (sym (o.0.statuses class own))
+      (listed_opening k.set openings class are (low_own k i node o.1 o.0.of class own)).status)
+
+  lane_empty : (i j : ℕ) (lane : Lane) → lane_at k.n lanes i j ≡ Some lane → IsEmptyLane k.capacity lane
+  lane_empty i j lane there = by (nat_lt j k.n) refl
+    where
+      by : (b : Bool) → nat_lt j k.n ≡ b → IsEmptyLane k.capacity lane
+      by true is = empty.each (i * k.n + j) lane (sym (ap (λ b. cond b (slice_get lanes (i * k.n + j)) None) is) ∙ there)
+      by false is = absurd (let e : None ≡ Some lane = sym (ap (λ b. cond b (slice_get lanes (i * k.n + j)) None) is) ∙ there in cc)
+
+  pub places_start : AreInPlace k nodes lanes
+  places_start = record {
+    nodes_whole = opened.whole;
+    lanes_whole = empty.whole;
+    node = is_node;
+    lane = λ i j lane there. let e = lane_empty i j lane there in record {
+      capacity = ap (λ (l : LinkView). l.capacity) e.link;
+      batches = subst (λ (l : LinkView). All (IsBatchFor k.set k.n j) l.waiting) (sym e.link) (All-nil (IsBatchFor k.set k.n j));
+    };
+  }
+
+  history_is : (i : ℕ) (node : Node) → slice_get nodes i ≡ Some node → shown.history i ≡ opening_settlements status k.n i (places_of node.share)
+  unfolding nodes_shown
+  history_is i node there = ap (part [] (λ (x : Node). x.history.settlements)) there ∙ (opened.each i node there).0.history
+
+  none_applied : (i j : ℕ) → shown.applied i j ≡ []
+  unfolding nodes_shown
+  none_applied i j = part_nil (λ (x : Lane). x.applied.items) (lane_at k.n lanes i j) (λ lane there. (lane_empty i j lane there).applied)
+
+  place_is : (p : ℕ) → p / k.n * k.n + owner_of k.n p ≡ p
+  place_is p = let e : p % k.n + p / k.n * k.n ≡ p = mod-add-div' p k.n in omega arith
+
+  value_is : (p : ℕ) (s : Status) → p < classes_of k.set → HasStatus (class_setup k.set p) s → value_in k.n shown p ≡ or_else (opening_value s) Draw
+  value_is p s low is =
+      let i = owner_of k.n p in
+      let low_i : i < k.n = below_owner k.n p some in
+      let node = (of_n i low_i).0 in
+      let there = (of_n i low_i).1 in
+      let within : p / k.n * k.n + i < length openings = subst (λ (m : ℕ). m < length openings) (sym (place_is p)) (subst (λ (m : ℕ). p < m) (sym are.whole) low) in
+      ap (λ xs. value_of xs p) (history_is i node there)
+      ∙ ap (λ (m : ℕ). value_of (opening_settlements status k.n i (places_of node.share)) m) (sym (place_is p))
+      ∙ opened_value k.n i low_i status (places_of node.share) (p / k.n) (((opened.each i node there).0.places (p / k.n)).1 within)
+      ∙ ap (λ (m : ℕ). or_else (opening_value (status m)) Draw) (place_is p)
+      ∙ ap (λ st. or_else (opening_value st) Draw) (one_status (class_setup k.set p) (status p) s (listed_opening k.set openings p are low).status is)
+
+  cell_is : (p : ℕ) → p < classes_of k.set → SameCell (shown.cell p) (fresh (length (moves_of (class_setup k.set p))))
+  unfolding nodes_shown
+  cell_is p low =
+      let i = owner_of k.n p in
+      let low_i : i < k.n = below_owner k.n p some in
+      let node = (of_n i low_i).0 in
+      let there = (of_n i low_i).1 in
+      let at : shown.cell p ≡ cell_at node.share p =
+      ap (λ b. cond b (part (fresh 0) (λ (x : Node). cell_at x.share p) (slice_get nodes i)) (fresh 0)) (lt_true p (classes_of k.set) low)
+      ∙ ap (part (fresh 0) (λ (x : Node). cell_at x.share p)) there in
+      subst (λ c. SameCell c (fresh (length (moves_of (class_setup k.set p))))) (sym at)
+      (subst (λ (m : ℕ). SameCell (cell_at node.share p) (fresh m)) (listed_opening k.set openings p are low).moves
+      ((opened.each i node there).0.cells p (((kept_of k i node (is_node i node there)).owned p).1 (refl, low))))
+
+  pub lawful_start : AreLawful k shown
+  lawful_start = record {
+    chained = λ i low. let at = of_n i low in
+        subst (λ xs. IsChained (classes_of k.set) k.n i xs) (sym (history_is i at.0 at.1))
+        (opened_chained k.n i low status (classes_of k.set) (places_of at.0.share) (λ q less.
+        subst (λ (m : ℕ). q * k.n + i < m) are.whole (((opened.each i at.0 at.1).0.places q).0 less)));
+    entries = λ i low. let at = of_n i low in
+        subst (λ xs. All (λ (s : Settlement). IsEntry s.now) xs) (sym (history_is i at.0 at.1))
+        (opened_entries k.n i low status (places_of at.0.share));
+    begun = λ i j low_i low_j. (
+      items_from (predecessors k.set) k.n j (shown.history i),
+      ap (λ xs. xs ++ items_from (predecessors k.set) k.n j (shown.history i)) (sym (none_applied i j)),
+    );
+    sums = λ p low is. SumsUp-same (known_of k.set k.n shown.history shown.applied p) (shown.cell p)
+        (fresh (length (moves_of (class_setup k.set p)))) (cell_is p low)
+        (start_sums k.set p low k.n shown.history (λ i. shown.applied i (owner_of k.n p)) (λ i. none_applied i (owner_of k.n p)));
+    cell_values = λ p low is. subst (λ v. CellValue (shown.cell p) v) (sym (value_is p Open low is))
+        (CellValue-same (shown.cell p) (fresh (length (moves_of (class_setup k.set p)))) Draw (cell_is p low) (refl, inr (λ plies. refl)));
+    over = λ p s low is closed. subst (λ v. FollowsAtStatus s [] v) (sym (value_is p s low is)) (closed_follows s closed);
+    values = λ p low. refl;
+  }
+
+  pub lawful_shown : AreLawful k (state_shown k.set k.n nodes lanes).nodes
+  unfolding state_shown
+  lawful_shown = lawful_start
+
+  pub linked_start : IsLinked k (state_shown k.set k.n nodes lanes)
+  unfolding state_shown
+  linked_start = record {
+    expanded = λ i low. let e = none_expanded i low in omega arith;
+    own = λ i low. told_none i i low ∙ sym (ap (λ xs. xs ++ part [] (λ (x : Node). x.own.items) (slice_get nodes i)) (none_applied i i) ∙ none_own i);
+    posted = λ i j low_i low_j differs. told_none i j low_i ∙ sym (ap (λ xs. xs ++ part [] (λ (x : Node). (outbox_to x j).items) (slice_get nodes i)) (none_sent i j) ∙ none_out i j);
+    taken = λ i j low_i low_j differs. none_sent i j
+        ∙ sym (ap (λ xs. xs ++ items_of_batches (part [] (λ (x : Lane). x.link.waiting) (lane_at k.n lanes i j))) (none_applied i j)
+        ∙ ap items_of_batches (none_waits i j));
+  }
+    where
+      none_expanded : (i : ℕ) → i < k.n → part 0 (λ (x : Node). x.expanded) (slice_get nodes i) ≡ 0
+      none_expanded i low = let at = of_n i low in ap (part 0 (λ (x : Node). x.expanded)) at.1 ∙ (opened.each i at.0 at.1).0.nothing.0
+
+      none_own : (i : ℕ) → part [] (λ (x : Node). x.own.items) (slice_get nodes i) ≡ []
+      none_own i = part_nil (λ (x : Node). x.own.items) (slice_get nodes i) (λ node there. (opened.each i node there).0.nothing.1)
+
+      none_out : (i j : ℕ) → part [] (λ (x : Node). (outbox_to x j).items) (slice_get nodes i) ≡ []
+      none_out i j = part_nil (λ (x : Node). (outbox_to x j).items) (slice_get nodes i)
+          (λ node there. ap (λ (o : OutboxView). o.items) ((opened.each i node there).0.outboxes j))
+
+      none_sent : (i j : ℕ) → part [] (λ (x : Lane). x.sent.items) (lane_at k.n lanes i j) ≡ []
+      none_sent i j = part_nil (λ (x : Lane). x.sent.items) (lane_at k.n lanes i j) (λ lane there. (lane_empty i j lane there).sent)
+
+      none_waits : (i j : ℕ) → part [] (λ (x : Lane). x.link.waiting) (lane_at k.n lanes i j) ≡ []
+      none_waits i j = part_nil (λ (x : Lane). x.link.waiting) (lane_at k.n lanes i j)
+          (λ lane there. ap (λ (l : LinkView). l.waiting) (lane_empty i j lane there).link)
+
+      told_none : (i j : ℕ) → i < k.n →
+          items_from (predecessors k.set) k.n j (take (part 0 (λ (x : Node). x.expanded) (slice_get nodes i)) (shown.history i)) ≡ []
+      told_none i j low = ap (λ e. items_from (predecessors k.set) k.n j (take e (shown.history i))) (none_expanded i low)

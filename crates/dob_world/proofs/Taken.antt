@@ -1,0 +1,317 @@
+-- Items that a node's share takes, as items that the node of a world applies.
+use Rattle.std.proofs.Common.{◌≡◌, ◌≢◌, ℕ, ◌%◌, ◌<◌, ◌≤◌, ◌&&◌, ◌⊎◌, inl, inr, eqb, nat_lt, Bool, true, false, cond, refl, sym, ap, ◌∙◌, subst, arith, List, [], ◌∷◌, ◌++◌, length, append_assoc, Option, None, Some}
+use Rattle.std.specs.List.{All}
+use Rattle.std.proofs.lemmas.Bool.{cases_eq, cases_Bool, eqb-true}
+use Rattle.std.proofs.lemmas.Bool.Decides.{nat_tests}
+use Rattle.std.proofs.lemmas.List.{append-nil}
+use Rattle.std.proofs.lemmas.List.Elements.{All-head, All-tail}
+use Rattle.dob_moves.specs.declared.outlook.Status.{Status}
+use Rattle.dob_moves.specs.declared.outlook.Status.TheVariants.{Open}
+use Rattle.dob_rank.specs.Marks.{classes_of}
+use Rattle.dob_unmove.specs.Edges.{predecessors}
+use Rattle.dob_value.specs.declared.value.Value.{Value}
+use Rattle.dob_share.specs.declared.news.Settlement.{Settlement}
+use Rattle.dob_share.specs.declared.news.Item.{Item}
+use Rattle.dob_share.specs.declared.share.Share.{Share}
+use Rattle.dob_share.specs.Owners.{owner_of}
+use Rattle.dob_share.specs.Cells.{Cell, SameCell, CellValue, changed}
+use Rattle.dob_share.specs.Shares.{IsOwn, status_at, cell_at, IsValue, HasValueNow, Fits, HasSettled}
+use Rattle.dob_share.specs.Values.{Better, NoWorse}
+use Rattle.dob_share.proofs.Changing.{short_value}
+use Rattle.dob_update.specs.Items.{items_from}
+use Rattle.dob_node.specs.Stores.{HistoryView}
+use Rattle.dob_node.specs.Histories.{value_of}
+use Rattle.dob_node.specs.Lawful.{CanApply, AreSettled}
+use Rattle.dob_node.specs.Takes.{HasEntries, AreKept, IsTaken, AreTaken, listed}
+use Rattle.dob_node.proofs.Settles.{value_of-more}
+use Rattle.dob_node.proofs.Kept.{better_apart}
+use Rattle.dob_node.proofs.Stored.{same_settlement}
+use Rattle.dob_node.proofs.Parity.{short_own}
+use Rattle.dob_node.proofs.Kepts.{fits_own, kept_still}
+use Rattle.dob_node.proofs.Soles.{one_value}
+use Rattle.dob_world.specs.Worlds.{Setting, Nodes, value_in, items_in, AreLawful}
+use Rattle.dob_world.specs.Events.{NodesStay, Applies, AppliesAll}
+use Rattle.dob_world.proofs.Applied.{next_fits, lawful_step, step_grows, next_after}
+
+-- ---- tests
+
+pub lt_true : (a b : ℕ) → a < b → nat_lt a b ≡ true
+lt_true a b less = grind (arith, nat_tests)
+
+pub lt_from : (a b : ℕ) → nat_lt a b ≡ true → a < b
+lt_from a b is = grind (arith, nat_tests)
+
+pub alike : (a b : ℕ) → a ≡ b → eqb a b ≡ true
+alike a b same = grind (arith, nat_tests)
+
+pub unlike : (a b : ℕ) → a ≢ b → eqb a b ≡ false
+unlike a b other = grind (arith, nat_tests)
+
+pub both_true : (a b : Bool) → (a && b) ≡ true → (a ≡ true) × (b ≡ true)
+both_true true b is = (refl, is)
+both_true false b is = absurd (cc)
+
+right_false : (a : Bool) → (a && false) ≡ false
+right_false true = refl
+right_false false = refl
+
+-- ---- nodes of which one has that share and history, and has applied those items of another
+
+abbrev pub own_test : Setting → ℕ → ℕ → Bool
+own_test k j class = nat_lt class (classes_of k.set) && eqb (owner_of k.n class) j
+
+abbrev pub with_share : Setting → ℕ → ℕ → Nodes → Share → List Settlement → List Item → Nodes
+with_share k i j nodes share history items = record {
+  history = λ m. cond (eqb m j) history (nodes.history m);
+  applied = λ m l. cond (eqb m i && eqb l j) items (nodes.applied m l);
+  cell = λ class. cond (own_test k j class) (cell_at share class) (nodes.cell class);
+}
+
+module _ (k : Setting) (i j : ℕ) (nodes : Nodes) (share : Share) (history : List Settlement) (items : List Item) where
+  abbrev pub given : Nodes
+  given = with_share k i j nodes share history items
+
+  pub history_here : given.history j ≡ history
+  history_here = ap (λ b. cond b history (nodes.history j)) (alike j j refl)
+
+  pub history_else : (m : ℕ) → m ≢ j → given.history m ≡ nodes.history m
+  history_else m other = ap (λ b. cond b history (nodes.history m)) (unlike m j other)
+
+  pub applied_here : given.applied i j ≡ items
+  applied_here = ap (λ b. cond (b && eqb j j) items (nodes.applied i j)) (alike i i refl)
+      ∙ ap (λ b. cond b items (nodes.applied i j)) (alike j j refl)
+
+  pub applied_sender : (m : ℕ) → m ≢ i → given.applied m j ≡ nodes.applied m j
+  applied_sender m other = ap (λ b. cond (b && eqb j j) items (nodes.applied m j)) (unlike m i other)
+
+  pub applied_receiver : (m l : ℕ) → l ≢ j → given.applied m l ≡ nodes.applied m l
+  applied_receiver m l other = ap (λ b. cond (eqb m i && b) items (nodes.applied m l)) (unlike l j other)
+      ∙ ap (λ b. cond b items (nodes.applied m l)) (right_false (eqb m i))
+
+  pub applied_else : (m l : ℕ) → (m ≢ i) ⊎ (l ≢ j) → given.applied m l ≡ nodes.applied m l
+  applied_else m l (inl other) = ap (λ b. cond (b && eqb l j) items (nodes.applied m l)) (unlike m i other)
+  applied_else m l (inr other) = applied_receiver m l other
+
+  pub own_is : (class : ℕ) → class < classes_of k.set → owner_of k.n class ≡ j → own_test k j class ≡ true
+  own_is class low own = ap (λ b. b && eqb (owner_of k.n class) j) (lt_true class (classes_of k.set) low) ∙ alike (owner_of k.n class) j own
+
+  pub cell_here : (class : ℕ) → class < classes_of k.set → owner_of k.n class ≡ j → given.cell class ≡ cell_at share class
+  cell_here class low own = ap (λ b. cond b (cell_at share class) (nodes.cell class)) (own_is class low own)
+
+same_cell : (a b : Cell) → a ≡ b → SameCell a b
+same_cell a b is = subst (λ c. SameCell a c) is (record { left = refl; wins = λ plies. refl; least = refl })
+
+same_by : (b : Bool) (x y z : Cell) → (b ≡ true → SameCell x y) → SameCell (cond b x z) (cond b y z)
+same_by true x y z same = same refl
+same_by false x y z same = same_cell z z refl
+
+-- ---- what is taken
+
+open_value : (status : Status) (cell : Cell) (v : Value) → status ≡ Open → IsValue status cell v → CellValue cell v
+open_value status cell v is = subst (λ s. IsValue s cell v → CellValue cell v) (sym is) (λ value. value)
+
+fits_open : (share : Share) (item : Item) → Fits share item → status_at share item.to ≡ Open
+unfolding Fits
+fits_open share item fits = fits.1
+
+module _ (k : Setting) (i j : ℕ) (nodes : Nodes) (share after : Share) (history grown : HistoryView) (items : List Item) (item : Item)
+    (kept : AreKept k.set k.n j share history) (taken : IsTaken item share after history grown)
+    (lawful : AreLawful k (with_share k i j nodes share history.settlements items))
+    (can : CanApply k.set k.n j (with_share k i j nodes share history.settlements items).cell item) where
+  abbrev pub old : Nodes
+  old = with_share k i j nodes share history.settlements items
+
+  abbrev pub new : Nodes
+  new = with_share k i j nodes after grown.settlements (items ++ item ∷ [])
+
+  abbrev pub h : List Settlement
+  h = history.settlements
+
+  abbrev pub g : List Settlement
+  g = grown.settlements
+
+  there_after : IsOwn after item.to
+  there_after = taken.classes.owned item.to (fits_own share item taken.fits)
+
+  old_cell : old.cell item.to ≡ cell_at share item.to
+  old_cell = cell_here k i j nodes share h items item.to can.below can.own
+
+  new_cell : new.cell item.to ≡ cell_at after item.to
+  new_cell = cell_here k i j nodes after g (items ++ item ∷ []) item.to can.below can.own
+
+  old_value : (p : ℕ) → owner_of k.n p ≡ j → value_in k.n old p ≡ value_of h p
+  old_value p own = ap (λ m. value_of (old.history m) p) own ∙ ap (λ xs. value_of xs p) (history_here k i j nodes share h items)
+
+  new_value : (p : ℕ) → owner_of k.n p ≡ j → value_in k.n new p ≡ value_of g p
+  new_value p own = ap (λ m. value_of (new.history m) p) own ∙ ap (λ xs. value_of xs p) (history_here k i j nodes after g (items ++ item ∷ []))
+
+  -- the value before
+  was_is : (v : Value) → HasValueNow share item.to v → v ≡ value_of h item.to
+  was_is v is = one_value (cell_at share item.to) v (value_of h item.to)
+      (open_value (status_at share item.to) (cell_at share item.to) v (fits_open share item taken.fits) is)
+      (subst (λ c. CellValue c (value_of h item.to)) old_cell
+      (subst (λ w. CellValue (old.cell item.to) w) (old_value item.to can.own) (lawful.cell_values item.to can.below can.is_open)))
+
+  value_after : (v : Value) → HasValueNow after item.to v → CellValue (cell_at after item.to) v
+  value_after v is = open_value (status_at after item.to) (cell_at after item.to) v (taken.statuses item.to ∙ fits_open share item taken.fits) is
+
+  -- what has changed is the settlement that is listed, if there is one
+  record Change : Type 0 where
+    pub gives : CellValue (cell_at after item.to) (value_of g item.to)
+    pub better : NoWorse (value_of h item.to) (value_of g item.to)
+    pub others : (p : ℕ) → p ≢ item.to → value_of g p ≡ value_of h p
+    pub same : value_of h item.to ≡ value_of g item.to → g ≡ h
+    pub more : value_of h item.to ≢ value_of g item.to →
+        g ≡ h ++ record { number = length h; class = item.to; was = value_of h item.to; now = value_of g item.to } ∷ []
+
+  change : (given : Option Settlement) → HasSettled share after item.to given → g ≡ h ++ listed given → Change
+  change None settled is =
+      let same : g ≡ h = is ∙ append-nil h in
+      let v = settled.1 in
+      let value : v ≡ value_of h item.to = was_is v settled.2 in
+      let now : value_of g item.to ≡ value_of h item.to = ap (λ xs. value_of xs item.to) same in
+      record {
+        gives = subst (λ w. CellValue (cell_at after item.to) w) (value ∙ sym now) (value_after v settled.3);
+        better = inl (sym now);
+        others = λ p other. ap (λ xs. value_of xs p) same;
+        same = λ e. same;
+        more = λ differs. absurd (differs (sym now));
+      }
+  change (Some s) settled is =
+      let was : s.was ≡ value_of h item.to = was_is s.was settled.3 in
+      let at : (p : ℕ) → value_of g p ≡ cond (eqb s.class p) s.now (value_of h p) = λ p. ap (λ xs. value_of xs p) is ∙ value_of-more h s p in
+      let here : eqb s.class item.to ≡ true = alike s.class item.to settled.2 in
+      let now : value_of g item.to ≡ s.now = at item.to ∙ ap (λ b. cond b s.now (value_of h item.to)) here in
+      let better : Better (value_of h item.to) (value_of g item.to) = subst (λ v. Better v (value_of g item.to)) was (subst (λ w. Better s.was w) (sym now) settled.5) in
+      record {
+        gives = subst (λ w. CellValue (cell_at after item.to) w) (sym now) (value_after s.now settled.4);
+        better = inr better;
+        others = λ p other. at p ∙ ap (λ b. cond b s.now (value_of h p)) (unlike s.class p (λ e. other (sym e ∙ settled.2)));
+        same = λ e. absurd (better_apart (value_of h item.to) (value_of g item.to) better e);
+        more = λ differs. is ∙ ap (λ x. h ++ x ∷ []) (same_settlement s.number (length h) s.class item.to s.was (value_of h item.to) s.now (value_of g item.to) (settled.1 ∙ kept.counted) settled.2 was (sym now));
+      }
+
+  cells_after : (p : ℕ) → p ≢ item.to → SameCell (new.cell p) (old.cell p)
+  cells_after p other = same_by (own_test k j p) (cell_at after p) (cell_at share p) (nodes.cell p) (λ is.
+      let both = both_true (nat_lt p (classes_of k.set)) (eqb (owner_of k.n p) j) is in
+      taken.others p ((kept.owned p).1 (eqb-true (owner_of k.n p) j both.1, lt_from p (classes_of k.set) both.0)) other)
+
+  values_after : ((p : ℕ) → p ≢ item.to → value_of g p ≡ value_of h p) → (p : ℕ) → p ≢ item.to → value_in k.n new p ≡ value_in k.n old p
+  values_after same p other = elim (cases_eq (owner_of k.n p) j) [
+    | inl own ↦ new_value p own ∙ same p other ∙ sym (old_value p own)
+    | inr elsewhere ↦ ap (λ xs. value_of xs p) (history_else k i j nodes after g (items ++ item ∷ []) (owner_of k.n p) elsewhere
+        ∙ sym (history_else k i j nodes share h items (owner_of k.n p) elsewhere))
+  ]
+
+  applies_by : Change → Applies k i j item old new
+  applies_by changes = record {
+    listed = record {
+      one_more = applied_here k i j nodes after g (items ++ item ∷ [])
+          ∙ ap (λ xs. xs ++ item ∷ []) (sym (applied_here k i j nodes share h items));
+      same_sender = λ m other. applied_sender k i j nodes after g (items ++ item ∷ []) m other ∙ sym (applied_sender k i j nodes share h items m other);
+      same_receiver = λ m l other. applied_receiver k i j nodes after g (items ++ item ∷ []) m l other
+          ∙ sym (applied_receiver k i j nodes share h items m l other);
+    };
+    cells = record {
+      cell_is = subst (λ c. SameCell c (changed item.was item.now (old.cell item.to))) (sym new_cell)
+          (subst (λ c. SameCell (cell_at after item.to) (changed item.was item.now c)) (sym old_cell) taken.cell);
+      gives = subst (λ c. CellValue c (value_in k.n new item.to)) (sym new_cell)
+          (subst (λ v. CellValue (cell_at after item.to) v) (sym now_is) changes.gives);
+      short = short_value (cell_at after item.to) (value_in k.n new item.to) (short_own after item.to there_after)
+          (subst (λ v. CellValue (cell_at after item.to) v) (sym now_is) changes.gives);
+      better = subst (λ v. NoWorse v (value_in k.n new item.to)) (sym had_is) (subst (λ v. NoWorse (value_of h item.to) v) (sym now_is) changes.better);
+      others = λ p other. (cells_after p other, values_after changes.others p other);
+    };
+    settled = record {
+      same = λ e. settled_same (sym had_is ∙ e ∙ now_is);
+      more = λ differs. settled_more (λ e. differs (had_is ∙ e ∙ sym now_is));
+      others = λ m other. history_else k i j nodes after g (items ++ item ∷ []) m other ∙ sym (history_else k i j nodes share h items m other);
+    };
+  }
+    where
+      had_is : value_in k.n old item.to ≡ value_of h item.to
+      had_is = old_value item.to can.own
+
+      now_is : value_in k.n new item.to ≡ value_of g item.to
+      now_is = new_value item.to can.own
+
+      old_history : old.history j ≡ h
+      old_history = history_here k i j nodes share h items
+
+      new_history : new.history j ≡ g
+      new_history = history_here k i j nodes after g (items ++ item ∷ [])
+
+      settled_same : value_of h item.to ≡ value_of g item.to → new.history j ≡ old.history j
+      settled_same e = new_history ∙ changes.same e ∙ sym old_history
+
+      settled_more : value_of h item.to ≢ value_of g item.to → new.history j ≡ old.history j
+          ++ record { number = length (old.history j); class = item.to; was = value_in k.n old item.to; now = value_in k.n new item.to } ∷ []
+      settled_more differs =
+          new_history ∙ changes.more differs
+          ∙ ap (λ x. h ++ x ∷ []) (same_settlement (length h) (length (old.history j)) item.to item.to (value_of h item.to) (value_in k.n old item.to)
+          (value_of g item.to) (value_in k.n new item.to) (ap length (sym old_history)) refl (sym had_is) (sym now_is))
+          ∙ ap (λ xs. xs ++ record { number = length (old.history j); class = item.to; was = value_in k.n old item.to; now = value_in k.n new item.to } ∷ [])
+          (sym old_history)
+
+  pub taken_applies : Applies k i j item old new
+  taken_applies = applies_by (change taken.settled.0 taken.settled.1 (ap (λ (view : HistoryView). view.settlements) taken.settled.2))
+
+-- ---- one after the other
+
+stay_by : (old new : Nodes) → new ≡ old → NodesStay old new
+stay_by old new is = record {
+  history = λ m. ap (λ (x : Nodes). x.history m) is;
+  applied = λ m l. ap (λ (x : Nodes). x.applied m l) is;
+  cell = λ class. ap (λ (x : Nodes). x.cell class) is;
+}
+
+pub kept_after : (k : Setting) (j : ℕ) (share after : Share) (history grown : HistoryView) (item : Item) → AreKept k.set k.n j share history →
+    HasEntries item → IsTaken item share after history grown → AreKept k.set k.n j after grown
+kept_after k j share after history grown item kept entries taken = kept_still k.set k.n j share after history item kept entries taken.classes taken.fits
+    taken.cell taken.others taken.settled.0 taken.settled.1 grown taken.settled.2
+
+module _ (k : Setting) (some : 0 < k.n) (i j : ℕ) (low_i : i < k.n) (low_j : j < k.n) (nodes : Nodes) where
+  pub item_applies : (share after : Share) (history grown : HistoryView) (items rest : List Item) (item : Item) →
+      AreKept k.set k.n j share history → IsTaken item share after history grown → AreLawful k (with_share k i j nodes share history.settlements items) →
+      items_in k (with_share k i j nodes share history.settlements items) i j ≡ items ++ item ∷ rest →
+      Applies k i j item (with_share k i j nodes share history.settlements items) (with_share k i j nodes after grown.settlements (items ++ item ∷ []))
+  item_applies share after history grown items rest item kept taken lawful is =
+      taken_applies k i j nodes share after history grown items item kept taken lawful
+      (next_fits k some i j low_i low_j item (with_share k i j nodes share history.settlements items) lawful rest
+      (is ∙ ap (λ xs. xs ++ item ∷ rest) (sym (applied_here k i j nodes share history.settlements items))))
+
+  pub items_apply : (more : List Item) (share after : Share) (history grown : HistoryView) (items rest : List Item) → i ≢ j →
+      AreKept k.set k.n j share history → All HasEntries more → AreTaken more share after history grown →
+      AreLawful k (with_share k i j nodes share history.settlements items) →
+      items_in k (with_share k i j nodes share history.settlements items) i j ≡ items ++ (more ++ rest) →
+      AppliesAll k i j more (with_share k i j nodes share history.settlements items) (with_share k i j nodes after grown.settlements (items ++ more))
+      × AreKept k.set k.n j after grown
+  items_apply [] share after history grown items rest differs kept entries taken lawful is = (
+    stay_by (with_share k i j nodes share history.settlements items) (with_share k i j nodes after grown.settlements (items ++ []))
+        (ap (λ x. with_share k i j nodes x grown.settlements (items ++ [])) taken.0
+        ∙ ap (λ (x : HistoryView). with_share k i j nodes share x.settlements (items ++ [])) taken.1
+        ∙ ap (λ xs. with_share k i j nodes share history.settlements xs) (append-nil items)),
+    subst (λ (x : HistoryView). AreKept k.set k.n j after x) (sym taken.1) (subst (λ (x : Share). AreKept k.set k.n j x history) (sym taken.0) kept),
+  )
+  items_apply (item ∷ more) share after history grown items rest differs kept entries taken lawful is =
+      let between = taken.0 in
+      let longer = taken.1 in
+      let old = with_share k i j nodes share history.settlements items in
+      let new = with_share k i j nodes between longer.settlements (items ++ item ∷ []) in
+      let here = applied_here k i j nodes share history.settlements items in
+      let there = applied_here k i j nodes between longer.settlements (items ++ item ∷ []) in
+      let is_next : items_in k old i j ≡ old.applied i j ++ item ∷ (more ++ rest) = is ∙ ap (λ xs. xs ++ item ∷ (more ++ rest)) (sym here) in
+      let step : Applies k i j item old new = item_applies share between history longer items (more ++ rest) item kept taken.2 lawful is in
+      let then = items_apply more between after longer grown (items ++ item ∷ []) rest differs
+      (kept_after k j share between history longer item kept (All-head HasEntries item more entries) taken.2)
+      (All-tail HasEntries item more entries) taken.3
+      (lawful_step k some i j low_i low_j item old lawful (more ++ rest) is_next new step)
+      (next_after k i j (item ∷ []) (more ++ rest) old new differs (step_grows k i j item old new step) is_next
+      ∙ ap (λ xs. xs ++ (more ++ rest)) there) in (
+        (
+          new,
+          step,
+          subst (λ xs. AppliesAll k i j more new (with_share k i j nodes after grown.settlements xs)) (append_assoc items (item ∷ []) more) then.0,
+        ),
+        then.1,
+      )

@@ -1,0 +1,5 @@
+use Rattle.dob_world.proofs.Kept.{events_keep_all}
+use Rattle.dob_world.proofs.laws.events_keep_all.Goals as goal
+
+pub returns : goal.returns
+returns c = events_keep_all

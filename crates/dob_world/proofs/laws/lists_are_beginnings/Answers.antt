@@ -1,0 +1,5 @@
+use Rattle.dob_world.proofs.Kept.{lists_are_beginnings}
+use Rattle.dob_world.proofs.laws.lists_are_beginnings.Goals as goal
+
+pub returns : goal.returns
+returns c = lists_are_beginnings

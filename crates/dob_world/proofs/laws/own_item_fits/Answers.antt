@@ -1,0 +1,5 @@
+use Rattle.dob_world.proofs.Kept.{own_item_fits}
+use Rattle.dob_world.proofs.laws.own_item_fits.Goals as goal
+
+pub returns : goal.returns
+returns c = own_item_fits

@@ -1,0 +1,5 @@
+use Rattle.dob_world.proofs.Rest.{rest_is_right}
+use Rattle.dob_world.proofs.laws.rest_is_right.Goals as goal
+
+pub returns : goal.returns
+returns c = rest_is_right

@@ -1,0 +1,5 @@
+use Rattle.dob_world.proofs.Kept.{taken_item_fits}
+use Rattle.dob_world.proofs.laws.taken_item_fits.Goals as goal
+
+pub returns : goal.returns
+returns c = taken_item_fits

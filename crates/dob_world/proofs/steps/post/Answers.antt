@@ -1,0 +1,21 @@
+use Rattle.std.proofs.Common.{◌≡◌, ◌≤◌, refl, sym, ap, ◌∙◌, subst, arith, Ok, Some, IfSome, ◌++◌, ◌∷◌, [], length}
+use Rattle.dob_update.specs.Batches.{BatchView}
+use Rattle.dob_link.specs.Links.{link_of}
+use Rattle.dob_node.specs.Nodes.{HasCut}
+use Rattle.dob_world.proofs.Firsts.{went_well}
+use Rattle.dob_world.proofs.steps.post.Goals as goal
+
+pub returns-clause-posted : goal.returns-clause-posted
+returns-clause-posted c = λ e.
+    let steps : c.offer.new.self.waiting ≡ c.args.lane.now.link.waiting ++ c.in-Some.batch ∷ [] =
+    went_well c.offer.result (c.offer.new.self.waiting ≡ c.args.lane.now.link.waiting ++ c.in-Some.batch ∷ [])
+    (c.args.lane.now.link.capacity ≤ length c.args.lane.now.link.waiting) c.offer.ensures.ok c.offer.ensures.full_only_at_capacity
+    (λ full. let yes = c.is_full.ensures.1 full in let no = c.if-is_full.false in cc) in
+    record {
+      batch = c.in-Some.batch;
+      cut = subst (λ given. IfSome given (λ (b : BatchView). HasCut c.args.to c.args.size b c.args.node.now c.cut_for.new.self)) c.in-Some.is c.in_ok-batch.ensures.cut;
+      link = ap (λ w. link_of w c.offer.new.self.capacity) steps
+          ∙ ap (λ k. link_of (c.args.lane.now.link.waiting ++ c.in-Some.batch ∷ []) k) c.offer.ensures.capacity;
+      sent = c.in_ok-extend_from_slice.ensures.items ∙ ap (λ xs. c.args.lane.now.sent.items ++ xs) c.items.ensures.items;
+      same = refl;
+    }

@@ -1,0 +1,28 @@
+-- The world as it is opened.
+use Rattle.std.proofs.Common.{◌≡◌, ◌<◌, ◌≤◌, refl, sym, ap, subst, arith}
+use Rattle.dob_node.specs.Openings.{AreOpenings}
+use Rattle.dob_world.specs.Worlds.{Setting}
+use Rattle.dob_world.specs.Shown.{AreOpenedNodes}
+use Rattle.dob_world.proofs.Starts.{places_start, lawful_shown, linked_start}
+use Rattle.dob_world.proofs.world.World.open.Goals as goal
+
+pub returns-clause-standing : goal.returns-clause-standing
+returns-clause-standing c =
+    let k : Setting = record { set = c.in_ok-classes.classes.set; n = c.args.n; batch = c.args.batch; capacity = c.args.capacity } in
+    let openings = c.in_ok-openings.openings.items in
+    let nodes = c.in_ok-nodes.nodes.items in
+    let lanes = c.in_ok-lanes.lanes.items in
+    let some : 0 < c.args.n = omega arith in
+    let opened : AreOpenedNodes openings k.set k.n k.n nodes =
+    subst (λ st. AreOpenedNodes openings st c.args.n c.args.n nodes) (sym c.in_ok-classes.ensures.set)
+    (subst (λ xs. AreOpenedNodes xs c.args.set c.args.n c.args.n nodes) c.deref.ensures.value c.in_ok-nodes.ensures) in (
+      record {
+        setting = record { nodes = (omega arith, omega arith); batch = (omega arith, omega arith); capacity = (omega arith, omega arith) };
+        openings = (openings, c.in_ok-openings.ensures);
+        places = places_start k openings nodes lanes some c.in_ok-openings.ensures opened c.in_ok-lanes.ensures;
+        lawful = lawful_shown k openings nodes lanes some c.in_ok-openings.ensures opened c.in_ok-lanes.ensures;
+        linked = linked_start k openings nodes lanes some c.in_ok-openings.ensures opened c.in_ok-lanes.ensures;
+      },
+      refl,
+      refl,
+    )

@@ -1,0 +1,37 @@
+-- What an event makes of a node that it names, and of the lane from one node to another.
+use Rattle.std.specs.Prelude.{◌≡◌, ℕ, List, [], ◌∷◌, ◌++◌}
+use Rattle.std.specs.List.{All}
+use Rattle.dob_pieces.specs.declared.piece_set.PieceSet.{PieceSet}
+use Rattle.dob_update.specs.Batches.{BatchView}
+use Rattle.dob_link.specs.Links.{link_of}
+use Rattle.dob_node.specs.declared.node.Node.{Node}
+use Rattle.dob_node.specs.Takes.{HasEntries}
+use Rattle.dob_node.specs.Nodes.{HasApplied, HasTaken, HasCut}
+use Rattle.dob_world.specs.declared.lane.Lane.{Lane}
+
+-- a batch for one of n nodes, with items that have such values as a table can have
+pub record IsBatchFor (set : PieceSet) (n to : ℕ) (batch : BatchView) : Type 0 where
+  pub of : (batch.set ≡ set) × (batch.n ≡ n) × (batch.to ≡ to)
+  pub entries : All HasEntries batch.items
+
+-- The node has applied the first of its own items, and the lane lists it.
+pub record HasListed (old : Node) (lane : Lane) (new : Node) (after : Lane) : Type 0 where
+  pub applied : HasApplied old new
+  pub listed : after.applied.items ≡ lane.applied.items ++ applied.item ∷ []
+  pub same : (after.link ≡ lane.link) × (after.sent.items ≡ lane.sent.items)
+
+-- The batch that the node has cut for that node is the last that waits on the lane, and its items are listed as sent.
+pub record HasPosted (to size : ℕ) (old : Node) (lane : Lane) (new : Node) (after : Lane) : Type 0 where
+  pub batch : BatchView
+  pub cut : HasCut to size batch old new
+  pub link : after.link ≡ link_of (lane.link.waiting ++ batch ∷ []) lane.link.capacity
+  pub sent : after.sent.items ≡ lane.sent.items ++ batch.items
+  pub same : after.applied.items ≡ lane.applied.items
+
+-- The node has taken the first batch that waited on the lane, and its items are listed as applied.
+pub record HasReceived (old : Node) (lane : Lane) (new : Node) (after : Lane) : Type 0 where
+  pub batch : BatchView
+  pub first : lane.link ≡ link_of (batch ∷ after.link.waiting) after.link.capacity
+  pub taken : HasTaken batch.items old new
+  pub listed : after.applied.items ≡ lane.applied.items ++ batch.items
+  pub same : after.sent.items ≡ lane.sent.items

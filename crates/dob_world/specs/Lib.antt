@@ -1,0 +1,7 @@
+pub mod Worlds
+pub mod Events
+pub mod Runs
+pub mod Laws
+pub mod Faults
+pub mod Lanes
+pub mod Shown

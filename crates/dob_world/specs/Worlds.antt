@@ -1,0 +1,80 @@
+-- A world of nodes and links as functions of node numbers: what it consists of, and when it is lawful and linked.
+use Rattle.std.specs.Prelude.{◌≡◌, ◌≢◌, ℕ, ◌<◌, ◌≤◌, List, [], ◌++◌, length, take}
+use Rattle.std.specs.List.{flat_map}
+use Rattle.dob_pieces.specs.declared.piece_set.PieceSet.{PieceSet}
+use Rattle.dob_value.specs.declared.value.Value.{Value}
+use Rattle.dob_unmove.specs.Edges.{predecessors}
+use Rattle.dob_share.specs.declared.news.Settlement.{Settlement}
+use Rattle.dob_share.specs.declared.news.Item.{Item}
+use Rattle.dob_share.specs.Owners.{owner_of}
+use Rattle.dob_share.specs.Cells.{Cell}
+use Rattle.dob_update.specs.Items.{items_from}
+use Rattle.dob_update.specs.Batches.{BatchView}
+use Rattle.dob_node.specs.Histories.{value_of}
+use Rattle.dob_node.specs.Lawful.{IsLawful}
+
+-- what a world is made for: a piece set, the number of nodes, the greatest size of a batch, and the links' capacity
+pub record Setting : Type 0 where
+  pub set : PieceSet
+  pub n : ℕ
+  pub batch : ℕ
+  pub capacity : ℕ
+
+-- What the nodes know: each one's history, the items from node i that node j has applied, and the cell of each class,
+-- which its owner keeps.
+pub record Nodes : Type 0 where
+  pub history : ℕ → List Settlement
+  pub applied : ℕ → ℕ → List Item
+  pub cell : ℕ → Cell
+
+-- What there is beside it: how many settlements of its history each node has expanded, the items that it has for itself,
+-- those that it has still to send to each other node, the batches that wait on each link, and all items that were sent
+-- over it.
+pub record World : Type 0 where
+  pub nodes : Nodes
+  pub expanded : ℕ → ℕ
+  pub own : ℕ → List Item
+  pub outbox : ℕ → ℕ → List Item
+  pub waiting : ℕ → ℕ → List BatchView
+  pub sent : ℕ → ℕ → List Item
+
+-- the value of a class, after the history of its owner
+abbrev pub value_in : ℕ → Nodes → ℕ → Value
+value_in n nodes class = value_of (nodes.history (owner_of n class)) class
+
+-- all items that node i has for node j
+abbrev pub items_in : Setting → Nodes → ℕ → ℕ → List Item
+items_in k nodes i j = items_from (predecessors k.set) k.n j (nodes.history i)
+
+-- those of the settlements that node i has expanded
+abbrev pub told_in : Setting → World → ℕ → ℕ → List Item
+told_in k world i j = items_from (predecessors k.set) k.n j (take (world.expanded i) (world.nodes.history i))
+
+-- the items of batches, in order
+abbrev pub items_of_batches : List BatchView → List Item
+items_of_batches batches = flat_map (λ (b : BatchView). b.items) batches
+
+-- each cell and value is what the histories and the items applied say
+abbrev pub AreLawful : Setting → Nodes → Type 0
+AreLawful k nodes = IsLawful k.set k.n nodes.history nodes.applied nodes.cell (value_in k.n nodes)
+
+-- No item is lost, invented or out of place on its way: the items of the settlements expanded are those that a node has
+-- applied from itself followed by its own items; or for another node those sent followed by the outbox, and those sent
+-- are those applied followed by those that wait.
+pub record IsLinked (k : Setting) (world : World) : Type 0 where
+  pub expanded : (i : ℕ) → i < k.n → world.expanded i ≤ length (world.nodes.history i)
+  pub own : (i : ℕ) → i < k.n → told_in k world i i ≡ world.nodes.applied i i ++ world.own i
+  pub posted : (i j : ℕ) → i < k.n → j < k.n → i ≢ j → told_in k world i j ≡ world.sent i j ++ world.outbox i j
+  pub taken : (i j : ℕ) → i < k.n → j < k.n → i ≢ j →
+      world.sent i j ≡ world.nodes.applied i j ++ items_of_batches (world.waiting i j)
+
+-- Nothing is left to do: no settlement is left to expand, no own item to apply, nothing to send, and nothing waits.
+pub record IsAtRest (k : Setting) (world : World) : Type 0 where
+  pub expanded : (i : ℕ) → i < k.n → world.expanded i ≡ length (world.nodes.history i)
+  pub own : (i : ℕ) → i < k.n → world.own i ≡ []
+  pub outboxes : (i j : ℕ) → i < k.n → j < k.n → i ≢ j → world.outbox i j ≡ []
+  pub links : (i j : ℕ) → i < k.n → j < k.n → i ≢ j → world.waiting i j ≡ []
+
+-- some items more make the second list of the first one
+abbrev pub IsBeginning : List Item → List Item → Type 0
+IsBeginning front whole = (rest : List Item) × (whole ≡ front ++ rest)

@@ -1,0 +1,14 @@
+// What happens in a world.
+
+/// An event of a world of nodes, which are named by their numbers.
+#[derive(Clone, Copy, Debug, PartialEq, Eq)]
+pub enum Event {
+    /// A node expands the next settlement of its history.
+    Expand(usize),
+    /// A node applies the first of its own items.
+    Own(usize),
+    /// A node posts a batch to another one.
+    Post { from: usize, to: usize },
+    /// A node takes a batch of another one, and applies its items.
+    Take { from: usize, to: usize },
+}

@@ -1,0 +1,41 @@
+// Why there is no world, or why one stops.
+ghost use Rattle.std.specs.Prelude.{◌≡◌};
+ghost use Rattle.dob_world.specs.declared.fault.Fault.TheVariants as fault;
+ghost use Rattle.dob_world.specs.Faults.{fault_of_rank};
+
+use dob_node::Cause;
+use dob_pieces::Memory;
+
+/// Why a world isn't opened, or makes no further step.
+#[derive(Clone, Copy, Debug, PartialEq, Eq)]
+pub enum Fault {
+    /// E8: the piece set is larger than those that have classes.
+    SetTooLarge,
+    /// E9: the number of nodes isn't 1 to 16.
+    Nodes,
+    /// E10: the greatest size of a batch isn't 1 to 4096, or the capacity of a link isn't 1 to 1024.
+    Sizes,
+    /// E14: a node of the world has stopped.
+    Stopped { node: usize, cause: Cause },
+    /// E23: a growth was refused, since no memory was left for it.
+    Memory,
+}
+
+impl From<Memory> for Fault {
+    ghost from_gives = { λ _ given. given ≡ fault.Memory };
+
+    fn from(_refused: Memory) -> Fault {
+        Fault::Memory
+    }
+}
+
+impl From<dob_rank::Fault> for Fault {
+    ghost from_gives = { λ refused given. given ≡ fault_of_rank refused };
+
+    fn from(refused: dob_rank::Fault) -> Fault {
+        match refused {
+            dob_rank::Fault::SetTooLarge => Fault::SetTooLarge,
+            dob_rank::Fault::Memory => Fault::Memory,
+        }
+    }
+}

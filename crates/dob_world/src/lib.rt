@@ -1,0 +1,15 @@
+// A world of nodes and of links between them, in which one event happens at a time.
+#![tactic(auto)]
+
+mod event;
+mod fault;
+mod lane;
+pub mod laws;
+mod step;
+mod steps;
+mod world;
+
+pub use event::Event;
+pub use fault::Fault;
+pub use step::Step;
+pub use world::World;

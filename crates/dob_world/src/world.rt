@@ -1,0 +1,218 @@
+// The world: nodes that own the classes of a piece set, and a lane from each to each.
+ghost use Rattle.std.specs.Prelude.{◌≡◌, ◌≢◌, ◌+◌, ◌*◌, ◌^◌, ◌<◌, ◌≤◌, ◌↔◌, true, false, IfOk, IfErr, IfSome};
+ghost use Rattle.dob_node.specs.Openings.{AreOpenings};
+ghost use Rattle.dob_world.specs.Shown.{AreOpenedNodes, AreEmptyLanes};
+
+use crate::event::Event;
+use crate::fault::Fault;
+use crate::lane::Lane;
+use crate::step::Step;
+use crate::steps::{apply_own, post, receive};
+use dob_node::{Node, Opening, opening};
+use dob_pieces::{Memory, PieceSet};
+use dob_rank::Classes;
+use std::alloc::Global;
+
+/// Nodes of which each owns a share of a piece set's classes, the links between them, and the lists of all items that
+/// were sent over these and applied.
+#[derive(Drop)]
+pub struct World {
+    alloc: Global,
+    classes: Classes,
+    n: usize,
+    batch: usize,
+    capacity: usize,
+    nodes: Vec<Node>,
+    lanes: Vec<Lane>,
+    steps: u64,
+    failed: Option<Fault>,
+}
+
+impl World {
+    ghost use Rattle.dob_world.specs.declared.event.Event.TheVariants.{Expand, Own, Post, Take};
+    ghost use Rattle.dob_world.specs.Worlds.{IsLinked};
+    ghost use Rattle.dob_world.specs.Events.{CanHappen};
+    ghost use Rattle.dob_world.specs.declared.fault.Fault.TheVariants as fault;
+    ghost use Rattle.dob_world.specs.Faults.{IsStop};
+    ghost use Rattle.dob_world.specs.Shown.{setting_of, state_of, IsStanding, IsKept, IsUnchanged, IsMade, IsStart};
+
+    /// A world of `n` nodes before its first event, with batches of at most `batch` items and links with room for
+    /// `capacity` batches.
+    ///
+    /// Errors, tested in this order: `SetTooLarge` where the set has more than three pieces besides the lions; `Nodes`
+    /// where `n` isn't 1 to 16; `Sizes` where `batch` isn't 1 to 4096 or `capacity` not 1 to 1024; `Memory`.
+    pub fn open(
+        alloc: Global,
+        set: PieceSet,
+        n: usize,
+        batch: usize,
+        capacity: usize,
+    ) -> Result<World, Fault>
+        ensures too_large { result ≡ Err fault.SetTooLarge ↔ (3 < set.chicks + set.elephants + set.giraffes) }
+        ensures setting { IfOk result (λ world. setting_of world ≡ record { set = set; n = n; batch = batch; capacity = capacity }) }
+        ensures standing { IfOk result (λ world. IsStanding world × (world.failed ≡ None) × (world.steps ≡ 0)) }
+        ensures opened { IfOk result (λ world. IsStart (setting_of world) (state_of world)) }
+    {
+        if set.chicks + set.elephants + set.giraffes > 3 {
+            return Err(Fault::SetTooLarge);
+        }
+        if n < 1 || n > 16 {
+            return Err(Fault::Nodes);
+        }
+        if batch < 1 || batch > 4096 || capacity < 1 || capacity > 1024 {
+            return Err(Fault::Sizes);
+        }
+        let classes = Classes::open(alloc, set)?;
+        let openings = opening(alloc, &classes)?;
+        let nodes = open_nodes(alloc, &openings, set, n)?;
+        let lanes = open_lanes(alloc, n * n, capacity)?;
+        Ok(World {
+            alloc,
+            classes,
+            n,
+            batch,
+            capacity,
+            nodes,
+            lanes,
+            steps: 0,
+            failed: None,
+        })
+    }
+
+    /// Makes the event happen, or skips it where it can't.
+    ///
+    /// Error: `Stopped`, where a node of the event has stopped; then, and at each further step, the same.
+    pub fn step(&mut self, event: Event) -> Result<Step, Fault>
+        requires few { self.old.steps < 2 ^ 40 }
+        requires kept { IsKept self.old }
+        ensures done { result ≡ Ok Step.Done → IsMade event self.old self.new × (self.new.steps ≡ self.old.steps + 1) }
+        ensures skipped { result ≡ Ok Step.Skipped → (¬ CanHappen (setting_of self.old) (state_of self.old) event) × IsUnchanged self.old self.new }
+        ensures stopped { IfErr result (λ fault. IsStop fault × (self.new.failed ≡ Some fault)) }
+        ensures stays { IfSome self.old.failed (λ fault. result ≡ Err fault) }
+        ensures kept { IsKept self.new }
+    {
+        if let Some(fault) = self.failed {
+            return Err(fault);
+        }
+        let happened = match event {
+            Event::Expand(node) => self.expand(node),
+            Event::Own(node) => self.own(node),
+            Event::Post { from, to } => self.post(from, to),
+            Event::Take { from, to } => self.take(from, to),
+        };
+        match happened {
+            Ok(true) => {
+                self.steps += 1;
+                Ok(Step::Done)
+            }
+            Ok(false) => Ok(Step::Skipped),
+            Err(fault) => {
+                self.failed = Some(fault);
+                Err(fault)
+            }
+        }
+    }
+
+    // The next settlement of a node becomes items. False where there is none.
+    fn expand(&mut self, node: usize) -> Result<bool, Fault>
+        requires { IsStanding self.old }
+        ensures done { result ≡ Ok true → IsMade (Expand node) self.old self.new × (self.new.failed ≡ self.old.failed) × (self.new.steps ≡ self.old.steps) }
+        ensures skipped { result ≡ Ok false → (¬ CanHappen (setting_of self.old) (state_of self.old) (Expand node)) × IsUnchanged self.old self.new }
+        ensures stopped { IfErr result (λ fault. IsStop fault) }
+    {
+        if node >= self.n {
+            return Ok(false);
+        }
+        match self.nodes[node].expand(&self.classes) {
+            Ok(happened) => Ok(happened),
+            Err(cause) => Err(Fault::Stopped { node, cause }),
+        }
+    }
+
+    // The first own item of a node is applied. False where there is none.
+    fn own(&mut self, node: usize) -> Result<bool, Fault>
+        requires { IsStanding self.old }
+        ensures done { result ≡ Ok true → IsMade (Own node) self.old self.new × (self.new.failed ≡ self.old.failed) × (self.new.steps ≡ self.old.steps) }
+        ensures skipped { result ≡ Ok false → (¬ CanHappen (setting_of self.old) (state_of self.old) (Own node)) × IsUnchanged self.old self.new }
+        ensures stopped { IfErr result (λ fault. IsStop fault) }
+    {
+        if node >= self.n {
+            return Ok(false);
+        }
+        let place = node * self.n + node;
+        match apply_own(&mut self.nodes[node], &mut self.lanes[place]) {
+            Ok(happened) => Ok(happened),
+            Err(cause) => Err(Fault::Stopped { node, cause }),
+        }
+    }
+
+    // A node posts a batch to another one. False where it has nothing to send, or the link has no room.
+    fn post(&mut self, from: usize, to: usize) -> Result<bool, Fault>
+        requires { IsStanding self.old }
+        ensures done { result ≡ Ok true → IsMade (Post from to) self.old self.new × (self.new.failed ≡ self.old.failed) × (self.new.steps ≡ self.old.steps) }
+        ensures skipped { result ≡ Ok false → (¬ CanHappen (setting_of self.old) (state_of self.old) (Post from to)) × IsUnchanged self.old self.new }
+        ensures stopped { IfErr result (λ fault. IsStop fault) }
+    {
+        if from >= self.n || to >= self.n || from == to {
+            return Ok(false);
+        }
+        let place = from * self.n + to;
+        match post(
+            &mut self.nodes[from],
+            &mut self.lanes[place],
+            to,
+            self.batch,
+        ) {
+            Ok(happened) => Ok(happened),
+            Err(cause) => Err(Fault::Stopped { node: from, cause }),
+        }
+    }
+
+    // A node takes a batch of another one. False where none waits.
+    fn take(&mut self, from: usize, to: usize) -> Result<bool, Fault>
+        requires { IsStanding self.old }
+        ensures done { result ≡ Ok true → IsMade (Take from to) self.old self.new × (self.new.failed ≡ self.old.failed) × (self.new.steps ≡ self.old.steps) }
+        ensures skipped { result ≡ Ok false → (¬ CanHappen (setting_of self.old) (state_of self.old) (Take from to)) × IsUnchanged self.old self.new }
+        ensures stopped { IfErr result (λ fault. IsStop fault) }
+    {
+        if from >= self.n || to >= self.n || from == to {
+            return Ok(false);
+        }
+        let place = from * self.n + to;
+        match receive(&mut self.nodes[to], &mut self.lanes[place]) {
+            Ok(happened) => Ok(happened),
+            Err(cause) => Err(Fault::Stopped { node: to, cause }),
+        }
+    }
+}
+
+// The nodes of all owners, as they are opened.
+fn open_nodes(
+    alloc: Global,
+    openings: &[Opening],
+    set: PieceSet,
+    n: usize,
+) -> Result<Vec<Node>, Memory>
+    requires openings { AreOpenings set openings.now }
+    requires owners { n ≤ 16 }
+    ensures { IfOk result (λ nodes. AreOpenedNodes openings.now set n n nodes.items) }
+{
+    let mut nodes = Vec::new(alloc);
+    for id in 0..n {
+        nodes.push(Node::open(alloc, openings, set, id, n)?)?;
+    }
+    Ok(nodes)
+}
+
+// So many lanes over which nothing has gone.
+fn open_lanes(alloc: Global, count: usize, capacity: usize) -> Result<Vec<Lane>, Memory>
+    requires some { 1 ≤ capacity }
+    requires at_most { capacity ≤ 1024 }
+    ensures { IfOk result (λ lanes. AreEmptyLanes capacity count lanes.items) }
+{
+    let mut lanes = Vec::new(alloc);
+    for _place in 0..count {
+        lanes.push(Lane::open(alloc, capacity)?)?;
+    }
+    Ok(lanes)
+}
