@@ -1,9 +1,10 @@
 #!/usr/bin/env python3
-"""Tells the value of a position from a database file: read_db.py FILE POSITION
+"""Tells the values of positions from a database file: read_db.py FILE POSITION..
 
-Written from docs/FORMAT.md alone, with the standard library alone. It prints `win D`, `loss D` or `draw`, or what is
-wrong with the file on standard error, with status 1.
+Written from docs/FORMAT.md alone, with the standard library alone. It prints `win D`, `loss D` or `draw` for each
+position, or what is wrong with the file or a text on standard error, with status 1.
 """
+import functools
 import hashlib
 import itertools
 import sys
@@ -89,11 +90,16 @@ def is_representative(position):
     return key(position) <= key(mirrored(position))
 
 
+@functools.cache
+def representatives(pieces):
+    """The representatives of the set in the order of the key, each with its number."""
+    in_order = sorted(filter(is_representative, positions(pieces)), key=key)
+    return {position: number for number, position in enumerate(in_order)}
+
+
 def class_number(position):
     """How many representatives stand before that of the position."""
-    first = min(position, mirrored(position), key=key)
-    before = itertools.takewhile(lambda other: key(other) < key(first), positions(set_of(position)))
-    return sum(1 for other in before if is_representative(other))
+    return representatives(set_of(position))[min(position, mirrored(position), key=key)]
 
 
 def read_file(data):
@@ -108,7 +114,7 @@ def read_file(data):
     if sum(pieces) > 3:
         raise Wrong("E8 SetTooLarge")
     count = int.from_bytes(data[12:20], "little")
-    if count != sum(1 for position in positions(pieces) if is_representative(position)):
+    if count != len(representatives(pieces)):
         raise Wrong("E18 ClassCount")
     end = 20 + 2 * count
     if len(data) < end + 32:
@@ -128,15 +134,16 @@ def value_text(record):
 
 
 def main():
-    if len(sys.argv) != 3:
-        sys.exit("usage: read_db.py FILE POSITION")
+    if len(sys.argv) < 3:
+        sys.exit("usage: read_db.py FILE POSITION..")
     try:
         with open(sys.argv[1], "rb") as file:
             pieces, records = read_file(file.read())
-        position = read_position(sys.argv[2])
-        if set_of(position) != pieces:
-            raise Wrong("E7 OtherSet")
-        print(value_text(records[class_number(position)]))
+        for text in sys.argv[2:]:
+            position = read_position(text)
+            if set_of(position) != pieces:
+                raise Wrong("E7 OtherSet")
+            print(value_text(records[class_number(position)]))
     except Wrong as wrong:
         print(wrong, file=sys.stderr)
         sys.exit(1)

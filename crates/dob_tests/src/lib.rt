@@ -11,6 +11,8 @@ mod program;
 #[cfg(test)]
 mod ranks;
 #[cfg(test)]
+mod shelves;
+#[cfg(test)]
 mod unmoves;
 #[cfg(test)]
 mod values;

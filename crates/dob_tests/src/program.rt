@@ -1,6 +1,7 @@
 // What the program prints and its exit status, by its words.
+use crate::shelves::put;
 use dob_cli::{MemShelf, run_given, run_words};
-use dob_dbfile::{MemSink, write_table};
+use dob_dbfile::{MemSink, Std, write_table};
 use dob_pieces::PieceSet;
 use dob_rank::Classes;
 use dob_value::{Table, code_of_value, sweep_table};
@@ -26,14 +27,18 @@ const NO_PIECES: PieceSet = PieceSet {
 #[derive(Drop)]
 struct Told {
     status: u8,
-    out: Vec<u8>,
-    err: Vec<u8>,
+    out: MemSink,
+    err: MemSink,
 }
 
 // A shelf whose one file has those bytes.
-fn shelf_with(alloc: Global, bytes: Vec<u8>) -> Result<MemShelf, AllocError> {
-    let name = FILE.to_string(alloc)?;
-    Ok(MemShelf { name, bytes })
+fn shelf_with(alloc: Global, bytes: &[u8]) -> Result<MemShelf, AllocError> {
+    let mut shelf = MemShelf::new(alloc);
+    if put(&mut shelf, FILE, bytes) {
+        Ok(shelf)
+    } else {
+        Err(AllocError)
+    }
 }
 
 fn run_over(
@@ -42,15 +47,15 @@ fn run_over(
     shelf: &mut MemShelf,
     words: &[&str],
 ) -> Told {
-    let mut out = Vec::new(alloc);
-    let mut err = Vec::new(alloc);
+    let mut out = MemSink::new(alloc);
+    let mut err = MemSink::new(alloc);
     let status = run_words(rt, alloc, words, shelf, &mut out, &mut err);
     Told { status, out, err }
 }
 
 // Over an empty file.
 fn run(rt: &(impl Threads + Sync), alloc: Global, words: &[&str]) -> Result<Told, AllocError> {
-    let mut shelf = shelf_with(alloc, Vec::new(alloc))?;
+    let mut shelf = shelf_with(alloc, &[])?;
     Ok(run_over(rt, alloc, &mut shelf, words))
 }
 
@@ -86,8 +91,9 @@ fn answers(
 ) -> Result<(), AllocError> {
     let told = run(rt, alloc, words)?;
     assert_eq!(rt; told.status, 0, "{words:?}");
-    assert_eq!(rt; told.out.as_slice(), lines.as_bytes(), "{words:?}");
-    assert!(rt; told.err.is_empty(), "{words:?}");
+    assert_eq!(rt; told.out.bytes(), lines.as_bytes(), "{words:?}");
+    assert_eq!(rt; told.out.flushes(), [lines.len()].as_slice(), "{words:?}");
+    assert!(rt; told.err.bytes().is_empty(), "{words:?}");
     Ok(())
 }
 
@@ -100,8 +106,8 @@ fn refuses(
 ) -> Result<(), AllocError> {
     let told = run(rt, alloc, words)?;
     assert_eq!(rt; told.status, 1, "{words:?}");
-    assert!(rt; told.out.is_empty(), "{words:?}");
-    assert_eq!(rt; told.err.as_slice(), line.as_bytes(), "{words:?}");
+    assert!(rt; told.out.bytes().is_empty(), "{words:?}");
+    assert_eq!(rt; told.err.bytes(), line.as_bytes(), "{words:?}");
     Ok(())
 }
 
@@ -212,8 +218,8 @@ fn wrong_words_are_usage(rt: HostRuntime) -> Result<(), Fail> {
     for (words, part) in rows {
         let told = run(&rt, rt.alloc(), words)?;
         assert_eq!(rt; told.status, 2);
-        assert!(rt; told.out.is_empty());
-        assert!(rt; tells(told.err.as_slice(), part), "{part}");
+        assert!(rt; told.out.bytes().is_empty());
+        assert!(rt; tells(told.err.bytes(), part), "{part}");
     }
     Ok(())
 }
@@ -233,8 +239,8 @@ fn help_is_told_on_standard_output(rt: HostRuntime) -> Result<(), Fail> {
     for (words, part) in rows {
         let told = run(&rt, rt.alloc(), words)?;
         assert_eq!(rt; told.status, 0);
-        assert!(rt; tells(told.out.as_slice(), part), "{part}");
-        assert!(rt; told.err.is_empty());
+        assert!(rt; tells(told.out.bytes(), part), "{part}");
+        assert!(rt; told.err.bytes().is_empty());
     }
     Ok(())
 }
@@ -242,17 +248,20 @@ fn help_is_told_on_standard_output(rt: HostRuntime) -> Result<(), Fail> {
 #[test]
 fn standard_output_that_fails(rt: HostRuntime) -> Result<(), Fail> {
     for room in 0..6 {
-        let mut out = Narrow {
+        let mut out = Std::new(Narrow {
             room,
             taken: Vec::new(rt.alloc()),
-        };
-        let mut err = Vec::new(rt.alloc());
+        });
+        let mut err = Std::new(Vec::new(rt.alloc()));
         let words = ["value", "..l/.../L../... - -"];
-        let mut shelf = shelf_with(rt.alloc(), Vec::new(rt.alloc()))?;
+        let mut shelf = shelf_with(rt.alloc(), &[])?;
         let status = run_words(&rt, rt.alloc(), &words, &mut shelf, &mut out, &mut err);
         assert_eq!(rt; status, 3);
-        assert_eq!(rt; out.taken.as_slice(), &b"win 3\n"[..room]);
-        assert_eq!(rt; err.as_slice(), b"dobutsu: E24 Io\n".as_slice());
+        assert_eq!(rt; out.into_inner().taken.as_slice(), &b"win 3\n"[..room]);
+        assert_eq!(rt;
+            err.into_inner().as_slice(),
+            b"dobutsu: E24 Io\n".as_slice()
+        );
     }
     Ok(())
 }
@@ -260,17 +269,20 @@ fn standard_output_that_fails(rt: HostRuntime) -> Result<(), Fail> {
 #[test]
 fn standard_error_that_fails(rt: HostRuntime) -> Result<(), Fail> {
     for room in 0..8 {
-        let mut out = Vec::new(rt.alloc());
-        let mut err = Narrow {
+        let mut out = Std::new(Vec::new(rt.alloc()));
+        let mut err = Std::new(Narrow {
             room,
             taken: Vec::new(rt.alloc()),
-        };
-        let mut shelf = shelf_with(rt.alloc(), Vec::new(rt.alloc()))?;
+        });
+        let mut shelf = shelf_with(rt.alloc(), &[])?;
         let words = ["value", ""];
         let status = run_words(&rt, rt.alloc(), &words, &mut shelf, &mut out, &mut err);
         assert_eq!(rt; status, 1);
-        assert!(rt; out.is_empty());
-        assert_eq!(rt; err.taken.as_slice(), &b"dobutsu: E1 Shape\n"[..room]);
+        assert!(rt; out.into_inner().is_empty());
+        assert_eq!(rt;
+            err.into_inner().taken.as_slice(),
+            &b"dobutsu: E1 Shape\n"[..room]
+        );
     }
     Ok(())
 }
@@ -294,16 +306,16 @@ impl Write for Unflushed {
 
 #[test]
 fn standard_output_that_cannot_be_flushed(rt: HostRuntime) -> Result<(), Fail> {
-    let mut out = Unflushed {
+    let mut out = Std::new(Unflushed {
         taken: Vec::new(rt.alloc()),
-    };
-    let mut err = Vec::new(rt.alloc());
+    });
+    let mut err = MemSink::new(rt.alloc());
     let words = ["value", "..l/.../L../... - -"];
-    let mut shelf = shelf_with(rt.alloc(), Vec::new(rt.alloc()))?;
+    let mut shelf = shelf_with(rt.alloc(), &[])?;
     let status = run_words(&rt, rt.alloc(), &words, &mut shelf, &mut out, &mut err);
     assert_eq!(rt; status, 3);
-    assert_eq!(rt; out.taken.as_slice(), b"win 3\n".as_slice());
-    assert_eq!(rt; err.as_slice(), b"dobutsu: E24 Io\n".as_slice());
+    assert_eq!(rt; out.into_inner().taken.as_slice(), b"win 3\n".as_slice());
+    assert_eq!(rt; err.bytes(), b"dobutsu: E24 Io\n".as_slice());
     Ok(())
 }
 
@@ -313,9 +325,9 @@ fn without_arguments(
     alloc: Global,
     cause: ErrorKind,
 ) -> Result<Told, AllocError> {
-    let mut shelf = shelf_with(alloc, Vec::new(alloc))?;
-    let mut out = Vec::new(alloc);
-    let mut err = Vec::new(alloc);
+    let mut shelf = shelf_with(alloc, &[])?;
+    let mut out = MemSink::new(alloc);
+    let mut err = MemSink::new(alloc);
     let given = Err(cause.into());
     let status = run_given(rt, alloc, given, &mut shelf, &mut out, &mut err);
     Ok(Told { status, out, err })
@@ -325,11 +337,16 @@ fn without_arguments(
 fn arguments_that_cannot_be_had(rt: HostRuntime) -> Result<(), Fail> {
     let unread = without_arguments(&rt, rt.alloc(), ErrorKind::InvalidData)?;
     assert_eq!(rt; unread.status, 2);
-    assert!(rt; unread.out.is_empty());
-    assert!(rt; unread.err.starts_with(b"error: an argument is not UTF-8\n"));
+    assert!(rt; unread.out.bytes().is_empty());
+    assert!(rt;
+        unread
+            .err
+            .bytes()
+            .starts_with(b"error: an argument is not UTF-8\n")
+    );
     let refused = without_arguments(&rt, rt.alloc(), ErrorKind::OutOfMemory)?;
     assert_eq!(rt; refused.status, 3);
-    assert_eq!(rt; refused.err.as_slice(), b"dobutsu: E23 Memory\n".as_slice());
+    assert_eq!(rt; refused.err.bytes(), b"dobutsu: E23 Memory\n".as_slice());
     Ok(())
 }
 
@@ -357,7 +374,7 @@ fn chosen(first: bool, one: u16, other: u16) -> u16 {
 #[test]
 fn answers_from_a_file(rt: HostRuntime) -> Result<(), Fail> {
     let file = file_with(&rt, rt.alloc(), 54, 0)?;
-    let mut shelf = shelf_with(rt.alloc(), file)?;
+    let mut shelf = shelf_with(rt.alloc(), &file)?;
     let rows: [(&[&str], &str); 12] = [
         (&["check", "--db", FILE], "consistent\n"),
         (&["probe", "--db", FILE, "..l/.../L../... - -"], "win 3\n"),
@@ -383,9 +400,9 @@ fn answers_from_a_file(rt: HostRuntime) -> Result<(), Fail> {
     ];
     for (words, line) in rows {
         let told = run_over(&rt, rt.alloc(), &mut shelf, words);
-        assert_eq!(rt; told.out.as_slice(), line.as_bytes(), "{words:?}");
+        assert_eq!(rt; told.out.bytes(), line.as_bytes(), "{words:?}");
         assert_eq!(rt; told.status, 0);
-        assert!(rt; told.err.is_empty());
+        assert!(rt; told.err.bytes().is_empty());
     }
     Ok(())
 }
@@ -394,7 +411,7 @@ fn answers_from_a_file(rt: HostRuntime) -> Result<(), Fail> {
 #[test]
 fn refused_by_a_file(rt: HostRuntime) -> Result<(), Fail> {
     let file = file_with(&rt, rt.alloc(), 17, 8)?;
-    let mut shelf = shelf_with(rt.alloc(), file)?;
+    let mut shelf = shelf_with(rt.alloc(), &file)?;
     let rows: [(&[&str], u8, &str); 8] = [
         (&["check", "--db", FILE], 1, "E21 Inconsistent class 17"),
         (
@@ -424,9 +441,9 @@ fn refused_by_a_file(rt: HostRuntime) -> Result<(), Fail> {
     for (words, status, fault) in rows {
         let told = run_over(&rt, rt.alloc(), &mut shelf, words);
         let line = format!(in rt.alloc(); "dobutsu: {fault}\n")?;
-        assert_eq!(rt; told.err.as_slice(), line.as_str().as_bytes(), "{words:?}");
+        assert_eq!(rt; told.err.bytes(), line.as_str().as_bytes(), "{words:?}");
         assert_eq!(rt; told.status, status);
-        assert!(rt; told.out.is_empty());
+        assert!(rt; told.out.bytes().is_empty());
     }
     Ok(())
 }
@@ -445,10 +462,10 @@ fn lines_by_wrong_values(rt: HostRuntime) -> Result<(), Fail> {
     ];
     for (class, code, text, line) in rows {
         let file = file_with(&rt, rt.alloc(), class, code)?;
-        let mut shelf = shelf_with(rt.alloc(), file)?;
+        let mut shelf = shelf_with(rt.alloc(), &file)?;
         let words = ["line", "--db", FILE, text];
         let told = run_over(&rt, rt.alloc(), &mut shelf, &words);
-        assert_eq!(rt; told.out.as_slice(), line.as_bytes(), "{class} as {code}");
+        assert_eq!(rt; told.out.bytes(), line.as_bytes(), "{class} as {code}");
     }
     Ok(())
 }
@@ -458,11 +475,11 @@ fn lines_by_wrong_values(rt: HostRuntime) -> Result<(), Fail> {
 fn no_line_after_a_try(rt: HostRuntime) -> Result<(), Fail> {
     for code in [2, 3] {
         let file = file_with(&rt, rt.alloc(), 38, code)?;
-        let mut shelf = shelf_with(rt.alloc(), file)?;
+        let mut shelf = shelf_with(rt.alloc(), &file)?;
         let words = ["line", "--db", FILE, ".../L../.../..l - -"];
         let told = run_over(&rt, rt.alloc(), &mut shelf, &words);
         let line = b"dobutsu: E21 Inconsistent class 38\n".as_slice();
-        assert_eq!(rt; told.err.as_slice(), line, "as {code}");
+        assert_eq!(rt; told.err.bytes(), line, "as {code}");
     }
     Ok(())
 }
@@ -471,18 +488,18 @@ fn no_line_after_a_try(rt: HostRuntime) -> Result<(), Fail> {
 #[test]
 fn answers_beside_a_wrong_value(rt: HostRuntime) -> Result<(), Fail> {
     let file = file_with(&rt, rt.alloc(), 17, 8)?;
-    let mut shelf = shelf_with(rt.alloc(), file)?;
+    let mut shelf = shelf_with(rt.alloc(), &file)?;
     let words = ["probe", "--db", FILE, LONG];
     let told = run_over(&rt, rt.alloc(), &mut shelf, &words);
-    assert_eq!(rt; told.out.as_slice(), b"win 7\n".as_slice());
+    assert_eq!(rt; told.out.bytes(), b"win 7\n".as_slice());
     Ok(())
 }
 
 #[test]
 fn an_empty_file(rt: HostRuntime) -> Result<(), Fail> {
-    let mut empty = shelf_with(rt.alloc(), Vec::new(rt.alloc()))?;
+    let mut empty = shelf_with(rt.alloc(), &[])?;
     let told = run_over(&rt, rt.alloc(), &mut empty, &["check", "--db", FILE]);
-    assert_eq!(rt; told.err.as_slice(), b"dobutsu: E15 Truncated\n".as_slice());
+    assert_eq!(rt; told.err.bytes(), b"dobutsu: E15 Truncated\n".as_slice());
     assert_eq!(rt; told.status, 1);
     Ok(())
 }
@@ -510,11 +527,56 @@ fn the_first_break_of_a_file(rt: HostRuntime) -> Result<(), Fail> {
     ];
     for (class, code, broken) in rows {
         let file = file_with(&rt, rt.alloc(), class, code)?;
-        let mut shelf = shelf_with(rt.alloc(), file)?;
+        let mut shelf = shelf_with(rt.alloc(), &file)?;
         let told = run_over(&rt, rt.alloc(), &mut shelf, &["check", "--db", FILE]);
         let line = format!(in rt.alloc(); "dobutsu: E21 Inconsistent class {broken}\n")?;
-        assert_eq!(rt; told.err.as_slice(), line.as_str().as_bytes(), "{class}");
+        assert_eq!(rt; told.err.bytes(), line.as_str().as_bytes(), "{class}");
         assert_eq!(rt; told.status, 1);
+    }
+    Ok(())
+}
+
+// The file of lions alone, cut to that length or one byte longer, with other bits in the byte at that place.
+fn spoilt(alloc: Global, file: &[u8], len: usize, place: usize) -> Result<Vec<u8>, AllocError> {
+    let mut bytes = Vec::new(alloc);
+    bytes.extend_from_slice(file)?;
+    bytes.push(0)?;
+    bytes.truncate(len);
+    if let Some(byte) = bytes.get_mut(place) {
+        *byte = !*byte;
+    }
+    Ok(bytes)
+}
+
+#[test]
+fn spoilt_files(rt: HostRuntime) -> Result<(), Fail> {
+    let file = file_with(&rt, rt.alloc(), 54, 0)?;
+    let nowhere = usize::MAX;
+    let rows = [
+        (159, nowhere, "dobutsu: E15 Truncated\n"),
+        (0, nowhere, "dobutsu: E15 Truncated\n"),
+        (161, nowhere, "dobutsu: E19 Trailing\n"),
+        (161, 20, "dobutsu: E19 Trailing\n"),
+        (160, 20, "dobutsu: E20 Digest\n"),
+        (160, 159, "dobutsu: E20 Digest\n"),
+        (160, 0, "dobutsu: E16 Magic\n"),
+        (160, 11, "dobutsu: E17 SetByte\n"),
+        (160, 12, "dobutsu: E18 ClassCount\n"),
+    ];
+    for (len, place, line) in rows {
+        let bytes = spoilt(rt.alloc(), &file, len, place)?;
+        let mut shelf = shelf_with(rt.alloc(), &bytes)?;
+        let words: [&[&str]; 3] = [
+            &["check", "--db", FILE],
+            &["probe", "--db", FILE, LONG],
+            &["line", "--db", FILE, LONG],
+        ];
+        for given in words {
+            let told = run_over(&rt, rt.alloc(), &mut shelf, given);
+            assert_eq!(rt; told.err.bytes(), line.as_bytes(), "{given:?}");
+            assert_eq!(rt; told.status, 1);
+            assert!(rt; told.out.bytes().is_empty());
+        }
     }
     Ok(())
 }

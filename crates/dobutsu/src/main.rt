@@ -1,7 +1,8 @@
 // The program `dobutsu`: its arguments, its streams, its files and its exit status.
 #![tactic(auto)]
 
-use dob_cli::{DiskShelf, Watched, run_given};
+use dob_cli::{DiskShelf, run_given};
+use dob_dbfile::Std;
 use std::process::ExitCode;
 
 fn main(rt: HostRuntime) -> ExitCode {
@@ -10,7 +11,7 @@ fn main(rt: HostRuntime) -> ExitCode {
         rt.alloc(),
         std::env::args(&rt),
         &mut DiskShelf { rt: &rt },
-        &mut Watched::new(rt.stdout()),
-        &mut Watched::new(rt.stderr()),
+        &mut Std::new(rt.stdout()),
+        &mut Std::new(rt.stderr()),
     ))
 }
