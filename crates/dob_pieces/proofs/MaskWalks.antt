@@ -54,16 +54,19 @@ module _ {X : Type 0} where
   walk_next_at test g left place after before items new quiet w some e gone more =
       let it = next_left test w.upto left place w.left_are some e in
       let lt = it.on_board in
-      rw gone (record {
-        upto = suc place;
-        bound = omega (arith, lt);
-        left_are = it.left;
-        items_are =
-            more it.passes ∙ ap (λ (xs : List X). xs ++ g place)
-            (w.items_are ∙ ap (λ (xs : List X). before ++ xs)
-            (sym (each-quiet g w.upto place it.not_before (λ k ge lt. quiet k (it.between k ge lt)))))
-            ∙ append_assoc before (each_below g place) (g place);
-      }, refl)
+      rw gone (
+        record {
+          upto = suc place;
+          bound = omega (arith, lt);
+          left_are = it.left;
+          items_are =
+              more it.passes ∙ ap (λ (xs : List X). xs ++ g place)
+              (w.items_are ∙ ap (λ (xs : List X). before ++ xs)
+              (sym (each-quiet g w.upto place it.not_before (λ k ge lt. quiet k (it.between k ge lt)))))
+              ∙ append_assoc before (each_below g place) (g place);
+        },
+        refl,
+      )
 
   pub walk_next : (test : ℕ → Bool) (g : ℕ → List X) (left place after : ℕ) (before items new : List X) → IsQuiet test g → IsWalked test g left before items
       → 0 < left → place ≡ trailing_zeros w16 left → after ≡ without left place → (test place ≡ true → new ≡ items ++ g place) → IsWalked test g after before new
