@@ -13,7 +13,7 @@ mod classes;
 mod fault;
 mod forms;
 pub mod laws;
-mod layers;
+mod masks;
 mod placing;
 mod radix;
 mod ranks;
