@@ -1,12 +1,10 @@
 -- Pieces placed one after another on the squares that are left make the board of the settled layers.
-use Rattle.std.proofs.Common.{◌≡◌, ℕ, zero, suc, ◌+◌, ◌-◌, ◌*◌, ◌/◌, ◌%◌, ◌^◌, ◌<◌, ◌≤◌, nat_lt, cond, eqb, List, [], ◌∷◌, length, replicate, set, Some, None, refl, sym, ap, ◌∙◌, subst, inl, inr, arith}
-use Rattle.std.proofs.lemmas.Bool.{cases_eq, cases_lt, lt-ltb, le-ltb, eq-eqb, ne_eqb}
-use Rattle.std.proofs.Math.Nat.{pow-zero, pow-succ'}
-use Rattle.dob_pieces.specs.Setups.{Cell}
-use Rattle.dob_rank.specs.Numbers.{count, choose, with_first, settle, base_of, cell_of, board_of}
-use Rattle.dob_rank.specs.Placing.{past, lower_of, higher_of, first_place, second_place, put}
+use Rattle.std.proofs.Common.{◌≡◌, ℕ, zero, suc, ◌+◌, ◌-◌, ◌<◌, ◌≤◌, cond, eqb, List, [], ◌∷◌, length, set, refl, sym, ap, ◌∙◌, subst, inl, inr, arith}
+use Rattle.std.proofs.lemmas.Bool.{cases_eq, cases_lt, lt-ltb, le-ltb, ne_eqb}
+use Rattle.dob_rank.specs.Numbers.{count, choose, with_first, settle}
+use Rattle.dob_rank.specs.Placing.{past, lower_of, higher_of}
 use Rattle.dob_rank.proofs.Choices.{count_same, count_other, choose-split}
-use Rattle.dob_rank.proofs.Settled.{settle_kept, settle_taken, settle_left, AreShown, IsSettled, settle-settles}
+use Rattle.dob_rank.proofs.Settled.{settle_kept, settle_taken, settle_left}
 
 -- ---- the empty squares of a list of layers
 
@@ -82,7 +80,7 @@ settle_none t n (l ∷ ls) = elim (cases_eq l 5) [
   | inr ne ↦ settle_kept t 0 n l ls ne ∙ ap (λ (xs : List ℕ). l ∷ xs) (settle_none t n ls)
 ]
 
-one_way : (m : ℕ) → with_first m 1 ≡ 1
+pub one_way : (m : ℕ) → with_first m 1 ≡ 1
 one_way zero = refl
 one_way (suc m) = refl
 

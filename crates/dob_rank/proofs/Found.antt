@@ -9,11 +9,11 @@ use Rattle.dob_pieces.proofs.Boards.{total-mirrored, IsLegal-mirrored}
 use Rattle.dob_pieces.proofs.Symmetries.{mirrored-mirrored}
 use Rattle.dob_rank.specs.Order.{IsPositionOf, Before, RepresentativeOf}
 use Rattle.dob_rank.specs.Numbers.{count, with_first, settle, product, number_of, digits_of, HasDigits, sum_below, block_bases, bases_by, on_board, digits, block_of, block_size, rank_of, setup_by, setup_in}
-use Rattle.dob_rank.proofs.MixedRadix.{number_of-below, HasDigits-digits_of}
+use Rattle.dob_rank.proofs.MixedRadix.{HasDigits-digits_of}
 use Rattle.dob_rank.proofs.Settled.{AreLayers, settle_kept, settle_taken, settle_left}
 use Rattle.dob_rank.proofs.Digits.{HasParts-from_position, HasDigits-on_board, HasDigits-digits}
 use Rattle.dob_rank.proofs.Numbering.{HasBlock, HasBlock-setup_in, block_size-product, block_of-below, place_of-below, rank_of-place, place_of, rank_of-rises}
-use Rattle.dob_rank.proofs.Blocks.{AreBases, block_size-small}
+use Rattle.dob_rank.proofs.Blocks.{block_size-small}
 use Rattle.dob_rank.proofs.Sets.{set_of, IsPositionOf-set_of}
 
 pub HasDigits-same : (bs cs ds es : List ℕ) → bs ≡ cs → ds ≡ es → HasDigits cs es → HasDigits bs ds

@@ -21,6 +21,8 @@ pub mod Loops  -- what the code's loops keep
 pub mod Blocks  -- blocks are small
 pub mod Sets  -- a position and its set
 pub mod Found  -- what the code's lists and numbers are
+pub mod Planes  -- masks of layers and what their bits count
+pub mod BoardMasks  -- what the masks of a position say
 -- Classes.
 pub mod Marks  -- marked ranks are representatives
 pub mod Words  -- words of marks

@@ -1,17 +1,17 @@
 -- What the lions' squares say of a position and its mirror image.
-use Rattle.std.proofs.Common.{◌≡◌, ℕ, zero, suc, ◌+◌, ◌*◌, ◌/◌, ◌%◌, ◌<◌, ◌≤◌, Bool, true, eqb, ltb, List, [], ◌∷◌, None, length, map, replicate, slice_index_or, refl, sym, ap, ◌∙◌, subst, arith}
+use Rattle.std.proofs.Common.{◌≡◌, ℕ, zero, suc, ◌+◌, ◌*◌, ◌/◌, ◌%◌, ◌<◌, Bool, true, eqb, ltb, List, [], ◌∷◌, None, length, map, replicate, slice_index_or, refl, sym, ap, ◌∙◌, subst, arith}
 use Rattle.std.specs.List.{range_with_len}
 use Rattle.std.proofs.lemmas.Bool.{eqb-true, ltb-true}
 use Rattle.std.proofs.lemmas.List.{length-map}
 use Rattle.dob_pieces.specs.declared.piece_set.PieceSet.{PieceSet}
 use Rattle.dob_pieces.specs.declared.setup.Setup.{Setup}
 use Rattle.dob_pieces.specs.Squares.{mirrored_square}
-use Rattle.dob_pieces.specs.Setups.{Cell, at, board_by, mirrored}
+use Rattle.dob_pieces.specs.Setups.{Cell, board_by, mirrored}
 use Rattle.dob_pieces.proofs.Boards.{all_below, all_below-at}
 use Rattle.dob_rank.specs.declared.runs.RunKind.{RunKind}
 use Rattle.dob_rank.specs.declared.runs.RunKind.TheVariants.{First, Later, Mixed}
 use Rattle.dob_rank.specs.Order.{IsPositionOf}
-use Rattle.dob_rank.specs.Numbers.{layer, count, choice, settle}
+use Rattle.dob_rank.specs.Numbers.{layer, choice, settle}
 use Rattle.dob_rank.specs.Runs.{lions_of, run_kind}
 use Rattle.dob_rank.proofs.Settled.{hide, AreLayers, hide-hide, settle-choice, choice_hide_next}
 use Rattle.dob_rank.proofs.FormDigits.{AreLayers-map}

@@ -15,7 +15,7 @@ use Rattle.dob_rank.proofs.Found.{IsPositionOf-mirrored}
 use Rattle.dob_rank.proofs.Numbering.{rank_of-rises, rank_of-same, Before-from_rank, HasRank-rank_of}
 use Rattle.dob_rank.proofs.Marks.{numbering, marked-first, HasClasses-marks, HasClass-marks}
 use Rattle.dob_rank.proofs.Words.{marks_below_more}
-use Rattle.dob_rank.proofs.Counted.{fewer, same_count, one_count}
+use Rattle.dob_rank.proofs.Counted.{fewer, one_count}
 
 -- no position stands before itself
 pub not_before_itself : (p : Setup) → ¬ Before p p

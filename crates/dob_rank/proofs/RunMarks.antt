@@ -1,17 +1,17 @@
 -- The marks of runs: how many there are before each place of a block, and the tables that say so.
-use Rattle.std.proofs.Common.{◌≡◌, ℕ, zero, suc, ◌+◌, ◌-◌, ◌*◌, ◌/◌, ◌%◌, ◌^◌, ◌<◌, ◌≤◌, min, Bool, true, false, List, [], ◌∷◌, ◌++◌, length, slice_index_or, refl, sym, ap, ◌∙◌, subst, inl, inr, arith}
+use Rattle.std.proofs.Common.{◌≡◌, ℕ, zero, suc, ◌+◌, ◌-◌, ◌*◌, ◌/◌, ◌%◌, ◌^◌, ◌<◌, ◌≤◌, min, Bool, true, false, List, length, slice_index_or, refl, sym, ap, ◌∙◌, subst, arith}
 use Rattle.std.proofs.lemmas.Nat.{div-add-mod', div_below, mod_below}
 use Rattle.std.proofs.Math.Nat.{add-mul, mul-le-mul_right}
 use Rattle.dob_pieces.specs.declared.piece_set.PieceSet.{PieceSet}
 use Rattle.dob_rank.specs.declared.runs.Run.{Run}
 use Rattle.dob_rank.specs.declared.runs.Word.{Word}
 use Rattle.dob_rank.specs.declared.runs.RunKind.TheVariants.{First, Later, Mixed}
-use Rattle.dob_rank.specs.Numbers.{product, sum_below, block_bases, block_size, size_of, start_of}
-use Rattle.dob_rank.specs.Marks.{one_if, marks_below, marked, classes_of, word_of}
+use Rattle.dob_rank.specs.Numbers.{product, sum_below, block_bases, block_size, start_of}
+use Rattle.dob_rank.specs.Marks.{marks_below, marked, word_of}
 use Rattle.dob_rank.specs.Runs.{runs_in, run_size, run_start, run_kind}
-use Rattle.dob_rank.specs.RunTables.{IsRun, AreRuns, run_word, run_words}
+use Rattle.dob_rank.specs.RunTables.{IsRun, AreRuns, run_word}
 use Rattle.dob_rank.proofs.Blocks.{block_size-small, blocks_small}
-use Rattle.dob_rank.proofs.Words.{marks_below_more, marks_below-le, marks_below-all, marks_below-unmarked}
+use Rattle.dob_rank.proofs.Words.{marks_below-le, marks_below-all, marks_below-unmarked}
 use Rattle.dob_rank.proofs.ClassNumbers.{IsMarkedAt, one_left}
 use Rattle.dob_rank.proofs.RunPlaces.{IsInRun, block_size-runs, run_start-is, marked_first, marked_later, run_size-some}
 

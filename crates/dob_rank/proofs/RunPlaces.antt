@@ -1,27 +1,27 @@
 -- A place in a block is a run and a place in that run, and the lions of a run compare its positions with their mirror
 -- images.
-use Rattle.std.proofs.Common.{◌≡◌, ℕ, zero, suc, ◌+◌, ◌-◌, ◌*◌, ◌/◌, ◌%◌, ◌<◌, ◌≤◌, Bool, true, false, cond, eqb, List, [], ◌∷◌, ◌++◌, length, get_or, take, drop, map, refl, sym, ap, ◌∙◌, subst, inl, inr, arith}
+use Rattle.std.proofs.Common.{◌≡◌, ℕ, zero, suc, ◌+◌, ◌-◌, ◌*◌, ◌/◌, ◌%◌, ◌<◌, ◌≤◌, Bool, true, false, List, [], ◌∷◌, ◌++◌, length, get_or, take, drop, map, refl, sym, ap, ◌∙◌, subst, inl, inr, arith}
 use Rattle.std.specs.List.{All}
 use Rattle.std.proofs.lemmas.Bool.{cases_Bool, cases_lt}
 use Rattle.std.proofs.lemmas.List.{length-map}
 use Rattle.std.proofs.lemmas.Nat.{div-mul-add}
-use Rattle.std.proofs.Math.Nat.{mul_assoc, add-mul, mul-pos, mul-le-mul}
+use Rattle.std.proofs.Math.Nat.{mul-pos, mul-le-mul}
 use Rattle.dob_pieces.specs.declared.piece_set.PieceSet.{PieceSet}
 use Rattle.dob_pieces.specs.declared.setup.Setup.{Setup}
 use Rattle.dob_pieces.specs.Setups.{mirrored}
-use Rattle.dob_rank.specs.declared.runs.RunKind.TheVariants.{First, Later, Mixed}
+use Rattle.dob_rank.specs.declared.runs.RunKind.TheVariants.{First, Later}
 use Rattle.dob_rank.specs.Order.{IsPositionOf}
-use Rattle.dob_rank.specs.Numbers.{layer, count, choice, forms_number, product, number_of, digits_of, HasDigits, sum_below, block_bases, bases_by, on_board, digits, block_of, block_size, size_of, rank_of, setup_in, nth}
+use Rattle.dob_rank.specs.Numbers.{layer, count, choice, forms_number, product, number_of, digits_of, sum_below, block_bases, bases_by, on_board, block_of, block_size, rank_of, setup_in}
 use Rattle.dob_rank.specs.Marks.{is_first, marked}
 use Rattle.dob_rank.specs.Runs.{run_bases, local_bases, runs_in, run_size, run_start, lions_of, run_kind}
 use Rattle.dob_rank.proofs.Blocks.{AreBases-by, few_in_block, block_size-small}
 use Rattle.dob_rank.proofs.MixedRadix.{digit_below, number_of-below, product-append, number_of-append}
-use Rattle.dob_rank.proofs.Digits.{HasParts, HasParts-from_position, HasDigits-digits}
-use Rattle.dob_rank.proofs.Numbering.{place_of, rank_of-place, block_size-product, on_board-block, HasBlock, HasBlock-setup_in, IsPlace, rank_of-block, rank_of-below, nth-rank_of}
+use Rattle.dob_rank.proofs.Digits.{HasParts-from_position, HasDigits-digits}
+use Rattle.dob_rank.proofs.Numbering.{place_of, rank_of-place, block_size-product, on_board-block, HasBlock, HasBlock-setup_in, rank_of-block, rank_of-below}
 use Rattle.dob_rank.proofs.Found.{IsPositionOf-mirrored}
 use Rattle.dob_rank.proofs.Marks.{first-marked, marked-first, marked-first_of}
 use Rattle.dob_rank.proofs.Representatives.{first_by_rank, rank_of_first}
-use Rattle.dob_rank.proofs.Lions.{mirror_layers, layers-mirrored, image_lions, lions_of-mirrored, lions_of-below, first_lions, later_lions, mixed_lions}
+use Rattle.dob_rank.proofs.Lions.{mirror_layers, layers-mirrored, image_lions, lions_of-mirrored, lions_of-below, first_lions, later_lions}
 
 -- ---- a position's run, and its place there
 

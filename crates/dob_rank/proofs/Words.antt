@@ -1,5 +1,5 @@
 -- Words of marks: their ones are the marks, and their low bits the first of them.
-use Rattle.std.proofs.Common.{◌≡◌, ℕ, zero, suc, ◌+◌, ◌-◌, ◌*◌, ◌/◌, ◌%◌, ◌^◌, ◌<◌, ◌≤◌, ◌==◌, bit_and, Bool, true, false, List, [], ◌∷◌, ◌++◌, refl, sym, ap, ◌∙◌, arith}
+use Rattle.std.proofs.Common.{◌≡◌, ℕ, zero, suc, ◌+◌, ◌-◌, ◌*◌, ◌/◌, ◌%◌, ◌^◌, ◌<◌, ◌≤◌, ◌==◌, bit_and, Bool, true, false, refl, sym, ap, ◌∙◌, arith}
 use Rattle.std.proofs.lemmas.Nat.{and_mask, one_shl, ones_cat, div-mul-add, mod-mul-add, shr-shr}
 use Rattle.std.proofs.Math.Nat.{pow-zero, pow-le-pow_right, pow-suc}
 use Rattle.std.proofs.Math.Arith.{mod-mul}

@@ -1,6 +1,8 @@
 pub mod Order
 pub mod Numbers
 pub mod Placing
+pub mod Masks
+pub mod BoardMasks
 pub mod Marks
 pub mod ClassRows
 pub mod Runs

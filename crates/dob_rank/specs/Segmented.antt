@@ -1,5 +1,5 @@
 -- A list in segments: vectors of one length, of which only the last may be shorter.
-use Rattle.std.specs.Prelude.{◌≡◌, ℕ, ◌+◌, ◌<◌, ◌≤◌, List, [], ◌∷◌, ◌++◌, length}
+use Rattle.std.specs.Prelude.{◌≡◌, ℕ, ◌<◌, ◌≤◌, List, [], ◌∷◌, ◌++◌, length}
 use Rattle.std.specs.declared.vec.Vec.{Vec}
 
 -- the items of the segments, one segment after the other

@@ -1,11 +1,11 @@
 // The blocks of a piece set: the positions with the same numbers of chicks, elephants and giraffes on the board.
 // The blocks stand in the order of those numbers.
 ghost use Rattle.std.specs.Prelude.{◌≡◌, ◌<◌, ◌≤◌, ◌+◌, ◌*◌, ◌^◌, slice_index};
-ghost use Rattle.dob_rank.specs.Numbers.{product, HasDigits, digits_of, sum_below, bases_by, block_bases, block_size as size_of_block, size_of};
+ghost use Rattle.dob_rank.specs.Numbers.{choose as ways_to_choose, product, HasDigits, digits_of, sum_below, bases_by, block_bases, block_size as size_of_block, size_of};
 ghost use Rattle.dob_rank.specs.Runs.{runs_in, run_size, form_bases, AreFewOnBoard};
 
 use crate::runs::LIONS;
-use crate::{layers, radix, starts};
+use crate::{radix, starts};
 use dob_pieces::PieceSet;
 
 /// One number for each kind of piece: chicks (hens counted with them), elephants, giraffes.
@@ -58,9 +58,9 @@ pub(crate) fn bases_in(set: PieceSet, on_board: &EachKind) -> [u64; DIGITS]
         u64::from(set.giraffes) - giraffes + 1,
         9,
         11,
-        layers::choose(10, chicks),
-        layers::choose(10 - chicks, elephants),
-        layers::choose(10 - chicks - elephants, giraffes),
+        choose(10, chicks),
+        choose(10 - chicks, elephants),
+        choose(10 - chicks - elephants, giraffes),
         power(4, chicks),
         power(2, elephants),
         power(2, giraffes),
@@ -115,6 +115,19 @@ fn form_digits(on_board: &EachKind, number: u64) -> EachKind
     let giraffes = 1 << on_board[2];
     let rest = number / giraffes;
     [rest / elephants, rest % elephants, number % giraffes]
+}
+
+/// In how many ways at most two squares are chosen from so many.
+fn choose(squares: u64, pieces: u64) -> u64
+    requires few { pieces ≤ 2 }
+    requires small { squares ≤ 12 }
+    ensures { result ≡ ways_to_choose squares pieces }
+{
+    match pieces {
+        0 => 1,
+        1 => squares,
+        _ => squares * squares.saturating_sub(1) / 2,
+    }
 }
 
 /// The power of a small base, for an exponent of at most 2.

@@ -4,11 +4,13 @@ ghost use Rattle.dob_rank.specs.Order.{IsPositionOf, IsFirstOfTwo, IsRepresentat
 ghost use Rattle.dob_rank.specs.Numbers.{product, block_bases, start_of, rank_of};
 ghost use Rattle.dob_rank.specs.Marks.{marked, marks_below, classes_of, class_number};
 ghost use Rattle.dob_rank.specs.BlockTables.{AreBlocks};
+ghost use Rattle.dob_rank.specs.BoardMasks.{AreMasks};
 
 use crate::block;
 use crate::block_classes::BlockClasses;
 use crate::fault::Fault;
-use crate::ranks::{place_of, position_at};
+use crate::masks::{Masks, masks_of};
+use crate::ranks::{place_by, position_at};
 use dob_pieces::{PieceSet, Position};
 use std::alloc::Global;
 
@@ -60,7 +62,22 @@ impl Classes {
         ensures number { result ≡ class_number self.now.set position.now.setup }
         ensures bound { result < classes_of self.now.set }
     {
-        let (is_first, class) = self.look_up(position);
+        let masks = masks_of(&position.setup.board);
+        if masks.stand_later() {
+            let image = position.mirrored();
+            self.class_by(&image, masks_of(&image.setup.board))
+        } else {
+            self.class_by(position, masks)
+        }
+    }
+
+    /// The same by the position's masks. It takes longer where the mirror image is the earlier one.
+    fn class_by(&self, position: &Position, masks: Masks) -> u64
+        requires position { IsPositionOf self.now.set position.now.setup }
+        requires masks { AreMasks position.now.setup.board masks }
+        ensures { result ≡ class_number self.now.set position.now.setup }
+    {
+        let (is_first, class) = self.look_up_by(position, masks);
         if is_first {
             class
         } else {
@@ -112,7 +129,17 @@ impl Classes {
         ensures mark { result.0 ≡ marked self.now.set (rank_of self.now.set position.now.setup) }
         ensures before { result.1 ≡ marks_below (marked self.now.set) (rank_of self.now.set position.now.setup) }
     {
-        let (block, place) = place_of(self.set, position);
+        self.look_up_by(position, masks_of(&position.setup.board))
+    }
+
+    /// The same by the position's masks.
+    fn look_up_by(&self, position: &Position, masks: Masks) -> (bool, u64)
+        requires position { IsPositionOf self.now.set position.now.setup }
+        requires masks { AreMasks position.now.setup.board masks }
+        ensures mark { result.0 ≡ marked self.now.set (rank_of self.now.set position.now.setup) }
+        ensures before { result.1 ≡ marks_below (marked self.now.set) (rank_of self.now.set position.now.setup) }
+    {
+        let (block, place) = place_by(self.set, position, masks);
         self.blocks[block as usize].look_up(place)
     }
 }

@@ -1,11 +1,9 @@
-// The forms of the pieces of a layer, as the digits of a number in the layer's base.
-ghost use Rattle.std.specs.Prelude.{◌≡◌, ◌<◌, ◌≤◌, map, length, slice_index};
-ghost use Rattle.std.specs.List.{All};
+// The forms of the pieces of a layer.
+ghost use Rattle.std.specs.Prelude.{◌≡◌, ◌<◌, ◌≤◌};
 ghost use Rattle.dob_rank.specs.Order.{form};
-ghost use Rattle.dob_rank.specs.Numbers.{layer as layer_in, count as number_in, base_of as base_in, forms_number as forms_number_of, cell_of as cell_in};
+ghost use Rattle.dob_rank.specs.Numbers.{base_of as base_in, cell_of as cell_in};
 
-use crate::layers::layer_of;
-use dob_pieces::{Kind, Piece, Side, Square};
+use dob_pieces::{Kind, Piece, Side};
 
 /// How many forms a piece of that layer has.
 pub(crate) fn base_of(layer: u8) -> u64
@@ -37,24 +35,6 @@ pub(crate) fn form_of(cell: Option<Piece>) -> u64
         (Side::Enemy, Kind::Elephant | Kind::Giraffe) => 1,
         (Side::Enemy, Kind::Lion) => 0,
     }
-}
-
-/// The number whose digits are the forms of a layer's pieces, of which there are at most two.
-pub(crate) fn forms_number(board: &[Option<Piece>; Square::COUNT], layer: u8) -> u64
-    requires { number_in layer (map layer_in board.now) ≤ 2 }
-    ensures { result ≡ forms_number_of layer board.now }
-{
-    let base = base_of(layer);
-    let mut number = 0;
-    let mut weight = 1;
-    for square in (0..Square::COUNT).rev() {
-        let cell = board[square];
-        if layer_of(cell) == layer {
-            number += form_of(cell) * weight;
-            weight *= base;
-        }
-    }
-    number
 }
 
 /// The cell of that layer and form.

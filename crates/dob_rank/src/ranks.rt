@@ -1,13 +1,16 @@
 // The rank of a position, the position of a rank, and the representative of a class.
-ghost use Rattle.std.specs.Prelude.{◌≡◌, ◌<◌, ◌≤◌, ◌^◌};
+ghost use Rattle.std.specs.Prelude.{◌≡◌, ◌<◌, ◌≤◌, ◌+◌, ◌^◌};
 ghost use Rattle.dob_pieces.specs.declared.setup.Setup.{Setup as AnySetup};
 ghost use Rattle.dob_pieces.specs.declared.piece_set.PieceSet.{PieceSet as AnySet};
+ghost use Rattle.dob_pieces.specs.Setups.{total};
+ghost use Rattle.dob_rank.specs.BoardMasks.{AreMasks};
 ghost use Rattle.dob_rank.specs.Order.{IsPositionOf, HasSize, HasRank, RepresentativeOf};
 ghost use Rattle.dob_rank.specs.Numbers.{size_of, rank_of, product, block_bases, block_of, block_size, place_of as place_in_block, HasBlock, bases_by, on_board as on_board_of, digits as all_digits_of, setup_by, hands_by, HasDigits};
 
 use crate::block::{self, DIGITS, EachKind};
-use crate::{forms, layers, placing, radix, starts};
-use dob_pieces::{Hand, Hands, PieceSet, Position, Setup};
+use crate::masks::{self, Masks};
+use crate::{placing, radix, starts};
+use dob_pieces::{Hand, HandKind, Hands, PieceSet, Position, Setup};
 
 /// How many positions the piece set has.
 pub fn size(set: PieceSet) -> u64
@@ -23,8 +26,10 @@ pub fn rank(position: &Position) -> u64
     ensures count { (set : AnySet) → IsPositionOf set position.now.setup → HasRank set position.now.setup result }
     ensures number { (set : AnySet) → IsPositionOf set position.now.setup → result ≡ rank_of set position.now.setup }
 {
-    let set = position.piece_set();
-    let (block, place) = place_of(set, position);
+    let masks = masks::masks_of(&position.setup.board);
+    let on_board = numbers_on_board(position, masks);
+    let set = piece_set_of(position, &on_board);
+    let (block, place) = place_with(set, position, masks, &on_board);
     starts::block_start(set, block) + place
 }
 
@@ -46,10 +51,56 @@ pub(crate) fn place_of(set: PieceSet, position: &Position) -> (u64, u64)
     ensures block { result.0 ≡ block_of set position.now.setup }
     ensures place { result.1 ≡ place_in_block set position.now.setup }
 {
-    let on_board = numbers_on_board(position);
-    let block = radix::number_of(&block::block_bases_of(set), &on_board);
-    let place = radix::number_of(&block::bases_in(set, &on_board), &digits_of(position));
+    place_by(set, position, masks::masks_of(&position.setup.board))
+}
+
+/// The same by the masks of the position.
+pub(crate) fn place_by(set: PieceSet, position: &Position, masks: Masks) -> (u64, u64)
+    requires position { IsPositionOf set position.now.setup }
+    requires masks { AreMasks position.now.setup.board masks }
+    ensures block { result.0 ≡ block_of set position.now.setup }
+    ensures place { result.1 ≡ place_in_block set position.now.setup }
+{
+    place_with(set, position, masks, &numbers_on_board(position, masks))
+}
+
+/// The same by the masks of the position and the numbers on its board.
+fn place_with(set: PieceSet, position: &Position, masks: Masks, on_board: &EachKind) -> (u64, u64)
+    requires position { IsPositionOf set position.now.setup }
+    requires masks { AreMasks position.now.setup.board masks }
+    requires on_board { on_board.now ≡ on_board_of position.now.setup }
+    ensures block { result.0 ≡ block_of set position.now.setup }
+    ensures place { result.1 ≡ place_in_block set position.now.setup }
+{
+    let block = radix::number_of(&block::block_bases_of(set), on_board);
+    let digits = digits_of(position, masks, on_board);
+    let place = radix::number_of(&block::bases_in(set, on_board), &digits);
     (block, place)
+}
+
+/// The piece set of a position, by the numbers on its board.
+fn piece_set_of(position: &Position, on_board: &EachKind) -> PieceSet
+    requires { on_board.now ≡ on_board_of position.now.setup }
+    ensures chicks { result.chicks ≡ total HandKind.Chick position.now.setup }
+    ensures elephants { result.elephants ≡ total HandKind.Elephant position.now.setup }
+    ensures giraffes { result.giraffes ≡ total HandKind.Giraffe position.now.setup }
+{
+    let mover = position.setup.hands.mover;
+    let enemy = position.setup.hands.enemy;
+    PieceSet {
+        chicks: in_all(on_board[0], mover.chicks, enemy.chicks),
+        elephants: in_all(on_board[1], mover.elephants, enemy.elephants),
+        giraffes: in_all(on_board[2], mover.giraffes, enemy.giraffes),
+    }
+}
+
+/// How many pieces of a kind there are, on the board and in the hands.
+fn in_all(on_board: u64, mover: u8, enemy: u8) -> u8
+    requires { on_board + mover + enemy ≤ 2 }
+    ensures value { result ≡ on_board + mover + enemy }
+    ensures bound { result ≤ 2 }
+{
+    on_board as u8 + mover + enemy
 }
 
 /// The position of the set at that place of the block of that number.
@@ -76,37 +127,42 @@ pub fn representative(position: &Position) -> Position
 }
 
 /// How many chicks, elephants and giraffes stand on the board.
-fn numbers_on_board(position: &Position) -> EachKind
+fn numbers_on_board(position: &Position, masks: Masks) -> EachKind
+    requires { AreMasks position.now.setup.board masks }
     ensures { result ≡ on_board_of position.now.setup }
 {
-    let board = layers::layers_of(&position.setup.board);
     [
-        layers::count(&board, 2),
-        layers::count(&board, 3),
-        layers::count(&board, 4),
+        masks::count(masks.chicks),
+        masks::count(masks.elephants),
+        masks::count(masks.giraffes),
     ]
 }
 
 /// The digits of a position in its block.
-#[tactic(auto, using(crate::proofs::Sets::few_in_layer))]
-fn digits_of(position: &Position) -> [u64; DIGITS]
+fn digits_of(position: &Position, masks: Masks, on_board: &EachKind) -> [u64; DIGITS]
+    requires masks { AreMasks position.now.setup.board masks }
+    requires on_board { on_board.now ≡ on_board_of position.now.setup }
     ensures { result ≡ all_digits_of position.now.setup }
 {
     let board = &position.setup.board;
-    let squares = layers::layers_of(board);
     let hand = position.setup.hands.mover;
+    let after_own_lion = masks::ALL - masks.own_lion;
+    let after_lions = after_own_lion - masks.enemy_lion;
+    let after_chicks = after_lions - masks.chicks;
+    let after_elephants = after_chicks - masks.elephants;
+    let empty = after_elephants - masks.giraffes;
     [
         u64::from(hand.chicks),
         u64::from(hand.elephants),
         u64::from(hand.giraffes),
-        layers::choice(&squares, 0),
-        layers::choice(&squares, 1),
-        layers::choice(&squares, 2),
-        layers::choice(&squares, 3),
-        layers::choice(&squares, 4),
-        forms::forms_number(board, 2),
-        forms::forms_number(board, 3),
-        forms::forms_number(board, 4),
+        masks::choice_of(masks.own_lion, after_own_lion, 1),
+        masks::choice_of(masks.enemy_lion, after_lions, 1),
+        masks::choice_of(masks.chicks, after_chicks, on_board[0]),
+        masks::choice_of(masks.elephants, after_elephants, on_board[1]),
+        masks::choice_of(masks.giraffes, empty, on_board[2]),
+        masks::forms_of(board, masks.chicks, 2, on_board[0]),
+        masks::forms_of(board, masks.elephants, 3, on_board[1]),
+        masks::forms_of(board, masks.giraffes, 4, on_board[2]),
     ]
 }
 

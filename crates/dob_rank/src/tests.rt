@@ -194,7 +194,7 @@ fn has_class(rt: &impl Abort, position: &Position, classes: &Classes, number: u6
 
 #[test]
 fn small_sets_as_they_are_walked(rt: HostRuntime) -> Result<(), Fail> {
-    for text in ["000", "001", "010", "100", "002", "020", "200"] {
+    for text in ["000", "001", "010", "100", "002", "011", "020", "200"] {
         agrees_with_walk(&rt, rt.alloc(), text, 1)?;
     }
     Ok(())

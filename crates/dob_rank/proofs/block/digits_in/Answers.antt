@@ -1,6 +1,6 @@
 -- The parts of the place are below the products of their bases, and their digits are those of the place.
 use Rattle.std.proofs.Common.{◌∙◌, arith}
-use Rattle.dob_rank.proofs.DigitParts.{AreFound, parts_found, digits_found, below_same, digits_same, AreFewOnBoard-digits}
+use Rattle.dob_rank.proofs.DigitParts.{parts_found, digits_found, below_same, digits_same, AreFewOnBoard-digits}
 use Rattle.dob_rank.proofs.block.digits_in.Goals as goal
 
 pub forms_in-forms-requires : goal.forms_in-forms-requires

@@ -1,5 +1,5 @@
 -- A position is the earlier one where its place is no later than that of its mirror image.
-use Rattle.std.proofs.Common.{ap, subst, sym, ◌∙◌}
+use Rattle.std.proofs.Common.{ap, subst, sym}
 use Rattle.dob_rank.specs.Order.{IsPositionOf}
 use Rattle.dob_rank.specs.Marks.{one_if}
 use Rattle.dob_rank.proofs.Found.{IsPositionOf-mirrored}

@@ -1,5 +1,5 @@
 -- The kind of a run says its marks, or its words do.
-use Rattle.std.proofs.Common.{◌≡◌, ◌++◌, ap, sym, subst, ◌∙◌, append-nil, List, ℕ}
+use Rattle.std.proofs.Common.{◌≡◌, ◌++◌, ap, sym, subst, ◌∙◌, append-nil, List}
 use Rattle.std.specs.Result.{IfOk}
 use Rattle.dob_rank.specs.declared.runs.Word.{Word}
 use Rattle.dob_rank.specs.declared.runs.RunKind.TheVariants.{First, Later, Mixed}

@@ -2,7 +2,7 @@
 use Rattle.std.proofs.Common.{◌≡◌, ◌<◌, ◌-◌, ℕ, None, replicate, set, slice_index, sym, ap, ◌∙◌, subst}
 use Rattle.dob_pieces.specs.Setups.{Cell}
 use Rattle.dob_rank.specs.Numbers.{numbers_by, cell_of}
-use Rattle.dob_rank.specs.Placing.{past, first_place, second_place, put}
+use Rattle.dob_rank.specs.Placing.{past}
 use Rattle.dob_rank.proofs.Placed.{after_lions, after_chicks, after_elephants, with_lions, with_chicks, with_elephants, lions_by, chicks_by, elephants_by, lions_stand, chicks_stand, elephants_stand, whole_board, first_below, second_below, put-same}
 use Rattle.dob_rank.proofs.placing.board_by.Goals as goal
 

@@ -1,5 +1,5 @@
 -- The digits of a place make the position that stands there.
-use Rattle.std.proofs.Common.{◌∙◌, refl}
+use Rattle.std.proofs.Common.{refl}
 use Rattle.dob_rank.proofs.Blocks.{HasDigits-numbers}
 use Rattle.dob_rank.proofs.Found.{HasDigits-found, place_in, made_at, made_same}
 use Rattle.dob_rank.proofs.ranks.position_at.Goals as goal

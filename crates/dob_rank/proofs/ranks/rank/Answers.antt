@@ -1,40 +1,40 @@
 -- A rank is the start of the position's block and its place there, and the same under each set of the position.
-use Rattle.std.proofs.Common.{◌∙◌, ◌+◌, arith}
+use Rattle.std.proofs.Common.{◌∙◌, arith}
 use Rattle.dob_rank.proofs.Sets.{IsPositionOf-totals, HasRank-sets, rank_of-sets}
 use Rattle.dob_rank.proofs.Found.{block_upto, ranked, rank_small}
 use Rattle.dob_rank.proofs.ranks.rank.Goals as goal
 
-pub place_of-block-requires : goal.place_of-block-requires
-place_of-block-requires c =
-    let of_set = c.piece_set-set.ensures in
-    IsPositionOf-totals c.piece_set-set.result c.args.position.now.setup c.args.position.now.legal of_set.chicks of_set.elephants of_set.giraffes
+pub place_with-block-requires-clause-position : goal.place_with-block-requires-clause-position
+place_with-block-requires-clause-position c =
+    let of_set = c.piece_set_of-set.ensures in
+    IsPositionOf-totals c.piece_set_of-set.result c.args.position.now.setup c.args.position.now.legal of_set.chicks of_set.elephants of_set.giraffes
 
 pub block_start-requires : goal.block_start-requires
 block_start-requires c =
-    let of_set = c.piece_set-set.ensures in
-    let is = IsPositionOf-totals c.piece_set-set.result c.args.position.now.setup c.args.position.now.legal of_set.chicks of_set.elephants of_set.giraffes in
-    block_upto c.piece_set-set.result c.args.position.now.setup _ is c.place_of-block.ensures.block
+    let of_set = c.piece_set_of-set.ensures in
+    let is = IsPositionOf-totals c.piece_set_of-set.result c.args.position.now.setup c.args.position.now.legal of_set.chicks of_set.elephants of_set.giraffes in
+    block_upto c.piece_set_of-set.result c.args.position.now.setup _ is c.place_with-block.ensures.block
 
 pub overflow_add-result : goal.overflow_add-result
 overflow_add-result c =
-    let of_set = c.piece_set-set.ensures in
-    let is = IsPositionOf-totals c.piece_set-set.result c.args.position.now.setup c.args.position.now.legal of_set.chicks of_set.elephants of_set.giraffes in
+    let of_set = c.piece_set_of-set.ensures in
+    let is = IsPositionOf-totals c.piece_set_of-set.result c.args.position.now.setup c.args.position.now.legal of_set.chicks of_set.elephants of_set.giraffes in
     omega (
       arith,
-      rank_small c.piece_set-set.result c.args.position.now.setup c.block_start.result c.place_of-block.result.1 is
-          c.block_start.ensures.bound c.place_of-block.ensures.place,
+      rank_small c.piece_set_of-set.result c.args.position.now.setup c.block_start.result c.place_with-block.result.1 is
+          c.block_start.ensures.bound c.place_with-block.ensures.place,
     )
 
 pub returns-clause-count : goal.returns-clause-count
 returns-clause-count c = λ set is_of.
-    let of_set = c.piece_set-set.ensures in
-    let is = IsPositionOf-totals c.piece_set-set.result c.args.position.now.setup c.args.position.now.legal of_set.chicks of_set.elephants of_set.giraffes in
-    HasRank-sets c.piece_set-set.result set c.args.position.now.setup _ is is_of
-    (ranked c.piece_set-set.result c.args.position.now.setup _ _ _ c.place_of-block.ensures.block c.place_of-block.ensures.place c.block_start.ensures.value)
+    let of_set = c.piece_set_of-set.ensures in
+    let is = IsPositionOf-totals c.piece_set_of-set.result c.args.position.now.setup c.args.position.now.legal of_set.chicks of_set.elephants of_set.giraffes in
+    HasRank-sets c.piece_set_of-set.result set c.args.position.now.setup _ is is_of
+    (ranked c.piece_set_of-set.result c.args.position.now.setup _ _ _ c.place_with-block.ensures.block c.place_with-block.ensures.place c.block_start.ensures.value)
 
 pub returns-clause-number : goal.returns-clause-number
 returns-clause-number c = λ set is_of.
-    let of_set = c.piece_set-set.ensures in
-    let is = IsPositionOf-totals c.piece_set-set.result c.args.position.now.setup c.args.position.now.legal of_set.chicks of_set.elephants of_set.giraffes in
-    ranked c.piece_set-set.result c.args.position.now.setup _ _ _ c.place_of-block.ensures.block c.place_of-block.ensures.place c.block_start.ensures.value
-    ∙ rank_of-sets c.piece_set-set.result set c.args.position.now.setup is is_of
+    let of_set = c.piece_set_of-set.ensures in
+    let is = IsPositionOf-totals c.piece_set_of-set.result c.args.position.now.setup c.args.position.now.legal of_set.chicks of_set.elephants of_set.giraffes in
+    ranked c.piece_set_of-set.result c.args.position.now.setup _ _ _ c.place_with-block.ensures.block c.place_with-block.ensures.place c.block_start.ensures.value
+    ∙ rank_of-sets c.piece_set_of-set.result set c.args.position.now.setup is is_of

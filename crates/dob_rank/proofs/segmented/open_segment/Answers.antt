@@ -1,6 +1,6 @@
-use Rattle.std.proofs.Common.{◌≡◌, ◌<◌, ◌≤◌, ◌/◌, ◌^◌, ℕ, refl, ap, sym, ◌∙◌, length, vec_len, arith}
+use Rattle.std.proofs.Common.{◌≡◌, ◌≤◌, ◌/◌, ◌^◌, refl, ap, sym, ◌∙◌, length, vec_len, arith}
 use Rattle.dob_rank.proofs.Segmentation.{end_at}
-use Rattle.dob_rank.specs.Segmented.{joined, AreSegments}
+use Rattle.dob_rank.specs.Segmented.{joined}
 use Rattle.dob_rank.proofs.segmented.open_segment.Goals as goal
 
 pub returns-in_ok-push-clause-same : goal.returns-in_ok-push-clause-same

@@ -1,5 +1,5 @@
-use Rattle.std.proofs.Common.{ℕ, ◌≤◌, ◌+◌, ◌*◌, subst, sym}
-use Rattle.dob_rank.proofs.BlockStarts.{start_is, start_in}
+use Rattle.std.proofs.Common.{ℕ, ◌≤◌, subst, sym}
+use Rattle.dob_rank.proofs.BlockStarts.{start_is}
 use Rattle.dob_rank.proofs.Blocks.{blocks_small}
 use Rattle.dob_rank.proofs.RunMarks.{start_small}
 use Rattle.dob_rank.proofs.starts.block_start.Goals as goal

@@ -1,7 +1,7 @@
 -- In a run whose lions say first the place is found by subtraction, in another one by a search.
 use Rattle.std.proofs.Common.{arith, sym, ◌∙◌}
 use Rattle.dob_rank.proofs.Blocks.{block_size-small}
-use Rattle.dob_rank.proofs.RunMarks.{run_upto, IsPlaceOfClass, first_place, place_search}
+use Rattle.dob_rank.proofs.RunMarks.{run_upto, first_place, place_search}
 use Rattle.dob_rank.proofs.block_classes.BlockClasses.place_at.Goals as goal
 
 pub overflow_mul-first : goal.overflow_mul-first

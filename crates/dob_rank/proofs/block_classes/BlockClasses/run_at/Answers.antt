@@ -1,9 +1,6 @@
 -- The search starts between the block's start and its end.
-use Rattle.std.proofs.Common.{◌≤◌, ◌<◌, ℕ, arith, sym, ap, subst, ◌∙◌}
-use Rattle.dob_rank.specs.Numbers.{start_of, block_size}
-use Rattle.dob_rank.specs.Marks.{marked, marks_below}
-use Rattle.dob_rank.specs.Runs.{run_start}
-use Rattle.dob_rank.proofs.RunMarks.{IsRunStart, run_search}
+use Rattle.std.proofs.Common.{◌∙◌}
+use Rattle.dob_rank.proofs.RunMarks.{run_search}
 use Rattle.dob_rank.proofs.block_classes.BlockClasses.run_at.Goals as goal
 
 pub loop-high-init : goal.loop-high-init

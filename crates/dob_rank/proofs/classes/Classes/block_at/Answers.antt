@@ -1,5 +1,5 @@
 -- The class stands before the end of the last block, and no class before the first.
-use Rattle.std.proofs.Common.{arith, ◌∙◌, sym}
+use Rattle.std.proofs.Common.{◌∙◌}
 use Rattle.dob_rank.proofs.BlockTables.{class_in_blocks, in_first}
 use Rattle.dob_rank.proofs.classes.Classes.block_at.Goals as goal
 

@@ -1,6 +1,5 @@
 -- The position at the class's place is its representative.
 use Rattle.std.proofs.Common.{arith}
-use Rattle.dob_rank.proofs.ClassNumbers.{IsAtClass}
 use Rattle.dob_rank.proofs.BlockTables.{classes_read, at_place}
 use Rattle.dob_rank.proofs.classes.Classes.class_at.Goals as goal
 

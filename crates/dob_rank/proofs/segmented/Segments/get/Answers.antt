@@ -1,4 +1,4 @@
-use Rattle.std.proofs.Common.{◌≡◌, refl}
+use Rattle.std.proofs.Common.{refl}
 use Rattle.std.proofs.lemmas.Option.{slice_get_read}
 use Rattle.dob_rank.proofs.Segmentation.{number_below, within_below, read_is}
 use Rattle.dob_rank.proofs.segmented.Segments.get.Goals as goal

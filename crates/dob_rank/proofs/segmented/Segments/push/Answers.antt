@@ -1,4 +1,4 @@
-use Rattle.std.proofs.Common.{◌≡◌, ◌<◌, ◌≤◌, ◌+◌, ◌++◌, ◌∷◌, [], ℕ, refl, ap, sym, ◌∙◌, length, length-append, vec_len, arith, Result, Ok, Err}
+use Rattle.std.proofs.Common.{◌≤◌, ◌+◌, ℕ, ap, sym, ◌∙◌, length, arith, Result, Ok, Err}
 use Rattle.std.specs.Result.{OnErr}
 use Rattle.std.proofs.lemmas.List.{length_push}
 use Rattle.dob_rank.proofs.Segmentation.{pushed_is, same_is}

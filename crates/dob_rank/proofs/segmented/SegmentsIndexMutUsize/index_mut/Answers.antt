@@ -1,4 +1,4 @@
-use Rattle.std.proofs.Common.{◌≡◌, refl, length, ap, ◌∙◌, sym}
+use Rattle.std.proofs.Common.{refl, length, ap, ◌∙◌, sym}
 use Rattle.std.proofs.Math.ListN.{length-set}
 use Rattle.std.specs.Vec.{with_item}
 use Rattle.dob_rank.proofs.Segmentation.{number_below, within_below, read_is, written_is}

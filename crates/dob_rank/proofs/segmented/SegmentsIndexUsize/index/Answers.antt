@@ -1,4 +1,3 @@
-use Rattle.std.proofs.Common.{◌≡◌, refl}
 use Rattle.dob_rank.proofs.Segmentation.{number_below, within_below, read_is}
 use Rattle.dob_rank.proofs.segmented.SegmentsIndexUsize.index.Goals as goal
 

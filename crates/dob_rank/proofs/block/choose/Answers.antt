@@ -1,7 +1,7 @@
 use Rattle.std.proofs.Common.{◌≡◌, ◌-◌}
 use Rattle.std.proofs.Common.{arith}
 use Rattle.dob_rank.proofs.Loops.{choose_at_one, choose_at_two}
-use Rattle.dob_rank.proofs.layers.choose.Goals as goal
+use Rattle.dob_rank.proofs.block.choose.Goals as goal
 
 pub returns-in-1 : goal.returns-in-1
 returns-in-1 c = choose_at_one c.args.squares c.args.pieces c.in-1.is

@@ -1,0 +1,33 @@
+-- The planes of the board are the masks of its layers.
+use Rattle.std.proofs.Common.{map, drop, arith}
+use Rattle.dob_rank.specs.Numbers.{layer}
+use Rattle.dob_rank.proofs.Planes.{planes-small, planes_all, layers_upto}
+use Rattle.dob_rank.proofs.masks.masks_of.Goals as goal
+
+pub overflow_mul-planes : goal.overflow_mul-planes
+overflow_mul-planes c =
+    let low = planes-small (map layer (drop c.loop-square.square c.args.board.now)) (layers_upto c.args.board.now c.loop-square.square c.told-board) in
+    let is = c.loop-square.invariant.planes_are in
+    omega (arith, low, is)
+
+pub overflow_add-planes : goal.overflow_add-planes
+overflow_add-planes c =
+    let low = planes-small (map layer (drop c.loop-square.square c.args.board.now)) (layers_upto c.args.board.now c.loop-square.square c.told-board) in
+    let is = c.loop-square.invariant.planes_are in
+    let bit = c.plane_of.ensures.bound in
+    omega (arith, low, is)
+
+pub returns-clause-own_lion : goal.returns-clause-own_lion
+returns-clause-own_lion c = (planes_all c.args.board.now c.loop-square.square c.loop-square.planes c.told-board (omega arith) c.loop-square.invariant.planes_are).own_lion
+
+pub returns-clause-enemy_lion : goal.returns-clause-enemy_lion
+returns-clause-enemy_lion c = (planes_all c.args.board.now c.loop-square.square c.loop-square.planes c.told-board (omega arith) c.loop-square.invariant.planes_are).enemy_lion
+
+pub returns-clause-chicks : goal.returns-clause-chicks
+returns-clause-chicks c = (planes_all c.args.board.now c.loop-square.square c.loop-square.planes c.told-board (omega arith) c.loop-square.invariant.planes_are).chicks
+
+pub returns-clause-elephants : goal.returns-clause-elephants
+returns-clause-elephants c = (planes_all c.args.board.now c.loop-square.square c.loop-square.planes c.told-board (omega arith) c.loop-square.invariant.planes_are).elephants
+
+pub returns-clause-giraffes : goal.returns-clause-giraffes
+returns-clause-giraffes c = (planes_all c.args.board.now c.loop-square.square c.loop-square.planes c.told-board (omega arith) c.loop-square.invariant.planes_are).giraffes
