@@ -1,6 +1,7 @@
 // What is counted over a whole piece set.
 use dob_moves::moves;
 use dob_pieces::{Memory, PieceSet};
+use dob_probe::{Fault, line, probe};
 use dob_rank::{Classes, rank, size, unrank};
 use dob_unmove::back;
 use dob_value::{Table, Value};
@@ -111,4 +112,37 @@ pub(crate) fn count_edges(alloc: Global, classes: &Classes) -> Result<Edges, Mem
 fn longest_run(numbers: &[u64]) -> u64 {
     let runs = numbers.chunk_by(|one, next| one == next);
     runs.map(|run| run.len() as u64).max().unwrap_or(0)
+}
+
+/// How many classes have the table's value by `probe` of their representative: all.
+pub(crate) fn values_found(table: &Table) -> u64 {
+    let classes = table.classes();
+    let mut found = 0;
+    for number in 0..table.class_count() {
+        if probe(table, &classes.class_at(number)) == Ok(table.value(number)) {
+            found += 1;
+        }
+    }
+    found
+}
+
+/// How many moves the lines of the classes' representatives have.
+#[derive(Clone, Copy)]
+pub(crate) struct Lines {
+    pub(crate) in_all: u64,
+    /// The most of one line.
+    pub(crate) longest: u64,
+}
+
+/// The lines of the representatives.
+pub(crate) fn count_lines(alloc: Global, table: &Table) -> Result<Lines, Fault> {
+    let classes = table.classes();
+    let mut in_all: u64 = 0;
+    let mut longest = 0;
+    for number in 0..table.class_count() {
+        let count = line(alloc, table, &classes.class_at(number))?.len() as u64;
+        in_all = in_all.saturating_add(count);
+        longest = longest.max(count);
+    }
+    Ok(Lines { in_all, longest })
 }

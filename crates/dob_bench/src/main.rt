@@ -1,5 +1,6 @@
-// Measures what the builder rests on, and prints what it did and seconds. The word is a piece set, as `111`; with no
-// word it goes over lions alone and prints no times, so that what it prints is the same on each machine.
+// Measures what the builder rests on, and prints what it did and seconds. The words are a piece set, as `111`, and the name
+// of a file for its table, or neither; with no word it goes over lions alone and prints no times, so that what it prints is
+// the same on each machine.
 #![tactic(auto)]
 
 mod counts;
@@ -15,25 +16,30 @@ const LIONS_ALONE: PieceSet = PieceSet {
     giraffes: 0,
 };
 
-const USAGE: &str = "usage: dob_bench [CEG]";
+const USAGE: &str = "usage: dob_bench [CEG [FILE]]";
 
 fn main(rt: HostRuntime) -> Result<()> {
     let words: Vec<String> = std::env::args(&rt)?.skip(1).collect(rt.alloc())?;
     match words.as_slice() {
-        [] => measure::run(&rt, LIONS_ALONE, false),
-        [text] => match small_set(text.as_str()) {
-            Some(set) => measure::run(&rt, set, true),
-            None => bail!("no set of up to three pieces besides the lions, as 111\n{USAGE}"),
-        },
-        _ => bail!("more than one word\n{USAGE}"),
+        [] => {
+            measure::run(&rt, LIONS_ALONE, false)?;
+        }
+        [text] => {
+            measure::run(&rt, small_set(text.as_str())?, true)?;
+        }
+        [text, name] => {
+            let bytes = measure::run(&rt, small_set(text.as_str())?, true)?;
+            std::fs::write(&rt, name.as_str(), &bytes)?;
+        }
+        _ => bail!("more than two words\n{USAGE}"),
     }
+    Ok(())
 }
 
-// The piece set of that text, if it has at most three pieces besides the lions.
-fn small_set(text: &str) -> Option<PieceSet> {
-    let set = PieceSet::read(text).ok()?;
-    if set.chicks + set.elephants + set.giraffes > 3 {
-        return None;
+// The piece set of that text, which is to have at most three pieces besides the lions.
+fn small_set(text: &str) -> Result<PieceSet> {
+    match PieceSet::read(text) {
+        Ok(set) if set.chicks + set.elephants + set.giraffes <= 3 => Ok(set),
+        _ => bail!("no set of up to three pieces besides the lions, as 111\n{USAGE}"),
     }
-    Some(set)
 }

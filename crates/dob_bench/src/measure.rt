@@ -1,8 +1,9 @@
 // What is measured of one piece set, a function for each thing. Each prints what was done and then, where `timed`, how
 // long it took.
-use crate::counts::{self, Edges, Moves, Outcomes};
+use crate::counts::{self, Edges, Lines, Moves, Outcomes};
 use crate::timer::Timer;
 use anyhow::Result;
+use dob_dbfile::{MemSink, MemSource, read_table, write_table};
 use dob_pieces::PieceSet;
 use dob_probe::check;
 use dob_rank::{Classes, size};
@@ -10,19 +11,24 @@ use dob_value::{Table, sweep_table};
 use std::rt::Clock;
 use std::thread::Threads;
 
-/// Measures everything over the set.
+/// Measures everything over the set, and gives the bytes of its table's file.
 pub(crate) fn run<R: Print + Clock + AllocGlobal + Threads + Sync>(
     rt: &R,
     set: PieceSet,
     timed: bool,
-) -> Result<()> {
+) -> Result<Vec<u8>> {
     let classes = open(rt, set, timed)?;
     find_ranks(rt, set, timed)?;
     find_classes(rt, &classes, timed)?;
     list_moves(rt, &classes, timed)?;
     list_predecessors(rt, &classes, timed)?;
-    let table = sweep(rt, set, timed)?;
-    check_table(rt, &table, timed)
+    let swept = sweep(rt, set, timed)?;
+    let bytes = write(rt, &swept, timed)?;
+    let table = read(rt, bytes.clone()?, timed)?;
+    check_table(rt, &table, timed)?;
+    probe_classes(rt, &table, timed)?;
+    list_lines(rt, &table, timed)?;
+    Ok(bytes)
 }
 
 // Opens the classes of the set.
@@ -108,4 +114,41 @@ fn check_table<R: Print + Clock + AllocGlobal + Threads + Sync>(
     check(rt, rt.alloc(), table)?;
     println!(rt; "checked {} classes", table.class_count())?;
     timer.tell(rt, &[(table.class_count(), "class")])
+}
+
+// The table's file, in memory.
+fn write<R: Print + Clock + AllocGlobal>(rt: &R, table: &Table, timed: bool) -> Result<Vec<u8>> {
+    let timer = Timer::start(rt, timed)?;
+    let mut sink = MemSink::new(rt.alloc());
+    write_table(rt.alloc(), table, &mut sink)?;
+    let bytes = sink.into_bytes();
+    println!(rt; "wrote {} bytes", bytes.len())?;
+    timer.tell(rt, &[(table.class_count(), "class")])?;
+    Ok(bytes)
+}
+
+// The file's table: its set's classes opened, its records read and its digest made.
+fn read<R: Print + Clock + AllocGlobal>(rt: &R, bytes: Vec<u8>, timed: bool) -> Result<Table> {
+    let timer = Timer::start(rt, timed)?;
+    let mut source = MemSource::new(bytes);
+    let table = read_table(rt.alloc(), &mut source)?;
+    println!(rt; "read {} classes", table.class_count())?;
+    timer.tell(rt, &[(table.class_count(), "class")])?;
+    Ok(table)
+}
+
+// The value of each class's representative.
+fn probe_classes<R: Print + Clock>(rt: &R, table: &Table, timed: bool) -> Result<()> {
+    let timer = Timer::start(rt, timed)?;
+    let found = counts::values_found(table);
+    println!(rt; "probed {found} classes")?;
+    timer.tell(rt, &[(found, "class")])
+}
+
+// The line of each class's representative.
+fn list_lines<R: Print + Clock + AllocGlobal>(rt: &R, table: &Table, timed: bool) -> Result<()> {
+    let timer = Timer::start(rt, timed)?;
+    let Lines { in_all, longest } = counts::count_lines(rt.alloc(), table)?;
+    println!(rt; "listed lines of {in_all} moves, the longest of {longest}")?;
+    timer.tell(rt, &[(table.class_count(), "line"), (in_all, "move")])
 }
