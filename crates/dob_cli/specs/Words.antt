@@ -78,9 +78,9 @@ after_dashes (a ∷ b ∷ rest) = if a == hyphen && b == hyphen then Some rest e
 abbrev pub part_of : List (Text × Text) → Text → Part
 part_of options word =
     if is_text word then text
-    else (if is_dashes word then dashes
-    else (if is_help_flag word then call
-    else option_map_or (option_part options) (after_dashes word) unknown))
+    else if is_dashes word then dashes
+    else if is_help_flag word then call
+    else option_map_or (option_part options) (after_dashes word) unknown
 
 -- ---- what the words come to
 
@@ -163,7 +163,9 @@ meaning_of_form form words = at_end form (fold (after_word form.options) (betwee
 -- after a first word that names no subcommand
 abbrev pub meaning_of_other : Text → Meaning
 meaning_of_other word =
-    if bytes_eq (codes "help") word then topic else (if is_help_flag word then help else usage)
+    if bytes_eq (codes "help") word then topic
+    else if is_help_flag word then help
+    else usage
 
 -- the first word is `--version`
 abbrev pub is_version : List Text → Bool
