@@ -5,7 +5,6 @@ pub mod Rest
 pub mod Splits
 pub mod Learns
 pub mod Takes
-pub mod Sums
 pub mod Starts
 pub mod Settles
 pub mod Totals

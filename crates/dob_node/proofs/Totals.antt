@@ -38,7 +38,7 @@ use Rattle.dob_share.specs.Cells.{SumsUp}
 use Rattle.dob_node.specs.Histories.{copies, items_to, known, all_known}
 use Rattle.dob_node.proofs.Runs.{from_each_below, only_one}
 use Rattle.dob_node.proofs.Copies.{NonePass, last_now-none}
-use Rattle.dob_node.proofs.Takes.{counted}
+use Rattle.dob_share.proofs.Learning.{counted}
 
 -- ---- each move leads into one class
 

@@ -1,11 +1,12 @@
 // Nodes over lions alone, and over sets with one piece more, by values known from outside.
-ghost use Rattle.std.specs.Prelude.{◌≡◌, ◌≢◌, ◌<◌, ◌≤◌, OnOk};
+ghost use Rattle.std.specs.Prelude.{◌≡◌, ◌<◌, ◌≤◌};
 ghost use Rattle.dob_node.specs.Nodes.{IsSound};
 
-use crate::{Cause, MAX_BATCHES, Node, alone, opening};
+use crate::{Node, alone, opening};
 use dob_moves::Status;
 use dob_pieces::PieceSet;
 use dob_rank::Classes;
+use dob_update::Batch;
 use dob_value::{Value, sweep_table};
 use std::alloc::Global;
 use std::process::Abort;
@@ -74,40 +75,180 @@ fn one_of_two<A: Abort>(rt: &A, alloc: Global, classes: &Classes, id: usize) -> 
     Node::open(alloc, &openings, classes.set, id, 2).expect(rt, "a node")
 }
 
-// Sends a batch of at most `size` items to the node `to`. The class of the first item's settlement and the classes told
-// are pushed to the lists. False where there was nothing to send.
+// What a node sends of one class's settlements: the classes told, and how many items each batch leaves out.
+#[derive(Drop)]
+struct Log {
+    class: u64,
+    told: Vec<u64>,
+    skips: Vec<usize>,
+}
+
+impl Log {
+    fn add<A: Abort>(&mut self, rt: &A, batch: &Batch) {
+        if batch
+            .parts()
+            .iter()
+            .all(|part| part.settlement.class != self.class)
+        {
+            return;
+        }
+        self.skips.push(batch.skip()).expect(rt, "room");
+        for item in batch.items() {
+            self.told.push(item.to).expect(rt, "room");
+        }
+    }
+}
+
+// Sends a batch of at most `size` items to the node `to`. False where there was nothing to send.
 fn send<A: Abort>(
     rt: &A,
-    from: &mut Node,
+    node: &mut Node,
     receiver: &mut Node,
     to: usize,
     size: usize,
-    told: &mut Vec<u64>,
+    log: &mut Log,
 ) -> bool
     requires to { to < 2 }
     requires some { 0 < size }
     requires at_most { size ≤ 4096 }
-    requires sound { IsSound from.old }
-    requires sound_receiver { IsSound receiver.old }
-    requires set { from.old.set ≡ receiver.old.set }
-    requires n { from.old.n ≡ 2 }
-    requires n_receiver { receiver.old.n ≡ 2 }
+    requires sound { IsSound node.old × IsSound receiver.old }
+    requires set { node.old.set ≡ receiver.old.set }
+    requires n { (node.old.n ≡ 2) × (receiver.old.n ≡ 2) }
     requires id { receiver.old.id ≡ to }
-    ensures sound { IsSound from.new }
-    ensures sound_receiver { IsSound receiver.new }
-    ensures set { from.new.set ≡ from.old.set }
-    ensures set_receiver { receiver.new.set ≡ receiver.old.set }
-    ensures n { from.new.n ≡ 2 }
-    ensures n_receiver { receiver.new.n ≡ 2 }
-    ensures id { from.new.id ≡ from.old.id }
-    ensures id_receiver { receiver.new.id ≡ to }
+    ensures sound { IsSound node.new × IsSound receiver.new }
+    ensures set { (node.new.set ≡ node.old.set) × (receiver.new.set ≡ receiver.old.set) }
+    ensures n { (node.new.n ≡ 2) × (receiver.new.n ≡ 2) }
+    ensures id { (node.new.id ≡ node.old.id) × (receiver.new.id ≡ to) }
 {
-    let Some(batch) = from.cut_for(to, size).expect(rt, "a batch") else {
+    let Some(batch) = node.cut_for(to, size).expect(rt, "a batch") else {
         return false;
     };
-    receiver.apply_batch(&batch).expect(rt, "a batch that fits");
-    for item in batch.items() {
-        told.push(item.to).expect(rt, "room");
-    }
+    receiver.apply_batch(&batch).expect(rt, "items that fit");
+    log.add(rt, &batch);
     true
+}
+
+// A step of a node, which sends before all else or only where it has nothing else to do. False where it did nothing.
+fn step<A: Abort>(
+    rt: &A,
+    classes: &Classes,
+    node: &mut Node,
+    receiver: &mut Node,
+    to: usize,
+    size: usize,
+    sends_first: bool,
+    log: &mut Log,
+) -> bool
+    requires to { to < 2 }
+    requires some { 0 < size }
+    requires at_most { size ≤ 4096 }
+    requires sound { IsSound node.old × IsSound receiver.old }
+    requires set { (node.old.set ≡ classes.now.set) × (receiver.old.set ≡ classes.now.set) }
+    requires n { (node.old.n ≡ 2) × (receiver.old.n ≡ 2) }
+    requires id { receiver.old.id ≡ to }
+    ensures sound { IsSound node.new × IsSound receiver.new }
+    ensures set { (node.new.set ≡ classes.now.set) × (receiver.new.set ≡ classes.now.set) }
+    ensures n { (node.new.n ≡ 2) × (receiver.new.n ≡ 2) }
+    ensures id { (node.new.id ≡ node.old.id) × (receiver.new.id ≡ to) }
+{
+    if sends_first {
+        if send(rt, node, receiver, to, size, log) {
+            return true;
+        }
+    }
+    if node.apply_own().expect(rt, "an item that fits") {
+        return true;
+    }
+    if node.expand(classes).expect(rt, "room") {
+        return true;
+    }
+    send(rt, node, receiver, to, size, log)
+}
+
+// Steps of two nodes in turn, until neither has anything to do.
+fn run<A: Abort>(
+    rt: &A,
+    classes: &Classes,
+    first: &mut Node,
+    second: &mut Node,
+    size: usize,
+    sends_first: bool,
+    log: &mut Log,
+)
+    requires some { 0 < size }
+    requires at_most { size ≤ 4096 }
+    requires sound { IsSound first.old × IsSound second.old }
+    requires set { (first.old.set ≡ classes.now.set) × (second.old.set ≡ classes.now.set) }
+    requires n { (first.old.n ≡ 2) × (second.old.n ≡ 2) }
+    requires id { (first.old.id ≡ 0) × (second.old.id ≡ 1) }
+    ensures sound { IsSound first.new × IsSound second.new }
+{
+    for _round in 0..1_000_000 {
+        let first_did = step(rt, classes, first, second, 1, size, sends_first, log);
+        let second_did = step(rt, classes, second, first, 0, size, sends_first, log);
+        if !first_did && !second_did {
+            return;
+        }
+    }
+    panic!(rt; "no end");
+}
+
+// Whether some settlement of the node improves a value that was settled before.
+fn improves(node: &Node) -> bool {
+    for number in 0..node.settled() {
+        if node.settlement(number).was != Value::Draw {
+            return true;
+        }
+    }
+    false
+}
+
+#[test]
+fn items_of_one_settlement_go_in_batches(rt: HostRuntime) {
+    let alloc = rt.alloc();
+    let classes = classes_of(&rt, alloc, with_chicks(0));
+    let mut first = one_of_two(&rt, alloc, &classes, 0);
+    let mut second = one_of_two(&rt, alloc, &classes, 1);
+    assert_eq!(rt; (first.settled(), second.settled()), (16, 17));
+    assert!(rt; !first.is_idle());
+    let mut log = Log {
+        class: 16,
+        told: Vec::new(alloc),
+        skips: Vec::new(alloc),
+    };
+    run(&rt, &classes, &mut first, &mut second, 2, true, &mut log);
+    assert_eq!(rt; log.told.as_slice(), [17, 17, 27, 35, 35].as_slice());
+    assert_eq!(rt; log.skips.as_slice(), [0, 2, 4].as_slice());
+    assert!(rt; first.is_idle() && second.is_idle());
+    assert!(rt; !improves(&first) && !improves(&second));
+}
+
+#[test]
+fn two_nodes_improve_values(rt: HostRuntime) {
+    let alloc = rt.alloc();
+    let set = with_chicks(1);
+    let classes = classes_of(&rt, alloc, set);
+    let mut first = one_of_two(&rt, alloc, &classes, 0);
+    let mut second = one_of_two(&rt, alloc, &classes, 1);
+    let mut log = Log {
+        class: 0,
+        told: Vec::new(alloc),
+        skips: Vec::new(alloc),
+    };
+    run(&rt, &classes, &mut first, &mut second, 1, false, &mut log);
+    assert!(rt; first.is_idle() && second.is_idle());
+    assert!(rt; improves(&first) || improves(&second));
+    let parts = [
+        first.into_part().expect(&rt, "a part").values,
+        second.into_part().expect(&rt, "a part").values,
+    ];
+    let swept = sweep_table(alloc, set).expect(&rt, "a table");
+    let count = swept.class_count();
+    assert!(rt; count == 2124);
+    for class in 0..count {
+        let values = &parts[(class % 2) as usize];
+        let place = (class / 2) as usize;
+        assert!(rt; place < values.len());
+        assert_eq!(rt; values[place], swept.value(class), "class {class}");
+    }
 }

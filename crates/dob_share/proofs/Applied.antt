@@ -1,5 +1,5 @@
 -- An item applied at one place: what the steps of the code give of it.
-use Rattle.std.proofs.Common.{◌≡◌, ◌≢◌, ◌↔◌, ℕ, zero, suc, ◌+◌, ◌-◌, ◌<◌, ◌≤◌, List, length, refl, sym, ap, ◌∙◌, subst, inl, inr, arith, get_or, Option, Some, None, Result, Ok, Err}
+use Rattle.std.proofs.Common.{◌≡◌, ◌↔◌, ℕ, ◌+◌, ◌<◌, ◌≤◌, List, length, refl, sym, ap, ◌∙◌, subst, inl, inr, arith, get_or, Result, Ok, Err}
 use Rattle.std.proofs.Math.ListN.{set}
 use Rattle.std.proofs.lemmas.List.{get_or_default}
 use Rattle.dob_value.specs.declared.value.Value.{Value}
@@ -9,7 +9,7 @@ use Rattle.dob_share.specs.declared.cells.Count.{Count}
 use Rattle.dob_share.specs.declared.fault.Fault.{Fault}
 use Rattle.dob_share.specs.Cells.{Cell, CellValue, SameCell, Takes, changed}
 use Rattle.dob_share.specs.Pools.{tally, moves_of, wins_in, ChangesRun}
-use Rattle.dob_share.specs.Slots.{beyond, slot_at, start_at, room_at, least_of, cell_of, cell_in, IsShortCell, ArePooled}
+use Rattle.dob_share.specs.Slots.{beyond, slot_at, start_at, room_at, cell_of, cell_in, IsShortCell, ArePooled}
 use Rattle.dob_share.specs.Steps.{IsStep, changed_wins, gained}
 use Rattle.dob_share.proofs.Keeping.{same_short, cell_is, cell_here, cell_other, status_same, still_pooled}
 

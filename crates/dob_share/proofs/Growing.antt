@@ -1,9 +1,9 @@
 -- Laws of cells: an item that fits never makes the cell's value worse.
-use Rattle.std.proofs.Common.{◌≡◌, ℕ, ◌+◌, ◌-◌, ◌<◌, ◌≤◌, ◌⊎◌, refl, sym, ap, ◌∙◌, subst, inl, inr, arith, min, Option, Some, None}
+use Rattle.std.proofs.Common.{◌≡◌, ℕ, ◌+◌, ◌<◌, ◌≤◌, refl, ap, subst, inl, inr, arith, min, Option, Some, None}
 use Rattle.std.proofs.lemmas.Bool.{cases_eq}
 use Rattle.dob_value.specs.declared.value.Value.{Value}
 use Rattle.dob_value.specs.declared.value.Value.TheVariants.{Win, Loss, Draw}
-use Rattle.dob_share.specs.Values.{Better, NoWorse}
+use Rattle.dob_share.specs.Values.{NoWorse}
 use Rattle.dob_share.specs.Cells.{Cell, CellValue, Takes, changed, more_at, less_at, lesser, KnowsLossWithin}
 use Rattle.dob_share.proofs.Changing.{more_cases, less_some, more_here}
 

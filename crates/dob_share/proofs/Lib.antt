@@ -6,3 +6,5 @@ pub mod Growing
 pub mod Owning
 pub mod Opened
 pub mod OwnOpened
+pub mod Learning
+pub mod Sums

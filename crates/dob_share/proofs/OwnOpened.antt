@@ -1,11 +1,11 @@
 -- What a share that has been opened owns, and knows of each class.
-use Rattle.std.proofs.Common.{◌≡◌, ◌↔◌, ℕ, zero, suc, ◌+◌, ◌-◌, ◌*◌, ◌/◌, ◌%◌, ◌<◌, ◌≤◌, List, length, refl, sym, ap, ◌∙◌, subst, arith}
+use Rattle.std.proofs.Common.{◌≡◌, ◌↔◌, ℕ, ◌+◌, ◌-◌, ◌*◌, ◌/◌, ◌%◌, ◌<◌, ◌≤◌, List, length, sym, ap, ◌∙◌, subst, arith}
 use Rattle.std.proofs.lemmas.Nat.{div-add-mod', le-div}
 use Rattle.std.proofs.Math.Nat.{mul-le-mul_right}
 use Rattle.dob_share.specs.declared.opening.Opening.{Opening}
 use Rattle.dob_share.specs.declared.share.Share.{Share}
-use Rattle.dob_share.specs.Cells.{Cell, SameCell, fresh}
-use Rattle.dob_share.specs.Slots.{slot_at, cell_in}
+use Rattle.dob_share.specs.Cells.{SameCell, fresh}
+use Rattle.dob_share.specs.Slots.{cell_in}
 use Rattle.dob_share.specs.Openings.{opening_of, AreOpened}
 use Rattle.dob_share.specs.Shares.{IsOwn, status_at, cell_at}
 use Rattle.dob_share.proofs.Opened.{cell_fresh}

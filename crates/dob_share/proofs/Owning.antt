@@ -1,14 +1,13 @@
 -- What an item at one place is for the share's classes.
-use Rattle.std.proofs.Common.{◌≡◌, ◌≢◌, ◌↔◌, ℕ, ◌+◌, ◌*◌, ◌/◌, ◌%◌, ◌<◌, ◌≤◌, ◌⊎◌, List, length, refl, sym, ap, ◌∙◌, subst, inl, inr, arith, Option, Some, None, Result, Ok, Err}
+use Rattle.std.proofs.Common.{◌≡◌, ◌↔◌, ℕ, ◌+◌, ◌*◌, ◌/◌, ◌%◌, ◌<◌, length, refl, sym, ap, ◌∙◌, subst, inl, inr, arith, Result, Err}
 use Rattle.std.proofs.lemmas.Nat.{div-add-mod'}
-use Rattle.dob_moves.specs.declared.outlook.Status.{Status}
 use Rattle.dob_moves.specs.declared.outlook.Status.TheVariants.{Open}
 use Rattle.dob_value.specs.declared.value.Value.{Value}
 use Rattle.dob_share.specs.declared.news.Item.{Item}
 use Rattle.dob_share.specs.declared.fault.Fault.{Fault}
 use Rattle.dob_share.specs.declared.fault.Fault.TheVariants.{TooDeep, Contradiction}
 use Rattle.dob_share.specs.declared.share.Share.{Share}
-use Rattle.dob_share.specs.Values.{Better, NoWorse}
+use Rattle.dob_share.specs.Values.{Better}
 use Rattle.dob_share.specs.Cells.{Cell, CellValue, SameCell, Takes, changed}
 use Rattle.dob_share.specs.Slots.{slot_at, cell_in}
 use Rattle.dob_share.specs.Steps.{IsTooDeep}

@@ -1,11 +1,11 @@
 -- Sums over a run of the pool: after a write, at one entry, and where every entry counts.
-use Rattle.std.proofs.Common.{◌≡◌, ◌≢◌, ℕ, zero, suc, ◌+◌, ◌-◌, ◌<◌, ◌≤◌, ◌==◌, Bool, true, false, cond, eqb, List, length, ◌⊎◌, refl, sym, ap, ◌∙◌, subst, inl, inr, arith, get_or, max, Option, Some, None}
+use Rattle.std.proofs.Common.{◌≡◌, ◌≢◌, ℕ, zero, suc, ◌+◌, ◌-◌, ◌<◌, ◌≤◌, Bool, cond, List, length, ◌⊎◌, refl, sym, ap, ◌∙◌, subst, inl, inr, arith, get_or, Option, Some, None}
 use Rattle.std.proofs.Math.ListN.{set, length-set}
 use Rattle.std.proofs.lemmas.List.{get_or-set_same, get_or-set_other, get_or_default}
 use Rattle.std.proofs.lemmas.Bool.{cases_eq, eq-eqb, ne_eqb}
 use Rattle.dob_share.specs.declared.cells.Count.{Count}
-use Rattle.dob_share.specs.Cells.{more_at, less_at, IsGreatest, IsGreatestIn, greater}
-use Rattle.dob_share.specs.Pools.{vacant, tally, moves_of, moves_at, wins_in, IsWithin, IsCountedAt, ChangesRun}
+use Rattle.dob_share.specs.Cells.{more_at, less_at, IsGreatestIn}
+use Rattle.dob_share.specs.Pools.{vacant, tally, moves_of, moves_at, wins_in, ChangesRun}
 
 -- a run is summed alike in two pools that agree on it
 pub tally_same : (f : Count → ℕ) (old new : List Count) (start room : ℕ) →

@@ -1,7 +1,7 @@
 -- What an item makes of a cell: a refusal, or the slot after it.
-use Rattle.std.specs.Prelude.{◌≡◌, ℕ, ◌+◌, ◌↔◌, Result, Ok, Err}
+use Rattle.std.specs.Prelude.{◌≡◌, ℕ, ◌↔◌, Result, Ok, Err}
 use Rattle.dob_value.specs.declared.value.Value.{Value}
-use Rattle.dob_value.specs.declared.value.Value.TheVariants.{Win, Loss, Draw}
+use Rattle.dob_value.specs.declared.value.Value.TheVariants.{Win, Draw}
 use Rattle.dob_value.specs.Codes.{IsShort}
 use Rattle.dob_share.specs.declared.cells.Slot.{Slot}
 use Rattle.dob_share.specs.declared.fault.Fault.{Fault}

@@ -1,4 +1,4 @@
-use Rattle.std.proofs.Common.{◌≡◌, ◌<◌, ◌≤◌, arith}
+use Rattle.std.proofs.Common.{arith}
 use Rattle.dob_share.proofs.Tallies.{counted_entry, wins_less, total_less}
 use Rattle.dob_share.proofs.cells.count_less.Goals as goal
 

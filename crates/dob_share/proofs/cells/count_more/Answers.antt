@@ -1,4 +1,4 @@
-use Rattle.std.proofs.Common.{◌≡◌, ◌+◌, ◌<◌, ◌≤◌, ◌∙◌, sym, subst, arith}
+use Rattle.std.proofs.Common.{◌+◌, ◌<◌, arith}
 use Rattle.dob_share.proofs.Tallies.{few_moves, fits_entry, wins_more, total_more}
 use Rattle.dob_share.proofs.cells.count_more.Goals as goal
 

@@ -1,4 +1,4 @@
-use Rattle.std.proofs.Common.{◌≡◌, ◌≤◌, ℕ, subst, arith}
+use Rattle.std.proofs.Common.{◌≡◌, ℕ, subst, arith}
 use Rattle.dob_share.specs.Cells.{IsGreatestIn}
 use Rattle.dob_share.specs.Pools.{tally, moves_at}
 use Rattle.dob_share.proofs.Tallies.{greatest_in}

@@ -1,4 +1,4 @@
-use Rattle.std.proofs.Common.{◌≤◌, ◌<◌, ◌≡◌, ℕ, arith}
+use Rattle.std.proofs.Common.{◌≤◌, ◌<◌, ◌≡◌, arith}
 use Rattle.dob_share.specs.Pools.{wins_in}
 use Rattle.dob_share.proofs.Changing.{loss_deep}
 use Rattle.dob_share.proofs.steps.after_loss.Goals as goal

@@ -1,7 +1,7 @@
 use Rattle.dob_share.specs.Pools.{wins_in}
 use Rattle.dob_share.proofs.Changing.{win_deep}
 use Rattle.dob_share.proofs.steps.after_win.Goals as goal
-use Rattle.std.proofs.Common.{sym, subst, ◌≤◌, ℕ}
+use Rattle.std.proofs.Common.{subst, ◌≤◌, ℕ}
 
 pub returns-then-greatest-ge-MAX_DISTANCE : goal.returns-then-greatest-ge-MAX_DISTANCE
 returns-then-greatest-ge-MAX_DISTANCE c =

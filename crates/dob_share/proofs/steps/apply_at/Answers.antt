@@ -1,4 +1,4 @@
-use Rattle.std.proofs.Common.{◌≡◌, refl, sym, ◌∙◌, Err, Ok}
+use Rattle.std.proofs.Common.{refl, Err}
 use Rattle.dob_share.specs.declared.fault.Fault.TheVariants.{TooDeep, Contradiction}
 use Rattle.dob_share.proofs.Applied.{err_same, ok_same, short_here, value_here, step_here, counts_fit, takes_here, some_free, some_counted, short_after, same_cell, value_after, others_same, statuses_same, pooled_after}
 use Rattle.dob_share.proofs.steps.apply_at.Goals as goal

@@ -1,8 +1,8 @@
 -- The outboxes that are left are sound.
 use Rattle.std.proofs.Common.{refl}
 use Rattle.std.proofs.lemmas.Option.{IfSome_then}
-use Rattle.dob_update.specs.Batches.{BatchView, empty_outbox}
-use Rattle.dob_node.specs.Outboxes.{IsCutFrom, outbox_in}
+use Rattle.dob_update.specs.Batches.{empty_outbox}
+use Rattle.dob_node.specs.Outboxes.{outbox_in}
 use Rattle.dob_node.proofs.Sends.{ready_cut, cut_of, cut_entries}
 use Rattle.dob_node.proofs.node.Node.cut_for.Goals as goal
 

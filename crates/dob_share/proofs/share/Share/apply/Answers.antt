@@ -1,4 +1,4 @@
-use Rattle.std.proofs.Common.{◌≡◌, refl, sym, subst, ap, Ok, Err}
+use Rattle.std.proofs.Common.{refl, sym, subst}
 use Rattle.dob_value.specs.declared.value.Value.{Value}
 use Rattle.dob_share.specs.declared.fault.Fault.TheVariants.{TooDeep, Contradiction}
 use Rattle.dob_share.specs.Cells.{CellValue}

@@ -1,4 +1,4 @@
-use Rattle.std.proofs.Common.{◌≡◌, ℕ, ◌≤◌, length}
+use Rattle.std.proofs.Common.{◌≡◌, ◌≤◌, length}
 use Rattle.dob_share.specs.Owners.{class_of_place}
 use Rattle.dob_share.specs.Openings.{AreOpened, opening_of, settled_among}
 use Rattle.dob_share.proofs.share.Share.open.Given as goal
