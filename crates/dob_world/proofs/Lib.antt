@@ -15,3 +15,4 @@ pub mod Stopped
 pub mod Openings
 pub mod Starts
 pub mod Pushed
+pub mod Ran

@@ -5,3 +5,4 @@ pub mod Laws
 pub mod Faults
 pub mod Lanes
 pub mod Shown
+pub mod Results
