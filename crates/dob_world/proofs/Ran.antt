@@ -1,5 +1,5 @@
 -- One event more of a run.
-use Rattle.std.proofs.Common.{◌≡◌, ◌≢◌, ℕ, ◌+◌, ◌<◌, ◌≤◌, ◌⊎◌, inl, inr, refl, sym, ap, ◌∙◌, subst, arith, add-one, List, [], ◌∷◌, ◌++◌, length, take, get_or, Option, None, Some, MatchOption}
+use Rattle.std.proofs.Common.{◌≡◌, ◌≢◌, ℕ, ◌+◌, ◌<◌, ◌≤◌, ◌⊎◌, inl, inr, refl, sym, ap, ◌∙◌, subst, arith, add-one, List, [], ◌∷◌, ◌++◌, length, take, get_or, None}
 use Rattle.std.proofs.Math.Seq.{take-suc}
 use Rattle.dob_world.specs.declared.event.Event.{Event}
 use Rattle.dob_world.specs.declared.step.Step.{Step}
@@ -8,8 +8,7 @@ use Rattle.dob_world.specs.declared.world.World.{World}
 use Rattle.dob_world.specs.Worlds.{Setting, World as State, AreLawful, IsLinked}
 use Rattle.dob_world.specs.Events.{CanHappen}
 use Rattle.dob_world.specs.Runs.{IsDoneOrSkipped, IsAfter}
-use Rattle.dob_world.specs.Shown.{setting_of, state_of, state_shown, IsStanding, IsKept, IsUnchanged, IsMade, IsStart}
-use Rattle.dob_world.specs.Faults.{IsStop}
+use Rattle.dob_world.specs.Shown.{setting_of, state_of, state_shown, IsStanding, IsUnchanged, IsMade, IsStart}
 use Rattle.dob_world.specs.Results.{HasRun}
 use Rattle.dob_world.proofs.Kept.{lists_are_beginnings}
 
@@ -19,13 +18,6 @@ pub after_more : (k : Setting) (old between new : State) (events : List Event) (
 after_more k old between new [] event is step = (new, subst (λ (w : State). IsDoneOrSkipped k w event new) is step, refl)
 after_more k old between new (first ∷ events) event after step =
     (after.0, after.1, after_more k after.0 between new events event after.2 step)
-
--- what is kept while no node has stopped
-pub stands : (world : World) → world.failed ≡ None → IsKept world → IsStanding world
-stands world none kept = subst (λ failed. MatchOption failed (IsStanding world) IsStop) none kept
-
-pub keeps : (world : World) → world.failed ≡ None → IsStanding world → IsKept world
-keeps world none standing = subst (λ failed. MatchOption failed (IsStanding world) IsStop) (sym none) standing
 
 state_same : (old new : World) → IsUnchanged old new → state_of new ≡ state_of old
 state_same old new same =
@@ -70,11 +62,11 @@ ran k start events world setting is_start after standing going = record {
 
 -- one event more
 pub ran_more : (k : Setting) (events : List Event) (place : ℕ) (default : Event) (old new : World) → place < length events →
-    HasRun k (take place events) old → Stepped (get_or events place default) old new → new.failed ≡ None → IsKept new →
+    HasRun k (take place events) old → Stepped (get_or events place default) old new → new.failed ≡ None → IsStanding new →
     HasRun k (take (place + 1) events) new
-ran_more k events place default old new low run step going kept =
+ran_more k events place default old new low run step going standing =
     subst (λ xs. HasRun k xs new) (sym (rw add-one (take-suc events place default low)))
     (ran k run.start (take place events ++ get_or events place default ∷ []) new (step.setting ∙ run.setting) run.is_start
     (after_more k run.start (state_of old) (state_of new) (take place events) (get_or events place default) run.after
     (subst (λ (s : Setting). IsDoneOrSkipped s (state_of old) (get_or events place default) (state_of new)) run.setting step.step))
-    (stands new going kept) going)
+    standing going)

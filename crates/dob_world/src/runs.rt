@@ -1,7 +1,8 @@
 // Events one after another.
 ghost use Rattle.std.specs.Prelude.{◌≡◌, ◌^◌, ◌≤◌, ◌⊎◌, length, IfOk, IfErr};
 ghost use Rattle.dob_world.specs.Faults.{IsStop};
-ghost use Rattle.dob_world.specs.Results.{CanOpen, IsRefused, HasRun};
+ghost use Rattle.dob_world.specs.Shown.{IsSetting};
+ghost use Rattle.dob_world.specs.Results.{IsRefused, HasRun};
 
 use crate::event::Event;
 use crate::fault::Fault;
@@ -23,7 +24,7 @@ pub fn run(
 ) -> Result<World, Fault>
     requires few { length events.now ≤ 2 ^ 40 }
     ensures run { IfOk result (λ world. HasRun (record { set = set; n = n; batch = batch; capacity = capacity }) events.now world) }
-    ensures refused { IfErr result (λ fault. IsRefused (record { set = set; n = n; batch = batch; capacity = capacity }) fault ⊎ (CanOpen (record { set = set; n = n; batch = batch; capacity = capacity }) × IsStop fault)) }
+    ensures refused { IfErr result (λ fault. IsRefused (record { set = set; n = n; batch = batch; capacity = capacity }) fault ⊎ (IsSetting (record { set = set; n = n; batch = batch; capacity = capacity }) × IsStop fault)) }
 {
     let mut world = match World::open(alloc, set, n, batch, capacity) {
         Ok(world) => world,

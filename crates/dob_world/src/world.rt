@@ -17,15 +17,15 @@ use std::alloc::Global;
 /// were sent over these and applied.
 #[derive(Drop)]
 pub struct World {
-    alloc: Global,
-    classes: Classes,
-    n: usize,
-    batch: usize,
-    capacity: usize,
-    nodes: Vec<Node>,
-    lanes: Vec<Lane>,
-    steps: u64,
-    failed: Option<Fault>,
+    pub(crate) alloc: Global,
+    pub(crate) classes: Classes,
+    pub(crate) n: usize,
+    pub(crate) batch: usize,
+    pub(crate) capacity: usize,
+    pub(crate) nodes: Vec<Node>,
+    pub(crate) lanes: Vec<Lane>,
+    pub(crate) steps: u64,
+    pub(crate) failed: Option<Fault>,
 }
 
 impl World {
@@ -91,7 +91,7 @@ impl World {
         ensures skipped { result ≡ Ok Step.Skipped → (¬ CanHappen (setting_of self.old) (state_of self.old) event) × IsUnchanged self.old self.new }
         ensures stopped { IfErr result (λ fault. IsStop fault × (self.new.failed ≡ Some fault)) }
         ensures stays { IfSome self.old.failed (λ fault. result ≡ Err fault) }
-        ensures going { OnOk result ((self.old.failed ≡ None) × (self.new.failed ≡ None)) }
+        ensures going { OnOk result ((self.new.failed ≡ None) × IsStanding self.new) }
         ensures kept { IsKept self.new }
     {
         if let Some(fault) = self.failed {

@@ -23,6 +23,6 @@ loop-event-preserved c =
     let step = stepped _ c.loop-event.world c.step.new.self c.in-Ok-step.field-0 (λ e. out.done (ap Ok e)) (λ e. out.skipped (ap Ok e)) in
     record {
       run = ran_more k c.args.events.now c.loop-event.event-index _ c.loop-event.world c.step.new.self c.loop-event-test.true c.loop-event.invariant.run
-          step out.going.1 out.kept;
+          step out.going.0 out.going.1;
       steps = omega (arith, step.steps, c.loop-event.invariant.steps);
     }
