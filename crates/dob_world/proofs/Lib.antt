@@ -16,3 +16,5 @@ pub mod Openings
 pub mod Starts
 pub mod Pushed
 pub mod Ran
+pub mod Lent
+pub mod Gathered

@@ -1,5 +1,6 @@
 -- Which worlds there are, and what a run of events leaves.
-use Rattle.std.specs.Prelude.{◌≡◌, ◌≢◌, ℕ, ◌<◌, None, List}
+use Rattle.std.specs.Prelude.{◌≡◌, ◌≢◌, ℕ, ◌<◌, None, Some, List, length, slice_get}
+use Rattle.dob_value.specs.declared.value.Value.{Value}
 use Rattle.dob_world.specs.declared.event.Event.{Event}
 use Rattle.dob_world.specs.declared.fault.Fault.{Fault}
 use Rattle.dob_world.specs.declared.fault.Fault.TheVariants.{SetTooLarge, Nodes, Sizes, Stopped, Memory}
@@ -29,3 +30,8 @@ pub record HasRun (k : Setting) (events : List Event) (world : World) : Type 0 w
   pub sent : (i j : ℕ) → i < k.n → j < k.n → i ≢ j → IsBeginning ((state_of world).sent i j) (items_in k (state_of world).nodes i j)
   pub applied : (i j : ℕ) → i < k.n → j < k.n → i ≢ j → IsBeginning ((state_of world).nodes.applied i j) ((state_of world).sent i j)
   pub own : (i : ℕ) → i < k.n → IsBeginning ((state_of world).nodes.applied i i) (items_in k (state_of world).nodes i i)
+
+-- the values of the classes below a number, in order
+pub record AreValuesBelow (value : ℕ → Value) (count : ℕ) (values : List Value) : Type 0 where
+  pub whole : length values ≡ count
+  pub each : (class : ℕ) → class < count → slice_get values class ≡ Some (value class)

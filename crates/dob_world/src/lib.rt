@@ -5,13 +5,16 @@ mod event;
 mod fault;
 mod lane;
 pub mod laws;
+mod lists;
 mod runs;
 mod step;
 mod steps;
+mod tables;
 mod world;
 
 pub use event::Event;
 pub use fault::Fault;
+pub use lists::History;
 pub use runs::run;
 pub use step::Step;
 pub use world::World;
