@@ -18,3 +18,4 @@ pub mod Pushed
 pub mod Ran
 pub mod Lent
 pub mod Gathered
+pub mod Driven

@@ -12,12 +12,16 @@ use Rattle.dob_world.specs.Shown.{setting_of, state_of, state_shown, IsStanding,
 use Rattle.dob_world.specs.Results.{HasRun}
 use Rattle.dob_world.proofs.Kept.{lists_are_beginnings}
 
+-- events, and then others
+pub after_both : (k : Setting) (old between new : State) (front behind : List Event) → IsAfter k old front between → IsAfter k between behind new →
+    IsAfter k old (front ++ behind) new
+after_both k old between new [] behind one other = subst (λ (w : State). IsAfter k w behind new) one other
+after_both k old between new (event ∷ front) behind one other = (one.0, one.1, after_both k one.0 between new front behind one.2 other)
+
 -- one event more at the end
 pub after_more : (k : Setting) (old between new : State) (events : List Event) (event : Event) → IsAfter k old events between →
     IsDoneOrSkipped k between event new → IsAfter k old (events ++ event ∷ []) new
-after_more k old between new [] event is step = (new, subst (λ (w : State). IsDoneOrSkipped k w event new) is step, refl)
-after_more k old between new (first ∷ events) event after step =
-    (after.0, after.1, after_more k after.0 between new events event after.2 step)
+after_more k old between new events event after step = after_both k old between new events (event ∷ []) after (new, step, refl)
 
 state_same : (old new : World) → IsUnchanged old new → state_of new ≡ state_of old
 state_same old new same =
@@ -31,13 +35,27 @@ pub record Stepped (event : Event) (old new : World) : Type 0 where
   pub setting : setting_of new ≡ setting_of old
   pub step : IsDoneOrSkipped (setting_of old) (state_of old) event (state_of new)
   pub steps : new.steps ≤ old.steps + 1
+  pub least : old.steps ≤ new.steps
+  pub skipped : new.steps ≡ old.steps → (CanHappen (setting_of old) (state_of old) event → ⊥) × (state_of new ≡ state_of old)
 
 pub stepped : (event : Event) (old new : World) (given : Step) → (given ≡ Done → IsMade event old new × (new.steps ≡ old.steps + 1)) →
     (given ≡ Skipped → (CanHappen (setting_of old) (state_of old) event → ⊥) × IsUnchanged old new) → Stepped event old new
 stepped event old new Done done skipped = let made = done refl in
-    record { setting = made.0.setting; step = inl (made.0.can, made.0.happens); steps = omega (arith, made.1) }
+    record {
+      setting = made.0.setting;
+      step = inl (made.0.can, made.0.happens);
+      steps = omega (arith, made.1);
+      least = omega (arith, made.1);
+      skipped = λ same. absurd (omega (arith, made.1, same));
+    }
 stepped event old new Skipped done skipped = let none = skipped refl in
-    record { setting = none.1.setting; step = inr (none.0, state_same old new none.1); steps = omega (arith, none.1.steps) }
+    record {
+      setting = none.1.setting;
+      step = inr (none.0, state_same old new none.1);
+      steps = omega (arith, none.1.steps);
+      least = omega (arith, none.1.steps);
+      skipped = λ same. (none.0, state_same old new none.1);
+    }
 
 -- what holds of a run where its end is such a world
 pub ran : (k : Setting) (start : State) (events : List Event) (world : World) → setting_of world ≡ k → IsStart k start →

@@ -1,5 +1,5 @@
 -- Which worlds there are, and what a run of events leaves.
-use Rattle.std.specs.Prelude.{◌≡◌, ◌≢◌, ℕ, ◌<◌, None, Some, List, length, slice_get}
+use Rattle.std.specs.Prelude.{◌≡◌, ◌≢◌, ℕ, ◌+◌, ◌*◌, ◌<◌, ◌≤◌, Bool, true, false, None, Some, List, length, slice_get}
 use Rattle.dob_value.specs.declared.value.Value.{Value}
 use Rattle.dob_world.specs.declared.event.Event.{Event}
 use Rattle.dob_world.specs.declared.fault.Fault.{Fault}
@@ -7,6 +7,7 @@ use Rattle.dob_world.specs.declared.fault.Fault.TheVariants.{SetTooLarge, Nodes,
 use Rattle.dob_world.specs.declared.world.World.{World}
 use Rattle.dob_world.specs.Worlds.{Setting, World as State, items_in, IsBeginning}
 use Rattle.dob_world.specs.Runs.{IsAfter}
+use Rattle.dob_world.specs.Rounds.{round_length, round_of, rounds_of, IsStill}
 use Rattle.dob_world.specs.Shown.{setting_of, state_of, IsSmall, IsNumber, AreSizes, IsSetting, IsStanding, IsStart}
 
 -- Why there is no world of that setting: the first of these that isn't so, or memory is refused where all are.
@@ -35,3 +36,26 @@ pub record HasRun (k : Setting) (events : List Event) (world : World) : Type 0 w
 pub record AreValuesBelow (value : ℕ → Value) (count : ℕ) (values : List Value) : Type 0 where
   pub whole : length values ≡ count
   pub each : (class : ℕ) → class < count → slice_get values class ≡ Some (value class)
+
+-- A round of events is made. The answer is whether none of them was done; then none can happen in the world left.
+pub record HasMadeRound (old : World) (given : Bool) (new : World) : Type 0 where
+  pub setting : setting_of new ≡ setting_of old
+  pub after : IsAfter (setting_of old) (state_of old) (round_of old.n) (state_of new)
+  pub standing : IsStanding new
+  pub going : new.failed ≡ None
+  pub steps : new.steps ≤ old.steps + round_length old.n
+  pub still : given ≡ true → IsStill (setting_of old) (state_of new)
+  pub busy : given ≡ false → old.steps < new.steps
+
+-- The world is driven by that many rounds, or by fewer after the last of which it is still. Each round but that one has
+-- an event that was done.
+pub record HasDriven (old : World) (rounds : ℕ) (given : Bool) (new : World) : Type 0 where
+  pub made : ℕ
+  pub few : made ≤ rounds
+  pub setting : setting_of new ≡ setting_of old
+  pub after : IsAfter (setting_of old) (state_of old) (rounds_of old.n made) (state_of new)
+  pub standing : IsStanding new
+  pub going : new.failed ≡ None
+  pub steps : new.steps ≤ old.steps + made * round_length old.n
+  pub busy : given ≡ false → (made ≡ rounds) × (old.steps + made ≤ new.steps)
+  pub still : given ≡ true → IsStill (setting_of old) (state_of new)

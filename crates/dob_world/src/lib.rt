@@ -1,6 +1,7 @@
 // A world of nodes and of links between them, in which one event happens at a time.
 #![tactic(auto)]
 
+mod drives;
 mod event;
 mod fault;
 mod lane;
