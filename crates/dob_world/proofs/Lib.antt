@@ -15,3 +15,7 @@ pub mod Stopped
 pub mod Openings
 pub mod Starts
 pub mod Pushed
+pub mod Ran
+pub mod Lent
+pub mod Gathered
+pub mod Driven

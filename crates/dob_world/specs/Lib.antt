@@ -5,3 +5,5 @@ pub mod Laws
 pub mod Faults
 pub mod Lanes
 pub mod Shown
+pub mod Rounds
+pub mod Results

@@ -56,11 +56,23 @@ state_of world = state_shown world.classes.set world.n world.nodes.items world.l
 
 -- ---- what is kept
 
--- the sizes are in their limits
+-- the set has at most three pieces beside the lions
+abbrev pub IsSmall : PieceSet → Type 0
+IsSmall set = set.chicks + set.elephants + set.giraffes ≤ 3
+
+-- so many nodes can be in a world
+abbrev pub IsNumber : ℕ → Type 0
+IsNumber n = (0 < n) × (n ≤ 16)
+
+-- such a batch is one that nodes cut, and so many may wait on a link
+abbrev pub AreSizes : ℕ → ℕ → Type 0
+AreSizes batch capacity = (0 < batch) × (batch ≤ 4096) × (0 < capacity) × (capacity ≤ 1024)
+
+-- all are in their limits
 pub record IsSetting (k : Setting) : Type 0 where
-  pub nodes : (0 < k.n) × (k.n ≤ 16)
-  pub batch : (0 < k.batch) × (k.batch ≤ 4096)
-  pub capacity : (0 < k.capacity) × (k.capacity ≤ 1024)
+  pub small : IsSmall k.set
+  pub nodes : IsNumber k.n
+  pub sizes : AreSizes k.batch k.capacity
 
 -- the node of owner i
 pub record IsNodeOf (k : Setting) (i : ℕ) (node : Node) : Type 0 where

@@ -1,15 +1,24 @@
 // A world of nodes and of links between them, in which one event happens at a time.
 #![tactic(auto)]
 
+mod drives;
 mod event;
 mod fault;
 mod lane;
 pub mod laws;
+mod lists;
+mod runs;
 mod step;
 mod steps;
+mod tables;
 mod world;
 
 pub use event::Event;
 pub use fault::Fault;
+pub use lists::History;
+pub use runs::run;
 pub use step::Step;
 pub use world::World;
+
+#[cfg(test)]
+mod tests;

@@ -1,5 +1,5 @@
 // The world: nodes that own the classes of a piece set, and a lane from each to each.
-ghost use Rattle.std.specs.Prelude.{◌≡◌, ◌≢◌, ◌+◌, ◌*◌, ◌^◌, ◌<◌, ◌≤◌, ◌↔◌, true, false, IfOk, IfErr, IfSome};
+ghost use Rattle.std.specs.Prelude.{◌≡◌, ◌≢◌, ◌+◌, ◌*◌, ◌^◌, ◌<◌, ◌≤◌, ◌↔◌, true, false, IfOk, IfErr, IfSome, OnOk};
 ghost use Rattle.dob_node.specs.Openings.{AreOpenings};
 ghost use Rattle.dob_world.specs.Shown.{AreOpenedNodes, AreEmptyLanes};
 
@@ -17,15 +17,15 @@ use std::alloc::Global;
 /// were sent over these and applied.
 #[derive(Drop)]
 pub struct World {
-    alloc: Global,
-    classes: Classes,
-    n: usize,
-    batch: usize,
-    capacity: usize,
-    nodes: Vec<Node>,
-    lanes: Vec<Lane>,
-    steps: u64,
-    failed: Option<Fault>,
+    pub(crate) alloc: Global,
+    pub(crate) classes: Classes,
+    pub(crate) n: usize,
+    pub(crate) batch: usize,
+    pub(crate) capacity: usize,
+    pub(crate) nodes: Vec<Node>,
+    pub(crate) lanes: Vec<Lane>,
+    pub(crate) steps: u64,
+    pub(crate) failed: Option<Fault>,
 }
 
 impl World {
@@ -35,6 +35,7 @@ impl World {
     ghost use Rattle.dob_world.specs.declared.fault.Fault.TheVariants as fault;
     ghost use Rattle.dob_world.specs.Faults.{IsStop};
     ghost use Rattle.dob_world.specs.Shown.{setting_of, state_of, IsStanding, IsKept, IsUnchanged, IsMade, IsStart};
+    ghost use Rattle.dob_world.specs.Results.{IsRefused};
 
     /// A world of `n` nodes before its first event, with batches of at most `batch` items and links with room for
     /// `capacity` batches.
@@ -52,6 +53,7 @@ impl World {
         ensures setting { IfOk result (λ world. setting_of world ≡ record { set = set; n = n; batch = batch; capacity = capacity }) }
         ensures standing { IfOk result (λ world. IsStanding world × (world.failed ≡ None) × (world.steps ≡ 0)) }
         ensures opened { IfOk result (λ world. IsStart (setting_of world) (state_of world)) }
+        ensures refused { IfErr result (λ fault. IsRefused (record { set = set; n = n; batch = batch; capacity = capacity }) fault) }
     {
         if set.chicks + set.elephants + set.giraffes > 3 {
             return Err(Fault::SetTooLarge);
@@ -89,6 +91,7 @@ impl World {
         ensures skipped { result ≡ Ok Step.Skipped → (¬ CanHappen (setting_of self.old) (state_of self.old) event) × IsUnchanged self.old self.new }
         ensures stopped { IfErr result (λ fault. IsStop fault × (self.new.failed ≡ Some fault)) }
         ensures stays { IfSome self.old.failed (λ fault. result ≡ Err fault) }
+        ensures going { OnOk result ((self.new.failed ≡ None) × IsStanding self.new) }
         ensures kept { IsKept self.new }
     {
         if let Some(fault) = self.failed {

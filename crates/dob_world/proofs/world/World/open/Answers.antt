@@ -2,7 +2,8 @@
 use Rattle.std.proofs.Common.{◌≡◌, ◌<◌, ◌≤◌, refl, sym, ap, subst, arith}
 use Rattle.dob_node.specs.Openings.{AreOpenings}
 use Rattle.dob_world.specs.Worlds.{Setting}
-use Rattle.dob_world.specs.Shown.{AreOpenedNodes}
+use Rattle.dob_pieces.specs.declared.piece_set.PieceSet.{PieceSet}
+use Rattle.dob_world.specs.Shown.{AreOpenedNodes, IsSmall}
 use Rattle.dob_world.proofs.Starts.{places_start, lawful_shown, linked_start}
 use Rattle.dob_world.proofs.world.World.open.Goals as goal
 
@@ -17,7 +18,11 @@ returns-clause-standing c =
     subst (λ st. AreOpenedNodes openings st c.args.n c.args.n nodes) (sym c.in_ok-classes.ensures.set)
     (subst (λ xs. AreOpenedNodes xs c.args.set c.args.n c.args.n nodes) c.deref.ensures.value c.in_ok-nodes.ensures) in (
       record {
-        setting = record { nodes = (omega arith, omega arith); batch = (omega arith, omega arith); capacity = (omega arith, omega arith) };
+        setting = record {
+          small = subst (λ (st : PieceSet). IsSmall st) (sym c.in_ok-classes.ensures.set) (omega arith);
+          nodes = (omega arith, omega arith);
+          sizes = (omega arith, omega arith, omega arith, omega arith);
+        };
         openings = (openings, c.in_ok-openings.ensures);
         places = places_start k openings nodes lanes some c.in_ok-openings.ensures opened c.in_ok-lanes.ensures;
         lawful = lawful_shown k openings nodes lanes some c.in_ok-openings.ensures opened c.in_ok-lanes.ensures;

@@ -1,0 +1,148 @@
+-- One event more of a round, and one round more.
+use Rattle.std.proofs.Common.{◌≡◌, ℕ, zero, suc, ◌+◌, ◌*◌, ◌<◌, ◌≤◌, ◌⊎◌, inl, inr, refl, sym, ap, ◌∙◌, subst, arith, add-one, map, Bool, true, false, List, [], ◌∷◌, ◌++◌, None}
+use Rattle.std.proofs.Math.Nat.{mul-le-mul_right}
+use Rattle.std.specs.List.{range_with_len}
+use Rattle.std.proofs.lemmas.Bool.{cases_order}
+use Rattle.std.proofs.lemmas.List.FromFn.{map-range_with_len_more}
+use Rattle.dob_world.specs.declared.world.World.{World}
+use Rattle.dob_world.specs.Worlds.{Setting, World as State}
+use Rattle.dob_world.specs.Events.{CanHappen}
+use Rattle.dob_world.specs.Runs.{IsDoneOrSkipped, IsAfter}
+use Rattle.dob_world.specs.Rounds.{round_length, round_event, round_front, round_of, rounds_of, IsStill}
+use Rattle.dob_world.specs.Shown.{setting_of, state_of, IsStanding}
+use Rattle.dob_world.specs.Results.{HasMadeRound, HasDriven}
+use Rattle.dob_world.proofs.Ran.{Stepped, after_both, after_more}
+
+-- The first so many events of a round are made.
+pub record Partway (old new : World) (upto : ℕ) : Type 0 where
+  pub setting : setting_of new ≡ setting_of old
+  pub after : IsAfter (setting_of old) (state_of old) (round_front old.n upto) (state_of new)
+  pub standing : IsStanding new
+  pub going : new.failed ≡ None
+  pub least : old.steps ≤ new.steps
+  pub most : new.steps ≤ old.steps + upto
+  pub quiet : new.steps ≡ old.steps → (state_of new ≡ state_of old)
+      × ((place : ℕ) → place < upto → CanHappen (setting_of old) (state_of old) (round_event old.n place) → ⊥)
+
+pub none_made : (world : World) → IsStanding world → world.failed ≡ None → Partway world world 0
+none_made world standing going = record {
+  setting = refl;
+  after = refl;
+  standing = standing;
+  going = going;
+  least = omega arith;
+  most = omega arith;
+  quiet = λ same. (refl, λ place low. absurd (omega arith));
+}
+
+pub one_more : (old mid new : World) (place : ℕ) → Partway old mid place → Stepped (round_event old.n place) mid new → IsStanding new → new.failed ≡ None →
+    Partway old new (place + 1)
+one_more old mid new place before step standing going = record {
+  setting = step.setting ∙ before.setting;
+  after = subst (λ events. IsAfter (setting_of old) (state_of old) events (state_of new))
+      (sym (map-range_with_len_more (round_event old.n) 0 place place (let same : 0 + place ≡ place = omega arith in same)))
+      (after_more (setting_of old) (state_of old) (state_of mid) (state_of new) (round_front old.n place) (round_event old.n place) before.after
+      (subst (λ (s : Setting). IsDoneOrSkipped s (state_of mid) (round_event old.n place) (state_of new)) before.setting step.step));
+  standing = standing;
+  going = going;
+  least = omega (arith, step.least, before.least);
+  most = omega (arith, step.steps, before.most);
+  quiet = λ same.
+      let still : mid.steps ≡ old.steps = omega (arith, step.least, before.least, same) in
+      let were = before.quiet still in
+      let none = step.skipped (same ∙ sym still) in (
+        none.1 ∙ were.0,
+        λ p low. elim (cases_order p place) [
+          | inl here ↦ subst (λ (m : ℕ). CanHappen (setting_of old) (state_of old) (round_event old.n m) → ⊥) (sym here)
+              (subst (λ (w : State). CanHappen (setting_of old) w (round_event old.n place) → ⊥) were.0
+              (subst (λ (s : Setting). CanHappen s (state_of mid) (round_event old.n place) → ⊥) before.setting none.0))
+          | inr order ↦ elim order [
+            | inl less ↦ were.1 p less
+            | inr more ↦ absurd (omega arith)
+          ]
+        ],
+      );
+}
+
+pub round_made : (old new : World) (upto : ℕ) (still : Bool) → Partway old new upto → upto ≡ round_length old.n → (still ≡ true → new.steps ≡ old.steps) →
+    (still ≡ false → old.steps < new.steps) → HasMadeRound old still new
+round_made old new upto still way whole quiet busy = record {
+  setting = way.setting;
+  after = subst (λ (m : ℕ). IsAfter (setting_of old) (state_of old) (round_front old.n m) (state_of new)) whole way.after;
+  standing = way.standing;
+  going = way.going;
+  steps = subst (λ (m : ℕ). new.steps ≤ old.steps + m) whole way.most;
+  still = λ yes. let were = way.quiet (quiet yes) in
+      subst (λ (w : State). IsStill (setting_of old) w) (sym were.0)
+      (λ place low. were.1 place (subst (λ (m : ℕ). place < m) (sym whole) low));
+  busy = busy;
+}
+
+-- ---- rounds
+
+pub no_rounds : (world : World) → IsStanding world → world.failed ≡ None → HasDriven world 0 false world
+no_rounds world standing going = record {
+  made = 0;
+  few = omega arith;
+  setting = refl;
+  after = refl;
+  standing = standing;
+  going = going;
+  steps = omega arith;
+  busy = λ no. (refl, omega arith);
+  still = λ yes. absurd cc;
+}
+
+pub round_more : (old mid new : World) (rounds : ℕ) (still : Bool) → HasDriven old rounds false mid → HasMadeRound mid still new →
+    HasDriven old (rounds + 1) still new
+round_more old mid new rounds still before round =
+    let all = before.busy refl in
+    let same_n : mid.n ≡ old.n = ap (λ (k : Setting). k.n) before.setting in
+    record {
+      made = rounds + 1;
+      few = omega arith;
+      setting = round.setting ∙ before.setting;
+      after = subst (λ events. IsAfter (setting_of old) (state_of old) events (state_of new)) (sym (rw add-one refl))
+          (after_both (setting_of old) (state_of old) (state_of mid) (state_of new) (rounds_of old.n rounds) (round_of old.n)
+          (subst (λ (m : ℕ). IsAfter (setting_of old) (state_of old) (rounds_of old.n m) (state_of mid)) all.0 before.after)
+          (subst (λ (m : ℕ). IsAfter (setting_of old) (state_of mid) (round_of m) (state_of new)) same_n
+          (subst (λ (s : Setting). IsAfter s (state_of mid) (round_of mid.n) (state_of new)) before.setting round.after)));
+      standing = round.standing;
+      going = round.going;
+      steps = steps_more old.steps mid.steps new.steps rounds (round_length old.n)
+          (subst (λ (m : ℕ). mid.steps ≤ old.steps + m * round_length old.n) all.0 before.steps)
+          (subst (λ (m : ℕ). new.steps ≤ mid.steps + round_length m) same_n round.steps);
+      busy = λ no. (refl, let more : mid.steps < new.steps = round.busy no in omega (arith, all.1));
+      still = λ yes. subst (λ (s : Setting). IsStill s (state_of new)) before.setting (round.still yes);
+    }
+  where
+    steps_more : (a b c r l : ℕ) → b ≤ a + r * l → c ≤ b + l → c ≤ a + (r + 1) * l
+    steps_more a b c r l one other = let is : (r + 1) * l ≡ r * l + l = rw add-one (omega arith) in omega (arith, one, other, is)
+
+-- a still world is driven by more rounds too
+pub still_longer : (old new : World) (few rounds : ℕ) → HasDriven old few true new → few ≤ rounds → HasDriven old rounds true new
+still_longer old new few rounds driven less = record {
+  made = driven.made;
+  few = omega (arith, driven.few);
+  setting = driven.setting;
+  after = driven.after;
+  standing = driven.standing;
+  going = driven.going;
+  steps = driven.steps;
+  busy = λ no. absurd cc;
+  still = driven.still;
+}
+
+-- a further round has room
+pub room_left : (old mid : World) (round rounds limit : ℕ) → HasDriven old round false mid → round < rounds →
+    old.steps + rounds * round_length old.n ≤ limit → mid.steps + round_length mid.n ≤ limit
+room_left old mid round rounds limit driven less room =
+    let same : mid.n ≡ old.n = ap (λ (k : Setting). k.n) driven.setting in
+    subst (λ (m : ℕ). mid.steps + round_length m ≤ limit) (sym same)
+    (enough old.steps mid.steps (round_length old.n) limit
+    (subst (λ (m : ℕ). mid.steps ≤ old.steps + m * round_length old.n) (driven.busy refl).0 driven.steps) room)
+  where
+    enough : (a b l limit : ℕ) → b ≤ a + round * l → a + rounds * l ≤ limit → b + l ≤ limit
+    enough a b l limit one all =
+        let more : (round + 1) * l ≤ rounds * l = mul-le-mul_right l (let up : round + 1 ≤ rounds = omega (arith, less) in up) in
+        let is : (round + 1) * l ≡ round * l + l = rw add-one (omega arith) in omega (arith, one, all, more, is)

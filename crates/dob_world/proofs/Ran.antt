@@ -1,0 +1,90 @@
+-- One event more of a run.
+use Rattle.std.proofs.Common.{◌≡◌, ◌≢◌, ℕ, ◌+◌, ◌<◌, ◌≤◌, ◌⊎◌, inl, inr, refl, sym, ap, ◌∙◌, subst, arith, add-one, List, [], ◌∷◌, ◌++◌, length, take, get_or, None}
+use Rattle.std.proofs.Math.Seq.{take-suc}
+use Rattle.dob_world.specs.declared.event.Event.{Event}
+use Rattle.dob_world.specs.declared.step.Step.{Step}
+use Rattle.dob_world.specs.declared.step.Step.TheVariants.{Done, Skipped}
+use Rattle.dob_world.specs.declared.world.World.{World}
+use Rattle.dob_world.specs.Worlds.{Setting, World as State, AreLawful, IsLinked}
+use Rattle.dob_world.specs.Events.{CanHappen}
+use Rattle.dob_world.specs.Runs.{IsDoneOrSkipped, IsAfter}
+use Rattle.dob_world.specs.Shown.{setting_of, state_of, state_shown, IsStanding, IsUnchanged, IsMade, IsStart}
+use Rattle.dob_world.specs.Results.{HasRun}
+use Rattle.dob_world.proofs.Kept.{lists_are_beginnings}
+
+-- events, and then others
+pub after_both : (k : Setting) (old between new : State) (front behind : List Event) → IsAfter k old front between → IsAfter k between behind new →
+    IsAfter k old (front ++ behind) new
+after_both k old between new [] behind one other = subst (λ (w : State). IsAfter k w behind new) one other
+after_both k old between new (event ∷ front) behind one other = (one.0, one.1, after_both k one.0 between new front behind one.2 other)
+
+-- one event more at the end
+pub after_more : (k : Setting) (old between new : State) (events : List Event) (event : Event) → IsAfter k old events between →
+    IsDoneOrSkipped k between event new → IsAfter k old (events ++ event ∷ []) new
+after_more k old between new events event after step = after_both k old between new events (event ∷ []) after (new, step, refl)
+
+state_same : (old new : World) → IsUnchanged old new → state_of new ≡ state_of old
+state_same old new same =
+    ap (λ set. state_shown set new.n new.nodes.items new.lanes.items) (ap (λ (k : Setting). k.set) same.setting)
+    ∙ ap (λ n. state_shown old.classes.set n new.nodes.items new.lanes.items) (ap (λ (k : Setting). k.n) same.setting)
+    ∙ ap (λ nodes. state_shown old.classes.set old.n nodes new.lanes.items) same.nodes
+    ∙ ap (λ lanes. state_shown old.classes.set old.n old.nodes.items lanes) same.lanes
+
+-- What a step makes of a world.
+pub record Stepped (event : Event) (old new : World) : Type 0 where
+  pub setting : setting_of new ≡ setting_of old
+  pub step : IsDoneOrSkipped (setting_of old) (state_of old) event (state_of new)
+  pub steps : new.steps ≤ old.steps + 1
+  pub least : old.steps ≤ new.steps
+  pub skipped : new.steps ≡ old.steps → (CanHappen (setting_of old) (state_of old) event → ⊥) × (state_of new ≡ state_of old)
+
+pub stepped : (event : Event) (old new : World) (given : Step) → (given ≡ Done → IsMade event old new × (new.steps ≡ old.steps + 1)) →
+    (given ≡ Skipped → (CanHappen (setting_of old) (state_of old) event → ⊥) × IsUnchanged old new) → Stepped event old new
+stepped event old new Done done skipped = let made = done refl in
+    record {
+      setting = made.0.setting;
+      step = inl (made.0.can, made.0.happens);
+      steps = omega (arith, made.1);
+      least = omega (arith, made.1);
+      skipped = λ same. absurd (omega (arith, made.1, same));
+    }
+stepped event old new Skipped done skipped = let none = skipped refl in
+    record {
+      setting = none.1.setting;
+      step = inr (none.0, state_same old new none.1);
+      steps = omega (arith, none.1.steps);
+      least = omega (arith, none.1.steps);
+      skipped = λ same. (none.0, state_same old new none.1);
+    }
+
+-- what holds of a run where its end is such a world
+pub ran : (k : Setting) (start : State) (events : List Event) (world : World) → setting_of world ≡ k → IsStart k start →
+    IsAfter k start events (state_of world) → IsStanding world → world.failed ≡ None → HasRun k events world
+ran k start events world setting is_start after standing going = record {
+  setting = setting;
+  start = start;
+  is_start = is_start;
+  after = after;
+  standing = standing;
+  going = going;
+  sent = λ i j low_i low_j differs. (lists_are_beginnings k (state_of world) i j linked low_i low_j differs).0;
+  applied = λ i j low_i low_j differs. (lists_are_beginnings k (state_of world) i j linked low_i low_j differs).1;
+  own = λ i low. lawful.begun i i low low;
+}
+  where
+    linked : IsLinked k (state_of world)
+    linked = subst (λ (s : Setting). IsLinked s (state_of world)) setting standing.linked
+
+    lawful : AreLawful k (state_of world).nodes
+    lawful = subst (λ (s : Setting). AreLawful s (state_of world).nodes) setting standing.lawful
+
+-- one event more
+pub ran_more : (k : Setting) (events : List Event) (place : ℕ) (default : Event) (old new : World) → place < length events →
+    HasRun k (take place events) old → Stepped (get_or events place default) old new → new.failed ≡ None → IsStanding new →
+    HasRun k (take (place + 1) events) new
+ran_more k events place default old new low run step going standing =
+    subst (λ xs. HasRun k xs new) (sym (rw add-one (take-suc events place default low)))
+    (ran k run.start (take place events ++ get_or events place default ∷ []) new (step.setting ∙ run.setting) run.is_start
+    (after_more k run.start (state_of old) (state_of new) (take place events) (get_or events place default) run.after
+    (subst (λ (s : Setting). IsDoneOrSkipped s (state_of old) (get_or events place default) (state_of new)) run.setting step.step))
+    standing going)

@@ -1,0 +1,28 @@
+-- The opening world is the one after no events, and each event makes a run longer.
+use Rattle.std.proofs.Common.{◌≡◌, ◌≤◌, refl, sym, ap, ◌∙◌, subst, arith, [], Ok}
+use Rattle.dob_world.specs.Worlds.{Setting}
+use Rattle.dob_world.specs.Shown.{state_of, IsStart}
+use Rattle.dob_world.proofs.Ran.{ran, stepped, ran_more}
+use Rattle.dob_world.proofs.runs.run.Goals as goal
+
+pub loop-event-init : goal.loop-event-init
+loop-event-init c =
+    let k : Setting = record { set = c.args.set; n = c.args.n; batch = c.args.batch; capacity = c.args.capacity } in
+    let world = c.in-Ok.world in
+    let opened = c.in-Ok.ensures in
+    record {
+      run = ran k (state_of world) [] world opened.setting (subst (λ (s : Setting). IsStart s (state_of world)) opened.setting opened.opened) refl
+          opened.standing.0 opened.standing.1;
+      steps = omega (arith, opened.standing.2);
+    }
+
+pub loop-event-preserved : goal.loop-event-preserved
+loop-event-preserved c =
+    let k : Setting = record { set = c.args.set; n = c.args.n; batch = c.args.batch; capacity = c.args.capacity } in
+    let out = c.in-Ok-step.ensures in
+    let step = stepped _ c.loop-event.world c.step.new.self c.in-Ok-step.field-0 (λ e. out.done (ap Ok e)) (λ e. out.skipped (ap Ok e)) in
+    record {
+      run = ran_more k c.args.events.now c.loop-event.event-index _ c.loop-event.world c.step.new.self c.loop-event-test.true c.loop-event.invariant.run
+          step out.going.0 out.going.1;
+      steps = omega (arith, step.steps, c.loop-event.invariant.steps);
+    }

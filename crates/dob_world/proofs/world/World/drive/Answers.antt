@@ -1,0 +1,16 @@
+-- One round more, after which the world is still or not.
+use Rattle.std.proofs.Common.{◌+◌, ◌≤◌, Bool, true, false, arith, subst}
+use Rattle.dob_world.specs.Results.{HasMadeRound}
+use Rattle.dob_world.proofs.Driven.{round_more, still_longer}
+use Rattle.dob_world.proofs.world.World.drive.Goals as goal
+
+pub returns-in-Ok-true-clause-driven : goal.returns-in-Ok-true-clause-driven
+returns-in-Ok-true-clause-driven c =
+    let low : c.loop-round._round + 1 ≤ c.args.rounds = omega (arith, c.loop-round-test.true) in
+    still_longer c.args.self.now c.round.new.self (c.loop-round._round + 1) c.args.rounds
+    (round_more c.args.self.now c.loop-round.self c.round.new.self c.loop-round._round true c.loop-round.invariant
+    (subst (λ (b : Bool). HasMadeRound c.loop-round.self b c.round.new.self) c.in-Ok-true.field-0-test c.in-Ok-true.ensures.made)) low
+
+pub loop-round-preserved : goal.loop-round-preserved
+loop-round-preserved c = round_more c.args.self.now c.loop-round.self c.round.new.self c.loop-round._round false c.loop-round.invariant
+    (subst (λ (b : Bool). HasMadeRound c.loop-round.self b c.round.new.self) c.in-Ok-false.field-0-test c.in-Ok-false.ensures.made)

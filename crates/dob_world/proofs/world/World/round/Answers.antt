@@ -1,0 +1,17 @@
+-- One event more is made, or skipped.
+use Rattle.std.proofs.Common.{refl, subst, ap, Ok}
+use Rattle.dob_world.specs.declared.event.Event.{Event}
+use Rattle.dob_world.proofs.Ran.{Stepped, stepped}
+use Rattle.dob_world.proofs.Driven.{one_more}
+use Rattle.dob_world.proofs.world.World.round.Goals as goal
+
+pub loop-place-preserved : goal.loop-place-preserved
+loop-place-preserved c =
+    let out = c.in-Ok.ensures in
+    let step = stepped c.event_at.result c.loop-place.self c.step.new.self c.in-Ok.field-0 (λ e. out.done (ap Ok e)) (λ e. out.skipped (ap Ok e)) in
+    record {
+      way = one_more c.args.self.now c.loop-place.self c.step.new.self c.loop-place.place c.loop-place.invariant.way
+          (subst (λ (e : Event). Stepped e c.loop-place.self c.step.new.self) c.event_at.ensures step) out.going.1 out.going.0;
+      before = refl;
+      n = refl;
+    }

@@ -1,0 +1,61 @@
+-- Which worlds there are, and what a run of events leaves.
+use Rattle.std.specs.Prelude.{◌≡◌, ◌≢◌, ℕ, ◌+◌, ◌*◌, ◌<◌, ◌≤◌, Bool, true, false, None, Some, List, length, slice_get}
+use Rattle.dob_value.specs.declared.value.Value.{Value}
+use Rattle.dob_world.specs.declared.event.Event.{Event}
+use Rattle.dob_world.specs.declared.fault.Fault.{Fault}
+use Rattle.dob_world.specs.declared.fault.Fault.TheVariants.{SetTooLarge, Nodes, Sizes, Stopped, Memory}
+use Rattle.dob_world.specs.declared.world.World.{World}
+use Rattle.dob_world.specs.Worlds.{Setting, World as State, items_in, IsBeginning}
+use Rattle.dob_world.specs.Runs.{IsAfter}
+use Rattle.dob_world.specs.Rounds.{round_length, round_of, rounds_of, IsStill}
+use Rattle.dob_world.specs.Shown.{setting_of, state_of, IsSmall, IsNumber, AreSizes, IsSetting, IsStanding, IsStart}
+
+-- Why there is no world of that setting: the first of these that isn't so, or memory is refused where all are.
+abbrev pub IsRefused : Setting → Fault → Type 0
+IsRefused k SetTooLarge = ¬ IsSmall k.set
+IsRefused k Nodes = IsSmall k.set × (¬ IsNumber k.n)
+IsRefused k Sizes = IsSmall k.set × IsNumber k.n × (¬ AreSizes k.batch k.capacity)
+IsRefused k (Stopped node why) = ⊥
+IsRefused k Memory = IsSetting k
+
+-- The world is the opening world changed by the events, in order. What was sent over each link is a beginning of the
+-- sender's items, and what was applied is a beginning of what was sent; of its own items a node has applied a beginning.
+-- That each cell is what is known by the items applied is part of standing.
+pub record HasRun (k : Setting) (events : List Event) (world : World) : Type 0 where
+  pub setting : setting_of world ≡ k
+  pub start : State
+  pub is_start : IsStart k start
+  pub after : IsAfter k start events (state_of world)
+  pub standing : IsStanding world
+  pub going : world.failed ≡ None
+  pub sent : (i j : ℕ) → i < k.n → j < k.n → i ≢ j → IsBeginning ((state_of world).sent i j) (items_in k (state_of world).nodes i j)
+  pub applied : (i j : ℕ) → i < k.n → j < k.n → i ≢ j → IsBeginning ((state_of world).nodes.applied i j) ((state_of world).sent i j)
+  pub own : (i : ℕ) → i < k.n → IsBeginning ((state_of world).nodes.applied i i) (items_in k (state_of world).nodes i i)
+
+-- the values of the classes below a number, in order
+pub record AreValuesBelow (value : ℕ → Value) (count : ℕ) (values : List Value) : Type 0 where
+  pub whole : length values ≡ count
+  pub each : (class : ℕ) → class < count → slice_get values class ≡ Some (value class)
+
+-- A round of events is made. The answer is whether none of them was done; then none can happen in the world left.
+pub record HasMadeRound (old : World) (given : Bool) (new : World) : Type 0 where
+  pub setting : setting_of new ≡ setting_of old
+  pub after : IsAfter (setting_of old) (state_of old) (round_of old.n) (state_of new)
+  pub standing : IsStanding new
+  pub going : new.failed ≡ None
+  pub steps : new.steps ≤ old.steps + round_length old.n
+  pub still : given ≡ true → IsStill (setting_of old) (state_of new)
+  pub busy : given ≡ false → old.steps < new.steps
+
+-- The world is driven by that many rounds, or by fewer after the last of which it is still. Each round but that one has
+-- an event that was done.
+pub record HasDriven (old : World) (rounds : ℕ) (given : Bool) (new : World) : Type 0 where
+  pub made : ℕ
+  pub few : made ≤ rounds
+  pub setting : setting_of new ≡ setting_of old
+  pub after : IsAfter (setting_of old) (state_of old) (rounds_of old.n made) (state_of new)
+  pub standing : IsStanding new
+  pub going : new.failed ≡ None
+  pub steps : new.steps ≤ old.steps + made * round_length old.n
+  pub busy : given ≡ false → (made ≡ rounds) × (old.steps + made ≤ new.steps)
+  pub still : given ≡ true → IsStill (setting_of old) (state_of new)

@@ -1,0 +1,83 @@
+// A world that is driven by rounds of events until nothing is left to do.
+ghost use Rattle.std.specs.Prelude.{◌≡◌, ℕ, ◌+◌, ◌*◌, ◌^◌, ◌<◌, ◌≤◌, None, Some, IfOk, IfErr};
+ghost use Rattle.dob_world.specs.Faults.{IsStop};
+ghost use Rattle.dob_world.specs.Rounds.{round_length, round_event};
+ghost use Rattle.dob_world.specs.Shown.{IsStanding};
+ghost use Rattle.dob_world.specs.Results.{HasMadeRound, HasDriven};
+
+use crate::event::Event;
+use crate::fault::Fault;
+use crate::world::World;
+
+impl World {
+    /// Makes rounds of events, at most so many, up to the first in which no event was done. A round is each node's `Expand`
+    /// and `Own`, then all `Post`, then all `Take`, by sender and then by receiver. The answer is whether no event of the
+    /// last round was done; it is false for no round.
+    ///
+    /// Error: `Stopped`, as at a step.
+    pub fn drive(&mut self, rounds: u64) -> Result<bool, Fault>
+        requires few { self.old.steps + rounds * round_length self.old.n ≤ 2 ^ 40 }
+        requires standing { IsStanding self.old }
+        requires going { self.old.failed ≡ None }
+        ensures driven { IfOk result (λ still. HasDriven self.old rounds still self.new) }
+        ensures stopped { IfErr result (λ fault. IsStop fault × (self.new.failed ≡ Some fault)) }
+    {
+        for _round in 0..rounds {
+            match self.round() {
+                Ok(false) => {}
+                Ok(true) => return Ok(true),
+                Err(fault) => return Err(fault),
+            }
+        }
+        Ok(false)
+    }
+
+    // Makes the events of a round. True where none was done.
+    fn round(&mut self) -> Result<bool, Fault>
+        requires few { self.old.steps + round_length self.old.n ≤ 2 ^ 40 }
+        requires standing { IsStanding self.old }
+        requires going { self.old.failed ≡ None }
+        ensures made { IfOk result (λ still. HasMadeRound self.old still self.new) }
+        ensures stopped { IfErr result (λ fault. IsStop fault × (self.new.failed ≡ Some fault)) }
+    {
+        let before = self.steps;
+        let n = self.n;
+        for place in 0..2 * n + 2 * (n * n) {
+            match self.step(event_at(n, place)) {
+                Ok(_) => {}
+                Err(fault) => return Err(fault),
+            }
+        }
+        Ok(self.steps == before)
+    }
+}
+
+// The event of that number in a round of `n` nodes.
+fn event_at(n: usize, place: usize) -> Event
+    requires some { 0 < n }
+    requires few { n ≤ 16 }
+    requires place { place < round_length n }
+    ensures { result ≡ round_event n place }
+{
+    let first_post = 2 * n;
+    let first_take = 2 * n + n * n;
+    if place < first_post {
+        if place % 2 == 0 {
+            Event::Expand(place / 2)
+        } else {
+            Event::Own(place / 2)
+        }
+    } else if place < first_take {
+        let pair = place - first_post;
+        Event::Post {
+            from: pair / n,
+            to: pair % n,
+        }
+    } else {
+        let pair = place - first_take;
+        Event::Take {
+            from: pair / n,
+            to: pair % n,
+        }
+    }
+}

@@ -1,0 +1,40 @@
+// Events one after another.
+ghost use Rattle.std.specs.Prelude.{◌≡◌, ◌^◌, ◌≤◌, ◌⊎◌, length, IfOk, IfErr};
+ghost use Rattle.dob_world.specs.Faults.{IsStop};
+ghost use Rattle.dob_world.specs.Shown.{IsSetting};
+ghost use Rattle.dob_world.specs.Results.{IsRefused, HasRun};
+
+use crate::event::Event;
+use crate::fault::Fault;
+use crate::world::World;
+use dob_pieces::PieceSet;
+use std::alloc::Global;
+
+/// The world of `n` nodes, with batches of at most `batch` items and links with room for `capacity` batches, after the
+/// events in order. Those that can't happen are skipped.
+///
+/// Errors: those of `World::open`; `Stopped`, where a node has stopped, but never because an item contradicts its cell.
+pub fn run(
+    alloc: Global,
+    set: PieceSet,
+    n: usize,
+    batch: usize,
+    capacity: usize,
+    events: &[Event],
+) -> Result<World, Fault>
+    requires few { length events.now ≤ 2 ^ 40 }
+    ensures run { IfOk result (λ world. HasRun (record { set = set; n = n; batch = batch; capacity = capacity }) events.now world) }
+    ensures refused { IfErr result (λ fault. IsRefused (record { set = set; n = n; batch = batch; capacity = capacity }) fault ⊎ (IsSetting (record { set = set; n = n; batch = batch; capacity = capacity }) × IsStop fault)) }
+{
+    let mut world = match World::open(alloc, set, n, batch, capacity) {
+        Ok(world) => world,
+        Err(fault) => return Err(fault),
+    };
+    for event in events {
+        match world.step(*event) {
+            Ok(_) => {}
+            Err(fault) => return Err(fault),
+        }
+    }
+    Ok(world)
+}
