@@ -2,6 +2,7 @@
 // word it goes over lions alone and prints no times, so that what it prints is the same on each machine.
 #![tactic(auto)]
 
+mod builds;
 mod counts;
 mod measure;
 mod timer;
