@@ -1,4 +1,5 @@
 // The answer to a line.
+use crate::about_build::about_build;
 use crate::about_cell::about_cell;
 use crate::about_position::about_position;
 use crate::about_set::about_set;
@@ -27,6 +28,10 @@ pub(crate) fn reply(alloc: Global, opened: &mut Opened, line: &str) -> Result<St
             Err(fault) => fault_line(alloc, fault),
             Ok(set) => told(alloc, about_cell(alloc, opened, set, class, changes)),
         },
+        Some(Question::Build(text, limit)) => match PieceSet::read(text) {
+            Err(fault) => fault_line(alloc, fault),
+            Ok(set) => told_build(alloc, about_build(alloc, set, limit)),
+        },
         Some(Question::Token(matter)) => Ok(about_token(alloc, matter)?),
     }
 }
@@ -36,6 +41,15 @@ fn told(alloc: Global, answer: Result<String, Fault>) -> Result<String, Memory> 
     match answer {
         Ok(text) => Ok(text),
         Err(Fault::Memory) => Err(Memory),
+        Err(fault) => fault_line(alloc, fault),
+    }
+}
+
+/// The answer, or the line of the fault of a build.
+fn told_build(alloc: Global, answer: Result<String, dob_node::Fault>) -> Result<String, Memory> {
+    match answer {
+        Ok(text) => Ok(text),
+        Err(dob_node::Fault::Memory) => Err(Memory),
         Err(fault) => fault_line(alloc, fault),
     }
 }

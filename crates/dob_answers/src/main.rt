@@ -1,10 +1,11 @@
 // Answers questions about positions and piece sets, one a line, so that this implementation can be compared with
 // another: `moves TEXT`, `after I TEXT`, `catch TEXT`, `value TEXT`, `rank TEXT`, `class TEXT`, `unrank CEG N`,
-// `classat CEG K`, `size CEG`, `back CEG K`, `edges CEG P Q`, `apply CEG CLASS CHANGE ..`, as about_cell.rt says, and
-// about tokens of the ring, as about_token.rt says. A text that is no position and a set that is none get their
-// refusals, and any other line `unknown question`.
+// `classat CEG K`, `size CEG`, `back CEG K`, `edges CEG P Q`, `apply CEG CLASS CHANGE ..`, as about_cell.rt says,
+// `alone CEG LIMIT`, as about_build.rt says, and about tokens of the ring, as about_token.rt says. A text that is no
+// position and a set that is none get their refusals, and any other line `unknown question`.
 #![tactic(auto)]
 
+mod about_build;
 mod about_cell;
 mod about_position;
 mod about_set;

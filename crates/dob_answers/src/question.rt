@@ -10,6 +10,8 @@ pub(crate) enum Question<'a> {
     Set(OfSet, &'a str),
     /// What the cell of the class of that number, in the piece set of that text, answers to these changes.
     Cell(u64, &'a str, &'a str),
+    /// Which values one node alone finds for the piece set of that text in so many steps.
+    Build(&'a str, u64),
     /// Something about tokens of the ring.
     Token(OfToken),
 }
@@ -84,6 +86,10 @@ impl<'a> Question<'a> {
                 let (class, changes) = rest.split_once(' ')?;
                 let class = class.parse::<u64>().ok()?;
                 Some(Question::Cell(class, set, changes))
+            }
+            "alone" => {
+                let (set, limit) = set_and_number(rest)?;
+                Some(Question::Build(set, limit))
             }
             _ => Some(Question::Token(OfToken::read(word, rest)?)),
         }

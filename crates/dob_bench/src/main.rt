@@ -3,6 +3,7 @@
 // the same on each machine.
 #![tactic(auto)]
 
+mod builds;
 mod counts;
 mod measure;
 mod timer;

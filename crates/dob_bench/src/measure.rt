@@ -1,5 +1,6 @@
 // What is measured of one piece set, a function for each thing. Each prints what was done and then, where `timed`, how
 // long it took.
+use crate::builds;
 use crate::counts::{self, Edges, Lines, Moves, Outcomes};
 use crate::timer::Timer;
 use anyhow::Result;
@@ -8,11 +9,11 @@ use dob_pieces::PieceSet;
 use dob_probe::check;
 use dob_rank::{Classes, size};
 use dob_value::{Table, sweep_table};
-use std::rt::Clock;
+use std::rt::{Clock, Files};
 use std::thread::Threads;
 
 /// Measures everything over the set, and gives the bytes of its table's file.
-pub(crate) fn run<R: Print + Clock + AllocGlobal + Threads + Sync>(
+pub(crate) fn run<R: Print + Clock + AllocGlobal + Files + Threads + Sync>(
     rt: &R,
     set: PieceSet,
     timed: bool,
@@ -21,6 +22,7 @@ pub(crate) fn run<R: Print + Clock + AllocGlobal + Threads + Sync>(
     find_ranks(rt, set, timed)?;
     find_classes(rt, &classes, timed)?;
     list_moves(rt, &classes, timed)?;
+    builds::run(rt, &classes, timed)?;
     list_predecessors(rt, &classes, timed)?;
     let swept = sweep(rt, set, timed)?;
     let bytes = write(rt, &swept, timed)?;

@@ -16,11 +16,12 @@ use dob_moves::Status;
 use dob_pieces::{Memory, PieceSet};
 use dob_rank::Classes;
 use dob_share::{Item, Opening, Settlement, Share};
-use dob_unmove::back;
+use dob_unmove::back_into;
 use dob_update::{Batch, Outbox, push_items};
 use dob_value::Value;
 use std::alloc::Global;
 use std::collections::VecDeque;
+use std::mem;
 
 /// How many batches a node may cut for another.
 pub const MAX_BATCHES: u64 = 1 << 40;
@@ -37,6 +38,9 @@ pub struct Node {
     expanded: u64,
     own: VecDeque<Item>,
     outboxes: Vec<Outbox>,
+    // Lists whose room each expansion uses again.
+    targets: Vec<u64>,
+    items: Vec<Item>,
 }
 
 /// What a node has to give when it is done: the values of its own classes, in the order of the classes.
@@ -84,6 +88,8 @@ impl Node {
             expanded: 0,
             own: VecDeque::new(alloc),
             outboxes,
+            targets: Vec::new(alloc),
+            items: Vec::new(alloc),
         })
     }
 
@@ -104,8 +110,10 @@ impl Node {
             return Ok(false);
         }
         let settlement = self.history.get(self.expanded);
-        let targets = back(self.alloc, classes, settlement.class)?;
-        let mut items = Vec::new(self.alloc);
+        let room = mem::replace(&mut self.targets, Vec::new(self.alloc));
+        let targets = back_into(room, classes, settlement.class)?;
+        let mut items = mem::replace(&mut self.items, Vec::new(self.alloc));
+        items.clear();
         push_items(&mut items, settlement, &targets, self.n, self.id)?;
         self.own.reserve(items.len())?;
         add_for_others(
@@ -116,6 +124,8 @@ impl Node {
             self.id,
         )?;
         push_all(&mut self.own, &items);
+        self.targets = targets;
+        self.items = items;
         self.expanded += 1;
         Ok(true)
     }

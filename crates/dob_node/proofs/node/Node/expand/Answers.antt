@@ -34,7 +34,7 @@ returns-clause-sound c =
       told = next_told node.expanded _ _ sound.told c.len.ensures.count c.if-self-len.false;
       entries = entries_more s node.own.items c.push_all.new.queue.items c.push_items.new.items.items
           (filter (λ to. owner_of node.n to == node.id) c.deref.result.now) c.get-settlement.ensures.was c.get-settlement.ensures.now
-          sound.entries (c.in_ok-push_items.ensures ∙ ap (λ xs. xs ++ items_of (λ _. c.deref.result.now) node.n node.id s) c.new-items.ensures.items)
+          sound.entries (c.in_ok-push_items.ensures ∙ ap (λ xs. xs ++ items_of (λ _. c.deref.result.now) node.n node.id s) c.clear.ensures.items)
           (c.push_all.ensures ∙ ap (λ xs. xs ++ c.deref-3.result.now) c.reserve.ensures.items ∙ ap (λ xs. node.own.items ++ xs) c.deref-3.ensures.value);
       receivers = ready.receivers;
       addressed = ready.addressed;
