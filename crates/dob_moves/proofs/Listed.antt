@@ -14,9 +14,9 @@ use Rattle.dob_pieces.specs.Setups.{Cell, at, held}
 use Rattle.dob_pieces.specs.Masks.{IsMask, is_own, is_end, is_empty}
 use Rattle.dob_pieces.proofs.MaskBits.{bit_if, IsMask-and}
 use Rattle.dob_pieces.proofs.MaskWalks.{IsQuiet, IsCounting}
-use Rattle.dob_moves.specs.declared.choice.Move.{Move}
-use Rattle.dob_moves.specs.declared.choice.Move.TheVariants.{Step, Put}
-use Rattle.dob_moves.specs.declared.search.Aim.TheVariants.{Elsewhere}
+use Rattle.dob_moves.specs.declared.game_move.Move.{Move}
+use Rattle.dob_moves.specs.declared.game_move.Move.TheVariants.{Step, Put}
+use Rattle.dob_moves.specs.declared.first_moves.Aim.TheVariants.{Elsewhere}
 use Rattle.dob_moves.specs.Moves.{grows_at}
 use Rattle.dob_moves.specs.Walks.{may_end, step_onto, steps_by, own_kind, steps_if, steps_from, put_if, put_on, drops_of}
 use Rattle.dob_moves.proofs.Masked.{end_is}

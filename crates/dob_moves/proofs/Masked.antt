@@ -14,9 +14,9 @@ use Rattle.dob_pieces.specs.Masks.{IsMask, is_prey, is_end, attacks, attacks_by}
 use Rattle.dob_pieces.proofs.Boards.{one_lion, within-from_piece}
 use Rattle.dob_pieces.proofs.MaskBits.{IsMask-and, IsLowest, lowest_is, none_passes}
 use Rattle.dob_pieces.proofs.Attacks.{attacks_piece, own_attacks}
-use Rattle.dob_moves.specs.declared.choice.Move.{Move}
-use Rattle.dob_moves.specs.declared.choice.Move.TheVariants.{Step, Put}
-use Rattle.dob_moves.specs.declared.search.Aim.TheVariants.{Elsewhere}
+use Rattle.dob_moves.specs.declared.game_move.Move.{Move}
+use Rattle.dob_moves.specs.declared.game_move.Move.TheVariants.{Step, Put}
+use Rattle.dob_moves.specs.declared.first_moves.Aim.TheVariants.{Elsewhere}
 use Rattle.dob_moves.specs.Moves.{CanGo, CatchesLion, grows_at, place}
 use Rattle.dob_moves.specs.Statuses.{CanCatch, HasTried, IsFirstCatch}
 use Rattle.dob_moves.specs.Walks.{may_end, own_kind, step_onto}

@@ -16,10 +16,10 @@ use Rattle.dob_pieces.proofs.MaskWalks.{IsWalked, IsCounted, walk_start, walk_ne
 use Rattle.dob_moves.proofs.Listed.{own_at, empty_at, may_step, steps_to, puts_on, from_quiet, steps_counting, puts_counting, may_step_mask, drops_all}
 use Rattle.dob_moves.proofs.Tables.{steps_by-squares}
 use Rattle.dob_pieces.proofs.Lists.{head_in}
-use Rattle.dob_moves.specs.declared.choice.Move.{Move}
-use Rattle.dob_moves.specs.declared.outlook.Status.{Status}
-use Rattle.dob_moves.specs.declared.outlook.Status.TheVariants.{Open}
-use Rattle.dob_moves.specs.declared.search.Aim.TheVariants.{AtLion, Elsewhere}
+use Rattle.dob_moves.specs.declared.game_move.Move.{Move}
+use Rattle.dob_moves.specs.declared.position_status.Status.{Status}
+use Rattle.dob_moves.specs.declared.position_status.Status.TheVariants.{Open}
+use Rattle.dob_moves.specs.declared.first_moves.Aim.TheVariants.{AtLion, Elsewhere}
 use Rattle.dob_moves.specs.Statuses.{HasStatus}
 use Rattle.dob_moves.specs.Walks.{first, steps_by, steps_from, all_steps, drops_of, all_drops}
 use Rattle.dob_moves.specs.MoveLists.{has_tried, moves_of}

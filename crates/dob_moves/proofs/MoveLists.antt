@@ -9,9 +9,9 @@ use Rattle.dob_pieces.specs.declared.kind.Side.TheVariants.{Mover, Enemy}
 use Rattle.dob_pieces.specs.declared.setup.Setup.{Setup}
 use Rattle.dob_pieces.specs.Setups.{Cell, at, holds_lion, piece_of}
 use Rattle.dob_pieces.proofs.Lists.{rising-append, rising-pairs}
-use Rattle.dob_moves.specs.declared.choice.Move.{Move}
-use Rattle.dob_moves.specs.declared.outlook.Status.TheVariants.{Caught, Tried}
-use Rattle.dob_moves.specs.declared.search.Aim.TheVariants.{AtLion, Elsewhere}
+use Rattle.dob_moves.specs.declared.game_move.Move.{Move}
+use Rattle.dob_moves.specs.declared.position_status.Status.TheVariants.{Caught, Tried}
+use Rattle.dob_moves.specs.declared.first_moves.Aim.TheVariants.{AtLion, Elsewhere}
 use Rattle.dob_moves.specs.Moves.{CanGo, place}
 use Rattle.dob_moves.specs.Statuses.{CanCatch, HasTried, AreMoves}
 use Rattle.dob_moves.specs.Walks.{first, all_steps, all_drops}

@@ -14,8 +14,8 @@ use Rattle.dob_pieces.specs.declared.hand.Hands.{Hands}
 use Rattle.dob_pieces.specs.declared.setup.Setup.{Setup}
 use Rattle.dob_pieces.specs.Pieces.{kind_in_hand, kind_on_board, is_lion, is_side, other_side, counts_as, leads}
 use Rattle.dob_pieces.specs.Setups.{Cell, at, held, piece_of, turned, total, holds_kind, holds_lion, IsLegal, with_one_more, with_one_less}
-use Rattle.dob_moves.specs.declared.choice.Move.{Move}
-use Rattle.dob_moves.specs.declared.choice.Move.TheVariants.{Step, Put}
+use Rattle.dob_moves.specs.declared.game_move.Move.{Move}
+use Rattle.dob_moves.specs.declared.game_move.Move.TheVariants.{Step, Put}
 use Rattle.dob_moves.specs.Moves.{Goes, CanGo, Steps, Drops, CanTake, hands_after_catch, grows_at}
 use Rattle.dob_moves.specs.Statuses.{HasTried}
 use Rattle.dob_moves.specs.Outcomes.{arrives_as, with_caught, stepped, dropped, moved}

@@ -5,7 +5,7 @@ use Rattle.std.proofs.Math.Seq.{take-suc}
 use Rattle.std.proofs.lemmas.List.{append-nil}
 use Rattle.std.proofs.lemmas.List.Elements.{filter_map-append}
 use Rattle.dob_pieces.specs.Lists.{each_below}
-use Rattle.dob_moves.specs.declared.choice.Move.{Move}
+use Rattle.dob_moves.specs.declared.game_move.Move.{Move}
 
 single : (o : Option Move) → option_to_list o ≡ cons_option o []
 single None = refl

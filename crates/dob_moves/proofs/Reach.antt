@@ -15,10 +15,10 @@ use Rattle.dob_pieces.specs.Lists.{each_below}
 use Rattle.dob_pieces.specs.Pieces.{leads, kind_in_hand}
 use Rattle.dob_pieces.specs.Setups.{Cell, at, held, piece_of}
 use Rattle.dob_pieces.proofs.Lists.{none_in_empty, cond_sound, cond_whole, each_sound, each_whole, Rising, rising-lower, rising-append, rising-cond, rising-each}
-use Rattle.dob_moves.specs.declared.choice.Move.{Move}
-use Rattle.dob_moves.specs.declared.choice.Move.TheVariants.{Step, Put}
-use Rattle.dob_moves.specs.declared.search.Aim.{Aim}
-use Rattle.dob_moves.specs.declared.search.Aim.TheVariants.{AtLion, Elsewhere}
+use Rattle.dob_moves.specs.declared.game_move.Move.{Move}
+use Rattle.dob_moves.specs.declared.game_move.Move.TheVariants.{Step, Put}
+use Rattle.dob_moves.specs.declared.first_moves.Aim.{Aim}
+use Rattle.dob_moves.specs.declared.first_moves.Aim.TheVariants.{AtLion, Elsewhere}
 use Rattle.dob_moves.specs.Moves.{grows_at, CanTake, CanGo, CatchesLion, hand_place, place}
 use Rattle.dob_moves.specs.Statuses.{IsFirstCatch}
 use Rattle.dob_moves.specs.Walks.{first, may_end, step_onto, steps_by, own_kind, own_by_side, steps_if, steps_from, all_steps, put_if, put_on, drops_of, all_drops}

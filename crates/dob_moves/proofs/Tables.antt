@@ -10,8 +10,8 @@ use Rattle.dob_pieces.specs.Lists.{each_below}
 use Rattle.dob_pieces.specs.Pieces.{leads, steps_of, square_after}
 use Rattle.dob_pieces.specs.Setups.{at}
 use Rattle.dob_pieces.proofs.Boards.{all_below, all_below-at}
-use Rattle.dob_moves.specs.declared.choice.Move.{Move}
-use Rattle.dob_moves.specs.declared.search.Aim.{Aim}
+use Rattle.dob_moves.specs.declared.game_move.Move.{Move}
+use Rattle.dob_moves.specs.declared.first_moves.Aim.{Aim}
 use Rattle.dob_moves.specs.Walks.{step_onto, step_if, step_by, steps_by}
 
 abbrev same_numbers : List ℕ → List ℕ → Bool

@@ -8,7 +8,7 @@ use Rattle.dob_pieces.specs.declared.kind.Side.{Side}
 use Rattle.dob_pieces.specs.declared.kind.Side.TheVariants.{Mover, Enemy}
 use Rattle.dob_pieces.specs.declared.setup.Setup.{Setup}
 use Rattle.dob_pieces.specs.Pieces.{other_side}
-use Rattle.dob_pieces.specs.Setups.{Cell, at, turned_cell, piece_of, turned, HasLions, HasFewPieces, HasLionAtHome, IsLegal}
+use Rattle.dob_pieces.specs.Setups.{Cell, at, turned_cell, piece_of, turned, HasLions, HasFewPieces, HasLionOffFarRow, IsLegal}
 use Rattle.dob_pieces.proofs.Boards.{length-turned, at-turned, HasLions-turned, HasFewPieces-turned}
 
 -- the side and the kind of what stands on a square
@@ -44,8 +44,8 @@ at-turned_past : (p : Setup) (k : ℕ) → 12 ≤ k → at (turned p) k ≡ None
 at-turned_past p k h = get_or_past (turned p).board k None (omega (arith, length-turned p))
 
 -- with no enemy lion on row 1, the turned mover's lion isn't on row 4
-HasLionAtHome-turned : (p : Setup) → IsFreeOfTry p → HasLionAtHome (turned p)
-HasLionAtHome-turned p free k far is =
+HasLionOffFarRow-turned : (p : Setup) → IsFreeOfTry p → HasLionOffFarRow (turned p)
+HasLionOffFarRow-turned p free k far is =
     ⊎_elim (λ (h : k < 12). free (11 - k) (omega arith) (turned_lion _ (sym (at-turned p k h) ∙ is)))
     (λ (h : 12 ≤ k). let past = at-turned_past p k h in cc) (cases_lt k 12)
 
@@ -55,5 +55,5 @@ IsLegal-turned p twelve lions few free = record {
   squares = length-turned p;
   lions = HasLions-turned p twelve lions;
   few = HasFewPieces-turned p twelve few;
-  home = HasLionAtHome-turned p free;
+  home = HasLionOffFarRow-turned p free;
 }

@@ -4,11 +4,11 @@ use Rattle.std.specs.Bool.{IsTrue}
 use Rattle.std.specs.Option.{is_some}
 use Rattle.dob_pieces.specs.declared.setup.Setup.{Setup}
 use Rattle.dob_pieces.proofs.Lists.{none_in_empty, rising-append, rising-pairs}
-use Rattle.dob_moves.specs.declared.choice.Move.{Move}
-use Rattle.dob_moves.specs.declared.search.Aim.TheVariants.{AtLion, Elsewhere}
-use Rattle.dob_moves.specs.declared.choice.Move.TheVariants.{Step, Put}
-use Rattle.dob_moves.specs.declared.outlook.Status.{Status}
-use Rattle.dob_moves.specs.declared.outlook.Status.TheVariants.{Caught, Tried, Stuck, Open}
+use Rattle.dob_moves.specs.declared.game_move.Move.{Move}
+use Rattle.dob_moves.specs.declared.first_moves.Aim.TheVariants.{AtLion, Elsewhere}
+use Rattle.dob_moves.specs.declared.game_move.Move.TheVariants.{Step, Put}
+use Rattle.dob_moves.specs.declared.position_status.Status.{Status}
+use Rattle.dob_moves.specs.declared.position_status.Status.TheVariants.{Caught, Tried, Stuck, Open}
 use Rattle.std.proofs.lemmas.List.Elements.{Contains-append_left, Contains-append_right, Contains-append_cases}
 use Rattle.dob_moves.specs.Moves.{CanGo, place}
 use Rattle.dob_moves.specs.Statuses.{CanCatch, HasStatus, AreMoves, IsFirstCatch}

@@ -1,7 +1,7 @@
 -- Moves in the mirror.
 use Rattle.dob_pieces.specs.Squares.{mirrored_square}
-use Rattle.dob_moves.specs.declared.choice.Move.{Move}
-use Rattle.dob_moves.specs.declared.choice.Move.TheVariants.{Step, Put}
+use Rattle.dob_moves.specs.declared.game_move.Move.{Move}
+use Rattle.dob_moves.specs.declared.game_move.Move.TheVariants.{Step, Put}
 
 -- the same move with columns a and c exchanged
 abbrev pub mirrored_move : Move → Move

@@ -4,8 +4,8 @@ use Rattle.std.specs.Option.{is_some}
 use Rattle.dob_pieces.specs.declared.kind.Side.TheVariants.{Enemy}
 use Rattle.dob_pieces.specs.declared.setup.Setup.{Setup}
 use Rattle.dob_pieces.specs.Setups.{at, holds_lion}
-use Rattle.dob_moves.specs.declared.choice.Move.{Move}
-use Rattle.dob_moves.specs.declared.search.Aim.TheVariants.{AtLion, Elsewhere}
+use Rattle.dob_moves.specs.declared.game_move.Move.{Move}
+use Rattle.dob_moves.specs.declared.first_moves.Aim.TheVariants.{AtLion, Elsewhere}
 use Rattle.dob_moves.specs.Walks.{first, all_steps, all_drops}
 
 -- some step of the mover ends on the enemy lion

@@ -10,8 +10,8 @@ use Rattle.dob_pieces.specs.declared.setup.Setup.{Setup}
 use Rattle.dob_pieces.specs.Squares.{row}
 use Rattle.dob_pieces.specs.Pieces.{leads, kind_in_hand, kind_on_board}
 use Rattle.dob_pieces.specs.Setups.{at, held, with_one_more, with_one_less, piece_of, turned}
-use Rattle.dob_moves.specs.declared.choice.Move.{Move}
-use Rattle.dob_moves.specs.declared.choice.Move.TheVariants.{Step, Put}
+use Rattle.dob_moves.specs.declared.game_move.Move.{Move}
+use Rattle.dob_moves.specs.declared.game_move.Move.TheVariants.{Step, Put}
 
 -- a step of that kind that ends there makes a hen: a chick's onto its far row
 abbrev pub grows_at : Kind → ℕ → Bool

@@ -8,8 +8,8 @@ use Rattle.dob_pieces.specs.declared.hand.Hand.{Hand}
 use Rattle.dob_pieces.specs.declared.setup.Setup.{Setup}
 use Rattle.dob_pieces.specs.Pieces.{kind_in_hand, kind_on_board}
 use Rattle.dob_pieces.specs.Setups.{Cell, at, piece_of, with_one_more, with_one_less}
-use Rattle.dob_moves.specs.declared.choice.Move.{Move}
-use Rattle.dob_moves.specs.declared.choice.Move.TheVariants.{Step, Put}
+use Rattle.dob_moves.specs.declared.game_move.Move.{Move}
+use Rattle.dob_moves.specs.declared.game_move.Move.TheVariants.{Step, Put}
 
 -- the kind that a stepping piece has afterwards
 abbrev pub arrives_as : Kind → Bool → Kind

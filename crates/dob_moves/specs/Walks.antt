@@ -13,10 +13,10 @@ use Rattle.dob_pieces.specs.Lists.{each_below}
 use Rattle.dob_pieces.specs.Squares.{column, row}
 use Rattle.dob_pieces.specs.Pieces.{is_lion, steps_of, square_after}
 use Rattle.dob_pieces.specs.Setups.{Cell, at, held}
-use Rattle.dob_moves.specs.declared.choice.Move.{Move}
-use Rattle.dob_moves.specs.declared.choice.Move.TheVariants.{Step, Put}
-use Rattle.dob_moves.specs.declared.search.Aim.{Aim}
-use Rattle.dob_moves.specs.declared.search.Aim.TheVariants.{AtLion, Elsewhere}
+use Rattle.dob_moves.specs.declared.game_move.Move.{Move}
+use Rattle.dob_moves.specs.declared.game_move.Move.TheVariants.{Step, Put}
+use Rattle.dob_moves.specs.declared.first_moves.Aim.{Aim}
+use Rattle.dob_moves.specs.declared.first_moves.Aim.TheVariants.{AtLion, Elsewhere}
 use Rattle.dob_moves.specs.Moves.{grows_at}
 
 -- the first of the moves, if there is one

@@ -3,11 +3,11 @@ ghost use Rattle.std.specs.Prelude.{◌≡◌, ◌≤◌, length};
 ghost use Rattle.dob_pieces.specs.Masks.{AreMasks};
 ghost use Rattle.dob_moves.specs.Walks.{steps_by, steps_from, all_steps, drops_of, all_drops};
 ghost use Rattle.dob_moves.specs.MoveLists.{moves_of};
-ghost use Rattle.dob_moves.specs.declared.search.Aim.TheVariants.{Elsewhere};
+ghost use Rattle.dob_moves.specs.declared.first_moves.Aim.TheVariants.{Elsewhere};
 
-use crate::judge::status_by;
-use crate::outlook::Status;
-use crate::search::own_kind;
+use crate::first_moves::own_kind;
+use crate::position_status::Status;
+use crate::status_of::status_by;
 use dob_pieces::{HandKind, Kind, Masks, Position, Setup, Square, lowest_square, without_square};
 
 /// The number of steps of a piece of that kind on that square, other than onto the enemy lion.

@@ -1,19 +1,19 @@
 // The rules of Dobutsu shogi: the status of a position, its moves in move order, and what a move leads to.
 #![tactic(auto)]
 
-mod applied;
-mod choice;
+mod applying;
 mod count;
-mod judge;
+mod first_moves;
+mod game_move;
 pub mod laws;
 mod listing;
-mod outlook;
 pub mod plain;
-mod search;
+mod position_status;
+mod status_of;
 
-pub use applied::apply;
-pub use choice::Move;
+pub use applying::apply;
 pub use count::count_moves;
-pub use judge::{first_catch, status};
+pub use game_move::Move;
 pub use listing::{moves, moves_into};
-pub use outlook::Status;
+pub use position_status::Status;
+pub use status_of::{first_catch, status};

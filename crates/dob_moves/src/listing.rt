@@ -3,12 +3,12 @@ ghost use Rattle.std.specs.Prelude.{◌≡◌, ◌++◌, IfOk, OnOk};
 ghost use Rattle.dob_pieces.specs.Masks.{AreMasks};
 ghost use Rattle.dob_moves.specs.Statuses.{HasStatus, AreMoves};
 ghost use Rattle.dob_moves.specs.Walks.{steps_by, steps_from, all_steps, drops_of, all_drops};
-ghost use Rattle.dob_moves.specs.declared.search.Aim.TheVariants.{Elsewhere};
+ghost use Rattle.dob_moves.specs.declared.first_moves.Aim.TheVariants.{Elsewhere};
 
-use crate::choice::Move;
-use crate::judge::status_by;
-use crate::outlook::Status;
-use crate::search::{grows_at, own_kind};
+use crate::first_moves::{grows_at, own_kind};
+use crate::game_move::Move;
+use crate::position_status::Status;
+use crate::status_of::status_by;
 use dob_pieces::{
     HandKind, Kind, Masks, Memory, Position, Setup, Square, lowest_square, without_square,
 };

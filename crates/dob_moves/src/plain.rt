@@ -4,12 +4,12 @@ ghost use Rattle.std.specs.Prelude.{◌↔◌, ◌≡◌, ◌++◌, IfOk, OnOk, 
 ghost use Rattle.dob_pieces.specs.Setups.{at, piece_of};
 ghost use Rattle.dob_moves.specs.Statuses.{AreMoves, CanCatch, HasTried, HasStatus, IsFirstCatch};
 ghost use Rattle.dob_moves.specs.Walks.{steps_by, steps_from, all_steps, put_on, drops_of, all_drops};
-ghost use Rattle.dob_moves.specs.declared.search.Aim.TheVariants.{Elsewhere};
+ghost use Rattle.dob_moves.specs.declared.first_moves.Aim.TheVariants.{Elsewhere};
 
-use crate::choice::Move;
-use crate::judge::finds_move;
-use crate::outlook::Status;
-use crate::search::{Aim, first_step, own_kind, put_on, step_by};
+use crate::first_moves::{Aim, first_step, own_kind, put_on, step_by};
+use crate::game_move::Move;
+use crate::position_status::Status;
+use crate::status_of::finds_move;
 use dob_pieces::{HandKind, Kind, Memory, Piece, Position, Setup, Side, Square};
 use std::alloc::Global;
 

@@ -1,7 +1,7 @@
 -- Values at odd and even distances: what cells count and know keeps its parity, and so do their values.
 use Rattle.std.proofs.Common.{◌≡◌, ℕ, ◌+◌, ◌-◌, ◌%◌, ◌<◌, ◌==◌, if◌then◌else◌, Bool, true, false, refl, sym, ◌∙◌, subst, arith, Option, None, Some, lit≤}
-use Rattle.dob_moves.specs.declared.outlook.Status.{Status}
-use Rattle.dob_moves.specs.declared.outlook.Status.TheVariants.{Caught, Tried, Stuck, Open}
+use Rattle.dob_moves.specs.declared.position_status.Status.{Status}
+use Rattle.dob_moves.specs.declared.position_status.Status.TheVariants.{Caught, Tried, Stuck, Open}
 use Rattle.dob_value.specs.declared.value.Value.{Value}
 use Rattle.dob_value.specs.declared.value.Value.TheVariants.{Win, Loss, Draw}
 use Rattle.dob_value.specs.declared.sweep.TheConstants.{MAX_DISTANCE}

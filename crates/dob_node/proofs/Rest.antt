@@ -7,9 +7,9 @@ use Rattle.dob_pieces.specs.declared.setup.Setup.{Setup}
 use Rattle.dob_pieces.specs.Lists.{each_below}
 use Rattle.dob_pieces.specs.Setups.{mirrored}
 use Rattle.dob_pieces.proofs.Symmetries.{mirrored-mirrored}
-use Rattle.dob_moves.specs.declared.choice.Move.{Move}
-use Rattle.dob_moves.specs.declared.outlook.Status.{Status}
-use Rattle.dob_moves.specs.declared.outlook.Status.TheVariants.{Caught, Tried, Stuck, Open}
+use Rattle.dob_moves.specs.declared.game_move.Move.{Move}
+use Rattle.dob_moves.specs.declared.position_status.Status.{Status}
+use Rattle.dob_moves.specs.declared.position_status.Status.TheVariants.{Caught, Tried, Stuck, Open}
 use Rattle.dob_moves.specs.Moves.{Goes}
 use Rattle.dob_moves.specs.Statuses.{HasStatus}
 use Rattle.dob_rank.specs.Order.{IsPositionOf, HasClasses}

@@ -7,8 +7,8 @@ use Rattle.std.proofs.lemmas.List.{append-nil}
 use Rattle.std.proofs.lemmas.List.Elements.{All-append, All-nil, All-cons}
 use Rattle.std.proofs.lemmas.Option.{slice_get-get_or}
 use Rattle.dob_pieces.specs.declared.piece_set.PieceSet.{PieceSet}
-use Rattle.dob_moves.specs.declared.outlook.Status.{Status}
-use Rattle.dob_moves.specs.declared.outlook.Status.TheVariants.{Caught, Tried, Stuck, Open}
+use Rattle.dob_moves.specs.declared.position_status.Status.{Status}
+use Rattle.dob_moves.specs.declared.position_status.Status.TheVariants.{Caught, Tried, Stuck, Open}
 use Rattle.dob_moves.specs.MoveLists.{moves_of}
 use Rattle.dob_moves.specs.Statuses.{HasStatus}
 use Rattle.dob_moves.proofs.Cases.{one_status}

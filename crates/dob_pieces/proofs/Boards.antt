@@ -16,7 +16,7 @@ use Rattle.dob_pieces.specs.declared.kind.Side.TheVariants.{Mover, Enemy}
 use Rattle.dob_pieces.specs.declared.kind.Piece.{Piece}
 use Rattle.dob_pieces.specs.declared.hand.Hands.{Hands}
 use Rattle.dob_pieces.specs.Pieces.{other_side, is_side, is_lion, leads}
-use Rattle.dob_pieces.specs.Setups.{Cell, at, held, holds_lion, holds_kind, total, HasLions, HasFewPieces, HasLionAtHome, IsLegal, piece_of, board_by, turned_cell, turned, mirrored}
+use Rattle.dob_pieces.specs.Setups.{Cell, at, held, holds_lion, holds_kind, total, HasLions, HasFewPieces, HasLionOffFarRow, IsLegal, piece_of, board_by, turned_cell, turned, mirrored}
 
 -- ---- boards made square by square
 
@@ -147,8 +147,8 @@ HasFewPieces-turned s e h kind = subst (λ (n : ℕ). n ≤ 2) (sym (total-turne
 mirrored_far : (k : ℕ) → 9 ≤ k → k < 12 → 9 ≤ mirrored_square k
 mirrored_far k low high = omega arith
 
-HasLionAtHome-mirrored : (s : Setup) → HasLionAtHome s → HasLionAtHome (mirrored s)
-HasLionAtHome-mirrored s h k low e =
+HasLionOffFarRow-mirrored : (s : Setup) → HasLionOffFarRow s → HasLionOffFarRow (mirrored s)
+HasLionOffFarRow-mirrored s h k low e =
     ⊎_elim
     (λ (lt : k < 12). h (mirrored_square k) (mirrored_far k low lt) (sym (at-mirrored s k lt) ∙ e))
     (λ (le : 12 ≤ k). let past : at (mirrored s) k ≡ None = get_or_past (mirrored s).board k None (rw length-mirrored le) in cc)
@@ -160,7 +160,7 @@ IsLegal-mirrored s h = record {
   squares = length-mirrored s;
   lions = λ side. lions-mirrored side s h.squares ∙ h.lions side;
   few = λ kind. subst (λ (n : ℕ). n ≤ 2) (sym (total-mirrored kind s h.squares)) (h.few kind);
-  home = HasLionAtHome-mirrored s h.home;
+  home = HasLionOffFarRow-mirrored s h.home;
 }
 
 -- ---- cells read and written

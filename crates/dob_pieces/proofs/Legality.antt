@@ -10,7 +10,7 @@ use Rattle.dob_pieces.specs.declared.kind.Kind.TheVariants.{Lion, Giraffe, Eleph
 use Rattle.dob_pieces.specs.declared.kind.Side.{Side}
 use Rattle.dob_pieces.specs.declared.kind.Side.TheVariants.{Mover, Enemy}
 use Rattle.dob_pieces.specs.declared.setup.Setup.{Setup}
-use Rattle.dob_pieces.specs.Setups.{Cell, at, piece_of, holds_lion, HasLions, HasLionAtHome}
+use Rattle.dob_pieces.specs.Setups.{Cell, at, piece_of, holds_lion, HasLions, HasLionOffFarRow}
 use Rattle.dob_pieces.proofs.Boards.{within-from_piece}
 
 -- one lion of the mover and one of the enemy
@@ -32,8 +32,8 @@ mover_lion (Some piece) h = mover_lion_piece piece.side piece.kind h
     mover_lion_piece Enemy kind h = cc
 
 -- no square of row 4 has the mover's lion
-pub HasLionAtHome-from_test : (s : Setup) → list_any (holds_lion Mover) (drop 9 s.board) ≡ false → HasLionAtHome s
-HasLionAtHome-from_test s h k low e =
+pub HasLionOffFarRow-from_test : (s : Setup) → list_any (holds_lion Mover) (drop 9 s.board) ≡ false → HasLionOffFarRow s
+HasLionOffFarRow-from_test s h k low e =
     let within : k < length s.board = within-from_piece s k _ e in
     let far : slice_index_or (drop 9 s.board) (k - 9) None ≡ at s (9 + (k - 9)) = get_or-drop 9 s.board (k - 9) None in
     let same : 9 + (k - 9) ≡ k = omega arith in
@@ -42,8 +42,8 @@ HasLionAtHome-from_test s h k low e =
     both_ways (list_any (holds_lion Mover) (drop 9 s.board)) h (list_any_at (holds_lion Mover) (drop 9 s.board) (k - 9) None there found)
 
 -- so the test fails where a square of row 4 has it
-pub test-from_HasLionAtHome : (s : Setup) → HasLionAtHome s → list_any (holds_lion Mover) (drop 9 s.board) ≡ false
-test-from_HasLionAtHome s home =
+pub test-from_HasLionOffFarRow : (s : Setup) → HasLionOffFarRow s → list_any (holds_lion Mover) (drop 9 s.board) ≡ false
+test-from_HasLionOffFarRow s home =
     false_from_ne_true _ (λ (h : list_any (holds_lion Mover) (drop 9 s.board) ≡ true).
     let some : Any (λ x. holds_lion Mover x ≡ true) (drop 9 s.board) = Any-from_list_any (holds_lion Mover) (drop 9 s.board) h in
     home (9 + some.0) (omega arith)

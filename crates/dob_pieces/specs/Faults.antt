@@ -3,14 +3,14 @@ use Rattle.std.specs.Prelude.{ℕ, List, Option, Some, None, codes}
 use Rattle.dob_pieces.specs.declared.fault.PositionFault.{PositionFault}
 use Rattle.dob_pieces.specs.declared.fault.PositionFault.TheVariants.{Lions, Count, FarLion}
 use Rattle.dob_pieces.specs.declared.setup.Setup.{Setup}
-use Rattle.dob_pieces.specs.Setups.{HasLions, HasFewPieces, HasLionAtHome, IsLegal}
+use Rattle.dob_pieces.specs.Setups.{HasLions, HasFewPieces, HasLionOffFarRow, IsLegal}
 
 -- the test that the fault names fails, and those before it hold; without a fault all hold
 abbrev pub HasFault : Setup → Option PositionFault → Type 0
 HasFault setup None = IsLegal setup
 HasFault setup (Some Lions) = ¬ HasLions setup
 HasFault setup (Some Count) = HasLions setup × ¬ HasFewPieces setup
-HasFault setup (Some FarLion) = HasLions setup × HasFewPieces setup × ¬ HasLionAtHome setup
+HasFault setup (Some FarLion) = HasLions setup × HasFewPieces setup × ¬ HasLionOffFarRow setup
 
 -- what is printed of it
 abbrev pub fault_text : PositionFault → List ℕ

@@ -67,15 +67,15 @@ abbrev pub HasFewPieces : Setup → Type 0
 HasFewPieces setup = (kind : HandKind) → total kind setup ≤ 2
 
 -- the mover's lion isn't on row 4
-abbrev pub HasLionAtHome : Setup → Type 0
-HasLionAtHome setup = (square : ℕ) → 9 ≤ square → at setup square ≢ Some (piece_of Mover Lion)
+abbrev pub HasLionOffFarRow : Setup → Type 0
+HasLionOffFarRow setup = (square : ℕ) → 9 ≤ square → at setup square ≢ Some (piece_of Mover Lion)
 
 -- A position: twelve squares, one lion a side, at most two pieces of a kind, and the mover's lion not on its far row.
 pub record IsLegal (setup : Setup) : Type 0 where
   pub squares : length setup.board ≡ 12
   pub lions : HasLions setup
   pub few : HasFewPieces setup
-  pub home : HasLionAtHome setup
+  pub home : HasLionOffFarRow setup
 
 -- the board on which f says what stands on each square
 abbrev pub board_by : (ℕ → Cell) → List Cell

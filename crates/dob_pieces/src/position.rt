@@ -1,6 +1,6 @@
 // Positions, which are legal by their type.
 ghost use Rattle.std.specs.Prelude.{◌≡◌, ◌↔◌, IsOk, IfOk, IsErrOf};
-ghost use Rattle.dob_pieces.specs.Setups.{IsLegal, HasLions, HasFewPieces, HasLionAtHome, total, setup_of, turned, mirrored};
+ghost use Rattle.dob_pieces.specs.Setups.{IsLegal, HasLions, HasFewPieces, HasLionOffFarRow, total, setup_of, turned, mirrored};
 
 use crate::fault::PositionFault;
 use crate::hand::Hands;
@@ -38,7 +38,7 @@ impl Position {
         ensures lions { IsErrOf result PositionFault.Lions ↔ (¬ HasLions (setup_of board hands)) }
         ensures count { IsErrOf result PositionFault.Count ↔ (HasLions (setup_of board hands) × ¬ HasFewPieces (setup_of board hands)) }
         ensures far_lion { IsErrOf result PositionFault.FarLion
-            ↔ (HasLions (setup_of board hands) × HasFewPieces (setup_of board hands) × ¬ HasLionAtHome (setup_of board hands)) }
+            ↔ (HasLions (setup_of board hands) × HasFewPieces (setup_of board hands) × ¬ HasLionOffFarRow (setup_of board hands)) }
     {
         let setup = Setup { board, hands };
         match setup.fault() {

@@ -2,7 +2,7 @@
 ghost use Rattle.std.specs.Prelude.{◌≡◌, ◌↔◌, IsTrue, count_by};
 ghost use Rattle.std.specs.List.{list_any};
 ghost use Rattle.dob_pieces.specs.Faults.{HasFault};
-ghost use Rattle.dob_pieces.specs.Setups.{at, turned_cell, turned, mirrored, holds_lion, holds_kind, total, HasLions, HasFewPieces, HasLionAtHome, IsLegal};
+ghost use Rattle.dob_pieces.specs.Setups.{at, turned_cell, turned, mirrored, holds_lion, holds_kind, total, HasLions, HasFewPieces, HasLionOffFarRow, IsLegal};
 
 use crate::fault::PositionFault;
 use crate::hand::Hands;
@@ -72,7 +72,7 @@ impl Setup {
             Some(PositionFault::Lions)
         } else if !self.has_few_pieces() {
             Some(PositionFault::Count)
-        } else if !self.has_lion_at_home() {
+        } else if !self.has_lion_off_far_row() {
             Some(PositionFault::FarLion)
         } else {
             None
@@ -96,10 +96,10 @@ impl Setup {
     }
 
     /// Whether the mover's lion isn't on row 4.
-    pub fn has_lion_at_home(&self) -> bool
-        ensures { IsTrue result ↔ HasLionAtHome self.now }
+    pub fn has_lion_off_far_row(&self) -> bool
+        ensures { IsTrue result ↔ HasLionOffFarRow self.now }
     {
-        !has_mover_lion(&self.board[Square::FAR_ROW..])
+        !has_mover_lion(&self.board[Square::FIRST_OF_FAR_ROW..])
     }
 
     // How many lions of the side stand on the board.

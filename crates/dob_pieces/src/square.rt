@@ -27,7 +27,7 @@ impl Square {
     pub const COUNT: usize = 12;
 
     // The number of a4, the first square of row 4.
-    pub(crate) const FAR_ROW: usize = 9;
+    pub(crate) const FIRST_OF_FAR_ROW: usize = 9;
 
     /// The square of that number, which is below 12.
     pub fn new(index: usize) -> Square

@@ -1,7 +1,7 @@
 -- Laws of lines, of which `src/laws.rt` has one function each.
 use Rattle.std.specs.Prelude.{◌≡◌, ℕ, List}
 use Rattle.dob_pieces.specs.declared.setup.Setup.{Setup}
-use Rattle.dob_moves.specs.declared.choice.Move.{Move}
+use Rattle.dob_moves.specs.declared.game_move.Move.{Move}
 use Rattle.dob_rank.specs.Order.{IsPositionOf}
 use Rattle.dob_value.specs.Values.{HasValue}
 use Rattle.dob_value.specs.Follows.{ClassTable, IsValueTable}

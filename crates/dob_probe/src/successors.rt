@@ -4,7 +4,7 @@ ghost use Rattle.std.specs.Prelude.{◌≡◌, ◌++◌, List, [], ◌∷◌, If
 ghost use Rattle.dob_pieces.specs.declared.setup.Setup.{Setup};
 ghost use Rattle.dob_moves.specs.Moves.{Goes, CanGo};
 ghost use Rattle.dob_moves.specs.Statuses.{HasStatus};
-ghost use Rattle.dob_moves.specs.declared.outlook.Status.{Status};
+ghost use Rattle.dob_moves.specs.declared.position_status.Status.{Status};
 ghost use Rattle.dob_rank.specs.Order.{IsPositionOf};
 ghost use Rattle.dob_value.specs.declared.value.Value.{Value as Valued};
 ghost use Rattle.dob_value.specs.Graphs.{AreSuccessors};

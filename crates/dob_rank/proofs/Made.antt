@@ -7,7 +7,7 @@ use Rattle.dob_pieces.specs.declared.kind.HandKind.TheVariants as hand
 use Rattle.dob_pieces.specs.declared.kind.Side.TheVariants.{Mover, Enemy}
 use Rattle.dob_pieces.specs.declared.piece_set.PieceSet.{PieceSet}
 use Rattle.dob_pieces.specs.declared.setup.Setup.{Setup}
-use Rattle.dob_pieces.specs.Setups.{Cell, holds_lion, holds_kind, total, HasLions, HasLionAtHome}
+use Rattle.dob_pieces.specs.Setups.{Cell, holds_lion, holds_kind, total, HasLions, HasLionOffFarRow}
 use Rattle.dob_rank.specs.Order.{IsPositionOf, pieces_of}
 use Rattle.dob_rank.specs.Numbers.{layer, count, count_from, choose, choice, settle, HasDigits, base_of, forms_number, board_of, bases, block_bases, on_board, digits, numbers_by, setup_by}
 use Rattle.dob_rank.proofs.Settled.{hide, hide-hide, AreLayers, AreShown, IsSettled, settle-settles, choice_hide_next, count_hide_next}
@@ -137,7 +137,7 @@ few_of set hand.Chick = set.few_chicks
 few_of set hand.Elephant = set.few_elephants
 few_of set hand.Giraffe = set.few_giraffes
 
-made_home : (set : PieceSet) (i j k n0 n1 n2 n3 n4 : ℕ) (ls : List ℕ) (s : Setup) → IsMade set i j k n0 n1 n2 n3 n4 ls s → HasLionAtHome s
+made_home : (set : PieceSet) (i j k n0 n1 n2 n3 n4 : ℕ) (ls : List ℕ) (s : Setup) → IsMade set i j k n0 n1 n2 n3 n4 ls s → HasLionOffFarRow s
 made_home set i j k n0 n1 n2 n3 n4 ls s m square le e =
     let here : get_or ls square 5 ≡ 0 = ap (λ (x : List ℕ). get_or x square 5) (sym m.layers_are) ∙ layer-at s.board square ∙ ap layer e in
     let only : square ≡ choice 0 ls = lion_only ls square m.chosen_are.own_lion here in

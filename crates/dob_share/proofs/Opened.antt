@@ -9,8 +9,8 @@ use Rattle.dob_share.specs.Cells.{SameCell, fresh}
 use Rattle.dob_share.specs.Pools.{vacant, tally, moves_of, moves_at, wins_in}
 use Rattle.dob_share.specs.Slots.{beyond, slot_at, start_at, room_at, least_of, cell_in, IsShortCell, ArePooled}
 use Rattle.std.proofs.Common.{add-one}
-use Rattle.dob_moves.specs.declared.outlook.Status.{Status}
-use Rattle.dob_moves.specs.declared.outlook.Status.TheVariants.{Caught, Tried, Stuck, Open}
+use Rattle.dob_moves.specs.declared.position_status.Status.{Status}
+use Rattle.dob_moves.specs.declared.position_status.Status.TheVariants.{Caught, Tried, Stuck, Open}
 use Rattle.dob_share.specs.Openings.{opening_of, AreOpened, settles, settled_among}
 use Rattle.dob_share.proofs.Keeping.{cell_is, same_short}
 

@@ -5,7 +5,7 @@ use Rattle.std.proofs.lemmas.Bool.{cases_lt}
 use Rattle.dob_pieces.specs.declared.kind.HandKind.TheVariants as kind
 use Rattle.dob_pieces.specs.declared.setup.Setup.{Setup}
 use Rattle.dob_pieces.specs.declared.position.Position.{Position}
-use Rattle.dob_pieces.specs.Setups.{total, HasLions, HasFewPieces, HasLionAtHome, IsLegal}
+use Rattle.dob_pieces.specs.Setups.{total, HasLions, HasFewPieces, HasLionOffFarRow, IsLegal}
 use Rattle.dob_text.specs.declared.fault.TextFault.{TextFault}
 use Rattle.dob_text.specs.declared.fault.TextFault.TheVariants as fault
 use Rattle.dob_text.specs.PositionText.{Spells, text_of}
@@ -77,7 +77,7 @@ no_fault text setup fault.Letter legal spells x = x.1 (spelled_letters text setu
 no_fault text setup fault.Hand legal spells x = x.2 (spelled_hands text setup spells)
 no_fault text setup fault.Lions legal spells x = x.2 (subst (λ (s : Setup). HasLions s) (same_spelled text setup x.0 spells x.1) legal.lions)
 no_fault text setup fault.Count legal spells x = x.3 (subst (λ (s : Setup). HasFewPieces s) (same_spelled text setup x.0 spells x.1) legal.few)
-no_fault text setup fault.FarLion legal spells x = x.4 (subst (λ (s : Setup). HasLionAtHome s) (same_spelled text setup x.0 spells x.1) legal.home)
+no_fault text setup fault.FarLion legal spells x = x.4 (subst (λ (s : Setup). HasLionOffFarRow s) (same_spelled text setup x.0 spells x.1) legal.home)
 
 -- what reading gives: the position that the text spells, or its fault
 abbrev pub Reads : List ℕ → Result Position TextFault → Type 0

@@ -3,7 +3,7 @@ use Rattle.std.specs.Prelude.{ℕ, List, Some, codes}
 use Rattle.dob_pieces.specs.declared.setup.Setup.{Setup}
 use Rattle.dob_pieces.specs.declared.fault.PositionFault.TheVariants as position_fault
 use Rattle.dob_pieces.specs.Faults as position
-use Rattle.dob_pieces.specs.Setups.{HasLions, HasFewPieces, HasLionAtHome}
+use Rattle.dob_pieces.specs.Setups.{HasLions, HasFewPieces, HasLionOffFarRow}
 use Rattle.dob_text.specs.declared.fault.TextFault.{TextFault}
 use Rattle.dob_text.specs.declared.fault.TextFault.TheVariants.{Shape, Letter, Hand, Lions, Count, FarLion}
 use Rattle.dob_text.specs.PositionText.{HasShape, HasLetters, HasHands, Spells}
@@ -24,7 +24,7 @@ HasFault text Letter = HasShape text × ¬ HasLetters text
 HasFault text Hand = HasShape text × HasLetters text × ¬ HasHands text
 HasFault text Lions = (setup : Setup) × Spells text setup × ¬ HasLions setup
 HasFault text Count = (setup : Setup) × Spells text setup × HasLions setup × ¬ HasFewPieces setup
-HasFault text FarLion = (setup : Setup) × Spells text setup × HasLions setup × HasFewPieces setup × ¬ HasLionAtHome setup
+HasFault text FarLion = (setup : Setup) × Spells text setup × HasLions setup × HasFewPieces setup × ¬ HasLionOffFarRow setup
 
 -- why the setup that a text spells is no position
 abbrev pub IsRefused : Setup → TextFault → Type 0

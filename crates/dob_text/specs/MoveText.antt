@@ -5,8 +5,8 @@ use Rattle.dob_pieces.specs.declared.kind.Side.TheVariants.{Mover, Enemy}
 use Rattle.dob_pieces.specs.Bytes.{asterisk, digit_one, hyphen, lower_a, lower_x, plus_sign}
 use Rattle.dob_pieces.specs.Squares.{column, row, turned_square}
 use Rattle.dob_pieces.specs.Pieces.{kind_on_board}
-use Rattle.dob_moves.specs.declared.choice.Move.{Move}
-use Rattle.dob_moves.specs.declared.choice.Move.TheVariants.{Step, Put}
+use Rattle.dob_moves.specs.declared.game_move.Move.{Move}
+use Rattle.dob_moves.specs.declared.game_move.Move.TheVariants.{Step, Put}
 use Rattle.dob_text.specs.Letters.{letter_of_kind, cased}
 
 -- the side of whoever moves, seen from the side to move in the first position of a line

@@ -11,8 +11,8 @@ use Rattle.dob_pieces.specs.Setups.{turned, mirrored}
 use Rattle.dob_pieces.proofs.Lists.{cons_cases}
 pub use Rattle.dob_rank.proofs.Counted.{pairs-head, pairs-tail}
 use Rattle.dob_pieces.proofs.Boards.{length-turned, length-mirrored}
-use Rattle.dob_moves.specs.declared.choice.Move.{Move}
-use Rattle.dob_moves.specs.declared.outlook.Status.TheVariants.{Open}
+use Rattle.dob_moves.specs.declared.game_move.Move.{Move}
+use Rattle.dob_moves.specs.declared.position_status.Status.TheVariants.{Open}
 use Rattle.dob_moves.specs.Moves.{Goes}
 use Rattle.dob_moves.specs.Statuses.{HasStatus}
 use Rattle.dob_moves.proofs.Outcomes.{Goes-is}

@@ -9,11 +9,11 @@ use Rattle.dob_pieces.specs.declared.piece_set.PieceSet.{PieceSet}
 use Rattle.dob_pieces.specs.declared.setup.Setup.{Setup}
 use Rattle.dob_pieces.specs.Setups.{turned}
 use Rattle.dob_pieces.proofs.Lists.{none_in_empty, head_in, cons_cases}
-use Rattle.dob_moves.specs.declared.choice.Move.{Move}
+use Rattle.dob_moves.specs.declared.game_move.Move.{Move}
 use Rattle.dob_moves.specs.Moves.{Goes, place}
 use Rattle.dob_moves.specs.MoveLists.{moves_of}
 use Rattle.dob_moves.specs.Outcomes.{moved}
-use Rattle.dob_moves.specs.declared.outlook.Status.TheVariants.{Open}
+use Rattle.dob_moves.specs.declared.position_status.Status.TheVariants.{Open}
 use Rattle.dob_moves.specs.Statuses.{HasStatus, AreMoves}
 use Rattle.dob_moves.proofs.MoveLists.{AreMoves-moves_of}
 use Rattle.dob_moves.proofs.Outcomes.{Goes-is, Goes-moved, IsLegal-Goes, total-Goes}

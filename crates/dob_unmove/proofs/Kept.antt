@@ -8,7 +8,7 @@ use Rattle.dob_pieces.specs.declared.kind.Side.{Side}
 use Rattle.dob_pieces.specs.declared.kind.Side.TheVariants.{Mover, Enemy}
 use Rattle.dob_pieces.specs.declared.setup.Setup.{Setup}
 use Rattle.dob_pieces.specs.Pieces.{other_side}
-use Rattle.dob_pieces.specs.Setups.{holds_lion, HasLions, HasFewPieces, HasLionAtHome, IsLegal, total, turned, mirrored}
+use Rattle.dob_pieces.specs.Setups.{holds_lion, HasLions, HasFewPieces, HasLionOffFarRow, IsLegal, total, turned, mirrored}
 use Rattle.dob_pieces.proofs.Boards.{length-turned, HasFewPieces-turned}
 use Rattle.dob_pieces.proofs.Symmetries.{turned-turned}
 use Rattle.dob_moves.proofs.Outcomes.{total-Goes, lions-Goes}
@@ -39,7 +39,7 @@ module _ (q : Setup) (u : Undo) (twelve : length q.board ≡ 12) (can : CanUndo 
   HasLions-earlier lions Mover = sym (lions-earlier Enemy) ∙ lions Enemy
   HasLions-earlier lions Enemy = sym (lions-earlier Mover) ∙ lions Mover
 
-  IsLegal-earlier : IsLegal q → HasLionAtHome (earlier (turned q) u) → IsLegal (earlier (turned q) u)
+  IsLegal-earlier : IsLegal q → HasLionOffFarRow (earlier (turned q) u) → IsLegal (earlier (turned q) u)
   IsLegal-earlier legal home = record {
     squares = squares-earlier;
     lions = HasLions-earlier legal.lions;
@@ -48,11 +48,11 @@ module _ (q : Setup) (u : Undo) (twelve : length q.board ≡ 12) (can : CanUndo 
   }
 
 -- what stood before a move that led to a position is one too, unless the mover's lion stood on row 4
-pub legal_before : (after s : Setup) (u : Undo) → CanUndo after u → IsTurned IsLegal after → s ≡ earlier after u → HasLionAtHome s → IsLegal s
+pub legal_before : (after s : Setup) (u : Undo) → CanUndo after u → IsTurned IsLegal after → s ≡ earlier after u → HasLionOffFarRow s → IsLegal s
 legal_before after s u can t e home =
     let before : s ≡ earlier (turned t.0) u = e ∙ ap (λ (x : Setup). earlier x u) t.2 in
     subst IsLegal (sym before)
-    (IsLegal-earlier t.0 u t.1.squares (subst (λ (x : Setup). CanUndo x u) t.2 can) t.1 (subst HasLionAtHome before home))
+    (IsLegal-earlier t.0 u t.1.squares (subst (λ (x : Setup). CanUndo x u) t.2 can) t.1 (subst HasLionOffFarRow before home))
 
 -- and it has the same pieces
 pub position_before : (set : PieceSet) (after p : Setup) (u : Undo) → CanUndo after u → IsTurned (IsPositionOf set) after → p ≡ earlier after u → IsLegal p → IsPositionOf set p

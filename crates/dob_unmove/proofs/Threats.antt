@@ -19,9 +19,9 @@ use Rattle.dob_pieces.specs.declared.setup.Setup.{Setup}
 use Rattle.dob_pieces.specs.Pieces.{leads, other_side, is_side, is_lion, kind_in_hand, kind_on_board}
 use Rattle.dob_pieces.specs.Setups.{Cell, at, piece_of, holds_lion, HasLions, IsLegal, turned, turned_cell}
 use Rattle.dob_pieces.proofs.Boards.{length-turned, at-turned, HasLions-turned, one_lion, within-from_piece, leads-to_board, leads-apart}
-use Rattle.dob_moves.specs.declared.choice.Move.TheVariants.{Step, Put}
+use Rattle.dob_moves.specs.declared.game_move.Move.TheVariants.{Step, Put}
 use Rattle.dob_moves.specs.Moves.{grows_at, CatchesLion, Goes, CanGo}
-use Rattle.dob_moves.specs.declared.outlook.Status.TheVariants.{Open}
+use Rattle.dob_moves.specs.declared.position_status.Status.TheVariants.{Open}
 use Rattle.dob_moves.specs.Statuses.{CanCatch, HasTried, HasStatus}
 use Rattle.dob_unmove.specs.declared.attackers.Attackers.{Attackers}
 use Rattle.dob_unmove.specs.declared.attackers.Attackers.TheVariants.{Nobody, One, Several}

@@ -14,8 +14,8 @@ use Rattle.dob_pieces.specs.Pieces.{leads, kind_in_hand, kind_on_board}
 use Rattle.dob_pieces.specs.Setups.{Cell, at, held, piece_of, turned, with_one_more, with_one_less}
 use Rattle.dob_pieces.proofs.Boards.{length-turned, within-from_piece, leads-to_board, leads-apart}
 use Rattle.dob_pieces.proofs.Symmetries.{turned-turned}
-use Rattle.dob_moves.specs.declared.choice.Move.{Move}
-use Rattle.dob_moves.specs.declared.choice.Move.TheVariants.{Step, Put}
+use Rattle.dob_moves.specs.declared.game_move.Move.{Move}
+use Rattle.dob_moves.specs.declared.game_move.Move.TheVariants.{Step, Put}
 use Rattle.dob_moves.specs.Moves.{Goes, Steps, Drops, CanTake, hands_after_catch, grows_at}
 use Rattle.dob_unmove.specs.declared.undo.Undo.{Undo}
 use Rattle.dob_unmove.specs.declared.undo.Undo.TheVariants.{Unstep, Unput}

@@ -4,7 +4,7 @@ use Rattle.dob_pieces.specs.declared.piece_set.PieceSet.{PieceSet}
 use Rattle.dob_pieces.specs.declared.setup.Setup.{Setup}
 use Rattle.dob_pieces.specs.Lists.{each_below}
 use Rattle.dob_pieces.specs.Setups.{turned}
-use Rattle.dob_moves.specs.declared.choice.Move.{Move}
+use Rattle.dob_moves.specs.declared.game_move.Move.{Move}
 use Rattle.dob_moves.specs.Outcomes.{moved}
 use Rattle.dob_moves.specs.MoveLists.{moves_of}
 use Rattle.dob_rank.specs.ClassRows.{class_setup}

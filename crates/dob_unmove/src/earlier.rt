@@ -2,7 +2,7 @@
 ghost use Rattle.std.specs.Prelude.{◌≡◌, MatchOption};
 ghost use Rattle.dob_pieces.specs.Setups.{HasFewPieces, IsLegal};
 ghost use Rattle.dob_moves.specs.Statuses.{HasStatus};
-ghost use Rattle.dob_moves.specs.declared.outlook.Status.TheVariants.{Open};
+ghost use Rattle.dob_moves.specs.declared.position_status.Status.TheVariants.{Open};
 ghost use Rattle.dob_unmove.specs.Undoes.{CanGiveBack, CanUndo, without_caught, enemy_cell, earlier};
 ghost use Rattle.dob_unmove.specs.Unmoves.{IsOpenPosition};
 ghost use Rattle.dob_unmove.specs.Classes.{IsTurned};
@@ -20,7 +20,7 @@ pub(crate) fn open_before(after: &Setup, undo: Undo) -> Option<Position>
     ensures { MatchOption result (¬ IsOpenPosition (earlier after.now undo)) (λ p. (p.setup ≡ earlier after.now undo) × HasStatus p.setup Open) }
 {
     let setup = earlier(after, undo);
-    if setup.has_lion_at_home() {
+    if setup.has_lion_off_far_row() {
         Some(Position::new(setup))
     } else {
         None

@@ -1,7 +1,7 @@
 -- Won and lost positions at different depths.
 use Rattle.std.proofs.Common.{◌≡◌, ℕ, zero, suc, ◌+◌, ◌-◌, ◌≤◌, inl, inr, refl, subst, ap, arith}
 use Rattle.dob_pieces.specs.declared.setup.Setup.{Setup}
-use Rattle.dob_moves.specs.declared.outlook.Status.TheVariants.{Caught, Open}
+use Rattle.dob_moves.specs.declared.position_status.Status.TheVariants.{Caught, Open}
 use Rattle.dob_moves.specs.Statuses.{HasStatus}
 use Rattle.dob_value.specs.declared.value.Value.TheVariants.{Win, Loss, Draw}
 use Rattle.dob_value.specs.Values.{HasLost, Won, Lost}

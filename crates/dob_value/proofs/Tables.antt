@@ -6,8 +6,8 @@ use Rattle.std.proofs.lemmas.Bool.{cases_lt, cases_eq, cases_order, leb-true, le
 use Rattle.dob_pieces.specs.declared.piece_set.PieceSet.{PieceSet}
 use Rattle.dob_pieces.specs.declared.setup.Setup.{Setup}
 use Rattle.dob_rank.specs.Marks.{classes_of}
-use Rattle.dob_moves.specs.declared.outlook.Status.{Status}
-use Rattle.dob_moves.specs.declared.outlook.Status.TheVariants.{Caught, Tried, Stuck, Open}
+use Rattle.dob_moves.specs.declared.position_status.Status.{Status}
+use Rattle.dob_moves.specs.declared.position_status.Status.TheVariants.{Caught, Tried, Stuck, Open}
 use Rattle.dob_moves.specs.Statuses.{HasStatus}
 use Rattle.dob_value.specs.declared.value.Value.{Value}
 use Rattle.dob_value.specs.declared.value.Value.TheVariants.{Win, Loss, Draw}

@@ -1,8 +1,8 @@
 -- The squares of the mask are gone over from the lowest on, and the others give nothing.
 use Rattle.std.proofs.Common.{rules, ◌≡◌, ◌∷◌, [], ◌++◌, ◌<◌, ℕ, true, List, sym, ap, ◌∙◌, arith}
-use Rattle.dob_moves.specs.declared.choice.Move.{Move}
-use Rattle.dob_moves.specs.declared.choice.Move.TheVariants.{Step}
-use Rattle.dob_moves.specs.declared.search.Aim.TheVariants.{Elsewhere}
+use Rattle.dob_moves.specs.declared.game_move.Move.{Move}
+use Rattle.dob_moves.specs.declared.game_move.Move.TheVariants.{Step}
+use Rattle.dob_moves.specs.declared.first_moves.Aim.TheVariants.{Elsewhere}
 use Rattle.std.specs.Option.{is_some}
 use Rattle.dob_pieces.specs.Setups.{at}
 use Rattle.dob_moves.specs.Moves.{grows_at}

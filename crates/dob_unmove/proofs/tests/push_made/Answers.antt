@@ -2,9 +2,9 @@
 use Rattle.std.proofs.Common.{◌≡◌, ℕ, ◌<◌, sym, subst, List, length, get_or, Contains}
 use Rattle.std.proofs.lemmas.List.Elements.{Contains-get_or}
 use Rattle.dob_pieces.specs.declared.setup.Setup.{Setup}
-use Rattle.dob_moves.specs.declared.choice.Move.{Move}
+use Rattle.dob_moves.specs.declared.game_move.Move.{Move}
 use Rattle.dob_moves.specs.Moves.{CanGo}
-use Rattle.dob_moves.specs.declared.outlook.Status.TheVariants.{Open}
+use Rattle.dob_moves.specs.declared.position_status.Status.TheVariants.{Open}
 use Rattle.dob_moves.specs.Statuses.{HasStatus, AreMoves}
 use Rattle.dob_unmove.proofs.tests.push_made.Goals as goal
 

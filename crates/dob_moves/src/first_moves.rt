@@ -3,7 +3,7 @@ ghost use Rattle.std.specs.Prelude.{◌≡◌};
 ghost use Rattle.dob_moves.specs.Moves.{grows_at};
 ghost use Rattle.dob_moves.specs.Walks.{first, own_kind, may_end, step_onto, step_by, steps_by, steps_from, all_steps, put_on, drops_of, all_drops};
 
-use crate::choice::Move;
+use crate::game_move::Move;
 use dob_pieces::{HandKind, Kind, Piece, Setup, Side, Square, Step};
 
 /// Where a step is to end.

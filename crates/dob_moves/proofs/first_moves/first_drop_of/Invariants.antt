@@ -2,7 +2,7 @@
 use Rattle.std.proofs.Common.{◌≡◌, None, option_to_list}
 use Rattle.dob_pieces.specs.Lists.{each_below}
 use Rattle.dob_moves.specs.Walks.{first, put_on}
-use Rattle.dob_moves.proofs.search.first_drop_of.Given as goal
+use Rattle.dob_moves.proofs.first_moves.first_drop_of.Given as goal
 
 abbrev pub invariant-loop-index : goal.invariant-loop-index
 invariant-loop-index l = first (each_below (λ to. option_to_list (put_on l.setup l.kind to)) l.index) ≡ None

@@ -1,12 +1,12 @@
 // What a move leads to.
 ghost use Rattle.std.specs.Prelude.{◌≡◌, ◌<◌};
 ghost use Rattle.dob_pieces.specs.Setups.{at, held};
-ghost use Rattle.dob_moves.specs.declared.outlook.Status.{Status};
+ghost use Rattle.dob_moves.specs.declared.position_status.Status.{Status};
 ghost use Rattle.dob_moves.specs.Moves.{Goes, CanGo};
 ghost use Rattle.dob_moves.specs.Statuses.{HasStatus};
 ghost use Rattle.dob_moves.specs.Outcomes.{arrives_as, with_caught, stepped, dropped, moved};
 
-use crate::choice::Move;
+use crate::game_move::Move;
 use dob_pieces::{Hand, HandKind, Hands, Kind, Piece, Position, Setup, Side, Square};
 
 /// The position that a move leads to, seen from the side that moves next. The position must be open and the move

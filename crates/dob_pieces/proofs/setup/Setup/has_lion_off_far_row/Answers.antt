@@ -3,14 +3,14 @@ use Rattle.std.specs.List.{list_any}
 use Rattle.std.proofs.lemmas.Bool.{not-true, not_from_false}
 use Rattle.dob_pieces.specs.declared.kind.Side.TheVariants.{Mover}
 use Rattle.dob_pieces.specs.Setups.{holds_lion}
-use Rattle.dob_pieces.proofs.Legality.{HasLionAtHome-from_test, test-from_HasLionAtHome, far_row}
-use Rattle.dob_pieces.proofs.setup.Setup.has_lion_at_home.Goals as goal
+use Rattle.dob_pieces.proofs.Legality.{HasLionOffFarRow-from_test, test-from_HasLionOffFarRow, far_row}
+use Rattle.dob_pieces.proofs.setup.Setup.has_lion_off_far_row.Goals as goal
 
 pub returns : goal.returns
 returns c =
     let squares : length c.args.self.now.board ≡ 12 = search rules in
     let answer : c.has_mover_lion.result ≡ list_any (holds_lion Mover) (drop 9 c.args.self.now.board)
     = c.has_mover_lion.ensures ∙ ap (list_any (holds_lion Mover)) (far_row c.args.self.now.board squares) in (
-      λ t. HasLionAtHome-from_test c.args.self.now (sym answer ∙ not-true _ t),
-      λ h. not_from_false _ (answer ∙ test-from_HasLionAtHome c.args.self.now h),
+      λ t. HasLionOffFarRow-from_test c.args.self.now (sym answer ∙ not-true _ t),
+      λ h. not_from_false _ (answer ∙ test-from_HasLionOffFarRow c.args.self.now h),
     )

@@ -2,7 +2,7 @@
 use Rattle.std.proofs.Common.{◌≡◌, drop}
 use Rattle.std.specs.List.{filter_map}
 use Rattle.dob_moves.specs.Walks.{first, step_by}
-use Rattle.dob_moves.proofs.search.first_step_by.Given as goal
+use Rattle.dob_moves.proofs.first_moves.first_step_by.Given as goal
 
 abbrev pub invariant-loop-step : goal.invariant-loop-step
 invariant-loop-step l =

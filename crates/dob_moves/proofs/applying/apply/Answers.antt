@@ -5,7 +5,7 @@ use Rattle.dob_pieces.specs.Setups.{IsLegal, turned}
 use Rattle.dob_moves.specs.Moves.{Goes}
 use Rattle.dob_moves.specs.Outcomes.{moved}
 use Rattle.dob_moves.proofs.Outcomes.{Goes-moved, IsLegal-Goes}
-use Rattle.dob_moves.proofs.applied.apply.Goals as goal
+use Rattle.dob_moves.proofs.applying.apply.Goals as goal
 
 pub new-requires : goal.new-requires
 new-requires c =

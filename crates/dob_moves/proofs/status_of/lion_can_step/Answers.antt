@@ -2,7 +2,7 @@
 use Rattle.std.proofs.lemmas.Bool.{not-true, eqb-false}
 use Rattle.dob_pieces.specs.declared.kind.Kind.TheVariants.{Lion}
 use Rattle.dob_moves.proofs.Masked.{some_step}
-use Rattle.dob_moves.proofs.judge.lion_can_step.Goals as goal
+use Rattle.dob_moves.proofs.status_of.lion_can_step.Goals as goal
 
 pub returns : goal.returns
 returns c = λ h.

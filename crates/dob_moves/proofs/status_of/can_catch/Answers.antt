@@ -2,7 +2,7 @@
 use Rattle.std.proofs.Common.{◌≡◌, true≢false, sym, ◌∙◌}
 use Rattle.std.proofs.lemmas.Bool.{not-true, not_from_false, eqb-false, eqb-true, cases_Bool, ne_eqb}
 use Rattle.dob_moves.proofs.Masked.{no_attack, some_attack}
-use Rattle.dob_moves.proofs.judge.can_catch.Goals as goal
+use Rattle.dob_moves.proofs.status_of.can_catch.Goals as goal
 
 pub returns : goal.returns
 returns c =

@@ -4,11 +4,11 @@ ghost use Rattle.dob_pieces.specs.Masks.{AreMasks};
 ghost use Rattle.dob_pieces.specs.Setups.{at, piece_of};
 ghost use Rattle.dob_moves.specs.Moves.{CanGo, grows_at};
 ghost use Rattle.dob_moves.specs.Statuses.{CanCatch, HasStatus, IsFirstCatch};
-ghost use Rattle.dob_moves.specs.declared.choice.Move.{Move as Moved};
+ghost use Rattle.dob_moves.specs.declared.game_move.Move.{Move as Moved};
 
-use crate::choice::Move;
-use crate::outlook::Status;
-use crate::search::{Aim, first_drop, first_step, grows_at, own_kind};
+use crate::first_moves::{Aim, first_drop, first_step, grows_at, own_kind};
+use crate::game_move::Move;
+use crate::position_status::Status;
 use dob_pieces::{Kind, Masks, Position, Side, Square, lowest_square};
 
 /// The enemy lion's square.

@@ -1,6 +1,6 @@
 -- A step is found, or else a drop, or there is no move.
 use Rattle.dob_moves.proofs.Verdicts.{step_answer, drop_answer}
-use Rattle.dob_moves.proofs.judge.finds_move.Goals as goal
+use Rattle.dob_moves.proofs.status_of.finds_move.Goals as goal
 
 pub returns-then-is_some : goal.returns-then-is_some
 returns-then-is_some c =
