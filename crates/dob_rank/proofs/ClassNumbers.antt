@@ -48,7 +48,8 @@ unfolding class_number
 class_number-is set s = refl
 
 first_low : (set : PieceSet) (s : Setup) → IsPositionOf set s → rank_of set s ≤ rank_of set (mirrored s) → IsFirstOfTwo s
-first_low set s p le b = (let up : rank_of set (mirrored s) < rank_of set s = rank_of-rises set (mirrored s) s (IsPositionOf-mirrored set s p) p b in omega arith)
+first_low set s p le b = (let up : rank_of set (mirrored s) < rank_of set s
+    = rank_of-rises set (mirrored s) s (IsPositionOf-mirrored set s p) p b in omega arith)
 
 -- the position of the lower rank
 pub record IsEarlier (set : PieceSet) (s first : Setup) : Type 0 where
@@ -93,22 +94,26 @@ unfolding classes_of
 class_number-below set s p =
     let e = earlier set s p in
     subst (λ (x : ℕ). x < marks_below (marked set) (size_of set)) (sym (class_number-is set s ∙ ap (marks_below (marked set)) e.1.rank_is))
-    (marks_below-rises (marked set) (rank_of set e.0) (size_of set) (representative-marked set e.0 (e.1.position, e.1.representative.1)) (rank_of-below set e.0 e.1.position))
+    (marks_below-rises (marked set) (rank_of set e.0) (size_of set) (representative-marked set e.0 (e.1.position, e.1.representative.1))
+    (rank_of-below set e.0 e.1.position))
 
 -- the ranks of the code
-pub lower_rank : (set : PieceSet) (s t : Setup) (own image least : ℕ) → IsPositionOf set s → t ≡ mirrored s → RankOf s own → RankOf t image → least ≡ min own image
+pub lower_rank : (set : PieceSet) (s t : Setup) (own image least : ℕ) → IsPositionOf set s
+    → t ≡ mirrored s → RankOf s own → RankOf t image → least ≡ min own image
     → least ≡ min (rank_of set s) (rank_of set (mirrored s))
 lower_rank set s t own image least p e r q m =
     let pt : IsPositionOf set t = subst (IsPositionOf set) (sym e) (IsPositionOf-mirrored set s p) in
     m ∙ ap (λ (x : ℕ). min x image) (r set p) ∙ ap (min (rank_of set s)) (q set pt ∙ ap (rank_of set) e)
 
-pub lower_rank-below : (set : PieceSet) (s : Setup) (least : ℕ) → IsPositionOf set s → least ≡ min (rank_of set s) (rank_of set (mirrored s)) → least < size_of set
+pub lower_rank-below : (set : PieceSet) (s : Setup) (least : ℕ) → IsPositionOf set s
+    → least ≡ min (rank_of set s) (rank_of set (mirrored s)) → least < size_of set
 lower_rank-below set s least p e = least_below (rank_of set s) (rank_of set (mirrored s)) least (size_of set) e (rank_of-below set s p)
   where
     least_below : (a b least size : ℕ) → least ≡ min a b → a < size → least < size
     least_below a b least size e h = (let le : min a b ≤ a = min-le_left a b in omega arith)
 
-pub class_found : (set : PieceSet) (s : Setup) (least number : ℕ) → least ≡ min (rank_of set s) (rank_of set (mirrored s)) → number ≡ marks_below (marked set) least → number ≡ class_number set s
+pub class_found : (set : PieceSet) (s : Setup) (least number : ℕ) → least ≡ min (rank_of set s) (rank_of set (mirrored s))
+    → number ≡ marks_below (marked set) least → number ≡ class_number set s
 class_found set s least number e f = f ∙ ap (marks_below (marked set)) e ∙ sym (class_number-is set s)
 
 -- one number: one position, or a position and its mirror image
@@ -119,7 +124,8 @@ class_once set s t p q e =
     let marks : marks_below (marked set) (rank_of set a.0) ≡ marks_below (marked set) (rank_of set b.0)
     = sym (class_number-is set s ∙ ap (marks_below (marked set)) a.1.rank_is) ∙ e ∙ class_number-is set t ∙ ap (marks_below (marked set)) b.1.rank_is in
     let ranks : rank_of set a.0 ≡ rank_of set b.0
-    = marks_below-same (marked set) (rank_of set a.0) (rank_of set b.0) (representative-marked set a.0 (a.1.position, a.1.representative.1)) (representative-marked set b.0 (b.1.position, b.1.representative.1)) marks in
+    = marks_below-same (marked set) (rank_of set a.0) (rank_of set b.0) (representative-marked set a.0 (a.1.position, a.1.representative.1))
+    (representative-marked set b.0 (b.1.position, b.1.representative.1)) marks in
     let same : a.0 ≡ b.0 = rank_of-same set a.0 b.0 a.1.position b.1.position ranks in
     let back_s : mirrored (mirrored s) ≡ s = mirrored-mirrored s p.legal.squares in
     let back_t : mirrored (mirrored t) ≡ t = mirrored-mirrored t q.legal.squares in
@@ -139,7 +145,8 @@ pub class_number-mirrored : (set : PieceSet) (s : Setup) → IsPositionOf set s 
 class_number-mirrored set s p =
     let back : mirrored (mirrored s) ≡ s = mirrored-mirrored s p.legal.squares in
     class_number-is set (mirrored s)
-    ∙ ap (marks_below (marked set)) (ap (λ (x : Setup). min (rank_of set (mirrored s)) (rank_of set x)) back ∙ min_comm (rank_of set (mirrored s)) (rank_of set s))
+    ∙ ap (marks_below (marked set)) (ap (λ (x : Setup). min (rank_of set (mirrored s)) (rank_of set x)) back
+    ∙ min_comm (rank_of set (mirrored s)) (rank_of set s))
     ∙ sym (class_number-is set s)
 
 -- ---- the representative of a class number
@@ -149,7 +156,8 @@ pub record IsMarkedAt (mark : ℕ → Bool) (place number : ℕ) : Type 0 where
   pub on : mark place ≡ true
   pub number_is : marks_below mark place ≡ number
 
-pub one_left : (mark : ℕ → Bool) (low high number : ℕ) → low < high → high - low ≤ 1 → marks_below mark low ≤ number → number < marks_below mark high → IsMarkedAt mark low number
+pub one_left : (mark : ℕ → Bool) (low high number : ℕ) → low < high → high - low ≤ 1 → marks_below mark low ≤ number
+    → number < marks_below mark high → IsMarkedAt mark low number
 one_left mark low high number h k a b =
     let top : marks_below mark high ≡ marks_below mark (suc low) = ap (marks_below mark) (let next : high ≡ suc low = omega arith in next) in
     let more : marks_below mark (suc low) ≡ marks_below mark low + one_if (mark low) = marks_below_more mark low in
@@ -173,7 +181,8 @@ class_number-first set s p first =
       | inr ge ↦ min-eq_left ge
     ])
 
-pub at_class : (set : PieceSet) (s : Setup) (rank class : ℕ) → IsPositionOf set s → rank_of set s ≡ rank → rank < size_of set → marked set rank ≡ true → marks_below (marked set) rank ≡ class → IsAtClass set s class
+pub at_class : (set : PieceSet) (s : Setup) (rank class : ℕ) → IsPositionOf set s → rank_of set s ≡ rank → rank < size_of set
+    → marked set rank ≡ true → marks_below (marked set) rank ≡ class → IsAtClass set s class
 at_class set s rank class p e h on n =
     let marked_is : marked set (rank_of set s) ≡ true = ap (marked set) e ∙ on in
     let first : IsFirstOfTwo s = marked-first set s p (sym (marked-first_of set (rank_of set s) (rank_of-below set s p)) ∙ marked_is) in

@@ -1,5 +1,6 @@
 -- The digits of a place in a block, part by part: the hands, the lions, the squares and the forms.
-use Rattle.std.proofs.Common.{◌≡◌, ℕ, ◌+◌, ◌-◌, ◌*◌, ◌/◌, ◌%◌, ◌^◌, ◌<◌, ◌≤◌, nat_eq, Bool, true, List, [], ◌∷◌, ◌++◌, get_or, slice_index, refl, sym, ap, ◌∙◌, subst, arith}
+use Rattle.std.proofs.Common.{◌≡◌, ℕ, ◌+◌, ◌-◌, ◌*◌, ◌/◌, ◌%◌, ◌^◌, ◌<◌, ◌≤◌, nat_eq, Bool, true, List, [], ◌∷◌, ◌++◌, get_or, slice_index}
+use Rattle.std.proofs.Common.{refl, sym, ap, ◌∙◌, subst, arith}
 use Rattle.std.proofs.lemmas.Nat.{div_below, mod_below, mul-le, one_shl}
 use Rattle.dob_pieces.specs.declared.piece_set.PieceSet.{PieceSet}
 use Rattle.dob_pieces.proofs.Boards.{all_below, all_below-at}
@@ -56,7 +57,8 @@ parts_are set ob place size forms h e f =
       digits_are = digits_of-append (run_bases set ob) (local_bases ob) place h
           ∙ ap (λ (xs : List ℕ). xs ++ digits_of (local_bases ob) (place % product (local_bases ob)))
           (digits_of-append (hand_bases set ob) (9 ∷ 11 ∷ []) (place / product (local_bases ob)) run)
-          ∙ ap (λ (xs : List ℕ). (digits_of (hand_bases set ob) (place / product (local_bases ob) / 99) ++ xs) ++ digits_of (local_bases ob) (place % product (local_bases ob)))
+          ∙ ap (λ (xs : List ℕ). (digits_of (hand_bases set ob) (place / product (local_bases ob) / 99) ++ xs)
+          ++ digits_of (local_bases ob) (place % product (local_bases ob)))
           (digits_of-two 9 11 (place / product (local_bases ob) % 99) lions)
           ∙ ap (λ (xs : List ℕ). (digits_of (hand_bases set ob) (place / product (local_bases ob) / 99)
           ++ (place / product (local_bases ob) % 99 / 11 ∷ place / product (local_bases ob) % 99 % 11 ∷ [])) ++ xs)
@@ -102,7 +104,8 @@ form_digits_are ob n few h =
 -- ---- the parts as the code finds them
 
 forms_few : (i j k : ℕ) → i ≤ 2 → j ≤ 2 → k ≤ 2 → 4 ^ i * (2 ^ j * (2 ^ k * 1)) ≤ 256
-forms_few i j k a b c = mul-le (4 ^ i) (2 ^ j * (2 ^ k * 1)) 16 16 (four_small i a) (mul-le (2 ^ j) (2 ^ k * 1) 4 4 (two_small j b) (let few = two_small k c in omega arith))
+forms_few i j k a b c = mul-le (4 ^ i) (2 ^ j * (2 ^ k * 1)) 16 16 (four_small i a)
+    (mul-le (2 ^ j) (2 ^ k * 1) 4 4 (two_small j b) (let few = two_small k c in omega arith))
 
 pub record AreFound (set : PieceSet) (ob bs : List ℕ) (place forms : ℕ) : Type 0 where
   pub fits_one : get_or bs 7 0 * forms < 18446744073709551616
@@ -121,12 +124,19 @@ parts_found set ob bs place forms h low e f =
     let fewer : 10 - slice_index ob 0 ≤ 10 = omega arith in
     let fewest : 10 - slice_index ob 0 - slice_index ob 1 ≤ 10 = omega arith in
     let one : choose (10 - slice_index ob 0 - slice_index ob 1) (slice_index ob 2) * product (form_bases ob) ≤ 45 * 256 =
-    mul-le (choose (10 - slice_index ob 0 - slice_index ob 1) (slice_index ob 2)) (product (form_bases ob)) 45 256 (choose-small (10 - slice_index ob 0 - slice_index ob 1) (slice_index ob 2) fewest few.giraffes) most in
-    let two : choose (10 - slice_index ob 0) (slice_index ob 1) * (choose (10 - slice_index ob 0 - slice_index ob 1) (slice_index ob 2) * product (form_bases ob)) ≤ 45 * (45 * 256) =
-    mul-le (choose (10 - slice_index ob 0) (slice_index ob 1)) (choose (10 - slice_index ob 0 - slice_index ob 1) (slice_index ob 2) * product (form_bases ob)) 45 (45 * 256)
+    mul-le (choose (10 - slice_index ob 0 - slice_index ob 1) (slice_index ob 2)) (product (form_bases ob)) 45 256
+    (choose-small (10 - slice_index ob 0 - slice_index ob 1) (slice_index ob 2) fewest few.giraffes) most in
+    let two : choose (10 - slice_index ob 0) (slice_index ob 1) *
+    (choose (10 - slice_index ob 0 - slice_index ob 1) (slice_index ob 2) * product (form_bases ob)) ≤ 45 * (45 * 256) =
+    mul-le (choose (10 - slice_index ob 0) (slice_index ob 1))
+    (choose (10 - slice_index ob 0 - slice_index ob 1) (slice_index ob 2) * product (form_bases ob)) 45 (45 * 256)
     (choose-small (10 - slice_index ob 0) (slice_index ob 1) fewer few.elephants) one in
-    let three : choose 10 (slice_index ob 0) * (choose (10 - slice_index ob 0) (slice_index ob 1) * (choose (10 - slice_index ob 0 - slice_index ob 1) (slice_index ob 2) * product (form_bases ob))) ≤ 45 * (45 * (45 * 256)) =
-    mul-le (choose 10 (slice_index ob 0)) (choose (10 - slice_index ob 0) (slice_index ob 1) * (choose (10 - slice_index ob 0 - slice_index ob 1) (slice_index ob 2) * product (form_bases ob))) 45 (45 * (45 * 256))
+    let three : choose 10 (slice_index ob 0) *
+    (choose (10 - slice_index ob 0) (slice_index ob 1) *
+    (choose (10 - slice_index ob 0 - slice_index ob 1) (slice_index ob 2) * product (form_bases ob))) ≤ 45 * (45 * (45 * 256)) =
+    mul-le (choose 10 (slice_index ob 0))
+    (choose (10 - slice_index ob 0) (slice_index ob 1) *
+    (choose (10 - slice_index ob 0 - slice_index ob 1) (slice_index ob 2) * product (form_bases ob))) 45 (45 * (45 * 256))
     (choose-small 10 (slice_index ob 0) ten few.chicks) two in
     subst (λ (n : ℕ). AreFound set ob bs place n) (sym f) (subst (λ (xs : List ℕ). AreFound set ob xs place (product (form_bases ob))) (sym e) (record {
       fits_one = (let x = one in omega arith);
@@ -150,7 +160,8 @@ pub digits_found : (set : PieceSet) (ob : List ℕ) (place size forms : ℕ) (ha
     ∷ get_or squares 0 0 ∷ get_or squares 1 0 ∷ get_or squares 2 0 ∷ get_or kinds 0 0 ∷ get_or kinds 1 0 ∷ get_or kinds 2 0 ∷ []
     ≡ digits_of (bases_by set ob) place
 digits_found set ob place size forms hands squares kinds parts h s k =
-    ap (λ (xs : List ℕ). eleven place size xs squares kinds) h ∙ ap (λ (xs : List ℕ). eleven place size (digits_of (hand_bases set ob) (place / size / 99)) xs kinds) s
+    ap (λ (xs : List ℕ). eleven place size xs squares kinds) h
+    ∙ ap (λ (xs : List ℕ). eleven place size (digits_of (hand_bases set ob) (place / size / 99)) xs kinds) s
     ∙ ap (eleven place size (digits_of (hand_bases set ob) (place / size / 99)) (digits_of (square_bases ob) (place % size / forms))) k
     ∙ sym parts.digits_are
 

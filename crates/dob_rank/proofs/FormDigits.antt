@@ -139,7 +139,8 @@ forms_number-below t (cell ∷ cells) =
           = digit_below (form cell) (base_of t) (base_of t ^ count t (map layer cells)) (forms_number t cells) f rest in
           let number : forms_number t (cell ∷ cells) ≡ form cell * base_of t ^ count t (map layer cells) + forms_number t cells
           = forms_number_same t cell cells e in
-          subst (λ (x : ℕ). forms_number t (cell ∷ cells) < x) (sym more) (subst (λ (x : ℕ). x < base_of t * base_of t ^ count t (map layer cells)) (sym number) low))
+          subst (λ (x : ℕ). forms_number t (cell ∷ cells) < x) (sym more)
+          (subst (λ (x : ℕ). x < base_of t * base_of t ^ count t (map layer cells)) (sym number) low))
       | inr n ↦ subst (λ (x : ℕ). x < base_of t ^ count t (layer cell ∷ map layer cells)) (sym (forms_number_other t cell cells n))
           (subst (λ (x : ℕ). forms_number t cells < base_of t ^ x) (sym (count_other t (layer cell) (map layer cells) n)) rest)
     ]
@@ -157,13 +158,17 @@ board_of-back numbers [] h = refl
 board_of-back numbers (cell ∷ cells) h =
     let l : ℕ = layer cell in
     let w : ℕ = base_of (layer cell) ^ count (layer cell) (map layer cells) in
-    let more : base_of (layer cell) ^ count (layer cell) (layer cell ∷ map layer cells) ≡ base_of (layer cell) * base_of (layer cell) ^ count (layer cell) (map layer cells)
-    = ap (λ (x : ℕ). base_of (layer cell) ^ x) (count_same (layer cell) (map layer cells)) ∙ pow-succ' (base_of (layer cell)) (count (layer cell) (map layer cells)) in
+    let more : base_of (layer cell) ^ count (layer cell) (layer cell ∷ map layer cells)
+    ≡ base_of (layer cell) * base_of (layer cell) ^ count (layer cell) (map layer cells)
+    = ap (λ (x : ℕ). base_of (layer cell) ^ x) (count_same (layer cell) (map layer cells))
+    ∙ pow-succ' (base_of (layer cell)) (count (layer cell) (map layer cells)) in
     let here : numbers (layer cell) % (base_of (layer cell) * base_of (layer cell) ^ count (layer cell) (map layer cells))
     ≡ form cell * base_of (layer cell) ^ count (layer cell) (map layer cells) + forms_number (layer cell) cells
     = ap (λ (x : ℕ). numbers (layer cell) % x) (sym more) ∙ h (layer cell) ∙ forms_number_same (layer cell) cell cells refl in
-    let two = digits_apart (numbers (layer cell)) (base_of (layer cell)) (base_of (layer cell) ^ count (layer cell) (map layer cells)) (form cell) (forms_number (layer cell) cells)
-    (base_of-positive (layer cell)) (power_positive (base_of (layer cell)) (count (layer cell) (map layer cells)) (base_of-positive (layer cell))) here (forms_number-below (layer cell) cells) in
+    let two = digits_apart (numbers (layer cell)) (base_of (layer cell)) (base_of (layer cell) ^ count (layer cell) (map layer cells))
+    (form cell) (forms_number (layer cell) cells)
+    (base_of-positive (layer cell)) (power_positive (base_of (layer cell)) (count (layer cell) (map layer cells)) (base_of-positive (layer cell))) here
+    (forms_number-below (layer cell) cells) in
     let head : cell_of (layer cell) (numbers (layer cell) / base_of (layer cell) ^ count (layer cell) (map layer cells) % base_of (layer cell)) ≡ cell
     = ap (cell_of (layer cell)) two.0 ∙ cell_of-cell cell in
     let rest : board_of numbers (map layer cells) ≡ cells = board_of-back numbers cells
@@ -211,7 +216,8 @@ forms_number-board_of numbers t (l ∷ ls) h a =
     let head : layer (cell_of l (numbers l / base_of l ^ count l ls % base_of l)) ≡ l = layer-cell_of l (numbers l / base_of l ^ count l ls % base_of l) a.0 in
     elim (cases_eq l t) [
       | inl e ↦ at_layer numbers t l ls h e layers rest head
-      | inr n ↦ (let other : layer (cell_of l (numbers l / base_of l ^ count l ls % base_of l)) ≡ t → ⊥ = λ (q : layer (cell_of l (numbers l / base_of l ^ count l ls % base_of l)) ≡ t). n (sym head ∙ q) in
+      | inr n ↦ (let other : layer (cell_of l (numbers l / base_of l ^ count l ls % base_of l)) ≡ t → ⊥
+          = λ (q : layer (cell_of l (numbers l / base_of l ^ count l ls % base_of l)) ≡ t). n (sym head ∙ q) in
           forms_number_other t (cell_of l (numbers l / base_of l ^ count l ls % base_of l)) (board_of numbers ls) other
           ∙ rest ∙ ap (λ (x : ℕ). numbers t % base_of t ^ x) (sym (count_other t l ls n)))
     ]

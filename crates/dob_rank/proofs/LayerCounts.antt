@@ -1,5 +1,6 @@
 -- Layers and what a board's tests count.
-use Rattle.std.proofs.Common.{◌≡◌, ℕ, zero, suc, ◌+◌, ◌-◌, ◌<◌, ◌≤◌, Bool, true, false, cond, eqb, List, [], ◌∷◌, Some, None, length, map, get_or, refl, sym, ap, ◌∙◌, subst, inl, inr, arith}
+use Rattle.std.proofs.Common.{◌≡◌, ℕ, zero, suc, ◌+◌, ◌-◌, ◌<◌, ◌≤◌, Bool, true, false, cond, eqb, List, [], ◌∷◌, Some, None, length, map}
+use Rattle.std.proofs.Common.{get_or, refl, sym, ap, ◌∙◌, subst, inl, inr, arith}
 use Rattle.std.specs.List.{count_by}
 use Rattle.std.proofs.lemmas.Bool.{cases_order, cases_lt, cases_eq}
 use Rattle.std.proofs.lemmas.List.Recursion.{is_count_by}
@@ -196,16 +197,19 @@ holds_kind-layer kind (Some piece) = of_piece kind piece.side piece.kind
     of_piece hand.Giraffe Enemy Hen = refl
 
 -- what passes a test that tells a layer is as many as the layer has, on the squares of the layer
-pub count-layer : (test : Cell → Bool) (t : ℕ) → ((cell : Cell) → test cell ≡ eqb (layer cell) t) → (cells : List Cell) → count_by test cells ≡ count t (map layer cells)
+pub count-layer : (test : Cell → Bool) (t : ℕ) → ((cell : Cell) → test cell ≡ eqb (layer cell) t)
+    → (cells : List Cell) → count_by test cells ≡ count t (map layer cells)
 count-layer test t h cells = sym (is_count_by (λ (xs : List Cell). count t (map layer xs)) test refl
-    (λ x xs. subst (λ (b : Bool). cond (eqb (layer x) t) 1 0 + count t (map layer xs) ≡ cond b (1 + count t (map layer xs)) (count t (map layer xs))) (sym (h x))
+    (λ x xs. subst (λ (b : Bool). cond (eqb (layer x) t) 1 0 + count t (map layer xs) ≡ cond b (1 + count t (map layer xs)) (count t (map layer xs)))
+    (sym (h x))
     (one_more (eqb (layer x) t) (count t (map layer xs)))) cells)
   where
     one_more : (b : Bool) (n : ℕ) → cond b 1 0 + n ≡ cond b (1 + n) n
     one_more true n = refl
     one_more false n = omega arith
 
-pub squares-layer : (test : Cell → Bool) (t : ℕ) → ((cell : Cell) → test cell ≡ eqb (layer cell) t) → (from : ℕ) (cells : List Cell) → squares_from from test cells ≡ layer_squares t from (map layer cells)
+pub squares-layer : (test : Cell → Bool) (t : ℕ) → ((cell : Cell) → test cell ≡ eqb (layer cell) t) → (from : ℕ) (cells : List Cell)
+    → squares_from from test cells ≡ layer_squares t from (map layer cells)
 squares-layer test t h from [] = refl
 squares-layer test t h from (cell ∷ cells) =
     ap (λ (b : Bool). cond b (from ∷ squares_from (suc from) test cells) (squares_from (suc from) test cells)) (h cell)

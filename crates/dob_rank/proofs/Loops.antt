@@ -1,8 +1,10 @@
 -- The steps of the loops, over plain lists and numbers.
-use Rattle.std.proofs.Common.{◌≡◌, ℕ, zero, suc, ◌+◌, ◌-◌, ◌*◌, ◌/◌, ◌%◌, ◌^◌, ◌<◌, ◌≤◌, List, [], ◌∷◌, ◌++◌, None, length, map, take, drop, set, get_or, slice_index, refl, sym, ap, ◌∙◌, subst, inl, inr, arith}
+use Rattle.std.proofs.Common.{◌≡◌, ℕ, zero, suc, ◌+◌, ◌-◌, ◌*◌, ◌/◌, ◌%◌, ◌^◌, ◌<◌, ◌≤◌, List, [], ◌∷◌, ◌++◌, None, length, map, take, drop}
+use Rattle.std.proofs.Common.{set, get_or, slice_index, refl, sym, ap, ◌∙◌, subst, inl, inr, arith}
 use Rattle.std.specs.List.{All}
 use Rattle.std.proofs.lemmas.Bool.{cases_eq}
-use Rattle.std.proofs.lemmas.List.{drop_more, drop_all, take_all, take_more_set, append_assoc, map_more, drop-set, length-set, append-nil, drop-map, get_or-set_same, get_or-set_other}
+use Rattle.std.proofs.lemmas.List.{drop_more, drop_all, take_all, take_more_set, append_assoc, map_more, drop-set, length-set, append-nil}
+use Rattle.std.proofs.lemmas.List.{drop-map, get_or-set_same, get_or-set_other}
 use Rattle.std.proofs.lemmas.Nat.{div-mul-add, mul-le}
 use Rattle.std.proofs.Math.Nat.{mul_comm, pow-zero, pow-suc, pow-succ', div-div-eq-div-mul}
 use Rattle.dob_pieces.specs.Setups.{Cell}
@@ -41,7 +43,8 @@ pub product_fits : (bs : List ℕ) (i w limit : ℕ) → All (λ (b : ℕ). 0 < 
     → w * get_or bs (i - 1) 0 < limit
 product_fits bs i w limit h low p q e =
     let here : product (drop (i - 1) bs) ≡ get_or bs (i - 1) 0 * product (drop i bs) = ap product (drop_back bs i 0 p q) in
-    let turned : w * get_or bs (i - 1) 0 ≡ get_or bs (i - 1) 0 * product (drop i bs) = ap (λ (x : ℕ). x * get_or bs (i - 1) 0) e ∙ mul_comm (product (drop i bs)) (get_or bs (i - 1) 0) in
+    let turned : w * get_or bs (i - 1) 0 ≡ get_or bs (i - 1) 0 * product (drop i bs) = ap (λ (x : ℕ). x * get_or bs (i - 1) 0) e
+    ∙ mul_comm (product (drop i bs)) (get_or bs (i - 1) 0) in
     omega (arith, product-drop bs (i - 1) h)
 
 -- ---- numbers
@@ -78,7 +81,8 @@ pub record IsDigitStep (bs ds : List ℕ) (i n w : ℕ) : Type 0 where
   pub below : n + get_or ds (i - 1) 0 * w < product bs
   pub weight_below : w * get_or bs (i - 1) 0 ≤ product bs
 
-pub digit_step : (bs ds : List ℕ) (i n w : ℕ) → HasDigits bs ds → 0 < i → i ≤ length bs → n ≡ number_of (drop i bs) (drop i ds) → w ≡ product (drop i bs) → IsDigitStep bs ds i n w
+pub digit_step : (bs ds : List ℕ) (i n w : ℕ) → HasDigits bs ds → 0 < i → i ≤ length bs → n ≡ number_of (drop i bs) (drop i ds)
+    → w ≡ product (drop i bs) → IsDigitStep bs ds i n w
 digit_step bs ds i n w h p q en ew =
     let db : drop (i - 1) bs ≡ get_or bs (i - 1) 0 ∷ drop i bs = drop_back bs i 0 p q in
     let len : length ds ≡ length bs = HasDigits-length bs ds h in
@@ -86,10 +90,12 @@ digit_step bs ds i n w h p q en ew =
     let weight : product (drop (i - 1) bs) ≡ get_or bs (i - 1) 0 * product (drop i bs) = ap product db in
     let number : number_of (drop (i - 1) bs) (drop (i - 1) ds) ≡ get_or ds (i - 1) 0 * product (drop i bs) + number_of (drop i bs) (drop i ds)
     = ap (λ (xs : List ℕ). number_of xs (drop (i - 1) ds)) db ∙ ap (number_of (get_or bs (i - 1) 0 ∷ drop i bs)) dd in
-    let low : number_of (drop (i - 1) bs) (drop (i - 1) ds) < product (drop (i - 1) bs) = number_of-below (drop (i - 1) bs) (drop (i - 1) ds) (HasDigits-drop bs ds (i - 1) h) in
+    let low : number_of (drop (i - 1) bs) (drop (i - 1) ds) < product (drop (i - 1) bs)
+    = number_of-below (drop (i - 1) bs) (drop (i - 1) ds) (HasDigits-drop bs ds (i - 1) h) in
     let all : product (drop (i - 1) bs) ≤ product bs = product-drop bs (i - 1) (HasDigits-positive bs ds h) in
     let d_w : get_or ds (i - 1) 0 * w ≡ get_or ds (i - 1) 0 * product (drop i bs) = ap (λ (x : ℕ). get_or ds (i - 1) 0 * x) ew in
-    let w_b : w * get_or bs (i - 1) 0 ≡ get_or bs (i - 1) 0 * product (drop i bs) = ap (λ (x : ℕ). x * get_or bs (i - 1) 0) ew ∙ mul_comm (product (drop i bs)) (get_or bs (i - 1) 0) in
+    let w_b : w * get_or bs (i - 1) 0 ≡ get_or bs (i - 1) 0 * product (drop i bs) = ap (λ (x : ℕ). x * get_or bs (i - 1) 0) ew
+    ∙ mul_comm (product (drop i bs)) (get_or bs (i - 1) 0) in
     record { number_is = omega arith; weight_is = omega arith; below = omega arith; weight_below = omega arith }
 
 -- ---- digits
@@ -162,7 +168,8 @@ count-drop t (l ∷ ls) (suc i) = (let rest : count t (drop i ls) ≤ count t ls
     ])
 
 -- one more layer is written
-pub layers_step : (ls : List ℕ) (cells : List Cell) (i x : ℕ) → length ls ≡ 12 → length cells ≡ 12 → i < 12 → x ≡ layer (get_or cells i None) → take i ls ≡ map layer (take i cells)
+pub layers_step : (ls : List ℕ) (cells : List Cell) (i x : ℕ) → length ls ≡ 12 → length cells ≡ 12 → i < 12
+    → x ≡ layer (get_or cells i None) → take i ls ≡ map layer (take i cells)
     → (length (set ls i x) ≡ 12) × (take (i + 1) (set ls i x) ≡ map layer (take (i + 1) cells))
 layers_step ls cells i x el ec l e inv = (
   length-set ls i x ∙ el,
@@ -172,14 +179,16 @@ layers_step ls cells i x el ec l e inv = (
       ∙ sym (map_more layer cells i None (let b : i < length cells = omega arith in b)),
 )
 
-pub layers_end : (ls : List ℕ) (cells : List Cell) (i : ℕ) → length ls ≡ 12 → length cells ≡ 12 → 12 ≤ i → take i ls ≡ map layer (take i cells) → ls ≡ map layer cells
+pub layers_end : (ls : List ℕ) (cells : List Cell) (i : ℕ) → length ls ≡ 12 → length cells ≡ 12 → 12 ≤ i
+    → take i ls ≡ map layer (take i cells) → ls ≡ map layer cells
 layers_end ls cells i el ec l inv =
     sym (take_all i ls (let a : length ls ≤ i = omega arith in a)) ∙ inv ∙ ap (map layer) (take_all i cells (let b : length cells ≤ i = omega arith in b))
 
 pub settle_end : (t p n i : ℕ) (ls rs : List ℕ) → length ls ≡ 12 → 12 ≤ i → take i ls ++ settle t p n (drop i ls) ≡ rs → ls ≡ rs
 settle_end t p n i ls rs el l inv =
     let a : length ls ≤ i = omega arith in
-    sym (ap (λ (xs : List ℕ). xs ++ settle t p n (drop i ls)) (take_all i ls a) ∙ ap (λ (xs : List ℕ). ls ++ settle t p n xs) (drop_all i ls a) ∙ append-nil ls) ∙ inv
+    sym (ap (λ (xs : List ℕ). xs ++ settle t p n (drop i ls)) (take_all i ls a)
+    ∙ ap (λ (xs : List ℕ). ls ++ settle t p n xs) (drop_all i ls a) ∙ append-nil ls) ∙ inv
 
 -- ---- forms
 
@@ -202,14 +211,19 @@ pub form_step : (t n w f : ℕ) (cells : List Cell) (i : ℕ) → 0 < i → i �
     → n ≡ forms_number t (drop i cells) → w ≡ base_of t ^ count t (map layer (drop i cells)) → IsFormStep t n w f cells i
 form_step t n w f cells i p q len few base e ef fs en ew =
     let back : drop (i - 1) cells ≡ get_or cells (i - 1) None ∷ drop i cells = drop_back cells i None p (omega arith) in
-    let number : forms_number t (drop (i - 1) cells) ≡ form (get_or cells (i - 1) None) * base_of t ^ count t (map layer (drop i cells)) + forms_number t (drop i cells)
+    let number : forms_number t (drop (i - 1) cells) ≡ form (get_or cells (i - 1) None) * base_of t ^ count t
+    (map layer (drop i cells)) + forms_number t (drop i cells)
     = ap (forms_number t) back ∙ forms_number_same t (get_or cells (i - 1) None) (drop i cells) e in
     let more : count t (map layer (drop (i - 1) cells)) ≡ suc (count t (map layer (drop i cells)))
-    = ap (λ (xs : List Cell). count t (map layer xs)) back ∙ ap (λ (l : ℕ). count t (l ∷ map layer (drop i cells))) e ∙ count_same t (map layer (drop i cells)) in
+    = ap (λ (xs : List Cell). count t (map layer xs)) back ∙ ap (λ (l : ℕ). count t (l ∷ map layer (drop i cells))) e
+    ∙ count_same t (map layer (drop i cells)) in
     let weight : base_of t ^ count t (map layer (drop (i - 1) cells)) ≡ base_of t * base_of t ^ count t (map layer (drop i cells))
     = ap (λ (x : ℕ). base_of t ^ x) more ∙ pow-succ' (base_of t) (count t (map layer (drop i cells))) in
-    let few' : count t (map layer (drop i cells)) ≤ 2 = subst (λ (xs : List ℕ). count t xs ≤ 2) (drop-map layer i cells) (let d : count t (drop i (map layer cells)) ≤ count t (map layer cells) = count-drop t (map layer cells) i in omega arith) in
-    let w16 : w ≤ 16 = (let x : base_of t ^ count t (map layer (drop i cells)) ≤ 16 = power_small (base_of t) (count t (map layer (drop i cells))) base few' in omega arith) in
+    let few' : count t (map layer (drop i cells)) ≤ 2
+    = subst (λ (xs : List ℕ). count t xs ≤ 2) (drop-map layer i cells) (let d : count t (drop i (map layer cells)) ≤ count t (map layer cells)
+    = count-drop t (map layer cells) i in omega arith) in
+    let w16 : w ≤ 16 = (let x : base_of t ^ count t (map layer (drop i cells)) ≤ 16
+    = power_small (base_of t) (count t (map layer (drop i cells))) base few' in omega arith) in
     let low : forms_number t (drop i cells) < base_of t ^ count t (map layer (drop i cells)) = forms_number-below t (drop i cells) in
     let fw : f * w ≡ form (get_or cells (i - 1) None) * base_of t ^ count t (map layer (drop i cells))
     = ap (λ (x : ℕ). x * w) ef ∙ ap (λ (x : ℕ). form (get_or cells (i - 1) None) * x) ew in
@@ -241,7 +255,8 @@ rest_at numbers rest ls later l number t h e same = elim (cases_eq t l) [
       get_or-set_other rest l t number 0 n ∙ same ∙ ap (λ (m : ℕ). slice_index numbers t / base_of t ^ m) (sym (count_other t l later other)))
 ]
 
-pub board_step : (numbers rest ls : List ℕ) (board : List Cell) (i base : ℕ) (cell : Cell) → 0 < i → i ≤ 12 → length ls ≡ 12 → length board ≡ 12 → length rest ≡ 6
+pub board_step : (numbers rest ls : List ℕ) (board : List Cell) (i base : ℕ) (cell : Cell) → 0 < i
+    → i ≤ 12 → length ls ≡ 12 → length board ≡ 12 → length rest ≡ 6
     → get_or ls (i - 1) 0 ≤ 5 → base ≡ base_of (get_or ls (i - 1) 0) → cell ≡ cell_of (get_or ls (i - 1) 0) (get_or rest (get_or ls (i - 1) 0) 0 % base)
     → drop i board ≡ board_of (slice_index numbers) (drop i ls)
     → ((t : ℕ) → t ≤ 5 → slice_index rest t ≡ slice_index numbers t / base_of t ^ count t (drop i ls))
@@ -249,13 +264,17 @@ pub board_step : (numbers rest ls : List ℕ) (board : List Cell) (i base : ℕ)
 board_step numbers rest ls board i base cell p q len size rsize low eb ec inv rinv =
     let l : ℕ = get_or ls (i - 1) 0 in
     let back : drop (i - 1) ls ≡ get_or ls (i - 1) 0 ∷ drop i ls = drop_back ls i 0 p (omega arith) in
-    let here : get_or rest (get_or ls (i - 1) 0) 0 ≡ slice_index numbers (get_or ls (i - 1) 0) / base_of (get_or ls (i - 1) 0) ^ count (get_or ls (i - 1) 0) (drop i ls) = rinv (get_or ls (i - 1) 0) low in
-    let made : cell ≡ cell_of (get_or ls (i - 1) 0) (slice_index numbers (get_or ls (i - 1) 0) / base_of (get_or ls (i - 1) 0) ^ count (get_or ls (i - 1) 0) (drop i ls) % base_of (get_or ls (i - 1) 0))
+    let here : get_or rest (get_or ls (i - 1) 0) 0 ≡ slice_index numbers (get_or ls (i - 1) 0) / base_of (get_or ls (i - 1) 0) ^ count
+    (get_or ls (i - 1) 0) (drop i ls) = rinv (get_or ls (i - 1) 0) low in
+    let made : cell ≡ cell_of (get_or ls (i - 1) 0)
+    (slice_index numbers (get_or ls (i - 1) 0) / base_of (get_or ls (i - 1) 0) ^ count (get_or ls (i - 1) 0) (drop i ls) % base_of (get_or ls (i - 1) 0))
     = ec ∙ ap (λ (b : ℕ). cell_of (get_or ls (i - 1) 0) (get_or rest (get_or ls (i - 1) 0) 0 % b)) eb
     ∙ ap (λ (x : ℕ). cell_of (get_or ls (i - 1) 0) (x % base_of (get_or ls (i - 1) 0))) here in
-    let less : get_or rest (get_or ls (i - 1) 0) 0 / base ≡ slice_index numbers (get_or ls (i - 1) 0) / base_of (get_or ls (i - 1) 0) ^ suc (count (get_or ls (i - 1) 0) (drop i ls))
+    let less : get_or rest (get_or ls (i - 1) 0) 0 / base ≡ slice_index numbers (get_or ls (i - 1) 0) / base_of
+    (get_or ls (i - 1) 0) ^ suc (count (get_or ls (i - 1) 0) (drop i ls))
     = ap (λ (b : ℕ). get_or rest (get_or ls (i - 1) 0) 0 / b) eb ∙ ap (λ (x : ℕ). x / base_of (get_or ls (i - 1) 0)) here
-    ∙ div-div-eq-div-mul (slice_index numbers (get_or ls (i - 1) 0)) (base_of (get_or ls (i - 1) 0) ^ count (get_or ls (i - 1) 0) (drop i ls)) (base_of (get_or ls (i - 1) 0))
+    ∙ div-div-eq-div-mul (slice_index numbers (get_or ls (i - 1) 0)) (base_of (get_or ls (i - 1) 0) ^ count (get_or ls (i - 1) 0) (drop i ls))
+    (base_of (get_or ls (i - 1) 0))
     ∙ ap (λ (x : ℕ). slice_index numbers (get_or ls (i - 1) 0) / x) (sym (pow-suc (base_of (get_or ls (i - 1) 0)) (count (get_or ls (i - 1) 0) (drop i ls)))) in
     record {
       size = length-set board (i - 1) cell ∙ size;
@@ -265,10 +284,12 @@ board_step numbers rest ls board i base cell p q len size rsize low eb ec inv ri
           ∙ ap (λ (xs : List Cell). cell ∷ xs) inv
           ∙ ap (λ (x : Cell). x ∷ board_of (slice_index numbers) (drop i ls)) made
           ∙ ap (board_of (slice_index numbers)) (sym back);
-      rest_is = λ t h. rest_at numbers rest ls (drop i ls) (get_or ls (i - 1) 0) (get_or rest (get_or ls (i - 1) 0) 0 / base) t (omega arith) less (rinv t h) ∙ ap (λ (xs : List ℕ). slice_index numbers t / base_of t ^ count t xs) (sym back);
+      rest_is = λ t h. rest_at numbers rest ls (drop i ls) (get_or ls (i - 1) 0) (get_or rest (get_or ls (i - 1) 0) 0 / base) t (omega arith) less
+          (rinv t h) ∙ ap (λ (xs : List ℕ). slice_index numbers t / base_of t ^ count t xs) (sym back);
     }
 
 -- ---- the start of a block
 
-pub bound_step : (start size earlier block : ℕ) → start ≤ earlier * 68719476736 → size ≤ 68719476736 → earlier < block → block ≤ 27 → start + size < 18446744073709551616
+pub bound_step : (start size earlier block : ℕ) → start ≤ earlier * 68719476736 → size ≤ 68719476736
+    → earlier < block → block ≤ 27 → start + size < 18446744073709551616
 bound_step start size earlier block h k l m = omega arith

@@ -1,8 +1,10 @@
 -- The marks of runs: how many there are before each place of a block, and the tables that say so.
-use Rattle.std.proofs.Common.{◌≡◌, ℕ, zero, suc, ◌+◌, ◌-◌, ◌*◌, ◌/◌, ◌%◌, ◌^◌, ◌<◌, ◌≤◌, min, Bool, true, false, List, length, slice_index_or, refl, sym, ap, ◌∙◌, subst, arith}
+use Rattle.std.proofs.Common.{◌≡◌, ℕ, zero, suc, ◌+◌, ◌-◌, ◌*◌, ◌/◌, ◌%◌, ◌^◌, ◌<◌, ◌≤◌, min, Bool, true, false, List, length}
+use Rattle.std.proofs.Common.{slice_index_or, refl, sym, ap, ◌∙◌, subst, arith}
 use Rattle.std.proofs.lemmas.Nat.{div-add-mod', div_below, mod_below}
 use Rattle.std.proofs.Math.Nat.{add-mul, mul-le-mul_right}
 use Rattle.dob_pieces.specs.declared.piece_set.PieceSet.{PieceSet}
+use Rattle.dob_rank.specs.declared.block_classes.BlockClasses.{BlockClasses}
 use Rattle.dob_rank.specs.declared.runs.Run.{Run}
 use Rattle.dob_rank.specs.declared.runs.Word.{Word}
 use Rattle.dob_rank.specs.declared.runs.RunKind.TheVariants.{First, Later, Mixed}
@@ -115,6 +117,12 @@ there set block size place count runs words entry within is whole are below read
       entry_is = run_read set block count (place / size) runs words entry are (subst (λ n. place / size < n) (sym whole) split.there.run_below) read;
     }
 
+-- the same of a block with its tables
+pub there_in : (block : BlockClasses) (place : ℕ) (entry : Run) → place < block_size block.set block.number →
+    entry ≡ slice_index_or block.runs.items (place / block.size) entry → IsThere block.set block.number block.size place block.words.items entry
+there_in block place entry below read =
+    there block.set block.number block.size place _ block.runs.items block.words.items entry block.within block.size_is block.whole block.table below read
+
 pub size_positive : (set : PieceSet) (block size : ℕ) → block < product (block_bases set) → size ≡ run_size set block → 0 < size
 size_positive set block size within is = subst (λ n. 0 < n) (sym is) (run_size-some set block within)
 
@@ -197,12 +205,14 @@ place_in_word set block size place split = record {
 
 -- few marks are before a word
 pub word_small : (set : PieceSet) (block size place len : ℕ) (word : Word) → IsSplit set block place (place / size) (place % size) →
-    IsWordOf (marked set) (run_start set block (place / size) + 64 * (place % size / 64)) len word → place < block_size set block → word.before ≤ 1152921504606846976
+    IsWordOf (marked set) (run_start set block (place / size) + 64 * (place % size / 64)) len word
+    → place < block_size set block → word.before ≤ 1152921504606846976
 word_small set block size place len word split is below =
     let upto = marks_below-le (marked set) (run_start set block (place / size) + 64 * (place % size / 64)) in
     let start = start_small set block (let there = split.there.block_below in omega arith) in
     let size_of_block = block_size-small set block split.there.block_below in
-    bounded word.before (marks_below (marked set) (run_start set block (place / size) + 64 * (place % size / 64))) (run_start set block (place / size)) (place % size)
+    bounded word.before (marks_below (marked set) (run_start set block (place / size) + 64 * (place % size / 64)))
+    (run_start set block (place / size)) (place % size)
     (start_of set block) place (block_size set block) is.before_is upto split.whole start below size_of_block
   where
     bounded : (before marks run n start place size : ℕ) → before ≡ marks → marks ≤ run + 64 * (n / 64) → run + n ≡ start + place → start ≤ 27 * 68719476736 →
@@ -218,7 +228,8 @@ pub record IsRunStart (set : PieceSet) (block high class : ℕ) : Type 0 where
   pub low_is : marks_below (marked set) (run_start set block 0) ≤ class
   pub high_is : class < marks_below (marked set) (run_start set block high)
 
-pub run_search : (set : PieceSet) (block before after high class : ℕ) → block < product (block_bases set) → before ≡ marks_below (marked set) (start_of set block) →
+pub run_search : (set : PieceSet) (block before after high class : ℕ) → block < product (block_bases set)
+    → before ≡ marks_below (marked set) (start_of set block) →
     after ≡ marks_below (marked set) (start_of set block + block_size set block) → high ≡ runs_in set block → before ≤ class → class < after →
     IsRunStart set block high class
 run_search set block before after high class within starts ends is low upto =
@@ -266,7 +277,8 @@ first_place set block run size before class within is at kind before_is =
     let next : marks_below (marked set) (run_start set block (run + 1)) ≡ marks_below (marked set) (run_start set block run + run_size set block) =
     ap (marks_below (marked set)) (run_start_next set block run) in
     let below : class - before < run_size set block =
-    few_classes class before (marks_below (marked set) (run_start set block run)) (marks_below (marked set) (run_start set block (run + 1))) (run_size set block) before_is at.low_is at.high_is (next ∙ all) in
+    few_classes class before (marks_below (marked set) (run_start set block run)) (marks_below (marked set) (run_start set block (run + 1)))
+    (run_size set block) before_is at.low_is at.high_is (next ∙ all) in
     let upto = run_upto set block run size at.run_below is in
     let in_run : IsInRun set block run (class - before) = record { block_below = within; run_below = at.run_below; local_below = below } in
     let whole : run_start set block run + (class - before) ≡ start_of set block + (run * size + (class - before)) =
@@ -299,13 +311,15 @@ pub record IsPlaceStart (set : PieceSet) (block first end class : ℕ) : Type 0 
   pub low_is : marks_below (marked set) (start_of set block + first) ≤ class
   pub high_is : class < marks_below (marked set) (start_of set block + end)
 
-pub place_search : (set : PieceSet) (block run size class : ℕ) → block < product (block_bases set) → size ≡ run_size set block → IsSearched set block run class →
+pub place_search : (set : PieceSet) (block run size class : ℕ) → block < product (block_bases set)
+    → size ≡ run_size set block → IsSearched set block run class →
     IsPlaceStart set block (run * size) (run * size + size) class
 place_search set block run size class within is at =
     let positive = size_positive set block size within is in
     let start : run_start set block run ≡ start_of set block + run * size = run_start-is set block run ∙ ap (λ n. start_of set block + run * n) (sym is) in
     let next : run_start set block (run + 1) ≡ start_of set block + (run * size + size) =
-    joined (run_start set block (run + 1)) (run_start set block run) (run_size set block) size (start_of set block) (run * size) (run_start_next set block run) start is in
+    joined (run_start set block (run + 1)) (run_start set block run) (run_size set block) size
+    (start_of set block) (run * size) (run_start_next set block run) start is in
     record {
       some = omega arith;
       within = run_upto set block run size at.run_below is;

@@ -1,7 +1,8 @@
 // The blocks of a piece set: the positions with the same numbers of chicks, elephants and giraffes on the board.
 // The blocks stand in the order of those numbers.
 ghost use Rattle.std.specs.Prelude.{◌≡◌, ◌<◌, ◌≤◌, ◌+◌, ◌*◌, ◌^◌, slice_index};
-ghost use Rattle.dob_rank.specs.Numbers.{choose as ways_to_choose, product, HasDigits, digits_of, sum_below, bases_by, block_bases, block_size as size_of_block, size_of};
+ghost use Rattle.dob_rank.specs.Numbers.{choose, product, HasDigits, digits_of, sum_below, bases_by, block_bases};
+ghost use Rattle.dob_rank.specs.Numbers.{block_size, size_of};
 ghost use Rattle.dob_rank.specs.Runs.{runs_in, run_size, form_bases, AreFewOnBoard};
 
 use crate::runs::LIONS;
@@ -121,7 +122,7 @@ fn form_digits(on_board: &EachKind, number: u64) -> EachKind
 fn choose(squares: u64, pieces: u64) -> u64
     requires few { pieces ≤ 2 }
     requires small { squares ≤ 12 }
-    ensures { result ≡ ways_to_choose squares pieces }
+    ensures { result ≡ choose squares pieces }
 {
     match pieces {
         0 => 1,
@@ -146,7 +147,7 @@ fn power(base: u64, exponent: u64) -> u64
 /// How many positions the block of that number has.
 pub(crate) fn block_size(set: PieceSet, block: u64) -> u64
     requires { block < product (block_bases set) }
-    ensures value { result ≡ size_of_block set block }
+    ensures value { result ≡ block_size set block }
     ensures bound { result ≤ 2 ^ 36 }
 {
     let on_board = numbers_in(set, block);
@@ -179,8 +180,8 @@ pub(crate) fn run_size_in(set: PieceSet, block: u64) -> u64
 pub(crate) fn find_block(set: PieceSet, rank: u64) -> (u64, u64)
     requires { rank < size_of set }
     ensures block { result.0 < product (block_bases set) }
-    ensures place { result.1 < size_of_block set result.0 }
-    ensures whole { sum_below (size_of_block set) result.0 + result.1 ≡ rank }
+    ensures place { result.1 < block_size set result.0 }
+    ensures whole { sum_below (block_size set) result.0 + result.1 ≡ rank }
 {
     let blocks = blocks(set);
     let mut start = 0;

@@ -1,13 +1,13 @@
 // The forms of the pieces of a layer.
 ghost use Rattle.std.specs.Prelude.{◌≡◌, ◌<◌, ◌≤◌};
 ghost use Rattle.dob_rank.specs.Order.{form};
-ghost use Rattle.dob_rank.specs.Numbers.{base_of as base_in, cell_of as cell_in};
+ghost use Rattle.dob_rank.specs.Numbers.{base_of, cell_of};
 
 use dob_pieces::{Kind, Piece, Side};
 
 /// How many forms a piece of that layer has.
 pub(crate) fn base_of(layer: u8) -> u64
-    ensures value { result ≡ base_in layer }
+    ensures value { result ≡ base_of layer }
     ensures low { 0 < result }
     ensures high { result ≤ 4 }
 {
@@ -39,7 +39,7 @@ pub(crate) fn form_of(cell: Option<Piece>) -> u64
 
 /// The cell of that layer and form.
 pub(crate) fn cell_of(layer: u8, form: u64) -> Option<Piece>
-    ensures { result ≡ cell_in layer form }
+    ensures { result ≡ cell_of layer form }
 {
     let (side, kind) = match (layer, form) {
         (0, _) => (Side::Mover, Kind::Lion),

@@ -1,13 +1,13 @@
 // Numbers in mixed radix: a list of bases, and for each base a digit below it, the first of most weight.
 ghost use Rattle.std.specs.Prelude.{◌≡◌, ◌<◌, ◌^◌, ◌/◌, ◌%◌};
 ghost use Rattle.std.specs.List.{All};
-ghost use Rattle.dob_rank.specs.Numbers.{product as product_of, number_of as value_of, digits_of as all_digits_of, HasDigits};
+ghost use Rattle.dob_rank.specs.Numbers.{product, number_of, digits_of, HasDigits};
 
 /// How many numbers the bases write: their product.
 pub(crate) fn product(bases: &[u64]) -> u64
     requires positive { All (λ base. 0 < base) bases.now }
-    requires fits { product_of bases.now < 2 ^ 64 }
-    ensures { result ≡ product_of bases.now }
+    requires fits { product bases.now < 2 ^ 64 }
+    ensures { result ≡ product bases.now }
 {
     let mut weight = 1;
     for i in (0..bases.len()).rev() {
@@ -19,8 +19,8 @@ pub(crate) fn product(bases: &[u64]) -> u64
 /// The number that the digits write.
 pub(crate) fn number_of(bases: &[u64], digits: &[u64]) -> u64
     requires below { HasDigits bases.now digits.now }
-    requires fits { product_of bases.now < 2 ^ 64 }
-    ensures { result ≡ value_of bases.now digits.now }
+    requires fits { product bases.now < 2 ^ 64 }
+    ensures { result ≡ number_of bases.now digits.now }
 {
     let mut number = 0;
     let mut weight = 1;
@@ -33,8 +33,8 @@ pub(crate) fn number_of(bases: &[u64], digits: &[u64]) -> u64
 
 /// The three digits of a number.
 pub(crate) fn three_digits(bases: &[u64; 3], number: u64) -> [u64; 3]
-    requires { number < product_of bases.now }
-    ensures { result ≡ all_digits_of bases.now number }
+    requires { number < product bases.now }
+    ensures { result ≡ digits_of bases.now number }
 {
     let (rest, third) = split(number, bases[2]);
     let (first, second) = split(rest, bases[1]);

@@ -7,45 +7,60 @@ pub forms_in-forms-requires : goal.forms_in-forms-requires
 forms_in-forms-requires c = AreFewOnBoard-digits c.args.set c.args.on_board.now c.requires.on_board
 
 pub overflow_mul-size : goal.overflow_mul-size
-overflow_mul-size c = (let fits = (parts_found c.args.set c.args.on_board.now _ c.args.place _ c.requires.on_board c.requires.place c.bases_in-bases.ensures c.forms_in-forms.ensures).fits_one in omega arith)
+overflow_mul-size c = (let fits
+    = (parts_found c.args.set c.args.on_board.now _ c.args.place _ c.requires.on_board c.requires.place
+    c.bases_in-bases.ensures c.forms_in-forms.ensures).fits_one in omega arith)
 
 pub overflow_mul-size-2 : goal.overflow_mul-size-2
-overflow_mul-size-2 c = (let fits = (parts_found c.args.set c.args.on_board.now _ c.args.place _ c.requires.on_board c.requires.place c.bases_in-bases.ensures c.forms_in-forms.ensures).fits_two in omega arith)
+overflow_mul-size-2 c = (let fits
+    = (parts_found c.args.set c.args.on_board.now _ c.args.place _ c.requires.on_board c.requires.place
+    c.bases_in-bases.ensures c.forms_in-forms.ensures).fits_two in omega arith)
 
 pub overflow_mul-size-3 : goal.overflow_mul-size-3
-overflow_mul-size-3 c = (let fits = (parts_found c.args.set c.args.on_board.now _ c.args.place _ c.requires.on_board c.requires.place c.bases_in-bases.ensures c.forms_in-forms.ensures).fits_three in omega arith)
+overflow_mul-size-3 c = (let fits
+    = (parts_found c.args.set c.args.on_board.now _ c.args.place _ c.requires.on_board c.requires.place
+    c.bases_in-bases.ensures c.forms_in-forms.ensures).fits_three in omega arith)
 
 pub nonzero_div-run : goal.nonzero_div-run
-nonzero_div-run c = (parts_found c.args.set c.args.on_board.now _ c.args.place _ c.requires.on_board c.requires.place c.bases_in-bases.ensures c.forms_in-forms.ensures).parts.size_some
+nonzero_div-run c = (parts_found c.args.set c.args.on_board.now _ c.args.place _ c.requires.on_board c.requires.place
+    c.bases_in-bases.ensures c.forms_in-forms.ensures).parts.size_some
 
 pub nonzero_rem-local : goal.nonzero_rem-local
-nonzero_rem-local c = (parts_found c.args.set c.args.on_board.now _ c.args.place _ c.requires.on_board c.requires.place c.bases_in-bases.ensures c.forms_in-forms.ensures).parts.size_some
+nonzero_rem-local c = (parts_found c.args.set c.args.on_board.now _ c.args.place _ c.requires.on_board c.requires.place
+    c.bases_in-bases.ensures c.forms_in-forms.ensures).parts.size_some
 
 pub nonzero_div-local : goal.nonzero_div-local
-nonzero_div-local c = (parts_found c.args.set c.args.on_board.now _ c.args.place _ c.requires.on_board c.requires.place c.bases_in-bases.ensures c.forms_in-forms.ensures).parts.forms_some
+nonzero_div-local c = (parts_found c.args.set c.args.on_board.now _ c.args.place _ c.requires.on_board c.requires.place
+    c.bases_in-bases.ensures c.forms_in-forms.ensures).parts.forms_some
 
 pub nonzero_rem-local-2 : goal.nonzero_rem-local-2
-nonzero_rem-local-2 c = (parts_found c.args.set c.args.on_board.now _ c.args.place _ c.requires.on_board c.requires.place c.bases_in-bases.ensures c.forms_in-forms.ensures).parts.forms_some
+nonzero_rem-local-2 c = (parts_found c.args.set c.args.on_board.now _ c.args.place _ c.requires.on_board c.requires.place
+    c.bases_in-bases.ensures c.forms_in-forms.ensures).parts.forms_some
 
 pub three_digits-hands-requires : goal.three_digits-hands-requires
 three_digits-hands-requires c =
-    let found = parts_found c.args.set c.args.on_board.now _ c.args.place _ c.requires.on_board c.requires.place c.bases_in-bases.ensures c.forms_in-forms.ensures in
+    let found = parts_found c.args.set c.args.on_board.now _ c.args.place _ c.requires.on_board
+    c.requires.place c.bases_in-bases.ensures c.forms_in-forms.ensures in
     below_same _ _ _ found.hands_are found.parts.hands_low
 
 pub three_digits-squares-requires : goal.three_digits-squares-requires
 three_digits-squares-requires c =
-    let found = parts_found c.args.set c.args.on_board.now _ c.args.place _ c.requires.on_board c.requires.place c.bases_in-bases.ensures c.forms_in-forms.ensures in
+    let found = parts_found c.args.set c.args.on_board.now _ c.args.place _ c.requires.on_board
+    c.requires.place c.bases_in-bases.ensures c.forms_in-forms.ensures in
     below_same _ _ _ found.squares_are found.parts.squares_low
 
 pub form_digits-forms-requires-clause-few : goal.form_digits-forms-requires-clause-few
 form_digits-forms-requires-clause-few c = AreFewOnBoard-digits c.args.set c.args.on_board.now c.requires.on_board
 
 pub form_digits-forms-requires-clause-number : goal.form_digits-forms-requires-clause-number
-form_digits-forms-requires-clause-number c = (parts_found c.args.set c.args.on_board.now _ c.args.place _ c.requires.on_board c.requires.place c.bases_in-bases.ensures c.forms_in-forms.ensures).parts.forms_low
+form_digits-forms-requires-clause-number c
+    = (parts_found c.args.set c.args.on_board.now _ c.args.place _ c.requires.on_board c.requires.place
+    c.bases_in-bases.ensures c.forms_in-forms.ensures).parts.forms_low
 
 pub returns : goal.returns
 returns c =
-    let found = parts_found c.args.set c.args.on_board.now _ c.args.place _ c.requires.on_board c.requires.place c.bases_in-bases.ensures c.forms_in-forms.ensures in
+    let found = parts_found c.args.set c.args.on_board.now _ c.args.place _ c.requires.on_board
+    c.requires.place c.bases_in-bases.ensures c.forms_in-forms.ensures in
     digits_found c.args.set c.args.on_board.now c.args.place _ _ _ _ _ found.parts
     (c.three_digits-hands.ensures ∙ digits_same _ _ _ found.hands_are)
     (c.three_digits-squares.ensures ∙ digits_same _ _ _ found.squares_are)

@@ -1,3 +1,4 @@
+-- Powers of 4 and 2 are one shift.
 use Rattle.dob_rank.proofs.DigitParts.{forms_shifted}
 use Rattle.dob_rank.proofs.block.forms_in.Goals as goal
 

@@ -11,7 +11,8 @@ bounds-board-mask c = first_on_board c.args.of_layer c.args.board.now c.args.mas
 
 pub returns-then-pieces-eq1 : goal.returns-then-pieces-eq1
 returns-then-pieces-eq1 c =
-    form_found c.args.of_layer c.args.board.now c.args.mask _ c.told-board c.requires.mask (sym c.requires.pieces ∙ c.if-pieces-eq1.true) c.form_of-first.ensures.value
+    form_found c.args.of_layer c.args.board.now c.args.mask _ c.told-board c.requires.mask (sym c.requires.pieces
+    ∙ c.if-pieces-eq1.true) c.form_of-first.ensures.value
 
 pub bounds-board-rest : goal.bounds-board-rest
 bounds-board-rest c =

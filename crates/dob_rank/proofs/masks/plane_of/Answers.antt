@@ -35,7 +35,8 @@ empty_cell : entry (piece_of Mover Lion) 1 ≡ 0
 unfolding entry
 empty_cell = refl
 
-of_cell : (cell : Cell) (piece : Piece) (empty : Bool) (none : ℕ) → piece ≡ unwrap_or cell (piece_of Mover Lion) → is_some cell ≡ not empty → none ≡ bool_byte empty →
+of_cell : (cell : Cell) (piece : Piece) (empty : Bool) (none : ℕ) → piece ≡ unwrap_or cell (piece_of Mover Lion)
+    → is_some cell ≡ not empty → none ≡ bool_byte empty →
     entry piece none ≡ plane (layer cell)
 of_cell None piece true none p e n = ap (λ (x : Piece). entry x none) p ∙ ap (entry (piece_of Mover Lion)) n ∙ empty_cell
 of_cell None piece false none p e n = absurd (cc)

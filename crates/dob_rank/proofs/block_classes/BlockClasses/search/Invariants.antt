@@ -1,3 +1,4 @@
+-- The class stands between the two places, which come closer.
 use Rattle.std.proofs.Common.{◌<◌, ◌≤◌, ◌+◌, ◌-◌}
 use Rattle.dob_rank.specs.Numbers.{block_size, start_of}
 use Rattle.dob_rank.specs.Marks.{marked, marks_below}

@@ -6,7 +6,8 @@ use Rattle.dob_rank.proofs.ClassNumbers.{class_of_marked, class_of_unmarked}
 use Rattle.dob_rank.proofs.classes.Classes.class_by.Goals as goal
 
 pub look_up-requires : goal.look_up-requires
-look_up-requires c = subst (IsPositionOf c.args.self.now.set) (sym c.mirrored.ensures) (IsPositionOf-mirrored c.args.self.now.set c.args.position.now.setup c.requires.position)
+look_up-requires c = subst (IsPositionOf c.args.self.now.set) (sym c.mirrored.ensures)
+    (IsPositionOf-mirrored c.args.self.now.set c.args.position.now.setup c.requires.position)
 
 pub returns-then-is_first : goal.returns-then-is_first
 returns-then-is_first c =
