@@ -81,8 +81,9 @@ pub(crate) fn digits_in(set: PieceSet, on_board: &EachKind, place: u64) -> [u64;
     let local = place % size;
     let hands = radix::three_digits(&[bases[0], bases[1], bases[2]], run / LIONS);
     let lions = run % LIONS;
-    let squares = radix::three_digits(&[bases[5], bases[6], bases[7]], local / forms);
-    let forms = form_digits(on_board, local % forms);
+    let (choices, form) = radix::split_by_power(local, form_bits(on_board));
+    let squares = radix::three_digits(&[bases[5], bases[6], bases[7]], choices);
+    let forms = form_digits(on_board, form);
     [
         hands[0],
         hands[1],
@@ -103,7 +104,16 @@ fn forms_in(on_board: &EachKind) -> u64
     requires { AreFewOnBoard on_board.now }
     ensures { result ≡ product (form_bases on_board.now) }
 {
-    1 << (2 * on_board[0] + on_board[1] + on_board[2])
+    1 << form_bits(on_board)
+}
+
+/// How many bits tell the forms of the pieces of those numbers on the board.
+fn form_bits(on_board: &EachKind) -> u64
+    requires { AreFewOnBoard on_board.now }
+    ensures value { 2 ^ result ≡ product (form_bases on_board.now) }
+    ensures bound { result ≤ 8 }
+{
+    2 * on_board[0] + on_board[1] + on_board[2]
 }
 
 /// The digits of the forms for those numbers on the board.
@@ -112,10 +122,9 @@ fn form_digits(on_board: &EachKind, number: u64) -> EachKind
     requires number { number < product (form_bases on_board.now) }
     ensures { result ≡ digits_of (form_bases on_board.now) number }
 {
-    let elephants = 1 << on_board[1];
-    let giraffes = 1 << on_board[2];
-    let rest = number / giraffes;
-    [rest / elephants, rest % elephants, number % giraffes]
+    let (rest, giraffes) = radix::split_by_power(number, on_board[2]);
+    let (chicks, elephants) = radix::split_by_power(rest, on_board[1]);
+    [chicks, elephants, giraffes]
 }
 
 /// In how many ways at most two squares are chosen from so many.

@@ -1,5 +1,5 @@
 // Numbers in mixed radix: a list of bases, and for each base a digit below it, the first of most weight.
-ghost use Rattle.std.specs.Prelude.{◌≡◌, ◌<◌, ◌^◌, ◌/◌, ◌%◌};
+ghost use Rattle.std.specs.Prelude.{◌≡◌, ◌<◌, ◌≤◌, ◌^◌, ◌/◌, ◌%◌};
 ghost use Rattle.std.specs.List.{All};
 ghost use Rattle.dob_rank.specs.Numbers.{product, number_of, digits_of, HasDigits};
 
@@ -41,7 +41,17 @@ pub(crate) fn three_digits(bases: &[u64; 3], number: u64) -> [u64; 3]
     [first, second, third]
 }
 
-/// The quotient and the remainder by a base. Most bases are at most 3, and need no division by a variable.
+/// The quotient and the remainder by a power of 2.
+pub(crate) fn split_by_power(number: u64, exponent: u64) -> (u64, u64)
+    requires { exponent ≤ 32 }
+    ensures quotient { result.0 ≡ number / 2 ^ exponent }
+    ensures rest { result.1 ≡ number % 2 ^ exponent }
+{
+    (number >> exponent, number & ((1 << exponent) - 1))
+}
+
+/// The quotient and the remainder by a base. The bases of sets of up to three pieces are listed, so that there is no
+/// division by a variable, which takes longer than the rest of a rank.
 fn split(number: u64, base: u64) -> (u64, u64)
     requires { 0 < base }
     ensures quotient { result.0 ≡ number / base }
@@ -51,6 +61,11 @@ fn split(number: u64, base: u64) -> (u64, u64)
         1 => (number, 0),
         2 => (number / 2, number % 2),
         3 => (number / 3, number % 3),
+        8 => (number / 8, number % 8),
+        9 => (number / 9, number % 9),
+        10 => (number / 10, number % 10),
+        36 => (number / 36, number % 36),
+        45 => (number / 45, number % 45),
         _ => (number / base, number % base),
     }
 }
