@@ -16,7 +16,7 @@ use Rattle.dob_node.specs.Stores.{HistoryView}
 use Rattle.dob_node.specs.Lawful.{CanApply}
 use Rattle.dob_node.specs.declared.cause.Cause.{Cause}
 use Rattle.dob_node.specs.declared.cause.Cause.TheVariants as cause
-use Rattle.dob_node.specs.Takes.{HasEntries, AreKept, IsRefused, StopsAt}
+use Rattle.dob_node.specs.Takes.{HasEntries, AreKept, IsReason, StopsAt}
 use Rattle.dob_node.specs.declared.node.Node.{Node}
 use Rattle.dob_node.specs.Nodes.{HasRefused}
 use Rattle.dob_world.specs.declared.lane.Lane.{Lane}
@@ -62,7 +62,7 @@ module _ (k : Setting) (nodes : List Node) (lanes : List Lane) (some : 0 < k.n) 
       lane_at k.n lanes i i ≡ Some lane → (why ≡ cause.Memory) ⊎ HasRefused node why → why ≡ cause.Contradiction class → ⊥
   own_no_contradiction i node lane why class low there_n there_l (inl memory) is = let e : cause.Memory ≡ cause.Contradiction class = sym memory ∙ is in cc
   own_no_contradiction i node lane why class low there_n there_l (inr refused) is =
-      let no : IsRefused refused.item node.share (cause.Contradiction class) = subst (λ w. IsRefused refused.item node.share w) is refused.refused in
+      let no : IsReason refused.item node.share (cause.Contradiction class) = subst (λ w. IsReason refused.item node.share w) is refused.refused in
       no.1 (own_fits i node lane refused.item refused.behind low there_n there_l refused.first)
 
   -- nor is one of a batch
@@ -98,5 +98,5 @@ module _ (k : Setting) (nodes : List Node) (lanes : List Lane) (some : 0 < k.n) 
       (with_share k i j (nodes_shown k.set k.n nodes lanes) at.after at.grown.settlements (lane.applied.items ++ at.front)).cell at.item here both.1
       (chain_statuses at.front node.share at.after node.history at.grown at.taken) can
       (cell_here k i j (nodes_shown k.set k.n nodes lanes) at.after at.grown.settlements (lane.applied.items ++ at.front) at.item.to can.below can.own) in
-      let no : IsRefused at.item at.after (cause.Contradiction class) = subst (λ w. IsRefused at.item at.after w) is at.refused in
+      let no : IsReason at.item at.after (cause.Contradiction class) = subst (λ w. IsReason at.item at.after w) is at.refused in
       no.1 fits
