@@ -10,6 +10,7 @@ mod timer;
 
 use anyhow::{Result, bail};
 use dob_pieces::PieceSet;
+use dob_rank::MOST_PIECES;
 
 const LIONS_ALONE: PieceSet = PieceSet {
     chicks: 0,
@@ -37,10 +38,10 @@ fn main(rt: HostRuntime) -> Result<()> {
     Ok(())
 }
 
-// The piece set of that text, which is to have at most three pieces besides the lions.
+// The piece set of that text, which is to have at most `MOST_PIECES` pieces besides the lions.
 fn small_set(text: &str) -> Result<PieceSet> {
     match PieceSet::read(text) {
-        Ok(set) if set.chicks + set.elephants + set.giraffes <= 3 => Ok(set),
+        Ok(set) if set.chicks + set.elephants + set.giraffes <= MOST_PIECES => Ok(set),
         _ => bail!("no set of up to three pieces besides the lions, as 111\n{USAGE}"),
     }
 }

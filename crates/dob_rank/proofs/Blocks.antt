@@ -101,9 +101,6 @@ at_most a b h = omega arith
 one_more : (c : ℕ) → c ≤ 2 → c + 1 ≤ 3
 one_more c h = omega arith
 
-some_more : (c : ℕ) → 0 < c + 1
-some_more c = omega arith
-
 room_left : (i j : ℕ) → i ≤ 2 → j ≤ 2 → (2 ≤ 10 - i) × (2 ≤ 10 - i - j)
 room_left i j h l = ((omega arith), (omega arith))
 
@@ -187,9 +184,6 @@ pub blocks_small : (set : PieceSet) → product (block_bases set) ≤ 27
 blocks_small set = product-at_most (block_bases set) (3 ∷ 3 ∷ 3 ∷ [])
     (one_more set.chicks set.few_chicks, (one_more set.elephants set.few_elephants, (one_more set.giraffes set.few_giraffes, tt)))
 
-pub block_bases-positive : (set : PieceSet) → All (λ (b : ℕ). 0 < b) (block_bases set)
-block_bases-positive set = all_positive (block_bases set) (some_more set.chicks, (some_more set.elephants, (some_more set.giraffes, tt)))
-
 -- the numbers on the board are within the set
 pub few_from_digits : (set : PieceSet) (ob : List ℕ) → HasDigits (block_bases set) ob → AreFew set (slice_index ob 0) (slice_index ob 1) (slice_index ob 2)
 few_from_digits set ob h = record {
@@ -240,13 +234,6 @@ AreBases-by set ob bs h e =
 
 fits_small : (n : ℕ) → n ≤ 27 → (n ≤ 68719476736) × (n < 18446744073709551616)
 fits_small n h = ((omega arith), (omega arith))
-
-pub AreBases-block : (set : PieceSet) (bs : List ℕ) → bs ≡ block_bases set → AreBases bs
-AreBases-block set bs e = subst AreBases (sym e) (record {
-  positive = block_bases-positive set;
-  small_product = (fits_small (product (block_bases set)) (blocks_small set)).0;
-  fits = (fits_small (product (block_bases set)) (blocks_small set)).1;
-})
 
 pub HasDigits-numbers : (set : PieceSet) (block : ℕ) (xs : List ℕ) → block < product (block_bases set)
     → xs ≡ digits_of (block_bases set) block → HasDigits (block_bases set) xs

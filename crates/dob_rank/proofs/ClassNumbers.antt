@@ -1,18 +1,18 @@
 -- Class numbers: a position's class is found by the lower of two ranks, and classes and their numbers answer each other.
 use Rattle.std.proofs.Common.{◌≡◌, ℕ, zero, suc, ◌+◌, ◌-◌, ◌<◌, ◌≤◌, ◌⊎◌, min, Bool, true, false, refl, sym, ap, ◌∙◌, subst, inl, inr, arith}
 use Rattle.std.proofs.lemmas.Bool.{cases_lt, cases_order, cases_Bool}
-use Rattle.std.proofs.Math.Nat.{min-le_left, min-eq_left, min-eq_right, min_comm}
+use Rattle.std.proofs.Math.Nat.{min-eq_left, min-eq_right, min_comm}
 use Rattle.dob_pieces.specs.declared.piece_set.PieceSet.{PieceSet}
 use Rattle.dob_pieces.specs.declared.setup.Setup.{Setup}
 use Rattle.dob_pieces.specs.Setups.{mirrored}
 use Rattle.dob_pieces.proofs.Symmetries.{mirrored-mirrored}
 use Rattle.dob_rank.specs.Order.{IsPositionOf, IsFirstOfTwo, IsRepresentative, RepresentativeOf, HasClass, IsInClass}
-use Rattle.dob_rank.specs.Numbers.{size_of, rank_of, nth}
+use Rattle.dob_rank.specs.Numbers.{size_of, rank_of}
 use Rattle.dob_rank.specs.Marks.{one_if, marks_below, marked, classes_of, class_number}
-use Rattle.dob_rank.proofs.Numbering.{nth-block, rank_of-nth, rank_of-below, rank_of-rises, rank_of-same, Before-from_rank}
-use Rattle.dob_rank.proofs.Found.{RankOf, IsPositionOf-mirrored}
+use Rattle.dob_rank.proofs.Numbering.{rank_of-below, rank_of-rises, rank_of-same, Before-from_rank}
+use Rattle.dob_rank.proofs.Found.{IsPositionOf-mirrored}
 use Rattle.dob_rank.proofs.Marks.{HasClass-marked, first-marked, marked-first, marked-first_of}
-use Rattle.dob_rank.proofs.Words.{marks_below_more, marks_below_none}
+use Rattle.dob_rank.proofs.Words.{marks_below_more}
 
 -- ---- marks below a place rise with the place
 
@@ -97,25 +97,6 @@ class_number-below set s p =
     (marks_below-rises (marked set) (rank_of set e.0) (size_of set) (representative-marked set e.0 (e.1.position, e.1.representative.1))
     (rank_of-below set e.0 e.1.position))
 
--- the ranks of the code
-pub lower_rank : (set : PieceSet) (s t : Setup) (own image least : ℕ) → IsPositionOf set s
-    → t ≡ mirrored s → RankOf s own → RankOf t image → least ≡ min own image
-    → least ≡ min (rank_of set s) (rank_of set (mirrored s))
-lower_rank set s t own image least p e r q m =
-    let pt : IsPositionOf set t = subst (IsPositionOf set) (sym e) (IsPositionOf-mirrored set s p) in
-    m ∙ ap (λ (x : ℕ). min x image) (r set p) ∙ ap (min (rank_of set s)) (q set pt ∙ ap (rank_of set) e)
-
-pub lower_rank-below : (set : PieceSet) (s : Setup) (least : ℕ) → IsPositionOf set s
-    → least ≡ min (rank_of set s) (rank_of set (mirrored s)) → least < size_of set
-lower_rank-below set s least p e = least_below (rank_of set s) (rank_of set (mirrored s)) least (size_of set) e (rank_of-below set s p)
-  where
-    least_below : (a b least size : ℕ) → least ≡ min a b → a < size → least < size
-    least_below a b least size e h = (let le : min a b ≤ a = min-le_left a b in omega arith)
-
-pub class_found : (set : PieceSet) (s : Setup) (least number : ℕ) → least ≡ min (rank_of set s) (rank_of set (mirrored s))
-    → number ≡ marks_below (marked set) least → number ≡ class_number set s
-class_found set s least number e f = f ∙ ap (marks_below (marked set)) e ∙ sym (class_number-is set s)
-
 -- one number: one position, or a position and its mirror image
 pub class_once : (set : PieceSet) (s t : Setup) → IsPositionOf set s → IsPositionOf set t → class_number set s ≡ class_number set t → (s ≡ t) ⊎ (s ≡ mirrored t)
 class_once set s t p q e =
@@ -198,28 +179,6 @@ pub later_unmarked : (set : PieceSet) (s : Setup) (rank : ℕ) → IsPositionOf 
 later_unmarked set s rank p e off first =
     let on : marked set rank ≡ true = ap (marked set) e ∙ representative-marked set s (p, first) in
     cc
-
--- each number below the number of classes has its representative
-pub place_of_number : (mark : ℕ → Bool) (n number : ℕ) → number < marks_below mark n → (place : ℕ) × (place < n) × IsMarkedAt mark place number
-place_of_number mark zero number h = absurd (let none : marks_below mark 0 ≡ 0 = marks_below_none mark in omega arith)
-place_of_number mark (suc n) number h = elim (cases_lt number (marks_below mark n)) [
-  | inl lt ↦ (let at = place_of_number mark n number lt in (at.0, (let low : at.0 < n = at.1 in omega arith), at.2))
-  | inr ge ↦ (n, (omega arith), one_left mark n (suc n) number (omega arith) (omega arith) ge h)
-]
-
-pub class_exists : (set : PieceSet) (class : ℕ) → class < classes_of set → (s : Setup) × IsAtClass set s class
-unfolding classes_of
-class_exists set class h =
-    let at = place_of_number (marked set) (size_of set) class h in
-    (nth set at.0, at_class set (nth set at.0) at.0 class (nth-block set at.0 at.1).position (rank_of-nth set at.0 at.1) at.1 at.2.on at.2.number_is)
-
--- and no other
-pub representative_once : (set : PieceSet) (s t : Setup) → IsRepresentative set s → IsRepresentative set t → class_number set s ≡ class_number set t → s ≡ t
-representative_once set s t p q e =
-    let marks : marks_below (marked set) (rank_of set s) ≡ marks_below (marked set) (rank_of set t)
-    = sym (class_number-first set s p.0 p.1) ∙ e ∙ class_number-first set t q.0 q.1 in
-    rank_of-same set s t p.0 q.0
-    (marks_below-same (marked set) (rank_of set s) (rank_of set t) (representative-marked set s p) (representative-marked set t q) marks)
 
 -- ---- the class of a position by the mark of its rank
 

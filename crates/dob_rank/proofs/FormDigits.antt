@@ -10,14 +10,14 @@ use Rattle.dob_pieces.specs.declared.kind.Side.{Side}
 use Rattle.dob_pieces.specs.declared.kind.Side.TheVariants.{Mover, Enemy}
 use Rattle.dob_pieces.specs.Setups.{Cell, piece_of}
 use Rattle.dob_rank.specs.Order.{form, form_of}
-use Rattle.dob_rank.specs.Numbers.{layer, layer_of, count, base_of, forms_number, cell_of, board_of}
+use Rattle.dob_rank.specs.Numbers.{order, layer, layer_of, count, base_of, forms_number, cell_of, board_of}
 use Rattle.dob_rank.proofs.MixedRadix.{digit_below}
 use Rattle.dob_rank.proofs.Choices.{count_same, count_other}
 use Rattle.dob_rank.proofs.Settled.{AreLayers}
 
 -- ---- the pieces of a layer and their forms
 
-pub form_of-below : (s : Side) (k : Kind) → form_of s k < base_of (layer_of s k)
+pub form_of-below : (s : Side) (k : Kind) → form_of s k < base_of (order (layer_of s k))
 form_of-below Mover Lion = omega arith
 form_of-below Mover Giraffe = omega arith
 form_of-below Mover Elephant = omega arith
@@ -33,7 +33,7 @@ pub form-below : (cell : Cell) → form cell < base_of (layer cell)
 form-below None = omega arith
 form-below (Some piece) = form_of-below piece.side piece.kind
 
-pub layer_of-bound : (s : Side) (k : Kind) → layer_of s k < 5
+pub layer_of-bound : (s : Side) (k : Kind) → order (layer_of s k) < 5
 layer_of-bound Mover Lion = omega arith
 layer_of-bound Mover Giraffe = omega arith
 layer_of-bound Mover Elephant = omega arith
@@ -47,14 +47,14 @@ layer_of-bound Enemy Hen = omega arith
 
 pub layer-bound : (cell : Cell) → layer cell ≤ 5
 layer-bound None = omega arith
-layer-bound (Some piece) = (let low : layer_of piece.side piece.kind < 5 = layer_of-bound piece.side piece.kind in omega arith)
+layer-bound (Some piece) = (let low : order (layer_of piece.side piece.kind) < 5 = layer_of-bound piece.side piece.kind in omega arith)
 
 pub AreLayers-map : (cells : List Cell) → AreLayers (map layer cells)
 AreLayers-map [] = tt
 AreLayers-map (cell ∷ cells) = (layer-bound cell, AreLayers-map cells)
 
 -- the cell of a piece's layer and form has that piece
-pub cell_of-piece : (s : Side) (k : Kind) → cell_of (layer_of s k) (form_of s k) ≡ Some (piece_of s k)
+pub cell_of-piece : (s : Side) (k : Kind) → cell_of (order (layer_of s k)) (form_of s k) ≡ Some (piece_of s k)
 cell_of-piece Mover Lion = refl
 cell_of-piece Mover Giraffe = refl
 cell_of-piece Mover Elephant = refl

@@ -1,17 +1,14 @@
 -- What the lists and numbers of the code amount to: the rank of a position, and the position of a rank.
-use Rattle.std.proofs.Common.{◌≡◌, ℕ, zero, suc, ◌+◌, ◌-◌, ◌*◌, ◌<◌, ◌≤◌, List, [], ◌∷◌, replicate, refl, sym, ap, ◌∙◌, subst, inl, inr, arith}
-use Rattle.std.specs.List.{All}
-use Rattle.std.proofs.lemmas.Bool.{cases_eq, cases_lt}
+use Rattle.std.proofs.Common.{◌≡◌, ℕ, ◌+◌, ◌*◌, ◌<◌, ◌≤◌, List, refl, sym, ap, ◌∙◌, subst, inl, inr, arith}
 use Rattle.dob_pieces.specs.declared.piece_set.PieceSet.{PieceSet}
 use Rattle.dob_pieces.specs.declared.setup.Setup.{Setup}
 use Rattle.dob_pieces.specs.Setups.{IsLegal, mirrored}
 use Rattle.dob_pieces.proofs.Boards.{total-mirrored, IsLegal-mirrored}
 use Rattle.dob_pieces.proofs.Symmetries.{mirrored-mirrored}
 use Rattle.dob_rank.specs.Order.{IsPositionOf, Before, RepresentativeOf}
-use Rattle.dob_rank.specs.Numbers.{count, with_first, settle, product, number_of, digits_of, HasDigits, sum_below, block_bases, bases_by}
+use Rattle.dob_rank.specs.Numbers.{product, number_of, digits_of, HasDigits, sum_below, block_bases, bases_by}
 use Rattle.dob_rank.specs.Numbers.{on_board, digits, block_of, block_size, rank_of, setup_by, setup_in}
 use Rattle.dob_rank.proofs.MixedRadix.{HasDigits-digits_of}
-use Rattle.dob_rank.proofs.Settled.{AreLayers, settle_kept, settle_taken, settle_left}
 use Rattle.dob_rank.proofs.Digits.{HasParts-from_position, HasDigits-on_board, HasDigits-digits}
 use Rattle.dob_rank.proofs.Numbering.{HasBlock, HasBlock-setup_in, block_size-product, block_of-below, place_of-below, rank_of-place, place_of, rank_of-rises}
 use Rattle.dob_rank.proofs.Blocks.{block_size-small}
@@ -90,36 +87,6 @@ pub made_same : (set : PieceSet) (block place : ℕ) (s t : Setup) → t ≡ s �
 made_same set block place s t e h = subst (HasBlock set block place) (sym e) h
 
 -- ---- layers settled are layers
-
-pub AreLayers-settle : (t pieces number : ℕ) (ls : List ℕ) → t ≤ 5 → AreLayers ls → AreLayers (settle t pieces number ls)
-AreLayers-settle t pieces number [] h a = tt
-AreLayers-settle t pieces number (l ∷ ls) h a = elim (cases_eq l 5) [
-  | inr n ↦ subst AreLayers (sym (settle_kept t pieces number l ls n)) (a.0, AreLayers-settle t pieces number ls h a.1)
-  | inl e ↦ subst (λ (x : ℕ). AreLayers (settle t pieces number (x ∷ ls))) (sym e) (elim (cases_lt number (with_first (count 5 ls) pieces)) [
-    | inl lt ↦ subst AreLayers (sym (settle_taken t pieces number ls lt)) (h, AreLayers-settle t (pieces - 1) number ls h a.1)
-    | inr le ↦ subst AreLayers (sym (settle_left t pieces number ls le))
-        ((omega arith), AreLayers-settle t pieces (number - with_first (count 5 ls) pieces) ls h a.1)
-  ])
-]
-
-all_layers : (ls : List ℕ) → AreLayers ls → All (λ (t : ℕ). t ≤ 5) ls
-all_layers [] a k d l = absurd (omega arith)
-all_layers (x ∷ ls) a zero d l = a.0
-all_layers (x ∷ ls) a (suc k) d l = all_layers ls a.1 k d (omega arith)
-
-layers_replicated : (n : ℕ) → AreLayers (replicate n 5)
-layers_replicated zero = tt
-layers_replicated (suc n) = ((omega arith), layers_replicated n)
-
-pub five_layers : (i j k n0 n1 n2 n3 n4 : ℕ) (a b c d e : List ℕ) → a ≡ settle 0 1 n0 (replicate 12 5) → b ≡ settle 1 1 n1 a
-    → c ≡ settle 2 i n2 b → d ≡ settle 3 j n3 c → e ≡ settle 4 k n4 d
-    → All (λ (t : ℕ). t ≤ 5) e
-five_layers i j k n0 n1 n2 n3 n4 a b c d e p q r s t =
-    all_layers e (subst AreLayers (sym t) (AreLayers-settle 4 k n4 d (omega arith)
-    (subst AreLayers (sym s) (AreLayers-settle 3 j n3 c (omega arith)
-    (subst AreLayers (sym r) (AreLayers-settle 2 i n2 b (omega arith)
-    (subst AreLayers (sym q) (AreLayers-settle 1 1 n1 a (omega arith)
-    (subst AreLayers (sym p) (AreLayers-settle 0 1 n0 (replicate 12 5) (omega arith) (layers_replicated 12)))))))))))
 
 -- ---- the earlier of a position and its mirror image
 

@@ -12,7 +12,7 @@ use Rattle.dob_pieces.specs.declared.kind.Side.{Side}
 use Rattle.dob_pieces.specs.declared.kind.Side.TheVariants.{Mover, Enemy}
 use Rattle.dob_pieces.specs.Setups.{Cell, piece_of, holds_lion, holds_kind}
 use Rattle.dob_rank.specs.Order.{squares_from}
-use Rattle.dob_rank.specs.Numbers.{layer, layer_of, count, count_from, with_first, choice, settle}
+use Rattle.dob_rank.specs.Numbers.{order, layer, layer_of, count, count_from, with_first, choice, settle}
 use Rattle.dob_rank.proofs.Choices.{count_same, count_other, count_from_lower, count_from_later, choice_later, choice_not_later, layer_squares}
 use Rattle.dob_rank.proofs.Settled.{AreShown, AreLayers, settle_kept, settle_taken, settle_left}
 
@@ -124,7 +124,7 @@ pub holds_mover_lion : (cell : Cell) → holds_lion Mover cell ≡ eqb (layer ce
 holds_mover_lion None = refl
 holds_mover_lion (Some piece) = of_piece piece.side piece.kind
   where
-    of_piece : (s : Side) (k : Kind) → holds_lion Mover (Some (piece_of s k)) ≡ eqb (layer_of s k) 0
+    of_piece : (s : Side) (k : Kind) → holds_lion Mover (Some (piece_of s k)) ≡ eqb (order (layer_of s k)) 0
     of_piece Mover Lion = refl
     of_piece Mover Giraffe = refl
     of_piece Mover Elephant = refl
@@ -140,7 +140,7 @@ pub holds_enemy_lion : (cell : Cell) → holds_lion Enemy cell ≡ eqb (layer ce
 holds_enemy_lion None = refl
 holds_enemy_lion (Some piece) = of_piece piece.side piece.kind
   where
-    of_piece : (s : Side) (k : Kind) → holds_lion Enemy (Some (piece_of s k)) ≡ eqb (layer_of s k) 1
+    of_piece : (s : Side) (k : Kind) → holds_lion Enemy (Some (piece_of s k)) ≡ eqb (order (layer_of s k)) 1
     of_piece Mover Lion = refl
     of_piece Mover Giraffe = refl
     of_piece Mover Elephant = refl
@@ -164,7 +164,7 @@ holds_kind-layer hand.Elephant None = refl
 holds_kind-layer hand.Giraffe None = refl
 holds_kind-layer kind (Some piece) = of_piece kind piece.side piece.kind
   where
-    of_piece : (kind : HandKind) (s : Side) (k : Kind) → holds_kind kind (Some (piece_of s k)) ≡ eqb (layer_of s k) (layer_of_kind kind)
+    of_piece : (kind : HandKind) (s : Side) (k : Kind) → holds_kind kind (Some (piece_of s k)) ≡ eqb (order (layer_of s k)) (layer_of_kind kind)
     of_piece hand.Chick Mover Lion = refl
     of_piece hand.Chick Mover Giraffe = refl
     of_piece hand.Chick Mover Elephant = refl
@@ -220,7 +220,7 @@ pub mover_lion : (cell : Cell) → layer cell ≡ 0 → cell ≡ Some (piece_of 
 mover_lion None h = absurd (let five : 5 ≡ 0 = h in omega arith)
 mover_lion (Some piece) h = of_piece piece.side piece.kind h
   where
-    of_piece : (s : Side) (k : Kind) → layer_of s k ≡ 0 → Some (piece_of s k) ≡ Some (piece_of Mover Lion)
+    of_piece : (s : Side) (k : Kind) → order (layer_of s k) ≡ 0 → Some (piece_of s k) ≡ Some (piece_of Mover Lion)
     of_piece Mover Lion e = refl
     of_piece Mover Giraffe e = absurd (omega arith)
     of_piece Mover Elephant e = absurd (omega arith)

@@ -2,7 +2,7 @@
 use Rattle.std.proofs.Common.{◌≡◌, ◌≢◌, ℕ, zero, suc, ◌+◌, ◌<◌, ◌≤◌, Bool, true, false, ◌&&◌, leb, [], ◌∷◌, ◌++◌, length, get_or, refl, sym}
 use Rattle.std.proofs.Common.{ap, ◌∙◌, subst, inl, inr, arith}
 use Rattle.std.specs.List.{Contains}
-use Rattle.std.proofs.lemmas.Bool.{cases_lt, cases_Bool, le-leb, leb-true, lt-ltb, le-ltb, both_ways}
+use Rattle.std.proofs.lemmas.Bool.{cases_lt, cases_Bool, le-leb, leb-true, lt-ltb, both_ways}
 use Rattle.std.proofs.lemmas.List.{length_push}
 use Rattle.std.proofs.lemmas.List.Elements.{All-nil, All-push, All-weaker, Contains-push, Contains-append_left}
 use Rattle.std.proofs.lemmas.List.Quantifiers.{all_pairs_push}
@@ -150,10 +150,6 @@ pub marked-first_of : (set : PieceSet) (r : ℕ) → r < size_of set → marked 
 unfolding marked
 marked-first_of set r h = ap (λ (b : Bool). b && is_first set r) (lt-ltb r (size_of set) h)
 
-pub marked_past : (set : PieceSet) (r : ℕ) → size_of set ≤ r → marked set r ≡ false
-unfolding marked
-marked_past set r h = ap (λ (b : Bool). b && is_first set r) (le-ltb r (size_of set) h)
-
 pub marks_below-marked : (set : PieceSet) (n : ℕ) → n ≤ size_of set → marks_below (marked set) n ≡ marks_below (is_first set) n
 unfolding marks_below
 marks_below-marked set zero h = refl
@@ -170,13 +166,3 @@ pub HasClass-marked : (set : PieceSet) (s : Setup) → IsPositionOf set s → Ha
 HasClass-marked set s p =
     subst (HasClass set s) (sym (marks_below-marked set (rank_of set s) (let low : rank_of set s < size_of set = rank_of-below set s p in omega arith)))
     (HasClass-marks set s p)
-
--- past the size there are no more marks
-pub marks_below-past : (set : PieceSet) (n k : ℕ) → size_of set + k ≡ n → marks_below (marked set) n ≡ classes_of set
-unfolding classes_of marks_below
-marks_below-past set n zero e = ap (marks_below (marked set)) (let same : n ≡ size_of set = omega arith in same)
-marks_below-past set zero (suc k) e = absurd (omega arith)
-marks_below-past set (suc n) (suc k) e =
-    let rest : marks_below (marked set) n ≡ classes_of set = marks_below-past set n k (omega arith) in
-    let off : one_if (marked set n) ≡ 0 = ap one_if (marked_past set n (omega arith)) in
-    omega arith

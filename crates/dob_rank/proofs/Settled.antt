@@ -177,13 +177,6 @@ hide-hide s t (l ∷ ls) h k =
           (ap (hidden s) (hidden_later t l le) ∙ hidden_later s 5 (omega arith) ∙ sym (hidden_later s l (omega arith))) rest
     ]
 
-pub hide-shown : (t : ℕ) (ls : List ℕ) → t ≤ 5 → AreShown t ls → hide t ls ≡ ls
-hide-shown t [] h a = refl
-hide-shown t (l ∷ ls) h a = elim a.0 [
-  | inl lt ↦ cons (hidden t l) l (hide t ls) ls (hidden_lower t l lt) (hide-shown t ls h a.1)
-  | inr e ↦ cons (hidden t l) l (hide t ls) ls (hidden_later t l (omega arith) ∙ sym e) (hide-shown t ls h a.1)
-]
-
 pub count_hide_next : (t : ℕ) (ls : List ℕ) → t < 5 → count t (hide (suc t) ls) ≡ count t ls
 count_hide_next t [] h = refl
 count_hide_next t (l ∷ ls) h =

@@ -8,6 +8,7 @@ ghost use Rattle.dob_rank.specs.Numbers.{HasBlock, bases_by, on_board as on_boar
 ghost use Rattle.dob_rank.specs.Numbers.{HasDigits};
 
 use crate::block::{self, DIGITS, EachKind};
+use crate::layers::Layer;
 use crate::masks::{self, Masks};
 use crate::{placing, radix, starts};
 use dob_pieces::{Hand, HandKind, Hands, PieceSet, Position, Setup};
@@ -160,9 +161,9 @@ fn digits_of(position: &Position, masks: Masks, on_board: &EachKind) -> [u64; DI
         masks::choice_of(masks.chicks, after_chicks, on_board[0]),
         masks::choice_of(masks.elephants, after_elephants, on_board[1]),
         masks::choice_of(masks.giraffes, empty, on_board[2]),
-        masks::forms_of(board, masks.chicks, 2, on_board[0]),
-        masks::forms_of(board, masks.elephants, 3, on_board[1]),
-        masks::forms_of(board, masks.giraffes, 4, on_board[2]),
+        masks::forms_of(board, masks.chicks, Layer::Chicks, on_board[0]),
+        masks::forms_of(board, masks.elephants, Layer::Elephants, on_board[1]),
+        masks::forms_of(board, masks.giraffes, Layer::Giraffes, on_board[2]),
     ]
 }
 
