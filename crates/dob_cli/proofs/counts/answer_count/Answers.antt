@@ -1,7 +1,7 @@
 -- The fault of counting the set is one of its text.
 use Rattle.std.proofs.lemmas.Result.{err_from_is_err_and}
 use Rattle.dob_cli.proofs.Endings.{set_fault_holds}
-use Rattle.dob_cli.proofs.counts.lines_of.Goals as goal
+use Rattle.dob_cli.proofs.counts.answer_count.Goals as goal
 
 pub returns-in_err-counts-clause-err : goal.returns-in_err-counts-clause-err
 returns-in_err-counts-clause-err c =

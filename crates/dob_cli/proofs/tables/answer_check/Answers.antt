@@ -1,7 +1,7 @@
 -- A fault of the table is one of the file.
 use Rattle.std.proofs.lemmas.Result.{err_from_is_err_and}
 use Rattle.dob_cli.proofs.TableFaults.{check_fault_holds}
-use Rattle.dob_cli.proofs.tables.checked.Goals as goal
+use Rattle.dob_cli.proofs.tables.answer_check.Goals as goal
 
 pub returns-in_err-check-clause-err : goal.returns-in_err-check-clause-err
 returns-in_err-check-clause-err g c =
