@@ -79,8 +79,8 @@ impl Classes {
         requires masks { AreMasks position.now.setup.board masks }
         ensures { result ≡ class_number self.now.set position.now.setup }
     {
-        let (is_first, class) = self.look_up_by(position, masks);
-        if is_first {
+        let (is_representative, class) = self.look_up_by(position, masks);
+        if is_representative {
             class
         } else {
             self.look_up(&position.mirrored()).1
@@ -96,8 +96,8 @@ impl Classes {
         ensures number { IfSome result (λ class. class ≡ class_number self.now.set position.now.setup) }
         ensures bound { IfSome result (λ class. class < classes_of self.now.set) }
     {
-        let (is_first, class) = self.look_up(position);
-        if is_first { Some(class) } else { None }
+        let (is_representative, class) = self.look_up(position);
+        if is_representative { Some(class) } else { None }
     }
 
     /// The representative of the class of that number, which is below the number of classes.
