@@ -9,7 +9,7 @@ use Rattle.dob_value.specs.Follows.{ClassTable, IsTable, IsConsistent, IsValueTa
 use Rattle.dob_value.proofs.Consistency.{consistent_is_right}
 use Rattle.dob_probe.specs.declared.fault.Fault.{Fault}
 use Rattle.dob_probe.specs.declared.fault.Fault.TheVariants.{OtherSet, Inconsistent, Memory}
-use Rattle.dob_probe.specs.Checks.{ClassFollows, ClassBreaks, IsFirstBroken}
+use Rattle.dob_probe.specs.Checks.{ClassFollows, ClassBreaks}
 use Rattle.dob_probe.specs.Faults.{IsVerdict, IsFaultOfCheck}
 use Rattle.dob_probe.proofs.Following.{consistent_of_all, consistent_has_no_break}
 
