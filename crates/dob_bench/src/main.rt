@@ -1,11 +1,13 @@
 // Measures what the builder rests on, and prints what it did and seconds. The words are a piece set, as `111`, and the name
 // of a file for its table, or neither; with no word it goes over lions alone and prints no times, so that what it prints is
-// the same on each machine.
+// the same on each machine. With `--plain` in place of a file's name it measures the plain programs of the rules and of the
+// predecessors, each beside the body that goes by masks.
 #![tactic(auto)]
 
 mod builds;
 mod counts;
 mod measure;
+mod plain;
 mod timer;
 
 use anyhow::{Result, bail};
@@ -18,7 +20,7 @@ const LIONS_ALONE: PieceSet = PieceSet {
     giraffes: 0,
 };
 
-const USAGE: &str = "usage: dob_bench [CEG [FILE]]";
+const USAGE: &str = "usage: dob_bench [CEG [FILE | --plain]]";
 
 fn main(rt: HostRuntime) -> Result<()> {
     let words: Vec<String> = std::env::args(&rt)?.skip(1).collect(rt.alloc())?;
@@ -28,6 +30,9 @@ fn main(rt: HostRuntime) -> Result<()> {
         }
         [text] => {
             measure::run(&rt, small_set(text.as_str())?, true)?;
+        }
+        [text, word] if word.as_str() == "--plain" => {
+            plain::run(&rt, small_set(text.as_str())?)?;
         }
         [text, name] => {
             let bytes = measure::run(&rt, small_set(text.as_str())?, true)?;

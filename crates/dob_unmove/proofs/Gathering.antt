@@ -13,6 +13,7 @@ use Rattle.dob_unmove.specs.Gathers.{Finds, Adds, Gathers}
 use Rattle.dob_unmove.specs.declared.undo.Undo.{Undo}
 use Rattle.dob_unmove.specs.declared.plain.Gathered.{Gathered}
 use Rattle.dob_unmove.specs.Walks.{TakesAll, undoes}
+use Rattle.dob_pieces.proofs.Symmetries.{turned-mirrored}
 use Rattle.dob_unmove.proofs.Counting.{all_gathered, counts_alone, counts_both}
 
 -- the answer of the numbering, at the position before the move
@@ -104,9 +105,9 @@ alone_found first n q t old new legal own e none g =
     counts_alone first n q new legal.squares own
     (subst (λ (x : Setup). Gathers first x (undoes x) [] new) e (subst (λ (xs : List ℕ). Gathers first t (undoes t) xs new) none g))
 
-pub both_found : (first : Setup → ℕ → Type 0) → IsNumbering first → (q image t s : Setup) (old mid new : List ℕ) → IsLegal q → mirrored q ≢ q → image ≡ mirrored q
-    → t ≡ turned q → s ≡ turned image → old ≡ [] → Gathers first t (undoes t) old mid → Gathers first s (undoes s) mid new → CountEdges first q new
-both_found first n q image t s old mid new legal other im e f none g h =
+pub both_found : (first : Setup → ℕ → Type 0) → IsNumbering first → (q t s : Setup) (old mid new : List ℕ) → IsLegal q → mirrored q ≢ q
+    → t ≡ turned q → s ≡ mirrored (turned q) → old ≡ [] → Gathers first t (undoes t) old mid → Gathers first s (undoes s) mid new → CountEdges first q new
+both_found first n q t s old mid new legal other e f none g h =
     counts_both first n q mid new legal.squares other
     (subst (λ (x : Setup). Gathers first x (undoes x) [] mid) e (subst (λ (xs : List ℕ). Gathers first t (undoes t) xs mid) none g))
-    (subst (λ (x : Setup). Gathers first x (undoes x) mid new) (f ∙ ap turned im) h)
+    (subst (λ (x : Setup). Gathers first x (undoes x) mid new) (f ∙ sym (turned-mirrored q)) h)

@@ -15,3 +15,4 @@ pub mod Homes
 pub mod Shapes
 pub mod Dead
 pub mod WayMasks
+pub mod OwnImages

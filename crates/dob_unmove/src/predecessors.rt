@@ -1,7 +1,7 @@
 // The classes from which a class is reached: the walk over the ways back that masks leave.
-ghost use Rattle.std.specs.Prelude.{◌≡◌, true, false, ◌<◌, ℕ, ◌∷◌, [], IfOk, OnOk};
+ghost use Rattle.std.specs.Prelude.{◌≡◌, ◌↔◌, true, false, ◌<◌, ℕ, ◌∷◌, [], IsTrue, IfOk, OnOk};
 ghost use Rattle.dob_pieces.specs.declared.setup.Setup.{Setup};
-ghost use Rattle.dob_pieces.specs.Setups.{at};
+ghost use Rattle.dob_pieces.specs.Setups.{at, turned, mirrored};
 ghost use Rattle.dob_rank.specs.Marks.{classes_of};
 ghost use Rattle.dob_unmove.specs.declared.undo.Undo.{Undo};
 ghost use Rattle.dob_unmove.specs.Undoes.{arrives_at as arrival, CanUndo, earlier};
@@ -11,7 +11,7 @@ ghost use Rattle.dob_unmove.specs.Classes.{IsFirstIn};
 ghost use Rattle.dob_unmove.specs.Gathers.{Finds, Gathers};
 ghost use Rattle.dob_unmove.specs.Threats.{elsewhere, stood_before};
 ghost use Rattle.dob_unmove.specs.Walks.{stands, uncatch, unsteps_from, unsteps, unputs, undoes_at, undoes};
-ghost use Rattle.dob_unmove.specs.Ways.{may_come, CanWalk};
+ghost use Rattle.dob_unmove.specs.Ways.{may_come, AreWays, CanWalk};
 
 use crate::earlier::open_before;
 use crate::plain::class_of_first;
@@ -201,6 +201,19 @@ fn class_before(classes: &Classes, after: &Setup, ways: &Ways, undo: Undo) -> Op
     }
 }
 
+/// Whether the representative is its own mirror image. What is known of the turned setup says mostly that it isn't: its lions
+/// would stand on column b.
+fn is_own_image(classes: &Classes, first: &Position, ways: &Ways) -> bool
+    requires first { (class : ℕ) × IsFirstIn classes.now.set first.now.setup class }
+    requires ways { AreWays (turned first.now.setup) ways.now }
+    ensures { IsTrue result ↔ (mirrored first.now.setup ≡ first.now.setup) }
+{
+    if ways.threat.lion.column() == 1 {
+        return class_of_first(classes, &first.mirrored()).is_some();
+    }
+    false
+}
+
 /// The classes from which moves lead to the representative of a class or to its mirror image, in the order of the walk, in
 /// the room of that list.
 fn gather(room: Vec<u64>, classes: &Classes, first: &Position) -> Result<Vec<u64>, Memory>
@@ -210,13 +223,13 @@ fn gather(room: Vec<u64>, classes: &Classes, first: &Position) -> Result<Vec<u64
     let mut found = room;
     found.clear();
     let after = first.turned();
-    gather_all(classes, &after, &Ways::of(&after), &mut found)?;
-    let image = first.mirrored();
-    if class_of_first(classes, &image).is_some() {
+    let ways = Ways::of(&after);
+    gather_all(classes, &after, &ways, &mut found)?;
+    if is_own_image(classes, first, &ways) {
         return Ok(found);
     }
-    let after = image.turned();
-    gather_all(classes, &after, &Ways::of(&after), &mut found)?;
+    let image = after.mirrored();
+    gather_all(classes, &image, &Ways::of(&image), &mut found)?;
     Ok(found)
 }
 
