@@ -6,4 +6,5 @@ pub mod Faults
 pub mod Lanes
 pub mod Shown
 pub mod Rounds
+pub mod Headline
 pub mod Results

@@ -71,7 +71,7 @@ fn three_nodes_make_the_table_of_lions_alone(rt: HostRuntime) {
     };
     let n = world.n as u64;
     assert!(rt; n == 3 && world.steps == 0);
-    assert!(rt; world.steps + 20_000 * (2 * n + 2 * (n * n)) <= 1 << 40);
+    assert!(rt; world.steps + 20_000 * (3 * n + 2 * (n * n) + 1) <= 1 << 40);
     let Ok(still) = world.drive(20_000) else {
         panic!(rt; "a node has stopped");
     };
