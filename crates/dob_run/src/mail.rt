@@ -81,7 +81,8 @@ impl Mail {
         ensures seat { self.new.seat ≡ self.old.seat }
         ensures offered { HasChangedOne (λ old new. KeepsOutlet old new × (offered new ≡ offered old)) to self.old.outlets.items self.new.outlets.items }
         ensures inlets { self.new.inlets ≡ self.old.inlets }
-        ensures hands { (j : ℕ) (before after : Outlet) → slice_get self.old.outlets.items j ≡ Some before → slice_get self.new.outlets.items j ≡ Some after → before.hand ≡ None → after.hand ≡ None }
+        ensures hands { (j : ℕ) (before after : Outlet) → slice_get self.old.outlets.items j ≡ Some before →
+            slice_get self.new.outlets.items j ≡ Some after → before.hand ≡ None → after.hand ≡ None }
         ensures keeps { KeepsMail self.old self.new }
     {
         self.outlets[to].offer(rt);
