@@ -54,7 +54,7 @@ fn told_build(alloc: Global, answer: Result<String, dob_node::Fault>) -> Result<
     }
 }
 
-/// A refusal's line.
+/// A fault's line.
 fn fault_line<F: Display + Drop>(alloc: Global, fault: F) -> Result<String, Memory> {
     Ok(format!(in alloc; "dobutsu: {fault}")?)
 }

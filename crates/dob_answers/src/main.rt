@@ -2,7 +2,7 @@
 // another: `moves TEXT`, `after I TEXT`, `catch TEXT`, `value TEXT`, `rank TEXT`, `class TEXT`, `unrank CEG N`,
 // `classat CEG K`, `size CEG`, `back CEG K`, `edges CEG P Q`, `apply CEG CLASS CHANGE ..`, as about_cell.rt says,
 // `alone CEG LIMIT`, as about_build.rt says, and about tokens of the ring, as about_token.rt says. A text that is no
-// position and a set that is none get their refusals, and any other line `unknown question`.
+// position and a set that is none get their faults, and any other line `unknown question`.
 #![tactic(auto)]
 
 mod about_build;

@@ -1,15 +1,18 @@
 // Measures what the builder rests on, and prints what it did and seconds. The words are a piece set, as `111`, and the name
 // of a file for its table, or neither; with no word it goes over lions alone and prints no times, so that what it prints is
-// the same on each machine.
+// the same on each machine. With `--plain` in place of a file's name it measures the plain programs of the rules and of the
+// predecessors, each beside the body that goes by masks.
 #![tactic(auto)]
 
 mod builds;
 mod counts;
 mod measure;
+mod plain;
 mod timer;
 
 use anyhow::{Result, bail};
 use dob_pieces::PieceSet;
+use dob_rank::MOST_PIECES;
 
 const LIONS_ALONE: PieceSet = PieceSet {
     chicks: 0,
@@ -17,7 +20,7 @@ const LIONS_ALONE: PieceSet = PieceSet {
     giraffes: 0,
 };
 
-const USAGE: &str = "usage: dob_bench [CEG [FILE]]";
+const USAGE: &str = "usage: dob_bench [CEG [FILE | --plain]]";
 
 fn main(rt: HostRuntime) -> Result<()> {
     let words: Vec<String> = std::env::args(&rt)?.skip(1).collect(rt.alloc())?;
@@ -28,6 +31,9 @@ fn main(rt: HostRuntime) -> Result<()> {
         [text] => {
             measure::run(&rt, small_set(text.as_str())?, true)?;
         }
+        [text, word] if word.as_str() == "--plain" => {
+            plain::run(&rt, small_set(text.as_str())?)?;
+        }
         [text, name] => {
             let bytes = measure::run(&rt, small_set(text.as_str())?, true)?;
             std::fs::write(&rt, name.as_str(), &bytes)?;
@@ -37,10 +43,10 @@ fn main(rt: HostRuntime) -> Result<()> {
     Ok(())
 }
 
-// The piece set of that text, which is to have at most three pieces besides the lions.
+// The piece set of that text, which is to have at most `MOST_PIECES` pieces besides the lions.
 fn small_set(text: &str) -> Result<PieceSet> {
     match PieceSet::read(text) {
-        Ok(set) if set.chicks + set.elephants + set.giraffes <= 3 => Ok(set),
+        Ok(set) if set.chicks + set.elephants + set.giraffes <= MOST_PIECES => Ok(set),
         _ => bail!("no set of up to three pieces besides the lions, as 111\n{USAGE}"),
     }
 }

@@ -1,5 +1,5 @@
 -- How the program ends: from what it tells of lines or a fault to what it owes.
-use Rattle.std.proofs.Common.{◌≡◌, ℕ, inl, inr, List, refl, subst}
+use Rattle.std.proofs.Common.{◌≡◌, ℕ, inl, inr, List, refl}
 use Rattle.dob_pieces.specs.declared.setup.Setup.{Setup}
 use Rattle.dob_pieces.specs.declared.piece_set.PieceSet.{PieceSet}
 use Rattle.dob_pieces.specs.Setups.{IsLegal}
@@ -15,8 +15,6 @@ use Rattle.dob_cli.specs.Faults.{fault_of_value}
 use Rattle.dob_cli.specs.Endings.{Answers, Ending, Tells, TellsMemory, TellsOneFault, ended}
 use Rattle.dob_rank.specs.Limits.{HasManyPieces}
 use Rattle.dob_cli.specs.Program.{IsFaultOf}
-use Rattle.dob_cli.specs.Words.{Text as Word}
-use Rattle.dob_cli.specs.Runs.{Ran, RanOn}
 use Rattle.dob_cli.specs.Sizes.{IsCountFaultOf, IsFaultOfSet}
 
 -- a fault of finding a value is one of the text's
@@ -53,7 +51,3 @@ memory_told status out err (inr told) = (told, refl)
 pub answered : (AreLines : List ℕ → Type 0) (Holds : Fault → Type 0) (lines : List ℕ) (e : Ending) → AreLines lines → Tells lines e → Answers AreLines Holds e
 answered AreLines Holds lines e right (inl t) = inl (record { lines = lines; right = right; done = t.0; told = t.1; silent = t.2 })
 answered AreLines Holds lines e right (inr t) = inr (inr (record { lines = lines; right = right; part = t.0; told = t.1 }))
-
--- what the words ask for was done, and these are the words
-pub ran_on : (Has : Word → List ℕ → Type 0) (given words : List Word) (e : Ending) → given ≡ words → Ran Has given e → RanOn Has words e
-ran_on Has given words e same ran = inl (subst (λ ws. Ran Has ws e) same ran)

@@ -10,4 +10,5 @@ pub mod Endings
 pub mod Program
 pub mod Tables
 pub mod Sizes
+pub mod Orders
 pub mod Runs

@@ -1,9 +1,9 @@
 -- What the program does with its words, whatever they are.
-use Rattle.std.specs.Prelude.{◌≡◌, ◌⊎◌, ℕ, List, [], ◌∷◌, ◌++◌, codes}
-use Rattle.dob_dbfile.specs.Sinks.{IsUntouched, Says}
+use Rattle.std.specs.Prelude.{◌≡◌, ◌⊎◌, ℕ, false, List, [], ◌∷◌, ◌++◌, Option, codes}
+use Rattle.dob_dbfile.specs.Sinks.{Change, IsSame, IsUntouched, Says}
 use Rattle.dob_cli.specs.Words.{Text, check, count, help, line, meaning_of, probe, topic, usage, value, version}
 use Rattle.dob_cli.specs.Signs.{line_feed}
-use Rattle.dob_cli.specs.Endings.{AnswersHelp, AnswersUsage, AnswersVersion, Ending, TellsMemory}
+use Rattle.dob_cli.specs.Endings.{AnswersHelp, AnswersUsage, AnswersVersion, Ending, TellsMemory, ended}
 use Rattle.dob_cli.specs.Program.{AnswersValue}
 use Rattle.dob_cli.specs.Sizes.{AnswersCount}
 use Rattle.dob_cli.specs.Tables.{AnswersCheck, AnswersLine, AnswersProbe}
@@ -19,10 +19,35 @@ pub record Ran (Has : Text → List ℕ → Type 0) (words : List Text) (e : End
   pub version : meaning_of words ≡ version → AnswersVersion e
   pub topic : meaning_of words ≡ topic → AnswersHelp e ⊎ AnswersUsage e
   pub usage : meaning_of words ≡ usage → AnswersUsage e
+  -- its streams are those that they were
+  pub same_out : IsSame e.out
+  pub same_err : IsSame e.err
 
 -- it does so, or no memory was left for the words
 abbrev pub RanOn : (Text → List ℕ → Type 0) → List Text → Ending → Type 0
 RanOn Has words e = Ran Has words e ⊎ TellsMemory e
+
+-- what a writer of the standard library tells: the bytes that it held, and those that it holds after, where they are known
+pub record Contents : Type 0 where
+  pub before : Option (List ℕ)
+  pub after : Option (List ℕ)
+
+abbrev pub contents : Option (List ℕ) → Option (List ℕ) → Contents
+contents before after = record { before = before; after = after }
+
+-- the change is that of a sink over the writer which hadn't failed before; whether it fails, the writer doesn't tell
+pub record IsOver (w : Contents) (c : Change) : Type 0 where
+  pub before : c.before.received ≡ w.before
+  pub after : c.after.received ≡ w.after
+  pub fresh : c.before.has_failed ≡ false
+
+-- it does what these words ask for, over writers that tell so much
+pub record RanOver (Has : Text → List ℕ → Type 0) (words : List Text) (status : ℕ) (out err : Contents) : Type 0 where
+  pub out_change : Change
+  pub err_change : Change
+  pub over_out : IsOver out out_change
+  pub over_err : IsOver err err_change
+  pub ran : Ran Has words (ended status out_change err_change)
 
 -- it says that an argument isn't UTF-8, with the status of unknown words
 abbrev pub TellsNoText : Ending → Type 0

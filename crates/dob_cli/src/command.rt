@@ -7,8 +7,9 @@
 // - a record in proofs/Taken.antt, proofs/AllWords.antt and proofs/Lines.antt, by `refl`, and a line each in `all_fit` and
 //   `all_known`;
 // - its cases in the answers of `dobutsu_command`, `order_of` and `read_words`, as those of `count`;
-// - in program.rt an arm and a clause of `run_words`, with what it owes by a definition like `AnswersCount`;
-// - a field of `Ran` in specs/Runs.antt, and one in the answer of `run_texts`.
+// - what it owes by a definition like `AnswersCount`, a case in each definition of specs/Orders.antt and a field of `Ran` in
+//   specs/Runs.antt;
+// - in program.rt an arm of `answer`, and its cases in proofs/Orders.antt and proofs/Runs.antt.
 ghost use Rattle.std.specs.Prelude.{◌≡◌, false, IfOk, IsSomeAnd, List, codes, map};
 ghost use Rattle.clap.specs.Words.{kind_of, rule_of, subcommand_rows_of};
 ghost use Rattle.dob_cli.specs.Forms.{Form, Text, check_form, count_form, file_option, forms, line_form, probe_form, value_form};

@@ -1,12 +1,8 @@
 // How many positions and classes a piece set has.
 ghost use Rattle.std.specs.Prelude.{◌≡◌, IfOk, IfErr, string_bytes};
-ghost use Rattle.dob_dbfile.specs.Sinks.{change};
-ghost use Rattle.dob_cli.specs.Sizes.{AnswersCount, AreCountLinesOf, HasCounts, IsCountFaultOf, IsFaultOfSet, count_lines};
-ghost use Rattle.dob_cli.specs.Endings.{ended};
+ghost use Rattle.dob_cli.specs.Sizes.{AreCountLinesOf, HasCounts, IsCountFaultOf, IsFaultOfSet, count_lines};
 
 use crate::fault::Fault;
-use crate::program::{tell, tell_fault};
-use dob_dbfile::Sink;
 use dob_pieces::PieceSet;
 use dob_rank::{Classes, size};
 use std::alloc::{AllocError, Global};
@@ -18,19 +14,8 @@ pub(crate) struct Counts {
     pub(crate) classes: u64,
 }
 
-/// Tells the numbers of positions and of classes of the piece set that the text names: two lines on `out`, or a
-/// fault's line on `err`. The answer is the exit status.
-pub(crate) fn run_count<O: Sink, E: Sink>(alloc: Global, text: &str, out: &mut O, err: &mut E) -> u8
-    ensures { AnswersCount text.now (ended result (change (O.state out.old) (O.state out.new)) (change (E.state err.old) (E.state err.new))) }
-{
-    match lines_of(alloc, text) {
-        Ok(lines) => tell(alloc, lines.as_str(), out, err),
-        Err(fault) => tell_fault(alloc, fault, err),
-    }
-}
-
-// The lines that tell the numbers of the piece set that the text names.
-fn lines_of(alloc: Global, text: &str) -> Result<String, Fault>
+/// The lines that tell the numbers of positions and of classes of the piece set that the text names.
+pub(crate) fn answer_count(alloc: Global, text: &str) -> Result<String, Fault>
     ensures ok { IfOk result (λ lines. AreCountLinesOf text.now (string_bytes lines)) }
     ensures err { IfErr result (IsCountFaultOf text.now) }
 {

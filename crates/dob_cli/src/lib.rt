@@ -9,5 +9,5 @@ mod shelf;
 mod tables;
 
 pub use fault::Fault;
-pub use program::{run_given, run_words, tell_memory};
+pub use program::{run_given, run_over, run_words, tell_memory};
 pub use shelf::{DiskShelf, MemShelf, Shelf};

@@ -1,28 +1,26 @@
 // The program: from its words to what it prints and its exit status.
-ghost use Rattle.std.specs.Prelude.{◌≡◌, ◌≢◌, ◌⊎◌, ℕ, List, IfOk, IfErr, drop, map, string_bytes};
-ghost use Rattle.dob_dbfile.specs.Sinks.{Says, change};
+ghost use Rattle.std.specs.Prelude.{◌≡◌, ◌≢◌, ℕ, List, IfOk, IfErr, drop, map, string_bytes};
 ghost use Rattle.std.specs.IoError.{error_kind};
 ghost use Rattle.std.specs.declared.io.ErrorKind.TheVariants.{OutOfMemory};
 ghost use Rattle.std.specs.Vec.Iter.{into_iter_items};
-ghost use Rattle.dob_cli.specs.Words.{meaning_of, value as asks_value, count as asks_count, probe as asks_probe, line as asks_line, check as asks_check, help as asks_help, version as asks_version, topic as asks_topic, usage as asks_nothing};
-ghost use Rattle.dob_cli.specs.Runs.{RanOn, TellsNoText};
-ghost use Rattle.dob_cli.specs.Endings.{AnswersHelp, AnswersUsage, AnswersVersion, Tells, TellsFaultAs, TellsMemory, TellsOneFault, ended};
-ghost use Rattle.dob_cli.specs.Program.{AnswersValue, IsValueLineOf, IsFaultOf, value_line};
-ghost use Rattle.dob_cli.specs.Sizes.{AnswersCount};
-ghost use Rattle.dob_cli.specs.Tables.{AnswersCheck, AnswersLine, AnswersProbe};
+ghost use Rattle.dob_dbfile.specs.Sinks.{Says, change};
+ghost use Rattle.dob_cli.specs.Runs.{Ran, RanOn, RanOver, TellsNoText, contents};
+ghost use Rattle.dob_cli.specs.Orders.{AnswersOrder, AreLinesFor, IsFaultFor};
+ghost use Rattle.dob_cli.specs.Endings.{Tells, TellsFaultAs, TellsMemory, TellsOneFault, ended};
+ghost use Rattle.dob_cli.specs.Program.{IsValueLineOf, IsFaultOf, value_line};
 ghost use Rattle.dob_cli.specs.declared.fault.Fault.TheVariants.{Memory};
 
 use crate::command::{Order, Reading, read_words};
-use crate::counts::run_count;
+use crate::counts::answer_count;
 use crate::fault::Fault;
 use crate::shelf::Shelf;
-use crate::tables::{run_check, run_line, run_probe};
-use dob_dbfile::{Sink, put_all, write_all};
+use crate::tables::{answer_check, answer_line, answer_probe};
+use dob_dbfile::{Lent, Sink, put_all, write_all};
 use dob_text::read_position;
 use dob_value::{Value, sweep_value};
 use std::alloc::{AllocError, Global};
 use std::env::Args;
-use std::io;
+use std::io::{self, Write};
 use std::thread::Threads;
 
 /// The exit status for words that the program doesn't know.
@@ -35,13 +33,12 @@ const VERSION: &str = "dobutsu 0.1.0\n";
 const NO_TEXT: &[u8] = b"error: an argument is not UTF-8\n\nFor more information, try '--help'.\n";
 
 /// Runs the program by its words, those after the program's name. Database files come from the shelf. What it tells goes
-/// to `out`, a fault's line and a word on wrong usage to `err`, which are sinks as a file's is; a writer of the standard
-/// library is one behind `Std`. The answer is the exit status.
+/// to the writer `out`, a fault's line and a word on wrong usage to `err`. The answer is the exit status.
 ///
 /// The status is 0 where it is done or help was asked for, 1 where what was asked is refused, 2 for words that it
 /// doesn't know, 3 for want of memory, for a distance above 65,534 plies and where `out` fails. Where `err` fails,
 /// the status is the same.
-pub fn run_words<'a, S: Shelf, O: Sink, E: Sink>(
+pub fn run_words<'a, S: Shelf, O: Write, E: Write>(
     rt: &(impl Threads + Sync),
     alloc: Global,
     words: &'a [&'a str],
@@ -49,68 +46,81 @@ pub fn run_words<'a, S: Shelf, O: Sink, E: Sink>(
     out: &mut O,
     err: &mut E,
 ) -> u8
-    // Where the words ask for the value of a position: its line, or the line of a fault that holds; or standard output
-    // failed in the line.
-    ensures value { (text : List ℕ) → meaning_of (map (λ w. w.now) words.now) ≡ asks_value text → AnswersValue text
+    ensures { RanOver (S.has shelf.old) (map (λ w. w.now) words.now) result
+        (contents (O.contents out.old) (O.contents out.new)) (contents (E.contents err.old) (E.contents err.new)) }
+{
+    let mut told = Lent::new(out);
+    let mut said = Lent::new(err);
+    let status = run_over(rt, alloc, words, shelf, &mut told, &mut said);
+    // These two do nothing at run time. The proof reads from them what the writers hold.
+    let _ = &*told.into_inner();
+    let _ = &*said.into_inner();
+    status
+}
+
+/// Runs the program as `run_words` does, over streams that are sinks as a file's is, so that it is known of them where
+/// they were flushed and whether they failed. A writer of the standard library is one behind `Std` or `Lent`.
+pub fn run_over<'a, S: Shelf, O: Sink, E: Sink>(
+    rt: &(impl Threads + Sync),
+    alloc: Global,
+    words: &'a [&'a str],
+    shelf: &mut S,
+    out: &mut O,
+    err: &mut E,
+) -> u8
+    ensures { Ran (S.has shelf.old) (map (λ w. w.now) words.now)
         (ended result (change (O.state out.old) (O.state out.new)) (change (E.state err.old) (E.state err.new))) }
-    // Where they ask for the numbers of positions and classes of a piece set: their lines, or the line of a fault that
-    // holds; or standard output failed in the lines.
-    ensures count { (text : List ℕ) → meaning_of (map (λ w. w.now) words.now) ≡ asks_count text → AnswersCount text
-        (ended result (change (O.state out.old) (O.state out.new)) (change (E.state err.old) (E.state err.new))) }
-    // Where they ask for something of a database file: its line, or the line of a fault that holds; or standard output
-    // failed in the line.
-    ensures probe { (file text : List ℕ) → meaning_of (map (λ w. w.now) words.now) ≡ asks_probe file text → AnswersProbe (S.has shelf.old file) text
-        (ended result (change (O.state out.old) (O.state out.new)) (change (E.state err.old) (E.state err.new))) }
-    ensures line { (file text : List ℕ) → meaning_of (map (λ w. w.now) words.now) ≡ asks_line file text → AnswersLine (S.has shelf.old file) text
-        (ended result (change (O.state out.old) (O.state out.new)) (change (E.state err.old) (E.state err.new))) }
-    ensures check { (file : List ℕ) → meaning_of (map (λ w. w.now) words.now) ≡ asks_check file → AnswersCheck (S.has shelf.old file)
-        (ended result (change (O.state out.old) (O.state out.new)) (change (E.state err.old) (E.state err.new))) }
-    // Where they ask for help: its text and status 0; or standard output failed, or memory did.
-    ensures help { meaning_of (map (λ w. w.now) words.now) ≡ asks_help
-        → AnswersHelp (ended result (change (O.state out.old) (O.state out.new)) (change (E.state err.old) (E.state err.new))) }
-    // Where they ask for the version: its line; or standard output failed, or memory did.
-    ensures version { meaning_of (map (λ w. w.now) words.now) ≡ asks_version
-        → AnswersVersion (ended result (change (O.state out.old) (O.state out.new)) (change (E.state err.old) (E.state err.new))) }
-    // Where they are the word `help` and more: as for help, or, where nothing has that name, as for unknown words.
-    ensures topic { meaning_of (map (λ w. w.now) words.now) ≡ asks_topic
-        → AnswersHelp (ended result (change (O.state out.old) (O.state out.new)) (change (E.state err.old) (E.state err.new)))
-        ⊎ AnswersUsage (ended result (change (O.state out.old) (O.state out.new)) (change (E.state err.old) (E.state err.new))) }
-    // Where they are none that the program knows: status 2 and a text on standard error; or memory failed.
-    ensures usage { meaning_of (map (λ w. w.now) words.now) ≡ asks_nothing
-        → AnswersUsage (ended result (change (O.state out.old) (O.state out.new)) (change (E.state err.old) (E.state err.new))) }
 {
     match read_words(alloc, words) {
-        Err(AllocError) => tell_fault(alloc, Fault::Memory, err),
+        Err(AllocError) => tell_memory(err),
         Ok(Reading::Help(text)) => tell(alloc, text.as_str(), out, err),
         Ok(Reading::Version) => tell(alloc, VERSION, out, err),
         Ok(Reading::Usage(text)) => {
             say(err, text.as_bytes());
             USAGE
         }
-        Ok(Reading::Order(Order::Value(text))) => run_value(alloc, text, out, err),
-        Ok(Reading::Order(Order::Count(text))) => run_count(alloc, text, out, err),
-        Ok(Reading::Order(Order::Probe { file, position })) => {
-            run_probe(alloc, shelf, file, position, out, err)
-        }
-        Ok(Reading::Order(Order::Line { file, position })) => {
-            run_line(alloc, shelf, file, position, out, err)
-        }
-        Ok(Reading::Order(Order::Check(file))) => run_check(rt, alloc, shelf, file, out, err),
+        Ok(Reading::Order(order)) => run_order(rt, alloc, order, shelf, out, err),
     }
 }
 
-// Tells the value of the position that the text names.
-fn run_value<O: Sink, E: Sink>(alloc: Global, text: &str, out: &mut O, err: &mut E) -> u8
-    ensures { AnswersValue text.now (ended result (change (O.state out.old) (O.state out.new)) (change (E.state err.old) (E.state err.new))) }
+// Does what is ordered.
+fn run_order<S: Shelf, O: Sink, E: Sink>(
+    rt: &(impl Threads + Sync),
+    alloc: Global,
+    order: Order<'_>,
+    shelf: &mut S,
+    out: &mut O,
+    err: &mut E,
+) -> u8
+    ensures { AnswersOrder (S.has shelf.old) order.entry (ended result (change (O.state out.old) (O.state out.new)) (change (E.state err.old) (E.state err.new))) }
 {
-    match value_of(alloc, text) {
-        Ok(line) => tell(alloc, line.as_str(), out, err),
+    match answer(rt, alloc, order, shelf) {
+        Ok(lines) => tell(alloc, lines.as_str(), out, err),
         Err(fault) => tell_fault(alloc, fault, err),
     }
 }
 
+// The lines that tell what is ordered.
+fn answer<S: Shelf>(
+    rt: &(impl Threads + Sync),
+    alloc: Global,
+    order: Order<'_>,
+    shelf: &mut S,
+) -> Result<String, Fault>
+    ensures ok { IfOk result (λ lines. AreLinesFor (S.has shelf.old) order.entry (string_bytes lines)) }
+    ensures err { IfErr result (IsFaultFor (S.has shelf.old) order.entry) }
+{
+    match order {
+        Order::Value(position) => answer_value(alloc, position),
+        Order::Count(set) => answer_count(alloc, set),
+        Order::Probe { file, position } => answer_probe(alloc, shelf, file, position),
+        Order::Line { file, position } => answer_line(alloc, shelf, file, position),
+        Order::Check(file) => answer_check(rt, alloc, shelf, file),
+    }
+}
+
 // The line that tells the value of the position that the text names.
-fn value_of(alloc: Global, text: &str) -> Result<String, Fault>
+fn answer_value(alloc: Global, text: &str) -> Result<String, Fault>
     ensures ok { IfOk result (λ line. IsValueLineOf text.now (string_bytes line)) }
     ensures err { IfErr result (IsFaultOf text.now) }
 {
@@ -131,7 +141,7 @@ pub(crate) fn line_of(alloc: Global, value: Value) -> Result<String, AllocError>
 }
 
 // Tells a line, or a few, on standard output.
-pub(crate) fn tell<O: Sink, E: Sink>(alloc: Global, line: &str, out: &mut O, err: &mut E) -> u8
+fn tell<O: Sink, E: Sink>(alloc: Global, line: &str, out: &mut O, err: &mut E) -> u8
     ensures { Tells line.now (ended result (change (O.state out.old) (O.state out.new)) (change (E.state err.old) (E.state err.new))) }
 {
     match put_all(out, line.as_bytes()) {
@@ -148,7 +158,7 @@ fn say<E: Sink>(err: &mut E, bytes: &[u8])
 }
 
 // Tells a fault on standard error, or that no memory was left to tell it.
-pub(crate) fn tell_fault<E: Sink>(alloc: Global, fault: Fault, err: &mut E) -> u8
+fn tell_fault<E: Sink>(alloc: Global, fault: Fault, err: &mut E) -> u8
     ensures { TellsOneFault fault result (change (E.state err.old) (E.state err.new)) }
 {
     match format!(in alloc; "dobutsu: {fault}\n") {
@@ -172,7 +182,7 @@ pub fn tell_memory<E: Sink>(err: &mut E) -> u8
 /// Runs the program by what it was given: its arguments, of which the first is its name, or why they can't be had.
 /// Database files come from the shelf.
 ///
-/// It does what `run_words` does with the words after the name. Where memory for them was refused, it says so (E23,
+/// It does what `run_over` does with the words after the name. Where memory for them was refused, it says so (E23,
 /// status 3); where one of them isn't UTF-8, it says that (status 2).
 pub fn run_given<S: Shelf, O: Sink, E: Sink>(
     rt: &(impl Threads + Sync),
@@ -253,7 +263,7 @@ fn run_texts<S: Shelf, O: Sink, E: Sink>(
         (ended result (change (O.state out.old) (O.state out.new)) (change (E.state err.old) (E.state err.new))) }
 {
     match words_of(alloc, given) {
-        Ok(words) => run_words(rt, alloc, &words, shelf, out, err),
+        Ok(words) => run_over(rt, alloc, &words, shelf, out, err),
         Err(AllocError) => tell_memory(err),
     }
 }

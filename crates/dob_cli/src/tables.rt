@@ -1,15 +1,13 @@
 // Answers by the table of a database file.
 ghost use Rattle.std.specs.Prelude.{◌≡◌, ◌++◌, ◌∷◌, [], false, IfOk, IfErr, OnOk, string_bytes};
-ghost use Rattle.dob_dbfile.specs.Sinks.{change};
 ghost use Rattle.dob_text.specs.MoveText.{move_text};
 ghost use Rattle.dob_cli.specs.Signs.{line_feed};
-ghost use Rattle.dob_cli.specs.Endings.{ended};
-ghost use Rattle.dob_cli.specs.Tables.{AnswersCheck, AnswersLine, AnswersProbe, HasFileFault, IsCheckFault, IsCheckLine, IsFileOf, IsMovesLine, IsOpeningFault, IsPositionFault, IsProbeLine, moves_line, moves_text, space_before};
+ghost use Rattle.dob_cli.specs.Tables.{IsCheckFault, IsCheckLine, IsFileOf, IsMovesLine, IsOpeningFault, IsPositionFault, IsProbeLine, moves_line, moves_text, space_before};
 
 use crate::fault::Fault;
-use crate::program::{line_of, tell, tell_fault};
+use crate::program::line_of;
 use crate::shelf::Shelf;
-use dob_dbfile::{Sink, read_table};
+use dob_dbfile::read_table;
 use dob_moves::Move;
 use dob_pieces::Memory;
 use dob_probe::{check, line, probe};
@@ -18,59 +16,13 @@ use dob_value::{Table, Value};
 use std::alloc::Global;
 use std::thread::Threads;
 
-/// Tells the value of the position that the text names, by the table of the file. The answer is the exit status.
-pub(crate) fn run_probe<S: Shelf, O: Sink, E: Sink>(
+/// The line that tells the value of the position that the text names, by the table of the file.
+pub(crate) fn answer_probe<S: Shelf>(
     alloc: Global,
     shelf: &mut S,
     file: &str,
     text: &str,
-    out: &mut O,
-    err: &mut E,
-) -> u8
-    ensures { AnswersProbe (S.has shelf.old file.now) text.now (ended result (change (O.state out.old) (O.state out.new)) (change (E.state err.old) (E.state err.new))) }
-{
-    match probed(alloc, shelf, file, text) {
-        Ok(line) => tell(alloc, line.as_str(), out, err),
-        Err(fault) => tell_fault(alloc, fault, err),
-    }
-}
-
-/// Tells the line of the position that the text names, by the table of the file. The answer is the exit status.
-pub(crate) fn run_line<S: Shelf, O: Sink, E: Sink>(
-    alloc: Global,
-    shelf: &mut S,
-    file: &str,
-    text: &str,
-    out: &mut O,
-    err: &mut E,
-) -> u8
-    ensures { AnswersLine (S.has shelf.old file.now) text.now (ended result (change (O.state out.old) (O.state out.new)) (change (E.state err.old) (E.state err.new))) }
-{
-    match lined(alloc, shelf, file, text) {
-        Ok(line) => tell(alloc, line.as_str(), out, err),
-        Err(fault) => tell_fault(alloc, fault, err),
-    }
-}
-
-/// Tells that the table of the file is consistent, and so the value table. The answer is the exit status.
-pub(crate) fn run_check<S: Shelf, O: Sink, E: Sink>(
-    rt: &(impl Threads + Sync),
-    alloc: Global,
-    shelf: &mut S,
-    file: &str,
-    out: &mut O,
-    err: &mut E,
-) -> u8
-    ensures { AnswersCheck (S.has shelf.old file.now) (ended result (change (O.state out.old) (O.state out.new)) (change (E.state err.old) (E.state err.new))) }
-{
-    match checked(rt, alloc, shelf, file) {
-        Ok(line) => tell(alloc, line, out, err),
-        Err(fault) => tell_fault(alloc, fault, err),
-    }
-}
-
-// The line that tells the value.
-fn probed<S: Shelf>(alloc: Global, shelf: &mut S, file: &str, text: &str) -> Result<String, Fault>
+) -> Result<String, Fault>
     ensures ok { IfOk result (λ line. IsProbeLine (S.has shelf.old file.now) text.now (string_bytes line)) }
     ensures err { IfErr result (IsPositionFault (S.has shelf.old file.now) text.now) }
 {
@@ -80,8 +32,13 @@ fn probed<S: Shelf>(alloc: Global, shelf: &mut S, file: &str, text: &str) -> Res
     Ok(line_of(alloc, value)?)
 }
 
-// The line that tells the moves.
-fn lined<S: Shelf>(alloc: Global, shelf: &mut S, file: &str, text: &str) -> Result<String, Fault>
+/// The line that tells the moves from the position that the text names, by the table of the file.
+pub(crate) fn answer_line<S: Shelf>(
+    alloc: Global,
+    shelf: &mut S,
+    file: &str,
+    text: &str,
+) -> Result<String, Fault>
     ensures ok { IfOk result (λ line. IsMovesLine (S.has shelf.old file.now) text.now (string_bytes line)) }
     ensures err { IfErr result (IsPositionFault (S.has shelf.old file.now) text.now) }
 {
@@ -92,19 +49,19 @@ fn lined<S: Shelf>(alloc: Global, shelf: &mut S, file: &str, text: &str) -> Resu
     Ok(moves_line(alloc, value, &moves)?)
 }
 
-// The line that tells that the file is consistent.
-fn checked<S: Shelf>(
+/// The line that tells that the table of the file is consistent, and so the value table.
+pub(crate) fn answer_check<S: Shelf>(
     rt: &(impl Threads + Sync),
     alloc: Global,
     shelf: &mut S,
     file: &str,
-) -> Result<&'static str, Fault>
-    ensures ok { IfOk result (λ line. IsCheckLine (S.has shelf.old file.now) line.now) }
+) -> Result<String, Fault>
+    ensures ok { IfOk result (λ line. IsCheckLine (S.has shelf.old file.now) (string_bytes line)) }
     ensures err { IfErr result (IsCheckFault (S.has shelf.old file.now)) }
 {
     let table = open(alloc, shelf, file)?;
     check(rt, alloc, &table)?;
-    Ok("consistent\n")
+    Ok("consistent\n".to_string(alloc)?)
 }
 
 // The table of the file.

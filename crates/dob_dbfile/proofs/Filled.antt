@@ -1,5 +1,6 @@
 -- A room that fills with the bytes of a stream, piece by piece.
-use Rattle.std.proofs.Common.{◌≡◌, ℕ, ◌+◌, ◌≤◌, List, ◌++◌, take, drop, length, arith, refl, sym, ap, ◌∙◌, drop_at, length-take-le, length-drop, take-add, le_refl}
+use Rattle.std.proofs.Common.{◌≡◌, ℕ, ◌+◌, ◌≤◌, List, ◌++◌, take, drop, length, arith, refl, sym, ap, ◌∙◌, drop_at, length-take-le}
+use Rattle.std.proofs.Common.{length-drop, take-add, le_refl}
 use Rattle.std.proofs.lemmas.List.{take-append-le, drop-drop}
 use Rattle.std.proofs.lemmas.Slice.{take-put_mid_below}
 use borrow.Rule.Slice.PartMut.{put_mid, post_of}

@@ -1,13 +1,17 @@
-mod CodeBytes
-mod Counts
-mod Cuts
-mod Decoded
-mod Endings
-mod FileBytes
-mod Filled
-mod Pieces
-mod Places
-mod Refused
-mod Sinks
-mod Verdicts
-mod Written
+-- The lemmas, in the order in which they are read.
+-- What the bytes of a file are.
+mod Counts  -- how many classes a set has at most
+mod CodeBytes  -- codes as records
+mod Decoded  -- records as values
+mod FileBytes  -- a file, part after part
+-- Reading.
+mod Pieces  -- what is read piece after piece
+mod Filled  -- a room that fills
+mod Cuts  -- a stream that is cut
+mod Endings  -- what the end of a file shows
+mod Refused  -- the faults of a header
+mod Places  -- at most one fault holds
+mod Verdicts  -- what the steps say of the whole stream
+mod Written  -- the file of a table passes
+-- Writing.
+mod Sinks  -- what sinks have received

@@ -1,5 +1,6 @@
 -- What is read piece after piece.
-use Rattle.std.proofs.Common.{◌≡◌, ℕ, ◌+◌, ◌*◌, ◌≤◌, List, [], ◌++◌, take, drop, length, arith, refl, sym, subst, ap, ◌∙◌, append-nil, append_assoc, take-add, length-drop, length-take, ◌-◌, min}
+use Rattle.std.proofs.Common.{◌≡◌, ℕ, ◌+◌, ◌*◌, ◌≤◌, List, [], ◌++◌, take, drop, length, arith, refl, sym, subst, ap, ◌∙◌, append-nil}
+use Rattle.std.proofs.Common.{append_assoc, take-add, length-drop, length-take, ◌-◌, min}
 use Rattle.std.proofs.lemmas.List.{length-append}
 use Rattle.std.proofs.Math.Nat.{min-le_left}
 use Rattle.std.proofs.lemmas.List.Concat.{flat_map-append}

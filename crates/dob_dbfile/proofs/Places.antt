@@ -9,7 +9,8 @@ use Rattle.dob_dbfile.specs.declared.fault.Fault.TheVariants as fault
 use Rattle.dob_dbfile.specs.Devices.{Stream}
 use Rattle.dob_dbfile.specs.Format.{set_bytes}
 use Rattle.dob_rank.specs.Limits.{IsSmall}
-use Rattle.dob_dbfile.specs.Faults.{HasTitle, NamesSet, NamesSmallSet, CountsClasses, header, HasHeader, IsOfSet, IsWhole, IsNoLonger, Ends, HasDigest, HasFault}
+use Rattle.dob_dbfile.specs.Faults.{HasTitle, NamesSet, NamesSmallSet, CountsClasses, header, HasHeader, IsOfSet, IsWhole, IsNoLonger, Ends}
+use Rattle.dob_dbfile.specs.Faults.{HasDigest, HasFault}
 
 -- ---- one set
 
@@ -21,9 +22,11 @@ same_numbers : (p q : PieceSet) → p.chicks ≡ q.chicks → p.elephants ≡ q.
 same_numbers p q c e g =
     subst (λ (x : ℕ). (f : x ≤ 2) → p ≡ set_of x p.elephants p.giraffes f p.few_elephants p.few_giraffes) c
     (λ f. ap (λ (h : p.chicks ≤ 2). set_of p.chicks p.elephants p.giraffes h p.few_elephants p.few_giraffes) (le_prop p.few_chicks f)) q.few_chicks
-    ∙ subst (λ (x : ℕ). (f : x ≤ 2) → set_of q.chicks p.elephants p.giraffes q.few_chicks p.few_elephants p.few_giraffes ≡ set_of q.chicks x p.giraffes q.few_chicks f p.few_giraffes) e
+    ∙ subst (λ (x : ℕ). (f : x ≤ 2) → set_of q.chicks p.elephants p.giraffes q.few_chicks p.few_elephants p.few_giraffes
+    ≡ set_of q.chicks x p.giraffes q.few_chicks f p.few_giraffes) e
     (λ f. ap (λ (h : p.elephants ≤ 2). set_of q.chicks p.elephants p.giraffes q.few_chicks h p.few_giraffes) (le_prop p.few_elephants f)) q.few_elephants
-    ∙ subst (λ (x : ℕ). (f : x ≤ 2) → set_of q.chicks q.elephants p.giraffes q.few_chicks q.few_elephants p.few_giraffes ≡ set_of q.chicks q.elephants x q.few_chicks q.few_elephants f) g
+    ∙ subst (λ (x : ℕ). (f : x ≤ 2) → set_of q.chicks q.elephants p.giraffes q.few_chicks q.few_elephants p.few_giraffes
+    ≡ set_of q.chicks q.elephants x q.few_chicks q.few_elephants f) g
     (λ f. ap (λ (h : p.giraffes ≤ 2). set_of q.chicks q.elephants p.giraffes q.few_chicks q.few_elephants h) (le_prop p.few_giraffes f)) q.few_giraffes
 
 -- a header names one set

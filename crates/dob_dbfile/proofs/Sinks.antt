@@ -3,7 +3,7 @@ use Rattle.std.proofs.Common.{◌≡◌, ℕ, ◌+◌, ◌≤◌, Bool, true, fa
 use Rattle.std.specs.Prelude.{◌||◌}
 use Rattle.std.proofs.Math.Seq.{take-length}
 use Rattle.std.specs.Io.KnownBytes.{Appends, Keeps, append_known}
-use Rattle.dob_dbfile.specs.Sinks.{AddsFlush, IsNotFlushed, Puts, State, StopsAfter, Takes, Works, Writes, change}
+use Rattle.dob_dbfile.specs.Sinks.{AddsFlush, IsNotFlushed, IsSame, Puts, State, StopsAfter, Takes, Works, Writes, change}
 
 -- bytes after bytes
 pub Appends-append : (a b c : Option (List ℕ)) (xs ys : List ℕ) → Appends a b xs → Appends b c ys → Appends a c (xs ++ ys)
@@ -68,25 +68,28 @@ works_on a b c works notes = notes ∙ or_no b.has_failed ∙ works
 
 -- a part of the bytes, and then a call that fails
 pub stops_after : (a b c : State) (bytes : List ℕ) (count : ℕ) → count ≤ length bytes → Takes (change a b) (take count bytes) → IsNotFlushed (change a b)
-    → Keeps b.received c.received → Keeps b.flushes c.flushes → c.has_failed ≡ (b.has_failed || true) → StopsAfter (change a c) bytes count
-stops_after a b c bytes count within part unflushed kept flushes notes = record {
+    → IsSame (change a b) → Keeps b.received c.received → Keeps b.flushes c.flushes → c.writer ≡ b.writer → c.has_failed ≡ (b.has_failed || true)
+    → StopsAfter (change a c) bytes count
+stops_after a b c bytes count within part unflushed same kept flushes again notes = record {
   within = within;
   part = Appends-keep a.received b.received c.received (take count bytes) part kept;
   unflushed = Keeps-trans a.flushes b.flushes c.flushes unflushed flushes;
   fails = notes ∙ or_yes b.has_failed;
+  same = again ∙ same;
 }
 
 -- all of it, and then a flush
 pub put_whole : (a b c : State) (bytes : List ℕ) → Writes (change a b) bytes → Keeps b.received c.received → AddsFlush b.received b.flushes c.flushes
-    → c.has_failed ≡ (b.has_failed || false) → Puts (change a c) bytes
-put_whole a b c bytes wrote kept flushed notes = record {
+    → c.writer ≡ b.writer → c.has_failed ≡ (b.has_failed || false) → Puts (change a c) bytes
+put_whole a b c bytes wrote kept flushed again notes = record {
   all = Appends-keep a.received b.received c.received bytes wrote.all kept;
   flushed = flushed_after a.received b.received a.flushes b.flushes c.flushes bytes wrote.all wrote.unflushed flushed;
   works = works_on a b c wrote.works notes;
+  same = again ∙ wrote.same;
 }
 
 -- all of it, and then a flush that failed
 pub put_unflushed : (a b c : State) (bytes : List ℕ) → Writes (change a b) bytes → Keeps b.received c.received → Keeps b.flushes c.flushes
-    → c.has_failed ≡ (b.has_failed || true) → StopsAfter (change a c) bytes (length bytes)
-put_unflushed a b c bytes wrote kept flushes notes =
-    stops_after a b c bytes (length bytes) (omega arith) (rw (take-length bytes) wrote.all) wrote.unflushed kept flushes notes
+    → c.writer ≡ b.writer → c.has_failed ≡ (b.has_failed || true) → StopsAfter (change a c) bytes (length bytes)
+put_unflushed a b c bytes wrote kept flushes again notes =
+    stops_after a b c bytes (length bytes) (omega arith) (rw (take-length bytes) wrote.all) wrote.unflushed wrote.same kept flushes again notes

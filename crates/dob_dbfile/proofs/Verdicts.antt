@@ -1,5 +1,6 @@
 -- What the steps of reading say of the whole stream.
-use Rattle.std.proofs.Common.{◌≡◌, ℕ, ◌+◌, ◌*◌, ◌≤◌, ◌<◌, ◌⊎◌, Bool, false, List, ◌++◌, take, drop, length, arith, inl, inr, refl, sym, subst, ap, ◌∙◌, length-drop, take-add, append_assoc}
+use Rattle.std.proofs.Common.{◌≡◌, ℕ, ◌+◌, ◌*◌, ◌≤◌, ◌<◌, ◌⊎◌, Bool, false, List, ◌++◌, take, drop, length, arith, inl, inr, refl, sym}
+use Rattle.std.proofs.Common.{subst, ap, ◌∙◌, length-drop, take-add, append_assoc}
 use Rattle.std.proofs.lemmas.Bool.{cases_lt}
 use Rattle.std.proofs.lemmas.List.{take-append-drop, drop-drop, length-map}
 use Rattle.sha2.specs.Sha256.{sha256}
@@ -11,7 +12,8 @@ use Rattle.dob_dbfile.specs.declared.fault.Fault.{Fault}
 use Rattle.dob_dbfile.specs.declared.fault.Fault.TheVariants as fault
 use Rattle.dob_dbfile.specs.Devices.{Stream, after, whole}
 use Rattle.dob_dbfile.specs.Format.{title, set_bytes, count_bytes, records, contents, bytes_of}
-use Rattle.dob_dbfile.specs.Faults.{CountsClasses, HasHeaderFault, header, contents_len, file_len, HasHeader, IsOfSet, IsNoLonger, HasDigest, IsCutShort, HasFault}
+use Rattle.dob_dbfile.specs.Faults.{CountsClasses, HasHeaderFault, header, contents_len, file_len, HasHeader, IsOfSet, IsNoLonger}
+use Rattle.dob_dbfile.specs.Faults.{HasDigest, IsCutShort, HasFault}
 use Rattle.dob_dbfile.specs.Reading.{IsCut, EndsWith, HasRestFault}
 use Rattle.dob_dbfile.proofs.CodeBytes.{records-codes}
 use Rattle.dob_dbfile.proofs.FileBytes.{contents-parts}

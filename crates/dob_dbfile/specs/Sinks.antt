@@ -10,6 +10,8 @@ pub record State : Type 0 where
   pub flushes : Option (List ℕ)
   -- whether some call of it has failed
   pub has_failed : Bool
+  -- the reference to the writer that it was lent, where it was lent one
+  pub writer : Option ℕ
 
 -- what was there, and what is there after
 pub record Change : Type 0 where
@@ -22,6 +24,10 @@ change before after = record { before = before; after = after }
 -- nothing happened to it
 abbrev pub IsUntouched : Change → Type 0
 IsUntouched c = c.after ≡ c.before
+
+-- it writes to the writer that it wrote to
+abbrev pub IsSame : Change → Type 0
+IsSame c = c.after.writer ≡ c.before.writer
 
 -- no call failed
 abbrev pub Works : Change → Type 0
@@ -44,12 +50,14 @@ pub record Writes (c : Change) (bytes : List ℕ) : Type 0 where
   pub all : Takes c bytes
   pub unflushed : IsNotFlushed c
   pub works : Works c
+  pub same : IsSame c
 
 -- all the bytes came in, it was flushed once after them, and no call failed
 pub record Puts (c : Change) (bytes : List ℕ) : Type 0 where
   pub all : Takes c bytes
   pub flushed : AddsFlush (append_known c.before.received bytes) c.before.flushes c.after.flushes
   pub works : Works c
+  pub same : IsSame c
 
 -- so many of the first bytes came in, it wasn't flushed, and a call failed
 pub record StopsAfter (c : Change) (bytes : List ℕ) (count : ℕ) : Type 0 where
@@ -57,6 +65,7 @@ pub record StopsAfter (c : Change) (bytes : List ℕ) (count : ℕ) : Type 0 whe
   pub part : Takes c (take count bytes)
   pub unflushed : IsNotFlushed c
   pub fails : c.after.has_failed ≡ true
+  pub same : IsSame c
 
 -- a beginning of the bytes came in, and a call failed
 abbrev pub Stops : Change → List ℕ → Type 0

@@ -39,7 +39,7 @@ pub trait Source {
 
 /// A place for bytes, which are taken one after the other.
 pub trait Sink {
-    // What is known of it: its bytes, where it was flushed, and whether some call of it has failed.
+    // What is known of it: its bytes, where it was flushed, whether some call of it has failed, and the writer that it was lent.
     ghost state: { Self → State };
 
     /// Takes the first bytes of the piece and answers how many: at least one, where there is one.
@@ -48,6 +48,7 @@ pub trait Sink {
         ensures some { IfOk result (λ count. 0 < length piece.now → 0 < count) }
         ensures bytes { WriteAppends (state self.old).received (state self.new).received result piece.now }
         ensures flushes { Keeps (state self.old).flushes (state self.new).flushes }
+        ensures same { (state self.new).writer ≡ (state self.old).writer }
         ensures failed { (state self.new).has_failed ≡ ((state self.old).has_failed || is_err result) };
 
     /// Brings the bytes that were taken to where they belong.
@@ -55,6 +56,7 @@ pub trait Sink {
         ensures bytes { Keeps (state self.old).received (state self.new).received }
         ensures flushed { OnOk result (AddsFlush (state self.old).received (state self.old).flushes (state self.new).flushes) }
         ensures unflushed { OnErr result (Keeps (state self.old).flushes (state self.new).flushes) }
+        ensures same { (state self.new).writer ≡ (state self.old).writer }
         ensures failed { (state self.new).has_failed ≡ ((state self.old).has_failed || is_err result) };
 
     /// Whether some call of it has failed.

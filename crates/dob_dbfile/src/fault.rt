@@ -10,7 +10,7 @@ use std::fmt;
 /// Why a file isn't read or written.
 #[derive(Clone, Copy, Debug, PartialEq, Eq)]
 pub enum Fault {
-    /// E8: the file's piece set has more than three pieces besides the lions.
+    /// E8: the file's piece set has more than `MOST_PIECES` pieces besides the lions.
     SetTooLarge,
     /// E15: the bytes end before the header, or before the records and the digest of the set that it names.
     Truncated,

@@ -17,7 +17,7 @@ pub use fault::Fault;
 pub use mem_sink::MemSink;
 pub use mem_source::MemSource;
 pub use read::read_table;
-pub use std_device::Std;
+pub use std_device::{Lent, Std};
 pub use transfer::{put_all, read_full, write_all};
 pub use write::write_table;
 

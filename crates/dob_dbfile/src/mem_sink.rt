@@ -1,5 +1,5 @@
 // A sink in memory, for tests: it takes pieces of a set length, and fails where it is told to.
-ghost use Rattle.std.specs.Prelude.{◌≡◌, ◌<◌, [], Some, false};
+ghost use Rattle.std.specs.Prelude.{◌≡◌, ◌<◌, [], None, Some, false};
 
 use crate::device::{Failed, Sink};
 use std::alloc::Global;
@@ -129,7 +129,7 @@ impl MemSink {
 }
 
 impl Sink for MemSink {
-    ghost state = { λ sink. record { received = Some sink.bytes.items; flushes = Some sink.flushes.items; has_failed = sink.has_failed } };
+    ghost state = { λ sink. record { received = Some sink.bytes.items; flushes = Some sink.flushes.items; has_failed = sink.has_failed; writer = None } };
 
     fn write(&mut self, piece: &[u8]) -> Result<usize, Failed> {
         let count = piece.len().min(self.longest).min(self.room);

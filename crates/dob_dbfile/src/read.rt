@@ -1,5 +1,6 @@
 // Reading a table from a file.
-ghost use Rattle.std.specs.Prelude.{◌≡◌, ◌≢◌, ◌⊎◌, ◌↔◌, ℕ, List, ◌+◌, ◌*◌, ◌%◌, ◌^◌, ◌<◌, ◌≤◌, ◌||◌, [], false, length, vec_len, All, IfOk, IfErr, IsTrue, OnOk, MatchResult};
+ghost use Rattle.std.specs.Prelude.{◌≡◌, ◌≢◌, ◌⊎◌, ◌↔◌, ℕ, List, ◌+◌, ◌*◌, ◌%◌, ◌^◌, ◌<◌, ◌≤◌, ◌||◌, [], false, length, vec_len, All, IfOk};
+ghost use Rattle.std.specs.Prelude.{IfErr, IsTrue, OnOk, MatchResult};
 ghost use Rattle.dob_pieces.specs.declared.piece_set.PieceSet.{PieceSet as AnySet};
 ghost use Rattle.dob_rank.specs.Marks.{classes_of};
 ghost use Rattle.dob_value.specs.Follows.{ClassTable, IsTable};

@@ -1,5 +1,6 @@
 -- The first move of a list that is made piece by piece.
-use Rattle.std.proofs.Common.{◌≡◌, ℕ, zero, suc, ◌+◌, ◌<◌, true, false, List, [], ◌∷◌, ◌++◌, Option, Some, None, length, get_or, drop, refl, sym, ap, ◌∙◌, inl, inr, arith, add-one, drop-cons, option_to_list}
+use Rattle.std.proofs.Common.{◌≡◌, ℕ, zero, suc, ◌+◌, ◌<◌, true, false, List, [], ◌∷◌, ◌++◌, Option, Some, None, length, get_or, drop, refl}
+use Rattle.std.proofs.Common.{sym, ap, ◌∙◌, inl, inr, arith, add-one, drop-cons, option_to_list}
 use Rattle.std.specs.Option.{is_some}
 use Rattle.std.specs.List.{filter_map, cons_option}
 use Rattle.std.proofs.lemmas.Bool.{cases_lt}
@@ -17,11 +18,13 @@ first-cons_none None rest h = refl
 first-cons_none (Some m) rest h = cc
 
 -- of what is left from place i on, the value at i comes first, if it is there
-pub first_found : (f : ℕ → Option Move) (xs : List ℕ) (i : ℕ) → i < length xs → is_some (f (get_or xs i 0)) ≡ true → first (filter_map f (drop i xs)) ≡ f (get_or xs i 0)
+pub first_found : (f : ℕ → Option Move) (xs : List ℕ) (i : ℕ) → i < length xs → is_some (f (get_or xs i 0)) ≡ true
+    → first (filter_map f (drop i xs)) ≡ f (get_or xs i 0)
 first_found f xs i h found = rw (drop-cons xs i 0) (first-cons_some (f (get_or xs i 0)) (filter_map f (drop (suc i) xs)) found)
 
 -- and else what comes after it
-pub first_passed : (f : ℕ → Option Move) (xs : List ℕ) (i : ℕ) → i < length xs → is_some (f (get_or xs i 0)) ≡ false → first (filter_map f (drop (i + 1) xs)) ≡ first (filter_map f (drop i xs))
+pub first_passed : (f : ℕ → Option Move) (xs : List ℕ) (i : ℕ) → i < length xs → is_some (f (get_or xs i 0)) ≡ false
+    → first (filter_map f (drop (i + 1) xs)) ≡ first (filter_map f (drop i xs))
 first_passed f xs i h absent = rw (add-one, drop-cons xs i 0) (sym (first-cons_none (f (get_or xs i 0)) (filter_map f (drop (suc i) xs)) absent))
 
 pub first-append_none : (xs ys : List Move) → first xs ≡ None → first (xs ++ ys) ≡ first ys

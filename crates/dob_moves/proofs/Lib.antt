@@ -1,15 +1,19 @@
-pub mod Turns
-pub mod Outcomes
-pub mod Mirrors
-pub mod Cases
-pub mod Firsts
-pub mod Runs
-pub mod Tables
-pub mod Reach
-pub mod Masked
-pub mod Listed
-pub mod Verdicts
-pub mod Appends
-pub mod PlainLists
-pub mod MoveLists
-pub mod MoveCounts
+-- The lemmas, in the order in which they are read.
+-- What a move leads to.
+pub mod Turns  -- when a turned setup is a position
+pub mod Outcomes  -- what stands after a move is legal
+pub mod Mirrors  -- moves of mirror images
+-- The status of a position.
+pub mod Cases  -- the rules' cases exclude each other
+pub mod Firsts  -- the first move of a list
+pub mod Runs  -- moves that may not be there, as lists
+pub mod Tables  -- the steps of a kind, ascending
+pub mod Reach  -- the walk over all squares finds all moves in order
+pub mod Masked  -- what masks say of a status
+pub mod Listed  -- masks tell the same steps and drops
+pub mod Verdicts  -- what the searches say of a position
+-- Lists of moves.
+pub mod Appends  -- moves appended piece by piece
+pub mod PlainLists  -- the same in the plain program
+pub mod MoveLists  -- the list has just the moves
+pub mod MoveCounts  -- moves counted without a list

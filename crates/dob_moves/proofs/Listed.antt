@@ -1,5 +1,6 @@
 -- The steps and drops that masks tell are those of the walk over all squares.
-use Rattle.std.proofs.Common.{◌≡◌, ℕ, ◌<◌, ◌&&◌, nat_lt, Bool, true, false, bit_and, cond, List, [], ◌∷◌, Option, Some, None, length, refl, sym, ap, ◌∙◌, subst, option_to_list}
+use Rattle.std.proofs.Common.{◌≡◌, ℕ, ◌<◌, ◌&&◌, nat_lt, Bool, true, false, bit_and, cond, List, [], ◌∷◌, Option, Some, None, length, refl}
+use Rattle.std.proofs.Common.{sym, ap, ◌∙◌, subst, option_to_list}
 use Rattle.std.specs.Option.{is_some}
 use Rattle.std.proofs.lemmas.Bool.{lt-ltb}
 use Rattle.dob_pieces.specs.declared.kind.Kind.{Kind}
@@ -68,7 +69,8 @@ may_step_mask p kind from targets ends are may = IsMask-and (leads kind from) (�
 no_own : (cell : Cell) → is_own cell ≡ false → own_kind cell ≡ None
 no_own None h = refl
 no_own (Some piece) h = by_side piece.side piece.kind h where
-  by_side : (side : Side) (kind : Kind) → is_own (Some (record { side = side; kind = kind })) ≡ false → own_kind (Some (record { side = side; kind = kind })) ≡ None
+  by_side : (side : Side) (kind : Kind) → is_own (Some (record { side = side; kind = kind })) ≡ false
+      → own_kind (Some (record { side = side; kind = kind })) ≡ None
   by_side Mover kind h = cc
   by_side Enemy kind h = refl
 

@@ -1,5 +1,6 @@
 -- What the masks of a position say of its status.
-use Rattle.std.proofs.Common.{◌≡◌, ◌≢◌, ℕ, ◌+◌, ◌*◌, ◌/◌, ◌<◌, ◌≤◌, ◌&&◌, not, Bool, true, false, true≢false, bit_and, Some, None, length, refl, sym, ap, ◌∙◌, subst, arith, inl, inr}
+use Rattle.std.proofs.Common.{◌≡◌, ◌≢◌, ℕ, ◌+◌, ◌*◌, ◌/◌, ◌<◌, ◌≤◌, ◌&&◌, not, Bool, true, false, true≢false, bit_and, Some, None, length}
+use Rattle.std.proofs.Common.{refl, sym, ap, ◌∙◌, subst, arith, inl, inr}
 use Rattle.std.specs.Int.{trailing_zeros, w16}
 use Rattle.std.specs.Option.{is_some}
 use Rattle.std.proofs.lemmas.Bool.{and_parts, cases_lt}
@@ -73,7 +74,8 @@ pub first_attack : (p : Setup) (lion mask from : ℕ) (kind : Kind) → length p
 first_attack p lion mask from kind twelve lions stands are some e own =
     let it = lowest_is (λ from. attacks p from lion) mask from are (omega (arith, some)) e in
     record { catches = catches_from p from lion kind stands own it.passes; first = least it } where
-      least : IsLowest (λ from. attacks p from lion) mask from → (other : Move) → CatchesLion p other → place (Step kind from lion true (grows_at kind lion)) ≤ place other
+      least : IsLowest (λ from. attacks p from lion) mask from → (other : Move) → CatchesLion p other
+          → place (Step kind from lion true (grows_at kind lion)) ≤ place other
       least it (Step other start to true grows) h =
           let a = attack_of p lion other start to grows twelve lions stands h in
           let same = a.at_lion in
@@ -124,7 +126,8 @@ pub some_step : (p : Setup) (kind : Kind) (from targets ends : ℕ) → at p fro
 some_step p kind from targets ends own to are some =
     let test : ℕ → Bool = λ square. leads kind from square && is_end (at p square) in
     let mask = bit_and targets ends in
-    let it = lowest_is test mask (trailing_zeros w16 mask) (IsMask-and (leads kind from) (λ square. is_end (at p square)) targets ends to are) (omega (arith, some)) refl in
+    let it = lowest_is test mask (trailing_zeros w16 mask) (IsMask-and (leads kind from) (λ square. is_end (at p square)) targets ends to are)
+    (omega (arith, some)) refl in
     let t = trailing_zeros w16 mask in
     let parts = and_parts (leads kind from t) (is_end (at p t)) it.passes in
     ends_step p kind from t (record { own = own; leads = parts.0 }) parts.1

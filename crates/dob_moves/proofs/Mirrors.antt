@@ -11,7 +11,8 @@ use Rattle.dob_pieces.specs.declared.setup.Setup.{Setup}
 use Rattle.dob_pieces.specs.Squares.{row, mirrored_square}
 use Rattle.dob_pieces.specs.Pieces.{kind_on_board, leads}
 use Rattle.dob_pieces.specs.Setups.{Cell, at, board_by, piece_of, turned, mirrored, with_one_less}
-use Rattle.dob_pieces.proofs.Boards.{all_below, all_below-at, board_by-from_cells, length-board_by, at-board_by, length-mirrored, at-mirrored, within-from_piece, leads-to_board}
+use Rattle.dob_pieces.proofs.Boards.{all_below, all_below-at, board_by-from_cells, length-board_by, at-board_by, length-mirrored}
+use Rattle.dob_pieces.proofs.Boards.{at-mirrored, within-from_piece, leads-to_board}
 use Rattle.dob_moves.specs.declared.game_move.Move.{Move}
 use Rattle.dob_moves.specs.declared.game_move.Move.TheVariants.{Step, Put}
 use Rattle.dob_moves.specs.declared.position_status.Status.{Status}

@@ -1,5 +1,6 @@
 -- Moves counted piece by piece.
-use Rattle.std.proofs.Common.{◌≡◌, ◌≢◌, ℕ, ◌+◌, ◌*◌, ◌<◌, ◌≤◌, ◌||◌, if◌then◌else◌, Bool, true, false, List, [], ◌∷◌, ◌++◌, Option, Some, None, length, get_or, take, refl, sym, ap, ◌∙◌, arith, option_to_list, Contains, bit_and, count_ones}
+use Rattle.std.proofs.Common.{◌≡◌, ◌≢◌, ℕ, ◌+◌, ◌*◌, ◌<◌, ◌≤◌, ◌||◌, if◌then◌else◌, Bool, true, false, List, [], ◌∷◌, ◌++◌, Option, Some}
+use Rattle.std.proofs.Common.{None, length, get_or, take, refl, sym, ap, ◌∙◌, arith, option_to_list, Contains, bit_and, count_ones}
 use Rattle.std.specs.List.{filter_map}
 use Rattle.std.specs.Int.{trailing_zeros, w16}
 use Rattle.std.specs.Option.{is_some}
@@ -63,10 +64,12 @@ other_count p s twelve is other =
 
 -- ---- by masks
 
-pub counted_steps : (p : Setup) (kind : Kind) (from targets ends : ℕ) → from < 12 → IsMask (leads kind from) targets → IsMask (λ square. is_end (at p square)) ends
+pub counted_steps : (p : Setup) (kind : Kind) (from targets ends : ℕ) → from < 12
+    → IsMask (leads kind from) targets → IsMask (λ square. is_end (at p square)) ends
     → IsCounted (length (steps_by Elsewhere p kind from)) (count_ones (bit_and targets ends))
 counted_steps p kind from targets ends lt are may =
-    let each = counted_ones (may_step p kind from) (steps_to p kind from) (bit_and targets ends) (steps_counting p kind from) (may_step_mask p kind from targets ends are may) in
+    let each = counted_ones (may_step p kind from) (steps_to p kind from) (bit_and targets ends)
+    (steps_counting p kind from) (may_step_mask p kind from targets ends are may) in
     rw (steps_by-squares Elsewhere p kind from lt) each
 
 pub counted_drops : (p : Setup) (kind : HandKind) (empty : ℕ) → 0 < held p.hands.mover kind → IsMask (empty_at p) empty
@@ -90,7 +93,8 @@ pub record CountsOn (p : Setup) (left after count new : ℕ) : Type 0 where
   pub less : after < left
   pub next : AreCounted p after new
 
-pub count_next : (p : Setup) (left place after count steps : ℕ) → AreCounted p left count → 0 < left → place ≡ trailing_zeros w16 left → after ≡ without left place
+pub count_next : (p : Setup) (left place after count steps : ℕ) → AreCounted p left count → 0 < left
+    → place ≡ trailing_zeros w16 left → after ≡ without left place
     → steps ≡ length (steps_from Elsewhere p place) → steps ≤ 12 → CountsOn p left after count (count + steps)
 count_next p left place after count steps w some e gone is few =
     let it = next_left (own_at p) w.walk.upto left place w.walk.left_are some e in

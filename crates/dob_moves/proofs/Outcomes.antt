@@ -1,5 +1,6 @@
 -- Every outcome of a move is the turned form of `moved`, and legal where the position was legal and open.
-use Rattle.std.proofs.Common.{◌≡◌, ◌≢◌, ℕ, ◌+◌, ◌<◌, ◌≤◌, Bool, true, false, cond, ◌&&◌, List, Some, None, length, get_or, set, refl, sym, ap, subst, ◌∙◌, ⊎_elim, arith}
+use Rattle.std.proofs.Common.{◌≡◌, ◌≢◌, ℕ, ◌+◌, ◌<◌, ◌≤◌, Bool, true, false, cond, ◌&&◌, List, Some, None, length, get_or, set, refl, sym}
+use Rattle.std.proofs.Common.{ap, subst, ◌∙◌, ⊎_elim, arith}
 use Rattle.std.specs.List.{count_by}
 use Rattle.std.proofs.lemmas.Bool.{cases_eq, and_right, false≢true}
 use Rattle.std.proofs.lemmas.List.{length-set, get_or-set_same, get_or-set_other}
@@ -261,7 +262,8 @@ put_lion hand.Chick = refl
 put_lion hand.Elephant = refl
 put_lion hand.Giraffe = refl
 
-module _ (p : Setup) (put : HandKind) (to : ℕ) (twelve : length p.board ≡ 12) (some : 0 < held p.hands.mover put) (on : to < 12) (free_to : at p to ≡ None) where
+module _ (p : Setup) (put : HandKind) (to : ℕ) (twelve : length p.board ≡ 12) (some : 0 < held p.hands.mover put)
+    (on : to < 12) (free_to : at p to ≡ None) where
   length-dropped : length (dropped p put to).board ≡ 12
   unfolding dropped
   length-dropped = rw length-set twelve

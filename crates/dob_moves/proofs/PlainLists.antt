@@ -1,5 +1,6 @@
 -- Moves appended piece by piece, as the plain program does.
-use Rattle.std.proofs.Common.{◌≡◌, ℕ, ◌+◌, ◌<◌, List, [], ◌∷◌, ◌++◌, Option, Some, None, length, get_or, take, refl, sym, ap, ◌∙◌, add-one, append_assoc, option_to_list}
+use Rattle.std.proofs.Common.{◌≡◌, ℕ, ◌+◌, ◌<◌, List, [], ◌∷◌, ◌++◌, Option, Some, None, length, get_or, take, refl, sym, ap, ◌∙◌, add-one}
+use Rattle.std.proofs.Common.{append_assoc, option_to_list}
 use Rattle.std.specs.List.{filter_map, cons_option}
 use Rattle.std.proofs.Math.Seq.{take-suc}
 use Rattle.std.proofs.lemmas.List.{append-nil}
@@ -12,17 +13,20 @@ single None = refl
 single (Some m) = refl
 
 -- one more item of a list, and what it gives
-pub taken_more : (f : ℕ × ℕ → Option Move) (xs : List (ℕ × ℕ)) (x : ℕ × ℕ) (i : ℕ) (old items new : List Move) → i < length xs → items ≡ old ++ filter_map f (take i xs) → new ≡ items ++ option_to_list (f (get_or xs i x)) → new ≡ old ++ filter_map f (take (i + 1) xs)
+pub taken_more : (f : ℕ × ℕ → Option Move) (xs : List (ℕ × ℕ)) (x : ℕ × ℕ) (i : ℕ) (old items new : List Move) → i < length xs
+    → items ≡ old ++ filter_map f (take i xs) → new ≡ items ++ option_to_list (f (get_or xs i x)) → new ≡ old ++ filter_map f (take (i + 1) xs)
 taken_more f xs x i old items new h before e =
     let one : take (i + 1) xs ≡ take i xs ++ get_or xs i x ∷ [] = rw add-one (take-suc xs i x h) in
     let parts = filter_map-append f (take i xs) (get_or xs i x ∷ []) in
     let joined : new ≡ (old ++ filter_map f (take i xs)) ++ cons_option (f (get_or xs i x)) [] =
-    e ∙ ap (λ (ms : List Move). ms ++ option_to_list (f (get_or xs i x))) before ∙ ap (λ (ms : List Move). (old ++ filter_map f (take i xs)) ++ ms) (single (f (get_or xs i x))) in
+    e ∙ ap (λ (ms : List Move). ms ++ option_to_list (f (get_or xs i x))) before
+    ∙ ap (λ (ms : List Move). (old ++ filter_map f (take i xs)) ++ ms) (single (f (get_or xs i x))) in
     joined ∙ append_assoc old (filter_map f (take i xs)) (cons_option (f (get_or xs i x)) [])
     ∙ ap (λ (ms : List Move). old ++ ms) (sym (ap (filter_map f) one ∙ parts))
 
 -- what one more number gives
-pub below_more_moves : (g : ℕ → List Move) (i : ℕ) (old items new : List Move) → items ≡ old ++ each_below g i → new ≡ items ++ g i → new ≡ old ++ each_below g (i + 1)
+pub below_more_moves : (g : ℕ → List Move) (i : ℕ) (old items new : List Move) → items ≡ old ++ each_below g i
+    → new ≡ items ++ g i → new ≡ old ++ each_below g (i + 1)
 below_more_moves g i old items new before e =
     rw add-one (e ∙ ap (λ (ms : List Move). ms ++ g i) before ∙ append_assoc old (each_below g i) (g i))
 

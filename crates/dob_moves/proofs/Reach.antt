@@ -1,5 +1,6 @@
 -- The lists of steps and of drops have exactly the moves of the rules, in the move order.
-use Rattle.std.proofs.Common.{◌≡◌, ℕ, suc, ◌+◌, ◌*◌, ◌<◌, ◌≤◌, Bool, true, false, cond, nat_lt, List, ◌++◌, Option, Some, None, length, refl, sym, ap, subst, inl, inr, arith, option_to_list, Contains}
+use Rattle.std.proofs.Common.{◌≡◌, ℕ, suc, ◌+◌, ◌*◌, ◌<◌, ◌≤◌, Bool, true, false, cond, nat_lt, List, ◌++◌, Option, Some, None, length}
+use Rattle.std.proofs.Common.{refl, sym, ap, subst, inl, inr, arith, option_to_list, Contains}
 use Rattle.std.proofs.lemmas.Bool.{cases_lt, and_parts, ltb-true, lt-ltb}
 use Rattle.std.proofs.lemmas.List.{get_or_past}
 use Rattle.std.proofs.lemmas.List.Elements.{Contains-append_left, Contains-append_right, Contains-append_cases}
@@ -14,14 +15,16 @@ use Rattle.dob_pieces.specs.declared.setup.Setup.{Setup}
 use Rattle.dob_pieces.specs.Lists.{each_below}
 use Rattle.dob_pieces.specs.Pieces.{leads, kind_in_hand}
 use Rattle.dob_pieces.specs.Setups.{Cell, at, held, piece_of}
-use Rattle.dob_pieces.proofs.Lists.{none_in_empty, cond_sound, cond_whole, each_sound, each_whole, Rising, rising-lower, rising-append, rising-cond, rising-each}
+use Rattle.dob_pieces.proofs.Lists.{none_in_empty, cond_sound, cond_whole, each_sound, each_whole, Rising, rising-lower, rising-append}
+use Rattle.dob_pieces.proofs.Lists.{rising-cond, rising-each}
 use Rattle.dob_moves.specs.declared.game_move.Move.{Move}
 use Rattle.dob_moves.specs.declared.game_move.Move.TheVariants.{Step, Put}
 use Rattle.dob_moves.specs.declared.first_moves.Aim.{Aim}
 use Rattle.dob_moves.specs.declared.first_moves.Aim.TheVariants.{AtLion, Elsewhere}
 use Rattle.dob_moves.specs.Moves.{grows_at, CanTake, CanGo, CatchesLion, hand_place, place}
 use Rattle.dob_moves.specs.Statuses.{IsFirstCatch}
-use Rattle.dob_moves.specs.Walks.{first, may_end, step_onto, steps_by, own_kind, own_by_side, steps_if, steps_from, all_steps, put_if, put_on, drops_of, all_drops}
+use Rattle.dob_moves.specs.Walks.{first, may_end, step_onto, steps_by, own_kind, own_by_side, steps_if, steps_from, all_steps, put_if}
+use Rattle.dob_moves.specs.Walks.{put_on, drops_of, all_drops}
 use Rattle.dob_moves.proofs.Runs.{option_sound, option_whole, rising-option, first_none, first_some, first_least}
 use Rattle.std.specs.Option.{is_some}
 use Rattle.dob_moves.proofs.Tables.{step_to, steps_by-squares}
@@ -38,15 +41,18 @@ abbrev pub Meets : Aim → Setup → Move → Type 0
 Meets AtLion p move = CatchesLion p move
 Meets Elsewhere p move = CanGo p move
 
-go_empty : (p : Setup) (kind : Kind) (from to : ℕ) (grows : Bool) → IsStep p kind from to → at p to ≡ None → grows_at kind to ≡ grows → CanGo p (Step kind from to false grows)
+go_empty : (p : Setup) (kind : Kind) (from to : ℕ) (grows : Bool) → IsStep p kind from to → at p to ≡ None
+    → grows_at kind to ≡ grows → CanGo p (Step kind from to false grows)
 go_empty p kind from to false s free e = (_, (e, free, record { own = s.own; leads = s.leads; outcome = refl }))
 go_empty p kind from to true s free e = (_, (e, free, record { own = s.own; leads = s.leads; outcome = refl }))
 
-go_catch : (p : Setup) (kind : Kind) (from to : ℕ) (grows : Bool) (taken : HandKind) → IsStep p kind from to → CanTake p to taken → grows_at kind to ≡ grows → CanGo p (Step kind from to true grows)
+go_catch : (p : Setup) (kind : Kind) (from to : ℕ) (grows : Bool) (taken : HandKind) → IsStep p kind from to
+    → CanTake p to taken → grows_at kind to ≡ grows → CanGo p (Step kind from to true grows)
 go_catch p kind from to false taken s take e = (_, (e, taken, take, record { own = s.own; leads = s.leads; outcome = refl }))
 go_catch p kind from to true taken s take e = (_, (e, taken, take, record { own = s.own; leads = s.leads; outcome = refl }))
 
-piece_sound : (aim : Aim) (p : Setup) (side : Side) (stands kind : Kind) (from to : ℕ) (m : Move) → IsStep p kind from to → at p to ≡ Some (piece_of side stands) → step_onto aim (Some (piece_of side stands)) kind from to ≡ Some m → Meets aim p m
+piece_sound : (aim : Aim) (p : Setup) (side : Side) (stands kind : Kind) (from to : ℕ) (m : Move) → IsStep p kind from to
+    → at p to ≡ Some (piece_of side stands) → step_onto aim (Some (piece_of side stands)) kind from to ≡ Some m → Meets aim p m
 piece_sound AtLion p Mover stands kind from to m s e h = cc
 piece_sound AtLion p Enemy Lion kind from to m s e h =
     let same : Step kind from to true (grows_at kind to) ≡ m = cc in
@@ -70,7 +76,8 @@ piece_sound Elsewhere p Enemy Hen kind from to m s e h =
     let same : Step kind from to true (grows_at kind to) ≡ m = cc in
     subst (λ (x : Move). CanGo p x) same (go_catch p kind from to (grows_at kind to) hand.Chick s (Hen, e, refl) refl)
 
-pub step_sound : (aim : Aim) (p : Setup) (kind : Kind) (from to : ℕ) (cell : Cell) (m : Move) → IsStep p kind from to → at p to ≡ cell → step_onto aim cell kind from to ≡ Some m → Meets aim p m
+pub step_sound : (aim : Aim) (p : Setup) (kind : Kind) (from to : ℕ) (cell : Cell) (m : Move) → IsStep p kind from to
+    → at p to ≡ cell → step_onto aim cell kind from to ≡ Some m → Meets aim p m
 step_sound AtLion p kind from to None m s e h = cc
 step_sound Elsewhere p kind from to None m s e h =
     let same : Step kind from to false (grows_at kind to) ≡ m = cc in
@@ -85,7 +92,8 @@ step_place aim kind from to cell m h = by_end (may_end aim cell) h where
   by_end true h = let same : Step kind from to (is_some cell) (grows_at kind to) ≡ m = cc in sym (ap place same)
 
 -- each step of the rules is found
-catch_found : (p : Setup) (caught kind : Kind) (taken : HandKind) (from to : ℕ) (grows : Bool) → at p to ≡ Some (piece_of Enemy caught) → kind_in_hand caught ≡ Some taken → grows_at kind to ≡ grows → step_onto Elsewhere (at p to) kind from to ≡ Some (Step kind from to true grows)
+catch_found : (p : Setup) (caught kind : Kind) (taken : HandKind) (from to : ℕ) (grows : Bool) → at p to ≡ Some (piece_of Enemy caught)
+    → kind_in_hand caught ≡ Some taken → grows_at kind to ≡ grows → step_onto Elsewhere (at p to) kind from to ≡ Some (Step kind from to true grows)
 catch_found p Lion kind taken from to grows e t g = cc
 catch_found p Giraffe kind taken from to grows e t g = rw (e, g) refl
 catch_found p Elephant kind taken from to grows e t g = rw (e, g) refl
@@ -97,19 +105,24 @@ pub record IsFound (aim : Aim) (p : Setup) (kind : Kind) (from to : ℕ) (m : Mo
   pub step : IsStep p kind from to
   pub found : step_onto aim (at p to) kind from to ≡ Some m
 
-pub go_found : (p : Setup) (kind : Kind) (from to : ℕ) (catch grows : Bool) → CanGo p (Step kind from to catch grows) → IsFound Elsewhere p kind from to (Step kind from to catch grows)
+pub go_found : (p : Setup) (kind : Kind) (from to : ℕ) (catch grows : Bool) → CanGo p (Step kind from to catch grows)
+    → IsFound Elsewhere p kind from to (Step kind from to catch grows)
 go_found p kind from to false false (q, (g, free, s)) = record { step = record { own = s.own; leads = s.leads }; found = rw (free, g) refl }
 go_found p kind from to false true (q, (g, free, s)) = record { step = record { own = s.own; leads = s.leads }; found = rw (free, g) refl }
-go_found p kind from to true false (q, (g, taken, take, s)) = record { step = record { own = s.own; leads = s.leads }; found = catch_found p take.0 kind taken from to false take.1 take.2 g }
-go_found p kind from to true true (q, (g, taken, take, s)) = record { step = record { own = s.own; leads = s.leads }; found = catch_found p take.0 kind taken from to true take.1 take.2 g }
+go_found p kind from to true false (q, (g, taken, take, s))
+    = record { step = record { own = s.own; leads = s.leads }; found = catch_found p take.0 kind taken from to false take.1 take.2 g }
+go_found p kind from to true true (q, (g, taken, take, s))
+    = record { step = record { own = s.own; leads = s.leads }; found = catch_found p take.0 kind taken from to true take.1 take.2 g }
 
-lion_found : (p : Setup) (kind : Kind) (from to : ℕ) (catch grows : Bool) → CatchesLion p (Step kind from to catch grows) → IsFound AtLion p kind from to (Step kind from to catch grows)
+lion_found : (p : Setup) (kind : Kind) (from to : ℕ) (catch grows : Bool) → CatchesLion p (Step kind from to catch grows)
+    → IsFound AtLion p kind from to (Step kind from to catch grows)
 lion_found p kind from to false grows h = absurd h
 lion_found p kind from to true grows h = record { step = record { own = h.0; leads = h.1 }; found = rw (h.2, h.3) refl }
 
 -- ---- the steps of a piece
 
-steps_by_sound : (aim : Aim) (p : Setup) (kind : Kind) (from : ℕ) (m : Move) → from < 12 → at p from ≡ Some (piece_of Mover kind) → Contains (steps_by aim p kind from) m → Meets aim p m
+steps_by_sound : (aim : Aim) (p : Setup) (kind : Kind) (from : ℕ) (m : Move) → from < 12 → at p from ≡ Some (piece_of Mover kind)
+    → Contains (steps_by aim p kind from) m → Meets aim p m
 steps_by_sound aim p kind from m lt own h =
     let g : ℕ → List Move = λ to. option_to_list (step_to aim p kind from to) in
     let w = each_sound g 12 m (subst (λ (ms : List Move). Contains ms m) (steps_by-squares aim p kind from lt) h) in
@@ -130,18 +143,22 @@ steps_by_rising aim p kind from lt =
       its_place to true m e = step_place aim kind from to (at p to) m e
 
       at_square : (to : ℕ) → Rising place (12 * from + to) (12 * from + suc to) (option_to_list (step_to aim p kind from to))
-      at_square to = subst (λ (high : ℕ). Rising place (12 * from + to) high (option_to_list (step_to aim p kind from to))) (let e : suc (12 * from + to) ≡ 12 * from + suc to = omega arith in e) (rising-option (12 * from + to) (step_to aim p kind from to) (λ m e. its_place to (leads kind from to) m e))
+      at_square to = subst (λ (high : ℕ). Rising place (12 * from + to) high (option_to_list (step_to aim p kind from to)))
+          (let e : suc (12 * from + to) ≡ 12 * from + suc to = omega arith in e)
+          (rising-option (12 * from + to) (step_to aim p kind from to) (λ m e. its_place to (leads kind from to) m e))
 
 near_from_leads : (kind : Kind) (from to : ℕ) → leads kind from to ≡ true → to < 12
 unfolding leads
 near_from_leads kind from to h = ltb-true to 12 (and_parts (nat_lt to 12) _ h).0
 
-found_in_steps_by : (aim : Aim) (p : Setup) (kind : Kind) (from to : ℕ) (m : Move) → from < 12 → IsFound aim p kind from to m → Contains (steps_by aim p kind from) m
+found_in_steps_by : (aim : Aim) (p : Setup) (kind : Kind) (from to : ℕ) (m : Move) → from < 12
+    → IsFound aim p kind from to m → Contains (steps_by aim p kind from) m
 found_in_steps_by aim p kind from to m lt h =
     let g : ℕ → List Move = λ to. option_to_list (step_to aim p kind from to) in
     let near = near_from_leads kind from to h.step.leads in
     let it : step_to aim p kind from to ≡ Some m = rw h.step.leads h.found in
-    subst (λ (ms : List Move). Contains ms m) (sym (steps_by-squares aim p kind from lt)) (each_whole g 12 to m near (option_whole (step_to aim p kind from to) m it))
+    subst (λ (ms : List Move). Contains ms m) (sym (steps_by-squares aim p kind from lt))
+    (each_whole g 12 to m near (option_whole (step_to aim p kind from to) m it))
 
 -- ---- the steps from each square
 
@@ -166,7 +183,8 @@ steps_from_rising aim p from lt = by_own (own_kind (at p from)) where
   by_own None = omega arith
   by_own (Some kind) = steps_by_rising aim p kind from lt
 
-found_in_steps_from : (aim : Aim) (p : Setup) (kind : Kind) (from to : ℕ) (m : Move) → from < 12 → IsFound aim p kind from to m → Contains (steps_from aim p from) m
+found_in_steps_from : (aim : Aim) (p : Setup) (kind : Kind) (from to : ℕ) (m : Move) → from < 12
+    → IsFound aim p kind from to m → Contains (steps_from aim p from) m
 unfolding steps_from
 found_in_steps_from aim p kind from to m lt h = rw h.step.own (found_in_steps_by aim p kind from to m lt h)
 
@@ -190,7 +208,8 @@ on_board p square piece len e =
       | inr ge ↦ let beyond = get_or_past p.board square None (omega (arith, len)) in cc
     ]
 
-pub found_in_steps : (aim : Aim) (p : Setup) (kind : Kind) (from to : ℕ) (m : Move) → length p.board ≡ 12 → IsFound aim p kind from to m → Contains (all_steps aim p) m
+pub found_in_steps : (aim : Aim) (p : Setup) (kind : Kind) (from to : ℕ) (m : Move) → length p.board ≡ 12
+    → IsFound aim p kind from to m → Contains (all_steps aim p) m
 unfolding all_steps
 found_in_steps aim p kind from to m len h =
     let lt = on_board p from (piece_of Mover kind) len h.step.own in
@@ -227,7 +246,9 @@ drops_of_rising p kind =
     rising-cond place _ low (low + 12) (each_below g 12) (omega arith)
     (rising-lower place low (low + 0) (low + 12) _ (omega arith) (rising-each place g (λ to. low + to) 12 (λ to lt. at_square to))) where
       at_square : (to : ℕ) → Rising place (144 + 12 * hand_place kind + to) (144 + 12 * hand_place kind + suc to) (option_to_list (put_on p kind to))
-      at_square to = subst (λ (high : ℕ). Rising place (144 + 12 * hand_place kind + to) high (option_to_list (put_on p kind to))) (let e : suc (144 + 12 * hand_place kind + to) ≡ 144 + 12 * hand_place kind + suc to = omega arith in e) (rising-option (144 + 12 * hand_place kind + to) (put_on p kind to) (λ m e. put_place p kind to m e))
+      at_square to = subst (λ (high : ℕ). Rising place (144 + 12 * hand_place kind + to) high (option_to_list (put_on p kind to)))
+          (let e : suc (144 + 12 * hand_place kind + to) ≡ 144 + 12 * hand_place kind + suc to = omega arith in e)
+          (rising-option (144 + 12 * hand_place kind + to) (put_on p kind to) (λ m e. put_place p kind to m e))
 
 drops_of_whole : (p : Setup) (kind : HandKind) (to : ℕ) → CanGo p (Put kind to) → Contains (drops_of p kind) (Put kind to)
 unfolding drops_of
@@ -263,7 +284,8 @@ drops_whole p hand.Elephant to h =
     Contains-append_left (drops_of p hand.Chick ++ drops_of p hand.Elephant) (drops_of p hand.Giraffe) (Put hand.Elephant to)
     (Contains-append_right (drops_of p hand.Chick) (drops_of p hand.Elephant) (Put hand.Elephant to) (drops_of_whole p hand.Elephant to h))
 drops_whole p hand.Giraffe to h =
-    Contains-append_right (drops_of p hand.Chick ++ drops_of p hand.Elephant) (drops_of p hand.Giraffe) (Put hand.Giraffe to) (drops_of_whole p hand.Giraffe to h)
+    Contains-append_right (drops_of p hand.Chick ++ drops_of p hand.Elephant) (drops_of p hand.Giraffe)
+    (Put hand.Giraffe to) (drops_of_whole p hand.Giraffe to h)
 
 -- ---- what is found says of the position
 
@@ -273,7 +295,8 @@ no_catch p len none (Step kind from to catch grows) h =
     (found_in_steps AtLion p kind from to (Step kind from to catch grows) len (lion_found p kind from to catch grows h))
 no_catch p len none (Put kind to) h = h
 
-first_step_least : (p : Setup) → length p.board ≡ 12 → (m : Move) → first (all_steps AtLion p) ≡ Some m → (other : Move) → CatchesLion p other → place m ≤ place other
+first_step_least : (p : Setup) → length p.board ≡ 12 → (m : Move) → first (all_steps AtLion p) ≡ Some m
+    → (other : Move) → CatchesLion p other → place m ≤ place other
 first_step_least p len m e (Step kind from to catch grows) h =
     first_least 0 144 (all_steps AtLion p) m (Step kind from to catch grows) (steps_rising AtLion p) e
     (found_in_steps AtLion p kind from to (Step kind from to catch grows) len (lion_found p kind from to catch grows h))

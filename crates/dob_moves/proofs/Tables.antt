@@ -1,5 +1,6 @@
 -- The steps of each kind lead, in their order, to exactly the squares to which a step of the kind leads, ascending.
-use Rattle.std.proofs.Common.{◌≡◌, ℕ, zero, suc, ◌<◌, Bool, true, false, ◌&&◌, cond, eqb, List, [], ◌∷◌, ◌++◌, Option, Some, None, refl, ap, ◌∙◌, option_to_list}
+use Rattle.std.proofs.Common.{◌≡◌, ℕ, zero, suc, ◌<◌, Bool, true, false, ◌&&◌, cond, eqb, List, [], ◌∷◌, ◌++◌, Option, Some, None, refl, ap}
+use Rattle.std.proofs.Common.{◌∙◌, option_to_list}
 use Rattle.std.specs.List.{filter, filter_map, cons_option}
 use Rattle.std.proofs.lemmas.Bool.{and_parts, eqb-true}
 use Rattle.std.proofs.lemmas.List.Elements.{filter_map-append, filter-append}
@@ -59,11 +60,14 @@ targets_are kind from h = same_numbers-true _ _ (all_below-at (targets_agree kin
 abbrev pub step_to : Aim → Setup → Kind → ℕ → ℕ → Option Move
 step_to aim p kind from to = cond (leads kind from to) (step_onto aim (at p to) kind from to) None
 
-onto_one : (aim : Aim) (p : Setup) (kind : Kind) (from : ℕ) (o : Option ℕ) (ds : List ℕ) → cons_option (step_if aim p kind from o) (filter_map (λ to. step_onto aim (at p to) kind from to) ds) ≡ filter_map (λ to. step_onto aim (at p to) kind from to) (cons_option o ds)
+onto_one : (aim : Aim) (p : Setup) (kind : Kind) (from : ℕ) (o : Option ℕ) (ds : List ℕ)
+    → cons_option (step_if aim p kind from o) (filter_map (λ to. step_onto aim (at p to) kind from to) ds)
+    ≡ filter_map (λ to. step_onto aim (at p to) kind from to) (cons_option o ds)
 onto_one aim p kind from None ds = refl
 onto_one aim p kind from (Some to) ds = refl
 
-by_targets : (aim : Aim) (p : Setup) (kind : Kind) (from : ℕ) (ds : List (ℕ × ℕ)) → filter_map (step_by aim p kind from) ds ≡ filter_map (λ to. step_onto aim (at p to) kind from to) (filter_map (square_after from) ds)
+by_targets : (aim : Aim) (p : Setup) (kind : Kind) (from : ℕ) (ds : List (ℕ × ℕ))
+    → filter_map (step_by aim p kind from) ds ≡ filter_map (λ to. step_onto aim (at p to) kind from to) (filter_map (square_after from) ds)
 by_targets aim p kind from [] = refl
 by_targets aim p kind from (d ∷ ds) =
     ap (λ (ms : List Move). cons_option (step_by aim p kind from d) ms) (by_targets aim p kind from ds)
@@ -76,7 +80,8 @@ last_one test f k true = only (f k) where
   only None = refl
   only (Some m) = refl
 
-by_squares : (test : ℕ → Bool) (f : ℕ → Option Move) (n : ℕ) → filter_map f (filter test (numbers n)) ≡ each_below (λ k. option_to_list (cond (test k) (f k) None)) n
+by_squares : (test : ℕ → Bool) (f : ℕ → Option Move) (n : ℕ)
+    → filter_map f (filter test (numbers n)) ≡ each_below (λ k. option_to_list (cond (test k) (f k) None)) n
 by_squares test f zero = refl
 by_squares test f (suc n) =
     ap (filter_map f) (filter-append test (numbers n) (n ∷ []))
@@ -85,7 +90,8 @@ by_squares test f (suc n) =
     ∙ ap (λ (ms : List Move). each_below (λ k. option_to_list (cond (test k) (f k) None)) n ++ ms) (last_one test f n (test n))
 
 -- the steps of a piece are those to each square in turn
-pub steps_by-squares : (aim : Aim) (p : Setup) (kind : Kind) (from : ℕ) → from < 12 → steps_by aim p kind from ≡ each_below (λ to. option_to_list (step_to aim p kind from to)) 12
+pub steps_by-squares : (aim : Aim) (p : Setup) (kind : Kind) (from : ℕ) → from < 12
+    → steps_by aim p kind from ≡ each_below (λ to. option_to_list (step_to aim p kind from to)) 12
 unfolding steps_by
 steps_by-squares aim p kind from h =
     by_targets aim p kind from (steps_of kind)

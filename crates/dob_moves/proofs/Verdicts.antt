@@ -1,5 +1,6 @@
 -- What the searches say of a position.
-use Rattle.std.proofs.Common.{refl, ◌≡◌, ◌≢◌, List, [], ◌++◌, Contains, inl, inr, subst, arith, Bool, true, false, Option, Some, None, MatchOption, length, sym, ◌∙◌}
+use Rattle.std.proofs.Common.{refl, ◌≡◌, ◌≢◌, List, [], ◌++◌, Contains, inl, inr, subst, arith, Bool, true, false, Option, Some, None}
+use Rattle.std.proofs.Common.{MatchOption, length, sym, ◌∙◌}
 use Rattle.std.specs.Bool.{IsTrue}
 use Rattle.std.specs.Option.{is_some}
 use Rattle.dob_pieces.specs.declared.setup.Setup.{Setup}
@@ -14,17 +15,20 @@ use Rattle.dob_moves.specs.Moves.{CanGo, place}
 use Rattle.dob_moves.specs.Statuses.{CanCatch, HasStatus, AreMoves, IsFirstCatch}
 use Rattle.dob_moves.specs.Walks.{first, all_steps, all_drops}
 use Rattle.dob_moves.proofs.Firsts.{none_from}
-use Rattle.dob_moves.proofs.Reach.{steps_sound, steps_rising, found_in_steps, drops_sound, drops_rising, drops_whole, go_found, no_catch, is_first_catch, no_move, step_goes, drop_goes}
+use Rattle.dob_moves.proofs.Reach.{steps_sound, steps_rising, found_in_steps, drops_sound, drops_rising, drops_whole, go_found, no_catch}
+use Rattle.dob_moves.proofs.Reach.{is_first_catch, no_move, step_goes, drop_goes}
 
 pub catch_answer : (p : Setup) (o : Option Move) → length p.board ≡ 12 → o ≡ first (all_steps AtLion p) → MatchOption o (¬ CanCatch p) (λ m. IsFirstCatch p m)
 catch_answer p None len e = λ (w : CanCatch p). no_catch p len (sym e) w.0 w.1
 catch_answer p (Some m) len e = is_first_catch p len m (sym e)
 
-pub step_answer : (p : Setup) (b : Bool) (o : Option Move) → o ≡ first (all_steps Elsewhere p) → is_some o ≡ true → b ≡ true → (IsTrue b → (move : Move) × CanGo p move) × (((move : Move) × CanGo p move) → IsTrue b)
+pub step_answer : (p : Setup) (b : Bool) (o : Option Move) → o ≡ first (all_steps Elsewhere p) → is_some o ≡ true → b ≡ true
+    → (IsTrue b → (move : Move) × CanGo p move) × (((move : Move) × CanGo p move) → IsTrue b)
 step_answer p b None e h t = cc
 step_answer p b (Some m) e h t = (λ _. (m, step_goes p m (sym e)), λ _. t)
 
-pub drop_answer : (p : Setup) (b : Bool) (o drop : Option Move) → length p.board ≡ 12 → o ≡ first (all_steps Elsewhere p) → is_some o ≡ false → drop ≡ first (all_drops p) → b ≡ is_some drop → (IsTrue b → (move : Move) × CanGo p move) × (((move : Move) × CanGo p move) → IsTrue b)
+pub drop_answer : (p : Setup) (b : Bool) (o drop : Option Move) → length p.board ≡ 12 → o ≡ first (all_steps Elsewhere p) → is_some o ≡ false
+    → drop ≡ first (all_drops p) → b ≡ is_some drop → (IsTrue b → (move : Move) × CanGo p move) × (((move : Move) × CanGo p move) → IsTrue b)
 drop_answer p b o None len e h d t =
     (λ (yes : IsTrue b). cc, λ (w : (move : Move) × CanGo p move). absurd (no_move p len (sym e ∙ none_from o h) (sym d) w.0 w.1))
 drop_answer p b o (Some m) len e h d t = (λ _. (m, drop_goes p m (sym d)), λ _. t)
@@ -49,11 +53,13 @@ open_moves : (p : Setup) → length p.board ≡ 12 → HasStatus p Open → AreM
 open_moves p len h = record {
   sound = λ m here. (h, listed_goes p m here);
   whole = λ m is_open goes. move_listed p len m goes;
-  ordered = rising-pairs place 0 180 (all_steps Elsewhere p ++ all_drops p) (rising-append place 0 144 180 (all_steps Elsewhere p) (all_drops p) (steps_rising Elsewhere p) (drops_rising p));
+  ordered = rising-pairs place 0 180 (all_steps Elsewhere p ++ all_drops p)
+      (rising-append place 0 144 180 (all_steps Elsewhere p) (all_drops p) (steps_rising Elsewhere p) (drops_rising p));
 }
 
 -- the steps and then the drops are the moves of an open position
-pub open_answer : (p : Setup) → length p.board ≡ 12 → HasStatus p Open → (none steps all : List Move) → none ≡ [] → steps ≡ none ++ all_steps Elsewhere p → all ≡ steps ++ all_drops p → AreMoves p all
+pub open_answer : (p : Setup) → length p.board ≡ 12 → HasStatus p Open → (none steps all : List Move) → none ≡ []
+    → steps ≡ none ++ all_steps Elsewhere p → all ≡ steps ++ all_drops p → AreMoves p all
 open_answer p len h none steps all e f g =
     let same : all ≡ all_steps Elsewhere p ++ all_drops p = rw (g, f, e) refl in
     subst (λ (ms : List Move). AreMoves p ms) (sym same) (open_moves p len h)

@@ -3,6 +3,7 @@ ghost use Rattle.std.specs.Prelude.{◌≡◌, ◌≤◌, length};
 ghost use Rattle.dob_pieces.specs.Masks.{AreMasks};
 ghost use Rattle.dob_moves.specs.Walks.{steps_by, steps_from, all_steps, drops_of, all_drops};
 ghost use Rattle.dob_moves.specs.MoveLists.{moves_of};
+ghost use Rattle.dob_moves.specs.Statuses.{HasStatus};
 ghost use Rattle.dob_moves.specs.declared.first_moves.Aim.TheVariants.{Elsewhere};
 
 use crate::first_moves::own_kind;
@@ -72,15 +73,31 @@ fn count_drops(setup: &Setup, masks: &Masks) -> u8
         + count_drops_of(setup, masks, HandKind::Giraffe)
 }
 
+/// The number of moves of a position of that status.
+fn count_at(position: &Position, masks: &Masks, status: Status) -> u8
+    requires masks { AreMasks position.now.setup masks.now }
+    requires status { HasStatus position.now.setup status }
+    ensures { result ≡ length (moves_of position.now.setup) }
+{
+    match status {
+        Status::Open => count_steps(&position.setup, masks) + count_drops(&position.setup, masks),
+        _ => 0,
+    }
+}
+
+/// The status of the position, and the number of its moves, as many as `moves` lists: 0 where it isn't open.
+pub fn status_and_count(position: &Position) -> (Status, u8)
+    ensures status { HasStatus position.now.setup result.0 }
+    ensures count { result.1 ≡ length (moves_of position.now.setup) }
+{
+    let masks = Masks::of(&position.setup);
+    let status = status_by(position, &masks);
+    (status, count_at(position, &masks, status))
+}
+
 /// The number of moves of the position, as many as `moves` lists: 0 where it isn't open.
 pub fn count_moves(position: &Position) -> u8
     ensures { result ≡ length (moves_of position.now.setup) }
 {
-    let masks = Masks::of(&position.setup);
-    match status_by(position, &masks) {
-        Status::Open => {
-            count_steps(&position.setup, &masks) + count_drops(&position.setup, &masks)
-        }
-        _ => 0,
-    }
+    status_and_count(position).1
 }

@@ -1,6 +1,7 @@
 // Laws of the rules. Each function's contract is one law, of every position and every move; a proof that calls
 // the function may use the law. They do nothing when they run.
-ghost use Rattle.dob_moves.specs.Laws.{OutcomesAreLegal, OutcomesKeepPieces, MovesHaveOneOutcome, StatusesExclude, StatusesMirror, OutcomesMirror, StepsExclude, LionsAreNotTaken};
+ghost use Rattle.dob_moves.specs.Laws.{OutcomesAreLegal, OutcomesKeepPieces, MovesHaveOneOutcome, StatusesExclude, StatusesMirror};
+ghost use Rattle.dob_moves.specs.Laws.{OutcomesMirror, StepsExclude, LionsAreNotTaken};
 
 /// Every outcome of a move of an open position is a position.
 pub fn outcomes_are_legal()

@@ -12,7 +12,7 @@ mod position_status;
 mod status_of;
 
 pub use applying::apply;
-pub use count::count_moves;
+pub use count::{count_moves, status_and_count};
 pub use game_move::Move;
 pub use listing::{moves, moves_into};
 pub use position_status::Status;

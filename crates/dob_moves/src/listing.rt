@@ -14,6 +14,9 @@ use dob_pieces::{
 };
 use std::alloc::Global;
 
+// Room that a list of moves is given at once, so that most lists grow no further; a set of three pieces has up to 38.
+const ROOM: usize = 40;
+
 /// Appends the steps of a piece of that kind on that square, other than onto the enemy lion.
 fn push_steps_by(
     moves: &mut Vec<Move>,
@@ -128,6 +131,7 @@ pub fn moves(alloc: Global, position: &Position) -> Result<Vec<Move>, Memory>
     ensures { IfOk result (λ v. AreMoves position.now.setup v.items) }
 {
     let mut moves = Vec::new(alloc);
+    moves.reserve(ROOM)?;
     moves_into(&mut moves, position)?;
     Ok(moves)
 }

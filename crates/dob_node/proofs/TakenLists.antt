@@ -9,7 +9,7 @@ use Rattle.dob_share.specs.declared.share.Share.{Share}
 use Rattle.dob_node.specs.declared.cause.Cause.{Cause}
 use Rattle.dob_node.specs.Stores.{HistoryView}
 use Rattle.dob_node.proofs.Sounds.{told_still}
-use Rattle.dob_node.specs.Takes.{IsTaken, AreTaken, IsRefused, StopsAt}
+use Rattle.dob_node.specs.Takes.{IsTaken, AreTaken, IsReason, StopsAt}
 
 -- one more at the end
 pub taken_more : (front : List Item) (item : Item) (share mid after : Share) (history longer grown : HistoryView) →
@@ -36,7 +36,7 @@ taken_next items k default share mid after history longer grown low before taken
     (taken_more (take k items) (get_or items k default) share mid after history longer grown before taken)
 
 pub stops_there : (items : List Item) (k : ℕ) (default : Item) (share mid : Share) (history longer : HistoryView) (why : Cause) → k < length items →
-    AreTaken (take k items) share mid history longer → IsRefused (get_or items k default) mid why → StopsAt items share history why
+    AreTaken (take k items) share mid history longer → IsReason (get_or items k default) mid why → StopsAt items share history why
 stops_there items k default share mid history longer why low before refused = record {
   front = take k items;
   item = get_or items k default;

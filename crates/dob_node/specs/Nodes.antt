@@ -17,7 +17,7 @@ use Rattle.dob_update.specs.Batches.{BatchView, OutboxView, empty_outbox, added,
 use Rattle.dob_node.specs.declared.cause.Cause.{Cause}
 use Rattle.dob_node.specs.declared.node.Node.{Node}
 use Rattle.dob_node.specs.OpeningLists.{opening_settlements, status_in}
-use Rattle.dob_node.specs.Takes.{HasEntries, AreKept, IsTaken, AreTaken, IsRefused}
+use Rattle.dob_node.specs.Takes.{HasEntries, AreKept, IsTaken, AreTaken, IsReason}
 use Rattle.dob_node.specs.Outboxes.{outbox_in, IsOutboxTo}
 
 -- what the node has still to send to another
@@ -71,7 +71,7 @@ pub record HasRefused (node : Node) (why : Cause) : Type 0 where
   pub item : Item
   pub behind : List Item
   pub first : node.own.items ≡ item ∷ behind
-  pub refused : IsRefused item node.share why
+  pub refused : IsReason item node.share why
 
 -- The items are applied, in order.
 pub record HasTaken (items : List Item) (old new : Node) : Type 0 where

@@ -58,12 +58,12 @@ AreTaken (item ∷ items) share after history grown = (between : Share) × (long
 
 -- Why the share doesn't take the item: it doesn't fit, or it fits and would give its class a value that is too deep. Of
 -- want of memory nothing is said.
-abbrev pub IsRefused : Item → Share → Cause → Type 0
-IsRefused item share (Contradiction class) = (class ≡ item.to) × (¬ Fits share item)
-IsRefused item share TooDeep = Fits share item × GoesTooDeep share item
-IsRefused item share Memory = Unit {0}
-IsRefused item share Held = ⊥
-IsRefused item share Counts = ⊥
+abbrev pub IsReason : Item → Share → Cause → Type 0
+IsReason item share (Contradiction class) = (class ≡ item.to) × (¬ Fits share item)
+IsReason item share TooDeep = Fits share item × GoesTooDeep share item
+IsReason item share Memory = Unit {0}
+IsReason item share Held = ⊥
+IsReason item share Counts = ⊥
 
 -- Those before one of the items are taken, and it is refused.
 pub record StopsAt (items : List Item) (share : Share) (history : HistoryView) (why : Cause) : Type 0 where
@@ -74,4 +74,4 @@ pub record StopsAt (items : List Item) (share : Share) (history : HistoryView) (
   pub after : Share
   pub grown : HistoryView
   pub taken : AreTaken front share after history grown
-  pub refused : IsRefused item after why
+  pub refused : IsReason item after why

@@ -2,6 +2,7 @@
 ghost use Rattle.std.specs.Prelude.{◌≡◌, ℕ, ◌+◌, ◌<◌, ◌≤◌, ◌↔◌, ◌⊎◌, true, false, All, Err, IfOk, IfErr, IfSome, OnOk, IsErrOf};
 ghost use Rattle.dob_pieces.specs.declared.piece_set.PieceSet.{PieceSet as Set};
 ghost use Rattle.dob_rank.specs.Marks.{classes_of};
+ghost use Rattle.dob_rank.specs.Limits.{IsTooLarge};
 ghost use Rattle.dob_value.specs.Codes.{values_of_codes};
 ghost use Rattle.dob_value.specs.Follows.{IsValueTable};
 ghost use Rattle.dob_node.specs.Nodes.{IsSound};
@@ -22,7 +23,7 @@ use std::alloc::Global;
 /// Errors: `SetTooLarge` where the set has more than three pieces beside the lions; `TooDeep` where a class came to a
 /// value with a distance above the greatest that is kept; `Memory`. An item that doesn't fit its cell never comes.
 pub fn alone(alloc: Global, set: PieceSet, limit: u64) -> Result<Option<Table>, Fault>
-    ensures too_large { IsErrOf result Fault.SetTooLarge ↔ (3 < set.chicks + set.elephants + set.giraffes) }
+    ensures too_large { IsErrOf result Fault.SetTooLarge ↔ IsTooLarge set }
     ensures too_deep { result ≡ Err Fault.TooDeep → IsTooDeepWithin set limit }
     ensures fits { (class : ℕ) → ¬ (result ≡ Err (Fault.Contradiction class)) }
     ensures set { IfOk result (λ given. IfSome given (λ table. table.set ≡ set)) }

@@ -116,14 +116,14 @@ impl Node {
         items.clear();
         push_items(&mut items, settlement, &targets, self.n, self.id)?;
         self.own.reserve(items.len())?;
+        push_all(&mut self.own, &items);
         add_for_others(
-            self.alloc,
+            &mut items,
             &mut self.outboxes,
             settlement,
             &targets,
             self.id,
         )?;
-        push_all(&mut self.own, &items);
         self.targets = targets;
         self.items = items;
         self.expanded += 1;

@@ -4,18 +4,17 @@ ghost use Rattle.dob_rank.specs.Marks.{classes_of};
 ghost use Rattle.dob_rank.specs.ClassRows.{class_setup};
 ghost use Rattle.dob_node.specs.Openings.{IsOpening, AreOpenings};
 
-use dob_moves::{count_moves, status};
+use dob_moves::status_and_count;
 use dob_pieces::{Memory, Position};
 use dob_rank::Classes;
 use dob_share::Opening;
 use std::alloc::Global;
 
 /// The position's status and number of moves.
-fn opening_of(position: &Position) -> Opening
+pub(crate) fn opening_of(position: &Position) -> Opening
     ensures { IsOpening position.now.setup result }
 {
-    let status = status(position);
-    let moves = count_moves(position);
+    let (status, moves) = status_and_count(position);
     Opening { status, moves }
 }
 

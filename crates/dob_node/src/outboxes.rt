@@ -30,11 +30,11 @@ pub(crate) fn empty_outboxes(
 }
 
 /// Adds a settlement to the outbox for each node but `from`, with its items for that node; `targets` are the classes
-/// with a move into the settled one.
+/// with a move into the settled one. The list is for the items of one node at a time; what it held is gone.
 ///
 /// Error: `Memory`, after which some of the outboxes may have the settlement.
 pub(crate) fn add_for_others(
-    alloc: Global,
+    items: &mut Vec<Item>,
     outboxes: &mut Vec<Outbox>,
     settlement: Settlement,
     targets: &[u64],
@@ -44,12 +44,11 @@ pub(crate) fn add_for_others(
     ensures { let n = length outboxes.old.items in OnOk result (AreAdded targets.now settlement n from n outboxes.old.items outboxes.new.items) }
 {
     let n = outboxes.len();
-    let mut items = Vec::new(alloc);
     for to in 0..n {
         if to != from {
             items.clear();
-            push_items(&mut items, settlement, targets, n, to)?;
-            add_to(outboxes, to, settlement, &items)?;
+            push_items(items, settlement, targets, n, to)?;
+            add_to(outboxes, to, settlement, items)?;
         }
     }
     Ok(())

@@ -4,7 +4,7 @@ ghost use Rattle.std.specs.List.{All};
 ghost use Rattle.dob_pieces.specs.declared.piece_set.PieceSet.{PieceSet as Set};
 ghost use Rattle.dob_share.specs.Shares.{Fits, GoesTooDeep};
 ghost use Rattle.dob_node.specs.declared.cause.Cause.TheVariants as cause;
-ghost use Rattle.dob_node.specs.Takes.{HasEntries, AreKept, IsTaken, AreTaken, IsRefused, StopsAt};
+ghost use Rattle.dob_node.specs.Takes.{HasEntries, AreKept, IsTaken, AreTaken, IsReason, StopsAt};
 
 use crate::cause::Cause;
 use crate::history::History;
@@ -19,7 +19,7 @@ pub(crate) fn take_item(share: &mut Share, history: &mut History, item: Item) ->
     requires entries { HasEntries item }
     ensures contradiction { (result ≡ Err (cause.Contradiction item.to)) ↔ (¬ Fits share.old item) }
     ensures too_deep { (result ≡ Err cause.TooDeep) ↔ (Fits share.old item × GoesTooDeep share.old item) }
-    ensures refused { IfErr result (λ why. IsRefused item share.old why) }
+    ensures refused { IfErr result (λ why. IsReason item share.old why) }
     ensures taken { OnOk result (IsTaken item share.old share.new history.old history.new) }
     ensures kept { OnOk result ((set : Set) → AreKept set share.old.n share.old.id share.old history.old → AreKept set share.old.n share.old.id share.new history.new) }
 {

@@ -2,10 +2,12 @@
 ghost use Rattle.std.specs.Prelude.{◌≡◌, ◌<◌, ◌≤◌};
 ghost use Rattle.dob_node.specs.Nodes.{IsSound};
 
-use crate::{Node, alone, opening};
+use crate::openings::opening_of;
+use crate::{Node, Opening, alone, opening};
 use dob_moves::Status;
-use dob_pieces::PieceSet;
+use dob_pieces::{Hand, Hands, Kind, Piece, PieceSet, Position, Side};
 use dob_rank::Classes;
+use dob_share::{Fault, Item, Share};
 use dob_update::Batch;
 use dob_value::{Value, sweep_table};
 use std::alloc::Global;
@@ -61,6 +63,95 @@ fn one_node_makes_the_table_of_lions_alone(rt: HostRuntime) {
         let value = table.value(class);
         assert!(rt; value == swept.value(class));
     }
+}
+
+// A position with nothing in hand, of that piece of each square from a1 to c4.
+fn position_of<A: Abort>(rt: &A, board: [Option<Piece>; 12]) -> Position {
+    let nothing = Hand {
+        chicks: 0,
+        elephants: 0,
+        giraffes: 0,
+    };
+    let hands = Hands {
+        mover: nothing,
+        enemy: nothing,
+    };
+    Position::of(board, hands).expect(rt, "a position")
+}
+
+fn own(kind: Kind) -> Option<Piece> {
+    Some(Piece {
+        side: Side::Mover,
+        kind,
+    })
+}
+
+fn enemy_lion() -> Option<Piece> {
+    Some(Piece {
+        side: Side::Enemy,
+        kind: Kind::Lion,
+    })
+}
+
+// The cell of a class with that representative is settled as lost, and takes no item.
+fn is_lost_at_once<A: Abort>(rt: &A, alloc: Global, position: &Position) {
+    let given = opening_of(position);
+    assert!(rt; given.status == Status::Stuck);
+    assert_eq!(rt; given.moves, 0);
+    let list: [Opening; 1] = [given];
+    let mut share = Share::open(alloc, &list, 0, 1).expect(rt, "a share");
+    assert_eq!(rt; share.settled(), 1);
+    assert_eq!(rt; share.value(0), Value::Loss(0));
+    let item = Item {
+        number: 0,
+        to: 0,
+        was: Value::Draw,
+        now: Value::Win(1),
+    };
+    let Err(refused) = share.apply(item) else {
+        panic!(rt; "a stuck class takes an item");
+    };
+    assert_eq!(rt; refused, Fault::Contradiction(0));
+    assert_eq!(rt; share.value(0), Value::Loss(0));
+}
+
+// The only two positions in which the mover is stuck. They have six pieces besides the lions, so that no node has them.
+#[test]
+fn stuck_cells(rt: HostRuntime) {
+    let chick = own(Kind::Chick);
+    let elephant = own(Kind::Elephant);
+    let giraffe = own(Kind::Giraffe);
+    let lion = own(Kind::Lion);
+    let far = [
+        None,
+        None,
+        None,
+        chick,
+        chick,
+        None,
+        lion,
+        giraffe,
+        elephant,
+        giraffe,
+        elephant,
+        enemy_lion(),
+    ];
+    is_lost_at_once(&rt, rt.alloc(), &position_of(&rt, far));
+    let near = [
+        None,
+        None,
+        None,
+        chick,
+        chick,
+        enemy_lion(),
+        lion,
+        giraffe,
+        elephant,
+        giraffe,
+        elephant,
+        None,
+    ];
+    is_lost_at_once(&rt, rt.alloc(), &position_of(&rt, near));
 }
 
 // One of two nodes, at its opening.

@@ -1,5 +1,6 @@
 -- Who attacks a square, and where the lions stand, by masks.
-use Rattle.std.proofs.Common.{◌≡◌, ℕ, suc, ◌+◌, ◌<◌, ◌&&◌, ◌||◌, Bool, true, false, bit_and, bit_or, List, [], ◌∷◌, Some, None, cond, length, get_or, refl, sym, ap, ◌∙◌, inl, inr, arith}
+use Rattle.std.proofs.Common.{◌≡◌, ℕ, suc, ◌+◌, ◌<◌, ◌&&◌, ◌||◌, Bool, true, false, bit_and, bit_or, List, [], ◌∷◌, Some, None, cond}
+use Rattle.std.proofs.Common.{length, get_or, refl, sym, ap, ◌∙◌, inl, inr, arith}
 use Rattle.std.specs.List.{count_by}
 use Rattle.std.proofs.lemmas.Bool.{and_parts, cases_Bool}
 use Rattle.std.proofs.lemmas.List.Sums.{sum_by-cons}
@@ -121,7 +122,8 @@ pub attackers_are : (p : Setup) (masks : Masks) (target lion giraffe elephant ch
     → IsMask (λ from. leads Elephant from target) elephant → IsMask (λ from. leads Chick from target) chick
     → IsMask (λ from. leads Hen from target) hen
     → IsMask (λ from. attacks p from target)
-    (bit_or (bit_or (bit_or (bit_or (bit_and masks.lion lion) (bit_and masks.giraffes giraffe)) (bit_and masks.elephants elephant)) (bit_and masks.chicks chick)) (bit_and masks.hens hen))
+    (bit_or (bit_or (bit_or (bit_or (bit_and masks.lion lion) (bit_and masks.giraffes giraffe)) (bit_and masks.elephants elephant))
+    (bit_and masks.chicks chick)) (bit_and masks.hens hen))
 attackers_are p masks target lion giraffe elephant chick hen are to_lion to_giraffe to_elephant to_chick to_hen =
     IsMask-same _ (λ from. attacks p from target) _ (λ from lt. any_attacks (at p from) from target)
     (IsMask-or _ _ _ _
@@ -136,13 +138,15 @@ attackers_are p masks target lion giraffe elephant chick hen are to_lion to_gira
 
 -- ---- who attacks
 
-by_side : (piece : Piece) (from to : ℕ) → (is_side Mover piece.side && leads piece.kind from to) ≡ true → (piece.side ≡ Mover) × (leads piece.kind from to ≡ true)
+by_side : (piece : Piece) (from to : ℕ) → (is_side Mover piece.side && leads piece.kind from to) ≡ true
+    → (piece.side ≡ Mover) × (leads piece.kind from to ≡ true)
 by_side piece from to h = let parts = and_parts (is_side Mover piece.side) (leads piece.kind from to) h in (movers piece.side parts.0, parts.1) where
   movers : (side : Side) → is_side Mover side ≡ true → side ≡ Mover
   movers Mover e = refl
   movers Enemy e = cc
 
-pub attacks_piece : (cell : Cell) (from to : ℕ) → attacks_by cell from to ≡ true → (kind : Kind) × (cell ≡ Some (piece_of Mover kind)) × (leads kind from to ≡ true)
+pub attacks_piece : (cell : Cell) (from to : ℕ) → attacks_by cell from to ≡ true
+    → (kind : Kind) × (cell ≡ Some (piece_of Mover kind)) × (leads kind from to ≡ true)
 attacks_piece None from to h = cc
 attacks_piece (Some piece) from to h =
     let parts = by_side piece from to h in (piece.kind, (λ i. Some (piece_of (parts.0 i) piece.kind)), parts.1)

@@ -1,5 +1,6 @@
 -- Boards read, turned, mirrored and written.
-use Rattle.std.proofs.Common.{ltb, not, ◌≡◌, ◌≢◌, ℕ, zero, suc, ◌+◌, ◌-◌, ◌<◌, ◌≤◌, Bool, true, ◌&&◌, cond, List, [], ◌∷◌, Some, None, length, set, slice_index_or, refl, sym, ap, ◌∙◌, subst, arith, ⊎_elim}
+use Rattle.std.proofs.Common.{ltb, not, ◌≡◌, ◌≢◌, ℕ, zero, suc, ◌+◌, ◌-◌, ◌<◌, ◌≤◌, Bool, true, ◌&&◌, cond, List, [], ◌∷◌, Some, None}
+use Rattle.std.proofs.Common.{length, set, slice_index_or, refl, sym, ap, ◌∙◌, subst, arith, ⊎_elim}
 use Rattle.std.proofs.lemmas.List.FromFn.{get_or-map-range_with_len, fill_by_all}
 use Rattle.std.specs.List.{count_by, sum_by}
 use Rattle.std.proofs.lemmas.List.{length-set, get_or_past, get_or-set_other}
@@ -16,7 +17,8 @@ use Rattle.dob_pieces.specs.declared.kind.Side.TheVariants.{Mover, Enemy}
 use Rattle.dob_pieces.specs.declared.kind.Piece.{Piece}
 use Rattle.dob_pieces.specs.declared.hand.Hands.{Hands}
 use Rattle.dob_pieces.specs.Pieces.{other_side, is_side, is_lion, leads}
-use Rattle.dob_pieces.specs.Setups.{Cell, at, held, holds_lion, holds_kind, total, HasLions, HasFewPieces, HasLionOffFarRow, IsLegal, piece_of, board_by, turned_cell, turned, mirrored}
+use Rattle.dob_pieces.specs.Setups.{Cell, at, held, holds_lion, holds_kind, total, HasLions, HasFewPieces, HasLionOffFarRow, IsLegal}
+use Rattle.dob_pieces.specs.Setups.{piece_of, board_by, turned_cell, turned, mirrored}
 
 -- ---- boards made square by square
 
@@ -49,15 +51,19 @@ unfolding mirrored
 at-mirrored s k h = at-board_by (λ square. at s (mirrored_square square)) k h
 
 -- one more cell is written
-pub cells_more : (f : ℕ → Cell) (board : List Cell) (i : ℕ) (cell : Cell) → length board ≡ 12 → i < 12 → ((k : ℕ) → k < i → slice_index_or board k None ≡ f k) → cell ≡ f i → (length (set board i cell) ≡ 12) × ((k : ℕ) → k < i + 1 → slice_index_or (set board i cell) k None ≡ f k)
+pub cells_more : (f : ℕ → Cell) (board : List Cell) (i : ℕ) (cell : Cell) → length board ≡ 12 → i < 12
+    → ((k : ℕ) → k < i → slice_index_or board k None ≡ f k) → cell ≡ f i
+    → (length (set board i cell) ≡ 12) × ((k : ℕ) → k < i + 1 → slice_index_or (set board i cell) k None ≡ f k)
 cells_more f board i cell e lt h c = (
   length-set board i cell ∙ e,
   λ k l.
-      subst (λ x. slice_index_or (set board i x) k None ≡ f k) (sym c) (fill_by_more f board i None (let within : i < length board = omega arith in within) h k l),
+      subst (λ x. slice_index_or (set board i x) k None ≡ f k) (sym c)
+      (fill_by_more f board i None (let within : i < length board = omega arith in within) h k l),
 )
 
 -- all twelve cells are written
-pub cells_all : (f : ℕ → Cell) (board : List Cell) (i : ℕ) → length board ≡ 12 → 12 ≤ i → ((k : ℕ) → k < i → slice_index_or board k None ≡ f k) → board ≡ board_by f
+pub cells_all : (f : ℕ → Cell) (board : List Cell) (i : ℕ) → length board ≡ 12 → 12 ≤ i
+    → ((k : ℕ) → k < i → slice_index_or board k None ≡ f k) → board ≡ board_by f
 cells_all f board i e le h = fill_by_all f board 12 None e (λ k lt. h k (omega arith))
 
 -- ---- tests over all numbers below n
@@ -79,13 +85,15 @@ all_below-at f (suc n) k h lt =
 -- ---- sums over a board
 
 -- what a half turn of the board does to a sum over its cells
-pub sum-turned : (f g : Cell → ℕ) → ((cell : Cell) → f (turned_cell cell) ≡ g cell) → (board : List Cell) → length board ≡ 12 → sum_by f (board_by (λ k. turned_cell (slice_index_or board (turned_square k) None))) ≡ sum_by g board
+pub sum-turned : (f g : Cell → ℕ) → ((cell : Cell) → f (turned_cell cell) ≡ g cell) → (board : List Cell) → length board ≡ 12
+    → sum_by f (board_by (λ k. turned_cell (slice_index_or board (turned_square k) None))) ≡ sum_by g board
 sum-turned f g h (a ∷ b ∷ c ∷ d ∷ e ∷ i ∷ j ∷ k ∷ l ∷ m ∷ n ∷ o ∷ []) eq =
     omega (arith, h a, h b, h c, h d, h e, h i, h j, h k, h l, h m, h n, h o)
 sum-turned f g h board eq = absurd (omega arith)
 
 -- what exchanging the columns a and c does to it: nothing
-pub sum-mirrored : (f : Cell → ℕ) (board : List Cell) → length board ≡ 12 → sum_by f (board_by (λ k. slice_index_or board (mirrored_square k) None)) ≡ sum_by f board
+pub sum-mirrored : (f : Cell → ℕ) (board : List Cell) → length board ≡ 12
+    → sum_by f (board_by (λ k. slice_index_or board (mirrored_square k) None)) ≡ sum_by f board
 sum-mirrored f (a ∷ b ∷ c ∷ d ∷ e ∷ i ∷ j ∷ k ∷ l ∷ m ∷ n ∷ o ∷ []) eq = omega arith
 sum-mirrored f board eq = absurd (omega arith)
 
@@ -125,7 +133,8 @@ total-mirrored kind s e =
     omega (arith, board)
 
 -- a side's lions are the other side's after turning
-pub lions-turned : (side : Side) (s : Setup) → length s.board ≡ 12 → count_by (holds_lion side) (turned s).board ≡ count_by (holds_lion (other_side side)) s.board
+pub lions-turned : (side : Side) (s : Setup) → length s.board ≡ 12
+    → count_by (holds_lion side) (turned s).board ≡ count_by (holds_lion (other_side side)) s.board
 unfolding turned
 lions-turned side s e =
     sum-turned (λ cell. one_if (holds_lion side cell)) (λ cell. one_if (holds_lion (other_side side) cell))
@@ -174,11 +183,14 @@ within-from_piece s k piece e =
     (cases_lt k (length s.board))
 
 -- a count after one write: the old cell is counted no more, the new one is
-pub count-set : (p : Cell → Bool) (board : List Cell) (i : ℕ) (cell : Cell) → i < length board → count_by p (set board i cell) + one_if (p (slice_index_or board i None)) ≡ count_by p board + one_if (p cell)
+pub count-set : (p : Cell → Bool) (board : List Cell) (i : ℕ) (cell : Cell) → i < length board
+    → count_by p (set board i cell) + one_if (p (slice_index_or board i None)) ≡ count_by p board + one_if (p cell)
 count-set p board i cell lt = sum_by-set (λ c. one_if (p c)) board i cell None lt
 
 -- a count after a piece has gone from one square to another, where it stands as x
-pub count-moved : (p : Cell → Bool) (board : List Cell) (from to : ℕ) (x : Cell) → from < length board → to < length board → from ≢ to → count_by p (set (set board from None) to x) + one_if (p (slice_index_or board from None)) + one_if (p (slice_index_or board to None)) ≡ count_by p board + one_if (p None) + one_if (p x)
+pub count-moved : (p : Cell → Bool) (board : List Cell) (from to : ℕ) (x : Cell) → from < length board → to < length board → from ≢ to
+    → count_by p (set (set board from None) to x) + one_if (p (slice_index_or board from None))
+    + one_if (p (slice_index_or board to None)) ≡ count_by p board + one_if (p None) + one_if (p x)
 count-moved p board from to x f t ne =
     let within : to < length (set board from None) = rw length-set t in
     let apart : to ≢ from = λ e. ne (sym e) in
@@ -187,17 +199,21 @@ count-moved p board from to x f t ne =
     omega (arith, second, count-set p board from None f)
 
 -- a total after one write
-pub total-set : (kind : HandKind) (s : Setup) (i : ℕ) (cell : Cell) → i < length s.board → total kind (record s { board = set s.board i cell }) + one_if (holds_kind kind (at s i)) ≡ total kind s + one_if (holds_kind kind cell)
+pub total-set : (kind : HandKind) (s : Setup) (i : ℕ) (cell : Cell) → i < length s.board
+    → total kind (record s { board = set s.board i cell }) + one_if (holds_kind kind (at s i)) ≡ total kind s + one_if (holds_kind kind cell)
 unfolding total
 total-set kind s i cell lt = omega (arith, count-set (holds_kind kind) s.board i cell lt)
 
 -- a total after a piece has gone from one square to another, where it stands as x
-pub total-moved : (kind : HandKind) (s : Setup) (from to : ℕ) (x : Cell) → from < length s.board → to < length s.board → from ≢ to → total kind (record s { board = set (set s.board from None) to x }) + one_if (holds_kind kind (at s from)) + one_if (holds_kind kind (at s to)) ≡ total kind s + one_if (holds_kind kind x)
+pub total-moved : (kind : HandKind) (s : Setup) (from to : ℕ) (x : Cell) → from < length s.board → to < length s.board → from ≢ to
+    → total kind (record s { board = set (set s.board from None) to x }) + one_if (holds_kind kind (at s from))
+    + one_if (holds_kind kind (at s to)) ≡ total kind s + one_if (holds_kind kind x)
 unfolding total
 total-moved kind s from to x f t ne = omega (arith, count-moved (holds_kind kind) s.board from to x f t ne)
 
 -- a total with other hands
-pub total-hands : (kind : HandKind) (s : Setup) (hands : Hands) → total kind (record s { hands = hands }) + held s.hands.mover kind + held s.hands.enemy kind ≡ total kind s + held hands.mover kind + held hands.enemy kind
+pub total-hands : (kind : HandKind) (s : Setup) (hands : Hands) → total kind (record s { hands = hands }) + held s.hands.mover kind
+    + held s.hands.enemy kind ≡ total kind s + held hands.mover kind + held hands.enemy kind
 unfolding total
 total-hands kind s hands = omega arith
 

@@ -23,7 +23,8 @@ pub mover_lion : (cell : Cell) → holds_lion Mover cell ≡ true → cell ≡ S
 mover_lion None h = cc
 mover_lion (Some piece) h = mover_lion_piece piece.side piece.kind h
   where
-    mover_lion_piece : (side : Side) (kind : Kind) → holds_lion Mover (Some (piece_of side kind)) ≡ true → Some (piece_of side kind) ≡ Some (piece_of Mover Lion)
+    mover_lion_piece : (side : Side) (kind : Kind) → holds_lion Mover (Some (piece_of side kind)) ≡ true
+        → Some (piece_of side kind) ≡ Some (piece_of Mover Lion)
     mover_lion_piece Mover Lion h = refl
     mover_lion_piece Mover Giraffe h = cc
     mover_lion_piece Mover Elephant h = cc

@@ -1,9 +1,12 @@
-pub mod Lists
-pub mod Boards
-pub mod Legality
-pub mod Symmetries
-pub mod MaskBits
-pub mod MaskWalks
-pub mod Attacks
-pub mod Targets
-pub mod Planes
+-- The lemmas, in the order in which they are read.
+pub mod Lists  -- lists made piece by piece, and their order
+-- Boards.
+pub mod Boards  -- boards read, turned, mirrored and written
+pub mod Legality  -- what the tests of a position show
+pub mod Symmetries  -- turned and mirrored twice, and one after the other
+-- Masks.
+pub mod MaskBits  -- sets of squares as bits
+pub mod MaskWalks  -- walks over the squares of a mask
+pub mod Attacks  -- who attacks a square
+pub mod Targets  -- the tables of steps are the steps of the kinds
+pub mod Planes  -- several masks in one word

@@ -1,5 +1,6 @@
 -- Walks over the squares of a mask, from the lowest on, and counts of them.
-use Rattle.std.proofs.Common.{◌≡◌, ℕ, zero, suc, ◌+◌, ◌^◌, ◌<◌, ◌≤◌, ◌⊎◌, Bool, true, false, cond, List, [], ◌∷◌, ◌++◌, length, map, count_ones, refl, sym, ap, ◌∙◌, subst, arith, inl, inr, append_assoc, append-nil}
+use Rattle.std.proofs.Common.{◌≡◌, ℕ, zero, suc, ◌+◌, ◌^◌, ◌<◌, ◌≤◌, ◌⊎◌, Bool, true, false, cond, List, [], ◌∷◌, ◌++◌, length, map}
+use Rattle.std.proofs.Common.{count_ones, refl, sym, ap, ◌∙◌, subst, arith, inl, inr, append_assoc, append-nil}
 use Rattle.std.specs.Int.{bit_at, trailing_zeros, w16}
 use Rattle.std.specs.List.{count_by, range_with_len}
 use Rattle.std.specs.Simd.Lanes.{mask_l}
@@ -49,8 +50,10 @@ module _ {X : Type 0} where
       → 0 < left → place ≡ trailing_zeros w16 left → after ≡ without left place → after < left
   walk_less test g left place after before items w some e gone = rw gone (next_left test w.upto left place w.left_are some e).less
 
-  pub walk_next_at : (test : ℕ → Bool) (g : ℕ → List X) (left place after : ℕ) (before items new : List X) → IsQuiet test g → (w : IsWalked test g left before items)
-      → 0 < left → place ≡ trailing_zeros w16 left → after ≡ without left place → (test place ≡ true → new ≡ items ++ g place) → (next : IsWalked test g after before new) × (next.upto ≡ suc place)
+  pub walk_next_at : (test : ℕ → Bool) (g : ℕ → List X) (left place after : ℕ) (before items new : List X)
+      → IsQuiet test g → (w : IsWalked test g left before items)
+      → 0 < left → place ≡ trailing_zeros w16 left → after ≡ without left place → (test place ≡ true → new ≡ items ++ g place)
+      → (next : IsWalked test g after before new) × (next.upto ≡ suc place)
   walk_next_at test g left place after before items new quiet w some e gone more =
       let it = next_left test w.upto left place w.left_are some e in
       let lt = it.on_board in
@@ -69,8 +72,10 @@ module _ {X : Type 0} where
       )
 
   pub walk_next : (test : ℕ → Bool) (g : ℕ → List X) (left place after : ℕ) (before items new : List X) → IsQuiet test g → IsWalked test g left before items
-      → 0 < left → place ≡ trailing_zeros w16 left → after ≡ without left place → (test place ≡ true → new ≡ items ++ g place) → IsWalked test g after before new
-  walk_next test g left place after before items new quiet w some e gone more = (walk_next_at test g left place after before items new quiet w some e gone more).0
+      → 0 < left → place ≡ trailing_zeros w16 left → after ≡ without left place
+      → (test place ≡ true → new ≡ items ++ g place) → IsWalked test g after before new
+  walk_next test g left place after before items new quiet w some e gone more
+      = (walk_next_at test g left place after before items new quiet w some e gone more).0
 
   pub walk_end : (test : ℕ → Bool) (g : ℕ → List X) (left : ℕ) (before items : List X) → IsQuiet test g → IsWalked test g left before items
       → left ≡ 0 → items ≡ before ++ each_below g 12

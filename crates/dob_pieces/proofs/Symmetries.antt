@@ -11,7 +11,8 @@ use Rattle.dob_pieces.specs.declared.setup.Setup.{Setup}
 use Rattle.dob_pieces.specs.Squares.{turned_square, mirrored_square}
 use Rattle.dob_pieces.specs.Pieces.{other_side, leads}
 use Rattle.dob_pieces.specs.Setups.{Cell, at, piece_of, board_by, turned_cell, turned, mirrored, setup_of}
-use Rattle.dob_pieces.proofs.Boards.{at-board_by, board_by-from_cells, at-turned, at-mirrored, all_below, all_below-at, total-turned, total-mirrored, IsLegal-mirrored}
+use Rattle.dob_pieces.proofs.Boards.{at-board_by, board_by-from_cells, at-turned, at-mirrored, all_below, all_below-at, total-turned}
+use Rattle.dob_pieces.proofs.Boards.{total-mirrored, IsLegal-mirrored}
 
 -- ---- squares
 
@@ -77,7 +78,8 @@ turned-mirrored s =
 -- ---- steps
 
 -- the mirror image of a step is a step, on all pairs of squares
-steps_mirror : (kind : Kind) → all_below (λ from. all_below (λ to. beq (leads kind (mirrored_square from) (mirrored_square to)) (leads kind from to)) 12) 12 ≡ true
+steps_mirror : (kind : Kind) → all_below
+    (λ from. all_below (λ to. beq (leads kind (mirrored_square from) (mirrored_square to)) (leads kind from to)) 12) 12 ≡ true
 unfolding leads
 steps_mirror Lion = refl
 steps_mirror Giraffe = refl

@@ -82,7 +82,8 @@ target_mask kind self from index is at low =
     (subst (λ (i : ℕ). IsMask (leads kind i) (get_or (targets_of kind) index 0)) at mask)
 
 -- and from that of sources
-pub source_mask : (kind self : Kind) (to index : ℕ) → self ≡ kind → index ≡ to → index < 12 → IsMask (λ from. leads self from to) (get_or (sources_of kind) index 0)
+pub source_mask : (kind self : Kind) (to index : ℕ) → self ≡ kind → index ≡ to → index < 12
+    → IsMask (λ from. leads self from to) (get_or (sources_of kind) index 0)
 source_mask kind self to index is at low =
     let mask = is_mask (λ from. leads kind from index) (get_or (sources_of kind) index 0)
     (all_below-at (λ to. has_bits (λ from. leads kind from to) (get_or (sources_of kind) to 0)) 12 index (sources_computed kind) low) in

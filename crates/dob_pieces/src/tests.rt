@@ -1,4 +1,4 @@
-// The starting position, the refusals in their order, piece sets read, and the printed texts.
+// The starting position, the faults in their order, piece sets read, and the printed texts.
 use crate::{
     Hand, HandKind, Hands, Kind, Piece, PieceSet, Position, PositionFault, SetText, Setup, Side,
     Square,

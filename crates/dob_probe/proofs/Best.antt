@@ -1,7 +1,6 @@
 -- By the value table lines are the best lines, and none breaks off.
-use Rattle.std.proofs.Common.{◌≡◌, ℕ, zero, suc, ◌+◌, ◌-◌, ◌≤◌, ◌<◌, ◌⊎◌, inl, inr, refl, sym, subst, ap, ◌∙◌, arith, List, [], ◌∷◌, Option, Some, None, Result, Ok, Err, IfOk, IfErr, MatchResult}
+use Rattle.std.proofs.Common.{◌≡◌, ℕ, zero, suc, ◌-◌, ◌≤◌, inl, inr, refl, sym, subst, ap, ◌∙◌, arith, List, [], ◌∷◌, Some, None, Result, Ok, Err, IfOk, IfErr, MatchResult}
 use Rattle.std.proofs.lemmas.Bool.{cases_lt}
-use Rattle.std.proofs.lemmas.Option.{same_Some}
 use Rattle.dob_pieces.specs.declared.setup.Setup.{Setup}
 use Rattle.dob_moves.specs.declared.game_move.Move.{Move}
 use Rattle.dob_moves.specs.declared.position_status.Status.TheVariants.{Open}
@@ -13,14 +12,13 @@ use Rattle.dob_value.specs.declared.value.Value.TheVariants.{Win, Loss, Draw}
 use Rattle.dob_value.specs.Values.{Won, Lost, HasValue}
 use Rattle.dob_value.specs.Follows.{ClassTable, IsConsistent, IsValueTable}
 use Rattle.dob_value.proofs.Consistency.{consistent_is_right}
-use Rattle.dob_value.proofs.Depths.{won_stays, lost_stays, won_not_lost, at_most_one_value}
+use Rattle.dob_value.proofs.Depths.{won_stays, won_not_lost, at_most_one_value}
 use Rattle.dob_value.proofs.Successors.{moves_keep_the_set}
-use Rattle.dob_probe.specs.Lines.{GivenBy, value_wanted, LeadsTo, IsFirstTo, EndsAt, GoesOnTo, Continues, IsLine, Begins, LacksMove, BreaksAt}
+use Rattle.dob_probe.specs.Lines.{GivenBy, value_wanted, LeadsTo, GoesOnTo, Continues, IsLine, Begins, LacksMove}
 use Rattle.dob_probe.specs.declared.fault.Fault.{Fault}
 use Rattle.dob_probe.specs.declared.fault.Fault.TheVariants.{OtherSet, Inconsistent, Memory}
 use Rattle.dob_probe.specs.Faults.{IsFaultOfLine}
 use Rattle.dob_probe.specs.Laws.{LinesAreBest, NoneBreaks}
-use Rattle.dob_probe.proofs.Kept.{same_win, same_loss}
 
 module _ (table : ClassTable) (right : IsValueTable table.set table.values) where
   to_value : (p : Setup) (v : Value) → IsPositionOf table.set p → GivenBy table p v → HasValue p v

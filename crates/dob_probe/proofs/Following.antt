@@ -1,7 +1,6 @@
 -- The value that follows from the successors' values, and that no other does.
-use Rattle.std.proofs.Common.{◌≡◌, ℕ, zero, suc, ◌+◌, ◌≤◌, ◌<◌, ◌^◌, inl, inr, refl, sym, subst, ap, ◌∙◌, arith, List, Bool, true, false, Option, Some, None, Contains, length, slice_get}
+use Rattle.std.proofs.Common.{◌≡◌, ℕ, ◌+◌, ◌≤◌, ◌<◌, inl, inr, refl, sym, subst, ap, ◌∙◌, arith, List, Bool, true, false, Option, Some, None, Contains, length, slice_get}
 use Rattle.std.proofs.lemmas.Option.{slice_get_cases, same_Some}
-use Rattle.dob_pieces.specs.declared.piece_set.PieceSet.{PieceSet}
 use Rattle.dob_pieces.specs.declared.setup.Setup.{Setup}
 use Rattle.dob_moves.specs.declared.game_move.Move.{Move}
 use Rattle.dob_moves.specs.declared.position_status.Status.{Status}
@@ -9,18 +8,17 @@ use Rattle.dob_moves.specs.declared.position_status.Status.TheVariants.{Caught, 
 use Rattle.dob_moves.specs.Moves.{Goes}
 use Rattle.dob_moves.specs.Statuses.{HasStatus}
 use Rattle.dob_moves.proofs.Cases.{one_status}
-use Rattle.dob_rank.specs.Order.{IsPositionOf, IsRepresentative, HasClass}
+use Rattle.dob_rank.specs.Order.{IsPositionOf}
 use Rattle.dob_value.specs.declared.value.Value.{Value}
 use Rattle.dob_value.specs.declared.value.Value.TheVariants.{Win, Loss, Draw}
 use Rattle.dob_value.specs.declared.sweep.TheConstants.{MAX_DISTANCE}
 use Rattle.dob_value.specs.Graphs.{AreSuccessors}
-use Rattle.dob_value.specs.Follows.{ClassTable, HasSuccessor, SuccessorsAreWins, FollowsFromSuccessors, FollowsAt, Follows, IsEntry, IsTable, IsConsistent}
+use Rattle.dob_value.specs.Follows.{ClassTable, HasSuccessor, SuccessorsAreWins, FollowsFromSuccessors, FollowsAt, Follows, IsTable, IsConsistent}
 use Rattle.dob_value.proofs.ClassNumbers.{one_of_class}
 use Rattle.dob_value.proofs.Successors.{moves_keep_the_set}
-use Rattle.dob_probe.specs.declared.successors.Successors.{Successors}
 use Rattle.dob_probe.specs.Lines.{GivenBy}
-use Rattle.dob_probe.specs.Sums.{AreSummed, IsLeastLoss, IsGreatestWin, TellsDraw, HasNext, value_after}
-use Rattle.dob_probe.specs.Checks.{HasEntry, ClassFollows, ClassBreaks, IsFirstBroken}
+use Rattle.dob_probe.specs.Sums.{IsLeastLoss, IsGreatestWin, TellsDraw, HasNext, value_after}
+use Rattle.dob_probe.specs.Checks.{HasEntry, ClassFollows, ClassBreaks}
 use Rattle.dob_probe.proofs.Entries.{one_given, given_is_entry}
 
 module _ (table : ClassTable) (p : Setup) (is : IsPositionOf table.set p) where

@@ -1,5 +1,5 @@
 -- What is kept of a list of values, as the list grows.
-use Rattle.std.proofs.Common.{◌≡◌, ℕ, ◌+◌, ◌≤◌, ◌<◌, ◌⊎◌, inl, inr, min, max, subst, arith, List, [], ◌∷◌, ◌++◌, Bool, true, false, Option, Some, None, Contains}
+use Rattle.std.proofs.Common.{◌≡◌, ℕ, ◌≤◌, inl, inr, min, max, subst, arith, List, [], ◌∷◌, ◌++◌, Bool, true, false, Option, Some, None, Contains}
 use Rattle.std.proofs.lemmas.Bool.{cases_lt}
 use Rattle.std.proofs.lemmas.List.Elements.{Contains-push, Contains-push_cases, Contains-append_left}
 use Rattle.dob_value.specs.declared.value.Value.{Value}

@@ -1,4 +1,4 @@
--- The first refusal among the verdicts of all classes.
+-- The first fault among the verdicts of all classes.
 use Rattle.std.proofs.Common.{◌≡◌, ℕ, zero, suc, ◌+◌, ◌≤◌, ◌<◌, ◌⊎◌, inl, inr, refl, sym, subst, arith, List, [], ◌∷◌, length, Bool, true, false, Option, Some, None, Result, Ok, Err, IfOk, IfErr}
 use Rattle.std.specs.Prelude.{is_err, slice_get}
 use Rattle.std.specs.Option.{unwrap_or}
@@ -9,7 +9,7 @@ use Rattle.dob_value.specs.Follows.{ClassTable, IsTable, IsConsistent, IsValueTa
 use Rattle.dob_value.proofs.Consistency.{consistent_is_right}
 use Rattle.dob_probe.specs.declared.fault.Fault.{Fault}
 use Rattle.dob_probe.specs.declared.fault.Fault.TheVariants.{OtherSet, Inconsistent, Memory}
-use Rattle.dob_probe.specs.Checks.{ClassFollows, ClassBreaks, IsFirstBroken}
+use Rattle.dob_probe.specs.Checks.{ClassFollows, ClassBreaks}
 use Rattle.dob_probe.specs.Faults.{IsVerdict, IsFaultOfCheck}
 use Rattle.dob_probe.proofs.Following.{consistent_of_all, consistent_has_no_break}
 
@@ -17,18 +17,18 @@ abbrev pub Verdict : Type 0
 Verdict = Result (Unit {0}) Fault
 
 module _ (table : ClassTable) where
-  -- the refusal of the first class, of so many from one on, that is refused; none where none is
-  abbrev pub IsFirstRefusal : ℕ → ℕ → Option Verdict → Type 0
-  IsFirstRefusal from count None = (class : ℕ) → from ≤ class → class < from + count → ClassFollows table class
-  IsFirstRefusal from count (Some verdict) = (class : ℕ) × (class < from + count) × IsVerdict table class verdict × (is_err verdict ≡ true)
+  -- the fault of the first class, of so many from one on, that is refused; none where none is
+  abbrev pub IsFirstFault : ℕ → ℕ → Option Verdict → Type 0
+  IsFirstFault from count None = (class : ℕ) → from ≤ class → class < from + count → ClassFollows table class
+  IsFirstFault from count (Some verdict) = (class : ℕ) × (class < from + count) × IsVerdict table class verdict × (is_err verdict ≡ true)
       × ((other : ℕ) → from ≤ other → other < class → ClassFollows table other)
 
   passed : (class : ℕ) (verdict : Verdict) → IsVerdict table class verdict → is_err verdict ≡ false → ClassFollows table class
   passed class (Ok _) is not_err = is
   passed class (Err fault) is not_err = absurd (cc)
 
-  one_more : (from count : ℕ) (found : Option Verdict) → ClassFollows table from → IsFirstRefusal (from + 1) count found →
-      IsFirstRefusal from (suc count) found
+  one_more : (from count : ℕ) (found : Option Verdict) → ClassFollows table from → IsFirstFault (from + 1) count found →
+      IsFirstFault from (suc count) found
   one_more from count None here rest = λ class low high. elim (cases_lt from class) [
     | inl later ↦ rest class (omega arith) (omega arith)
     | inr upto ↦ let same : from ≡ class = omega arith in subst (ClassFollows table) same here
@@ -45,26 +45,26 @@ module _ (table : ClassTable) where
         ],
       )
 
-  pub first_refusal : (from count : ℕ) (verdicts : List Verdict) (answers : List Bool) →
+  pub first_fault : (from count : ℕ) (verdicts : List Verdict) (answers : List Bool) →
       AllZip (IsVerdict table) (range_with_len from count) verdicts → AllZip (λ (v : Verdict) (b : Bool). b ≡ is_err v) verdicts answers →
-      IsFirstRefusal from count (slice_get (filter_by_mask verdicts answers) 0)
-  first_refusal from zero [] [] are told = λ class low high. absurd (omega arith)
-  first_refusal from zero [] (b ∷ answers) are told = absurd told
-  first_refusal from zero (v ∷ verdicts) answers are told = absurd are
-  first_refusal from (suc count) [] answers are told = absurd are
-  first_refusal from (suc count) (v ∷ verdicts) [] are told = absurd told
-  first_refusal from (suc count) (v ∷ verdicts) (true ∷ answers) are told =
+      IsFirstFault from count (slice_get (filter_by_mask verdicts answers) 0)
+  first_fault from zero [] [] are told = λ class low high. absurd (omega arith)
+  first_fault from zero [] (b ∷ answers) are told = absurd told
+  first_fault from zero (v ∷ verdicts) answers are told = absurd are
+  first_fault from (suc count) [] answers are told = absurd are
+  first_fault from (suc count) (v ∷ verdicts) [] are told = absurd told
+  first_fault from (suc count) (v ∷ verdicts) (true ∷ answers) are told =
       (from, omega arith, are.0, sym told.0, λ other low below. absurd (omega arith))
-  first_refusal from (suc count) (v ∷ verdicts) (false ∷ answers) are told =
+  first_fault from (suc count) (v ∷ verdicts) (false ∷ answers) are told =
       one_more from count (slice_get (filter_by_mask verdicts answers) 0) (passed from v are.0 (sym told.0))
-      (first_refusal (from + 1) count verdicts answers are.1 told.1)
+      (first_fault (from + 1) count verdicts answers are.1 told.1)
 
   module _ (whole : IsTable table.set table.values) where
-    pub none_refused : IsFirstRefusal 0 (length table.values) None → IsConsistent table.set table.values
+    pub none_refused : IsFirstFault 0 (length table.values) None → IsConsistent table.set table.values
     none_refused all = consistent_of_all table whole (λ class within. all class (omega arith) (omega arith))
 
-    -- what a refusal says of the table
-    pub refused : (verdict : Verdict) → IsFirstRefusal 0 (length table.values) (Some verdict) → IfErr verdict (IsFaultOfCheck table)
+    -- what a fault says of the table
+    pub refused : (verdict : Verdict) → IsFirstFault 0 (length table.values) (Some verdict) → IfErr verdict (IsFaultOfCheck table)
     refused (Ok _) first = tt
     refused (Err OtherSet) first = first.2
     refused (Err (Inconsistent class)) first =
@@ -75,9 +75,9 @@ module _ (table : ClassTable) where
         }
     refused (Err Memory) first = tt
 
-    pub refusal_not_ok : (verdict : Verdict) → is_err verdict ≡ true → IfOk verdict (λ _. IsConsistent table.set table.values)
-    refusal_not_ok (Ok _) is = absurd (cc)
-    refusal_not_ok (Err fault) is = tt
+    pub fault_not_ok : (verdict : Verdict) → is_err verdict ≡ true → IfOk verdict (λ _. IsConsistent table.set table.values)
+    fault_not_ok (Ok _) is = absurd (cc)
+    fault_not_ok (Err fault) is = tt
 
   pub passed_answered : (verdict : Verdict) → IfErr verdict (IsFaultOfCheck table) → IsConsistent table.set table.values →
       (verdict ≡ Ok tt) ⊎ (verdict ≡ Err Memory)
@@ -88,14 +88,14 @@ module _ (table : ClassTable) where
 
   -- what is answered
   pub consistent_answered : IsTable table.set table.values → (found : Option Verdict) (result : Verdict) → result ≡ unwrap_or found (Ok tt) →
-      IsFirstRefusal 0 (length table.values) found → IfOk result (λ _. IsConsistent table.set table.values)
+      IsFirstFault 0 (length table.values) found → IfOk result (λ _. IsConsistent table.set table.values)
   consistent_answered whole None result is first =
       subst (λ (v : Verdict). IfOk v (λ _. IsConsistent table.set table.values)) (sym is) (none_refused whole first)
   consistent_answered whole (Some verdict) result is first =
-      subst (λ (v : Verdict). IfOk v (λ _. IsConsistent table.set table.values)) (sym is) (refusal_not_ok whole verdict first.3)
+      subst (λ (v : Verdict). IfOk v (λ _. IsConsistent table.set table.values)) (sym is) (fault_not_ok whole verdict first.3)
 
   pub fault_answered : IsTable table.set table.values → (found : Option Verdict) (result : Verdict) → result ≡ unwrap_or found (Ok tt) →
-      IsFirstRefusal 0 (length table.values) found → IfErr result (IsFaultOfCheck table)
+      IsFirstFault 0 (length table.values) found → IfErr result (IsFaultOfCheck table)
   fault_answered whole None result is first = subst (λ (v : Verdict). IfErr v (IsFaultOfCheck table)) (sym is) tt
   fault_answered whole (Some verdict) result is first =
       subst (λ (v : Verdict). IfErr v (IsFaultOfCheck table)) (sym is) (refused whole verdict first)

@@ -1,5 +1,5 @@
 -- What decides a position's value among the values of its successors.
-use Rattle.std.specs.Prelude.{◌≡◌, ℕ, ◌+◌, ◌≤◌, ◌<◌, ◌^◌, min, max, Bool, true, false, List, Contains, Option, Some, None, IfSome}
+use Rattle.std.specs.Prelude.{ℕ, ◌+◌, ◌≤◌, ◌<◌, ◌^◌, min, max, Bool, true, false, List, Contains, Option, Some, None, IfSome}
 use Rattle.dob_value.specs.declared.value.Value.{Value}
 use Rattle.dob_value.specs.declared.value.Value.TheVariants.{Win, Loss, Draw}
 use Rattle.dob_probe.specs.declared.successors.Successors.{Successors}

@@ -5,13 +5,15 @@ ghost use Rattle.dob_probe.specs.Faults.{IsFaultOfCheck, IsVerdict};
 
 use crate::fault::Fault;
 use crate::successors::value_that_follows;
+use dob_moves::Move;
 use dob_value::Table;
 use rayon::prelude::*;
 use std::alloc::Global;
 use std::thread::Threads;
 
 /// Passes the table just where each class's value follows from its status and its successors' values, so only where it
-/// is the value table. The classes are looked at by themselves, in as many threads as there are processors.
+/// is the value table. The classes are looked at by themselves, in as many threads as there are processors, each thread with
+/// one room for lists of moves.
 ///
 /// Errors: `Inconsistent` with the least class whose value doesn't follow; `Memory`.
 pub fn check(rt: &(impl Threads + Sync), alloc: Global, table: &Table) -> Result<(), Fault>
@@ -22,11 +24,12 @@ pub fn check(rt: &(impl Threads + Sync), alloc: Global, table: &Table) -> Result
 {
     let refused = (0..table.classes().class_count())
         .into_par_iter()
-        .map(
-            |class: u64| -> Result<(), Fault>
+        .map_init(
+            || -> Vec<Move> { Vec::new(alloc) },
+            |room: &mut Vec<Move>, class: u64| -> Result<(), Fault>
                 requires { class < length table.now.values }
                 ensures { IsVerdict table.entry.now class result }
-            { check_class(alloc, table, class) },
+            { check_class(room, table, class) },
         )
         .find_first(
             rt,
@@ -37,15 +40,15 @@ pub fn check(rt: &(impl Threads + Sync), alloc: Global, table: &Table) -> Result
     refused.unwrap_or(Ok(()))
 }
 
-// Whether the class's value follows.
+// Whether the class's value follows. Moves are listed in the room.
 //
 // Errors: `Inconsistent` with the class where it doesn't; `Memory`.
-fn check_class(alloc: Global, table: &Table, class: u64) -> Result<(), Fault>
+fn check_class(room: &mut Vec<Move>, table: &Table, class: u64) -> Result<(), Fault>
     requires { class < length table.now.values }
     ensures { IsVerdict table.now class result }
 {
     let position = table.classes().class_at(class);
-    if value_that_follows(alloc, table, &position)? == table.value(class) {
+    if value_that_follows(room, table, &position)? == table.value(class) {
         Ok(())
     } else {
         Err(Fault::Inconsistent(class))

@@ -3,7 +3,7 @@
 ghost use Rattle.std.specs.Prelude.{◌≡◌, ◌++◌, List, [], ◌∷◌, IfOk};
 ghost use Rattle.dob_pieces.specs.declared.setup.Setup.{Setup};
 ghost use Rattle.dob_moves.specs.Moves.{Goes, CanGo};
-ghost use Rattle.dob_moves.specs.Statuses.{HasStatus};
+ghost use Rattle.dob_moves.specs.Statuses.{AreMoves, HasStatus};
 ghost use Rattle.dob_moves.specs.declared.position_status.Status.{Status};
 ghost use Rattle.dob_rank.specs.Order.{IsPositionOf};
 ghost use Rattle.dob_value.specs.declared.value.Value.{Value as Valued};
@@ -12,10 +12,9 @@ ghost use Rattle.dob_value.specs.Follows.{Follows, IsTable};
 ghost use Rattle.dob_probe.specs.Lines.{GivenBy};
 ghost use Rattle.dob_probe.specs.Sums.{AreSummed, HasNext, greater_of, lesser_of, value_after};
 
-use dob_moves::{Move, Status, apply, moves, status};
+use dob_moves::{Move, Status, apply, moves_into};
 use dob_pieces::{Memory, Position};
 use dob_value::{Table, Value};
-use std::alloc::Global;
 
 /// What is kept of the successors' values.
 #[derive(Clone, Copy, Debug)]
@@ -92,11 +91,12 @@ fn greater(greatest: Option<u16>, plies: u16) -> u16
     }
 }
 
-/// The value that follows from the position's status and from those that the table gives its successors.
+/// The value that follows from the position's status and from those that the table gives its successors. The moves are
+/// listed in the room, whatever is in it.
 ///
 /// Error: `Memory`.
 pub(crate) fn value_that_follows(
-    alloc: Global,
+    room: &mut Vec<Move>,
     table: &Table,
     position: &Position,
 ) -> Result<Value, Memory>
@@ -104,26 +104,25 @@ pub(crate) fn value_that_follows(
     requires member { IsPositionOf table.now.set position.now.setup }
     ensures { IfOk result (λ value. Follows (GivenBy table.now) position.now.setup value) }
 {
-    match status(position) {
+    match moves_into(room, position)? {
         Status::Caught => Ok(Value::Win(1)),
         Status::Tried | Status::Stuck => Ok(Value::Loss(0)),
-        Status::Open => Ok(successors_of(alloc, table, position)?.value()),
+        Status::Open => Ok(successors_of(table, position, room).value()),
     }
 }
 
 // The values of the positions to which the moves lead.
-fn successors_of(alloc: Global, table: &Table, position: &Position) -> Result<Successors, Memory>
-    requires { IsPositionOf table.now.set position.now.setup }
-    ensures { IfOk result (λ kept. (values : List Valued) × AreSuccessors (λ v q. GivenBy table.now q v) position.now.setup values
-        × AreSummed values kept) }
+fn successors_of(table: &Table, position: &Position, choices: &[Move]) -> Successors
+    requires member { IsPositionOf table.now.set position.now.setup }
+    requires choices { AreMoves position.now.setup choices.now }
+    ensures { (values : List Valued) × AreSuccessors (λ v q. GivenBy table.now q v) position.now.setup values × AreSummed values result }
 {
     let mut kept = Successors::none();
-    let choices = moves(alloc, position)?;
-    for choice in &choices {
+    for choice in choices {
         let value = value_to(table, position, *choice);
         kept = kept.with(value);
     }
-    Ok(kept)
+    kept
 }
 
 // The value of the position to which the move leads.

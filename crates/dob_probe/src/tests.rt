@@ -241,7 +241,7 @@ fn the_board_comes_first(rt: HostRuntime) -> Result<(), Fail> {
 }
 
 #[test]
-fn refusals_are_printed(rt: HostRuntime) -> Result<(), Fail> {
+fn faults_are_printed(rt: HostRuntime) -> Result<(), Fail> {
     let texts = [
         (Fault::OtherSet, "E7 OtherSet"),
         (Fault::Inconsistent(17), "E21 Inconsistent class 17"),

@@ -1,5 +1,6 @@
 -- The table of the blocks' starts is the sum of the blocks before: computed for each set and each block.
-use Rattle.std.proofs.Common.{◌≡◌, ℕ, zero, suc, ◌+◌, ◌-◌, ◌*◌, ◌^◌, ◌<◌, ◌≤◌, ◌||◌, nat_eq, nat_lt, Bool, true, false, List, [], ◌∷◌, slice_index, slice_index_or, refl, sym, ◌∙◌, inl, inr, arith}
+use Rattle.std.proofs.Common.{◌≡◌, ℕ, zero, suc, ◌+◌, ◌-◌, ◌*◌, ◌^◌, ◌<◌, ◌≤◌, ◌||◌, nat_eq, nat_lt, Bool, true, false, List, [], ◌∷◌}
+use Rattle.std.proofs.Common.{slice_index, slice_index_or, refl, sym, ◌∙◌, inl, inr, arith}
 use Rattle.std.proofs.lemmas.Bool.{le-ltb, cases_eq, ne_eqb}
 use Rattle.dob_pieces.specs.declared.piece_set.PieceSet.{PieceSet}
 use Rattle.dob_pieces.proofs.Boards.{all_below, all_below-at}
@@ -70,5 +71,6 @@ small_set n h = omega arith
 pub start_is : (set : PieceSet) (block : ℕ) → block ≤ product (block_bases set) → product (block_bases set) ≤ 27 →
     start_in (9 * set.chicks + 3 * set.elephants + set.giraffes) block ≡ sum_below (block_size set) block
 start_is set block upto few =
-    tells set.chicks set.elephants set.giraffes block (small_set _ set.few_chicks) (small_set _ set.few_elephants) (small_set _ set.few_giraffes) upto (omega arith)
+    tells set.chicks set.elephants set.giraffes block (small_set _ set.few_chicks) (small_set _ set.few_elephants)
+    (small_set _ set.few_giraffes) upto (omega arith)
     ∙ sym (sum_below-same (block_size set) (size_by set.chicks set.elephants set.giraffes) (λ n. block_size-product set n) block)

@@ -27,7 +27,8 @@ block_read set s blocks index block p is are below read =
     let there : IsBlock set index block = subst (IsBlock set index) (sym read) here in
     record { set_is = there.set_is; number_is = there.number_is ∙ is }
 
-pub place_there : (set : PieceSet) (s : Setup) (of : PieceSet) (number place : ℕ) → IsPositionOf set s → of ≡ set → number ≡ block_of set s → place ≡ place_of set s →
+pub place_there : (set : PieceSet) (s : Setup) (of : PieceSet) (number place : ℕ) → IsPositionOf set s
+    → of ≡ set → number ≡ block_of set s → place ≡ place_of set s →
     place < block_size of number
 place_there set s of number place p of_is number_is place_is =
     subst (λ q. place < block_size q number) (sym of_is) (subst (λ n. place < block_size set n) (sym number_is)
@@ -88,14 +89,16 @@ AreBlocks-none set blocks none = λ k other below. absurd (none_below k (length 
 
 -- ---- the classes of all blocks
 
-pub classes_all : (set : PieceSet) (number count : ℕ) → number ≡ product (block_bases set) → count ≡ marks_below (marked set) (start_of set number) → count ≡ classes_of set
+pub classes_all : (set : PieceSet) (number count : ℕ) → number ≡ product (block_bases set)
+    → count ≡ marks_below (marked set) (start_of set number) → count ≡ classes_of set
 unfolding classes_of size_of
 classes_all set number count is counted = counted ∙ ap (λ n. marks_below (marked set) (start_of set n)) is
 
 pub no_classes_yet : (set : PieceSet) → 0 ≡ marks_below (marked set) (start_of set 0)
 no_classes_yet set = sym (marks_below_none (marked set))
 
-pub class_in_blocks : (set : PieceSet) (class number : ℕ) → class < classes_of set → number ≡ product (block_bases set) → class < marks_below (marked set) (start_of set number)
+pub class_in_blocks : (set : PieceSet) (class number : ℕ) → class < classes_of set → number ≡ product (block_bases set)
+    → class < marks_below (marked set) (start_of set number)
 class_in_blocks set class number below is = subst (λ n. class < n) (sym (classes_all set number _ is refl)) below
 
 pub in_first : (set : PieceSet) (class number : ℕ) → number ≤ 0 → class < marks_below (marked set) (start_of set number) → ⊥
@@ -106,14 +109,16 @@ in_first set class number none below =
     omega (arith, below, none_before)
 
 -- a place of a block lies below the size of the set
-pub place_below_size : (set : PieceSet) (block place : ℕ) → block < product (block_bases set) → place < block_size set block → start_of set block + place < size_of set
+pub place_below_size : (set : PieceSet) (block place : ℕ) → block < product (block_bases set)
+    → place < block_size set block → start_of set block + place < size_of set
 unfolding size_of
 place_below_size set block place within below =
     let upto = sum_below-rises (block_size set) block (product (block_bases set)) within in
     omega (arith, upto, below)
 
 -- the position at a marked place is the representative of its class
-pub at_place : (set : PieceSet) (index place class : ℕ) (block : BlockClasses) (s : Setup) → IsBlock set index block → place < block_size block.set block.number →
+pub at_place : (set : PieceSet) (index place class : ℕ) (block : BlockClasses) (s : Setup)
+    → IsBlock set index block → place < block_size block.set block.number →
     marked block.set (start_of block.set block.number + place) ≡ true → marks_below (marked block.set) (start_of block.set block.number + place) ≡ class →
     HasBlock set block.number place s → IsAtClass set s class
 at_place set index place class block s is below on number there =

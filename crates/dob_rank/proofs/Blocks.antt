@@ -30,7 +30,8 @@ product-at_most (b ∷ bs) (c ∷ cs) h = mul-le b (product bs) c (product cs) h
 pub choose-grows : (m n k : ℕ) → m ≤ n → choose m k ≤ choose n k
 choose-grows m zero k h = subst (λ (x : ℕ). choose x k ≤ choose 0 k) (let e : 0 ≡ m = omega arith in e) (omega arith)
 choose-grows m (suc n) k h = elim (cases_lt m (suc n)) [
-  | inl lt ↦ (let rest : choose m k ≤ choose n k = choose-grows m n k (omega arith) in let more : choose (suc n) k ≡ with_first n k + choose n k = choose-split n k in omega arith)
+  | inl lt ↦ (let rest : choose m k ≤ choose n k = choose-grows m n k (omega arith) in
+      let more : choose (suc n) k ≡ with_first n k + choose n k = choose-split n k in omega arith)
   | inr le ↦ subst (λ (x : ℕ). choose x k ≤ choose (suc n) k) (let e : suc n ≡ m = omega arith in e) (omega arith)
 ]
 
@@ -99,9 +100,6 @@ at_most a b h = omega arith
 
 one_more : (c : ℕ) → c ≤ 2 → c + 1 ≤ 3
 one_more c h = omega arith
-
-some_more : (c : ℕ) → 0 < c + 1
-some_more c = omega arith
 
 room_left : (i j : ℕ) → i ≤ 2 → j ≤ 2 → (2 ≤ 10 - i) × (2 ≤ 10 - i - j)
 room_left i j h l = ((omega arith), (omega arith))
@@ -183,10 +181,8 @@ bases-positive set i j k h =
 -- ---- the number of blocks
 
 pub blocks_small : (set : PieceSet) → product (block_bases set) ≤ 27
-blocks_small set = product-at_most (block_bases set) (3 ∷ 3 ∷ 3 ∷ []) (one_more set.chicks set.few_chicks, (one_more set.elephants set.few_elephants, (one_more set.giraffes set.few_giraffes, tt)))
-
-pub block_bases-positive : (set : PieceSet) → All (λ (b : ℕ). 0 < b) (block_bases set)
-block_bases-positive set = all_positive (block_bases set) (some_more set.chicks, (some_more set.elephants, (some_more set.giraffes, tt)))
+blocks_small set = product-at_most (block_bases set) (3 ∷ 3 ∷ 3 ∷ [])
+    (one_more set.chicks set.few_chicks, (one_more set.elephants set.few_elephants, (one_more set.giraffes set.few_giraffes, tt)))
 
 -- the numbers on the board are within the set
 pub few_from_digits : (set : PieceSet) (ob : List ℕ) → HasDigits (block_bases set) ob → AreFew set (slice_index ob 0) (slice_index ob 1) (slice_index ob 2)
@@ -202,7 +198,8 @@ few_in_block set block h = HasDigits-digits_of (block_bases set) block h
 pub block_size-small : (set : PieceSet) (block : ℕ) → block < product (block_bases set) → block_size set block ≤ 2 ^ 36
 block_size-small set block h =
     subst (λ (x : ℕ). x ≤ 2 ^ 36) (sym (block_size-product set block))
-    (product-bases set (slice_index (digits_of (block_bases set) block) 0) (slice_index (digits_of (block_bases set) block) 1) (slice_index (digits_of (block_bases set) block) 2)
+    (product-bases set (slice_index (digits_of (block_bases set) block) 0) (slice_index (digits_of (block_bases set) block) 1)
+    (slice_index (digits_of (block_bases set) block) 2)
     (few_from_digits set (digits_of (block_bases set) block) (few_in_block set block h)))
 
 -- ---- sums of blocks
@@ -238,26 +235,25 @@ AreBases-by set ob bs h e =
 fits_small : (n : ℕ) → n ≤ 27 → (n ≤ 68719476736) × (n < 18446744073709551616)
 fits_small n h = ((omega arith), (omega arith))
 
-pub AreBases-block : (set : PieceSet) (bs : List ℕ) → bs ≡ block_bases set → AreBases bs
-AreBases-block set bs e = subst AreBases (sym e) (record {
-  positive = block_bases-positive set;
-  small_product = (fits_small (product (block_bases set)) (blocks_small set)).0;
-  fits = (fits_small (product (block_bases set)) (blocks_small set)).1;
-})
-
-pub HasDigits-numbers : (set : PieceSet) (block : ℕ) (xs : List ℕ) → block < product (block_bases set) → xs ≡ digits_of (block_bases set) block → HasDigits (block_bases set) xs
+pub HasDigits-numbers : (set : PieceSet) (block : ℕ) (xs : List ℕ) → block < product (block_bases set)
+    → xs ≡ digits_of (block_bases set) block → HasDigits (block_bases set) xs
 HasDigits-numbers set block xs h e = subst (HasDigits (block_bases set)) (sym e) (few_in_block set block h)
 
-pub size_of_bases : (set : PieceSet) (block : ℕ) (xs bs : List ℕ) (n : ℕ) → xs ≡ digits_of (block_bases set) block → bs ≡ bases_by set xs → n ≡ product bs → n ≡ block_size set block
+pub size_of_bases : (set : PieceSet) (block : ℕ) (xs bs : List ℕ) (n : ℕ) → xs ≡ digits_of (block_bases set) block
+    → bs ≡ bases_by set xs → n ≡ product bs → n ≡ block_size set block
 size_of_bases set block xs bs n e f g = g ∙ ap product f ∙ ap (λ (ys : List ℕ). product (bases_by set ys)) e ∙ sym (block_size-product set block)
 
 -- one more block before
-pub start_step : (set : PieceSet) (start size earlier block : ℕ) → block ≤ product (block_bases set) → earlier < block → size ≡ block_size set earlier → size ≤ 68719476736
+pub start_step : (set : PieceSet) (start size earlier block : ℕ) → block ≤ product (block_bases set)
+    → earlier < block → size ≡ block_size set earlier → size ≤ 68719476736
     → start ≡ sum_below (block_size set) earlier → start ≤ earlier * 68719476736
     → (start + size ≡ sum_below (block_size set) (earlier + 1)) × (start + size ≤ (earlier + 1) * 68719476736) × (start + size < 18446744073709551616)
 start_step set start size earlier block h lt e s i b =
-    let few : product (block_bases set) ≤ 27 = blocks_small set in
-    (sum_up (block_size set) start size earlier i e, more_of start size earlier b s, less_word start size earlier (product (block_bases set)) (before earlier block (product (block_bases set)) lt h) few b s)
+    let few : product (block_bases set) ≤ 27 = blocks_small set in (
+      sum_up (block_size set) start size earlier i e,
+      more_of start size earlier b s,
+      less_word start size earlier (product (block_bases set)) (before earlier block (product (block_bases set)) lt h) few b s,
+    )
   where
     sum_up : (f : ℕ → ℕ) (start size earlier : ℕ) → start ≡ sum_below f earlier → size ≡ f earlier → start + size ≡ sum_below f (earlier + 1)
     sum_up f start size earlier h k = ap (λ (x : ℕ). x + size) h ∙ ap (λ (x : ℕ). sum_below f earlier + x) k ∙ sym (sum_below_more f earlier)
@@ -268,7 +264,8 @@ start_step set start size earlier block h lt e s i b =
     before : (a b c : ℕ) → a < b → b ≤ c → a < c
     before a b c h k = omega arith
 
-    less_word : (start size earlier blocks : ℕ) → earlier < blocks → blocks ≤ 27 → start ≤ earlier * 68719476736 → size ≤ 68719476736 → start + size < 18446744073709551616
+    less_word : (start size earlier blocks : ℕ) → earlier < blocks → blocks ≤ 27 → start ≤ earlier * 68719476736
+        → size ≤ 68719476736 → start + size < 18446744073709551616
     less_word start size earlier blocks h k l m = omega arith
 
 -- past the last block nothing is left

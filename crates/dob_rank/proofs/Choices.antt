@@ -154,7 +154,8 @@ first_later t from x y xs ys nx ey e p =
     omega arith
 
 -- an earlier list of squares is an earlier choice
-pub choice-rises : (t from : ℕ) (xs ys : List ℕ) → Alike t xs ys → count t xs ≡ count t ys → Precedes (layer_squares t from xs) (layer_squares t from ys) → choice t xs < choice t ys
+pub choice-rises : (t from : ℕ) (xs ys : List ℕ) → Alike t xs ys → count t xs ≡ count t ys
+    → Precedes (layer_squares t from xs) (layer_squares t from ys) → choice t xs < choice t ys
 choice-rises t from [] [] h e p = absurd p
 choice-rises t from [] (y ∷ ys) h e p = absurd h
 choice-rises t from (x ∷ xs) [] h e p = absurd h

@@ -1,18 +1,18 @@
 -- Class numbers: a position's class is found by the lower of two ranks, and classes and their numbers answer each other.
 use Rattle.std.proofs.Common.{◌≡◌, ℕ, zero, suc, ◌+◌, ◌-◌, ◌<◌, ◌≤◌, ◌⊎◌, min, Bool, true, false, refl, sym, ap, ◌∙◌, subst, inl, inr, arith}
 use Rattle.std.proofs.lemmas.Bool.{cases_lt, cases_order, cases_Bool}
-use Rattle.std.proofs.Math.Nat.{min-le_left, min-eq_left, min-eq_right, min_comm}
+use Rattle.std.proofs.Math.Nat.{min-eq_left, min-eq_right, min_comm}
 use Rattle.dob_pieces.specs.declared.piece_set.PieceSet.{PieceSet}
 use Rattle.dob_pieces.specs.declared.setup.Setup.{Setup}
 use Rattle.dob_pieces.specs.Setups.{mirrored}
 use Rattle.dob_pieces.proofs.Symmetries.{mirrored-mirrored}
 use Rattle.dob_rank.specs.Order.{IsPositionOf, IsFirstOfTwo, IsRepresentative, RepresentativeOf, HasClass, IsInClass}
-use Rattle.dob_rank.specs.Numbers.{size_of, rank_of, nth}
+use Rattle.dob_rank.specs.Numbers.{size_of, rank_of}
 use Rattle.dob_rank.specs.Marks.{one_if, marks_below, marked, classes_of, class_number}
-use Rattle.dob_rank.proofs.Numbering.{nth-block, rank_of-nth, rank_of-below, rank_of-rises, rank_of-same, Before-from_rank}
-use Rattle.dob_rank.proofs.Found.{RankOf, IsPositionOf-mirrored}
+use Rattle.dob_rank.proofs.Numbering.{rank_of-below, rank_of-rises, rank_of-same, Before-from_rank}
+use Rattle.dob_rank.proofs.Found.{IsPositionOf-mirrored}
 use Rattle.dob_rank.proofs.Marks.{HasClass-marked, first-marked, marked-first, marked-first_of}
-use Rattle.dob_rank.proofs.Words.{marks_below_more, marks_below_none}
+use Rattle.dob_rank.proofs.Words.{marks_below_more}
 
 -- ---- marks below a place rise with the place
 
@@ -48,7 +48,8 @@ unfolding class_number
 class_number-is set s = refl
 
 first_low : (set : PieceSet) (s : Setup) → IsPositionOf set s → rank_of set s ≤ rank_of set (mirrored s) → IsFirstOfTwo s
-first_low set s p le b = (let up : rank_of set (mirrored s) < rank_of set s = rank_of-rises set (mirrored s) s (IsPositionOf-mirrored set s p) p b in omega arith)
+first_low set s p le b = (let up : rank_of set (mirrored s) < rank_of set s
+    = rank_of-rises set (mirrored s) s (IsPositionOf-mirrored set s p) p b in omega arith)
 
 -- the position of the lower rank
 pub record IsEarlier (set : PieceSet) (s first : Setup) : Type 0 where
@@ -93,23 +94,8 @@ unfolding classes_of
 class_number-below set s p =
     let e = earlier set s p in
     subst (λ (x : ℕ). x < marks_below (marked set) (size_of set)) (sym (class_number-is set s ∙ ap (marks_below (marked set)) e.1.rank_is))
-    (marks_below-rises (marked set) (rank_of set e.0) (size_of set) (representative-marked set e.0 (e.1.position, e.1.representative.1)) (rank_of-below set e.0 e.1.position))
-
--- the ranks of the code
-pub lower_rank : (set : PieceSet) (s t : Setup) (own image least : ℕ) → IsPositionOf set s → t ≡ mirrored s → RankOf s own → RankOf t image → least ≡ min own image
-    → least ≡ min (rank_of set s) (rank_of set (mirrored s))
-lower_rank set s t own image least p e r q m =
-    let pt : IsPositionOf set t = subst (IsPositionOf set) (sym e) (IsPositionOf-mirrored set s p) in
-    m ∙ ap (λ (x : ℕ). min x image) (r set p) ∙ ap (min (rank_of set s)) (q set pt ∙ ap (rank_of set) e)
-
-pub lower_rank-below : (set : PieceSet) (s : Setup) (least : ℕ) → IsPositionOf set s → least ≡ min (rank_of set s) (rank_of set (mirrored s)) → least < size_of set
-lower_rank-below set s least p e = least_below (rank_of set s) (rank_of set (mirrored s)) least (size_of set) e (rank_of-below set s p)
-  where
-    least_below : (a b least size : ℕ) → least ≡ min a b → a < size → least < size
-    least_below a b least size e h = (let le : min a b ≤ a = min-le_left a b in omega arith)
-
-pub class_found : (set : PieceSet) (s : Setup) (least number : ℕ) → least ≡ min (rank_of set s) (rank_of set (mirrored s)) → number ≡ marks_below (marked set) least → number ≡ class_number set s
-class_found set s least number e f = f ∙ ap (marks_below (marked set)) e ∙ sym (class_number-is set s)
+    (marks_below-rises (marked set) (rank_of set e.0) (size_of set) (representative-marked set e.0 (e.1.position, e.1.representative.1))
+    (rank_of-below set e.0 e.1.position))
 
 -- one number: one position, or a position and its mirror image
 pub class_once : (set : PieceSet) (s t : Setup) → IsPositionOf set s → IsPositionOf set t → class_number set s ≡ class_number set t → (s ≡ t) ⊎ (s ≡ mirrored t)
@@ -119,7 +105,8 @@ class_once set s t p q e =
     let marks : marks_below (marked set) (rank_of set a.0) ≡ marks_below (marked set) (rank_of set b.0)
     = sym (class_number-is set s ∙ ap (marks_below (marked set)) a.1.rank_is) ∙ e ∙ class_number-is set t ∙ ap (marks_below (marked set)) b.1.rank_is in
     let ranks : rank_of set a.0 ≡ rank_of set b.0
-    = marks_below-same (marked set) (rank_of set a.0) (rank_of set b.0) (representative-marked set a.0 (a.1.position, a.1.representative.1)) (representative-marked set b.0 (b.1.position, b.1.representative.1)) marks in
+    = marks_below-same (marked set) (rank_of set a.0) (rank_of set b.0) (representative-marked set a.0 (a.1.position, a.1.representative.1))
+    (representative-marked set b.0 (b.1.position, b.1.representative.1)) marks in
     let same : a.0 ≡ b.0 = rank_of-same set a.0 b.0 a.1.position b.1.position ranks in
     let back_s : mirrored (mirrored s) ≡ s = mirrored-mirrored s p.legal.squares in
     let back_t : mirrored (mirrored t) ≡ t = mirrored-mirrored t q.legal.squares in
@@ -139,7 +126,8 @@ pub class_number-mirrored : (set : PieceSet) (s : Setup) → IsPositionOf set s 
 class_number-mirrored set s p =
     let back : mirrored (mirrored s) ≡ s = mirrored-mirrored s p.legal.squares in
     class_number-is set (mirrored s)
-    ∙ ap (marks_below (marked set)) (ap (λ (x : Setup). min (rank_of set (mirrored s)) (rank_of set x)) back ∙ min_comm (rank_of set (mirrored s)) (rank_of set s))
+    ∙ ap (marks_below (marked set)) (ap (λ (x : Setup). min (rank_of set (mirrored s)) (rank_of set x)) back
+    ∙ min_comm (rank_of set (mirrored s)) (rank_of set s))
     ∙ sym (class_number-is set s)
 
 -- ---- the representative of a class number
@@ -149,7 +137,8 @@ pub record IsMarkedAt (mark : ℕ → Bool) (place number : ℕ) : Type 0 where
   pub on : mark place ≡ true
   pub number_is : marks_below mark place ≡ number
 
-pub one_left : (mark : ℕ → Bool) (low high number : ℕ) → low < high → high - low ≤ 1 → marks_below mark low ≤ number → number < marks_below mark high → IsMarkedAt mark low number
+pub one_left : (mark : ℕ → Bool) (low high number : ℕ) → low < high → high - low ≤ 1 → marks_below mark low ≤ number
+    → number < marks_below mark high → IsMarkedAt mark low number
 one_left mark low high number h k a b =
     let top : marks_below mark high ≡ marks_below mark (suc low) = ap (marks_below mark) (let next : high ≡ suc low = omega arith in next) in
     let more : marks_below mark (suc low) ≡ marks_below mark low + one_if (mark low) = marks_below_more mark low in
@@ -173,7 +162,8 @@ class_number-first set s p first =
       | inr ge ↦ min-eq_left ge
     ])
 
-pub at_class : (set : PieceSet) (s : Setup) (rank class : ℕ) → IsPositionOf set s → rank_of set s ≡ rank → rank < size_of set → marked set rank ≡ true → marks_below (marked set) rank ≡ class → IsAtClass set s class
+pub at_class : (set : PieceSet) (s : Setup) (rank class : ℕ) → IsPositionOf set s → rank_of set s ≡ rank → rank < size_of set
+    → marked set rank ≡ true → marks_below (marked set) rank ≡ class → IsAtClass set s class
 at_class set s rank class p e h on n =
     let marked_is : marked set (rank_of set s) ≡ true = ap (marked set) e ∙ on in
     let first : IsFirstOfTwo s = marked-first set s p (sym (marked-first_of set (rank_of set s) (rank_of-below set s p)) ∙ marked_is) in
@@ -189,28 +179,6 @@ pub later_unmarked : (set : PieceSet) (s : Setup) (rank : ℕ) → IsPositionOf 
 later_unmarked set s rank p e off first =
     let on : marked set rank ≡ true = ap (marked set) e ∙ representative-marked set s (p, first) in
     cc
-
--- each number below the number of classes has its representative
-pub place_of_number : (mark : ℕ → Bool) (n number : ℕ) → number < marks_below mark n → (place : ℕ) × (place < n) × IsMarkedAt mark place number
-place_of_number mark zero number h = absurd (let none : marks_below mark 0 ≡ 0 = marks_below_none mark in omega arith)
-place_of_number mark (suc n) number h = elim (cases_lt number (marks_below mark n)) [
-  | inl lt ↦ (let at = place_of_number mark n number lt in (at.0, (let low : at.0 < n = at.1 in omega arith), at.2))
-  | inr ge ↦ (n, (omega arith), one_left mark n (suc n) number (omega arith) (omega arith) ge h)
-]
-
-pub class_exists : (set : PieceSet) (class : ℕ) → class < classes_of set → (s : Setup) × IsAtClass set s class
-unfolding classes_of
-class_exists set class h =
-    let at = place_of_number (marked set) (size_of set) class h in
-    (nth set at.0, at_class set (nth set at.0) at.0 class (nth-block set at.0 at.1).position (rank_of-nth set at.0 at.1) at.1 at.2.on at.2.number_is)
-
--- and no other
-pub representative_once : (set : PieceSet) (s t : Setup) → IsRepresentative set s → IsRepresentative set t → class_number set s ≡ class_number set t → s ≡ t
-representative_once set s t p q e =
-    let marks : marks_below (marked set) (rank_of set s) ≡ marks_below (marked set) (rank_of set t)
-    = sym (class_number-first set s p.0 p.1) ∙ e ∙ class_number-first set t q.0 q.1 in
-    rank_of-same set s t p.0 q.0
-    (marks_below-same (marked set) (rank_of set s) (rank_of set t) (representative-marked set s p) (representative-marked set t q) marks)
 
 -- ---- the class of a position by the mark of its rank
 

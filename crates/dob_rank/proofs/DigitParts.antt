@@ -1,6 +1,7 @@
 -- The digits of a place in a block, part by part: the hands, the lions, the squares and the forms.
-use Rattle.std.proofs.Common.{◌≡◌, ℕ, ◌+◌, ◌-◌, ◌*◌, ◌/◌, ◌%◌, ◌^◌, ◌<◌, ◌≤◌, nat_eq, Bool, true, List, [], ◌∷◌, ◌++◌, get_or, slice_index, refl, sym, ap, ◌∙◌, subst, arith}
-use Rattle.std.proofs.lemmas.Nat.{div_below, mod_below, mul-le, one_shl}
+use Rattle.std.proofs.Common.{◌≡◌, ℕ, ◌+◌, ◌-◌, ◌*◌, ◌/◌, ◌%◌, ◌^◌, ◌<◌, ◌≤◌, nat_eq, bit_and, Bool, true, List, [], ◌∷◌, ◌++◌, get_or, slice_index}
+use Rattle.std.proofs.Common.{refl, sym, ap, ◌∙◌, subst, arith}
+use Rattle.std.proofs.lemmas.Nat.{div_below, mod_below, mul-le, one_shl, and_mask}
 use Rattle.dob_pieces.specs.declared.piece_set.PieceSet.{PieceSet}
 use Rattle.dob_pieces.proofs.Boards.{all_below, all_below-at}
 use Rattle.dob_rank.specs.Numbers.{product, digits_of, HasDigits, choose, block_bases, bases_by}
@@ -56,7 +57,8 @@ parts_are set ob place size forms h e f =
       digits_are = digits_of-append (run_bases set ob) (local_bases ob) place h
           ∙ ap (λ (xs : List ℕ). xs ++ digits_of (local_bases ob) (place % product (local_bases ob)))
           (digits_of-append (hand_bases set ob) (9 ∷ 11 ∷ []) (place / product (local_bases ob)) run)
-          ∙ ap (λ (xs : List ℕ). (digits_of (hand_bases set ob) (place / product (local_bases ob) / 99) ++ xs) ++ digits_of (local_bases ob) (place % product (local_bases ob)))
+          ∙ ap (λ (xs : List ℕ). (digits_of (hand_bases set ob) (place / product (local_bases ob) / 99) ++ xs)
+          ++ digits_of (local_bases ob) (place % product (local_bases ob)))
           (digits_of-two 9 11 (place / product (local_bases ob) % 99) lions)
           ∙ ap (λ (xs : List ℕ). (digits_of (hand_bases set ob) (place / product (local_bases ob) / 99)
           ++ (place / product (local_bases ob) % 99 / 11 ∷ place / product (local_bases ob) % 99 % 11 ∷ [])) ++ xs)
@@ -77,8 +79,8 @@ forms_shifted i j k a b c =
     let second = all_below-at (λ j. all_below (shifted i j) 3) 3 j first (omega arith) in
     same_number (1 * 2 ^ (2 * i + j + k) % 18446744073709551616) (4 ^ i * (2 ^ j * (2 ^ k * 1))) (all_below-at (shifted i j) 3 k second (omega arith))
 
-pub one_shifted : (k : ℕ) → k ≤ 2 → 1 * 2 ^ k % 18446744073709551616 ≡ 2 ^ k
-one_shifted k h = one_shl k 64 (omega arith)
+pub form_bits_are : (i j k : ℕ) → i ≤ 2 → j ≤ 2 → k ≤ 2 → 2 ^ (2 * i + j + k) ≡ 4 ^ i * (2 ^ j * (2 ^ k * 1))
+form_bits_are i j k a b c = sym (one_shl (2 * i + j + k) 64 (omega arith)) ∙ forms_shifted i j k a b c
 
 pub AreFewOnBoard-digits : (set : PieceSet) (ob : List ℕ) → HasDigits (block_bases set) ob → AreFewOnBoard ob
 AreFewOnBoard-digits set ob h =
@@ -89,20 +91,25 @@ AreFewOnBoard-digits set ob h =
       giraffes = few_of_three set.giraffes (slice_index ob 2) set.few_giraffes few.giraffes;
     }
 
-pub form_digits_are : (ob : List ℕ) (n : ℕ) → AreFewOnBoard ob → n < product (form_bases ob) →
-    n / (1 * 2 ^ slice_index ob 2 % 18446744073709551616) / (1 * 2 ^ slice_index ob 1 % 18446744073709551616)
-    ∷ n / (1 * 2 ^ slice_index ob 2 % 18446744073709551616) % (1 * 2 ^ slice_index ob 1 % 18446744073709551616)
-    ∷ n % (1 * 2 ^ slice_index ob 2 % 18446744073709551616) ∷ [] ≡ digits_of (form_bases ob) n
-form_digits_are ob n few h =
-    ap (λ (b : ℕ). n / b / (1 * 2 ^ slice_index ob 1 % 18446744073709551616) ∷ n / b % (1 * 2 ^ slice_index ob 1 % 18446744073709551616) ∷ n % b ∷ [])
-    (one_shifted (slice_index ob 2) few.giraffes)
-    ∙ ap (λ (b : ℕ). n / 2 ^ slice_index ob 2 / b ∷ n / 2 ^ slice_index ob 2 % b ∷ n % 2 ^ slice_index ob 2 ∷ []) (one_shifted (slice_index ob 1) few.elephants)
+pub form_digits_are : (ob : List ℕ) (n rest giraffes chicks elephants : ℕ) → n < product (form_bases ob) →
+    rest ≡ n / 2 ^ slice_index ob 2 → giraffes ≡ n % 2 ^ slice_index ob 2 →
+    chicks ≡ rest / 2 ^ slice_index ob 1 → elephants ≡ rest % 2 ^ slice_index ob 1 →
+    chicks ∷ elephants ∷ giraffes ∷ [] ≡ digits_of (form_bases ob) n
+form_digits_are ob n rest giraffes chicks elephants h r g c e =
+    ap (λ (x : ℕ). x ∷ elephants ∷ giraffes ∷ []) (c ∙ ap (λ (x : ℕ). x / 2 ^ slice_index ob 1) r)
+    ∙ ap (λ (x : ℕ). n / 2 ^ slice_index ob 2 / 2 ^ slice_index ob 1 ∷ x ∷ giraffes ∷ []) (e ∙ ap (λ (x : ℕ). x % 2 ^ slice_index ob 1) r)
+    ∙ ap (λ (x : ℕ). n / 2 ^ slice_index ob 2 / 2 ^ slice_index ob 1 ∷ n / 2 ^ slice_index ob 2 % 2 ^ slice_index ob 1 ∷ x ∷ []) g
     ∙ sym (digits_of-three (4 ^ slice_index ob 0) (2 ^ slice_index ob 1) (2 ^ slice_index ob 2) n h)
+
+-- the remainder by a power of 2, as the code finds it
+pub masked_rest : (n k : ℕ) → k ≤ 32 → bit_and n (1 * 2 ^ k % 18446744073709551616 - 1) ≡ n % 2 ^ k
+masked_rest n k h = ap (λ (x : ℕ). bit_and n (x - 1)) (one_shl k 64 (omega arith)) ∙ and_mask n k
 
 -- ---- the parts as the code finds them
 
 forms_few : (i j k : ℕ) → i ≤ 2 → j ≤ 2 → k ≤ 2 → 4 ^ i * (2 ^ j * (2 ^ k * 1)) ≤ 256
-forms_few i j k a b c = mul-le (4 ^ i) (2 ^ j * (2 ^ k * 1)) 16 16 (four_small i a) (mul-le (2 ^ j) (2 ^ k * 1) 4 4 (two_small j b) (let few = two_small k c in omega arith))
+forms_few i j k a b c = mul-le (4 ^ i) (2 ^ j * (2 ^ k * 1)) 16 16 (four_small i a)
+    (mul-le (2 ^ j) (2 ^ k * 1) 4 4 (two_small j b) (let few = two_small k c in omega arith))
 
 pub record AreFound (set : PieceSet) (ob bs : List ℕ) (place forms : ℕ) : Type 0 where
   pub fits_one : get_or bs 7 0 * forms < 18446744073709551616
@@ -121,12 +128,19 @@ parts_found set ob bs place forms h low e f =
     let fewer : 10 - slice_index ob 0 ≤ 10 = omega arith in
     let fewest : 10 - slice_index ob 0 - slice_index ob 1 ≤ 10 = omega arith in
     let one : choose (10 - slice_index ob 0 - slice_index ob 1) (slice_index ob 2) * product (form_bases ob) ≤ 45 * 256 =
-    mul-le (choose (10 - slice_index ob 0 - slice_index ob 1) (slice_index ob 2)) (product (form_bases ob)) 45 256 (choose-small (10 - slice_index ob 0 - slice_index ob 1) (slice_index ob 2) fewest few.giraffes) most in
-    let two : choose (10 - slice_index ob 0) (slice_index ob 1) * (choose (10 - slice_index ob 0 - slice_index ob 1) (slice_index ob 2) * product (form_bases ob)) ≤ 45 * (45 * 256) =
-    mul-le (choose (10 - slice_index ob 0) (slice_index ob 1)) (choose (10 - slice_index ob 0 - slice_index ob 1) (slice_index ob 2) * product (form_bases ob)) 45 (45 * 256)
+    mul-le (choose (10 - slice_index ob 0 - slice_index ob 1) (slice_index ob 2)) (product (form_bases ob)) 45 256
+    (choose-small (10 - slice_index ob 0 - slice_index ob 1) (slice_index ob 2) fewest few.giraffes) most in
+    let two : choose (10 - slice_index ob 0) (slice_index ob 1) *
+    (choose (10 - slice_index ob 0 - slice_index ob 1) (slice_index ob 2) * product (form_bases ob)) ≤ 45 * (45 * 256) =
+    mul-le (choose (10 - slice_index ob 0) (slice_index ob 1))
+    (choose (10 - slice_index ob 0 - slice_index ob 1) (slice_index ob 2) * product (form_bases ob)) 45 (45 * 256)
     (choose-small (10 - slice_index ob 0) (slice_index ob 1) fewer few.elephants) one in
-    let three : choose 10 (slice_index ob 0) * (choose (10 - slice_index ob 0) (slice_index ob 1) * (choose (10 - slice_index ob 0 - slice_index ob 1) (slice_index ob 2) * product (form_bases ob))) ≤ 45 * (45 * (45 * 256)) =
-    mul-le (choose 10 (slice_index ob 0)) (choose (10 - slice_index ob 0) (slice_index ob 1) * (choose (10 - slice_index ob 0 - slice_index ob 1) (slice_index ob 2) * product (form_bases ob))) 45 (45 * (45 * 256))
+    let three : choose 10 (slice_index ob 0) *
+    (choose (10 - slice_index ob 0) (slice_index ob 1) *
+    (choose (10 - slice_index ob 0 - slice_index ob 1) (slice_index ob 2) * product (form_bases ob))) ≤ 45 * (45 * (45 * 256)) =
+    mul-le (choose 10 (slice_index ob 0))
+    (choose (10 - slice_index ob 0) (slice_index ob 1) *
+    (choose (10 - slice_index ob 0 - slice_index ob 1) (slice_index ob 2) * product (form_bases ob))) 45 (45 * (45 * 256))
     (choose-small 10 (slice_index ob 0) ten few.chicks) two in
     subst (λ (n : ℕ). AreFound set ob bs place n) (sym f) (subst (λ (xs : List ℕ). AreFound set ob xs place (product (form_bases ob))) (sym e) (record {
       fits_one = (let x = one in omega arith);
@@ -136,6 +150,13 @@ parts_found set ob bs place forms h low e f =
       hands_are = refl;
       squares_are = refl;
     }))
+
+-- a part of a place that a shift or a mask finds
+pub quotient_is : (local bits forms forms' found : ℕ) → found ≡ local / 2 ^ bits → 2 ^ bits ≡ forms' → forms ≡ forms' → found ≡ local / forms
+quotient_is local bits forms forms' found e b f = e ∙ ap (λ (n : ℕ). local / n) (b ∙ sym f)
+
+pub rest_is : (local bits forms forms' found : ℕ) → found ≡ local % 2 ^ bits → 2 ^ bits ≡ forms' → forms ≡ forms' → found ≡ local % forms
+rest_is local bits forms forms' found e b f = e ∙ ap (λ (n : ℕ). local % n) (b ∙ sym f)
 
 abbrev eleven : ℕ → ℕ → List ℕ → List ℕ → List ℕ → List ℕ
 eleven place size hands squares kinds =
@@ -150,7 +171,8 @@ pub digits_found : (set : PieceSet) (ob : List ℕ) (place size forms : ℕ) (ha
     ∷ get_or squares 0 0 ∷ get_or squares 1 0 ∷ get_or squares 2 0 ∷ get_or kinds 0 0 ∷ get_or kinds 1 0 ∷ get_or kinds 2 0 ∷ []
     ≡ digits_of (bases_by set ob) place
 digits_found set ob place size forms hands squares kinds parts h s k =
-    ap (λ (xs : List ℕ). eleven place size xs squares kinds) h ∙ ap (λ (xs : List ℕ). eleven place size (digits_of (hand_bases set ob) (place / size / 99)) xs kinds) s
+    ap (λ (xs : List ℕ). eleven place size xs squares kinds) h
+    ∙ ap (λ (xs : List ℕ). eleven place size (digits_of (hand_bases set ob) (place / size / 99)) xs kinds) s
     ∙ ap (eleven place size (digits_of (hand_bases set ob) (place / size / 99)) (digits_of (square_bases ob) (place % size / forms))) k
     ∙ sym parts.digits_are
 

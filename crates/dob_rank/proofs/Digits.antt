@@ -1,5 +1,6 @@
 -- The digits of a position of a set: each is below its base, and they give the position back.
-use Rattle.std.proofs.Common.{◌≡◌, ℕ, zero, suc, ◌+◌, ◌-◌, ◌%◌, ◌^◌, ◌<◌, ◌≤◌, List, [], ◌∷◌, length, map, replicate, refl, sym, ap, ◌∙◌, subst, inl, inr, arith}
+use Rattle.std.proofs.Common.{◌≡◌, ℕ, zero, suc, ◌+◌, ◌-◌, ◌%◌, ◌^◌, ◌<◌, ◌≤◌, List, [], ◌∷◌, length, map, replicate, refl, sym, ap, ◌∙◌}
+use Rattle.std.proofs.Common.{subst, inl, inr, arith}
 use Rattle.std.specs.List.{count_by}
 use Rattle.std.proofs.lemmas.Bool.{cases_lt}
 use Rattle.std.proofs.lemmas.List.{length-map}
@@ -12,11 +13,13 @@ use Rattle.dob_pieces.specs.declared.piece_set.PieceSet.{PieceSet}
 use Rattle.dob_pieces.specs.declared.setup.Setup.{Setup}
 use Rattle.dob_pieces.specs.Setups.{Cell, at, held, holds_lion, holds_kind, total, IsLegal}
 use Rattle.dob_rank.specs.Order.{IsPositionOf, pieces_of}
-use Rattle.dob_rank.specs.Numbers.{layer, count, count_from, choose, choice, settle, HasDigits, base_of, forms_number, board_of, bases_by, block_bases, on_board, digits, numbers_by, layers_by, setup_by}
+use Rattle.dob_rank.specs.Numbers.{layer, count, count_from, choose, choice, settle, HasDigits, base_of, forms_number, board_of, bases_by}
+use Rattle.dob_rank.specs.Numbers.{block_bases, on_board, digits, numbers_by, layers_by, setup_by}
 use Rattle.dob_rank.proofs.Choices.{choice-below}
 use Rattle.dob_rank.proofs.Settled.{hidden, hide, hidden_lower, hidden_later, settle-choice, AreLayers}
 use Rattle.dob_rank.proofs.FormDigits.{AreLayers-map, forms_number-below, board_of-back}
-use Rattle.dob_rank.proofs.LayerCounts.{count_from-next, count_from-zero, lion_at, holds_mover_lion, holds_enemy_lion, holds_kind-layer, count-layer, mover_lion, layer-at}
+use Rattle.dob_rank.proofs.LayerCounts.{count_from-next, count_from-zero, lion_at, holds_mover_lion, holds_enemy_lion, holds_kind-layer}
+use Rattle.dob_rank.proofs.LayerCounts.{count-layer, mover_lion, layer-at}
 
 -- what a position of the set says of its layers and hands
 pub record HasParts (set : PieceSet) (s : Setup) : Type 0 where
@@ -35,7 +38,8 @@ lion_home s legal one = elim (cases_lt (choice 0 (map layer s.board)) 9) [
       (mover_lion (at s (choice 0 (map layer s.board))) (sym (layer-at s.board (choice 0 (map layer s.board))) ∙ lion_at (map layer s.board) one)))
 ]
 
-of_kind : (kind : HandKind) (t : ℕ) (set : PieceSet) (s : Setup) → IsPositionOf set s → ((cells : List Cell) → count_by (holds_kind kind) cells ≡ count t (map layer cells))
+of_kind : (kind : HandKind) (t : ℕ) (set : PieceSet) (s : Setup) → IsPositionOf set s
+    → ((cells : List Cell) → count_by (holds_kind kind) cells ≡ count t (map layer cells))
     → count t (map layer s.board) + held s.hands.mover kind + held s.hands.enemy kind ≡ pieces_of set kind
 unfolding total
 of_kind kind t set s p h = ap (λ (n : ℕ). n + held s.hands.mover kind + held s.hands.enemy kind) (sym (h s.board)) ∙ p.pieces kind
@@ -121,7 +125,8 @@ hide_zero (l ∷ ls) = (let head : hidden 0 l ≡ 5 = hidden_later 0 l (omega ar
 
 hide_all : (ls : List ℕ) → AreLayers ls → hide 5 ls ≡ ls
 hide_all [] a = refl
-hide_all (l ∷ ls) a = (let head : hidden 5 l ≡ l = elim (cases_lt l 5) [ inl lt ↦ hidden_lower 5 l lt | inr le ↦ hidden_later 5 l le ∙ (let m : l ≤ 5 = a.0 in let five : 5 ≡ l = omega arith in five) ] in
+hide_all (l ∷ ls) a = (let head : hidden 5 l ≡ l
+    = elim (cases_lt l 5) [ inl lt ↦ hidden_lower 5 l lt | inr le ↦ hidden_later 5 l le ∙ (let m : l ≤ 5 = a.0 in let five : 5 ≡ l = omega arith in five) ] in
     let rest : hide 5 ls ≡ ls = hide_all ls a.1 in cc)
 
 pub layers_by-back : (set : PieceSet) (s : Setup) → HasParts set s → layers_by (on_board s) (digits s) ≡ map layer s.board
@@ -136,8 +141,10 @@ layers_by-back set s h =
     = ap (settle 1 1 (choice 1 (map layer s.board))) r0
     ∙ ap (λ (n : ℕ). settle 1 n (choice 1 (map layer s.board)) (hide 1 (map layer s.board))) (sym h.other_lion)
     ∙ settle-choice 1 (map layer s.board) (omega arith) ok in
-    ap (λ (x : List ℕ). settle 4 (count 4 (map layer s.board)) (choice 4 (map layer s.board)) (settle 3 (count 3 (map layer s.board)) (choice 3 (map layer s.board)) (settle 2 (count 2 (map layer s.board)) (choice 2 (map layer s.board)) x))) r1
-    ∙ ap (λ (x : List ℕ). settle 4 (count 4 (map layer s.board)) (choice 4 (map layer s.board)) (settle 3 (count 3 (map layer s.board)) (choice 3 (map layer s.board)) x)) (settle-choice 2 (map layer s.board) (omega arith) ok)
+    ap (λ (x : List ℕ). settle 4 (count 4 (map layer s.board)) (choice 4 (map layer s.board))
+    (settle 3 (count 3 (map layer s.board)) (choice 3 (map layer s.board)) (settle 2 (count 2 (map layer s.board)) (choice 2 (map layer s.board)) x))) r1
+    ∙ ap (λ (x : List ℕ). settle 4 (count 4 (map layer s.board)) (choice 4 (map layer s.board))
+    (settle 3 (count 3 (map layer s.board)) (choice 3 (map layer s.board)) x)) (settle-choice 2 (map layer s.board) (omega arith) ok)
     ∙ ap (λ (x : List ℕ). settle 4 (count 4 (map layer s.board)) (choice 4 (map layer s.board)) x) (settle-choice 3 (map layer s.board) (omega arith) ok)
     ∙ settle-choice 4 (map layer s.board) (omega arith) ok
     ∙ hide_all (map layer s.board) ok

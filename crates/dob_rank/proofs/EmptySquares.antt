@@ -110,8 +110,10 @@ pub settle_two : (t n : ℕ) (ls : List ℕ) → n < choose (count 5 ls) 2 →
     settle t 2 n ls ≡ set (set ls (empty_place ls (higher_of (count 5 ls) n)) t) (empty_place ls (lower_of (count 5 ls) n)) t
 settle_two t n [] h = absurd (omega arith)
 settle_two t n (l ∷ ls) h = elim (cases_eq l 5) [
-  | inl e ↦ subst (λ (x : ℕ). settle t 2 n (x ∷ ls) ≡ set (set (x ∷ ls) (empty_place (x ∷ ls) (higher_of (count 5 (x ∷ ls)) n)) t) (empty_place (x ∷ ls) (lower_of (count 5 (x ∷ ls)) n)) t) (sym e)
-      (subst (λ (m : ℕ). settle t 2 n (5 ∷ ls) ≡ set (set (5 ∷ ls) (empty_place (5 ∷ ls) (higher_of m n)) t) (empty_place (5 ∷ ls) (lower_of m n)) t) (sym (empty_more ls))
+  | inl e ↦ subst (λ (x : ℕ). settle t 2 n (x ∷ ls) ≡ set (set (x ∷ ls) (empty_place (x ∷ ls) (higher_of (count 5 (x ∷ ls)) n)) t)
+      (empty_place (x ∷ ls) (lower_of (count 5 (x ∷ ls)) n)) t) (sym e)
+      (subst (λ (m : ℕ). settle t 2 n (5 ∷ ls) ≡ set (set (5 ∷ ls) (empty_place (5 ∷ ls) (higher_of m n)) t) (empty_place (5 ∷ ls) (lower_of m n)) t)
+      (sym (empty_more ls))
       (five t n ls (subst (λ (m : ℕ). n < choose m 2) (ap (λ (x : ℕ). count 5 (x ∷ ls)) e ∙ empty_more ls) h) (λ k low. settle_two t k ls low)))
   | inr ne ↦ (let same : count 5 (l ∷ ls) ≡ count 5 ls = count_other 5 l ls ne in
       subst (λ (m : ℕ). settle t 2 n (l ∷ ls) ≡ set (set (l ∷ ls) (empty_place (l ∷ ls) (higher_of m n)) t) (empty_place (l ∷ ls) (lower_of m n)) t) (sym same)
@@ -122,8 +124,10 @@ settle_two t n (l ∷ ls) h = elim (cases_eq l 5) [
 ]
   where
     five : (t n : ℕ) (ls : List ℕ) → n < choose (suc (count 5 ls)) 2 →
-        ((k : ℕ) → k < choose (count 5 ls) 2 → settle t 2 k ls ≡ set (set ls (empty_place ls (higher_of (count 5 ls) k)) t) (empty_place ls (lower_of (count 5 ls) k)) t) →
-        settle t 2 n (5 ∷ ls) ≡ set (set (5 ∷ ls) (empty_place (5 ∷ ls) (higher_of (suc (count 5 ls)) n)) t) (empty_place (5 ∷ ls) (lower_of (suc (count 5 ls)) n)) t
+        ((k : ℕ) → k < choose (count 5 ls) 2
+        → settle t 2 k ls ≡ set (set ls (empty_place ls (higher_of (count 5 ls) k)) t) (empty_place ls (lower_of (count 5 ls) k)) t) →
+        settle t 2 n (5 ∷ ls) ≡ set (set (5 ∷ ls) (empty_place (5 ∷ ls) (higher_of (suc (count 5 ls)) n)) t)
+        (empty_place (5 ∷ ls) (lower_of (suc (count 5 ls)) n)) t
     five t n ls h rec =
         let first : with_first (count 5 ls) 2 ≡ count 5 ls = choose_one (count 5 ls) in
         elim (cases_lt n (count 5 ls)) [

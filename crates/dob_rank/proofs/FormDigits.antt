@@ -10,14 +10,14 @@ use Rattle.dob_pieces.specs.declared.kind.Side.{Side}
 use Rattle.dob_pieces.specs.declared.kind.Side.TheVariants.{Mover, Enemy}
 use Rattle.dob_pieces.specs.Setups.{Cell, piece_of}
 use Rattle.dob_rank.specs.Order.{form, form_of}
-use Rattle.dob_rank.specs.Numbers.{layer, layer_of, count, base_of, forms_number, cell_of, board_of}
+use Rattle.dob_rank.specs.Numbers.{order, layer, layer_of, count, base_of, forms_number, cell_of, board_of}
 use Rattle.dob_rank.proofs.MixedRadix.{digit_below}
 use Rattle.dob_rank.proofs.Choices.{count_same, count_other}
 use Rattle.dob_rank.proofs.Settled.{AreLayers}
 
 -- ---- the pieces of a layer and their forms
 
-pub form_of-below : (s : Side) (k : Kind) → form_of s k < base_of (layer_of s k)
+pub form_of-below : (s : Side) (k : Kind) → form_of s k < base_of (order (layer_of s k))
 form_of-below Mover Lion = omega arith
 form_of-below Mover Giraffe = omega arith
 form_of-below Mover Elephant = omega arith
@@ -33,7 +33,7 @@ pub form-below : (cell : Cell) → form cell < base_of (layer cell)
 form-below None = omega arith
 form-below (Some piece) = form_of-below piece.side piece.kind
 
-pub layer_of-bound : (s : Side) (k : Kind) → layer_of s k < 5
+pub layer_of-bound : (s : Side) (k : Kind) → order (layer_of s k) < 5
 layer_of-bound Mover Lion = omega arith
 layer_of-bound Mover Giraffe = omega arith
 layer_of-bound Mover Elephant = omega arith
@@ -47,14 +47,14 @@ layer_of-bound Enemy Hen = omega arith
 
 pub layer-bound : (cell : Cell) → layer cell ≤ 5
 layer-bound None = omega arith
-layer-bound (Some piece) = (let low : layer_of piece.side piece.kind < 5 = layer_of-bound piece.side piece.kind in omega arith)
+layer-bound (Some piece) = (let low : order (layer_of piece.side piece.kind) < 5 = layer_of-bound piece.side piece.kind in omega arith)
 
 pub AreLayers-map : (cells : List Cell) → AreLayers (map layer cells)
 AreLayers-map [] = tt
 AreLayers-map (cell ∷ cells) = (layer-bound cell, AreLayers-map cells)
 
 -- the cell of a piece's layer and form has that piece
-pub cell_of-piece : (s : Side) (k : Kind) → cell_of (layer_of s k) (form_of s k) ≡ Some (piece_of s k)
+pub cell_of-piece : (s : Side) (k : Kind) → cell_of (order (layer_of s k)) (form_of s k) ≡ Some (piece_of s k)
 cell_of-piece Mover Lion = refl
 cell_of-piece Mover Giraffe = refl
 cell_of-piece Mover Elephant = refl
@@ -139,7 +139,8 @@ forms_number-below t (cell ∷ cells) =
           = digit_below (form cell) (base_of t) (base_of t ^ count t (map layer cells)) (forms_number t cells) f rest in
           let number : forms_number t (cell ∷ cells) ≡ form cell * base_of t ^ count t (map layer cells) + forms_number t cells
           = forms_number_same t cell cells e in
-          subst (λ (x : ℕ). forms_number t (cell ∷ cells) < x) (sym more) (subst (λ (x : ℕ). x < base_of t * base_of t ^ count t (map layer cells)) (sym number) low))
+          subst (λ (x : ℕ). forms_number t (cell ∷ cells) < x) (sym more)
+          (subst (λ (x : ℕ). x < base_of t * base_of t ^ count t (map layer cells)) (sym number) low))
       | inr n ↦ subst (λ (x : ℕ). x < base_of t ^ count t (layer cell ∷ map layer cells)) (sym (forms_number_other t cell cells n))
           (subst (λ (x : ℕ). forms_number t cells < base_of t ^ x) (sym (count_other t (layer cell) (map layer cells) n)) rest)
     ]
@@ -157,13 +158,17 @@ board_of-back numbers [] h = refl
 board_of-back numbers (cell ∷ cells) h =
     let l : ℕ = layer cell in
     let w : ℕ = base_of (layer cell) ^ count (layer cell) (map layer cells) in
-    let more : base_of (layer cell) ^ count (layer cell) (layer cell ∷ map layer cells) ≡ base_of (layer cell) * base_of (layer cell) ^ count (layer cell) (map layer cells)
-    = ap (λ (x : ℕ). base_of (layer cell) ^ x) (count_same (layer cell) (map layer cells)) ∙ pow-succ' (base_of (layer cell)) (count (layer cell) (map layer cells)) in
+    let more : base_of (layer cell) ^ count (layer cell) (layer cell ∷ map layer cells)
+    ≡ base_of (layer cell) * base_of (layer cell) ^ count (layer cell) (map layer cells)
+    = ap (λ (x : ℕ). base_of (layer cell) ^ x) (count_same (layer cell) (map layer cells))
+    ∙ pow-succ' (base_of (layer cell)) (count (layer cell) (map layer cells)) in
     let here : numbers (layer cell) % (base_of (layer cell) * base_of (layer cell) ^ count (layer cell) (map layer cells))
     ≡ form cell * base_of (layer cell) ^ count (layer cell) (map layer cells) + forms_number (layer cell) cells
     = ap (λ (x : ℕ). numbers (layer cell) % x) (sym more) ∙ h (layer cell) ∙ forms_number_same (layer cell) cell cells refl in
-    let two = digits_apart (numbers (layer cell)) (base_of (layer cell)) (base_of (layer cell) ^ count (layer cell) (map layer cells)) (form cell) (forms_number (layer cell) cells)
-    (base_of-positive (layer cell)) (power_positive (base_of (layer cell)) (count (layer cell) (map layer cells)) (base_of-positive (layer cell))) here (forms_number-below (layer cell) cells) in
+    let two = digits_apart (numbers (layer cell)) (base_of (layer cell)) (base_of (layer cell) ^ count (layer cell) (map layer cells))
+    (form cell) (forms_number (layer cell) cells)
+    (base_of-positive (layer cell)) (power_positive (base_of (layer cell)) (count (layer cell) (map layer cells)) (base_of-positive (layer cell))) here
+    (forms_number-below (layer cell) cells) in
     let head : cell_of (layer cell) (numbers (layer cell) / base_of (layer cell) ^ count (layer cell) (map layer cells) % base_of (layer cell)) ≡ cell
     = ap (cell_of (layer cell)) two.0 ∙ cell_of-cell cell in
     let rest : board_of numbers (map layer cells) ≡ cells = board_of-back numbers cells
@@ -211,7 +216,8 @@ forms_number-board_of numbers t (l ∷ ls) h a =
     let head : layer (cell_of l (numbers l / base_of l ^ count l ls % base_of l)) ≡ l = layer-cell_of l (numbers l / base_of l ^ count l ls % base_of l) a.0 in
     elim (cases_eq l t) [
       | inl e ↦ at_layer numbers t l ls h e layers rest head
-      | inr n ↦ (let other : layer (cell_of l (numbers l / base_of l ^ count l ls % base_of l)) ≡ t → ⊥ = λ (q : layer (cell_of l (numbers l / base_of l ^ count l ls % base_of l)) ≡ t). n (sym head ∙ q) in
+      | inr n ↦ (let other : layer (cell_of l (numbers l / base_of l ^ count l ls % base_of l)) ≡ t → ⊥
+          = λ (q : layer (cell_of l (numbers l / base_of l ^ count l ls % base_of l)) ≡ t). n (sym head ∙ q) in
           forms_number_other t (cell_of l (numbers l / base_of l ^ count l ls % base_of l)) (board_of numbers ls) other
           ∙ rest ∙ ap (λ (x : ℕ). numbers t % base_of t ^ x) (sym (count_other t l ls n)))
     ]

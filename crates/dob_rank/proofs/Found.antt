@@ -1,16 +1,14 @@
 -- What the lists and numbers of the code amount to: the rank of a position, and the position of a rank.
-use Rattle.std.proofs.Common.{◌≡◌, ℕ, zero, suc, ◌+◌, ◌-◌, ◌*◌, ◌<◌, ◌≤◌, List, [], ◌∷◌, replicate, refl, sym, ap, ◌∙◌, subst, inl, inr, arith}
-use Rattle.std.specs.List.{All}
-use Rattle.std.proofs.lemmas.Bool.{cases_eq, cases_lt}
+use Rattle.std.proofs.Common.{◌≡◌, ℕ, ◌+◌, ◌*◌, ◌<◌, ◌≤◌, List, refl, sym, ap, ◌∙◌, subst, inl, inr, arith}
 use Rattle.dob_pieces.specs.declared.piece_set.PieceSet.{PieceSet}
 use Rattle.dob_pieces.specs.declared.setup.Setup.{Setup}
 use Rattle.dob_pieces.specs.Setups.{IsLegal, mirrored}
 use Rattle.dob_pieces.proofs.Boards.{total-mirrored, IsLegal-mirrored}
 use Rattle.dob_pieces.proofs.Symmetries.{mirrored-mirrored}
 use Rattle.dob_rank.specs.Order.{IsPositionOf, Before, RepresentativeOf}
-use Rattle.dob_rank.specs.Numbers.{count, with_first, settle, product, number_of, digits_of, HasDigits, sum_below, block_bases, bases_by, on_board, digits, block_of, block_size, rank_of, setup_by, setup_in}
+use Rattle.dob_rank.specs.Numbers.{product, number_of, digits_of, HasDigits, sum_below, block_bases, bases_by}
+use Rattle.dob_rank.specs.Numbers.{on_board, digits, block_of, block_size, rank_of, setup_by, setup_in}
 use Rattle.dob_rank.proofs.MixedRadix.{HasDigits-digits_of}
-use Rattle.dob_rank.proofs.Settled.{AreLayers, settle_kept, settle_taken, settle_left}
 use Rattle.dob_rank.proofs.Digits.{HasParts-from_position, HasDigits-on_board, HasDigits-digits}
 use Rattle.dob_rank.proofs.Numbering.{HasBlock, HasBlock-setup_in, block_size-product, block_of-below, place_of-below, rank_of-place, place_of, rank_of-rises}
 use Rattle.dob_rank.proofs.Blocks.{block_size-small}
@@ -22,9 +20,11 @@ HasDigits-same bs cs ds es p q h = subst (λ (xs : List ℕ). HasDigits xs ds) (
 -- ---- the rank of a position
 
 pub HasDigits-board : (set : PieceSet) (s : Setup) (nums : List ℕ) → IsPositionOf set s → nums ≡ on_board s → HasDigits (block_bases set) nums
-HasDigits-board set s nums p e = HasDigits-same (block_bases set) (block_bases set) nums (on_board s) refl e (HasDigits-on_board set s (HasParts-from_position set s p))
+HasDigits-board set s nums p e
+    = HasDigits-same (block_bases set) (block_bases set) nums (on_board s) refl e (HasDigits-on_board set s (HasParts-from_position set s p))
 
-pub HasDigits-place : (set : PieceSet) (s : Setup) (nums bs ds : List ℕ) → IsPositionOf set s → nums ≡ on_board s → bs ≡ bases_by set nums → ds ≡ digits s → HasDigits bs ds
+pub HasDigits-place : (set : PieceSet) (s : Setup) (nums bs ds : List ℕ) → IsPositionOf set s → nums ≡ on_board s
+    → bs ≡ bases_by set nums → ds ≡ digits s → HasDigits bs ds
 HasDigits-place set s nums bs ds p e f g =
     HasDigits-same bs (bases_by set (on_board s)) ds (digits s) (f ∙ ap (bases_by set) e) g (HasDigits-digits set s (HasParts-from_position set s p))
 
@@ -62,11 +62,13 @@ ranked set s block place start block_is place_is g =
 
 -- ---- the position of a rank
 
-pub place_in : (set : PieceSet) (block place : ℕ) (nums : List ℕ) → place < block_size set block → nums ≡ digits_of (block_bases set) block → place < product (bases_by set nums)
+pub place_in : (set : PieceSet) (block place : ℕ) (nums : List ℕ) → place < block_size set block
+    → nums ≡ digits_of (block_bases set) block → place < product (bases_by set nums)
 place_in set block place nums h e =
     subst (λ (x : ℕ). place < x) (block_size-product set block ∙ ap (λ (xs : List ℕ). product (bases_by set xs)) (sym e)) h
 
-pub HasDigits-found : (set : PieceSet) (block place : ℕ) (nums bs ds : List ℕ) → place < block_size set block → nums ≡ digits_of (block_bases set) block → bs ≡ bases_by set nums
+pub HasDigits-found : (set : PieceSet) (block place : ℕ) (nums bs ds : List ℕ) → place < block_size set block
+    → nums ≡ digits_of (block_bases set) block → bs ≡ bases_by set nums
     → ds ≡ digits_of bs place → HasDigits (bases_by set nums) ds
 HasDigits-found set block place nums bs ds h e f g =
     subst (HasDigits (bases_by set nums)) (sym (g ∙ ap (λ (xs : List ℕ). digits_of xs place) f))
@@ -85,34 +87,6 @@ pub made_same : (set : PieceSet) (block place : ℕ) (s t : Setup) → t ≡ s �
 made_same set block place s t e h = subst (HasBlock set block place) (sym e) h
 
 -- ---- layers settled are layers
-
-pub AreLayers-settle : (t pieces number : ℕ) (ls : List ℕ) → t ≤ 5 → AreLayers ls → AreLayers (settle t pieces number ls)
-AreLayers-settle t pieces number [] h a = tt
-AreLayers-settle t pieces number (l ∷ ls) h a = elim (cases_eq l 5) [
-  | inr n ↦ subst AreLayers (sym (settle_kept t pieces number l ls n)) (a.0, AreLayers-settle t pieces number ls h a.1)
-  | inl e ↦ subst (λ (x : ℕ). AreLayers (settle t pieces number (x ∷ ls))) (sym e) (elim (cases_lt number (with_first (count 5 ls) pieces)) [
-    | inl lt ↦ subst AreLayers (sym (settle_taken t pieces number ls lt)) (h, AreLayers-settle t (pieces - 1) number ls h a.1)
-    | inr le ↦ subst AreLayers (sym (settle_left t pieces number ls le)) ((omega arith), AreLayers-settle t pieces (number - with_first (count 5 ls) pieces) ls h a.1)
-  ])
-]
-
-all_layers : (ls : List ℕ) → AreLayers ls → All (λ (t : ℕ). t ≤ 5) ls
-all_layers [] a k d l = absurd (omega arith)
-all_layers (x ∷ ls) a zero d l = a.0
-all_layers (x ∷ ls) a (suc k) d l = all_layers ls a.1 k d (omega arith)
-
-layers_replicated : (n : ℕ) → AreLayers (replicate n 5)
-layers_replicated zero = tt
-layers_replicated (suc n) = ((omega arith), layers_replicated n)
-
-pub five_layers : (i j k n0 n1 n2 n3 n4 : ℕ) (a b c d e : List ℕ) → a ≡ settle 0 1 n0 (replicate 12 5) → b ≡ settle 1 1 n1 a → c ≡ settle 2 i n2 b → d ≡ settle 3 j n3 c → e ≡ settle 4 k n4 d
-    → All (λ (t : ℕ). t ≤ 5) e
-five_layers i j k n0 n1 n2 n3 n4 a b c d e p q r s t =
-    all_layers e (subst AreLayers (sym t) (AreLayers-settle 4 k n4 d (omega arith)
-    (subst AreLayers (sym s) (AreLayers-settle 3 j n3 c (omega arith)
-    (subst AreLayers (sym r) (AreLayers-settle 2 i n2 b (omega arith)
-    (subst AreLayers (sym q) (AreLayers-settle 1 1 n1 a (omega arith)
-    (subst AreLayers (sym p) (AreLayers-settle 0 1 n0 (replicate 12 5) (omega arith) (layers_replicated 12)))))))))))
 
 -- ---- the earlier of a position and its mirror image
 

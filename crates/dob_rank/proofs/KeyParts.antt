@@ -1,5 +1,6 @@
 -- The parts of the key against the digits: squares against choices, forms against forms numbers.
-use Rattle.std.proofs.Common.{◌≡◌, ℕ, zero, suc, ◌+◌, ◌*◌, ◌^◌, ◌<◌, ◌≤◌, cond, eqb, List, [], ◌∷◌, length, map, replicate, refl, sym, ap, ◌∙◌, subst, inl, inr, arith}
+use Rattle.std.proofs.Common.{◌≡◌, ℕ, zero, suc, ◌+◌, ◌*◌, ◌^◌, ◌<◌, ◌≤◌, cond, eqb, List, [], ◌∷◌, length, map, replicate, refl, sym, ap}
+use Rattle.std.proofs.Common.{◌∙◌, subst, inl, inr, arith}
 use Rattle.std.specs.List.{filter}
 use Rattle.std.proofs.lemmas.Bool.{cases_eq, cases_lt, eq-eqb, ne_eqb}
 use Rattle.std.proofs.Math.Nat.{pow-zero, pow-succ'}
@@ -7,7 +8,8 @@ use Rattle.dob_pieces.specs.Setups.{Cell}
 use Rattle.dob_rank.specs.Order.{Precedes, form}
 use Rattle.dob_rank.specs.Numbers.{layer, count, count_from, with_first, choice, product, number_of, HasDigits, base_of, forms_number}
 use Rattle.dob_rank.proofs.MixedRadix.{number_of-rises}
-use Rattle.dob_rank.proofs.Choices.{Alike, layer_squares, layer_squares_same, layer_squares_other, count_same, count_other, count_from-alike, choice_later, choice_not_later}
+use Rattle.dob_rank.proofs.Choices.{Alike, layer_squares, layer_squares_same, layer_squares_other, count_same, count_other}
+use Rattle.dob_rank.proofs.Choices.{count_from-alike, choice_later, choice_not_later}
 use Rattle.dob_rank.proofs.FormDigits.{form-below, forms_number_same, forms_number_other}
 
 -- ---- squares
@@ -99,30 +101,37 @@ product-replicate b (suc n) = ap (λ (x : ℕ). b * x) (product-replicate b n) �
 pub HasDigits-layer_forms : (t : ℕ) (cells : List Cell) → HasDigits (replicate (count t (map layer cells)) (base_of t)) (layer_forms t cells)
 HasDigits-layer_forms t [] = tt
 HasDigits-layer_forms t (cell ∷ cells) = elim (cases_eq (layer cell) t) [
-  | inl e ↦ subst (λ (n : ℕ). HasDigits (replicate n (base_of t)) (layer_forms t (cell ∷ cells))) (sym (ap (λ (x : ℕ). count t (x ∷ map layer cells)) e ∙ count_same t (map layer cells)))
+  | inl e ↦ subst (λ (n : ℕ). HasDigits (replicate n (base_of t)) (layer_forms t (cell ∷ cells)))
+      (sym (ap (λ (x : ℕ). count t (x ∷ map layer cells)) e ∙ count_same t (map layer cells)))
       (subst (λ (xs : List ℕ). HasDigits (base_of t ∷ replicate (count t (map layer cells)) (base_of t)) xs) (sym (layer_forms_same t cell cells e))
       (subst (λ (x : ℕ). form cell < base_of x) e (form-below cell), HasDigits-layer_forms t cells))
   | inr n ↦ subst (λ (m : ℕ). HasDigits (replicate m (base_of t)) (layer_forms t (cell ∷ cells))) (sym (count_other t (layer cell) (map layer cells) n))
-      (subst (λ (xs : List ℕ). HasDigits (replicate (count t (map layer cells)) (base_of t)) xs) (sym (layer_forms_other t cell cells n)) (HasDigits-layer_forms t cells))
+      (subst (λ (xs : List ℕ). HasDigits (replicate (count t (map layer cells)) (base_of t)) xs)
+      (sym (layer_forms_other t cell cells n)) (HasDigits-layer_forms t cells))
 ]
 
-pub forms_number-digits : (t : ℕ) (cells : List Cell) → forms_number t cells ≡ number_of (replicate (count t (map layer cells)) (base_of t)) (layer_forms t cells)
+pub forms_number-digits : (t : ℕ) (cells : List Cell)
+    → forms_number t cells ≡ number_of (replicate (count t (map layer cells)) (base_of t)) (layer_forms t cells)
 forms_number-digits t [] = refl
 forms_number-digits t (cell ∷ cells) = elim (cases_eq (layer cell) t) [
   | inl e ↦ forms_number_same t cell cells e
       ∙ ap (λ (x : ℕ). form cell * base_of t ^ count t (map layer cells) + x) (forms_number-digits t cells)
-      ∙ ap (λ (x : ℕ). form cell * x + number_of (replicate (count t (map layer cells)) (base_of t)) (layer_forms t cells)) (sym (product-replicate (base_of t) (count t (map layer cells))))
+      ∙ ap (λ (x : ℕ). form cell * x + number_of (replicate (count t (map layer cells)) (base_of t)) (layer_forms t cells))
+      (sym (product-replicate (base_of t) (count t (map layer cells))))
       ∙ ap (λ (xs : List ℕ). number_of (base_of t ∷ replicate (count t (map layer cells)) (base_of t)) xs) (sym (layer_forms_same t cell cells e))
-      ∙ ap (λ (n : ℕ). number_of (replicate n (base_of t)) (layer_forms t (cell ∷ cells))) (sym (ap (λ (x : ℕ). count t (x ∷ map layer cells)) e ∙ count_same t (map layer cells)))
+      ∙ ap (λ (n : ℕ). number_of (replicate n (base_of t)) (layer_forms t (cell ∷ cells)))
+      (sym (ap (λ (x : ℕ). count t (x ∷ map layer cells)) e ∙ count_same t (map layer cells)))
   | inr n ↦ forms_number_other t cell cells n ∙ forms_number-digits t cells
       ∙ ap (λ (xs : List ℕ). number_of (replicate (count t (map layer cells)) (base_of t)) xs) (sym (layer_forms_other t cell cells n))
       ∙ ap (λ (m : ℕ). number_of (replicate m (base_of t)) (layer_forms t (cell ∷ cells))) (sym (count_other t (layer cell) (map layer cells) n))
 ]
 
 -- earlier forms have a lower number, and the same forms the same
-pub forms_number-rises : (t : ℕ) (xs ys : List Cell) → count t (map layer xs) ≡ count t (map layer ys) → Precedes (layer_forms t xs) (layer_forms t ys) → forms_number t xs < forms_number t ys
+pub forms_number-rises : (t : ℕ) (xs ys : List Cell) → count t (map layer xs) ≡ count t (map layer ys)
+    → Precedes (layer_forms t xs) (layer_forms t ys) → forms_number t xs < forms_number t ys
 forms_number-rises t xs ys c p =
-    let low : number_of (replicate (count t (map layer ys)) (base_of t)) (layer_forms t xs) < number_of (replicate (count t (map layer ys)) (base_of t)) (layer_forms t ys)
+    let low : number_of (replicate (count t (map layer ys)) (base_of t)) (layer_forms t xs)
+    < number_of (replicate (count t (map layer ys)) (base_of t)) (layer_forms t ys)
     = number_of-rises (replicate (count t (map layer ys)) (base_of t)) (layer_forms t xs) (layer_forms t ys)
     (subst (λ (n : ℕ). HasDigits (replicate n (base_of t)) (layer_forms t xs)) c (HasDigits-layer_forms t xs)) (HasDigits-layer_forms t ys) p in
     let x : forms_number t xs ≡ number_of (replicate (count t (map layer ys)) (base_of t)) (layer_forms t xs)
@@ -130,7 +139,8 @@ forms_number-rises t xs ys c p =
     let y : forms_number t ys ≡ number_of (replicate (count t (map layer ys)) (base_of t)) (layer_forms t ys) = forms_number-digits t ys in
     omega arith
 
-pub forms_number-alike : (t : ℕ) (xs ys : List Cell) → count t (map layer xs) ≡ count t (map layer ys) → layer_forms t xs ≡ layer_forms t ys → forms_number t xs ≡ forms_number t ys
+pub forms_number-alike : (t : ℕ) (xs ys : List Cell) → count t (map layer xs) ≡ count t (map layer ys)
+    → layer_forms t xs ≡ layer_forms t ys → forms_number t xs ≡ forms_number t ys
 forms_number-alike t xs ys c e =
     forms_number-digits t xs ∙ ap (λ (n : ℕ). number_of (replicate n (base_of t)) (layer_forms t xs)) c
     ∙ ap (number_of (replicate (count t (map layer ys)) (base_of t))) e ∙ sym (forms_number-digits t ys)

@@ -42,9 +42,11 @@ join_same a b c d p q = cc
 pub key-layers : (s : Setup) → key s ≡ on_board s ++ (hand_list s ++ squares_key s)
 unfolding key
 key-layers s =
-    let c : (t : ℕ) (kind : HandKind) → ((cell : Cell) → holds_kind kind cell ≡ eqb (layer cell) t) → count_by (holds_kind kind) s.board ≡ count t (map layer s.board)
+    let c : (t : ℕ) (kind : HandKind) → ((cell : Cell) → holds_kind kind cell ≡ eqb (layer cell) t)
+    → count_by (holds_kind kind) s.board ≡ count t (map layer s.board)
     = λ t kind h. count-layer (holds_kind kind) t h s.board in
-    join_same _ _ _ _ (three_same _ _ _ _ _ _ (c 2 hand.Chick (holds_kind-layer hand.Chick)) (c 3 hand.Elephant (holds_kind-layer hand.Elephant)) (c 4 hand.Giraffe (holds_kind-layer hand.Giraffe)))
+    join_same _ _ _ _ (three_same _ _ _ _ _ _ (c 2 hand.Chick (holds_kind-layer hand.Chick)) (c 3 hand.Elephant (holds_kind-layer hand.Elephant))
+    (c 4 hand.Giraffe (holds_kind-layer hand.Giraffe)))
     (ap (λ (xs : List ℕ). hand_list s ++ xs)
     (join_same _ _ _ _ (squares-layer (holds_lion Mover) 0 holds_mover_lion 0 s.board)
     (join_same _ _ _ _ (squares-layer (holds_lion Enemy) 1 holds_enemy_lion 0 s.board)
@@ -66,7 +68,8 @@ choice_part t xs ys c d c' d' a e p rest =
     ]
 
 -- a layer's forms, and what follows them
-forms_part : (t : ℕ) (xs ys : List Cell) (c d c' d' : List ℕ) → count t (map layer xs) ≡ count t (map layer ys) → Precedes (layer_forms t xs ++ c) (layer_forms t ys ++ d)
+forms_part : (t : ℕ) (xs ys : List Cell) (c d c' d' : List ℕ) → count t (map layer xs) ≡ count t (map layer ys)
+    → Precedes (layer_forms t xs ++ c) (layer_forms t ys ++ d)
     → (Precedes c d → Precedes c' d') → Precedes (forms_number t xs ∷ c') (forms_number t ys ∷ d')
 forms_part t xs ys c d c' d' e p rest =
     elim (Precedes-split (layer_forms t xs) (layer_forms t ys) c d (length-layer_forms t xs ∙ e ∙ sym (length-layer_forms t ys)) p) [
@@ -92,7 +95,8 @@ squares_digits s =
     choice 0 (map layer s.board) ∷ choice 1 (map layer s.board) ∷ choice 2 (map layer s.board) ∷ choice 3 (map layer s.board) ∷ choice 4 (map layer s.board)
     ∷ forms_digits s
 
-squares_key-rises : (set : PieceSet) (p q : Setup) → HasParts set p → HasParts set q → on_board p ≡ on_board q → Precedes (squares_key p) (squares_key q) → Precedes (squares_digits p) (squares_digits q)
+squares_key-rises : (set : PieceSet) (p q : Setup) → HasParts set p → HasParts set q → on_board p ≡ on_board q
+    → Precedes (squares_key p) (squares_key q) → Precedes (squares_digits p) (squares_digits q)
 squares_key-rises set p q hp hq e h =
     let xs : List ℕ = map layer p.board in
     let ys : List ℕ = map layer q.board in
@@ -143,7 +147,8 @@ pub Before-digits : (set : PieceSet) (p q : Setup) → IsPositionOf set p → Is
 unfolding Before
 Before-digits set p q hp hq h =
     let h' : Precedes (on_board p ++ (hand_list p ++ squares_key p)) (on_board q ++ (hand_list q ++ squares_key q))
-    = subst (λ (xs : List ℕ). Precedes xs (on_board q ++ (hand_list q ++ squares_key q))) (key-layers p) (subst (λ (xs : List ℕ). Precedes (key p) xs) (key-layers q) h) in
+    = subst (λ (xs : List ℕ). Precedes xs (on_board q ++ (hand_list q ++ squares_key q))) (key-layers p)
+    (subst (λ (xs : List ℕ). Precedes (key p) xs) (key-layers q) h) in
     elim (Precedes-split (on_board p) (on_board q) (hand_list p ++ squares_key p) (hand_list q ++ squares_key q) refl h') [
       | inl lt ↦ inl lt
       | inr r ↦ inr (r.0, digits-rise set p q (HasParts-from_position set p hp) (HasParts-from_position set q hq) r.0 r.1)
@@ -157,7 +162,8 @@ record IsSamePart (t : ℕ) (xs ys c d : List ℕ) : Type 0 where
   choice_is : choice t xs ≡ choice t ys
   rest_is : c ≡ d
 
-same_part : (t : ℕ) (xs ys c d : List ℕ) → Alike t xs ys → count t xs ≡ count t ys → layer_squares t 0 xs ++ c ≡ layer_squares t 0 ys ++ d → IsSamePart t xs ys c d
+same_part : (t : ℕ) (xs ys c d : List ℕ) → Alike t xs ys → count t xs ≡ count t ys
+    → layer_squares t 0 xs ++ c ≡ layer_squares t 0 ys ++ d → IsSamePart t xs ys c d
 same_part t xs ys c d a e h =
     let r = append-same (layer_squares t 0 xs) (layer_squares t 0 ys) c d (length-layer_squares t 0 xs ∙ e ∙ sym (length-layer_squares t 0 ys)) h in
     let next : Alike (suc t) xs ys = Alike-next t 0 xs ys a r.0 in
@@ -168,16 +174,20 @@ same_forms p q e h =
     let c2 : count 2 (map layer p.board) ≡ count 2 (map layer q.board) = cc in
     let c3 : count 3 (map layer p.board) ≡ count 3 (map layer q.board) = cc in
     let c4 : count 4 (map layer p.board) ≡ count 4 (map layer q.board) = cc in
-    let r2 = append-same (layer_forms 2 p.board) (layer_forms 2 q.board) (layer_forms 3 p.board ++ layer_forms 4 p.board) (layer_forms 3 q.board ++ layer_forms 4 q.board)
+    let r2 = append-same (layer_forms 2 p.board) (layer_forms 2 q.board) (layer_forms 3 p.board ++ layer_forms 4 p.board)
+    (layer_forms 3 q.board ++ layer_forms 4 q.board)
     (length-layer_forms 2 p.board ∙ c2 ∙ sym (length-layer_forms 2 q.board)) h in
     let r3 = append-same (layer_forms 3 p.board) (layer_forms 3 q.board) (layer_forms 4 p.board) (layer_forms 4 q.board)
     (length-layer_forms 3 p.board ∙ c3 ∙ sym (length-layer_forms 3 q.board)) r2.1 in
-    three_same _ _ _ _ _ _ (forms_number-alike 2 p.board q.board c2 r2.0) (forms_number-alike 3 p.board q.board c3 r3.0) (forms_number-alike 4 p.board q.board c4 r3.1)
+    three_same _ _ _ _ _ _ (forms_number-alike 2 p.board q.board c2 r2.0) (forms_number-alike 3 p.board q.board c3 r3.0)
+    (forms_number-alike 4 p.board q.board c4 r3.1)
 
-five_same : (a b c d e a' b' c' d' e' : ℕ) (xs ys : List ℕ) → a ≡ a' → b ≡ b' → c ≡ c' → d ≡ d' → e ≡ e' → xs ≡ ys → a ∷ b ∷ c ∷ d ∷ e ∷ xs ≡ a' ∷ b' ∷ c' ∷ d' ∷ e' ∷ ys
+five_same : (a b c d e a' b' c' d' e' : ℕ) (xs ys : List ℕ) → a ≡ a' → b ≡ b' → c ≡ c' → d ≡ d' → e ≡ e'
+    → xs ≡ ys → a ∷ b ∷ c ∷ d ∷ e ∷ xs ≡ a' ∷ b' ∷ c' ∷ d' ∷ e' ∷ ys
 five_same a b c d e a' b' c' d' e' xs ys p q r s t u = cc
 
-same_squares : (set : PieceSet) (p q : Setup) → HasParts set p → HasParts set q → on_board p ≡ on_board q → squares_key p ≡ squares_key q → squares_digits p ≡ squares_digits q
+same_squares : (set : PieceSet) (p q : Setup) → HasParts set p → HasParts set q → on_board p ≡ on_board q
+    → squares_key p ≡ squares_key q → squares_digits p ≡ squares_digits q
 same_squares set p q hp hq e h =
     let xs : List ℕ = map layer p.board in
     let ys : List ℕ = map layer q.board in
@@ -185,8 +195,10 @@ same_squares set p q hp hq e h =
     let c3 : count 3 (map layer p.board) ≡ count 3 (map layer q.board) = cc in
     let c4 : count 4 (map layer p.board) ≡ count 4 (map layer q.board) = cc in
     let s0 : IsSamePart 0 (map layer p.board) (map layer q.board)
-    (layer_squares 1 0 (map layer p.board) ++ (layer_squares 2 0 (map layer p.board) ++ (layer_squares 3 0 (map layer p.board) ++ (layer_squares 4 0 (map layer p.board) ++ forms_key p))))
-    (layer_squares 1 0 (map layer q.board) ++ (layer_squares 2 0 (map layer q.board) ++ (layer_squares 3 0 (map layer q.board) ++ (layer_squares 4 0 (map layer q.board) ++ forms_key q))))
+    (layer_squares 1 0 (map layer p.board)
+    ++ (layer_squares 2 0 (map layer p.board) ++ (layer_squares 3 0 (map layer p.board) ++ (layer_squares 4 0 (map layer p.board) ++ forms_key p))))
+    (layer_squares 1 0 (map layer q.board)
+    ++ (layer_squares 2 0 (map layer q.board) ++ (layer_squares 3 0 (map layer q.board) ++ (layer_squares 4 0 (map layer q.board) ++ forms_key q))))
     = same_part 0 _ _ _ _ (Alike-start xs ys (hp.squares ∙ sym hq.squares)) (hp.own_lion ∙ sym hq.own_lion) h in
     let s1 : IsSamePart 1 (map layer p.board) (map layer q.board)
     (layer_squares 2 0 (map layer p.board) ++ (layer_squares 3 0 (map layer p.board) ++ (layer_squares 4 0 (map layer p.board) ++ forms_key p)))
@@ -196,7 +208,8 @@ same_squares set p q hp hq e h =
     (layer_squares 3 0 (map layer p.board) ++ (layer_squares 4 0 (map layer p.board) ++ forms_key p))
     (layer_squares 3 0 (map layer q.board) ++ (layer_squares 4 0 (map layer q.board) ++ forms_key q))
     = same_part 2 _ _ _ _ s1.alike c2 s1.rest_is in
-    let s3 : IsSamePart 3 (map layer p.board) (map layer q.board) (layer_squares 4 0 (map layer p.board) ++ forms_key p) (layer_squares 4 0 (map layer q.board) ++ forms_key q)
+    let s3 : IsSamePart 3 (map layer p.board) (map layer q.board) (layer_squares 4 0 (map layer p.board) ++ forms_key p)
+    (layer_squares 4 0 (map layer q.board) ++ forms_key q)
     = same_part 3 _ _ _ _ s2.alike c3 s2.rest_is in
     let s4 : IsSamePart 4 (map layer p.board) (map layer q.board) (forms_key p) (forms_key q)
     = same_part 4 _ _ _ _ s3.alike c4 s3.rest_is in

@@ -1,5 +1,6 @@
 -- Layers and what a board's tests count.
-use Rattle.std.proofs.Common.{◌≡◌, ℕ, zero, suc, ◌+◌, ◌-◌, ◌<◌, ◌≤◌, Bool, true, false, cond, eqb, List, [], ◌∷◌, Some, None, length, map, get_or, refl, sym, ap, ◌∙◌, subst, inl, inr, arith}
+use Rattle.std.proofs.Common.{◌≡◌, ℕ, zero, suc, ◌+◌, ◌-◌, ◌<◌, ◌≤◌, Bool, true, false, cond, eqb, List, [], ◌∷◌, Some, None, length, map}
+use Rattle.std.proofs.Common.{get_or, refl, sym, ap, ◌∙◌, subst, inl, inr, arith}
 use Rattle.std.specs.List.{count_by}
 use Rattle.std.proofs.lemmas.Bool.{cases_order, cases_lt, cases_eq}
 use Rattle.std.proofs.lemmas.List.Recursion.{is_count_by}
@@ -11,7 +12,7 @@ use Rattle.dob_pieces.specs.declared.kind.Side.{Side}
 use Rattle.dob_pieces.specs.declared.kind.Side.TheVariants.{Mover, Enemy}
 use Rattle.dob_pieces.specs.Setups.{Cell, piece_of, holds_lion, holds_kind}
 use Rattle.dob_rank.specs.Order.{squares_from}
-use Rattle.dob_rank.specs.Numbers.{layer, layer_of, count, count_from, with_first, choice, settle}
+use Rattle.dob_rank.specs.Numbers.{order, layer, layer_of, count, count_from, with_first, choice, settle}
 use Rattle.dob_rank.proofs.Choices.{count_same, count_other, count_from_lower, count_from_later, choice_later, choice_not_later, layer_squares}
 use Rattle.dob_rank.proofs.Settled.{AreShown, AreLayers, settle_kept, settle_taken, settle_left}
 
@@ -123,7 +124,7 @@ pub holds_mover_lion : (cell : Cell) → holds_lion Mover cell ≡ eqb (layer ce
 holds_mover_lion None = refl
 holds_mover_lion (Some piece) = of_piece piece.side piece.kind
   where
-    of_piece : (s : Side) (k : Kind) → holds_lion Mover (Some (piece_of s k)) ≡ eqb (layer_of s k) 0
+    of_piece : (s : Side) (k : Kind) → holds_lion Mover (Some (piece_of s k)) ≡ eqb (order (layer_of s k)) 0
     of_piece Mover Lion = refl
     of_piece Mover Giraffe = refl
     of_piece Mover Elephant = refl
@@ -139,7 +140,7 @@ pub holds_enemy_lion : (cell : Cell) → holds_lion Enemy cell ≡ eqb (layer ce
 holds_enemy_lion None = refl
 holds_enemy_lion (Some piece) = of_piece piece.side piece.kind
   where
-    of_piece : (s : Side) (k : Kind) → holds_lion Enemy (Some (piece_of s k)) ≡ eqb (layer_of s k) 1
+    of_piece : (s : Side) (k : Kind) → holds_lion Enemy (Some (piece_of s k)) ≡ eqb (order (layer_of s k)) 1
     of_piece Mover Lion = refl
     of_piece Mover Giraffe = refl
     of_piece Mover Elephant = refl
@@ -163,7 +164,7 @@ holds_kind-layer hand.Elephant None = refl
 holds_kind-layer hand.Giraffe None = refl
 holds_kind-layer kind (Some piece) = of_piece kind piece.side piece.kind
   where
-    of_piece : (kind : HandKind) (s : Side) (k : Kind) → holds_kind kind (Some (piece_of s k)) ≡ eqb (layer_of s k) (layer_of_kind kind)
+    of_piece : (kind : HandKind) (s : Side) (k : Kind) → holds_kind kind (Some (piece_of s k)) ≡ eqb (order (layer_of s k)) (layer_of_kind kind)
     of_piece hand.Chick Mover Lion = refl
     of_piece hand.Chick Mover Giraffe = refl
     of_piece hand.Chick Mover Elephant = refl
@@ -196,16 +197,19 @@ holds_kind-layer kind (Some piece) = of_piece kind piece.side piece.kind
     of_piece hand.Giraffe Enemy Hen = refl
 
 -- what passes a test that tells a layer is as many as the layer has, on the squares of the layer
-pub count-layer : (test : Cell → Bool) (t : ℕ) → ((cell : Cell) → test cell ≡ eqb (layer cell) t) → (cells : List Cell) → count_by test cells ≡ count t (map layer cells)
+pub count-layer : (test : Cell → Bool) (t : ℕ) → ((cell : Cell) → test cell ≡ eqb (layer cell) t)
+    → (cells : List Cell) → count_by test cells ≡ count t (map layer cells)
 count-layer test t h cells = sym (is_count_by (λ (xs : List Cell). count t (map layer xs)) test refl
-    (λ x xs. subst (λ (b : Bool). cond (eqb (layer x) t) 1 0 + count t (map layer xs) ≡ cond b (1 + count t (map layer xs)) (count t (map layer xs))) (sym (h x))
+    (λ x xs. subst (λ (b : Bool). cond (eqb (layer x) t) 1 0 + count t (map layer xs) ≡ cond b (1 + count t (map layer xs)) (count t (map layer xs)))
+    (sym (h x))
     (one_more (eqb (layer x) t) (count t (map layer xs)))) cells)
   where
     one_more : (b : Bool) (n : ℕ) → cond b 1 0 + n ≡ cond b (1 + n) n
     one_more true n = refl
     one_more false n = omega arith
 
-pub squares-layer : (test : Cell → Bool) (t : ℕ) → ((cell : Cell) → test cell ≡ eqb (layer cell) t) → (from : ℕ) (cells : List Cell) → squares_from from test cells ≡ layer_squares t from (map layer cells)
+pub squares-layer : (test : Cell → Bool) (t : ℕ) → ((cell : Cell) → test cell ≡ eqb (layer cell) t) → (from : ℕ) (cells : List Cell)
+    → squares_from from test cells ≡ layer_squares t from (map layer cells)
 squares-layer test t h from [] = refl
 squares-layer test t h from (cell ∷ cells) =
     ap (λ (b : Bool). cond b (from ∷ squares_from (suc from) test cells) (squares_from (suc from) test cells)) (h cell)
@@ -216,7 +220,7 @@ pub mover_lion : (cell : Cell) → layer cell ≡ 0 → cell ≡ Some (piece_of 
 mover_lion None h = absurd (let five : 5 ≡ 0 = h in omega arith)
 mover_lion (Some piece) h = of_piece piece.side piece.kind h
   where
-    of_piece : (s : Side) (k : Kind) → layer_of s k ≡ 0 → Some (piece_of s k) ≡ Some (piece_of Mover Lion)
+    of_piece : (s : Side) (k : Kind) → order (layer_of s k) ≡ 0 → Some (piece_of s k) ≡ Some (piece_of Mover Lion)
     of_piece Mover Lion e = refl
     of_piece Mover Giraffe e = absurd (omega arith)
     of_piece Mover Elephant e = absurd (omega arith)

@@ -1,7 +1,8 @@
 -- What the lions' squares say of a position and its mirror image.
-use Rattle.std.proofs.Common.{◌≡◌, ℕ, zero, suc, ◌+◌, ◌*◌, ◌/◌, ◌%◌, ◌<◌, Bool, true, eqb, ltb, List, [], ◌∷◌, None, length, map, replicate, slice_index_or, refl, sym, ap, ◌∙◌, subst, arith}
+use Rattle.std.proofs.Common.{◌≡◌, ℕ, zero, suc, ◌+◌, ◌*◌, ◌/◌, ◌%◌, ◌<◌, Bool, true, eqb, ltb, List, [], ◌∷◌, None, length, map, replicate}
+use Rattle.std.proofs.Common.{slice_index_or, refl, sym, ap, ◌∙◌, subst, arith}
 use Rattle.std.specs.List.{range_with_len}
-use Rattle.std.proofs.lemmas.Bool.{eqb-true, ltb-true}
+use Rattle.std.proofs.lemmas.Bool.{ltb-true}
 use Rattle.std.proofs.lemmas.List.{length-map}
 use Rattle.dob_pieces.specs.declared.piece_set.PieceSet.{PieceSet}
 use Rattle.dob_pieces.specs.declared.setup.Setup.{Setup}
@@ -159,6 +160,3 @@ first_lions lions below is = ltb-true lions (image_lions lions) (tells_at lions 
 
 pub later_lions : (lions : ℕ) → lions < 99 → run_kind lions ≡ Later → image_lions lions < lions
 later_lions lions below is = ltb-true (image_lions lions) lions (tells_at lions Later below is)
-
-pub mixed_lions : (lions : ℕ) → lions < 99 → run_kind lions ≡ Mixed → lions ≡ image_lions lions
-mixed_lions lions below is = eqb-true lions (image_lions lions) (tells_at lions Mixed below is)

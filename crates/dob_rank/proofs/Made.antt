@@ -1,5 +1,6 @@
 -- The setup made of digits that are below their bases: it is a position of the set, and has those digits.
-use Rattle.std.proofs.Common.{◌≡◌, ℕ, suc, ◌+◌, ◌-◌, ◌%◌, ◌^◌, ◌<◌, ◌≤◌, ◌⊎◌, List, [], ◌∷◌, length, map, replicate, get_or, refl, sym, ap, ◌∙◌, subst, inr, arith}
+use Rattle.std.proofs.Common.{◌≡◌, ℕ, suc, ◌+◌, ◌-◌, ◌%◌, ◌^◌, ◌<◌, ◌≤◌, ◌⊎◌, List, [], ◌∷◌, length, map, replicate, get_or, refl, sym, ap}
+use Rattle.std.proofs.Common.{◌∙◌, subst, inr, arith}
 use Rattle.std.proofs.lemmas.List.{length-map}
 use Rattle.std.proofs.Math.Nat.{mod-eq_of_lt}
 use Rattle.dob_pieces.specs.declared.kind.HandKind.{HandKind}
@@ -9,10 +10,12 @@ use Rattle.dob_pieces.specs.declared.piece_set.PieceSet.{PieceSet}
 use Rattle.dob_pieces.specs.declared.setup.Setup.{Setup}
 use Rattle.dob_pieces.specs.Setups.{Cell, holds_lion, holds_kind, total, HasLions, HasLionOffFarRow}
 use Rattle.dob_rank.specs.Order.{IsPositionOf, pieces_of}
-use Rattle.dob_rank.specs.Numbers.{layer, count, count_from, choose, choice, settle, HasDigits, base_of, forms_number, board_of, bases, block_bases, on_board, digits, numbers_by, setup_by}
+use Rattle.dob_rank.specs.Numbers.{layer, count, count_from, choose, choice, settle, HasDigits, base_of, forms_number, board_of, bases}
+use Rattle.dob_rank.specs.Numbers.{block_bases, on_board, digits, numbers_by, setup_by}
 use Rattle.dob_rank.proofs.Settled.{hide, hide-hide, AreLayers, AreShown, IsSettled, settle-settles, choice_hide_next, count_hide_next}
 use Rattle.dob_rank.proofs.FormDigits.{layers-board_of, forms_number-board_of}
-use Rattle.dob_rank.proofs.LayerCounts.{count_from-next, count_five, AreLayers-shown, length-settle, lion_only, holds_mover_lion, holds_enemy_lion, holds_kind-layer, count-layer, layer-at}
+use Rattle.dob_rank.proofs.LayerCounts.{count_from-next, count_five, AreLayers-shown, length-settle, lion_only, holds_mover_lion}
+use Rattle.dob_rank.proofs.LayerCounts.{holds_enemy_lion, holds_kind-layer, count-layer, layer-at}
 
 -- what the layers settled by choices have: each layer its choice and its number of squares
 pub record AreChosen (i j k n0 n1 n2 n3 n4 : ℕ) (ls : List ℕ) : Type 0 where
@@ -75,7 +78,8 @@ chosen i j k n0 n1 n2 n3 n4 r0 r1 s0 s1 len e1 b2 b3 b4 =
     = empty_after 3 j n3 (settle 2 i n2 r1) (settle 3 j n3 (settle 2 i n2 r1)) (omega arith) s3 in omega arith) in
     let s4 : IsSettled 4 k n4 (settle 3 j n3 (settle 2 i n2 r1)) (settle 4 k n4 (settle 3 j n3 (settle 2 i n2 r1)))
     = settle-settles 4 k n4 (settle 3 j n3 (settle 2 i n2 r1)) (omega arith) s3.shown (subst (λ (x : ℕ). n4 < choose x k) (sym e3) b4) in
-    from_stages i j k n0 n1 n2 n3 n4 r0 r1 (settle 2 i n2 r1) (settle 3 j n3 (settle 2 i n2 r1)) (settle 4 k n4 (settle 3 j n3 (settle 2 i n2 r1))) s0 s1 s2 s3 s4
+    from_stages i j k n0 n1 n2 n3 n4 r0 r1 (settle 2 i n2 r1) (settle 3 j n3 (settle 2 i n2 r1))
+    (settle 4 k n4 (settle 3 j n3 (settle 2 i n2 r1))) s0 s1 s2 s3 s4
     (length-settle 4 k n4 (settle 3 j n3 (settle 2 i n2 r1)) ∙ length-settle 3 j n3 (settle 2 i n2 r1) ∙ length-settle 2 i n2 r1 ∙ len)
 
 later : (i j k n0 n1 n2 n3 n4 : ℕ) (r0 : List ℕ) → IsSettled 0 1 n0 (replicate 12 5) r0 → length r0 ≡ 12 → count 5 r0 ≡ 11
@@ -121,16 +125,21 @@ pub record IsMade (set : PieceSet) (i j k n0 n1 n2 n3 n4 : ℕ) (ls : List ℕ) 
 
 made_lions : (set : PieceSet) (i j k n0 n1 n2 n3 n4 : ℕ) (ls : List ℕ) (s : Setup) → IsMade set i j k n0 n1 n2 n3 n4 ls s → HasLions s
 made_lions set i j k n0 n1 n2 n3 n4 ls s m Mover = count-layer (holds_lion Mover) 0 holds_mover_lion s.board ∙ ap (count 0) m.layers_are ∙ m.chosen_are.own_lion
-made_lions set i j k n0 n1 n2 n3 n4 ls s m Enemy = count-layer (holds_lion Enemy) 1 holds_enemy_lion s.board ∙ ap (count 1) m.layers_are ∙ m.chosen_are.other_lion
+made_lions set i j k n0 n1 n2 n3 n4 ls s m Enemy = count-layer (holds_lion Enemy) 1 holds_enemy_lion s.board
+    ∙ ap (count 1) m.layers_are ∙ m.chosen_are.other_lion
 
-made_pieces : (set : PieceSet) (i j k n0 n1 n2 n3 n4 : ℕ) (ls : List ℕ) (s : Setup) → IsMade set i j k n0 n1 n2 n3 n4 ls s → (kind : HandKind) → total kind s ≡ pieces_of set kind
+made_pieces : (set : PieceSet) (i j k n0 n1 n2 n3 n4 : ℕ) (ls : List ℕ) (s : Setup) → IsMade set i j k n0 n1 n2 n3 n4 ls s
+    → (kind : HandKind) → total kind s ≡ pieces_of set kind
 unfolding total
 made_pieces set i j k n0 n1 n2 n3 n4 ls s m hand.Chick =
-    ap (λ (n : ℕ). n + s.hands.mover.chicks + s.hands.enemy.chicks) (count-layer (holds_kind hand.Chick) 2 (holds_kind-layer hand.Chick) s.board ∙ ap (count 2) m.layers_are ∙ m.chosen_are.chicks) ∙ m.chicks_are
+    ap (λ (n : ℕ). n + s.hands.mover.chicks + s.hands.enemy.chicks) (count-layer (holds_kind hand.Chick) 2 (holds_kind-layer hand.Chick) s.board
+    ∙ ap (count 2) m.layers_are ∙ m.chosen_are.chicks) ∙ m.chicks_are
 made_pieces set i j k n0 n1 n2 n3 n4 ls s m hand.Elephant =
-    ap (λ (n : ℕ). n + s.hands.mover.elephants + s.hands.enemy.elephants) (count-layer (holds_kind hand.Elephant) 3 (holds_kind-layer hand.Elephant) s.board ∙ ap (count 3) m.layers_are ∙ m.chosen_are.elephants) ∙ m.elephants_are
+    ap (λ (n : ℕ). n + s.hands.mover.elephants + s.hands.enemy.elephants)
+    (count-layer (holds_kind hand.Elephant) 3 (holds_kind-layer hand.Elephant) s.board ∙ ap (count 3) m.layers_are ∙ m.chosen_are.elephants) ∙ m.elephants_are
 made_pieces set i j k n0 n1 n2 n3 n4 ls s m hand.Giraffe =
-    ap (λ (n : ℕ). n + s.hands.mover.giraffes + s.hands.enemy.giraffes) (count-layer (holds_kind hand.Giraffe) 4 (holds_kind-layer hand.Giraffe) s.board ∙ ap (count 4) m.layers_are ∙ m.chosen_are.giraffes) ∙ m.giraffes_are
+    ap (λ (n : ℕ). n + s.hands.mover.giraffes + s.hands.enemy.giraffes) (count-layer (holds_kind hand.Giraffe) 4 (holds_kind-layer hand.Giraffe) s.board
+    ∙ ap (count 4) m.layers_are ∙ m.chosen_are.giraffes) ∙ m.giraffes_are
 
 few_of : (set : PieceSet) (kind : HandKind) → pieces_of set kind ≤ 2
 few_of set hand.Chick = set.few_chicks
@@ -189,7 +198,8 @@ IsMade-made set i j k h1 h2 h3 n0 n1 n2 n3 n4 f2 f3 f4 p =
     }
 
 -- the forms number of a layer of the board made
-made_forms : (numbers : ℕ → ℕ) (t n : ℕ) (ls : List ℕ) → t < 5 → AreLayers ls → count t ls ≡ n → numbers t < base_of t ^ n → forms_number t (board_of numbers ls) ≡ numbers t
+made_forms : (numbers : ℕ → ℕ) (t n : ℕ) (ls : List ℕ) → t < 5 → AreLayers ls → count t ls ≡ n
+    → numbers t < base_of t ^ n → forms_number t (board_of numbers ls) ≡ numbers t
 made_forms numbers t n ls h a c low =
     forms_number-board_of numbers t ls h a ∙ ap (λ (x : ℕ). numbers t % base_of t ^ x) c ∙ mod-eq_of_lt low
 
@@ -218,6 +228,9 @@ digits-made set i j k h1 h2 h3 n0 n1 n2 n3 n4 f2 f3 f4 p =
     (forms_number 2 board) (forms_number 3 board) (forms_number 4 board) n0 n1 n2 n3 n4 f2 f3 f4
     (ap (choice 0) m.layers_are ∙ c.own_square) (ap (choice 1) m.layers_are ∙ c.other_square) (ap (choice 2) m.layers_are ∙ c.chick_squares)
     (ap (choice 3) m.layers_are ∙ c.elephant_squares) (ap (choice 4) m.layers_are ∙ c.giraffe_squares)
-    (made_forms (numbers_by (h1 ∷ h2 ∷ h3 ∷ n0 ∷ n1 ∷ n2 ∷ n3 ∷ n4 ∷ f2 ∷ f3 ∷ f4 ∷ [])) 2 i (settle 4 k n4 (settle 3 j n3 (settle 2 i n2 (settle 1 1 n1 (settle 0 1 n0 (replicate 12 5)))))) (omega arith) c.layers c.chicks d.1.1.1.1.1.1.1.1.0)
-    (made_forms (numbers_by (h1 ∷ h2 ∷ h3 ∷ n0 ∷ n1 ∷ n2 ∷ n3 ∷ n4 ∷ f2 ∷ f3 ∷ f4 ∷ [])) 3 j (settle 4 k n4 (settle 3 j n3 (settle 2 i n2 (settle 1 1 n1 (settle 0 1 n0 (replicate 12 5)))))) (omega arith) c.layers c.elephants d.1.1.1.1.1.1.1.1.1.0)
-    (made_forms (numbers_by (h1 ∷ h2 ∷ h3 ∷ n0 ∷ n1 ∷ n2 ∷ n3 ∷ n4 ∷ f2 ∷ f3 ∷ f4 ∷ [])) 4 k (settle 4 k n4 (settle 3 j n3 (settle 2 i n2 (settle 1 1 n1 (settle 0 1 n0 (replicate 12 5)))))) (omega arith) c.layers c.giraffes d.1.1.1.1.1.1.1.1.1.1.0)
+    (made_forms (numbers_by (h1 ∷ h2 ∷ h3 ∷ n0 ∷ n1 ∷ n2 ∷ n3 ∷ n4 ∷ f2 ∷ f3 ∷ f4 ∷ [])) 2 i
+    (settle 4 k n4 (settle 3 j n3 (settle 2 i n2 (settle 1 1 n1 (settle 0 1 n0 (replicate 12 5)))))) (omega arith) c.layers c.chicks d.1.1.1.1.1.1.1.1.0)
+    (made_forms (numbers_by (h1 ∷ h2 ∷ h3 ∷ n0 ∷ n1 ∷ n2 ∷ n3 ∷ n4 ∷ f2 ∷ f3 ∷ f4 ∷ [])) 3 j
+    (settle 4 k n4 (settle 3 j n3 (settle 2 i n2 (settle 1 1 n1 (settle 0 1 n0 (replicate 12 5)))))) (omega arith) c.layers c.elephants d.1.1.1.1.1.1.1.1.1.0)
+    (made_forms (numbers_by (h1 ∷ h2 ∷ h3 ∷ n0 ∷ n1 ∷ n2 ∷ n3 ∷ n4 ∷ f2 ∷ f3 ∷ f4 ∷ [])) 4 k
+    (settle 4 k n4 (settle 3 j n3 (settle 2 i n2 (settle 1 1 n1 (settle 0 1 n0 (replicate 12 5)))))) (omega arith) c.layers c.giraffes d.1.1.1.1.1.1.1.1.1.1.0)

@@ -1,7 +1,8 @@
 -- Marked places: how many setups there are whose place is marked and below a bound, and the places of first setups.
-use Rattle.std.proofs.Common.{◌≡◌, ◌≢◌, ℕ, zero, suc, ◌+◌, ◌<◌, ◌≤◌, Bool, true, false, ◌&&◌, leb, [], ◌∷◌, ◌++◌, length, get_or, refl, sym, ap, ◌∙◌, subst, inl, inr, arith}
+use Rattle.std.proofs.Common.{◌≡◌, ◌≢◌, ℕ, zero, suc, ◌+◌, ◌<◌, ◌≤◌, Bool, true, false, ◌&&◌, leb, [], ◌∷◌, ◌++◌, length, get_or, refl, sym}
+use Rattle.std.proofs.Common.{ap, ◌∙◌, subst, inl, inr, arith}
 use Rattle.std.specs.List.{Contains}
-use Rattle.std.proofs.lemmas.Bool.{cases_lt, cases_Bool, le-leb, leb-true, lt-ltb, le-ltb, both_ways}
+use Rattle.std.proofs.lemmas.Bool.{cases_lt, cases_Bool, le-leb, leb-true, lt-ltb, both_ways}
 use Rattle.std.proofs.lemmas.List.{length_push}
 use Rattle.std.proofs.lemmas.List.Elements.{All-nil, All-push, All-weaker, Contains-push, Contains-append_left}
 use Rattle.std.proofs.lemmas.List.Quantifiers.{all_pairs_push}
@@ -32,14 +33,16 @@ IsMarkedBelow P mark index n s = P s × (mark (index s) ≡ true) × (index s < 
 wider : (P : Setup → Type 0) (mark : ℕ → Bool) (index : Setup → ℕ) (n : ℕ) (s : Setup) → IsMarkedBelow P mark index n s → IsMarkedBelow P mark index (suc n) s
 wider P mark index n s q = (q.0, q.1, (let low : index s < n = q.2 in omega arith))
 
-narrower : (P : Setup → Type 0) (mark : ℕ → Bool) (index : Setup → ℕ) (n : ℕ) (s : Setup) → mark n ≡ false → IsMarkedBelow P mark index (suc n) s → IsMarkedBelow P mark index n s
+narrower : (P : Setup → Type 0) (mark : ℕ → Bool) (index : Setup → ℕ) (n : ℕ) (s : Setup) → mark n ≡ false
+    → IsMarkedBelow P mark index (suc n) s → IsMarkedBelow P mark index n s
 narrower P mark index n s off q = elim (cases_lt (index s) n) [
   | inl lt ↦ (q.0, q.1, lt)
   | inr le ↦ absurd (let low : index s < suc n = q.2 in let same : index s ≡ n = omega arith in
       both_ways (mark n) off (ap mark (sym same) ∙ q.1))
 ]
 
-none_more : (P : Setup → Type 0) (nth : ℕ → Setup) (index : Setup → ℕ) (mark : ℕ → Bool) (n : ℕ) → HasCount (IsMarkedBelow P mark index n) (marks_below mark n) → mark n ≡ false
+none_more : (P : Setup → Type 0) (nth : ℕ → Setup) (index : Setup → ℕ) (mark : ℕ → Bool) (n : ℕ)
+    → HasCount (IsMarkedBelow P mark index n) (marks_below mark n) → mark n ≡ false
     → HasCount (IsMarkedBelow P mark index (suc n)) (marks_below mark (suc n))
 unfolding marks_below
 none_more P nth index mark n h off =
@@ -124,7 +127,8 @@ marked-first set s p on b =
 -- the classes are the marked ranks
 pub HasClasses-marks : (set : PieceSet) → HasClasses set (marks_below (is_first set) (size_of set))
 HasClasses-marks set =
-    HasCount-same (IsMarkedBelow (IsPositionOf set) (is_first set) (rank_of set) (size_of set)) (IsRepresentative set) (marks_below (is_first set) (size_of set))
+    HasCount-same (IsMarkedBelow (IsPositionOf set) (is_first set) (rank_of set) (size_of set))
+    (IsRepresentative set) (marks_below (is_first set) (size_of set))
     (λ s q. (q.0, marked-first set s q.0 q.1))
     (λ s q. (q.0, first-marked set s q.0 q.1, rank_of-below set s q.0))
     (HasCount-marked (IsPositionOf set) (size_of set) (nth set) (rank_of set) (is_first set) (numbering set) (size_of set) (omega arith))
@@ -133,7 +137,8 @@ HasClasses-marks set =
 pub HasClass-marks : (set : PieceSet) (s : Setup) → IsPositionOf set s → HasClass set s (marks_below (is_first set) (rank_of set s))
 HasClass-marks set s p =
     let low : rank_of set s < size_of set = rank_of-below set s p in
-    HasCount-same (IsMarkedBelow (IsPositionOf set) (is_first set) (rank_of set) (rank_of set s)) (λ (q : Setup). IsRepresentative set q × Before q s) (marks_below (is_first set) (rank_of set s))
+    HasCount-same (IsMarkedBelow (IsPositionOf set) (is_first set) (rank_of set) (rank_of set s))
+    (λ (q : Setup). IsRepresentative set q × Before q s) (marks_below (is_first set) (rank_of set s))
     (λ q h. ((h.0, marked-first set q h.0 h.1), Before-from_rank set q s h.0 p h.2))
     (λ q h. (h.0.0, first-marked set q h.0.0 h.0.1, rank_of-rises set q s h.0.0 p h.1))
     (HasCount-marked (IsPositionOf set) (size_of set) (nth set) (rank_of set) (is_first set) (numbering set) (rank_of set s) (omega arith))
@@ -144,10 +149,6 @@ HasClass-marks set s p =
 pub marked-first_of : (set : PieceSet) (r : ℕ) → r < size_of set → marked set r ≡ is_first set r
 unfolding marked
 marked-first_of set r h = ap (λ (b : Bool). b && is_first set r) (lt-ltb r (size_of set) h)
-
-pub marked_past : (set : PieceSet) (r : ℕ) → size_of set ≤ r → marked set r ≡ false
-unfolding marked
-marked_past set r h = ap (λ (b : Bool). b && is_first set r) (le-ltb r (size_of set) h)
 
 pub marks_below-marked : (set : PieceSet) (n : ℕ) → n ≤ size_of set → marks_below (marked set) n ≡ marks_below (is_first set) n
 unfolding marks_below
@@ -163,14 +164,5 @@ HasClasses-classes_of set = subst (HasClasses set) (sym (marks_below-marked set 
 
 pub HasClass-marked : (set : PieceSet) (s : Setup) → IsPositionOf set s → HasClass set s (marks_below (marked set) (rank_of set s))
 HasClass-marked set s p =
-    subst (HasClass set s) (sym (marks_below-marked set (rank_of set s) (let low : rank_of set s < size_of set = rank_of-below set s p in omega arith))) (HasClass-marks set s p)
-
--- past the size there are no more marks
-pub marks_below-past : (set : PieceSet) (n k : ℕ) → size_of set + k ≡ n → marks_below (marked set) n ≡ classes_of set
-unfolding classes_of marks_below
-marks_below-past set n zero e = ap (marks_below (marked set)) (let same : n ≡ size_of set = omega arith in same)
-marks_below-past set zero (suc k) e = absurd (omega arith)
-marks_below-past set (suc n) (suc k) e =
-    let rest : marks_below (marked set) n ≡ classes_of set = marks_below-past set n k (omega arith) in
-    let off : one_if (marked set n) ≡ 0 = ap one_if (marked_past set n (omega arith)) in
-    omega arith
+    subst (HasClass set s) (sym (marks_below-marked set (rank_of set s) (let low : rank_of set s < size_of set = rank_of-below set s p in omega arith)))
+    (HasClass-marks set s p)

@@ -116,9 +116,6 @@ once n = omega arith
 whole : (n : ℕ) → n / 1 ≡ n
 whole n = omega arith
 
-pub digits_of-one : (b n : ℕ) → digits_of (b ∷ []) n ≡ n ∷ []
-digits_of-one b n = ap (λ (x : ℕ). x ∷ []) (whole n)
-
 pub digits_of-two : (b c n : ℕ) → n < b * (c * 1) → digits_of (b ∷ c ∷ []) n ≡ n / c ∷ n % c ∷ []
 digits_of-two b c n h =
     digits_of-append (b ∷ []) (c ∷ []) n h

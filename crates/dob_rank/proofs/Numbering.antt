@@ -4,7 +4,8 @@ use Rattle.std.proofs.lemmas.Bool.{cases_lt, lt-ltb, le-ltb}
 use Rattle.dob_pieces.specs.declared.piece_set.PieceSet.{PieceSet}
 use Rattle.dob_pieces.specs.declared.setup.Setup.{Setup}
 use Rattle.dob_rank.specs.Order.{IsPositionOf, Before, key, HasSize, HasRank}
-use Rattle.dob_rank.specs.Numbers.{settle, product, number_of, digits_of, HasDigits, sum_below, block_bases, bases_by, on_board, digits, block_of, block_size, size_of, rank_of, setup_by, setup_in, find, nth}
+use Rattle.dob_rank.specs.Numbers.{settle, product, number_of, digits_of, HasDigits, sum_below, block_bases, bases_by, on_board, digits}
+use Rattle.dob_rank.specs.Numbers.{block_of, block_size, size_of, rank_of, setup_by, setup_in, find, nth}
 pub use Rattle.dob_rank.specs.Numbers.{place_of, HasBlock}
 use Rattle.dob_rank.proofs.MixedRadix.{number_of-below, number_of-rises, HasDigits-digits_of, number_of-digits_of, digits_of-number_of}
 use Rattle.dob_rank.proofs.Sums.{sum_below-rises, same_block}
@@ -32,7 +33,8 @@ on_board-block set s p = digits_of-number_of (block_bases set) (on_board s) (Has
 
 pub place_of-below : (set : PieceSet) (s : Setup) → IsPositionOf set s → place_of set s < block_size set (block_of set s)
 place_of-below set s p =
-    subst (λ (n : ℕ). place_of set s < n) (ap (λ (xs : List ℕ). product (bases_by set xs)) (sym (on_board-block set s p)) ∙ sym (block_size-product set (block_of set s)))
+    subst (λ (n : ℕ). place_of set s < n) (ap (λ (xs : List ℕ). product (bases_by set xs)) (sym (on_board-block set s p))
+    ∙ sym (block_size-product set (block_of set s)))
     (number_of-below (bases_by set (on_board s)) (digits s) (HasDigits-digits set s (HasParts-from_position set s p)))
 
 pub rank_of-below : (set : PieceSet) (s : Setup) → IsPositionOf set s → rank_of set s < size_of set
@@ -85,8 +87,10 @@ from_digits set i j k (h1 ∷ h2 ∷ h3 ∷ n0 ∷ n1 ∷ n2 ∷ n3 ∷ n4 ∷ f
     let p : HasPlace set i j k h1 h2 h3 n0 n1 n2 n3 n4 f2 f3 f4 = record { on_board_below = h; digits_below = d } in
     let m = IsMade-made set i j k h1 h2 h3 n0 n1 n2 n3 n4 f2 f3 f4 p in
     record {
-      position = IsPositionOf-made set i j k n0 n1 n2 n3 n4 (settle 4 k n4 (settle 3 j n3 (settle 2 i n2 (settle 1 1 n1 (settle 0 1 n0 (replicate 12 5)))))) (made set i j k h1 h2 h3 n0 n1 n2 n3 n4 f2 f3 f4) m;
-      on_board_is = on_board-made set i j k n0 n1 n2 n3 n4 (settle 4 k n4 (settle 3 j n3 (settle 2 i n2 (settle 1 1 n1 (settle 0 1 n0 (replicate 12 5)))))) (made set i j k h1 h2 h3 n0 n1 n2 n3 n4 f2 f3 f4) m;
+      position = IsPositionOf-made set i j k n0 n1 n2 n3 n4
+          (settle 4 k n4 (settle 3 j n3 (settle 2 i n2 (settle 1 1 n1 (settle 0 1 n0 (replicate 12 5)))))) (made set i j k h1 h2 h3 n0 n1 n2 n3 n4 f2 f3 f4) m;
+      on_board_is = on_board-made set i j k n0 n1 n2 n3 n4
+          (settle 4 k n4 (settle 3 j n3 (settle 2 i n2 (settle 1 1 n1 (settle 0 1 n0 (replicate 12 5)))))) (made set i j k h1 h2 h3 n0 n1 n2 n3 n4 f2 f3 f4) m;
       digits_are = digits-made set i j k h1 h2 h3 n0 n1 n2 n3 n4 f2 f3 f4 p;
     }
 
@@ -130,11 +134,13 @@ rank_of-rises set p q hp hq h =
     let rq : rank_of set q ≡ sum_below (block_size set) (block_of set q) + place_of set q = rank_of-place set q in
     elim (Before-digits set p q hp hq h) [
       | inl lt ↦ (let a : block_of set p < block_of set q
-          = number_of-rises (block_bases set) (on_board p) (on_board q) (HasDigits-on_board set p (HasParts-from_position set p hp)) (HasDigits-on_board set q (HasParts-from_position set q hq)) lt in
+          = number_of-rises (block_bases set) (on_board p) (on_board q) (HasDigits-on_board set p (HasParts-from_position set p hp))
+          (HasDigits-on_board set q (HasParts-from_position set q hq)) lt in
           let b : place_of set p < block_size set (block_of set p) = place_of-below set p hp in
           let c : sum_below (block_size set) (block_of set p) + block_size set (block_of set p) ≤ sum_below (block_size set) (block_of set q)
           = sum_below-rises (block_size set) (block_of set p) (block_of set q) a in
-          lower (rank_of set p) (rank_of set q) (sum_below (block_size set) (block_of set p)) (place_of set p) (block_size set (block_of set p)) (sum_below (block_size set) (block_of set q)) (place_of set q) rp rq b c)
+          lower (rank_of set p) (rank_of set q) (sum_below (block_size set) (block_of set p)) (place_of set p) (block_size set (block_of set p))
+          (sum_below (block_size set) (block_of set q)) (place_of set q) rp rq b c)
       | inr r ↦ (let dp : HasDigits (bases_by set (on_board q)) (digits p)
           = subst (λ (xs : List ℕ). HasDigits (bases_by set xs) (digits p)) r.0 (HasDigits-digits set p (HasParts-from_position set p hp)) in
           let a : number_of (bases_by set (on_board q)) (digits p) < place_of set q
@@ -142,7 +148,8 @@ rank_of-rises set p q hp hq h =
           let b : place_of set p ≡ number_of (bases_by set (on_board q)) (digits p) = ap (λ (xs : List ℕ). number_of (bases_by set xs) (digits p)) r.0 in
           let c : sum_below (block_size set) (block_of set p) ≡ sum_below (block_size set) (block_of set q)
           = ap (λ (xs : List ℕ). sum_below (block_size set) (number_of (block_bases set) xs)) r.0 in
-          nearer (rank_of set p) (rank_of set q) (sum_below (block_size set) (block_of set p)) (place_of set p) (number_of (bases_by set (on_board q)) (digits p)) (sum_below (block_size set) (block_of set q)) (place_of set q) rp rq a b c)
+          nearer (rank_of set p) (rank_of set q) (sum_below (block_size set) (block_of set p)) (place_of set p)
+          (number_of (bases_by set (on_board q)) (digits p)) (sum_below (block_size set) (block_of set q)) (place_of set q) rp rq a b c)
     ]
 
 -- positions of one set with one rank are one
@@ -151,9 +158,11 @@ rank_of-same set p q hp hq e =
     let sums : sum_below (block_size set) (block_of set p) + place_of set p ≡ sum_below (block_size set) (block_of set q) + place_of set q
     = sym (rank_of-place set p) ∙ e ∙ rank_of-place set q in
     let block : block_of set p ≡ block_of set q
-    = same_block (block_size set) (block_of set p) (block_of set q) (place_of set p) (place_of set q) (place_of-below set p hp) (place_of-below set q hq) sums in
+    = same_block (block_size set) (block_of set p) (block_of set q) (place_of set p) (place_of set q)
+    (place_of-below set p hp) (place_of-below set q hq) sums in
     let start : sum_below (block_size set) (block_of set p) ≡ sum_below (block_size set) (block_of set q) = ap (sum_below (block_size set)) block in
-    let place : place_of set p ≡ place_of set q = cancel (sum_below (block_size set) (block_of set p)) (sum_below (block_size set) (block_of set q)) (place_of set p) (place_of set q) start sums in
+    let place : place_of set p ≡ place_of set q
+    = cancel (sum_below (block_size set) (block_of set p)) (sum_below (block_size set) (block_of set q)) (place_of set p) (place_of set q) start sums in
     sym (setup_in-back set p hp) ∙ ap (λ (b : ℕ). setup_in set b (place_of set p)) block ∙ ap (setup_in set (block_of set q)) place ∙ setup_in-back set q hq
 
 -- positions of one key have one rank
@@ -195,15 +204,18 @@ find-found f (suc b) n h = elim (cases_lt n (sum_below f b)) [
       (record { block_below = omega arith; place_below = omega arith; whole = omega arith })
 ]
 
-pub nth-is : (set : PieceSet) (n : ℕ) → nth set n ≡ setup_in set (find (block_size set) (product (block_bases set)) n).0 (find (block_size set) (product (block_bases set)) n).1
+pub nth-is : (set : PieceSet) (n : ℕ)
+    → nth set n ≡ setup_in set (find (block_size set) (product (block_bases set)) n).0 (find (block_size set) (product (block_bases set)) n).1
 unfolding nth
 nth-is set n = refl
 
-nth-found : (set : PieceSet) (n : ℕ) → n < size_of set → IsFound (block_size set) (product (block_bases set)) n (find (block_size set) (product (block_bases set)) n)
+nth-found : (set : PieceSet) (n : ℕ) → n < size_of set
+    → IsFound (block_size set) (product (block_bases set)) n (find (block_size set) (product (block_bases set)) n)
 unfolding size_of
 nth-found set n h = find-found (block_size set) (product (block_bases set)) n h
 
-pub nth-block : (set : PieceSet) (n : ℕ) → n < size_of set → HasBlock set (find (block_size set) (product (block_bases set)) n).0 (find (block_size set) (product (block_bases set)) n).1 (nth set n)
+pub nth-block : (set : PieceSet) (n : ℕ) → n < size_of set
+    → HasBlock set (find (block_size set) (product (block_bases set)) n).0 (find (block_size set) (product (block_bases set)) n).1 (nth set n)
 nth-block set n h =
     let r = nth-found set n h in
     subst (HasBlock set (find (block_size set) (product (block_bases set)) n).0 (find (block_size set) (product (block_bases set)) n).1) (sym (nth-is set n))
@@ -213,11 +225,13 @@ nth-block set n h =
 -- the setup of a place has the rank of that place
 pub rank_of-block : (set : PieceSet) (block place : ℕ) (s : Setup) → HasBlock set block place s → rank_of set s ≡ sum_below (block_size set) block + place
 rank_of-block set block place s h =
-    rank_of-place set s ∙ ap (λ (b : ℕ). sum_below (block_size set) b + place_of set s) h.block_is ∙ ap (λ (x : ℕ). sum_below (block_size set) block + x) h.place_is
+    rank_of-place set s ∙ ap (λ (b : ℕ). sum_below (block_size set) b + place_of set s) h.block_is
+    ∙ ap (λ (x : ℕ). sum_below (block_size set) block + x) h.place_is
 
 pub rank_of-nth : (set : PieceSet) (n : ℕ) → n < size_of set → rank_of set (nth set n) ≡ n
 rank_of-nth set n h =
-    rank_of-block set (find (block_size set) (product (block_bases set)) n).0 (find (block_size set) (product (block_bases set)) n).1 (nth set n) (nth-block set n h)
+    rank_of-block set (find (block_size set) (product (block_bases set)) n).0
+    (find (block_size set) (product (block_bases set)) n).1 (nth set n) (nth-block set n h)
     ∙ (nth-found set n h).whole
 
 pub nth-rank_of : (set : PieceSet) (s : Setup) → IsPositionOf set s → nth set (rank_of set s) ≡ s

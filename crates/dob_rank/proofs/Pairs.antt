@@ -1,5 +1,6 @@
 -- The tables of the choices of two squares: computed for each number of squares and each choice.
-use Rattle.std.proofs.Common.{◌≡◌, ℕ, ◌+◌, ◌-◌, ◌*◌, ◌/◌, ◌<◌, ◌≤◌, ◌||◌, ◌&&◌, nat_eq, nat_lt, not, Bool, true, false, slice_index_or, refl, ap, subst, inl, inr, arith}
+use Rattle.std.proofs.Common.{◌≡◌, ℕ, ◌+◌, ◌-◌, ◌*◌, ◌/◌, ◌<◌, ◌≤◌, ◌||◌, ◌&&◌, nat_eq, nat_lt, not, Bool, true, false, slice_index_or}
+use Rattle.std.proofs.Common.{refl, ap, subst, inl, inr, arith}
 use Rattle.std.proofs.lemmas.Bool.{lt-ltb, le-ltb, cases_lt}
 use Rattle.dob_pieces.proofs.Boards.{all_below, all_below-at}
 use Rattle.dob_rank.specs.declared.placing.TheConstants.{FIRST_FROM_END, SECOND_FROM_END}
@@ -53,7 +54,8 @@ less a b h = elim (cases_lt a b) [
 not_less : (a b : ℕ) → a < b → not (nat_lt a b) ≡ false
 not_less a b h = ap not (lt-ltb a b h)
 
-pub pair_is : (squares number : ℕ) → squares ≤ 10 → number < choose squares 2 → number < 45 → IsPair squares number (first_at squares number) (second_at squares number)
+pub pair_is : (squares number : ℕ) → squares ≤ 10 → number < choose squares 2 → number < 45
+    → IsPair squares number (first_at squares number) (second_at squares number)
 pair_is squares number few below small =
     let row = all_below-at (λ s. all_below (agrees s) 45) 11 squares computed (omega arith) in
     let here = all_below-at (agrees squares) 45 number row small in

@@ -1,5 +1,6 @@
 -- Pieces placed one after another on the squares that are left make the board of the settled layers.
-use Rattle.std.proofs.Common.{◌≡◌, ℕ, zero, suc, ◌+◌, ◌-◌, ◌*◌, ◌/◌, ◌%◌, ◌^◌, ◌<◌, ◌≤◌, List, [], ◌∷◌, length, replicate, slice_index, set, None, refl, sym, ap, ◌∙◌, subst, inl, inr, arith}
+use Rattle.std.proofs.Common.{◌≡◌, ℕ, zero, suc, ◌+◌, ◌-◌, ◌*◌, ◌/◌, ◌%◌, ◌^◌, ◌<◌, ◌≤◌, List, [], ◌∷◌, length, replicate, slice_index, set}
+use Rattle.std.proofs.Common.{None, refl, sym, ap, ◌∙◌, subst, inl, inr, arith}
 use Rattle.std.proofs.lemmas.Bool.{cases_eq, cases_lt, lt-ltb, le-ltb}
 use Rattle.std.proofs.Math.Nat.{pow-zero, pow-succ'}
 use Rattle.dob_pieces.specs.Setups.{Cell}
@@ -9,7 +10,8 @@ use Rattle.dob_rank.proofs.Choices.{count_same, count_other, choose-split}
 use Rattle.dob_rank.proofs.Settled.{AreShown, IsSettled, settle-settles}
 use Rattle.dob_rank.proofs.LayerCounts.{length-settle}
 use Rattle.dob_rank.proofs.Made.{empty_after}
-use Rattle.dob_rank.proofs.EmptySquares.{empty_place, kept, empty_place-below, empty_place-set, past-low, past-upto, settle_none, settle_one, settle_two, choose_one}
+use Rattle.dob_rank.proofs.EmptySquares.{empty_place, kept, empty_place-below, empty_place-set, past-low, past-upto, settle_none}
+use Rattle.dob_rank.proofs.EmptySquares.{settle_one, settle_two, choose_one}
 
 -- ---- a board with one more piece
 
@@ -35,7 +37,8 @@ count-set_same t (suc s) (l ∷ ls) h o =
 abbrev next_cell : (ℕ → ℕ) → ℕ → List ℕ → Cell
 next_cell numbers t ls = cell_of t (numbers t / base_of t ^ count t ls % base_of t)
 
-board_of-set : (numbers : ℕ → ℕ) (t s : ℕ) (ls : List ℕ) → (t ≡ 5 → ⊥) → IsOpen s t ls → board_of numbers (set ls s t) ≡ set (board_of numbers ls) s (next_cell numbers t ls)
+board_of-set : (numbers : ℕ → ℕ) (t s : ℕ) (ls : List ℕ) → (t ≡ 5 → ⊥) → IsOpen s t ls
+    → board_of numbers (set ls s t) ≡ set (board_of numbers ls) s (next_cell numbers t ls)
 board_of-set numbers t s [] h o = absurd o
 board_of-set numbers t zero (l ∷ ls) h o =
     ap (λ (n : ℕ). cell_of t (numbers t / base_of t ^ n % base_of t) ∷ board_of numbers ls)
@@ -208,12 +211,16 @@ stage_two numbers t n m ls cells f h low s =
     let one : count t (set ls (empty_place ls (higher_of m n)) t) ≡ 1 = count-set_same t (empty_place ls (higher_of m n)) ls other first ∙ ap suc none in
     let lower : past (higher_of m n) (lower_of m n) ≡ lower_of m n = past-low (higher_of m n) (lower_of m n) order in
     record {
-      board_is = ap (λ (cs : List Cell). set (set cs (f (higher_of m n)) (cell_of t (numbers t % base_of t))) (f (lower_of m n)) (cell_of t (numbers t / base_of t % base_of t))) s.board_is
-          ∙ ap (λ (x : ℕ). set (set (board_of numbers ls) x (cell_of t (numbers t % base_of t))) (f (lower_of m n)) (cell_of t (numbers t / base_of t % base_of t)))
+      board_is = ap (λ (cs : List Cell). set (set cs (f (higher_of m n)) (cell_of t (numbers t % base_of t)))
+          (f (lower_of m n)) (cell_of t (numbers t / base_of t % base_of t))) s.board_is
+          ∙ ap (λ (x : ℕ). set (set (board_of numbers ls) x (cell_of t (numbers t % base_of t)))
+          (f (lower_of m n)) (cell_of t (numbers t / base_of t % base_of t)))
           (sym (s.place_is (higher_of m n) below))
-          ∙ ap (λ (x : ℕ). set (set (board_of numbers ls) (empty_place ls (higher_of m n)) (cell_of t (numbers t % base_of t))) x (cell_of t (numbers t / base_of t % base_of t)))
+          ∙ ap (λ (x : ℕ). set (set (board_of numbers ls) (empty_place ls (higher_of m n)) (cell_of t (numbers t % base_of t))) x
+          (cell_of t (numbers t / base_of t % base_of t)))
           (sym (s.place_is (lower_of m n) (omega arith)))
-          ∙ ap (λ (c : Cell). set (set (board_of numbers ls) (empty_place ls (higher_of m n)) c) (empty_place ls (lower_of m n)) (cell_of t (numbers t / base_of t % base_of t)))
+          ∙ ap (λ (c : Cell). set (set (board_of numbers ls) (empty_place ls (higher_of m n)) c)
+          (empty_place ls (lower_of m n)) (cell_of t (numbers t / base_of t % base_of t)))
           (sym (first_form numbers t ls none))
           ∙ ap (λ (cs : List Cell). set cs (empty_place ls (lower_of m n)) (cell_of t (numbers t / base_of t % base_of t)))
           (sym (board_of-set numbers t (empty_place ls (higher_of m n)) ls other first))
@@ -236,7 +243,8 @@ stage_two numbers t n m ls cells f h low s =
     }
 
 -- any number of pieces up to two
-pub stage : (numbers : ℕ → ℕ) (t p n m : ℕ) (ls : List ℕ) (cells : List Cell) (f : ℕ → ℕ) → t < 5 → p ≤ 2 → m ≤ 12 → n < choose m p → Stand numbers t m ls cells f →
+pub stage : (numbers : ℕ → ℕ) (t p n m : ℕ) (ls : List ℕ) (cells : List Cell) (f : ℕ → ℕ) → t < 5
+    → p ≤ 2 → m ≤ 12 → n < choose m p → Stand numbers t m ls cells f →
     Stand numbers (suc t) (m - p) (settle t p n ls) (put t p (f (first_place m p n)) (f (second_place m p n)) (numbers t) cells)
     (λ k. f (past (second_place m p n) (past (first_place m p n) k)))
 stage numbers t zero n m ls cells f h few upto low s =
@@ -369,7 +377,8 @@ lions_stand ob ds c =
     let own : slice_index ds 3 < 9 = c.own_lion in
     let zero_low : 0 < 5 = omega arith in
     let one_low : 1 < 5 = omega arith in
-    stage_one (numbers_by ds) 1 (slice_index ds 4) 11 (settle 0 1 (slice_index ds 3) (replicate 12 5)) (set (replicate 12 None) (slice_index ds 3) (cell_of 0 0))
+    stage_one (numbers_by ds) 1 (slice_index ds 4) 11 (settle 0 1 (slice_index ds 3) (replicate 12 5))
+    (set (replicate 12 None) (slice_index ds 3) (cell_of 0 0))
     (past (slice_index ds 3)) one_low c.other_lion
     (stage_one (numbers_by ds) 0 (slice_index ds 3) 12 (replicate 12 5) (replicate 12 None) (λ n. n) zero_low (omega arith) (start (numbers_by ds)))
 
@@ -378,7 +387,8 @@ pub chicks_stand : (ob ds : List ℕ) → AreChoices ob ds →
 chicks_stand ob ds c =
     let low : 2 < 5 = omega arith in
     let room : 10 ≤ 12 = omega arith in
-    stage (numbers_by ds) 2 (slice_index ob 0) (slice_index ds 5) 10 (lions_by ds) (with_lions ds) (after_lions ds) low c.chicks room c.chick_squares (lions_stand ob ds c)
+    stage (numbers_by ds) 2 (slice_index ob 0) (slice_index ds 5) 10 (lions_by ds) (with_lions ds)
+    (after_lions ds) low c.chicks room c.chick_squares (lions_stand ob ds c)
 
 pub elephants_stand : (ob ds : List ℕ) → AreChoices ob ds →
     Stand (numbers_by ds) 4 (10 - slice_index ob 0 - slice_index ob 1) (elephants_by ob ds) (with_elephants ob ds) (after_elephants ob ds)
@@ -396,6 +406,7 @@ whole_board ob ds c =
     (after_elephants ob ds) low c.giraffes room c.giraffe_squares (elephants_stand ob ds c)).board_is
 
 -- pieces put on the same squares of the same board
-pub put-same : (t p a b n : ℕ) (cells : List Cell) (a' b' : ℕ) (cells' : List Cell) → a ≡ a' → b ≡ b' → cells ≡ cells' → put t p a b n cells ≡ put t p a' b' n cells'
+pub put-same : (t p a b n : ℕ) (cells : List Cell) (a' b' : ℕ) (cells' : List Cell) → a ≡ a' → b ≡ b'
+    → cells ≡ cells' → put t p a b n cells ≡ put t p a' b' n cells'
 put-same t p a b n cells a' b' cells' e f g =
     ap (λ (x : ℕ). put t p x b n cells) e ∙ ap (λ (x : ℕ). put t p a' x n cells) f ∙ ap (put t p a' b' n) g

@@ -1,5 +1,6 @@
 -- Masks of layers: what their bits count, and the number of the choice that two bits make.
-use Rattle.std.proofs.Common.{◌≡◌, ℕ, zero, suc, ◌+◌, ◌-◌, ◌*◌, ◌/◌, ◌%◌, ◌^◌, ◌<◌, ◌≤◌, cond, nat_lt, nat_eq, ◌||◌, Bool, true, bit_and, List, [], ◌∷◌, length, map, drop, get_or, None, refl, sym, ap, ◌∙◌, subst, inl, inr, arith}
+use Rattle.std.proofs.Common.{◌≡◌, ℕ, zero, suc, ◌+◌, ◌-◌, ◌*◌, ◌/◌, ◌%◌, ◌^◌, ◌<◌, ◌≤◌, cond, nat_lt, nat_eq, ◌||◌, Bool, true, bit_and}
+use Rattle.std.proofs.Common.{List, [], ◌∷◌, length, map, drop, get_or, None, refl, sym, ap, ◌∙◌, subst, inl, inr, arith}
 use Rattle.std.proofs.lemmas.Bool.{cases_order, cases_eq, cases_lt, lt-ltb, le-ltb, eq-eqb, ne_eqb}
 use Rattle.std.proofs.lemmas.Nat.{ones_cat, and_block}
 use lib.Bits.{and_self}
@@ -144,7 +145,8 @@ first_bits t (l ∷ ls) h = elim (cases_order l t) [
   | inl e ↦ subst (λ (x : ℕ). ones (bit_and (layer_mask t (x ∷ ls) - 1) (from_mask (suc t) (x ∷ ls))) ≡ before_first t (x ∷ ls)) (sym e)
       (rw (mask_same t ls, from_lower (suc t) t ls (omega arith), first_same t ls)
       (ap (λ x. ones (bit_and x (from_mask (suc t) ls * 2 + 0))) (odd_less (layer_mask t ls))
-      ∙ ap ones (and_bits (layer_mask t ls) (from_mask (suc t) ls) 0 0 (omega arith) (omega arith)) ∙ ones_even (bit_and (layer_mask t ls) (from_mask (suc t) ls))
+      ∙ ap ones (and_bits (layer_mask t ls) (from_mask (suc t) ls) 0 0 (omega arith) (omega arith))
+      ∙ ones_even (bit_and (layer_mask t ls) (from_mask (suc t) ls))
       ∙ ap ones (apart t ls) ∙ ones-zero))
   | inr o ↦ elim o [
     | inl lt ↦ (let other : l ≡ t → ⊥ = omega arith in
@@ -182,7 +184,8 @@ pub second_bits : (t : ℕ) (ls : List ℕ) → count t ls ≡ 2 →
     ones (bit_and (bit_and (layer_mask t ls) (layer_mask t ls - 1) - 1) (from_mask (suc t) ls)) ≡ before_second t ls
 second_bits t [] h = absurd (omega arith)
 second_bits t (l ∷ ls) h = elim (cases_order l t) [
-  | inl e ↦ subst (λ (x : ℕ). ones (bit_and (bit_and (layer_mask t (x ∷ ls)) (layer_mask t (x ∷ ls) - 1) - 1) (from_mask (suc t) (x ∷ ls))) ≡ before_second t (x ∷ ls)) (sym e)
+  | inl e ↦ subst (λ (x : ℕ). ones (bit_and (bit_and (layer_mask t (x ∷ ls)) (layer_mask t (x ∷ ls) - 1) - 1) (from_mask (suc t) (x ∷ ls)))
+      ≡ before_second t (x ∷ ls)) (sym e)
       (let one : suc (count t ls) ≡ 2 = sym (ap (λ (x : ℕ). count t (x ∷ ls)) e ∙ count_same t ls) ∙ h in
       let some : 0 < count t ls = omega arith in
       rw (mask_same t ls, from_lower (suc t) t ls (omega arith), second_same t ls)
@@ -200,7 +203,8 @@ second_bits t (l ∷ ls) h = elim (cases_order l t) [
         let some : 0 < layer_mask t ls = mask_some t ls (omega arith) in
         rw (mask_other t l ls other, from_later (suc t) l ls gt, second_later t l ls gt)
         (ap (λ x. ones (bit_and (x - 1) (from_mask (suc t) ls * 2 + 1))) (rest_other (layer_mask t ls) some)
-        ∙ ones_below_one (bit_and (layer_mask t ls) (layer_mask t ls - 1)) (from_mask (suc t) ls) (rest_some t ls (omega arith)) ∙ ap suc (second_bits t ls two)))
+        ∙ ones_below_one (bit_and (layer_mask t ls) (layer_mask t ls - 1)) (from_mask (suc t) ls) (rest_some t ls (omega arith))
+        ∙ ap suc (second_bits t ls two)))
   ]
 ]
 
@@ -298,11 +302,13 @@ choice_two t (l ∷ ls) k h = elim (cases_order l t) [
         let ways : with_first (count_from t ls) 2 ≡ count_from t ls = choose_one (count_from t ls) in
         let next : count_from (suc t) ls + count t ls ≡ count_from t ls = count_from-next t ls in
         let few : count_from (suc t) ls ≤ length ls = count_from-upto (suc t) ls in
-        let step : pairs_before (suc (before_first t ls)) (suc (count_from (suc t) ls)) ≡ pairs_before (before_first t ls) (count_from (suc t) ls) + count_from (suc t) ls + 1 =
+        let step : pairs_before (suc (before_first t ls)) (suc (count_from (suc t) ls))
+        ≡ pairs_before (before_first t ls) (count_from (suc t) ls) + count_from (suc t) ls + 1 =
         pairs_step (before_first t ls) (count_from (suc t) ls) (first_upto t ls) (omega arith) in
         choice_later t l ls gt ∙ ap (λ (n : ℕ). with_first (count_from t ls) n + choice t ls) two
         ∙ summed (with_first (count_from t ls) 2) (choice t ls) (count_from t ls) (count t ls) (count_from (suc t) ls) (before_second t ls)
-        (pairs_before (before_first t ls) (count_from (suc t) ls)) (pairs_before (suc (before_first t ls)) (suc (count_from (suc t) ls))) ways rest next two step
+        (pairs_before (before_first t ls) (count_from (suc t) ls))
+        (pairs_before (suc (before_first t ls)) (suc (count_from (suc t) ls))) ways rest next two step
         ∙ sym (ap (λ (n : ℕ). pairs_before n (count_from (suc t) (l ∷ ls)) + before_second t (l ∷ ls)) (first_later t l ls gt)
         ∙ ap (λ (n : ℕ). pairs_before (suc (before_first t ls)) n + before_second t (l ∷ ls)) (count_from_later (suc t) l ls gt)
         ∙ ap (λ (n : ℕ). pairs_before (suc (before_first t ls)) (suc (count_from (suc t) ls)) + n) (second_later t l ls gt)))
@@ -320,7 +326,8 @@ one_choice t ls mask later below number m f b n one =
     n ∙ ap (λ (x : ℕ). ones (bit_and x later)) (b ∙ ap (λ (x : ℕ). x - 1) m) ∙ ap (λ (x : ℕ). ones (bit_and (layer_mask t ls - 1) x)) f
     ∙ first_bits t ls (omega arith) ∙ sym (choice_one t ls one)
 
-pub two_choice : (t : ℕ) (ls : List ℕ) (mask later below first rest second_number free factor : ℕ) → length ls ≤ 12 → mask ≡ layer_mask t ls → later ≡ from_mask (suc t) ls →
+pub two_choice : (t : ℕ) (ls : List ℕ) (mask later below first rest second_number free factor : ℕ)
+    → length ls ≤ 12 → mask ≡ layer_mask t ls → later ≡ from_mask (suc t) ls →
     below ≡ mask - 1 → first ≡ ones (bit_and below later) → rest ≡ bit_and mask below - 1 → second_number ≡ ones (bit_and rest later) → free ≡ ones later →
     factor ≡ 2 * free + 1 - first → count t ls ≡ 2 → first * factor / 2 + second_number ≡ choice t ls
 two_choice t ls mask later below first rest second_number free factor few m f b n r s o g two =
@@ -330,7 +337,8 @@ two_choice t ls mask later below first rest second_number free factor few m f b 
     let other : rest ≡ bit_and (layer_mask t ls) (layer_mask t ls - 1) - 1 =
     r ∙ ap (λ (x : ℕ). bit_and x below - 1) m ∙ ap (λ (x : ℕ). bit_and (layer_mask t ls) x - 1) lower in
     let higher : second_number ≡ before_second t ls =
-    s ∙ ap (λ (x : ℕ). ones (bit_and x later)) other ∙ ap (λ (x : ℕ). ones (bit_and (bit_and (layer_mask t ls) (layer_mask t ls - 1) - 1) x)) f ∙ second_bits t ls two in
+    s ∙ ap (λ (x : ℕ). ones (bit_and x later)) other ∙ ap (λ (x : ℕ). ones (bit_and (bit_and (layer_mask t ls) (layer_mask t ls - 1) - 1) x)) f
+    ∙ second_bits t ls two in
     let left : free ≡ count_from (suc t) ls = o ∙ ap ones f ∙ ones-from_mask (suc t) ls in
     ap (λ (x : ℕ). first * x / 2 + second_number) g
     ∙ ap (λ (x : ℕ). x * (2 * free + 1 - x) / 2 + second_number) one
@@ -348,12 +356,14 @@ mask-small t (l ∷ ls) = (let rest = mask-small t ls in elim (cases_eq l t) [
 ])
 
 mask_below : (t : ℕ) (ls : List ℕ) → length ls ≤ 12 → layer_mask t ls < 4096
-mask_below t ls h = (let low = mask-small t ls in let most : 2 ^ length ls ≤ 2 ^ 12 = pow-le-pow_right (let two : 0 < 2 = omega arith in two) h in omega (arith, low, most))
+mask_below t ls h = (let low = mask-small t ls in let most : 2 ^ length ls ≤ 2 ^ 12
+    = pow-le-pow_right (let two : 0 < 2 = omega arith in two) h in omega (arith, low, most))
 
 beyond : (t l : ℕ) → t < 5 → suc (suc (suc (suc (suc l)))) ≡ t → ⊥
 beyond t l h e = absurd (omega arith)
 
-planes-parts : (ls : List ℕ) → planes ls ≡ layer_mask 0 ls + 4096 * layer_mask 1 ls + 16777216 * layer_mask 2 ls + 68719476736 * layer_mask 3 ls + 281474976710656 * layer_mask 4 ls
+planes-parts : (ls : List ℕ) → planes ls ≡ layer_mask 0 ls + 4096 * layer_mask 1 ls + 16777216 * layer_mask 2 ls
+    + 68719476736 * layer_mask 3 ls + 281474976710656 * layer_mask 4 ls
 planes-parts [] = refl
 planes-parts (zero ∷ ls) = omega (arith, planes-parts ls)
 planes-parts (suc zero ∷ ls) = omega (arith, planes-parts ls)
@@ -389,7 +399,8 @@ apart_by n a b c d e p q r s t h = ((omega arith), (omega arith), (omega arith),
 
 pub planes_apart : (ls : List ℕ) (number : ℕ) → length ls ≤ 12 → number ≡ planes ls → ArePlanes ls number
 planes_apart ls number h is =
-    let parts = apart_by number (layer_mask 0 ls) (layer_mask 1 ls) (layer_mask 2 ls) (layer_mask 3 ls) (layer_mask 4 ls) (mask_below 0 ls h) (mask_below 1 ls h)
+    let parts = apart_by number (layer_mask 0 ls) (layer_mask 1 ls) (layer_mask 2 ls) (layer_mask 3 ls)
+    (layer_mask 4 ls) (mask_below 0 ls h) (mask_below 1 ls h)
     (mask_below 2 ls h) (mask_below 3 ls h) (mask_below 4 ls h) (is ∙ planes-parts ls) in
     record { own_lion = parts.0; enemy_lion = parts.1; chicks = parts.2; elephants = parts.3; giraffes = parts.4 }
 
@@ -397,7 +408,8 @@ planes_apart ls number h is =
 pub layers_upto : (cells : List Cell) (square : ℕ) → length cells ≡ 12 → length (map layer (drop square cells)) ≤ 12
 layers_upto cells square h = omega (arith, length-map (drop square cells) layer, length-drop square cells)
 
-pub planes_all : (cells : List Cell) (square number : ℕ) → length cells ≡ 12 → square ≡ 0 → number ≡ planes (map layer (drop square cells)) → ArePlanes (map layer cells) number
+pub planes_all : (cells : List Cell) (square number : ℕ) → length cells ≡ 12 → square ≡ 0
+    → number ≡ planes (map layer (drop square cells)) → ArePlanes (map layer cells) number
 planes_all cells square number h z is =
     planes_apart (map layer cells) number (omega (arith, length-map cells layer)) (is ∙ ap (λ (n : ℕ). planes (map layer (drop n cells))) z)
 
@@ -469,7 +481,8 @@ second_zeros t (suc k) (l ∷ ls) h two = elim (cases_eq l t) [
   | inl e ↦ (let more : suc (count t ls) ≡ 2 = sym (ap (λ (x : ℕ). count t (x ∷ ls)) e ∙ count_same t ls) ∙ two in
       subst (λ (x : ℕ). count_trailing_zeros (suc k) (bit_and (layer_mask t (x ∷ ls)) (layer_mask t (x ∷ ls) - 1)) ≡ second_square t (x ∷ ls)) (sym e)
       (rw (mask_same t ls, eq-eqb t t refl)
-      (ap (count_trailing_zeros (suc k)) (rest_same (layer_mask t ls)) ∙ zeros_even k (layer_mask t ls) ∙ ap suc (first_zeros t k ls (omega arith) (omega arith)))))
+      (ap (count_trailing_zeros (suc k)) (rest_same (layer_mask t ls)) ∙ zeros_even k (layer_mask t ls)
+      ∙ ap suc (first_zeros t k ls (omega arith) (omega arith)))))
   | inr n ↦ (let fewer : count t ls ≡ 2 = sym (count_other t l ls n) ∙ two in
       let some : 0 < layer_mask t ls = mask_some t ls (omega arith) in
       rw (mask_other t l ls n, ne_eqb l t n)
@@ -505,7 +518,8 @@ form_one t (cell ∷ cells) h = elim (cases_eq (layer cell) t) [
       let none : count t (map layer cells) ≡ 0 = omega arith in
       let rest : forms_number t cells ≡ 0 = no_form t cells none in
       let one : base_of t ^ count t (map layer cells) ≡ 1 = ap (λ (n : ℕ). base_of t ^ n) none ∙ pow-zero (base_of t) in
-      forms_number_same t cell cells e ∙ ap (λ (w : ℕ). form cell * w + forms_number t cells) one ∙ (let s : form cell * 1 + forms_number t cells ≡ form cell = omega arith in s)
+      forms_number_same t cell cells e ∙ ap (λ (w : ℕ). form cell * w + forms_number t cells) one
+      ∙ (let s : form cell * 1 + forms_number t cells ≡ form cell = omega arith in s)
       ∙ ap (λ (n : ℕ). form (get_or (cell ∷ cells) n None)) (sym (first_at e)))
   | inr n ↦ forms_number_other t cell cells n ∙ form_one t cells (sym (count_other t (layer cell) (map layer cells) n) ∙ h)
       ∙ ap (λ (k : ℕ). form (get_or (cell ∷ cells) k None)) (sym (first_after n))
@@ -518,18 +532,22 @@ form_one t (cell ∷ cells) h = elim (cases_eq (layer cell) t) [
     first_after n = rw (ne_eqb (layer cell) t n) refl
 
 pub form_two : (t : ℕ) (cells : List Cell) → count t (map layer cells) ≡ 2 →
-    forms_number t cells ≡ form (get_or cells (first_square t (map layer cells)) None) * base_of t + form (get_or cells (second_square t (map layer cells)) None)
+    forms_number t cells ≡ form (get_or cells (first_square t (map layer cells)) None) * base_of t
+    + form (get_or cells (second_square t (map layer cells)) None)
 form_two t [] h = absurd (omega arith)
 form_two t (cell ∷ cells) h = elim (cases_eq (layer cell) t) [
   | inl e ↦ (let more : suc (count t (map layer cells)) ≡ 2 = sym (ap (λ (x : ℕ). count t (x ∷ map layer cells)) e ∙ count_same t (map layer cells)) ∙ h in
       let one : count t (map layer cells) ≡ 1 = omega arith in
       let base : base_of t ^ count t (map layer cells) ≡ base_of t = ap (λ (n : ℕ). base_of t ^ n) one ∙ first_power (base_of t) in
-      forms_number_same t cell cells e ∙ ap (λ (w : ℕ). form cell * w + forms_number t cells) base ∙ ap (λ (x : ℕ). form cell * base_of t + x) (form_one t cells one)
+      forms_number_same t cell cells e ∙ ap (λ (w : ℕ). form cell * w + forms_number t cells) base
+      ∙ ap (λ (x : ℕ). form cell * base_of t + x) (form_one t cells one)
       ∙ ap (λ (k : ℕ). form cell * base_of t + form (get_or (cell ∷ cells) k None)) (sym (second_at e))
-      ∙ ap (λ (k : ℕ). form (get_or (cell ∷ cells) k None) * base_of t + form (get_or (cell ∷ cells) (second_square t (layer cell ∷ map layer cells)) None)) (sym (first_at e)))
+      ∙ ap (λ (k : ℕ). form (get_or (cell ∷ cells) k None) * base_of t
+      + form (get_or (cell ∷ cells) (second_square t (layer cell ∷ map layer cells)) None)) (sym (first_at e)))
   | inr n ↦ forms_number_other t cell cells n ∙ form_two t cells (sym (count_other t (layer cell) (map layer cells) n) ∙ h)
       ∙ ap (λ (k : ℕ). form (get_or (cell ∷ cells) k None) * base_of t + form (get_or cells (second_square t (map layer cells)) None)) (sym (first_after n))
-      ∙ ap (λ (k : ℕ). form (get_or (cell ∷ cells) (first_square t (layer cell ∷ map layer cells)) None) * base_of t + form (get_or (cell ∷ cells) k None)) (sym (second_after n))
+      ∙ ap (λ (k : ℕ). form (get_or (cell ∷ cells) (first_square t (layer cell ∷ map layer cells)) None) * base_of t
+      + form (get_or (cell ∷ cells) k None)) (sym (second_after n))
 ]
   where
     first_power : (b : ℕ) → b ^ 1 ≡ b
@@ -556,7 +574,8 @@ first_found : (t : ℕ) (cells : List Cell) (mask : ℕ) → length cells ≡ 12
 first_found t cells mask h m some =
     let long = layers_long cells h in ap (count_trailing_zeros 64) m ∙ first_zeros t 64 (map layer cells) (omega arith) some
 
-second_found : (t : ℕ) (cells : List Cell) (mask less : ℕ) → length cells ≡ 12 → mask ≡ layer_mask t (map layer cells) → less ≡ mask - 1 → count t (map layer cells) ≡ 2 →
+second_found : (t : ℕ) (cells : List Cell) (mask less : ℕ) → length cells ≡ 12 → mask ≡ layer_mask t (map layer cells)
+    → less ≡ mask - 1 → count t (map layer cells) ≡ 2 →
     count_trailing_zeros 64 (bit_and mask less) ≡ second_square t (map layer cells)
 second_found t cells mask less h m l two =
     let long = layers_long cells h in
@@ -568,7 +587,8 @@ pub first_on_board : (t : ℕ) (cells : List Cell) (mask : ℕ) → length cells
 first_on_board t cells mask h m some =
     let long = layers_long cells h in let is = first_found t cells mask h m some in let low = first_square-below t (map layer cells) some in omega arith
 
-pub second_on_board : (t : ℕ) (cells : List Cell) (mask less : ℕ) → length cells ≡ 12 → mask ≡ layer_mask t (map layer cells) → less ≡ mask - 1 → count t (map layer cells) ≡ 2 →
+pub second_on_board : (t : ℕ) (cells : List Cell) (mask less : ℕ) → length cells ≡ 12 → mask ≡ layer_mask t (map layer cells)
+    → less ≡ mask - 1 → count t (map layer cells) ≡ 2 →
     count_trailing_zeros 64 (bit_and mask less) < 12
 second_on_board t cells mask less h m l two =
     let long = layers_long cells h in let is = second_found t cells mask less h m l two in let low = second_square-below t (map layer cells) two in omega arith
@@ -579,13 +599,16 @@ at_square cells found square number e n = n ∙ ap (λ (k : ℕ). form (get_or c
 pub form_found : (t : ℕ) (cells : List Cell) (mask number : ℕ) → length cells ≡ 12 → mask ≡ layer_mask t (map layer cells) → count t (map layer cells) ≡ 1 →
     number ≡ form (get_or cells (count_trailing_zeros 64 mask) None) → number ≡ forms_number t cells
 form_found t cells mask number h m one n =
-    at_square cells (count_trailing_zeros 64 mask) (first_square t (map layer cells)) number (first_found t cells mask h m (omega arith)) n ∙ sym (form_one t cells one)
+    at_square cells (count_trailing_zeros 64 mask) (first_square t (map layer cells)) number (first_found t cells mask h m (omega arith)) n
+    ∙ sym (form_one t cells one)
 
 pub forms_found : (t : ℕ) (cells : List Cell) (mask less first other base : ℕ) → length cells ≡ 12 → mask ≡ layer_mask t (map layer cells) → less ≡ mask - 1 →
-    count t (map layer cells) ≡ 2 → first ≡ form (get_or cells (count_trailing_zeros 64 mask) None) → other ≡ form (get_or cells (count_trailing_zeros 64 (bit_and mask less)) None) →
+    count t (map layer cells) ≡ 2 → first ≡ form (get_or cells (count_trailing_zeros 64 mask) None)
+    → other ≡ form (get_or cells (count_trailing_zeros 64 (bit_and mask less)) None) →
     base ≡ base_of t → first * base + other ≡ forms_number t cells
 forms_found t cells mask less first other base h m l two f s b =
     let one = at_square cells (count_trailing_zeros 64 mask) (first_square t (map layer cells)) first (first_found t cells mask h m (omega arith)) f in
-    let next = at_square cells (count_trailing_zeros 64 (bit_and mask less)) (second_square t (map layer cells)) other (second_found t cells mask less h m l two) s in
+    let next = at_square cells (count_trailing_zeros 64 (bit_and mask less)) (second_square t (map layer cells)) other
+    (second_found t cells mask less h m l two) s in
     ap (λ (x : ℕ). first * x + other) b ∙ ap (λ (x : ℕ). x * base_of t + other) one
     ∙ ap (λ (x : ℕ). form (get_or cells (first_square t (map layer cells)) None) * base_of t + x) next ∙ sym (form_two t cells two)

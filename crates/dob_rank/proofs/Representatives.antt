@@ -6,7 +6,8 @@ use Rattle.dob_pieces.specs.declared.piece_set.PieceSet.{PieceSet}
 use Rattle.dob_pieces.specs.declared.setup.Setup.{Setup}
 use Rattle.dob_pieces.specs.Setups.{mirrored}
 use Rattle.dob_pieces.proofs.Symmetries.{mirrored-mirrored}
-use Rattle.dob_rank.specs.Order.{IsPositionOf, Before, key, IsFirstOfTwo, IsEither, IsRepresentative, RepresentativeOf, HasRank, HasClass, HasClasses, IsFirstIn, IsInClass}
+use Rattle.dob_rank.specs.Order.{IsPositionOf, Before, key, IsFirstOfTwo, IsEither, IsRepresentative, RepresentativeOf, HasRank, HasClass}
+use Rattle.dob_rank.specs.Order.{HasClasses, IsFirstIn, IsInClass}
 use Rattle.dob_rank.specs.Numbers.{size_of, rank_of, nth}
 use Rattle.dob_rank.specs.Marks.{one_if, marks_below, is_first}
 use Rattle.dob_rank.specs.ClassRows.{marked_place, class_setup}

@@ -1,8 +1,10 @@
 -- The marks of runs: how many there are before each place of a block, and the tables that say so.
-use Rattle.std.proofs.Common.{◌≡◌, ℕ, zero, suc, ◌+◌, ◌-◌, ◌*◌, ◌/◌, ◌%◌, ◌^◌, ◌<◌, ◌≤◌, min, Bool, true, false, List, length, slice_index_or, refl, sym, ap, ◌∙◌, subst, arith}
+use Rattle.std.proofs.Common.{◌≡◌, ℕ, zero, suc, ◌+◌, ◌-◌, ◌*◌, ◌/◌, ◌%◌, ◌^◌, ◌<◌, ◌≤◌, min, Bool, true, false, List, length}
+use Rattle.std.proofs.Common.{slice_index_or, refl, sym, ap, ◌∙◌, subst, arith}
 use Rattle.std.proofs.lemmas.Nat.{div-add-mod', div_below, mod_below}
 use Rattle.std.proofs.Math.Nat.{add-mul, mul-le-mul_right}
 use Rattle.dob_pieces.specs.declared.piece_set.PieceSet.{PieceSet}
+use Rattle.dob_rank.specs.declared.block_classes.BlockClasses.{BlockClasses}
 use Rattle.dob_rank.specs.declared.runs.Run.{Run}
 use Rattle.dob_rank.specs.declared.runs.Word.{Word}
 use Rattle.dob_rank.specs.declared.runs.RunKind.TheVariants.{First, Later, Mixed}
@@ -13,7 +15,7 @@ use Rattle.dob_rank.specs.RunTables.{IsRun, AreRuns, run_word}
 use Rattle.dob_rank.proofs.Blocks.{block_size-small, blocks_small}
 use Rattle.dob_rank.proofs.Words.{marks_below-le, marks_below-all, marks_below-unmarked}
 use Rattle.dob_rank.proofs.ClassNumbers.{IsMarkedAt, one_left}
-use Rattle.dob_rank.proofs.RunPlaces.{IsInRun, block_size-runs, run_start-is, marked_first, marked_later, run_size-some}
+use Rattle.dob_rank.proofs.RunPlaces.{IsInRun, block_size-runs, place_in_run, run_start-is, marked_first, marked_later, run_size-some}
 
 -- ---- places of runs
 
@@ -93,69 +95,76 @@ marks_small set block place within upto =
     let marks = marks_below-le (marked set) (start_of set block + place) in
     omega (arith, start, size, marks, upto)
 
--- ---- what the tables say of a place
+-- ---- what the tables say of a place of a run
 
--- the run of a place, and its entry
-pub record IsThere (set : PieceSet) (block size place : ℕ) (words : List Word) (entry : Run) : Type 0 where
-  pub split : IsSplit set block place (place / size) (place % size)
-  pub entry_is : IsRun set block (place / size) words entry
+-- there are few marks below it
+pub run_marks_few : (set : PieceSet) (block run local : ℕ) → IsInRun set block run local →
+    marks_below (marked set) (run_start set block run + local) ≤ 2 ^ 42
+run_marks_few set block run local at =
+    let below = place_in_run set block run local at in
+    let few = marks_small set block (run * run_size set block + local) at.block_below (omega (arith, below)) in
+    subst (λ n. marks_below (marked set) n ≤ 2 ^ 42)
+    (joined (run_start set block run) (start_of set block) (run * run_size set block) local (run_start-is set block run)) few
+  where
+    joined : (run start first local : ℕ) → run ≡ start + first → start + (first + local) ≡ run + local
+    joined run start first local e = omega arith
+
+-- the place, and the entry of its run
+pub record IsThere (set : PieceSet) (block run local : ℕ) (words : List Word) (entry : Run) : Type 0 where
+  pub in_run : IsInRun set block run local
+  pub entry_is : IsRun set block run words entry
 
 pub run_read : (set : PieceSet) (block count run : ℕ) (runs : List Run) (words : List Word) (entry : Run) → AreRuns set block count runs words → run < count →
     entry ≡ slice_index_or runs run entry → IsRun set block run words entry
 run_read set block count run runs words entry are below read = subst (IsRun set block run words) (sym read) (are.each run entry below)
 
-pub there : (set : PieceSet) (block size place count : ℕ) (runs : List Run) (words : List Word) (entry : Run) → block < product (block_bases set) →
-    size ≡ run_size set block → count ≡ runs_in set block → AreRuns set block count runs words → place < block_size set block →
-    entry ≡ slice_index_or runs (place / size) entry → IsThere set block size place words entry
-there set block size place count runs words entry within is whole are below read =
-    let positive : 0 < size = subst (λ n. 0 < n) (sym is) (run_size-some set block within) in
-    let split = split_place set block place size within is positive below in
-    record {
-      split = split;
-      entry_is = run_read set block count (place / size) runs words entry are (subst (λ n. place / size < n) (sym whole) split.there.run_below) read;
-    }
+pub there_in : (block : BlockClasses) (run local : ℕ) (entry : Run) → run < runs_in block.set block.number → local < run_size block.set block.number →
+    entry ≡ slice_index_or block.runs.items run entry → IsThere block.set block.number run local block.words.items entry
+there_in block run local entry run_below local_below read = record {
+  in_run = record { block_below = block.within; run_below = run_below; local_below = local_below };
+  entry_is = run_read block.set block.number _ run block.runs.items block.words.items entry block.table (subst (λ n. run < n) (sym block.whole) run_below) read;
+}
 
 pub size_positive : (set : PieceSet) (block size : ℕ) → block < product (block_bases set) → size ≡ run_size set block → 0 < size
 size_positive set block size within is = subst (λ n. 0 < n) (sym is) (run_size-some set block within)
 
--- a place's mark, and how many there are before it
-pub record IsFound (set : PieceSet) (block place : ℕ) (on : Bool) (before : ℕ) : Type 0 where
-  pub mark_is : on ≡ marked set (start_of set block + place)
-  pub before_is : before ≡ marks_below (marked set) (start_of set block + place)
+-- the place's mark, and how many there are before it
+pub record IsFound (set : PieceSet) (block run local : ℕ) (on : Bool) (before : ℕ) : Type 0 where
+  pub mark_is : on ≡ marked set (run_start set block run + local)
+  pub before_is : before ≡ marks_below (marked set) (run_start set block run + local)
 
-pub first_found : (set : PieceSet) (block size place : ℕ) (words : List Word) (entry : Run) → IsThere set block size place words entry →
-    run_kind (place / size % 99) ≡ First → IsFound set block place true (entry.before + place % size)
-first_found set block size place words entry at kind =
-    let in_run = at.split.there in
-    let marks = first_marks set block (place / size) (place % size) in_run.block_below in_run.run_below (let low = in_run.local_below in omega arith) kind in
+pub first_found : (set : PieceSet) (block run local : ℕ) (words : List Word) (entry : Run) → IsThere set block run local words entry →
+    run_kind (run % 99) ≡ First → IsFound set block run local true (entry.before + local)
+first_found set block run local words entry at kind =
+    let in_run = at.in_run in
+    let marks = first_marks set block run local in_run.block_below in_run.run_below (let low = in_run.local_below in omega arith) kind in
     record {
-      mark_is = sym (marked_first set block (place / size) (place % size) in_run kind) ∙ ap (marked set) at.split.whole;
-      before_is = ap (λ n. n + place % size) at.entry_is.before_is ∙ sym marks ∙ ap (marks_below (marked set)) at.split.whole;
+      mark_is = sym (marked_first set block run local in_run kind);
+      before_is = ap (λ n. n + local) at.entry_is.before_is ∙ sym marks;
     }
 
-pub later_found : (set : PieceSet) (block size place : ℕ) (words : List Word) (entry : Run) → IsThere set block size place words entry →
-    run_kind (place / size % 99) ≡ Later → IsFound set block place false entry.before
-later_found set block size place words entry at kind =
-    let in_run = at.split.there in
-    let marks = later_marks set block (place / size) (place % size) in_run.block_below in_run.run_below (let low = in_run.local_below in omega arith) kind in
+pub later_found : (set : PieceSet) (block run local : ℕ) (words : List Word) (entry : Run) → IsThere set block run local words entry →
+    run_kind (run % 99) ≡ Later → IsFound set block run local false entry.before
+later_found set block run local words entry at kind =
+    let in_run = at.in_run in
+    let marks = later_marks set block run local in_run.block_below in_run.run_below (let low = in_run.local_below in omega arith) kind in
     record {
-      mark_is = sym (marked_later set block (place / size) (place % size) in_run kind) ∙ ap (marked set) at.split.whole;
-      before_is = at.entry_is.before_is ∙ sym marks ∙ ap (marks_below (marked set)) at.split.whole;
+      mark_is = sym (marked_later set block run local in_run kind);
+      before_is = at.entry_is.before_is ∙ sym marks;
     }
 
 -- the word of a place in a mixed run
-pub record IsInWord (set : PieceSet) (block size place : ℕ) (words : List Word) (entry : Run) : Type 0 where
-  pub within : entry.word + place % size / 64 < length words
-  pub word_is : (other : Word) →
-      slice_index_or words (entry.word + place % size / 64) other ≡ run_word set block (place / size) (place % size / 64)
+pub record IsInWord (set : PieceSet) (block run local : ℕ) (words : List Word) (entry : Run) : Type 0 where
+  pub within : entry.word + local / 64 < length words
+  pub word_is : (other : Word) → slice_index_or words (entry.word + local / 64) other ≡ run_word set block run (local / 64)
 
-pub in_word : (set : PieceSet) (block size place : ℕ) (words : List Word) (entry : Run) → IsThere set block size place words entry →
-    run_kind (place / size % 99) ≡ Mixed → (some : Word) → IsInWord set block size place words entry
-in_word set block size place words entry at kind some =
-    let low : 64 * (place % size / 64) < run_size set block = below_size (place % size) (run_size set block) at.split.there.local_below in
+pub in_word : (set : PieceSet) (block run local : ℕ) (words : List Word) (entry : Run) → IsThere set block run local words entry →
+    run_kind (run % 99) ≡ Mixed → (some : Word) → IsInWord set block run local words entry
+in_word set block run local words entry at kind some =
+    let low : 64 * (local / 64) < run_size set block = below_size local (run_size set block) at.in_run.local_below in
     record {
-      within = (at.entry_is.words_are kind (place % size / 64) some low).0;
-      word_is = λ other. (at.entry_is.words_are kind (place % size / 64) other low).1;
+      within = (at.entry_is.words_are kind (local / 64) some low).0;
+      word_is = λ other. (at.entry_is.words_are kind (local / 64) other low).1;
     }
   where
     below_size : (n size : ℕ) → n < size → 64 * (n / 64) < size
@@ -171,43 +180,43 @@ run_word-is : (set : PieceSet) (block run number : ℕ) →
 unfolding run_word
 run_word-is set block run number = record { bits_are = refl; before_is = refl }
 
-pub word_there : (set : PieceSet) (block size place : ℕ) (words : List Word) (entry : Run) (word : Word) → IsInWord set block size place words entry →
-    word ≡ slice_index_or words (entry.word + place % size / 64) word →
-    IsWordOf (marked set) (run_start set block (place / size) + 64 * (place % size / 64)) (min (run_size set block - 64 * (place % size / 64)) 64) word
-word_there set block size place words entry word at read =
-    subst (IsWordOf (marked set) (run_start set block (place / size) + 64 * (place % size / 64)) (min (run_size set block - 64 * (place % size / 64)) 64))
-    (sym (read ∙ at.word_is word)) (run_word-is set block (place / size) (place % size / 64))
+pub word_there : (set : PieceSet) (block run local : ℕ) (words : List Word) (entry : Run) (word : Word) → IsInWord set block run local words entry →
+    word ≡ slice_index_or words (entry.word + local / 64) word →
+    IsWordOf (marked set) (run_start set block run + 64 * (local / 64)) (min (run_size set block - 64 * (local / 64)) 64) word
+word_there set block run local words entry word at read =
+    subst (IsWordOf (marked set) (run_start set block run + 64 * (local / 64)) (min (run_size set block - 64 * (local / 64)) 64))
+    (sym (read ∙ at.word_is word)) (run_word-is set block run (local / 64))
 
 -- the place in the word
-pub record IsPlaceInWord (set : PieceSet) (block size place : ℕ) : Type 0 where
-  pub below : place % size % 64 < min (run_size set block - 64 * (place % size / 64)) 64
-  pub whole : run_start set block (place / size) + 64 * (place % size / 64) + place % size % 64 ≡ start_of set block + place
+pub record IsPlaceInWord (set : PieceSet) (block run local : ℕ) : Type 0 where
+  pub below : local % 64 < min (run_size set block - 64 * (local / 64)) 64
+  pub whole : run_start set block run + 64 * (local / 64) + local % 64 ≡ run_start set block run + local
 
-pub place_in_word : (set : PieceSet) (block size place : ℕ) → IsSplit set block place (place / size) (place % size) → IsPlaceInWord set block size place
-place_in_word set block size place split = record {
-  below = in_both (place % size) (run_size set block) split.there.local_below;
-  whole = joined (run_start set block (place / size)) (place % size) (start_of set block) place split.whole;
+pub place_in_word : (set : PieceSet) (block run local : ℕ) → local < run_size set block → IsPlaceInWord set block run local
+place_in_word set block run local below = record {
+  below = in_both local (run_size set block) below;
+  whole = joined (run_start set block run) local;
 }
   where
     in_both : (n size : ℕ) → n < size → n % 64 < min (size - 64 * (n / 64)) 64
     in_both n size h = omega arith
 
-    joined : (run n start place : ℕ) → run + n ≡ start + place → run + 64 * (n / 64) + n % 64 ≡ start + place
-    joined run n start place e = omega arith
+    joined : (run n : ℕ) → run + 64 * (n / 64) + n % 64 ≡ run + n
+    joined run n = omega arith
 
--- few marks are before a word
-pub word_small : (set : PieceSet) (block size place len : ℕ) (word : Word) → IsSplit set block place (place / size) (place % size) →
-    IsWordOf (marked set) (run_start set block (place / size) + 64 * (place % size / 64)) len word → place < block_size set block → word.before ≤ 1152921504606846976
-word_small set block size place len word split is below =
-    let upto = marks_below-le (marked set) (run_start set block (place / size) + 64 * (place % size / 64)) in
-    let start = start_small set block (let there = split.there.block_below in omega arith) in
-    let size_of_block = block_size-small set block split.there.block_below in
-    bounded word.before (marks_below (marked set) (run_start set block (place / size) + 64 * (place % size / 64))) (run_start set block (place / size)) (place % size)
-    (start_of set block) place (block_size set block) is.before_is upto split.whole start below size_of_block
+pub word_small : (set : PieceSet) (block run local len : ℕ) (word : Word) → IsInRun set block run local →
+    IsWordOf (marked set) (run_start set block run + 64 * (local / 64)) len word → word.before ≤ 1152921504606846976
+word_small set block run local len word at is =
+    let upto = marks_below-le (marked set) (run_start set block run + 64 * (local / 64)) in
+    let start = start_small set block (let there = at.block_below in omega arith) in
+    let small = block_size-small set block at.block_below in
+    let below = place_in_run set block run local at in
+    bounded word.before (marks_below (marked set) (run_start set block run + 64 * (local / 64))) (run_start set block run) local
+    (start_of set block) (run * run_size set block) (block_size set block) is.before_is upto (run_start-is set block run) start below small
   where
-    bounded : (before marks run n start place size : ℕ) → before ≡ marks → marks ≤ run + 64 * (n / 64) → run + n ≡ start + place → start ≤ 27 * 68719476736 →
-        place < size → size ≤ 68719476736 → before ≤ 1152921504606846976
-    bounded before marks run n start place size a b c d e f = omega arith
+    bounded : (before marks run n start first size : ℕ) → before ≡ marks → marks ≤ run + 64 * (n / 64) → run ≡ start + first → start ≤ 27 * 68719476736 →
+        first + n < size → size ≤ 68719476736 → before ≤ 1152921504606846976
+    bounded before marks run n start first size a b c d e f = omega arith
 
 -- ---- searches
 
@@ -218,7 +227,8 @@ pub record IsRunStart (set : PieceSet) (block high class : ℕ) : Type 0 where
   pub low_is : marks_below (marked set) (run_start set block 0) ≤ class
   pub high_is : class < marks_below (marked set) (run_start set block high)
 
-pub run_search : (set : PieceSet) (block before after high class : ℕ) → block < product (block_bases set) → before ≡ marks_below (marked set) (start_of set block) →
+pub run_search : (set : PieceSet) (block before after high class : ℕ) → block < product (block_bases set)
+    → before ≡ marks_below (marked set) (start_of set block) →
     after ≡ marks_below (marked set) (start_of set block + block_size set block) → high ≡ runs_in set block → before ≤ class → class < after →
     IsRunStart set block high class
 run_search set block before after high class within starts ends is low upto =
@@ -266,7 +276,8 @@ first_place set block run size before class within is at kind before_is =
     let next : marks_below (marked set) (run_start set block (run + 1)) ≡ marks_below (marked set) (run_start set block run + run_size set block) =
     ap (marks_below (marked set)) (run_start_next set block run) in
     let below : class - before < run_size set block =
-    few_classes class before (marks_below (marked set) (run_start set block run)) (marks_below (marked set) (run_start set block (run + 1))) (run_size set block) before_is at.low_is at.high_is (next ∙ all) in
+    few_classes class before (marks_below (marked set) (run_start set block run)) (marks_below (marked set) (run_start set block (run + 1)))
+    (run_size set block) before_is at.low_is at.high_is (next ∙ all) in
     let upto = run_upto set block run size at.run_below is in
     let in_run : IsInRun set block run (class - before) = record { block_below = within; run_below = at.run_below; local_below = below } in
     let whole : run_start set block run + (class - before) ≡ start_of set block + (run * size + (class - before)) =
@@ -292,29 +303,46 @@ first_place set block run size before class within is at kind before_is =
     sum_back : (low before class : ℕ) → before ≡ low → low ≤ class → low + (class - before) ≡ class
     sum_back low before class a b = omega arith
 
--- the places between which one of another run lies
-pub record IsPlaceStart (set : PieceSet) (block first end class : ℕ) : Type 0 where
-  pub some : first < end
-  pub within : end ≤ block_size set block
-  pub low_is : marks_below (marked set) (start_of set block + first) ≤ class
-  pub high_is : class < marks_below (marked set) (start_of set block + end)
+-- the places of a run between which one lies
+pub record IsPlaceStart (set : PieceSet) (block run high class : ℕ) : Type 0 where
+  pub some : 0 < high
+  pub within : high ≤ run_size set block
+  pub low_is : marks_below (marked set) (run_start set block run + 0) ≤ class
+  pub high_is : class < marks_below (marked set) (run_start set block run + high)
 
-pub place_search : (set : PieceSet) (block run size class : ℕ) → block < product (block_bases set) → size ≡ run_size set block → IsSearched set block run class →
-    IsPlaceStart set block (run * size) (run * size + size) class
-place_search set block run size class within is at =
+pub place_search : (set : PieceSet) (block run size class : ℕ) → block < product (block_bases set) → size ≡ run_size set block →
+    marks_below (marked set) (run_start set block run) ≤ class → class < marks_below (marked set) (run_start set block (run + 1)) →
+    IsPlaceStart set block run size class
+place_search set block run size class within is low high =
     let positive = size_positive set block size within is in
-    let start : run_start set block run ≡ start_of set block + run * size = run_start-is set block run ∙ ap (λ n. start_of set block + run * n) (sym is) in
-    let next : run_start set block (run + 1) ≡ start_of set block + (run * size + size) =
-    joined (run_start set block (run + 1)) (run_start set block run) (run_size set block) size (start_of set block) (run * size) (run_start_next set block run) start is in
     record {
-      some = omega arith;
-      within = run_upto set block run size at.run_below is;
-      low_is = subst (λ n. marks_below (marked set) n ≤ class) start at.low_is;
-      high_is = subst (λ n. class < marks_below (marked set) n) next at.high_is;
+      some = positive;
+      within = at_most size (run_size set block) is;
+      low_is = subst (λ n. marks_below (marked set) n ≤ class) (none (run_start set block run)) low;
+      high_is = subst (λ n. class < marks_below (marked set) n) (run_start_next set block run ∙ ap (λ n. run_start set block run + n) (sym is)) high;
     }
   where
-    joined : (next run size same start first : ℕ) → next ≡ run + size → run ≡ start + first → same ≡ size → next ≡ start + (first + same)
-    joined next run size same start first a b c = omega arith
+    at_most : (a b : ℕ) → a ≡ b → a ≤ b
+    at_most a b e = omega arith
+
+    none : (run : ℕ) → run ≡ run + 0
+    none run = omega arith
+
+-- the place found there, as one of the block
+pub searched_place : (set : PieceSet) (block run size local class : ℕ) → IsInRun set block run local → size ≡ run_size set block →
+    marked set (run_start set block run + local) ≡ true → marks_below (marked set) (run_start set block run + local) ≡ class →
+    IsPlaceOfClass set block (run * size + local) class
+searched_place set block run size local class at is on number =
+    let whole : run_start set block run + local ≡ start_of set block + (run * size + local) =
+    joined (run_start set block run) (start_of set block) (run * size) local (run_start-is set block run ∙ ap (λ n. start_of set block + run * n) (sym is)) in
+    record {
+      place_below = subst (λ n. run * n + local < block_size set block) (sym is) (place_in_run set block run local at);
+      mark_is = ap (marked set) (sym whole) ∙ on;
+      class_is = ap (marks_below (marked set)) (sym whole) ∙ number;
+    }
+  where
+    joined : (run start first local : ℕ) → run ≡ start + first → run + local ≡ start + (first + local)
+    joined run start first local e = omega arith
 
 -- two neighbours between which the last search ends
 pub last_place : (mark : ℕ → Bool) (start low high class : ℕ) → low < high → high - low ≤ 1 → marks_below mark (start + low) ≤ class →

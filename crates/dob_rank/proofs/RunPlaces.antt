@@ -1,6 +1,7 @@
 -- A place in a block is a run and a place in that run, and the lions of a run compare its positions with their mirror
 -- images.
-use Rattle.std.proofs.Common.{◌≡◌, ℕ, zero, suc, ◌+◌, ◌-◌, ◌*◌, ◌/◌, ◌%◌, ◌<◌, ◌≤◌, Bool, true, false, List, [], ◌∷◌, ◌++◌, length, get_or, take, drop, map, refl, sym, ap, ◌∙◌, subst, inl, inr, arith}
+use Rattle.std.proofs.Common.{◌≡◌, ℕ, zero, suc, ◌+◌, ◌-◌, ◌*◌, ◌/◌, ◌%◌, ◌<◌, ◌≤◌, Bool, true, false, List, [], ◌∷◌, ◌++◌, length, get_or}
+use Rattle.std.proofs.Common.{take, drop, map, refl, sym, ap, ◌∙◌, subst, inl, inr, arith}
 use Rattle.std.specs.List.{All}
 use Rattle.std.proofs.lemmas.Bool.{cases_Bool, cases_lt}
 use Rattle.std.proofs.lemmas.List.{length-map}
@@ -11,7 +12,8 @@ use Rattle.dob_pieces.specs.declared.setup.Setup.{Setup}
 use Rattle.dob_pieces.specs.Setups.{mirrored}
 use Rattle.dob_rank.specs.declared.runs.RunKind.TheVariants.{First, Later}
 use Rattle.dob_rank.specs.Order.{IsPositionOf}
-use Rattle.dob_rank.specs.Numbers.{layer, count, choice, forms_number, product, number_of, digits_of, sum_below, block_bases, bases_by, on_board, block_of, block_size, rank_of, setup_in}
+use Rattle.dob_rank.specs.Numbers.{layer, count, choice, forms_number, product, number_of, digits_of, sum_below, block_bases, bases_by}
+use Rattle.dob_rank.specs.Numbers.{on_board, block_of, block_size, rank_of, setup_in}
 use Rattle.dob_rank.specs.Marks.{is_first, marked}
 use Rattle.dob_rank.specs.Runs.{run_bases, local_bases, runs_in, run_size, run_start, lions_of, run_kind}
 use Rattle.dob_rank.proofs.Blocks.{AreBases-by, few_in_block, block_size-small}
@@ -341,7 +343,8 @@ pub marked_by_place : (set : PieceSet) (block place other : ℕ) (s t : Setup) �
 marked_by_place set block place other s t there image is le =
     let same : other ≡ place_of set (mirrored s) = is ∙ ap (place_of set) image in
     let own : place_of set s ≡ place = there.place_is in
-    mark_of_place set block place s true there (first_by_place set s there.position (ordered (place_of set s) (place_of set (mirrored s)) place other own same le))
+    mark_of_place set block place s true there
+    (first_by_place set s there.position (ordered (place_of set s) (place_of set (mirrored s)) place other own same le))
   where
     ordered : (own image place other : ℕ) → own ≡ place → other ≡ image → place ≤ other → own ≤ image
     ordered own image place other p q le = omega arith
@@ -351,7 +354,8 @@ pub unmarked_by_place : (set : PieceSet) (block place other : ℕ) (s t : Setup)
 unmarked_by_place set block place other s t there image is lt =
     let same : other ≡ place_of set (mirrored s) = is ∙ ap (place_of set) image in
     let own : place_of set s ≡ place = there.place_is in
-    mark_of_place set block place s false there (later_by_place set s there.position (ordered (place_of set s) (place_of set (mirrored s)) place other own same lt))
+    mark_of_place set block place s false there
+    (later_by_place set s there.position (ordered (place_of set s) (place_of set (mirrored s)) place other own same lt))
   where
     ordered : (own image place other : ℕ) → own ≡ place → other ≡ image → other < place → image < own
     ordered own image place other p q lt = omega arith

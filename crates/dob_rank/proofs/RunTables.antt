@@ -1,5 +1,6 @@
 -- The tables of runs and words as they grow.
-use Rattle.std.proofs.Common.{◌≡◌, ℕ, ◌+◌, ◌-◌, ◌*◌, ◌/◌, ◌%◌, ◌<◌, ◌≤◌, min, List, [], ◌∷◌, ◌++◌, length, map, slice_index_or, append_assoc, refl, sym, ap, ◌∙◌, subst, inl, inr, arith}
+use Rattle.std.proofs.Common.{◌≡◌, ℕ, ◌+◌, ◌-◌, ◌*◌, ◌/◌, ◌%◌, ◌<◌, ◌≤◌, min, List, [], ◌∷◌, ◌++◌, length, map, slice_index_or}
+use Rattle.std.proofs.Common.{append_assoc, refl, sym, ap, ◌∙◌, subst, inl, inr, arith}
 use Rattle.std.specs.List.{range_with_len}
 use Rattle.std.proofs.lemmas.Bool.{cases_lt}
 use Rattle.std.proofs.lemmas.List.{length-append, length_push, get_or_append_left, get_or-append_right, get_or_push}
@@ -71,7 +72,8 @@ next_word set block run size word len bits before count number within below is i
     all_inside : (word size : ℕ) → word < (size + 64 - 1) / 64 → min (64 * word) size ≡ 64 * word
     all_inside word size h = omega arith
 
-    word_end : (run word len size : ℕ) → len ≡ min (size - 64 * word) 64 → word < (size + 64 - 1) / 64 → run + 64 * word + len ≡ run + min (64 * (word + 1)) size
+    word_end : (run word len size : ℕ) → len ≡ min (size - 64 * word) 64 → word < (size + 64 - 1) / 64
+        → run + 64 * word + len ≡ run + min (64 * (word + 1)) size
     word_end run word len size e h = omega arith
 
     summed : (before count number first ones end : ℕ) → before + count ≡ first → number ≡ ones → first + ones ≡ end → before + (count + number) ≡ end
@@ -119,18 +121,21 @@ none_yet set block run size before is =
 
 -- ---- the words kept of a run, by its kind
 
-pub kept_by : (set : PieceSet) (block run : ℕ) (kind : RunKind) → run_kind (run % 99) ≡ kind → kept_words set block run ≡ words_by_kind kind (run_words set block run)
+pub kept_by : (set : PieceSet) (block run : ℕ) (kind : RunKind) → run_kind (run % 99) ≡ kind
+    → kept_words set block run ≡ words_by_kind kind (run_words set block run)
 kept_by set block run kind is = ap (λ k. words_by_kind k (run_words set block run)) is
 
 pub count_first : (set : PieceSet) (block run size before : ℕ) → block < product (block_bases set) → run < runs_in set block → size ≡ run_size set block →
-    before ≡ marks_below (marked set) (run_start set block run) → run_kind (run % 99) ≡ First → before + size ≡ marks_below (marked set) (run_start set block (run + 1))
+    before ≡ marks_below (marked set) (run_start set block run) → run_kind (run % 99) ≡ First
+    → before + size ≡ marks_below (marked set) (run_start set block (run + 1))
 count_first set block run size before within below is before_is kind =
     ap (λ n. n + size) before_is ∙ ap (λ n. marks_below (marked set) (run_start set block run) + n) is
     ∙ sym (first_marks set block run (run_size set block) within below (omega arith) kind)
     ∙ ap (marks_below (marked set)) (sym (run_start_next set block run))
 
 pub count_later : (set : PieceSet) (block run before : ℕ) → block < product (block_bases set) → run < runs_in set block →
-    before ≡ marks_below (marked set) (run_start set block run) → run_kind (run % 99) ≡ Later → before + 0 ≡ marks_below (marked set) (run_start set block (run + 1))
+    before ≡ marks_below (marked set) (run_start set block run) → run_kind (run % 99) ≡ Later
+    → before + 0 ≡ marks_below (marked set) (run_start set block (run + 1))
 count_later set block run before within below before_is kind =
     plus_none before _ (before_is ∙ sym (later_marks set block run (run_size set block) within below (omega arith) kind)
     ∙ ap (marks_below (marked set)) (sym (run_start_next set block run)))
@@ -141,7 +146,8 @@ count_later set block run before within below before_is kind =
 -- ---- the entries of runs
 
 -- an entry stays right when words are added
-IsRun-more : (set : PieceSet) (block run : ℕ) (words more : List Word) (entry : Run) → IsRun set block run words entry → IsRun set block run (words ++ more) entry
+IsRun-more : (set : PieceSet) (block run : ℕ) (words more : List Word) (entry : Run)
+    → IsRun set block run words entry → IsRun set block run (words ++ more) entry
 IsRun-more set block run words more entry is = record {
   before_is = is.before_is;
   words_are = λ kind number other low.
@@ -180,7 +186,8 @@ IsRun-new set block run before words before_is = record {
     word_in set block run number other low =
         let words = run_words-are set block run in
         let inside : number < (run_size set block + 63) / 64 = omega arith in (
-          subst (λ ws. number < length ws) (sym words) (let long = length-map-range_with_len (run_word set block run) 0 ((run_size set block + 63) / 64) in omega (arith, long, inside)),
+          subst (λ ws. number < length ws) (sym words) (let long
+              = length-map-range_with_len (run_word set block run) 0 ((run_size set block + 63) / 64) in omega (arith, long, inside)),
           ap (λ ws. slice_index_or ws number other) words
               ∙ get_or-map-range_with_len (run_word set block run) 0 ((run_size set block + 63) / 64) number number other inside (omega arith),
         )
@@ -191,7 +198,8 @@ pub AreRuns-push : (set : PieceSet) (block run before word : ℕ) (runs news : L
     news ≡ runs ++ make_run before word ∷ [] → AreRuns set block (run + 1) news longer
 AreRuns-push set block run before word runs news words longer are before_is word_is longer_is news_are =
     subst (λ ws. AreRuns set block (run + 1) news ws) (sym longer_is)
-    (subst (λ rs. AreRuns set block (run + 1) rs (words ++ kept_words set block run)) (sym (news_are ∙ ap (λ n. runs ++ make_run before n ∷ []) word_is)) (record {
+    (subst (λ rs. AreRuns set block (run + 1) rs (words ++ kept_words set block run))
+    (sym (news_are ∙ ap (λ n. runs ++ make_run before n ∷ []) word_is)) (record {
       long = length_push runs (make_run before (length words)) ∙ ap (λ n. n + 1) are.long;
       each = λ k other below. elim (cases_lt k run) [
         | inl earlier ↦ subst (IsRun set block k (words ++ kept_words set block run))

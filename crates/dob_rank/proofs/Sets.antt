@@ -6,15 +6,18 @@ use Rattle.dob_pieces.specs.declared.piece_set.PieceSet.{PieceSet}
 use Rattle.dob_pieces.specs.declared.setup.Setup.{Setup}
 use Rattle.dob_pieces.specs.Setups.{total, IsLegal}
 use Rattle.dob_rank.specs.Order.{IsPositionOf, pieces_of, HasRank}
-use Rattle.dob_rank.specs.Numbers.{layer, count, product, number_of, digits_of, sum_below, block_bases, bases, bases_by, on_board, digits, block_of, block_size, rank_of}
+use Rattle.dob_rank.specs.Numbers.{layer, count, product, number_of, digits_of, sum_below, block_bases, bases, bases_by, on_board, digits}
+use Rattle.dob_rank.specs.Numbers.{block_of, block_size, rank_of}
 use Rattle.dob_rank.proofs.Digits.{HasParts, HasParts-from_position}
 use Rattle.dob_rank.proofs.Numbering.{block_size-product, rank_of-place, place_of, HasRank-rank_of}
 
 -- a legal setup with the totals of the set
-pub IsPositionOf-totals : (set : PieceSet) (s : Setup) → IsLegal s → set.chicks ≡ total hand.Chick s → set.elephants ≡ total hand.Elephant s → set.giraffes ≡ total hand.Giraffe s → IsPositionOf set s
+pub IsPositionOf-totals : (set : PieceSet) (s : Setup) → IsLegal s → set.chicks ≡ total hand.Chick s
+    → set.elephants ≡ total hand.Elephant s → set.giraffes ≡ total hand.Giraffe s → IsPositionOf set s
 IsPositionOf-totals set s legal c e g = record { legal = legal; pieces = by_kind set s c e g }
   where
-    by_kind : (set : PieceSet) (s : Setup) → set.chicks ≡ total hand.Chick s → set.elephants ≡ total hand.Elephant s → set.giraffes ≡ total hand.Giraffe s → (kind : HandKind) → total kind s ≡ pieces_of set kind
+    by_kind : (set : PieceSet) (s : Setup) → set.chicks ≡ total hand.Chick s → set.elephants ≡ total hand.Elephant s
+        → set.giraffes ≡ total hand.Giraffe s → (kind : HandKind) → total kind s ≡ pieces_of set kind
     by_kind set s c e g hand.Chick = sym c
     by_kind set s c e g hand.Elephant = sym e
     by_kind set s c e g hand.Giraffe = sym g
@@ -49,9 +52,13 @@ few_in_layer s t legal below = by_layer t below
     by_layer : (t : ℕ) → t < 5 → count t (map layer s.board) ≤ 2
     by_layer zero h = one_few (count 0 (map layer s.board)) parts.own_lion
     by_layer (suc zero) h = one_few (count 1 (map layer s.board)) parts.other_lion
-    by_layer (suc (suc zero)) h = few_left (count 2 (map layer s.board)) s.hands.mover.chicks s.hands.enemy.chicks (total hand.Chick s) parts.chicks (legal.few hand.Chick)
-    by_layer (suc (suc (suc zero))) h = few_left (count 3 (map layer s.board)) s.hands.mover.elephants s.hands.enemy.elephants (total hand.Elephant s) parts.elephants (legal.few hand.Elephant)
-    by_layer (suc (suc (suc (suc zero)))) h = few_left (count 4 (map layer s.board)) s.hands.mover.giraffes s.hands.enemy.giraffes (total hand.Giraffe s) parts.giraffes (legal.few hand.Giraffe)
+    by_layer (suc (suc zero)) h = few_left (count 2 (map layer s.board)) s.hands.mover.chicks s.hands.enemy.chicks
+        (total hand.Chick s) parts.chicks (legal.few hand.Chick)
+    by_layer (suc (suc (suc zero))) h
+        = few_left (count 3 (map layer s.board)) s.hands.mover.elephants s.hands.enemy.elephants
+        (total hand.Elephant s) parts.elephants (legal.few hand.Elephant)
+    by_layer (suc (suc (suc (suc zero)))) h
+        = few_left (count 4 (map layer s.board)) s.hands.mover.giraffes s.hands.enemy.giraffes (total hand.Giraffe s) parts.giraffes (legal.few hand.Giraffe)
     by_layer (suc (suc (suc (suc (suc t))))) h = absurd (omega (arith, h))
 
 -- ---- a rank depends on the set's numbers alone
@@ -66,7 +73,8 @@ block_size-same : (p q : PieceSet) (b : ℕ) → p.chicks ≡ q.chicks → p.ele
 block_size-same p q b c e g =
     block_size-product p b
     ∙ ap (λ (xs : List ℕ). product (bases_by p (digits_of xs b))) (block_bases-same p q c e g)
-    ∙ ap product (bases-same p q (slice_index (digits_of (block_bases q) b) 0) (slice_index (digits_of (block_bases q) b) 1) (slice_index (digits_of (block_bases q) b) 2) c e g)
+    ∙ ap product (bases-same p q (slice_index (digits_of (block_bases q) b) 0) (slice_index (digits_of (block_bases q) b) 1)
+    (slice_index (digits_of (block_bases q) b) 2) c e g)
     ∙ sym (block_size-product q b)
 
 sum_below-same : (f g : ℕ → ℕ) → ((n : ℕ) → f n ≡ g n) → (n : ℕ) → sum_below f n ≡ sum_below g n
@@ -81,7 +89,8 @@ rank_of-sets p q s hp hq =
     rank_of-place p s
     ∙ ap (λ (xs : List ℕ). sum_below (block_size p) (number_of xs (on_board s)) + place_of p s) (block_bases-same p q c e g)
     ∙ ap (λ (n : ℕ). n + place_of p s) (sum_below-same (block_size p) (block_size q) (λ n. block_size-same p q n c e g) (block_of q s))
-    ∙ ap (λ (xs : List ℕ). sum_below (block_size q) (block_of q s) + number_of xs (digits s)) (bases-same p q (count 2 (map layer s.board)) (count 3 (map layer s.board)) (count 4 (map layer s.board)) c e g)
+    ∙ ap (λ (xs : List ℕ). sum_below (block_size q) (block_of q s) + number_of xs (digits s))
+    (bases-same p q (count 2 (map layer s.board)) (count 3 (map layer s.board)) (count 4 (map layer s.board)) c e g)
     ∙ sym (rank_of-place q s)
 
 -- the rank found for one set is that of each set of the position

@@ -28,10 +28,12 @@ hidden_later t l h = rw (le-ltb l t h) refl
 pub settle_kept : (t pieces number l : ℕ) (ls : List ℕ) → (l ≡ 5 → ⊥) → settle t pieces number (l ∷ ls) ≡ l ∷ settle t pieces number ls
 settle_kept t pieces number l ls h = rw (ne_eqb l 5 h) refl
 
-pub settle_taken : (t pieces number : ℕ) (ls : List ℕ) → number < with_first (count 5 ls) pieces → settle t pieces number (5 ∷ ls) ≡ t ∷ settle t (pieces - 1) number ls
+pub settle_taken : (t pieces number : ℕ) (ls : List ℕ) → number < with_first (count 5 ls) pieces
+    → settle t pieces number (5 ∷ ls) ≡ t ∷ settle t (pieces - 1) number ls
 settle_taken t pieces number ls h = rw (lt-ltb number (with_first (count 5 ls) pieces) h) refl
 
-pub settle_left : (t pieces number : ℕ) (ls : List ℕ) → with_first (count 5 ls) pieces ≤ number → settle t pieces number (5 ∷ ls) ≡ 5 ∷ settle t pieces (number - with_first (count 5 ls) pieces) ls
+pub settle_left : (t pieces number : ℕ) (ls : List ℕ) → with_first (count 5 ls) pieces ≤ number
+    → settle t pieces number (5 ∷ ls) ≡ 5 ∷ settle t pieces (number - with_first (count 5 ls) pieces) ls
 settle_left t pieces number ls h = rw (le-ltb number (with_first (count 5 ls) pieces) h) refl
 
 -- the empty squares of a list that hides the layers from t on
@@ -71,7 +73,8 @@ settle-choice t (l ∷ ls) h a =
         | inr gt ↦ (let other : l ≡ t → ⊥ = omega arith in
             let number : choice t (l ∷ ls) ≡ with_first (count 5 (hide t ls)) (count t ls) + choice t ls
             = choice_later t l ls gt ∙ ap (λ (x : ℕ). with_first x (count t ls) + choice t ls) (sym empty) in
-            let less : with_first (count 5 (hide t ls)) (count t ls) + choice t ls - with_first (count 5 (hide t ls)) (count t ls) ≡ choice t ls = omega arith in
+            let less : with_first (count 5 (hide t ls)) (count t ls) + choice t ls - with_first (count 5 (hide t ls)) (count t ls) ≡ choice t ls
+            = omega arith in
             rw (count_other t l ls other, number, hidden_later t l (omega arith), hidden_later (suc t) l gt)
             (settle_left t (count t ls) (with_first (count 5 (hide t ls)) (count t ls) + choice t ls) (hide t ls) (omega arith)
             ∙ ap (λ (x : ℕ). 5 ∷ settle t (count t ls) x (hide t ls)) less ∙ ap (λ (xs : List ℕ). 5 ∷ xs) rest))
@@ -173,13 +176,6 @@ hide-hide s t (l ∷ ls) h k =
       | inr le ↦ cons (hidden s (hidden t l)) (hidden s l) (hide s (hide t ls)) (hide s ls)
           (ap (hidden s) (hidden_later t l le) ∙ hidden_later s 5 (omega arith) ∙ sym (hidden_later s l (omega arith))) rest
     ]
-
-pub hide-shown : (t : ℕ) (ls : List ℕ) → t ≤ 5 → AreShown t ls → hide t ls ≡ ls
-hide-shown t [] h a = refl
-hide-shown t (l ∷ ls) h a = elim a.0 [
-  | inl lt ↦ cons (hidden t l) l (hide t ls) ls (hidden_lower t l lt) (hide-shown t ls h a.1)
-  | inr e ↦ cons (hidden t l) l (hide t ls) ls (hidden_later t l (omega arith) ∙ sym e) (hide-shown t ls h a.1)
-]
 
 pub count_hide_next : (t : ℕ) (ls : List ℕ) → t < 5 → count t (hide (suc t) ls) ≡ count t ls
 count_hide_next t [] h = refl

@@ -43,13 +43,15 @@ word_of-below mark from (suc n) =
 
 -- the ones of a word are its marks
 pub ones-word_of : (mark : ℕ → Bool) (from n : ℕ) → marks_below mark from + ones (word_of mark from n) ≡ marks_below mark (from + n)
-ones-word_of mark from zero = ap (λ (x : ℕ). marks_below mark from + x) (ap ones (word_of_none mark from) ∙ ones-zero) ∙ (let e : marks_below mark from + 0 ≡ marks_below mark from = omega arith in e) ∙ ap (marks_below mark) (let e : from ≡ from + 0 = omega arith in e)
+ones-word_of mark from zero = ap (λ (x : ℕ). marks_below mark from + x) (ap ones (word_of_none mark from) ∙ ones-zero)
+    ∙ (let e : marks_below mark from + 0 ≡ marks_below mark from = omega arith in e) ∙ ap (marks_below mark) (let e : from ≡ from + 0 = omega arith in e)
 ones-word_of mark from (suc n) =
     let split : ones (word_of mark from (suc n)) ≡ ones (word_of mark (suc from) n) + one_if (mark from)
     = ap ones (word_of_more mark from n) ∙ cat (word_of mark (suc from) n) (mark from) in
     let rest : marks_below mark (suc from) + ones (word_of mark (suc from) n) ≡ marks_below mark (suc from + n) = ones-word_of mark (suc from) n in
     let step : marks_below mark (suc from) ≡ marks_below mark from + one_if (mark from) = marks_below_more mark from in
-    let same : marks_below mark (suc from + n) ≡ marks_below mark (from + suc n) = ap (marks_below mark) (let e : suc from + n ≡ from + suc n = omega arith in e) in
+    let same : marks_below mark (suc from + n) ≡ marks_below mark (from + suc n)
+    = ap (marks_below mark) (let e : suc from + n ≡ from + suc n = omega arith in e) in
     omega arith
   where
     cat : (a : ℕ) (b : Bool) → ones (a * 2 + one_if b) ≡ ones a + one_if b
@@ -68,7 +70,8 @@ word_of-low mark from (suc n) (suc p) h =
     ap (λ (x : ℕ). word_of mark from (suc n) % x) (pow-suc 2 p)
     ∙ mod-mul (word_of mark from (suc n)) (power_positive 2 p (omega arith)) (let two : 0 < 2 = omega arith in two)
     ∙ ap (λ (x : ℕ). x / 2 % 2 ^ p * 2 + x % 2) (word_of_more mark from n)
-    ∙ ap (λ (x : ℕ). x % 2 ^ p * 2 + (word_of mark (suc from) n * 2 + one_if (mark from)) % 2) (div-mul-add (word_of mark (suc from) n) 2 (one_if (mark from)) bit)
+    ∙ ap (λ (x : ℕ). x % 2 ^ p * 2 + (word_of mark (suc from) n * 2 + one_if (mark from)) % 2)
+    (div-mul-add (word_of mark (suc from) n) 2 (one_if (mark from)) bit)
     ∙ ap (λ (x : ℕ). word_of mark (suc from) n % 2 ^ p * 2 + x) (mod-mul-add (word_of mark (suc from) n) 2 (one_if (mark from)) bit)
     ∙ ap (λ (x : ℕ). x * 2 + one_if (mark from)) rest
     ∙ sym (word_of_more mark from p)
@@ -78,7 +81,8 @@ pub word_of-bit : (mark : ℕ → Bool) (from n p : ℕ) → p < n → word_of m
 word_of-bit mark from zero p h = absurd (omega arith)
 word_of-bit mark from (suc n) zero h =
     ap (λ (x : ℕ). word_of mark from (suc n) / x % 2) (pow-zero 2) ∙ ap (λ (x : ℕ). x % 2) (whole (word_of mark from (suc n)) ∙ word_of_more mark from n)
-    ∙ mod-mul-add (word_of mark (suc from) n) 2 (one_if (mark from)) (one_if-below (mark from)) ∙ ap (λ (x : ℕ). one_if (mark x)) (let e : from ≡ from + 0 = omega arith in e)
+    ∙ mod-mul-add (word_of mark (suc from) n) 2 (one_if (mark from)) (one_if-below (mark from))
+    ∙ ap (λ (x : ℕ). one_if (mark x)) (let e : from ≡ from + 0 = omega arith in e)
   where
     whole : (x : ℕ) → x / 1 ≡ x
     whole x = omega arith
@@ -127,7 +131,8 @@ word_step mark len first place word bit p q few e b =
     ∙ ap (λ (x : ℕ). word_of mark x (len - place) * 2 + one_if (mark (first + (place - 1)))) next in
     let is : 2 * word + bit ≡ word_of mark (first + (place - 1)) (len - (place - 1)) = omega arith in
     let low : word_of mark (first + (place - 1)) (len - (place - 1)) < 2 ^ (len - (place - 1)) = word_of-below mark (first + (place - 1)) (len - (place - 1)) in
-    let below : 2 ^ (len - (place - 1)) ≤ 2 ^ 64 = pow-le-pow_right (let two : 0 < 2 = omega arith in two) (let l : len - (place - 1) ≤ 64 = omega arith in l) in
+    let below : 2 ^ (len - (place - 1)) ≤ 2 ^ 64
+    = pow-le-pow_right (let two : 0 < 2 = omega arith in two) (let l : len - (place - 1) ≤ 64 = omega arith in l) in
     record { word_is = is; small = omega arith }
 
 -- ---- marks below a place
@@ -135,7 +140,8 @@ word_step mark len first place word bit p q few e b =
 pub marks_below-le : (mark : ℕ → Bool) (n : ℕ) → marks_below mark n ≤ n
 unfolding marks_below
 marks_below-le mark zero = omega arith
-marks_below-le mark (suc n) = (let rest : marks_below mark n ≤ n = marks_below-le mark n in let bit : one_if (mark n) < 2 = one_if-below (mark n) in omega arith)
+marks_below-le mark (suc n) = (let rest : marks_below mark n ≤ n = marks_below-le mark n in
+    let bit : one_if (mark n) < 2 = one_if-below (mark n) in omega arith)
 
 pub marks_below_none : (mark : ℕ → Bool) → marks_below mark 0 ≡ 0
 unfolding marks_below

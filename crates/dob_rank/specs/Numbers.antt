@@ -10,6 +10,8 @@ use Rattle.dob_pieces.specs.declared.hand.Hands.{Hands}
 use Rattle.dob_pieces.specs.declared.piece_set.PieceSet.{PieceSet}
 use Rattle.dob_pieces.specs.declared.setup.Setup.{Setup}
 use Rattle.dob_pieces.specs.Setups.{Cell, piece_of}
+use Rattle.dob_rank.specs.declared.layers.Layer.{Layer}
+use Rattle.dob_rank.specs.declared.layers.Layer.TheVariants.{OwnLion, EnemyLion, Chicks, Elephants, Giraffes, Empty}
 use Rattle.dob_rank.specs.Order.{form, IsPositionOf}
 
 -- ---- mixed radix numbers: a list of bases, and for each base a digit below it, the first of most weight
@@ -36,19 +38,30 @@ abbrev pub sum_below : (ℕ → ℕ) → ℕ → ℕ
 sum_below f zero = 0
 sum_below f (suc n) = sum_below f n + f n
 
--- ---- the layers of a board: the mover's lion 0, the enemy's 1, chicks and hens 2, elephants 3, giraffes 4, empty 5
+-- ---- the layers of a board, numbered in the order in which a key tells their squares: lists of layers have their numbers
 
-abbrev pub layer_of : Side → Kind → ℕ
-layer_of Mover Lion = 0
-layer_of Enemy Lion = 1
-layer_of _ Chick = 2
-layer_of _ Hen = 2
-layer_of _ Elephant = 3
-layer_of _ Giraffe = 4
+abbrev pub order : Layer → ℕ
+order OwnLion = 0
+order EnemyLion = 1
+order Chicks = 2
+order Elephants = 3
+order Giraffes = 4
+order Empty = 5
+
+abbrev pub layer_of : Side → Kind → Layer
+layer_of Mover Lion = OwnLion
+layer_of Enemy Lion = EnemyLion
+layer_of _ Chick = Chicks
+layer_of _ Hen = Chicks
+layer_of _ Elephant = Elephants
+layer_of _ Giraffe = Giraffes
+
+abbrev pub layer_on : Cell → Layer
+layer_on None = Empty
+layer_on (Some piece) = layer_of piece.side piece.kind
 
 abbrev pub layer : Cell → ℕ
-layer None = 5
-layer (Some piece) = layer_of piece.side piece.kind
+layer cell = order (layer_on cell)
 
 -- how many cells are of that layer
 abbrev pub count : ℕ → List ℕ → ℕ

@@ -1,7 +1,8 @@
 // The blocks of a piece set: the positions with the same numbers of chicks, elephants and giraffes on the board.
 // The blocks stand in the order of those numbers.
 ghost use Rattle.std.specs.Prelude.{◌≡◌, ◌<◌, ◌≤◌, ◌+◌, ◌*◌, ◌^◌, slice_index};
-ghost use Rattle.dob_rank.specs.Numbers.{choose as ways_to_choose, product, HasDigits, digits_of, sum_below, bases_by, block_bases, block_size as size_of_block, size_of};
+ghost use Rattle.dob_rank.specs.Numbers.{choose, product, HasDigits, digits_of, sum_below, bases_by, block_bases};
+ghost use Rattle.dob_rank.specs.Numbers.{block_size, size_of};
 ghost use Rattle.dob_rank.specs.Runs.{runs_in, run_size, form_bases, AreFewOnBoard};
 
 use crate::runs::LIONS;
@@ -80,8 +81,9 @@ pub(crate) fn digits_in(set: PieceSet, on_board: &EachKind, place: u64) -> [u64;
     let local = place % size;
     let hands = radix::three_digits(&[bases[0], bases[1], bases[2]], run / LIONS);
     let lions = run % LIONS;
-    let squares = radix::three_digits(&[bases[5], bases[6], bases[7]], local / forms);
-    let forms = form_digits(on_board, local % forms);
+    let (choices, form) = radix::split_by_power(local, form_bits(on_board));
+    let squares = radix::three_digits(&[bases[5], bases[6], bases[7]], choices);
+    let forms = form_digits(on_board, form);
     [
         hands[0],
         hands[1],
@@ -102,7 +104,16 @@ fn forms_in(on_board: &EachKind) -> u64
     requires { AreFewOnBoard on_board.now }
     ensures { result ≡ product (form_bases on_board.now) }
 {
-    1 << (2 * on_board[0] + on_board[1] + on_board[2])
+    1 << form_bits(on_board)
+}
+
+/// How many bits tell the forms of the pieces of those numbers on the board.
+fn form_bits(on_board: &EachKind) -> u64
+    requires { AreFewOnBoard on_board.now }
+    ensures value { 2 ^ result ≡ product (form_bases on_board.now) }
+    ensures bound { result ≤ 8 }
+{
+    2 * on_board[0] + on_board[1] + on_board[2]
 }
 
 /// The digits of the forms for those numbers on the board.
@@ -111,17 +122,16 @@ fn form_digits(on_board: &EachKind, number: u64) -> EachKind
     requires number { number < product (form_bases on_board.now) }
     ensures { result ≡ digits_of (form_bases on_board.now) number }
 {
-    let elephants = 1 << on_board[1];
-    let giraffes = 1 << on_board[2];
-    let rest = number / giraffes;
-    [rest / elephants, rest % elephants, number % giraffes]
+    let (rest, giraffes) = radix::split_by_power(number, on_board[2]);
+    let (chicks, elephants) = radix::split_by_power(rest, on_board[1]);
+    [chicks, elephants, giraffes]
 }
 
 /// In how many ways at most two squares are chosen from so many.
 fn choose(squares: u64, pieces: u64) -> u64
     requires few { pieces ≤ 2 }
     requires small { squares ≤ 12 }
-    ensures { result ≡ ways_to_choose squares pieces }
+    ensures { result ≡ choose squares pieces }
 {
     match pieces {
         0 => 1,
@@ -146,7 +156,7 @@ fn power(base: u64, exponent: u64) -> u64
 /// How many positions the block of that number has.
 pub(crate) fn block_size(set: PieceSet, block: u64) -> u64
     requires { block < product (block_bases set) }
-    ensures value { result ≡ size_of_block set block }
+    ensures value { result ≡ block_size set block }
     ensures bound { result ≤ 2 ^ 36 }
 {
     let on_board = numbers_in(set, block);
@@ -179,8 +189,8 @@ pub(crate) fn run_size_in(set: PieceSet, block: u64) -> u64
 pub(crate) fn find_block(set: PieceSet, rank: u64) -> (u64, u64)
     requires { rank < size_of set }
     ensures block { result.0 < product (block_bases set) }
-    ensures place { result.1 < size_of_block set result.0 }
-    ensures whole { sum_below (size_of_block set) result.0 + result.1 ≡ rank }
+    ensures place { result.1 < block_size set result.0 }
+    ensures whole { sum_below (block_size set) result.0 + result.1 ≡ rank }
 {
     let blocks = blocks(set);
     let mut start = 0;

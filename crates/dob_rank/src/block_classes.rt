@@ -74,8 +74,16 @@ impl BlockClasses {
         ensures mark { result.0 ≡ marked self.now.set (start_of self.now.set self.now.number + place) }
         ensures before { result.1 ≡ marks_below (marked self.now.set) (start_of self.now.set self.now.number + place) }
     {
-        let number = place / self.size;
-        let local = place % self.size;
+        self.look_up_in(place / self.size, place % self.size)
+    }
+
+    /// The same at a place of a run.
+    fn look_up_in(&self, number: u64, local: u64) -> (bool, u64)
+        requires run { number < runs_in self.now.set self.now.number }
+        requires local { local < run_size self.now.set self.now.number }
+        ensures mark { result.0 ≡ marked self.now.set (run_start self.now.set self.now.number number + local) }
+        ensures before { result.1 ≡ marks_below (marked self.now.set) (run_start self.now.set self.now.number number + local) }
+    {
         let run = self.runs[number as usize];
         match kind_of(number % LIONS) {
             RunKind::First => (true, run.before + local),
@@ -98,7 +106,7 @@ impl BlockClasses {
         let first = run * self.size;
         match kind_of(run % LIONS) {
             RunKind::First => first + (class - self.before_run(run)),
-            RunKind::Later | RunKind::Mixed => self.search(first, first + self.size, class),
+            RunKind::Later | RunKind::Mixed => first + self.search(run, class),
         }
     }
 
@@ -131,21 +139,20 @@ impl BlockClasses {
         self.runs[run as usize].before
     }
 
-    /// The place of that representative, which lies between two others.
-    fn search(&self, first: u64, end: u64, class: u64) -> u64
-        requires order { first < end }
-        requires within { end ≤ block_size self.now.set self.now.number }
-        requires low { marks_below (marked self.now.set) (start_of self.now.set self.now.number + first) ≤ class }
-        requires high { class < marks_below (marked self.now.set) (start_of self.now.set self.now.number + end) }
-        ensures place { result < block_size self.now.set self.now.number }
-        ensures mark { marked self.now.set (start_of self.now.set self.now.number + result) ≡ true }
-        ensures class { marks_below (marked self.now.set) (start_of self.now.set self.now.number + result) ≡ class }
+    /// The place of that representative in its run.
+    fn search(&self, run: u64, class: u64) -> u64
+        requires run { run < runs_in self.now.set self.now.number }
+        requires low { marks_below (marked self.now.set) (run_start self.now.set self.now.number run) ≤ class }
+        requires high { class < marks_below (marked self.now.set) (run_start self.now.set self.now.number (run + 1)) }
+        ensures local { result < run_size self.now.set self.now.number }
+        ensures mark { marked self.now.set (run_start self.now.set self.now.number run + result) ≡ true }
+        ensures class { marks_below (marked self.now.set) (run_start self.now.set self.now.number run + result) ≡ class }
     {
-        let mut low = first;
-        let mut high = end;
+        let mut low = 0;
+        let mut high = self.size;
         while 1 < high - low {
             let middle = low + (high - low) / 2;
-            if self.look_up(middle).1 <= class {
+            if self.look_up_in(run, middle).1 <= class {
                 low = middle;
             } else {
                 high = middle;

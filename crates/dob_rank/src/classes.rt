@@ -1,5 +1,6 @@
 // The classes of a piece set, block by block.
 ghost use Rattle.std.specs.Prelude.{◌≡◌, ◌↔◌, ◌<◌, ◌≤◌, ◌+◌, IfOk, IsErrOf, IfSome, MatchOption, vec_len};
+ghost use Rattle.dob_rank.specs.Limits.{IsTooLarge};
 ghost use Rattle.dob_rank.specs.Order.{IsPositionOf, IsFirstOfTwo, IsRepresentative, HasClasses, HasClass, IsInClass};
 ghost use Rattle.dob_rank.specs.Numbers.{product, block_bases, start_of, rank_of};
 ghost use Rattle.dob_rank.specs.Marks.{marked, marks_below, classes_of, class_number};
@@ -9,6 +10,7 @@ ghost use Rattle.dob_rank.specs.BoardMasks.{AreMasks};
 use crate::block;
 use crate::block_classes::BlockClasses;
 use crate::fault::Fault;
+use crate::limit::MOST_PIECES;
 use crate::masks::{Masks, masks_of};
 use crate::ranks::{place_by, position_at};
 use dob_pieces::{PieceSet, Position};
@@ -27,13 +29,13 @@ pub struct Classes {
 }
 
 impl Classes {
-    /// Opens the classes of a set of at most three pieces besides the lions; E8 for more, E23 where no memory is
+    /// Opens the classes of a set of at most `MOST_PIECES` pieces besides the lions; E8 for more, E23 where no memory is
     /// left.
     pub fn open(alloc: Global, set: PieceSet) -> Result<Classes, Fault>
         ensures set { IfOk result (λ classes. classes.set ≡ set) }
-        ensures too_large { IsErrOf result Fault.SetTooLarge ↔ (3 < set.chicks + set.elephants + set.giraffes) }
+        ensures too_large { IsErrOf result Fault.SetTooLarge ↔ IsTooLarge set }
     {
-        if set.chicks + set.elephants + set.giraffes > 3 {
+        if set.chicks + set.elephants + set.giraffes > MOST_PIECES {
             return Err(Fault::SetTooLarge);
         }
         let mut blocks = Vec::new(alloc);
@@ -77,8 +79,8 @@ impl Classes {
         requires masks { AreMasks position.now.setup.board masks }
         ensures { result ≡ class_number self.now.set position.now.setup }
     {
-        let (is_first, class) = self.look_up_by(position, masks);
-        if is_first {
+        let (is_representative, class) = self.look_up_by(position, masks);
+        if is_representative {
             class
         } else {
             self.look_up(&position.mirrored()).1
@@ -89,12 +91,13 @@ impl Classes {
     /// earlier.
     pub fn class_of_representative(&self, position: &Position) -> Option<u64>
         requires { IsPositionOf self.now.set position.now.setup }
-        ensures class { MatchOption result (¬ IsFirstOfTwo position.now.setup) (λ class. IsFirstOfTwo position.now.setup × HasClass self.now.set position.now.setup class) }
+        ensures class { MatchOption result (¬ IsFirstOfTwo position.now.setup)
+            (λ class. IsFirstOfTwo position.now.setup × HasClass self.now.set position.now.setup class) }
         ensures number { IfSome result (λ class. class ≡ class_number self.now.set position.now.setup) }
         ensures bound { IfSome result (λ class. class < classes_of self.now.set) }
     {
-        let (is_first, class) = self.look_up(position);
-        if is_first { Some(class) } else { None }
+        let (is_representative, class) = self.look_up(position);
+        if is_representative { Some(class) } else { None }
     }
 
     /// The representative of the class of that number, which is below the number of classes.

@@ -10,7 +10,7 @@ use std::fmt;
 /// Why the classes of a set can't be opened.
 #[derive(Clone, Copy, Debug, PartialEq, Eq)]
 pub enum Fault {
-    /// E8: the set has more than three pieces besides the lions.
+    /// E8: the set has more than `MOST_PIECES` pieces besides the lions.
     SetTooLarge,
     /// E23: a growth was refused, since no memory was left for it.
     Memory,

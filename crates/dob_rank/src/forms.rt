@@ -1,20 +1,21 @@
 // The forms of the pieces of a layer.
 ghost use Rattle.std.specs.Prelude.{◌≡◌, ◌<◌, ◌≤◌};
 ghost use Rattle.dob_rank.specs.Order.{form};
-ghost use Rattle.dob_rank.specs.Numbers.{base_of as base_in, cell_of as cell_in};
+ghost use Rattle.dob_rank.specs.Numbers.{order, base_of, cell_of};
 
+use crate::layers::Layer;
 use dob_pieces::{Kind, Piece, Side};
 
 /// How many forms a piece of that layer has.
-pub(crate) fn base_of(layer: u8) -> u64
-    ensures value { result ≡ base_in layer }
+pub(crate) fn base_of(layer: Layer) -> u64
+    ensures value { result ≡ base_of (order layer) }
     ensures low { 0 < result }
     ensures high { result ≤ 4 }
 {
     match layer {
-        2 => 4,
-        3 | 4 => 2,
-        _ => 1,
+        Layer::Chicks => 4,
+        Layer::Elephants | Layer::Giraffes => 2,
+        Layer::OwnLion | Layer::EnemyLion | Layer::Empty => 1,
     }
 }
 
@@ -38,21 +39,21 @@ pub(crate) fn form_of(cell: Option<Piece>) -> u64
 }
 
 /// The cell of that layer and form.
-pub(crate) fn cell_of(layer: u8, form: u64) -> Option<Piece>
-    ensures { result ≡ cell_in layer form }
+pub(crate) fn cell_of(layer: Layer, form: u64) -> Option<Piece>
+    ensures { result ≡ cell_of (order layer) form }
 {
     let (side, kind) = match (layer, form) {
-        (0, _) => (Side::Mover, Kind::Lion),
-        (1, _) => (Side::Enemy, Kind::Lion),
-        (2, 0) => (Side::Mover, Kind::Chick),
-        (2, 1) => (Side::Mover, Kind::Hen),
-        (2, 2) => (Side::Enemy, Kind::Chick),
-        (2, _) => (Side::Enemy, Kind::Hen),
-        (3, 0) => (Side::Mover, Kind::Elephant),
-        (3, _) => (Side::Enemy, Kind::Elephant),
-        (4, 0) => (Side::Mover, Kind::Giraffe),
-        (4, _) => (Side::Enemy, Kind::Giraffe),
-        _ => return None,
+        (Layer::OwnLion, _) => (Side::Mover, Kind::Lion),
+        (Layer::EnemyLion, _) => (Side::Enemy, Kind::Lion),
+        (Layer::Chicks, 0) => (Side::Mover, Kind::Chick),
+        (Layer::Chicks, 1) => (Side::Mover, Kind::Hen),
+        (Layer::Chicks, 2) => (Side::Enemy, Kind::Chick),
+        (Layer::Chicks, _) => (Side::Enemy, Kind::Hen),
+        (Layer::Elephants, 0) => (Side::Mover, Kind::Elephant),
+        (Layer::Elephants, _) => (Side::Enemy, Kind::Elephant),
+        (Layer::Giraffes, 0) => (Side::Mover, Kind::Giraffe),
+        (Layer::Giraffes, _) => (Side::Enemy, Kind::Giraffe),
+        (Layer::Empty, _) => return None,
     };
     Some(Piece { side, kind })
 }

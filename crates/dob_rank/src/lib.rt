@@ -13,6 +13,7 @@ mod classes;
 mod fault;
 mod forms;
 pub mod laws;
+mod layers;
 mod limit;
 mod masks;
 mod placing;

@@ -1,10 +1,11 @@
 // The squares of each layer as the bits of a number, found in one pass over the board without branches, and what such
 // bits tell: how many squares there are, and the number of their choice.
 ghost use Rattle.std.specs.Prelude.{◌≡◌, ◌<◌, ◌≤◌, ℕ, suc, List, length, map};
-ghost use Rattle.dob_rank.specs.Numbers.{layer, count, choice, forms_number};
+ghost use Rattle.dob_rank.specs.Numbers.{order, layer, count, choice, forms_number};
 ghost use Rattle.dob_rank.specs.Masks.{layer_mask, from_mask, plane};
 
 use crate::forms::{base_of, form_of};
+use crate::layers::Layer;
 use dob_pieces::{Kind, Piece, Side, Square};
 
 /// The piece that is read where there is none.
@@ -61,11 +62,11 @@ impl Masks {
 
 /// The masks of a board.
 pub(crate) fn masks_of(board: &[Option<Piece>; Square::COUNT]) -> Masks
-    ensures own_lion { result.own_lion ≡ layer_mask 0 (map layer board.now) }
-    ensures enemy_lion { result.enemy_lion ≡ layer_mask 1 (map layer board.now) }
-    ensures chicks { result.chicks ≡ layer_mask 2 (map layer board.now) }
-    ensures elephants { result.elephants ≡ layer_mask 3 (map layer board.now) }
-    ensures giraffes { result.giraffes ≡ layer_mask 4 (map layer board.now) }
+    ensures own_lion { result.own_lion ≡ layer_mask (order Layer.OwnLion) (map layer board.now) }
+    ensures enemy_lion { result.enemy_lion ≡ layer_mask (order Layer.EnemyLion) (map layer board.now) }
+    ensures chicks { result.chicks ≡ layer_mask (order Layer.Chicks) (map layer board.now) }
+    ensures elephants { result.elephants ≡ layer_mask (order Layer.Elephants) (map layer board.now) }
+    ensures giraffes { result.giraffes ≡ layer_mask (order Layer.Giraffes) (map layer board.now) }
 {
     let mut planes = 0;
     for square in (0..Square::COUNT).rev() {
@@ -102,7 +103,7 @@ pub(crate) fn count(mask: u64) -> u64
 /// layers.
 pub(crate) fn choice_of(mask: u64, later: u64, pieces: u64) -> u64
     requires { pieces ≤ 2 }
-    ensures { (t : ℕ) (ls : List ℕ) → t < 5 → length ls ≤ 12 → mask ≡ layer_mask t ls → later ≡ from_mask (suc t) ls → count t ls ≡ pieces
+    ensures { (t : ℕ) (ls : List ℕ) → t < order Layer.Empty → length ls ≤ 12 → mask ≡ layer_mask t ls → later ≡ from_mask (suc t) ls → count t ls ≡ pieces
         → result ≡ choice t ls }
 {
     if pieces == 0 {
@@ -123,13 +124,13 @@ pub(crate) fn choice_of(mask: u64, later: u64, pieces: u64) -> u64
 pub(crate) fn forms_of(
     board: &[Option<Piece>; Square::COUNT],
     mask: u64,
-    of_layer: u8,
+    of_layer: Layer,
     pieces: u64,
 ) -> u64
     requires few { pieces ≤ 2 }
-    requires mask { mask ≡ layer_mask of_layer (map layer board.now) }
-    requires pieces { pieces ≡ count of_layer (map layer board.now) }
-    ensures { result ≡ forms_number of_layer board.now }
+    requires mask { mask ≡ layer_mask (order of_layer) (map layer board.now) }
+    requires pieces { pieces ≡ count (order of_layer) (map layer board.now) }
+    ensures { result ≡ forms_number (order of_layer) board.now }
 {
     if pieces == 0 {
         return 0;

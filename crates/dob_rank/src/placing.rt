@@ -1,10 +1,11 @@
 // Placing pieces: the squares that a choice takes of those that are left, and a board with a piece on each of them.
 ghost use Rattle.std.specs.Prelude.{◌≡◌, ◌<◌, ◌≤◌, ◌+◌, ◌^◌};
-ghost use Rattle.dob_rank.specs.Numbers.{choose, board_of, numbers_by, layers_by};
+ghost use Rattle.dob_rank.specs.Numbers.{order, choose, board_of, numbers_by, layers_by};
 ghost use Rattle.dob_rank.specs.Placing.{past, lower_of, higher_of, first_place, second_place, put, AreChoices};
 
 use crate::block::{DIGITS, EachKind};
 use crate::forms::{base_of, cell_of};
+use crate::layers::Layer;
 use dob_pieces::{Piece, Square};
 
 /// The place of a piece that isn't there, beyond all squares.
@@ -60,14 +61,32 @@ pub(crate) fn board_by(
     let enemy = digits[4];
     let lions = (enemy, own);
     let mut board = [None; Square::COUNT];
-    board[own as usize] = cell_of(0, 0);
-    board[past(own, enemy) as usize] = cell_of(1, 0);
+    board[own as usize] = cell_of(Layer::OwnLion, 0);
+    board[past(own, enemy) as usize] = cell_of(Layer::EnemyLion, 0);
     let chick_squares = among(lions, chicks);
-    put(&mut board, 2, on_board[0], chick_squares, digits[8]);
+    put(
+        &mut board,
+        Layer::Chicks,
+        on_board[0],
+        chick_squares,
+        digits[8],
+    );
     let elephant_squares = among(lions, among(chicks, elephants));
-    put(&mut board, 3, on_board[1], elephant_squares, digits[9]);
+    put(
+        &mut board,
+        Layer::Elephants,
+        on_board[1],
+        elephant_squares,
+        digits[9],
+    );
     let giraffe_squares = among(lions, among(chicks, among(elephants, giraffes)));
-    put(&mut board, 4, on_board[2], giraffe_squares, digits[10]);
+    put(
+        &mut board,
+        Layer::Giraffes,
+        on_board[2],
+        giraffe_squares,
+        digits[10],
+    );
     board
 }
 
@@ -108,7 +127,7 @@ fn pair_of(squares: u64, number: u64) -> (u64, u64)
 /// Puts as many pieces of a layer, at most two, on those squares; the number's digits are their forms.
 pub(crate) fn put(
     board: &mut [Option<Piece>; Square::COUNT],
-    layer: u8,
+    layer: Layer,
     pieces: u64,
     squares: (u64, u64),
     number: u64,
@@ -116,7 +135,7 @@ pub(crate) fn put(
     requires few { pieces ≤ 2 }
     requires first { 0 < pieces → squares.0 < 12 }
     requires second { 1 < pieces → squares.1 < 12 }
-    ensures { board.new ≡ put layer pieces squares.0 squares.1 number board.old }
+    ensures { board.new ≡ put (order layer) pieces squares.0 squares.1 number board.old }
 {
     let base = base_of(layer);
     match pieces {

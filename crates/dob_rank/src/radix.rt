@@ -1,13 +1,13 @@
 // Numbers in mixed radix: a list of bases, and for each base a digit below it, the first of most weight.
-ghost use Rattle.std.specs.Prelude.{◌≡◌, ◌<◌, ◌^◌, ◌/◌, ◌%◌};
+ghost use Rattle.std.specs.Prelude.{◌≡◌, ◌<◌, ◌≤◌, ◌^◌, ◌/◌, ◌%◌};
 ghost use Rattle.std.specs.List.{All};
-ghost use Rattle.dob_rank.specs.Numbers.{product as product_of, number_of as value_of, digits_of as all_digits_of, HasDigits};
+ghost use Rattle.dob_rank.specs.Numbers.{product, number_of, digits_of, HasDigits};
 
 /// How many numbers the bases write: their product.
 pub(crate) fn product(bases: &[u64]) -> u64
     requires positive { All (λ base. 0 < base) bases.now }
-    requires fits { product_of bases.now < 2 ^ 64 }
-    ensures { result ≡ product_of bases.now }
+    requires fits { product bases.now < 2 ^ 64 }
+    ensures { result ≡ product bases.now }
 {
     let mut weight = 1;
     for i in (0..bases.len()).rev() {
@@ -19,8 +19,8 @@ pub(crate) fn product(bases: &[u64]) -> u64
 /// The number that the digits write.
 pub(crate) fn number_of(bases: &[u64], digits: &[u64]) -> u64
     requires below { HasDigits bases.now digits.now }
-    requires fits { product_of bases.now < 2 ^ 64 }
-    ensures { result ≡ value_of bases.now digits.now }
+    requires fits { product bases.now < 2 ^ 64 }
+    ensures { result ≡ number_of bases.now digits.now }
 {
     let mut number = 0;
     let mut weight = 1;
@@ -33,15 +33,25 @@ pub(crate) fn number_of(bases: &[u64], digits: &[u64]) -> u64
 
 /// The three digits of a number.
 pub(crate) fn three_digits(bases: &[u64; 3], number: u64) -> [u64; 3]
-    requires { number < product_of bases.now }
-    ensures { result ≡ all_digits_of bases.now number }
+    requires { number < product bases.now }
+    ensures { result ≡ digits_of bases.now number }
 {
     let (rest, third) = split(number, bases[2]);
     let (first, second) = split(rest, bases[1]);
     [first, second, third]
 }
 
-/// The quotient and the remainder by a base. Most bases are at most 3, and need no division by a variable.
+/// The quotient and the remainder by a power of 2.
+pub(crate) fn split_by_power(number: u64, exponent: u64) -> (u64, u64)
+    requires { exponent ≤ 32 }
+    ensures quotient { result.0 ≡ number / 2 ^ exponent }
+    ensures rest { result.1 ≡ number % 2 ^ exponent }
+{
+    (number >> exponent, number & ((1 << exponent) - 1))
+}
+
+/// The quotient and the remainder by a base. The bases of sets of up to three pieces are listed, so that there is no
+/// division by a variable, which takes longer than the rest of a rank.
 fn split(number: u64, base: u64) -> (u64, u64)
     requires { 0 < base }
     ensures quotient { result.0 ≡ number / base }
@@ -51,6 +61,11 @@ fn split(number: u64, base: u64) -> (u64, u64)
         1 => (number, 0),
         2 => (number / 2, number % 2),
         3 => (number / 3, number % 3),
+        8 => (number / 8, number % 8),
+        9 => (number / 9, number % 9),
+        10 => (number / 10, number % 10),
+        36 => (number / 36, number % 36),
+        45 => (number / 45, number % 45),
         _ => (number / base, number % base),
     }
 }

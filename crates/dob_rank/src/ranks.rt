@@ -1,13 +1,14 @@
 // The rank of a position, the position of a rank, and the representative of a class.
 ghost use Rattle.std.specs.Prelude.{◌≡◌, ◌<◌, ◌≤◌, ◌+◌, ◌^◌};
-ghost use Rattle.dob_pieces.specs.declared.setup.Setup.{Setup as AnySetup};
-ghost use Rattle.dob_pieces.specs.declared.piece_set.PieceSet.{PieceSet as AnySet};
 ghost use Rattle.dob_pieces.specs.Setups.{total};
 ghost use Rattle.dob_rank.specs.BoardMasks.{AreMasks};
 ghost use Rattle.dob_rank.specs.Order.{IsPositionOf, HasSize, HasRank, RepresentativeOf};
-ghost use Rattle.dob_rank.specs.Numbers.{size_of, rank_of, product, block_bases, block_of, block_size, place_of as place_in_block, HasBlock, bases_by, on_board as on_board_of, digits as all_digits_of, setup_by, hands_by, HasDigits};
+ghost use Rattle.dob_rank.specs.Numbers.{size_of, rank_of, product, block_bases, block_of, block_size, place_of};
+ghost use Rattle.dob_rank.specs.Numbers.{HasBlock, bases_by, on_board as on_board_of, digits as all_digits_of, setup_by, hands_by};
+ghost use Rattle.dob_rank.specs.Numbers.{HasDigits};
 
 use crate::block::{self, DIGITS, EachKind};
+use crate::layers::Layer;
 use crate::masks::{self, Masks};
 use crate::{placing, radix, starts};
 use dob_pieces::{Hand, HandKind, Hands, PieceSet, Position, Setup};
@@ -23,8 +24,8 @@ pub fn size(set: PieceSet) -> u64
 
 /// How many positions of its piece set stand before the position.
 pub fn rank(position: &Position) -> u64
-    ensures count { (set : AnySet) → IsPositionOf set position.now.setup → HasRank set position.now.setup result }
-    ensures number { (set : AnySet) → IsPositionOf set position.now.setup → result ≡ rank_of set position.now.setup }
+    ensures count { (set : PieceSet) → IsPositionOf set position.now.setup → HasRank set position.now.setup result }
+    ensures number { (set : PieceSet) → IsPositionOf set position.now.setup → result ≡ rank_of set position.now.setup }
 {
     let masks = masks::masks_of(&position.setup.board);
     let on_board = numbers_on_board(position, masks);
@@ -39,7 +40,7 @@ pub fn unrank(set: PieceSet, rank: u64) -> Position
     ensures position { IsPositionOf set result.setup }
     ensures count { HasRank set result.setup rank }
     ensures number { rank_of set result.setup ≡ rank }
-    ensures only { (p : AnySetup) → IsPositionOf set p → rank_of set p ≡ rank → p ≡ result.setup }
+    ensures only { (p : Setup) → IsPositionOf set p → rank_of set p ≡ rank → p ≡ result.setup }
 {
     let (block, place) = block::find_block(set, rank);
     position_at(set, block, place)
@@ -49,7 +50,7 @@ pub fn unrank(set: PieceSet, rank: u64) -> Position
 pub(crate) fn place_of(set: PieceSet, position: &Position) -> (u64, u64)
     requires { IsPositionOf set position.now.setup }
     ensures block { result.0 ≡ block_of set position.now.setup }
-    ensures place { result.1 ≡ place_in_block set position.now.setup }
+    ensures place { result.1 ≡ place_of set position.now.setup }
 {
     place_by(set, position, masks::masks_of(&position.setup.board))
 }
@@ -59,7 +60,7 @@ pub(crate) fn place_by(set: PieceSet, position: &Position, masks: Masks) -> (u64
     requires position { IsPositionOf set position.now.setup }
     requires masks { AreMasks position.now.setup.board masks }
     ensures block { result.0 ≡ block_of set position.now.setup }
-    ensures place { result.1 ≡ place_in_block set position.now.setup }
+    ensures place { result.1 ≡ place_of set position.now.setup }
 {
     place_with(set, position, masks, &numbers_on_board(position, masks))
 }
@@ -70,7 +71,7 @@ fn place_with(set: PieceSet, position: &Position, masks: Masks, on_board: &EachK
     requires masks { AreMasks position.now.setup.board masks }
     requires on_board { on_board.now ≡ on_board_of position.now.setup }
     ensures block { result.0 ≡ block_of set position.now.setup }
-    ensures place { result.1 ≡ place_in_block set position.now.setup }
+    ensures place { result.1 ≡ place_of set position.now.setup }
 {
     let block = radix::number_of(&block::block_bases_of(set), on_board);
     let digits = digits_of(position, masks, on_board);
@@ -160,9 +161,9 @@ fn digits_of(position: &Position, masks: Masks, on_board: &EachKind) -> [u64; DI
         masks::choice_of(masks.chicks, after_chicks, on_board[0]),
         masks::choice_of(masks.elephants, after_elephants, on_board[1]),
         masks::choice_of(masks.giraffes, empty, on_board[2]),
-        masks::forms_of(board, masks.chicks, 2, on_board[0]),
-        masks::forms_of(board, masks.elephants, 3, on_board[1]),
-        masks::forms_of(board, masks.giraffes, 4, on_board[2]),
+        masks::forms_of(board, masks.chicks, Layer::Chicks, on_board[0]),
+        masks::forms_of(board, masks.elephants, Layer::Elephants, on_board[1]),
+        masks::forms_of(board, masks.giraffes, Layer::Giraffes, on_board[2]),
     ]
 }
 

@@ -1,6 +1,7 @@
 // Lists in segments: a list that grows without moving what it has, in vectors of 2 to the power of `shift` items, of
 // which only the last may be shorter.
-ghost use Rattle.std.specs.Prelude.{◌≡◌, ◌≢◌, ◌+◌, ◌*◌, ◌/◌, ◌%◌, ◌^◌, ◌<◌, ◌≤◌, ◌==◌, List, [], ◌∷◌, ◌++◌, length, replicate, Some, IfOk, OnOk, OnErr, vec_len, slice_set, slice_get, slice_index_or};
+ghost use Rattle.std.specs.Prelude.{◌≡◌, ◌≢◌, ◌+◌, ◌*◌, ◌/◌, ◌%◌, ◌^◌, ◌<◌, ◌≤◌, ◌==◌, List, [], ◌∷◌, ◌++◌, length, replicate, Some, IfOk};
+ghost use Rattle.std.specs.Prelude.{OnOk, OnErr, vec_len, slice_set, slice_get, slice_index_or};
 ghost use Rattle.dob_rank.specs.Segmented.{joined, AreSegments};
 ghost use Rattle.dob_rank.specs.SegmentsLeft.{rest_of};
 
@@ -32,7 +33,8 @@ impl<T> Model for Segments<T> {
 
     ghost view = { λ list. joined list.segments.items };
 
-    ghost invariant = { λ list. (list.shift ≤ 20) × (list.count ≤ 2 ^ 56) × (list.count ≡ length (joined list.segments.items)) × AreSegments (2 ^ list.shift) list.segments.items };
+    ghost invariant = { λ list. (list.shift ≤ 20) × (list.count ≤ 2 ^ 56) × (list.count ≡ length (joined list.segments.items))
+        × AreSegments (2 ^ list.shift) list.segments.items };
 }
 
 impl<T> Segments<T> {

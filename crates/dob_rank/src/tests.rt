@@ -146,7 +146,7 @@ fn agrees_with_walk(rt: &impl Abort, alloc: Global, text: &str, step: u64) -> Re
     let classes = Classes::open(alloc, set)?;
     let mut last = Vec::new(alloc);
     let mut walked = 0u64;
-    let mut firsts = 0u64;
+    let mut representatives = 0u64;
     for start in starts(alloc, set)? {
         for position in start.positions(alloc)? {
             let next = key(alloc, &position)?;
@@ -156,16 +156,16 @@ fn agrees_with_walk(rt: &impl Abort, alloc: Global, text: &str, step: u64) -> Re
                 has_rank(rt, &position, set, walked);
             }
             if is_first(alloc, &position)? {
-                if firsts % step == 0 {
-                    has_class(rt, &position, &classes, firsts);
+                if representatives % step == 0 {
+                    has_class(rt, &position, &classes, representatives);
                 }
-                firsts = firsts.saturating_add(1);
+                representatives = representatives.saturating_add(1);
             }
             walked = walked.saturating_add(1);
         }
     }
     assert_eq!(rt; size(set), walked, "of {text}");
-    assert_eq!(rt; classes.class_count(), firsts, "of {text}");
+    assert_eq!(rt; classes.class_count(), representatives, "of {text}");
     Ok(())
 }
 
@@ -181,13 +181,17 @@ fn has_class(rt: &impl Abort, position: &Position, classes: &Classes, number: u6
     assert!(rt; number < classes.class_count());
     assert!(rt; classes.class_at(number) == *position, "class {number}");
     for member in [*position, position.mirrored()] {
-        let first = representative(&member);
-        assert!(rt; first == *position, "class {number}");
+        let earlier = representative(&member);
+        assert!(rt; earlier == *position, "class {number}");
         let own = rank(&member);
         assert!(rt; own < size(classes.set));
         let ranked = unrank(classes.set, own);
         assert_eq!(rt; classes.class_of(&ranked), number);
-        let named = if member == first { Some(number) } else { None };
+        let named = if member == earlier {
+            Some(number)
+        } else {
+            None
+        };
         assert_eq!(rt; classes.class_of_representative(&ranked), named);
     }
 }

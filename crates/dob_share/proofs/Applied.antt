@@ -13,7 +13,7 @@ use Rattle.dob_share.specs.Slots.{beyond, slot_at, start_at, room_at, cell_of, c
 use Rattle.dob_share.specs.Steps.{IsStep, changed_wins, gained}
 use Rattle.dob_share.proofs.Keeping.{same_short, cell_is, cell_here, cell_other, status_same, still_pooled}
 
--- a refusal handed on, and an answer
+-- a fault handed on, and an answer
 pub err_same : {A B : Type 0} (r : Result A Fault) (answer : Result B Fault) (e f : Fault) {P : Type 0} → answer ≡ Err e → r ≡ Err e →
     ((r ≡ Err f) ↔ P) → ((answer ≡ Err f) ↔ P)
 err_same r answer e f a is h =

@@ -1,4 +1,4 @@
--- What an item makes of a cell: a refusal, or the slot after it.
+-- What an item makes of a cell: a fault, or the slot after it.
 use Rattle.std.specs.Prelude.{◌≡◌, ℕ, ◌↔◌, Result, Ok, Err}
 use Rattle.dob_value.specs.declared.value.Value.{Value}
 use Rattle.dob_value.specs.declared.value.Value.TheVariants.{Win, Draw}
@@ -13,7 +13,7 @@ use Rattle.dob_share.specs.Slots.{least_of, IsShortCell}
 abbrev pub IsTooDeep : Cell → Type 0
 IsTooDeep cell = (value : Value) × CellValue cell value × ¬ IsShort value
 
--- The slot after an item to a class, or its refusal: that the item doesn't fit comes before that the value is too deep.
+-- The slot after an item to a class, or its fault: that the item doesn't fit comes before that the value is too deep.
 pub record IsStep (to : ℕ) (was now : Value) (cell : Cell) (slot : Slot) (result : Result Slot Fault) : Type 0 where
   pub misfit : (result ≡ Err (Contradiction to)) ↔ (¬ Takes was now cell)
   pub deep : (result ≡ Err TooDeep) ↔ (Takes was now cell × IsTooDeep (changed was now cell))

@@ -48,33 +48,26 @@ fn counted_place(pool: &Segments<Count>, run: Run, plies: u16) -> Option<usize>
     None
 }
 
-// A free entry of a run that counts fewer moves than it has entries.
-fn free_place(pool: &Segments<Count>, run: Run) -> usize
-    requires within { run.start + run.room ≤ length pool.now }
-    requires free { tally moves_of pool.now run.start run.room < run.room }
-    ensures within { IsWithin run.start run.room result }
-    ensures free { (slice_index_or pool.now result vacant).moves ≡ 0 }
-{
-    for offset in 0..run.room {
-        let place = run.start as usize + offset as usize;
-        if pool[place].moves == 0 {
-            return place;
-        }
-    }
-    unreachable!()
-}
-
-// Where one more win in that distance is counted: at the entry that counts that distance, else at a free one.
+// Where one more win in that distance is counted, in a run that counts fewer moves than it has entries: at the first
+// entry that counts that distance or is free. A distance may be counted at two entries, after one before them has become
+// free; a run has room for that too.
 fn place_for(pool: &Segments<Count>, run: Run, plies: u16) -> usize
     requires within { run.start + run.room ≤ length pool.now }
     requires free { tally moves_of pool.now run.start run.room < run.room }
     ensures within { IsWithin run.start run.room result }
     ensures fits { ((slice_index_or pool.now result vacant).distance ≡ plies) ⊎ ((slice_index_or pool.now result vacant).moves ≡ 0) }
 {
-    match counted_place(pool, run, plies) {
-        Some(place) => place,
-        None => free_place(pool, run),
+    for offset in 0..run.room {
+        let place = run.start as usize + offset as usize;
+        let entry = pool[place];
+        if entry.moves == 0 {
+            return place;
+        }
+        if entry.distance == plies {
+            return place;
+        }
     }
+    unreachable!()
 }
 
 /// The greatest distance that the run counts.

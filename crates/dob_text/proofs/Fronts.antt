@@ -1,7 +1,9 @@
 -- The letters of a hand: three runs, one after another.
-use Rattle.std.proofs.Common.{◌≡◌, ◌≢◌, ◌==◌, ◌<◌, ◌≤◌, ◌+◌, ◌-◌, ℕ, suc, zero, true, List, [], ◌∷◌, ◌++◌, length, get_or, take, drop, replicate, refl, sym, ap, ◌∙◌, inl, inr, ◌⊎◌, subst, arith, append_assoc, length-append}
+use Rattle.std.proofs.Common.{◌≡◌, ◌≢◌, ◌==◌, ◌<◌, ◌≤◌, ◌+◌, ◌-◌, ℕ, suc, zero, true, List, [], ◌∷◌, ◌++◌, length, get_or, take, drop}
+use Rattle.std.proofs.Common.{replicate, refl, sym, ap, ◌∙◌, inl, inr, ◌⊎◌, subst, arith, append_assoc, length-append}
 use Rattle.std.specs.List.{prefix_len}
-use Rattle.std.proofs.lemmas.List.{drop_at, get_or-take, get_or-replicate, length-replicate, length-take-le, get_or_append_left, get_or-append_right, ext_get_or, take-append-drop, append-nil, take_all}
+use Rattle.std.proofs.lemmas.List.{drop_at, get_or-take, get_or-replicate, length-replicate, length-take-le, get_or_append_left}
+use Rattle.std.proofs.lemmas.List.{get_or-append_right, ext_get_or, take-append-drop, append-nil, take_all}
 use Rattle.std.proofs.lemmas.List.Sums.{prefix_len_is, prefix_len_passes, prefix_len-le-length}
 use Rattle.std.proofs.lemmas.Bool.Decides.{nat_tests}
 use Rattle.dob_pieces.specs.declared.hand.Hand.{Hand}
@@ -34,12 +36,14 @@ run_front letter n rest ends =
     let size : length (replicate n letter ++ rest) ≡ n + length rest = length-append (replicate n letter) rest ∙ ap (λ m. m + length rest) run in
     prefix_len_is (λ byte. byte == letter) (replicate n letter ++ rest) n 0 (omega arith)
     (λ k h.
-    let read : get_or (replicate n letter ++ rest) k 0 ≡ letter = get_or_append_left (replicate n letter) rest 0 k (omega arith) ∙ get_or-replicate n k letter 0 h in
+    let read : get_or (replicate n letter ++ rest) k 0 ≡ letter = get_or_append_left (replicate n letter) rest 0 k (omega arith)
+    ∙ get_or-replicate n k letter 0 h in
     grind (arith, nat_tests))
     (λ h.
     let other : get_or rest 0 0 ≢ letter = ends (omega arith) in
     let none : n - n ≡ 0 = omega arith in
-    let read : get_or (replicate n letter ++ rest) n 0 ≡ get_or rest 0 0 = get_or-append_right (replicate n letter) rest n n 0 run (omega arith) ∙ ap (λ m. get_or rest m 0) none in
+    let read : get_or (replicate n letter ++ rest) n 0 ≡ get_or rest 0 0 = get_or-append_right (replicate n letter) rest n n 0 run (omega arith)
+    ∙ ap (λ m. get_or rest m 0) none in
     grind (arith, nat_tests))
 
 -- two runs begin with neither's letter
@@ -100,9 +104,11 @@ same_hand h k chicks elephants giraffes =
     ∙ ap (λ (n : ℕ). let r : Hand = record { chicks = k.chicks; elephants = n; giraffes = h.giraffes } in r) elephants
     ∙ ap (λ (n : ℕ). let r : Hand = record { chicks = k.chicks; elephants = k.elephants; giraffes = n } in r) giraffes
 
-runs_hand : (side : Side) (hand : Hand) (word : List ℕ) → Runs (cased side 67) (cased side 69) (cased side 71) hand.chicks hand.elephants hand.giraffes word → hand_in side word ≡ hand
+runs_hand : (side : Side) (hand : Hand) (word : List ℕ)
+    → Runs (cased side 67) (cased side 69) (cased side 71) hand.chicks hand.elephants hand.giraffes word → hand_in side word ≡ hand
 runs_hand side hand word r =
-    let second : front (cased side 69) (drop (front (cased side 67) word) word) ≡ hand.elephants = ap (λ n. front (cased side 69) (drop n word)) r.first ∙ r.second in
+    let second : front (cased side 69) (drop (front (cased side 67) word) word) ≡ hand.elephants
+    = ap (λ n. front (cased side 69) (drop n word)) r.first ∙ r.second in
     let third : (hand_in side word).giraffes ≡ hand.giraffes =
     ap (λ n. front (cased side 71) (drop (front (cased side 69) (drop n word)) (drop n word))) r.first
     ∙ ap (λ n. front (cased side 71) (drop n (drop hand.chicks word))) r.second ∙ r.third in
@@ -134,30 +140,40 @@ dash_cases [] = inr refl
 dash_cases (letter ∷ letters) = inl refl
 
 -- a word that is three runs is the text of their counts
-pub hand_spelled : (side : Side) (word : List ℕ) (c e g : ℕ) → 0 < length word → c ≡ front (cased side 67) word → e ≡ front (cased side 69) (drop c word) → g ≡ front (cased side 71) (drop e (drop c word)) → length (drop e (drop c word)) ≤ g → word ≡ hand_text side (record { chicks = c; elephants = e; giraffes = g })
+pub hand_spelled : (side : Side) (word : List ℕ) (c e g : ℕ) → 0 < length word → c ≡ front (cased side 67) word
+    → e ≡ front (cased side 69) (drop c word) → g ≡ front (cased side 71) (drop e (drop c word)) → length (drop e (drop c word)) ≤ g
+    → word ≡ hand_text side (record { chicks = c; elephants = e; giraffes = g })
 hand_spelled side word c e g some is_c is_e is_g whole =
     let a : ℕ = cased side 67 in
     let b : ℕ = cased side 69 in
     let d : ℕ = cased side 71 in
     let chicks : take c word ≡ replicate c a = ap (λ n. take n word) is_c ∙ front_is a word ∙ ap (λ n. replicate n a) (sym is_c) in
-    let elephants : take e (drop c word) ≡ replicate e b = ap (λ n. take n (drop c word)) is_e ∙ front_is b (drop c word) ∙ ap (λ n. replicate n b) (sym is_e) in
-    let giraffes : take g (drop e (drop c word)) ≡ replicate g d = ap (λ n. take n (drop e (drop c word))) is_g ∙ front_is d (drop e (drop c word)) ∙ ap (λ n. replicate n d) (sym is_g) in
+    let elephants : take e (drop c word) ≡ replicate e b = ap (λ n. take n (drop c word)) is_e
+    ∙ front_is b (drop c word) ∙ ap (λ n. replicate n b) (sym is_e) in
+    let giraffes : take g (drop e (drop c word)) ≡ replicate g d = ap (λ n. take n (drop e (drop c word))) is_g
+    ∙ front_is d (drop e (drop c word)) ∙ ap (λ n. replicate n d) (sym is_g) in
     let last : drop e (drop c word) ≡ replicate g d = sym (take_all g (drop e (drop c word)) whole) ∙ giraffes in
-    let middle : drop c word ≡ replicate e b ++ replicate g d = sym (take-append-drop e (drop c word)) ∙ ap (λ x. x ++ drop e (drop c word)) elephants ∙ ap (λ x. replicate e b ++ x) last in
-    let all : word ≡ replicate c a ++ replicate e b ++ replicate g d = sym (take-append-drop c word) ∙ ap (λ x. x ++ drop c word) chicks ∙ ap (λ x. replicate c a ++ x) middle ∙ sym (append_assoc (replicate c a) (replicate e b) (replicate g d)) in
+    let middle : drop c word ≡ replicate e b ++ replicate g d = sym (take-append-drop e (drop c word))
+    ∙ ap (λ x. x ++ drop e (drop c word)) elephants ∙ ap (λ x. replicate e b ++ x) last in
+    let all : word ≡ replicate c a ++ replicate e b ++ replicate g d = sym (take-append-drop c word) ∙ ap (λ x. x ++ drop c word) chicks
+    ∙ ap (λ x. replicate c a ++ x) middle ∙ sym (append_assoc (replicate c a) (replicate e b) (replicate g d)) in
     let filled : 0 < length (replicate c a ++ replicate e b ++ replicate g d) = subst (λ (x : List ℕ). 0 < length x) all some in
     all ∙ sym (no_dash (replicate c a ++ replicate e b ++ replicate g d) filled)
 
 -- a word that is neither a dash nor three runs is no hand's
-pub hand_refused : (side : Side) (word : List ℕ) (c e g : ℕ) → word ≢ 45 ∷ [] → c ≡ front (cased side 67) word → e ≡ front (cased side 69) (drop c word) → g ≡ front (cased side 71) (drop e (drop c word)) → g < length (drop e (drop c word)) → (hand : Hand) → word ≢ hand_text side hand
+pub hand_refused : (side : Side) (word : List ℕ) (c e g : ℕ) → word ≢ 45 ∷ [] → c ≡ front (cased side 67) word → e ≡ front (cased side 69) (drop c word)
+    → g ≡ front (cased side 71) (drop e (drop c word)) → g < length (drop e (drop c word)) → (hand : Hand) → word ≢ hand_text side hand
 hand_refused side word c e g other is_c is_e is_g more hand is =
     elim (dash_cases (hand_letters side hand)) [
       | inl plain ↦
           let spelled : word ≡ hand_letters side hand = is ∙ plain in
-          let r : Runs (cased side 67) (cased side 69) (cased side 71) hand.chicks hand.elephants hand.giraffes word = subst (λ (x : List ℕ). Runs (cased side 67) (cased side 69) (cased side 71) hand.chicks hand.elephants hand.giraffes x) (sym spelled) (hand_runs side hand) in
+          let r : Runs (cased side 67) (cased side 69) (cased side 71) hand.chicks hand.elephants hand.giraffes word
+          = subst (λ (x : List ℕ). Runs (cased side 67) (cased side 69) (cased side 71) hand.chicks hand.elephants hand.giraffes x)
+          (sym spelled) (hand_runs side hand) in
           let same_c : c ≡ hand.chicks = is_c ∙ r.first in
           let same_e : e ≡ hand.elephants = is_e ∙ ap (λ n. front (cased side 69) (drop n word)) same_c ∙ r.second in
-          let same_drop : drop e (drop c word) ≡ drop hand.elephants (drop hand.chicks word) = ap (λ n. drop n (drop c word)) same_e ∙ ap (λ n. drop hand.elephants (drop n word)) same_c in
+          let same_drop : drop e (drop c word) ≡ drop hand.elephants (drop hand.chicks word) = ap (λ n. drop n (drop c word)) same_e
+          ∙ ap (λ n. drop hand.elephants (drop n word)) same_c in
           let same_g : g ≡ hand.giraffes = is_g ∙ ap (front (cased side 71)) same_drop ∙ r.third in
           let size : length (drop e (drop c word)) ≡ hand.giraffes = ap length same_drop ∙ r.last in
           absurd (omega arith)
@@ -170,7 +186,8 @@ one_byte [] byte size is = absurd (omega arith)
 one_byte (x ∷ y ∷ xs) byte size is = absurd (omega arith)
 
 -- a front that ends where the letter does
-pub front_stops : (letter : ℕ) (xs : List ℕ) (n : ℕ) → n ≤ length xs → ((k : ℕ) → k < n → get_or xs k 0 ≡ letter) → (n < length xs → get_or xs n 0 ≢ letter) → n ≡ front letter xs
+pub front_stops : (letter : ℕ) (xs : List ℕ) (n : ℕ) → n ≤ length xs → ((k : ℕ) → k < n → get_or xs k 0 ≡ letter)
+    → (n < length xs → get_or xs n 0 ≢ letter) → n ≡ front letter xs
 front_stops letter xs n size each ends =
     sym (prefix_len_is (λ byte. byte == letter) xs n 0 size
     (λ k h. let is : get_or xs k 0 ≡ letter = each k h in grind (arith, nat_tests))
@@ -182,7 +199,8 @@ pub record Counts (side : Side) (word : List ℕ) (c e g : ℕ) : Type 0 where
   pub elephants : e ≡ front (cased side 69) (drop c word)
   pub giraffes : g ≡ front (cased side 71) (drop e (drop c word))
 
-pub counts : (side : Side) (word rest last : List ℕ) (a b d c e g : ℕ) → a ≡ cased side 67 → b ≡ cased side 69 → d ≡ cased side 71 → rest ≡ drop c word → last ≡ drop e rest → c ≡ front a word → e ≡ front b rest → g ≡ front d last → Counts side word c e g
+pub counts : (side : Side) (word rest last : List ℕ) (a b d c e g : ℕ) → a ≡ cased side 67 → b ≡ cased side 69 → d ≡ cased side 71
+    → rest ≡ drop c word → last ≡ drop e rest → c ≡ front a word → e ≡ front b rest → g ≡ front d last → Counts side word c e g
 counts side word rest last a b d c e g is_a is_b is_d is_rest is_last is_c is_e is_g = record {
   chicks = is_c ∙ ap (λ n. front n word) is_a;
   elephants = is_e ∙ ap (λ n. front n rest) is_b ∙ ap (front (cased side 69)) is_rest;

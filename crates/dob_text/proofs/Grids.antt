@@ -1,5 +1,6 @@
 -- The text of a board stands for one board.
-use Rattle.std.proofs.Common.{if◌then◌else◌, nat_lt, ◌==◌, ◌≡◌, ◌≢◌, ◌<◌, ◌%◌, ◌↔◌, ◌-◌, ℕ, suc, zero, List, [], ◌∷◌, length, get_or, All, Some, None, refl, sym, ap, ◌∙◌, arith}
+use Rattle.std.proofs.Common.{if◌then◌else◌, nat_lt, ◌==◌, ◌≡◌, ◌≢◌, ◌<◌, ◌%◌, ◌↔◌, ◌-◌, ℕ, suc, zero, List, [], ◌∷◌, length, get_or, All}
+use Rattle.std.proofs.Common.{Some, None, refl, sym, ap, ◌∙◌, arith}
 use Rattle.std.proofs.lemmas.List.Elements.{All-from_get_or}
 use Rattle.dob_pieces.specs.declared.kind.Kind.{Kind}
 use Rattle.dob_pieces.specs.declared.kind.Kind.TheVariants.{Lion, Giraffe, Elephant, Chick, Hen}
@@ -63,7 +64,8 @@ placed board =
     (letter_placed (get_or board 2 None) 14 (omega arith))
 
 -- a list of fifteen, element by element
-fifteen : (xs : List ℕ) → length xs ≡ 15 → xs ≡ get_or xs 0 0 ∷ get_or xs 1 0 ∷ get_or xs 2 0 ∷ get_or xs 3 0 ∷ get_or xs 4 0 ∷ get_or xs 5 0 ∷ get_or xs 6 0 ∷ get_or xs 7 0 ∷ get_or xs 8 0 ∷ get_or xs 9 0 ∷ get_or xs 10 0 ∷ get_or xs 11 0 ∷ get_or xs 12 0 ∷ get_or xs 13 0 ∷ get_or xs 14 0 ∷ []
+fifteen : (xs : List ℕ) → length xs ≡ 15 → xs ≡ get_or xs 0 0 ∷ get_or xs 1 0 ∷ get_or xs 2 0 ∷ get_or xs 3 0 ∷ get_or xs 4 0 ∷ get_or xs 5 0
+    ∷ get_or xs 6 0 ∷ get_or xs 7 0 ∷ get_or xs 8 0 ∷ get_or xs 9 0 ∷ get_or xs 10 0 ∷ get_or xs 11 0 ∷ get_or xs 12 0 ∷ get_or xs 13 0 ∷ get_or xs 14 0 ∷ []
 fifteen (a ∷ b ∷ c ∷ d ∷ e ∷ f ∷ g ∷ h ∷ i ∷ j ∷ k ∷ l ∷ m ∷ n ∷ o ∷ []) size = refl
 fifteen _ size = absurd (omega arith)
 
@@ -71,7 +73,8 @@ cons : {x y : ℕ} {xs ys : List ℕ} → x ≡ y → xs ≡ ys → x ∷ xs ≡
 cons h t = cc
 
 -- fifteen bytes are the text of a board whose squares stand for their letters
-pub board_spelled : (grid : List ℕ) (board : List Cell) → IsGrid grid → ((k : ℕ) → k < 12 → get_or grid (letter_place k) 0 ≡ letter_of (get_or board k None)) → grid ≡ board_text board
+pub board_spelled : (grid : List ℕ) (board : List Cell) → IsGrid grid
+    → ((k : ℕ) → k < 12 → get_or grid (letter_place k) 0 ≡ letter_of (get_or board k None)) → grid ≡ board_text board
 board_spelled grid board shape each =
     let slash : (i : ℕ) → i < 15 → i % 4 ≡ 3 → get_or grid i 0 ≡ 47 = λ i lt here. (shape.slashes i lt).1 here in
     fifteen grid shape.size
@@ -111,14 +114,20 @@ letter_back (Some piece) = piece_back piece.side piece.kind
 
 -- the board that a text stands for
 abbrev board_in : List ℕ → List Cell
-board_in text = cell_in (get_or text 12 0) ∷ cell_in (get_or text 13 0) ∷ cell_in (get_or text 14 0) ∷ cell_in (get_or text 8 0) ∷ cell_in (get_or text 9 0) ∷ cell_in (get_or text 10 0) ∷ cell_in (get_or text 4 0) ∷ cell_in (get_or text 5 0) ∷ cell_in (get_or text 6 0) ∷ cell_in (get_or text 0 0) ∷ cell_in (get_or text 1 0) ∷ cell_in (get_or text 2 0) ∷ []
+board_in text = cell_in (get_or text 12 0) ∷ cell_in (get_or text 13 0) ∷ cell_in (get_or text 14 0) ∷ cell_in (get_or text 8 0)
+    ∷ cell_in (get_or text 9 0) ∷ cell_in (get_or text 10 0) ∷ cell_in (get_or text 4 0) ∷ cell_in (get_or text 5 0) ∷ cell_in (get_or text 6 0)
+    ∷ cell_in (get_or text 0 0) ∷ cell_in (get_or text 1 0) ∷ cell_in (get_or text 2 0) ∷ []
 
 cell_cons : {x y : Cell} {xs ys : List Cell} → x ≡ y → xs ≡ ys → x ∷ xs ≡ y ∷ ys
 cell_cons h t = cc
 
 board_back : (board : List Cell) → length board ≡ 12 → board_in (board_text board) ≡ board
 board_back (a ∷ b ∷ c ∷ d ∷ e ∷ f ∷ g ∷ h ∷ i ∷ j ∷ k ∷ l ∷ []) size =
-    cell_cons (letter_back a) (cell_cons (letter_back b) (cell_cons (letter_back c) (cell_cons (letter_back d) (cell_cons (letter_back e) (cell_cons (letter_back f) (cell_cons (letter_back g) (cell_cons (letter_back h) (cell_cons (letter_back i) (cell_cons (letter_back j) (cell_cons (letter_back k) (cell_cons (letter_back l) (refl))))))))))))
+    cell_cons (letter_back a) (cell_cons (letter_back b)
+    (cell_cons (letter_back c) (cell_cons (letter_back d)
+    (cell_cons (letter_back e) (cell_cons (letter_back f)
+    (cell_cons (letter_back g) (cell_cons (letter_back h)
+    (cell_cons (letter_back i) (cell_cons (letter_back j) (cell_cons (letter_back k) (cell_cons (letter_back l) (refl))))))))))))
 board_back _ size = absurd (omega arith)
 
 -- two boards of one text are one board

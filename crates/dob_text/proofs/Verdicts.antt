@@ -94,7 +94,8 @@ refused_as text (Err e) reads f = (
   λ x. ap (λ (g : TextFault). Err g) (one_fault text e f reads x),
 )
 
-pub whole_as : (text : List ℕ) (r : Result Position TextFault) → Reads text r → (setup : Setup) → IsLegal setup → text ≡ text_of setup → IsOkAnd r (λ position. position.setup ≡ setup)
+pub whole_as : (text : List ℕ) (r : Result Position TextFault) → Reads text r → (setup : Setup) → IsLegal setup
+    → text ≡ text_of setup → IsOkAnd r (λ position. position.setup ≡ setup)
 whole_as text (Ok position) reads setup legal is = same_spelled text position.setup setup reads.1 (record { squares = legal.squares; spelled = is })
 whole_as text (Err f) reads setup legal is = no_fault text setup f legal (record { squares = legal.squares; spelled = is }) reads
 
@@ -122,20 +123,21 @@ uncapped setup few =
     (same_hand _ _ (omega arith) (omega arith) (omega arith))
     (same_hand _ _ (omega arith) (omega arith) (omega arith))
 
--- the setup that was read is capped, and its refusal is the text's
-refusal_up : (text : List ℕ) (setup : Setup) (f : TextFault) → Spells text setup → IsRefused (capped_setup setup) f → HasFault text f
-refusal_up text setup fault.Lions spells x = (setup, spells, x)
-refusal_up text setup fault.Count spells x = (setup, spells, x.0, λ few. x.1 (few_down setup few))
-refusal_up text setup fault.FarLion spells x = (setup, spells, x.0, few_up setup x.1, x.2)
-refusal_up text setup fault.Shape spells x = absurd x
-refusal_up text setup fault.Letter spells x = absurd x
-refusal_up text setup fault.Hand spells x = absurd x
+-- the setup that was read is capped, and its fault is the text's
+fault_up : (text : List ℕ) (setup : Setup) (f : TextFault) → Spells text setup → IsRefused (capped_setup setup) f → HasFault text f
+fault_up text setup fault.Lions spells x = (setup, spells, x)
+fault_up text setup fault.Count spells x = (setup, spells, x.0, λ few. x.1 (few_down setup few))
+fault_up text setup fault.FarLion spells x = (setup, spells, x.0, few_up setup x.1, x.2)
+fault_up text setup fault.Shape spells x = absurd x
+fault_up text setup fault.Letter spells x = absurd x
+fault_up text setup fault.Hand spells x = absurd x
 
 -- so is its position the text's
-pub reads_by : (text : List ℕ) (full setup : Setup) (r : Result Position TextFault) → Spells text full → setup ≡ capped_setup full → MatchResult r (λ position. IsLegal setup × (position.setup ≡ setup)) (λ f. IsRefused setup f) → Reads text r
+pub reads_by : (text : List ℕ) (full setup : Setup) (r : Result Position TextFault) → Spells text full → setup ≡ capped_setup full
+    → MatchResult r (λ position. IsLegal setup × (position.setup ≡ setup)) (λ f. IsRefused setup f) → Reads text r
 reads_by text full setup (Ok position) spells is found =
     let legal : IsLegal (capped_setup full) = subst (λ (s : Setup). IsLegal s) is found.0 in
     let same : full ≡ position.setup = sym (found.1 ∙ is ∙ uncapped full (few_up full legal.few)) in
     (subst (λ (s : Setup). IsLegal s) (sym found.1) found.0, subst (λ (s : Setup). Spells text s) same spells)
 reads_by text full setup (Err f) spells is refused =
-    refusal_up text full f spells (subst (λ (s : Setup). IsRefused s f) is refused)
+    fault_up text full f spells (subst (λ (s : Setup). IsRefused s f) is refused)

@@ -25,7 +25,8 @@ hand_ascii : (side : Side) (hand : Hand) → All (λ byte. byte < 128) (hand_tex
 hand_ascii side hand = All-weaker IsPlain (λ byte. byte < 128) (λ byte plain. plain.ascii) _ (hand_plain side hand)
 
 -- the parts of the text of a setup
-pub text_parts : (text : List ℕ) (setup : Setup) → text ≡ text_of setup → AreParts text (board_text setup.board) (hand_text Mover setup.hands.mover) (hand_text Enemy setup.hands.enemy)
+pub text_parts : (text : List ℕ) (setup : Setup) → text ≡ text_of setup
+    → AreParts text (board_text setup.board) (hand_text Mover setup.hands.mover) (hand_text Enemy setup.hands.enemy)
 text_parts text setup is = record {
   joined = is;
   board = board_grid setup.board;
@@ -55,7 +56,8 @@ spelled_shape text setup spells =
     let enemy : List ℕ = hand_text Enemy setup.hands.enemy in
     let all : All (λ byte. byte < 128) (text_of setup) =
     All-append (λ byte. byte < 128) (board_text setup.board ++ 32 ∷ mover) (32 ∷ enemy)
-    (All-append (λ byte. byte < 128) (board_text setup.board) (32 ∷ mover) (board_ascii setup.board) (All-cons (λ byte. byte < 128) 32 mover space (hand_ascii Mover setup.hands.mover)))
+    (All-append (λ byte. byte < 128) (board_text setup.board) (32 ∷ mover) (board_ascii setup.board)
+    (All-cons (λ byte. byte < 128) 32 mover space (hand_ascii Mover setup.hands.mover)))
     (All-cons (λ byte. byte < 128) 32 enemy space (hand_ascii Enemy setup.hands.enemy)) in (
       subst (λ (x : List ℕ). IsAscii x) (sym spells.spelled) (IsAscii-from_all (text_of setup) all),
       board_text setup.board,
@@ -79,7 +81,8 @@ same_setup s t board mover enemy =
 -- a text spells one setup
 pub same_spelled : (text : List ℕ) (s t : Setup) → Spells text s → Spells text t → s ≡ t
 same_spelled text s t spells_s spells_t =
-    let parts : (board_text s.board ≡ board_text t.board) × (hand_text Mover s.hands.mover ≡ hand_text Mover t.hands.mover) × (hand_text Enemy s.hands.enemy ≡ hand_text Enemy t.hands.enemy) =
+    let parts : (board_text s.board ≡ board_text t.board) × (hand_text Mover s.hands.mover ≡ hand_text Mover t.hands.mover)
+    × (hand_text Enemy s.hands.enemy ≡ hand_text Enemy t.hands.enemy) =
     same_parts (board_text s.board) (board_text t.board) _ _ _ _ refl
     (hand_word Mover s.hands.mover).whole (hand_word Mover t.hands.mover).whole
     (sym spells_s.spelled ∙ spells_t.spelled) in
@@ -89,14 +92,18 @@ same_spelled text s t spells_s spells_t =
     (same_hand_text Enemy s.hands.enemy t.hands.enemy parts.2)
 
 -- a text whose parts are those of a board and hands spells them
-pub spelled_by : (text grid mover enemy : List ℕ) (board : List Cell) (first second : Hand) → AreParts text grid mover enemy → length board ≡ 12 → grid ≡ board_text board → mover ≡ hand_text Mover first → enemy ≡ hand_text Enemy second → Spells text (record { board = board; hands = record { mover = first; enemy = second } })
+pub spelled_by : (text grid mover enemy : List ℕ) (board : List Cell) (first second : Hand) → AreParts text grid mover enemy → length board ≡ 12
+    → grid ≡ board_text board → mover ≡ hand_text Mover first → enemy ≡ hand_text Enemy second
+    → Spells text (record { board = board; hands = record { mover = first; enemy = second } })
 spelled_by text grid mover enemy board first second parts size is_grid is_mover is_enemy = record {
   squares = size;
-  spelled = parts.joined ∙ ap (λ x. x ++ 32 ∷ mover ++ 32 ∷ enemy) is_grid ∙ ap (λ x. board_text board ++ 32 ∷ x ++ 32 ∷ enemy) is_mover ∙ ap (λ x. board_text board ++ 32 ∷ hand_text Mover first ++ 32 ∷ x) is_enemy;
+  spelled = parts.joined ∙ ap (λ x. x ++ 32 ∷ mover ++ 32 ∷ enemy) is_grid ∙ ap (λ x. board_text board ++ 32 ∷ x ++ 32 ∷ enemy) is_mover
+      ∙ ap (λ x. board_text board ++ 32 ∷ hand_text Mover first ++ 32 ∷ x) is_enemy;
 }
 
 -- the words of a text with hands are the hands
-hands_are : (text grid mover enemy : List ℕ) → AreParts text grid mover enemy → (hands : HasHands text) → (mover ≡ hand_text Mover hands.1) × (enemy ≡ hand_text Enemy hands.2)
+hands_are : (text grid mover enemy : List ℕ) → AreParts text grid mover enemy → (hands : HasHands text)
+    → (mover ≡ hand_text Mover hands.1) × (enemy ≡ hand_text Enemy hands.2)
 hands_are text grid mover enemy parts hands =
     let same : (grid ≡ hands.0) × (mover ≡ hand_text Mover hands.1) × (enemy ≡ hand_text Enemy hands.2) =
     same_parts grid hands.0 mover _ enemy _ (parts.board.size ∙ sym hands.3) parts.first.whole (hand_word Mover hands.1).whole (sym parts.joined ∙ hands.4) in

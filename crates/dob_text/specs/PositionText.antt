@@ -1,5 +1,6 @@
 -- The text of a position, and what of the form of a text is tested.
-use Rattle.std.specs.Prelude.{◌≡◌, ◌≢◌, ℕ, ◌+◌, ◌%◌, ◌<◌, ◌↔◌, Bool, List, [], ◌∷◌, ◌++◌, length, replicate, slice_index, slice_index_or, None, All, IsTrue, IsAscii, codes, ◌==◌}
+use Rattle.std.specs.Prelude.{◌≡◌, ◌≢◌, ℕ, ◌+◌, ◌%◌, ◌<◌, ◌↔◌, Bool, List, [], ◌∷◌, ◌++◌, length, replicate, slice_index, slice_index_or}
+use Rattle.std.specs.Prelude.{None, All, IsTrue, IsAscii, codes, ◌==◌}
 use Rattle.std.specs.List.{list_any}
 use Rattle.dob_pieces.specs.declared.kind.Side.{Side}
 use Rattle.dob_pieces.specs.declared.kind.Side.TheVariants.{Mover, Enemy}

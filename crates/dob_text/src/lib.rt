@@ -1,4 +1,4 @@
-// Positions and moves as text. A text that is read is the one text of its position, and each refusal says what
+// Positions and moves as text. A text that is read is the one text of its position, and each fault says what
 // the text lacks.
 #![tactic(auto)]
 

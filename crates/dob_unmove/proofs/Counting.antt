@@ -20,7 +20,7 @@ use Rattle.dob_unmove.specs.declared.undo.Undo.{Undo}
 use Rattle.dob_unmove.specs.Undoes.{choice, earlier, CanUndo}
 use Rattle.dob_unmove.specs.Walks.{TakesAll, undoes}
 use Rattle.dob_unmove.specs.Unmoves.{HasEdges, CountEdges, IsNumbering}
-use Rattle.dob_unmove.specs.Gathers.{IsOpenFirst, Finds, Adds}
+use Rattle.dob_unmove.specs.Gathers.{IsOpenFirst, Finds, Adds, Gathers}
 use Rattle.dob_unmove.proofs.Undone.{Goes-from_undo, undo_from_Goes, same_undo}
 use Rattle.dob_unmove.proofs.Listed.{undoes_sound, undoes_whole}
 use Rattle.dob_unmove.proofs.Once.{undoes_once}
@@ -49,11 +49,6 @@ pairs-append {X} R (x ∷ xs) ys p q across =
         default_free k d high there = get_or_default ys (k - length xs) _ d (omega arith)
 
 -- ---- what the walk gathered
-
--- the numbers added, one way after the other
-abbrev pub Gathers : (Setup → ℕ → Type 0) → Setup → List Undo → List ℕ → List ℕ → Type 0
-Gathers IsFirst t [] old new = old ≡ new
-Gathers IsFirst t (u ∷ us) old new = (found : Option ℕ) × Finds IsFirst (earlier t u) found × Gathers IsFirst t us (old ++ option_to_list found) new
 
 -- one way taken by what gathers numbers, which keeps its classes
 abbrev pub TakesNumber : {S C : Type 0} → (S → C) → (S → List ℕ) → (C → Setup → ℕ → Type 0) → Setup → S → Undo → S → Type 0

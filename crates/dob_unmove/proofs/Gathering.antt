@@ -9,11 +9,12 @@ use Rattle.dob_moves.specs.declared.position_status.Status.TheVariants.{Open}
 use Rattle.dob_moves.specs.Statuses.{HasStatus}
 use Rattle.dob_rank.specs.declared.classes.Classes.{Classes}
 use Rattle.dob_unmove.specs.Unmoves.{IsNumbering, HasEdges, CountEdges, ArePredecessors, IsOpenPosition}
-use Rattle.dob_unmove.specs.Gathers.{Finds, Adds}
+use Rattle.dob_unmove.specs.Gathers.{Finds, Adds, Gathers}
 use Rattle.dob_unmove.specs.declared.undo.Undo.{Undo}
-use Rattle.dob_unmove.specs.declared.predecessors.Gathered.{Gathered}
+use Rattle.dob_unmove.specs.declared.plain.Gathered.{Gathered}
 use Rattle.dob_unmove.specs.Walks.{TakesAll, undoes}
-use Rattle.dob_unmove.proofs.Counting.{Gathers, all_gathered, counts_alone, counts_both}
+use Rattle.dob_pieces.proofs.Symmetries.{turned-mirrored}
+use Rattle.dob_unmove.proofs.Counting.{all_gathered, counts_alone, counts_both}
 
 -- the answer of the numbering, at the position before the move
 pub finds_from : (IsFirst : Setup → ℕ → Type 0) (p s : Setup) (o : Option ℕ) → p ≡ s → HasStatus p Open
@@ -95,3 +96,18 @@ walked_both first q image t s old mid next new n legal other im e f none h same_
     let there : s ≡ turned (mirrored q) = f ∙ ap turned im in
     counts_both (first old.classes.now) n q mid.found.items new.found.items legal.squares other once
     (subst (λ (x : Setup). Gathers (first old.classes.now) x (undoes x) mid.found.items new.found.items) there going_on)
+
+-- ---- what was found
+
+pub alone_found : (first : Setup → ℕ → Type 0) → IsNumbering first → (q t : Setup) (old new : List ℕ) → IsLegal q → mirrored q ≡ q → t ≡ turned q → old ≡ []
+    → Gathers first t (undoes t) old new → CountEdges first q new
+alone_found first n q t old new legal own e none g =
+    counts_alone first n q new legal.squares own
+    (subst (λ (x : Setup). Gathers first x (undoes x) [] new) e (subst (λ (xs : List ℕ). Gathers first t (undoes t) xs new) none g))
+
+pub both_found : (first : Setup → ℕ → Type 0) → IsNumbering first → (q t s : Setup) (old mid new : List ℕ) → IsLegal q → mirrored q ≢ q
+    → t ≡ turned q → s ≡ mirrored (turned q) → old ≡ [] → Gathers first t (undoes t) old mid → Gathers first s (undoes s) mid new → CountEdges first q new
+both_found first n q t s old mid new legal other e f none g h =
+    counts_both first n q mid new legal.squares other
+    (subst (λ (x : Setup). Gathers first x (undoes x) [] mid) e (subst (λ (xs : List ℕ). Gathers first t (undoes t) xs mid) none g))
+    (subst (λ (x : Setup). Gathers first x (undoes x) mid new) (f ∙ sym (turned-mirrored q)) h)

@@ -9,8 +9,8 @@ use Rattle.dob_pieces.specs.declared.kind.Side.TheVariants.{Mover, Enemy}
 use Rattle.dob_pieces.specs.declared.setup.Setup.{Setup}
 use Rattle.dob_pieces.specs.Pieces.{other_side}
 use Rattle.dob_pieces.specs.Setups.{holds_lion, HasLions, HasFewPieces, HasLionOffFarRow, IsLegal, total, turned, mirrored}
-use Rattle.dob_pieces.proofs.Boards.{length-turned, HasFewPieces-turned}
-use Rattle.dob_pieces.proofs.Symmetries.{turned-turned}
+use Rattle.dob_pieces.proofs.Boards.{length-turned, HasFewPieces-turned, IsLegal-mirrored}
+use Rattle.dob_pieces.proofs.Symmetries.{turned-turned, turned-mirrored}
 use Rattle.dob_moves.proofs.Outcomes.{total-Goes, lions-Goes}
 use Rattle.dob_rank.specs.Order.{IsPositionOf}
 use Rattle.dob_rank.proofs.Found.{IsPositionOf-mirrored}
@@ -79,3 +79,10 @@ turned_image set q image t s legal im e f walked =
     let same : walked.0 ≡ q
     = sym (turned-turned walked.0 walked.1.legal.squares) ∙ ap turned (sym walked.2 ∙ e) ∙ turned-turned q legal.squares in
     (image, position_mirrored set q image (subst (IsPositionOf set) same walked.1) im, f)
+
+-- the mirror image of a turned position is a turned one
+pub turned_legal : (q t : Setup) → IsLegal q → t ≡ mirrored (turned q) → IsTurned IsLegal t
+turned_legal q t legal e = (mirrored q, IsLegal-mirrored q legal, e ∙ sym (turned-mirrored q))
+
+pub turned_position : (set : PieceSet) (q t : Setup) → IsPositionOf set q → t ≡ mirrored (turned q) → IsTurned (IsPositionOf set) t
+turned_position set q t is e = (mirrored q, IsPositionOf-mirrored set q is, e ∙ sym (turned-mirrored q))

@@ -1,3 +1,4 @@
+pub mod Gathered
 pub mod Threats
 pub mod Runs
 pub mod Undone
@@ -10,3 +11,8 @@ pub mod Gathering
 pub mod Classes
 pub mod Ascending
 pub mod Edges
+pub mod Homes
+pub mod Shapes
+pub mod Dead
+pub mod WayMasks
+pub mod OwnImages

@@ -22,7 +22,7 @@ use Rattle.dob_unmove.specs.Walks.{if_so, is_kind, is_movers, stands, holds_any,
 
 -- ---- the tests
 
-is_kind-same : (own kind : Kind) → is_kind own kind ≡ true → own ≡ kind
+pub is_kind-same : (own kind : Kind) → is_kind own kind ≡ true → own ≡ kind
 is_kind-same Lion Lion e = refl
 is_kind-same Giraffe Giraffe e = refl
 is_kind-same Elephant Elephant e = refl
@@ -70,7 +70,7 @@ stands-true (Some piece) kind e =
     let first : Some piece ≡ Some (piece_of Mover piece.kind) = ap (λ (s : Side). Some (piece_of s piece.kind)) side in
     first ∙ ap (λ (k : Kind). Some (piece_of Mover k)) own
 
-stands-from : (cell : Cell) (kind : Kind) → cell ≡ Some (piece_of Mover kind) → stands cell kind ≡ true
+pub stands-from : (cell : Cell) (kind : Kind) → cell ≡ Some (piece_of Mover kind) → stands cell kind ≡ true
 stands-from cell kind e = ap (λ (c : Cell). stands c kind) e ∙ is_kind-itself kind
 
 holds-true : (h : Hand) (caught : Kind) (taken : Option HandKind) → kind_in_hand caught ≡ taken → holds_any h taken ≡ true → CanGiveBack h (Some caught)
@@ -89,7 +89,7 @@ empty-true (Some piece) e = cc
 
 -- ---- the way alone, if a test is met
 
-if_so_sound : (b : Bool) (x u : Undo) → Contains (if_so b x) u → (b ≡ true) × (x ≡ u)
+pub if_so_sound : (b : Bool) (x u : Undo) → Contains (if_so b x) u → (b ≡ true) × (x ≡ u)
 if_so_sound b x u h =
     let found = cond_sound b (x ∷ []) u h in
     elim (cons_cases x [] u found.1) [ inl e ↦ (found.0, e) | inr none ↦ absurd (none_in_empty u none) ]
@@ -164,7 +164,7 @@ module _ (t : Setup) where
             (λ rest. append_sound _ _ u rest (uncatch_sound kind from to Chick u step) (uncatch_sound kind from to Hen u step)))
       ]
 
-  from_sound : (kind : Kind) (from to : ℕ) (u : Undo) → at t to ≡ Some (piece_of Mover (arrives_at kind to)) → from < 12 → Contains (unsteps_from t kind to from) u → CanUndo t u
+  pub from_sound : (kind : Kind) (from to : ℕ) (u : Undo) → at t to ≡ Some (piece_of Mover (arrives_at kind to)) → from < 12 → Contains (unsteps_from t kind to from) u → CanUndo t u
   unfolding unsteps_from
   from_sound kind from to u here low h =
       let found = cond_sound _ _ u h in
@@ -185,7 +185,7 @@ module _ (t : Setup) where
       let found = if_so_sound (stands (at t to) (kind_on_board kind)) (Unput kind to) u h in
       subst (CanUndo t) found.1 (stands-true (at t to) (kind_on_board kind) found.0)
 
-  at_sound : (to : ℕ) (u : Undo) → Contains (undoes_at t to) u → CanUndo t u
+  pub at_sound : (to : ℕ) (u : Undo) → Contains (undoes_at t to) u → CanUndo t u
   unfolding undoes_at
   at_sound to u h =
       append_sound _ _ u h (unsteps_sound Lion to u)

@@ -1,10 +1,8 @@
 -- Before a move some piece could catch the enemy lion exactly where one that didn't move attacks it, or the one that moved
 -- did from where it stood.
-use Rattle.std.proofs.Common.{◌≡◌, ◌≢◌, ℕ, zero, suc, ◌+◌, ◌-◌, ◌<◌, ◌==◌, ◌&&◌, if◌then◌else◌, not, Bool, true, false, true≢false, List, [], ◌∷◌, Option, Some, None, length, get_or, set, refl, sym, ap, ◌∙◌, subst, inl, inr, arith, cond}
-use Rattle.std.specs.List.{count_by}
-use Rattle.std.proofs.lemmas.Bool.{and_parts, cases_Bool, cases_lt, cases_eq, eq-eqb, ne_eqb}
+use Rattle.std.proofs.Common.{◌≡◌, ◌≢◌, ℕ, suc, ◌-◌, ◌<◌, ◌==◌, if◌then◌else◌, not, Bool, true, false, true≢false, Option, Some, None, length, set, refl, sym, ap, ◌∙◌, subst, inl, inr, arith}
+use Rattle.std.proofs.lemmas.Bool.{cases_Bool, cases_lt, cases_eq, eq-eqb, ne_eqb}
 use Rattle.std.proofs.lemmas.List.{length-set, get_or_past, get_or-set_same, get_or-set_other}
-use Rattle.std.proofs.lemmas.List.Sums.{sum_by-cons}
 use Rattle.std.specs.Int.{trailing_zeros, w16}
 use Rattle.dob_pieces.specs.Masks.{IsMask}
 use Rattle.dob_pieces.proofs.MaskBits.{without, all_left, next_left, none_left, none_passes}
@@ -12,15 +10,14 @@ use Rattle.dob_pieces.proofs.Attacks.{attacks_piece, own_attacks}
 use Rattle.dob_pieces.specs.declared.kind.Kind.{Kind}
 use Rattle.dob_pieces.specs.declared.kind.Kind.TheVariants.{Lion, Giraffe, Elephant, Chick, Hen}
 use Rattle.dob_pieces.specs.declared.kind.HandKind.{HandKind}
-use Rattle.dob_pieces.specs.declared.kind.Piece.{Piece}
 use Rattle.dob_pieces.specs.declared.kind.Side.{Side}
 use Rattle.dob_pieces.specs.declared.kind.Side.TheVariants.{Mover, Enemy}
 use Rattle.dob_pieces.specs.declared.setup.Setup.{Setup}
-use Rattle.dob_pieces.specs.Pieces.{leads, other_side, is_side, is_lion, kind_in_hand, kind_on_board}
-use Rattle.dob_pieces.specs.Setups.{Cell, at, piece_of, holds_lion, HasLions, IsLegal, turned, turned_cell}
+use Rattle.dob_pieces.specs.Pieces.{leads, other_side, kind_on_board}
+use Rattle.dob_pieces.specs.Setups.{Cell, at, piece_of, HasLions, IsLegal, turned_cell}
 use Rattle.dob_pieces.proofs.Boards.{length-turned, at-turned, HasLions-turned, one_lion, within-from_piece, leads-to_board, leads-apart}
 use Rattle.dob_moves.specs.declared.game_move.Move.TheVariants.{Step, Put}
-use Rattle.dob_moves.specs.Moves.{grows_at, CatchesLion, Goes, CanGo}
+use Rattle.dob_moves.specs.Moves.{grows_at, Goes, CanGo}
 use Rattle.dob_moves.specs.declared.position_status.Status.TheVariants.{Open}
 use Rattle.dob_moves.specs.Statuses.{CanCatch, HasTried, HasStatus}
 use Rattle.dob_unmove.specs.declared.attackers.Attackers.{Attackers}
@@ -30,7 +27,6 @@ use Rattle.dob_unmove.specs.declared.undo.Undo.{Undo}
 use Rattle.dob_unmove.specs.declared.undo.Undo.TheVariants.{Unstep, Unput}
 use Rattle.dob_unmove.specs.Classes.{IsTurned}
 use Rattle.dob_unmove.specs.Undoes.{choice, arrives_at, enemy_cell, earlier, CanGiveBack, CanUnstep, CanUndo}
-use Rattle.dob_unmove.specs.Walks.{is_movers}
 use Rattle.dob_unmove.proofs.Undone.{Goes-from_undo}
 use Rattle.dob_pieces.specs.Masks.{attacks_by, attacks}
 use Rattle.dob_unmove.specs.Threats.{elsewhere, stood_before, AreAttackers, IsThreat}
@@ -189,7 +185,7 @@ module _ (after : Setup) (threat : Threat) (t : IsTurned IsLegal after) (h : IsT
     to_from : to ≢ from
     to_from e = leads-apart kind from to can.leads (sym e)
 
-    at_from : at before from ≡ Some (piece_of Mover kind)
+    pub at_from : at before from ≡ Some (piece_of Mover kind)
     unfolding earlier
     at_from = get_or-set_same (set after.board to (enemy_cell caught)) from (Some (piece_of Mover kind)) None
         (let low = can.on_board in let twelve = turned_squares after t in let same = length-set after.board to (enemy_cell caught) in omega (arith, low, twelve, same))
@@ -201,7 +197,7 @@ module _ (after : Setup) (threat : Threat) (t : IsTurned IsLegal after) (h : IsT
         ∙ get_or-set_same after.board to (enemy_cell caught) None
         (let low = leads-to_board kind from to can.leads in let twelve = turned_squares after t in omega (arith, low, twelve))
 
-    at_others : (s : ℕ) → s ≢ from → s ≢ to → at before s ≡ at after s
+    pub at_others : (s : ℕ) → s ≢ from → s ≢ to → at before s ≡ at after s
     unfolding earlier
     at_others s away apart =
         get_or-set_other (set after.board to (enemy_cell caught)) from s (Some (piece_of Mover kind)) None away
@@ -234,7 +230,7 @@ module _ (after : Setup) (threat : Threat) (t : IsTurned IsLegal after) (h : IsT
       ]
     ]
 
-    here : at before threat.lion ≡ Some (piece_of Enemy Lion)
+    pub here : at before threat.lion ≡ Some (piece_of Enemy Lion)
     here = at_others threat.lion lion_not_from lion_not_to ∙ h.lion
 
     pub step_stood : (stood_before threat (Unstep kind from to caught) ≡ true → CanCatch before) × (CanCatch before → stood_before threat (Unstep kind from to caught) ≡ true)
@@ -256,7 +252,7 @@ module _ (after : Setup) (threat : Threat) (t : IsTurned IsLegal after) (h : IsT
     unfolding earlier
     at_drop = get_or-set_same after.board to None None (within-from_piece after to (piece_of Mover (kind_on_board kind)) can)
 
-    at_rest : (s : ℕ) → s ≢ 12 → s ≢ to → at undropped s ≡ at after s
+    pub at_rest : (s : ℕ) → s ≢ 12 → s ≢ to → at undropped s ≡ at after s
     unfolding earlier
     at_rest s away apart = get_or-set_other after.board to s None None apart
 
@@ -270,10 +266,10 @@ module _ (after : Setup) (threat : Threat) (t : IsTurned IsLegal after) (h : IsT
     unfolding earlier
     undropped_squares = length-set after.board to None ∙ turned_squares after t
 
-    lion_not_beyond : threat.lion ≢ 12
+    pub lion_not_beyond : threat.lion ≢ 12
     lion_not_beyond e = let low = within-from_piece after threat.lion (piece_of Enemy Lion) h.lion in let twelve = turned_squares after t in omega (arith, low, twelve, e)
 
-    lion_not_dropped : threat.lion ≢ to
+    pub lion_not_dropped : threat.lion ≢ to
     lion_not_dropped e = apart_sides (kind_on_board kind) (sym can ∙ ap (at after) (sym e) ∙ h.lion)
 
     still_only : (s : ℕ) → at undropped s ≡ Some (piece_of Enemy Lion) → s ≡ threat.lion

@@ -1,5 +1,5 @@
 -- The numbers that are gathered when the ways to take a move back are gone through.
-use Rattle.std.specs.Prelude.{◌≡◌, ℕ, ◌++◌, List, Option}
+use Rattle.std.specs.Prelude.{◌≡◌, ℕ, ◌++◌, [], ◌∷◌, List, Option}
 use Rattle.std.specs.Option.{MatchOption, option_to_list}
 use Rattle.dob_pieces.specs.declared.setup.Setup.{Setup}
 use Rattle.dob_moves.specs.declared.position_status.Status.TheVariants.{Open}
@@ -18,3 +18,9 @@ Finds IsFirst p found = MatchOption found (¬ ((class : ℕ) × IsOpenFirst IsFi
 -- what taking one way back adds to the list of numbers
 abbrev pub Adds : (Setup → ℕ → Type 0) → Setup → Undo → List ℕ → List ℕ → Type 0
 Adds IsFirst after undo old new = (found : Option ℕ) × Finds IsFirst (earlier after undo) found × (new ≡ old ++ option_to_list found)
+
+-- the numbers added by the ways, one after the other
+abbrev pub Gathers : (Setup → ℕ → Type 0) → Setup → List Undo → List ℕ → List ℕ → Type 0
+Gathers IsFirst after [] old new = old ≡ new
+Gathers IsFirst after (undo ∷ undoes) old new =
+    (found : Option ℕ) × Finds IsFirst (earlier after undo) found × Gathers IsFirst after undoes (old ++ option_to_list found) new

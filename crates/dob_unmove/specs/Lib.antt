@@ -5,3 +5,4 @@ pub mod Edges
 pub mod Gathers
 pub mod Classes
 pub mod Threats
+pub mod Ways

@@ -3,7 +3,7 @@
 // that was before.
 ghost use Rattle.std.specs.Prelude.{◌≡◌, ◌<◌, ℕ};
 ghost use Rattle.dob_pieces.specs.declared.setup.Setup.{Setup};
-ghost use Rattle.dob_pieces.specs.Masks.{IsMask, attacks};
+ghost use Rattle.dob_pieces.specs.Masks.{IsMask, AreMasks, attacks};
 ghost use Rattle.dob_pieces.specs.Setups.{IsLegal};
 ghost use Rattle.dob_unmove.specs.Classes.{IsTurned};
 ghost use Rattle.dob_unmove.specs.Threats.{elsewhere, stood_before, AreAttackers, IsThreat};
@@ -61,7 +61,15 @@ impl Threat {
         requires { IsTurned IsLegal after.now }
         ensures { IsThreat after.now result }
     {
-        let masks = Masks::of(after);
+        Threat::by(after, &Masks::of(after))
+    }
+
+    /// The same by the masks of that setup.
+    pub(crate) fn by(after: &Setup, masks: &Masks) -> Threat
+        requires legal { IsTurned IsLegal after.now }
+        requires masks { AreMasks after.now masks.now }
+        ensures { IsThreat after.now result }
+    {
         let lion = lowest_square(masks.enemy_lion);
         Threat {
             lion,

@@ -3,12 +3,16 @@
 
 mod attackers;
 mod earlier;
+pub mod plain;
 mod predecessors;
 mod undo;
 mod walk;
+mod ways;
 
 pub use predecessors::{back, back_into};
 
+#[cfg(test)]
+mod plain_tests;
 #[cfg(test)]
 mod rules_tests;
 #[cfg(test)]

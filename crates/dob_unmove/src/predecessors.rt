@@ -1,71 +1,221 @@
-// The classes from which a class is reached.
-ghost use Rattle.std.specs.Prelude.{◌≡◌, ◌<◌, ℕ, IfOk, MatchOption};
+// The classes from which a class is reached: the walk over the ways back that masks leave.
+ghost use Rattle.std.specs.Prelude.{◌≡◌, ◌↔◌, true, false, ◌<◌, ℕ, ◌∷◌, [], IsTrue, IfOk, OnOk};
 ghost use Rattle.dob_pieces.specs.declared.setup.Setup.{Setup};
-ghost use Rattle.dob_rank.specs.Order.{IsPositionOf};
+ghost use Rattle.dob_pieces.specs.Setups.{at, turned, mirrored};
 ghost use Rattle.dob_rank.specs.Marks.{classes_of};
 ghost use Rattle.dob_unmove.specs.declared.undo.Undo.{Undo};
-ghost use Rattle.dob_unmove.specs.Undoes.{CanUndo, earlier};
+ghost use Rattle.dob_unmove.specs.Undoes.{arrives_at as arrival, CanUndo, earlier};
 ghost use Rattle.dob_unmove.specs.Unmoves.{CountEdges, ArePredecessors};
 ghost use Rattle.dob_unmove.specs.Edges.{predecessors};
-ghost use Rattle.dob_unmove.specs.Classes.{IsTurned, IsFirstIn};
-ghost use Rattle.dob_unmove.specs.Gathers.{Finds, Adds};
-ghost use Rattle.dob_unmove.specs.Threats.{IsThreat};
+ghost use Rattle.dob_unmove.specs.Classes.{IsFirstIn};
+ghost use Rattle.dob_unmove.specs.Gathers.{Finds, Gathers};
+ghost use Rattle.dob_unmove.specs.Threats.{elsewhere, stood_before};
+ghost use Rattle.dob_unmove.specs.Walks.{stands, uncatch, unsteps_from, unsteps, unputs, undoes_at, undoes};
+ghost use Rattle.dob_unmove.specs.Ways.{may_come, AreWays, CanWalk};
 
-use crate::attackers::Threat;
 use crate::earlier::open_before;
+use crate::plain::class_of_first;
 use crate::undo::Undo;
-use crate::walk::{Taker, take_all};
-use dob_pieces::{Memory, Position, Setup};
+use crate::walk::{arrives_at, holds_caught};
+use crate::ways::Ways;
+use dob_pieces::{HandKind, Kind, Memory, Position, Setup, Square, lowest_square, without_square};
 use dob_rank::Classes;
 use std::alloc::Global;
 
-// The classes found so far, and the threat to the enemy lion in the setup from which ways back are taken.
-#[derive(Drop)]
-struct Gathered<'a> {
-    classes: &'a Classes,
-    threat: Threat,
-    found: Vec<u64>,
-}
-
-impl Taker for Gathered<'_> {
-    ghost suits = { λ after gathered. IsTurned (IsPositionOf gathered.classes.now.set) after × IsThreat after gathered.threat };
-
-    ghost takes = { λ after old undo new. (new.classes ≡ old.classes) × Adds (IsFirstIn old.classes.now.set) after undo old.found.items new.found.items };
-
-    fn take(&mut self, after: &Setup, undo: Undo) -> Result<(), Memory> {
-        if let Some(class) = class_before(self.classes, after, &self.threat, undo) {
-            self.found.push(class)?;
-        }
-        Ok(())
+/// Appends the classes of the open representatives that stood before the setup. In it the side that made the last move is the
+/// mover.
+fn gather_all(
+    classes: &Classes,
+    after: &Setup,
+    ways: &Ways,
+    found: &mut Vec<u64>,
+) -> Result<(), Memory>
+    requires { CanWalk classes.now.set after.now ways.now }
+    ensures { OnOk result (Gathers (IsFirstIn classes.now.set) after.now (undoes after.now) found.old.items found.new.items) }
+{
+    let mut left = ways.ends;
+    while left != 0 {
+        let to = lowest_square(left);
+        gather_at(classes, after, ways, to, found)?;
+        left = without_square(left, to);
     }
+    Ok(())
 }
 
-// The class whose representative stood there before the move, if a representative did and was open.
-fn class_before(classes: &Classes, after: &Setup, threat: &Threat, undo: Undo) -> Option<u64>
+/// Those from which the last move ended on the square.
+#[tactic(auto, using(crate::proofs::Gathered::gathers), unfolding(crate::specs::Walks::undoes_at))]
+fn gather_at(
+    classes: &Classes,
+    after: &Setup,
+    ways: &Ways,
+    to: Square,
+    found: &mut Vec<u64>,
+) -> Result<(), Memory>
+    requires walk { CanWalk classes.now.set after.now ways.now }
+    requires calm { elsewhere ways.now.threat.attackers to ≡ false }
+    ensures { OnOk result (Gathers (IsFirstIn classes.now.set) after.now (undoes_at after.now to) found.old.items found.new.items) }
+{
+    gather_steps(classes, after, ways, Kind::Lion, to, found)?;
+    gather_steps(classes, after, ways, Kind::Giraffe, to, found)?;
+    gather_steps(classes, after, ways, Kind::Elephant, to, found)?;
+    gather_steps(classes, after, ways, Kind::Chick, to, found)?;
+    gather_steps(classes, after, ways, Kind::Hen, to, found)?;
+    gather_put(classes, after, ways, HandKind::Chick, to, found)?;
+    gather_put(classes, after, ways, HandKind::Elephant, to, found)?;
+    gather_put(classes, after, ways, HandKind::Giraffe, to, found)
+}
+
+/// Those from which a piece of that kind stepped to the square.
+fn gather_steps(
+    classes: &Classes,
+    after: &Setup,
+    ways: &Ways,
+    kind: Kind,
+    to: Square,
+    found: &mut Vec<u64>,
+) -> Result<(), Memory>
+    requires walk { CanWalk classes.now.set after.now ways.now }
+    requires calm { elsewhere ways.now.threat.attackers to ≡ false }
+    ensures { OnOk result (Gathers (IsFirstIn classes.now.set) after.now (unsteps after.now kind to) found.old.items found.new.items) }
+{
+    if !ways.stands(arrives_at(kind, to), to) {
+        return Ok(());
+    }
+    let mut left = ways.sources(kind, to);
+    while left != 0 {
+        let from = lowest_square(left);
+        gather_steps_from(classes, after, ways, kind, from, to, found)?;
+        left = without_square(left, from);
+    }
+    Ok(())
+}
+
+/// Those from which a piece of that kind stepped from the one square to the other.
+#[tactic(auto, using(crate::proofs::Gathered::gathers))]
+fn gather_steps_from(
+    classes: &Classes,
+    after: &Setup,
+    ways: &Ways,
+    kind: Kind,
+    from: Square,
+    to: Square,
+    found: &mut Vec<u64>,
+) -> Result<(), Memory>
+    requires walk { CanWalk classes.now.set after.now ways.now }
+    requires calm { elsewhere ways.now.threat.attackers to ≡ false }
+    requires stands { stands (at after.now to) (arrival kind to) ≡ true }
+    requires comes { may_come after.now ways.now.threat.lion kind to from ≡ true }
+    ensures { OnOk result (Gathers (IsFirstIn classes.now.set) after.now (unsteps_from after.now kind to from) found.old.items found.new.items) }
+{
+    let undo = Undo::Unstep {
+        kind,
+        from,
+        to,
+        caught: None,
+    };
+    gather_one(classes, after, ways, undo, found)?;
+    gather_catch(classes, after, ways, kind, from, to, Kind::Giraffe, found)?;
+    gather_catch(classes, after, ways, kind, from, to, Kind::Elephant, found)?;
+    gather_catch(classes, after, ways, kind, from, to, Kind::Chick, found)?;
+    gather_catch(classes, after, ways, kind, from, to, Kind::Hen, found)
+}
+
+/// Those from which that step caught a piece of that kind, if the hand has it.
+#[tactic(auto, using(crate::proofs::Gathered::gathers))]
+fn gather_catch(
+    classes: &Classes,
+    after: &Setup,
+    ways: &Ways,
+    kind: Kind,
+    from: Square,
+    to: Square,
+    caught: Kind,
+    found: &mut Vec<u64>,
+) -> Result<(), Memory>
+    requires walk { CanWalk classes.now.set after.now ways.now }
+    requires step { CanUndo after.now (Undo.Unstep kind from to None) }
+    requires calm { stood_before ways.now.threat (Undo.Unstep kind from to None) ≡ false }
+    ensures { OnOk result (Gathers (IsFirstIn classes.now.set) after.now (uncatch after.now kind from to caught) found.old.items found.new.items) }
+{
+    if !holds_caught(&after.hands.mover, caught) {
+        return Ok(());
+    }
+    let undo = Undo::Unstep {
+        kind,
+        from,
+        to,
+        caught: Some(caught),
+    };
+    gather_one(classes, after, ways, undo, found)
+}
+
+/// Those from which a piece of that kind was dropped on the square.
+#[tactic(auto, using(crate::proofs::Gathered::gathers), unfolding(crate::specs::Walks::unputs))]
+fn gather_put(
+    classes: &Classes,
+    after: &Setup,
+    ways: &Ways,
+    kind: HandKind,
+    to: Square,
+    found: &mut Vec<u64>,
+) -> Result<(), Memory>
+    requires walk { CanWalk classes.now.set after.now ways.now }
+    requires calm { elsewhere ways.now.threat.attackers to ≡ false }
+    ensures { OnOk result (Gathers (IsFirstIn classes.now.set) after.now (unputs after.now kind to) found.old.items found.new.items) }
+{
+    if !ways.stands(kind.on_board(), to) {
+        return Ok(());
+    }
+    gather_one(classes, after, ways, Undo::Unput { kind, to }, found)
+}
+
+/// The one from which the last move was made in that way, if it was the earlier one of its class.
+fn gather_one(
+    classes: &Classes,
+    after: &Setup,
+    ways: &Ways,
+    undo: Undo,
+    found: &mut Vec<u64>,
+) -> Result<(), Memory>
+    requires walk { CanWalk classes.now.set after.now ways.now }
     requires can { CanUndo after.now undo }
-    requires of_set { IsTurned (IsPositionOf classes.now.set) after.now }
-    requires threat { IsThreat after.now threat.now }
+    requires calm { stood_before ways.now.threat undo ≡ false }
+    ensures { OnOk result (Gathers (IsFirstIn classes.now.set) after.now (undo ∷ []) found.old.items found.new.items) }
+{
+    if let Some(class) = class_before(classes, after, ways, undo) {
+        found.push(class)?;
+    }
+    Ok(())
+}
+
+/// The class whose representative stood there before a move that left an open position, if a representative did.
+fn class_before(classes: &Classes, after: &Setup, ways: &Ways, undo: Undo) -> Option<u64>
+    requires walk { CanWalk classes.now.set after.now ways.now }
+    requires can { CanUndo after.now undo }
+    requires calm { stood_before ways.now.threat undo ≡ false }
     ensures { Finds (IsFirstIn classes.now.set) (earlier after.now undo) result }
 {
-    if threat.stood_before(&undo) {
-        return None;
-    }
     match open_before(after, undo) {
         None => None,
         Some(position) => class_of_first(classes, &position),
     }
 }
 
-// The class whose representative the position of the set is; `None` where it is none.
-fn class_of_first(classes: &Classes, position: &Position) -> Option<u64>
-    requires { IsPositionOf classes.now.set position.now.setup }
-    ensures { MatchOption result (¬ ((class : ℕ) × IsFirstIn classes.now.set position.now.setup class)) (IsFirstIn classes.now.set position.now.setup) }
+/// Whether the representative is its own mirror image. What is known of the turned setup says mostly that it isn't: its lions
+/// would stand on column b.
+fn is_own_image(classes: &Classes, first: &Position, ways: &Ways) -> bool
+    requires first { (class : ℕ) × IsFirstIn classes.now.set first.now.setup class }
+    requires ways { AreWays (turned first.now.setup) ways.now }
+    ensures { IsTrue result ↔ (mirrored first.now.setup ≡ first.now.setup) }
 {
-    classes.class_of_representative(position)
+    if ways.threat.lion.column() == 1 {
+        return class_of_first(classes, &first.mirrored()).is_some();
+    }
+    false
 }
 
-// The classes from which moves lead to the representative of a class or to its mirror image, in the order of the walk, in
-// the room of that list.
+/// The classes from which moves lead to the representative of a class or to its mirror image, in the order of the walk, in
+/// the room of that list.
 fn gather(room: Vec<u64>, classes: &Classes, first: &Position) -> Result<Vec<u64>, Memory>
     requires { (class : ℕ) × IsFirstIn classes.now.set first.now.setup class }
     ensures { IfOk result (λ list. CountEdges (IsFirstIn classes.now.set) first.now.setup list.items) }
@@ -73,20 +223,14 @@ fn gather(room: Vec<u64>, classes: &Classes, first: &Position) -> Result<Vec<u64
     let mut found = room;
     found.clear();
     let after = first.turned();
-    let mut gathered = Gathered {
-        classes,
-        threat: Threat::of(&after),
-        found,
-    };
-    take_all(&mut gathered, &after)?;
-    let image = first.mirrored();
-    if class_of_first(classes, &image).is_some() {
-        return Ok(gathered.found);
+    let ways = Ways::of(&after);
+    gather_all(classes, &after, &ways, &mut found)?;
+    if is_own_image(classes, first, &ways) {
+        return Ok(found);
     }
-    let after = image.turned();
-    gathered.threat = Threat::of(&after);
-    take_all(&mut gathered, &after)?;
-    Ok(gathered.found)
+    let image = after.mirrored();
+    gather_all(classes, &image, &Ways::of(&image), &mut found)?;
+    Ok(found)
 }
 
 /// The classes from which moves lead into the class, ascending, each as often as moves of its representative lead

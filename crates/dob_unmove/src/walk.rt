@@ -188,7 +188,7 @@ fn is_kind(own: Kind, kind: Kind) -> bool
 }
 
 // The kind as which a piece of that kind arrives on the square: a chick on its far row as a hen.
-fn arrives_at(kind: Kind, to: Square) -> Kind
+pub(crate) fn arrives_at(kind: Kind, to: Square) -> Kind
     ensures { result ≡ arrives_at kind to }
 {
     match kind {
@@ -198,7 +198,7 @@ fn arrives_at(kind: Kind, to: Square) -> Kind
 }
 
 // Whether the hand holds what a caught piece of that kind became.
-fn holds_caught(hand: &Hand, caught: Kind) -> bool
+pub(crate) fn holds_caught(hand: &Hand, caught: Kind) -> bool
     ensures { result ≡ holds_caught hand.now caught }
 {
     match caught.in_hand() {

@@ -1,2 +1,3 @@
 pub mod PartLists
 pub mod Runs
+pub mod Told

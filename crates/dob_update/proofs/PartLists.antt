@@ -12,7 +12,7 @@ pub front-zero : (parts : List Part) → front 0 parts ≡ []
 front-zero [] = refl
 front-zero (part ∷ parts) = refl
 
-front-cons : (k : ℕ) (part : Part) (parts : List Part) → 0 < k → front k (part ∷ parts) ≡ with_number part (min k part.items) ∷ front (k - part.items) parts
+pub front-cons : (k : ℕ) (part : Part) (parts : List Part) → 0 < k → front k (part ∷ parts) ≡ with_number part (min k part.items) ∷ front (k - part.items) parts
 front-cons k part parts some =
     ap (λ (b : Bool). cond b [] (with_number part (min k part.items) ∷ front (k - part.items) parts)) (ne_eqb k 0 (λ none. omega (arith, some, none)))
 

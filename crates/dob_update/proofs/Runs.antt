@@ -25,7 +25,7 @@ some_in_front k (part ∷ parts) some = (
   omega arith,
 )
 
-total-front : (parts : List Part) (k : ℕ) → k ≤ total parts → total (front k parts) ≡ k
+pub total-front : (parts : List Part) (k : ℕ) → k ≤ total parts → total (front k parts) ≡ k
 total-front [] k within = omega (arith, within)
 total-front (part ∷ parts) k within = at (k == 0) refl (total-front parts (k - part.items) (omega (arith, within))) where
   at : (none : Bool) → (k == 0) ≡ none → total (front (k - part.items) parts) ≡ k - part.items
@@ -175,7 +175,7 @@ module _ (set : PieceSet) (n to : ℕ) where
       IsRun-front parts skip k all r.parts_fit some (let counted = r.counted in omega (arith, counted, within)) within
       (ap (take k) r.run ∙ take-take k (length all) (drop skip (items (settlements_of parts))) within)
 
-  rest_many : (parts : List Part) (skip : ℕ) (all : List Item) → IsRest set n to parts skip all → total parts ≡ length all
+  pub rest_many : (parts : List Part) (skip : ℕ) (all : List Item) → IsRest set n to parts skip all → total parts ≡ length all
   rest_many parts skip all r =
       let whole = whole_is parts skip r.parts_fit in
       let long = ap length r.rest in

@@ -1,7 +1,9 @@
 -- Settlements with the number of items that each of them has somewhere.
-use Rattle.std.specs.Prelude.{◌≡◌, ℕ, ◌+◌, ◌-◌, ◌^◌, ◌<◌, ◌≤◌, ◌==◌, nat_lt, min, cond, List, [], ◌∷◌, length, map}
+use Rattle.std.specs.Prelude.{◌≡◌, ℕ, ◌+◌, ◌-◌, ◌^◌, ◌<◌, ◌≤◌, ◌==◌, nat_lt, min, cond, List, [], ◌∷◌, ◌++◌, length, map, take, drop}
 use Rattle.dob_share.specs.declared.news.Settlement.{Settlement}
+use Rattle.dob_share.specs.declared.news.Item.{Item}
 use Rattle.dob_update.specs.declared.part.Part.{Part}
+use Rattle.dob_update.specs.Items.{item_for}
 
 abbrev pub settlement_of : Part → Settlement
 settlement_of part = part.settlement
@@ -17,6 +19,15 @@ with_number part items = record part { items = items }
 abbrev pub total : List Part → ℕ
 total [] = 0
 total (part ∷ parts) = part.items + total parts
+
+-- the class that an item tells
+abbrev pub class_told : Item → ℕ
+class_told item = item.to
+
+-- the items of the parts, where the classes that they tell are listed one part after the other
+abbrev pub told : List Part → List ℕ → List Item
+told [] classes = []
+told (part ∷ parts) classes = map (item_for part.settlement) (take part.items classes) ++ told parts (drop part.items classes)
 
 -- the parts of the first k items
 abbrev pub front : ℕ → List Part → List Part

@@ -1,13 +1,14 @@
 // Outboxes: what an owner has still to send to another.
-ghost use Rattle.std.specs.Prelude.{◌≡◌, ◌≢◌, ◌<◌, ◌≤◌, ◌+◌, ◌*◌, ◌-◌, ◌^◌, ◌↔◌, ℕ, [], ◌∷◌, ◌++◌, length, take, drop, vec_len, IsTrue, IsSome, IsNone, IfOk, IfSome, OnOk, OnErr};
+ghost use Rattle.std.specs.Prelude.{◌≡◌, ◌≢◌, ◌<◌, ◌≤◌, ◌+◌, ◌*◌, ◌-◌, ◌^◌, ◌↔◌, ℕ, [], ◌∷◌, ◌++◌, length, take, drop, map, vec_len, IsTrue, IsSome, IsNone, IfOk, IfSome, OnOk, OnErr};
 ghost use Rattle.std.specs.VecDeque.{deque_len, deque_capacity};
 ghost use Rattle.dob_unmove.specs.Edges.{predecessors};
 ghost use Rattle.dob_share.specs.declared.news.Settlement.{Settlement as Settled};
-ghost use Rattle.dob_update.specs.Items.{items_of};
-ghost use Rattle.dob_update.specs.Parts.{front, behind, skip_behind, total, AreWhole};
+ghost use Rattle.dob_update.specs.Items.{item_for, items_of};
+ghost use Rattle.dob_update.specs.Parts.{front, behind, skip_behind, total, told, class_told, AreWhole};
 ghost use Rattle.dob_update.specs.Batches.{IsOutbox, IsCut, empty_outbox, added};
 
 use crate::batch::Batch;
+use crate::items::item_for;
 use crate::part::Part;
 use dob_pieces::{Memory, PieceSet};
 use dob_share::{Item, Settlement};
@@ -16,7 +17,7 @@ use std::collections::VecDeque;
 use std::marker::Model;
 
 /// What one of `n` owners of a piece set's classes has still to send to another: the items of its settlements for the
-/// receiver, in order. It keeps 24 bytes an item and 32 a settlement, at most double while it grows.
+/// receiver, in order. It keeps 8 bytes an item, its class, and 32 a settlement, at most double while it grows.
 #[derive(Drop)]
 pub struct Outbox {
     alloc: Global,
@@ -26,21 +27,22 @@ pub struct Outbox {
     to: usize,
     parts: VecDeque<Part>,
     skip: usize,
-    items: VecDeque<Item>,
+    // The classes that the parts' items tell, one part after the other.
+    classes: VecDeque<u64>,
     next: u64,
 }
 
 impl Model for Outbox {
     ghost use Rattle.std.specs.Prelude.{◌≡◌};
-    ghost use Rattle.dob_update.specs.Parts.{settlements_of};
+    ghost use Rattle.dob_update.specs.Parts.{settlements_of, told};
     ghost use Rattle.dob_update.specs.Batches.{OutboxView};
-    ghost use Rattle.dob_update.specs.Runs.{IsRest};
+    ghost use Rattle.dob_update.specs.Runs.{AreListed};
 
     ghost Value = { OutboxView };
 
-    ghost view = { λ o. record { set = o.set; n = o.n; from = o.from; to = o.to; settlements = settlements_of o.parts.items; skip = o.skip; items = o.items.items; next = o.next } };
+    ghost view = { λ o. record { set = o.set; n = o.n; from = o.from; to = o.to; settlements = settlements_of o.parts.items; skip = o.skip; items = told o.parts.items o.classes.items; next = o.next } };
 
-    ghost invariant = { λ o. IsRest o.set o.n o.to o.parts.items o.skip o.items.items };
+    ghost invariant = { λ o. AreListed o.set o.n o.to o.parts.items o.skip o.classes.items };
 }
 
 impl Outbox {
@@ -56,7 +58,7 @@ impl Outbox {
             to,
             parts: VecDeque::new(alloc),
             skip: 0,
-            items: VecDeque::new(alloc),
+            classes: VecDeque::new(alloc),
             next: 0,
         }
     }
@@ -66,14 +68,14 @@ impl Outbox {
         ensures empty { IsTrue result ↔ (self.now.items ≡ []) }
         ensures outbox { IsOutbox self.now }
     {
-        self.items.is_empty()
+        self.classes.is_empty()
     }
 
     /// How many items are left to send.
     pub fn len(&self) -> usize
         ensures { result ≡ length self.now.items }
     {
-        self.items.len()
+        self.classes.len()
     }
 
     /// How many batches were cut.
@@ -94,8 +96,8 @@ impl Outbox {
             return Ok(());
         }
         self.parts.reserve(1)?;
-        self.items.reserve(items.len())?;
-        push_all(&mut self.items, items);
+        self.classes.reserve(items.len())?;
+        push_classes(&mut self.classes, items);
         self.parts.push_back_reserved(Part {
             settlement,
             items: items.len(),
@@ -114,29 +116,29 @@ impl Outbox {
         ensures batch { IfOk result (λ batch. IfSome batch (λ b. IsCut self.old size b self.new)) }
         ensures err { OnErr result (self.new ≡ self.old) }
     {
-        let taken = size.min(self.items.len());
+        let taken = size.min(self.classes.len());
         if taken == 0 {
             return Ok(None);
         }
         let parts = front_parts(self.alloc, &self.parts, taken)?;
-        let items = front_items(self.alloc, &self.items, taken)?;
+        let items = front_items(self.alloc, &parts, &self.classes, taken)?;
         let batch = Batch::new(
             self.set, self.n, self.from, self.to, self.next, parts, self.skip, items,
         );
         self.skip = drop_parts(&mut self.parts, self.skip, taken);
-        drop_items(&mut self.items, taken);
+        drop_classes(&mut self.classes, taken);
         self.next += 1;
         Ok(Some(batch))
     }
 }
 
-// Appends the items, for which there is room.
-fn push_all(queue: &mut VecDeque<Item>, items: &[Item])
+// Appends the classes of the items, for which there is room.
+fn push_classes(queue: &mut VecDeque<u64>, items: &[Item])
     requires { deque_len queue.old + length items.now ≤ deque_capacity queue.old }
-    ensures { queue.new.items ≡ queue.old.items ++ items.now }
+    ensures { queue.new.items ≡ queue.old.items ++ map class_told items.now }
 {
     for item in items {
-        queue.push_back_reserved(*item);
+        queue.push_back_reserved(item.to);
     }
 }
 
@@ -158,16 +160,43 @@ fn front_parts(alloc: Global, parts: &VecDeque<Part>, k: usize) -> Result<Vec<Pa
     Ok(list)
 }
 
-// The first `k` items.
-fn front_items(alloc: Global, items: &VecDeque<Item>, k: usize) -> Result<Vec<Item>, Memory>
-    requires { k ≤ length items.now.items }
-    ensures { IfOk result (λ list. list.items ≡ take k items.now.items) }
+// The items of the parts, `k` of them, whose classes are the first of those.
+fn front_items(
+    alloc: Global,
+    parts: &[Part],
+    classes: &VecDeque<u64>,
+    k: usize,
+) -> Result<Vec<Item>, Memory>
+    requires { total parts.now ≤ length classes.now.items }
+    ensures { IfOk result (λ list. list.items ≡ told parts.now classes.now.items) }
 {
     let mut list = Vec::with_capacity(alloc, k)?;
-    for index in 0..k {
-        list.push(items[index])?;
+    let mut next = 0;
+    for part in parts {
+        push_told(&mut list, part.settlement, classes, next, part.items)?;
+        next += part.items;
     }
     Ok(list)
+}
+
+// Appends the news of the settlement for so many classes, those from that place on.
+#[tactic(auto, using(crate::proofs::Told::told_more))]
+fn push_told(
+    list: &mut Vec<Item>,
+    settlement: Settlement,
+    classes: &VecDeque<u64>,
+    start: usize,
+    count: usize,
+) -> Result<(), Memory>
+    requires { start + count ≤ length classes.now.items }
+    ensures { OnOk result (list.new.items ≡ list.old.items ++ map (item_for settlement) (take count (drop start classes.now.items))) }
+{
+    let _length = classes.len();
+    for index in 0..count {
+        let class = classes[start + index];
+        list.push(item_for(settlement, class))?;
+    }
+    Ok(())
 }
 
 // Drops the first `k` items from the parts, of which the first had `skip` items before; how many the first one left has
@@ -196,12 +225,12 @@ fn drop_parts(parts: &mut VecDeque<Part>, skip: usize, k: usize) -> usize
     before
 }
 
-// Drops the first `k` items.
-fn drop_items(items: &mut VecDeque<Item>, k: usize)
-    requires { k ≤ length items.old.items }
-    ensures { items.new.items ≡ drop k items.old.items }
+// Drops the first `k` classes.
+fn drop_classes(classes: &mut VecDeque<u64>, k: usize)
+    requires { k ≤ length classes.old.items }
+    ensures { classes.new.items ≡ drop k classes.old.items }
 {
     for _ in 0..k {
-        items.pop_front();
+        classes.pop_front();
     }
 }

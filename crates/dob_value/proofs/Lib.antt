@@ -1,10 +1,15 @@
-pub mod Depths
-pub mod NextValues
-pub mod Tables
-pub mod Images
-pub mod Successors
-pub mod Nodes
-pub mod ClassNumbers
-pub mod Consistency
-pub mod Parity
-pub mod Rows
+-- The lemmas, in the order in which they are read.
+-- Values.
+pub mod Depths  -- won and lost at different depths
+pub mod NextValues  -- the value at one depth more
+pub mod Parity  -- a distance says whether it is a win
+-- Tables of values.
+pub mod Tables  -- tables during the sweeps
+pub mod Images  -- mirror images have one value
+pub mod ClassNumbers  -- each position has one entry
+pub mod Rows  -- tables in the order of the classes
+-- The graph of a sweep.
+pub mod Successors  -- the successors of a class
+pub mod Nodes  -- the graph's lists as they grow
+-- Tables that pass the check.
+pub mod Consistency  -- a consistent table is the value table

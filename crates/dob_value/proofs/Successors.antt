@@ -1,5 +1,6 @@
 -- A list of successors' numbers as it grows.
-use Rattle.std.proofs.Common.{◌≡◌, ℕ, ◌+◌, ◌<◌, ◌≤◌, inl, inr, sym, subst, ap, ◌∙◌, arith, List, [], ◌∷◌, ◌++◌, length, get_or, Option, Some, Contains, slice_get}
+use Rattle.std.proofs.Common.{◌≡◌, ℕ, ◌+◌, ◌<◌, ◌≤◌, inl, inr, sym, subst, ap, ◌∙◌, arith, List, [], ◌∷◌, ◌++◌, length, get_or, Option}
+use Rattle.std.proofs.Common.{Some, Contains, slice_get}
 use Rattle.std.proofs.lemmas.Bool.{cases_lt}
 use Rattle.std.proofs.lemmas.Option.{slice_get-get_or, same_Some}
 use Rattle.std.proofs.lemmas.List.Elements.{Contains-push, Contains-push_cases, Contains-get_or, Contains-append_left}
@@ -67,7 +68,8 @@ module _ {X : Type 0} (StandsFor : X → Setup → Type 0) (p : Setup) (choices 
     sound = below.sound;
     whole = λ goes_on move q goes.
         let there = are_moves.whole move goes_on (q, goes) in
-        let read : slice_get choices there.0 ≡ Some move = slice_get-get_or choices there.0 move there.1 ∙ ap (λ m. let o : Option Move = Some m in o) there.2 in
+        let read : slice_get choices there.0 ≡ Some move = slice_get-get_or choices there.0 move there.1
+        ∙ ap (λ m. let o : Option Move = Some m in o) there.2 in
         let within : there.0 < length choices = there.1 in
         below.whole there.0 move q (omega arith) read goes;
   }

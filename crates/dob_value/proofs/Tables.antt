@@ -1,5 +1,6 @@
 -- Tables during the sweeps.
-use Rattle.std.proofs.Common.{◌≡◌, ℕ, zero, suc, ◌+◌, ◌≤◌, ◌<◌, inl, inr, refl, sym, subst, arith, ◌∙◌, List, length, slice_index_or, true, false, slice_set, map, get_or-set_other, get_or-set_same, length-set, take, drop, ◌++◌}
+use Rattle.std.proofs.Common.{◌≡◌, ℕ, zero, suc, ◌+◌, ◌≤◌, ◌<◌, inl, inr, refl, sym, subst, arith, ◌∙◌, List, length, slice_index_or, true}
+use Rattle.std.proofs.Common.{false, slice_set, map, get_or-set_other, get_or-set_same, length-set, take, drop, ◌++◌}
 use Rattle.std.proofs.lemmas.Grind.{common_steps}
 use Rattle.std.proofs.lemmas.List.{length-map, get_or-map}
 use Rattle.std.proofs.lemmas.Bool.{cases_lt, cases_eq, cases_order, leb-true, le-leb}

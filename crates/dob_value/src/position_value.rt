@@ -17,7 +17,7 @@ use std::alloc::Global;
 
 /// The values of all positions of the set, by sweeps over its classes.
 ///
-/// Errors: `SetTooLarge` just where the set has more than three pieces besides the lions; `TooDeep`, only where some
+/// Errors: `SetTooLarge` just where the set has more than `MOST_PIECES` pieces besides the lions; `TooDeep`, only where some
 /// position of the set is won or lost in more than `MAX_DISTANCE` plies; `Memory`.
 pub fn sweep_table(alloc: Global, set: PieceSet) -> Result<Table, Fault>
     ensures set { IfOk result (λ table. table.set ≡ set) }
@@ -34,7 +34,7 @@ pub fn sweep_table(alloc: Global, set: PieceSet) -> Result<Table, Fault>
 /// The value of the position, by sweeps over all positions with the same pieces. `sweep_table` gives the values of them
 /// all at once.
 ///
-/// Errors: `SetTooLarge` just where there are more than three pieces besides the lions; `TooDeep`, only where some
+/// Errors: `SetTooLarge` just where there are more than `MOST_PIECES` pieces besides the lions; `TooDeep`, only where some
 /// position with the same pieces is won or lost in more than `MAX_DISTANCE` plies; `Memory`.
 pub fn sweep_value(alloc: Global, position: &Position) -> Result<Value, Fault>
     ensures value { IfOk result (λ value. HasValue position.now.setup value) }

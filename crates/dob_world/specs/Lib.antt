@@ -3,7 +3,9 @@ pub mod Events
 pub mod Runs
 pub mod Laws
 pub mod Faults
+pub mod FaultTexts
 pub mod Lanes
 pub mod Shown
 pub mod Rounds
+pub mod Headline
 pub mod Results

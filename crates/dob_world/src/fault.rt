@@ -1,10 +1,12 @@
 // Why there is no world, or why one stops.
-ghost use Rattle.std.specs.Prelude.{◌≡◌};
+ghost use Rattle.std.specs.Prelude.{◌≡◌, Some};
 ghost use Rattle.dob_world.specs.declared.fault.Fault.TheVariants as fault;
 ghost use Rattle.dob_world.specs.Faults.{fault_of_rank};
 
 use dob_node::Cause;
 use dob_pieces::Memory;
+use std::error::Error;
+use std::fmt;
 
 /// Why a world isn't opened, or makes no further step.
 #[derive(Clone, Copy, Debug, PartialEq, Eq)]
@@ -20,6 +22,24 @@ pub enum Fault {
     /// E23: a growth was refused, since no memory was left for it.
     Memory,
 }
+
+impl fmt::Display for Fault {
+    ghost use Rattle.dob_world.specs.FaultTexts.{fault_text};
+
+    ghost output = { λ fault. Some (fault_text fault) };
+
+    fn fmt<W: fmt::Write>(&self, f: &mut fmt::Formatter<W>) -> fmt::Result {
+        match self {
+            Fault::SetTooLarge => write!(f, "{}", dob_rank::Fault::SetTooLarge),
+            Fault::Nodes => write!(f, "E9 Nodes"),
+            Fault::Sizes => write!(f, "E10 Sizes"),
+            Fault::Stopped { node, cause } => write!(f, "E14 Stopped node {node}: {cause}"),
+            Fault::Memory => write!(f, "{Memory}"),
+        }
+    }
+}
+
+impl Error for Fault {}
 
 impl From<Memory> for Fault {
     ghost from_gives = { λ _ given. given ≡ fault.Memory };

@@ -1,20 +1,40 @@
-// Worlds over lions alone, by values known from outside.
-ghost use Rattle.std.specs.Prelude.{◌≡◌};
+// Worlds by values known from outside.
+ghost use Rattle.std.specs.Prelude.{◌≡◌, None};
 ghost use Rattle.dob_world.specs.Shown.{IsStanding, IsKept};
 
+mod schedules;
+
 use crate::{Event, Fault, Step, World, run};
+use dob_node::Cause;
 use dob_pieces::PieceSet;
-use dob_value::{Value, sweep_table};
+use dob_value::{Table, Value, sweep_table};
 use std::alloc::Global;
 use std::process::Abort;
+use std::test::Fail;
 
-// A world of so many nodes, whose batches hold one item and whose links one batch.
+// A world of so many nodes over lions alone, whose batches hold one item and whose links one batch.
 fn opened(rt: &impl Abort, alloc: Global, n: usize) -> World
     ensures standing { IsStanding result }
     ensures kept { IsKept result }
+    ensures going { result.failed ≡ None }
 {
-    let set = PieceSet::read("000").expect(rt, "a set");
-    let Ok(world) = World::open(alloc, set, n, 1, 1) else {
+    world_of(rt, alloc, "000", n, 1, 1)
+}
+
+fn world_of(
+    rt: &impl Abort,
+    alloc: Global,
+    text: &str,
+    n: usize,
+    batch: usize,
+    capacity: usize,
+) -> World
+    ensures standing { IsStanding result }
+    ensures kept { IsKept result }
+    ensures going { result.failed ≡ None }
+{
+    let set = PieceSet::read(text).expect(rt, "a set");
+    let Ok(world) = World::open(alloc, set, n, batch, capacity) else {
         panic!(rt; "no world");
     };
     world
@@ -25,12 +45,43 @@ fn make(rt: &impl Abort, world: &mut World, event: Event) -> Step
     requires { IsKept world.old }
     ensures standing { IsStanding world.new }
     ensures kept { IsKept world.new }
+    ensures going { world.new.failed ≡ None }
 {
     assert!(rt; world.steps < 1 << 40);
     let Ok(step) = world.step(event) else {
         panic!(rt; "a node has stopped");
     };
     step
+}
+
+// Drives the world until nothing is left to do.
+fn finish(rt: &impl Abort, world: &mut World)
+    requires standing { IsStanding world.old }
+    requires going { world.old.failed ≡ None }
+    ensures standing { IsStanding world.new }
+    ensures going { world.new.failed ≡ None }
+{
+    let n = world.n as u64;
+    assert!(rt; n <= 16 && world.steps <= 1 << 30);
+    assert!(rt; world.steps + 20_000 * (3 * n + 2 * (n * n) + 1) <= 1 << 40);
+    let Ok(still) = world.drive(20_000) else {
+        panic!(rt; "a node has stopped");
+    };
+    assert!(rt; still);
+}
+
+// Whether the two tables give each class one value.
+fn is_table(table: &Table, other: &Table) -> bool {
+    let count = table.class_count();
+    if other.class_count() != count {
+        return false;
+    }
+    for class in 0..count {
+        if table.value(class) != other.value(class) {
+            return false;
+        }
+    }
+    true
 }
 
 #[test]
@@ -64,30 +115,49 @@ fn sizes_have_limits(rt: HostRuntime) {
 }
 
 #[test]
-fn three_nodes_make_the_table_of_lions_alone(rt: HostRuntime) {
+fn faults_have_texts(rt: HostRuntime) -> Result<(), Fail> {
+    let stopped = |cause| Fault::Stopped { node: 3, cause };
+    let rows = [
+        (Fault::SetTooLarge, "E8 SetTooLarge"),
+        (Fault::Nodes, "E9 Nodes"),
+        (Fault::Sizes, "E10 Sizes"),
+        (stopped(Cause::TooDeep), "E14 Stopped node 3: E12 TooDeep"),
+        (
+            stopped(Cause::Contradiction(17)),
+            "E14 Stopped node 3: E13 Contradiction class 17",
+        ),
+        (stopped(Cause::Memory), "E14 Stopped node 3: E23 Memory"),
+        (stopped(Cause::Held), "E14 Stopped node 3: Held"),
+        (stopped(Cause::Counts), "E14 Stopped node 3: Counts"),
+        (Fault::Memory, "E23 Memory"),
+    ];
+    for (fault, text) in rows {
+        let told = fault.to_string(rt.alloc())?;
+        assert_eq!(rt; told.as_str(), text);
+    }
+    Ok(())
+}
+
+// Worlds of lions alone with so many nodes, by sizes of batches and capacities, make the swept table.
+fn makes_the_table(rt: &impl Abort, alloc: Global, n: usize, swept: &Table) -> Result<(), Fail> {
+    for (batch, capacity) in [(1, 1), (1, 64), (256, 1), (256, 64)] {
+        let mut world = world_of(rt, alloc, "000", n, batch, capacity);
+        finish(rt, &mut world);
+        let table = world.gather()?;
+        assert!(rt; table.class_count() == 54);
+        assert!(rt; is_table(&table, swept), "{n} {batch} {capacity}");
+    }
+    Ok(())
+}
+
+#[test]
+fn worlds_of_lions_alone_make_the_table(rt: HostRuntime) -> Result<(), Fail> {
     let set = PieceSet::read("000").expect(&rt, "a set");
-    let Ok(mut world) = World::open(rt.alloc(), set, 3, 1, 1) else {
-        panic!(rt; "no world");
-    };
-    let n = world.n as u64;
-    assert!(rt; n == 3 && world.steps == 0);
-    assert!(rt; world.steps + 20_000 * (2 * n + 2 * (n * n)) <= 1 << 40);
-    let Ok(still) = world.drive(20_000) else {
-        panic!(rt; "a node has stopped");
-    };
-    assert!(rt; still);
-    let Ok(table) = world.gather() else {
-        panic!(rt; "no table");
-    };
     let Ok(swept) = sweep_table(rt.alloc(), set) else {
         panic!(rt; "no table swept");
     };
-    let count = table.class_count();
-    assert!(rt; count == 54);
-    let swept_count = swept.class_count();
-    assert!(rt; swept_count == count);
-    for class in 0..count {
-        let value = table.value(class);
-        assert!(rt; value == swept.value(class));
+    for n in [1, 2, 3, 16] {
+        makes_the_table(&rt, rt.alloc(), n, &swept)?;
     }
+    Ok(())
 }

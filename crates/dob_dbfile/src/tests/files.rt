@@ -176,7 +176,7 @@ fn a_wrong_record_is_read_as_it_is(rt: HostRuntime) {
 }
 
 #[test]
-fn refusals_are_printed(rt: HostRuntime) {
+fn faults_are_printed(rt: HostRuntime) {
     let texts = [
         (Fault::SetTooLarge, "E8 SetTooLarge"),
         (Fault::Truncated, "E15 Truncated"),

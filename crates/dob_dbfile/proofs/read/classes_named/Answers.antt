@@ -1,3 +1,4 @@
+-- A fault of the header is given where it holds, or memory was refused.
 use Rattle.std.proofs.Common.{◌≡◌, ◌∙◌, rules, inr, sym, ap, true, false}
 use Rattle.std.proofs.lemmas.List.{take_rest}
 use Rattle.std.proofs.lemmas.Result.{err_from_is_err_and}

@@ -1,3 +1,4 @@
+-- Four bytes are below 2 to the 32nd.
 use Rattle.std.proofs.Common.{arith}
 use Rattle.dob_dbfile.proofs.Counts.{classes_of-le}
 use Rattle.dob_dbfile.proofs.read.count_of.Goals as goal

@@ -1,3 +1,4 @@
+-- The digest that was read is compared with that of the bytes before it.
 use Rattle.std.proofs.Common.{◌≡◌, ◌∙◌, ℕ, sym, subst, length, true, false}
 use Rattle.std.proofs.lemmas.Result.{err_from_is_err_and}
 use Rattle.dob_dbfile.specs.Reading.{IsCut}

@@ -1,3 +1,4 @@
+-- Each part of the file that is read tells its faults, and the last one the values.
 use Rattle.std.proofs.Common.{◌≡◌, ◌∙◌, ◌⊎◌, ℕ, List, arith, sym, subst, ap, length, take}
 use Rattle.std.proofs.lemmas.Result.{err_from_is_err_and}
 use Rattle.dob_pieces.specs.declared.piece_set.PieceSet.{PieceSet}

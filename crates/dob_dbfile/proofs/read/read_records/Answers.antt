@@ -1,3 +1,4 @@
+-- Piece after piece the codes and the digest grow by the bytes that were read.
 use Rattle.std.proofs.Common.{◌≡◌, ◌∙◌, ◌*◌, ℕ, [], arith, rules, sym, refl, subst, vec_len}
 use Rattle.std.proofs.Math.Bool.{or-false}
 use Rattle.std.proofs.lemmas.Result.{err_from_is_err_and}

@@ -1,3 +1,4 @@
+-- The codes and the digest are of the bytes read so far.
 use Rattle.std.proofs.Common.{◌≡◌, ◌*◌, ◌-◌, ◌<◌, ◌≤◌, [], vec_len, length}
 use Rattle.std.specs.List.{All}
 use Rattle.dob_dbfile.specs.Devices.{Stream, after}

@@ -1,3 +1,4 @@
+-- A code more is appended.
 use Rattle.std.proofs.Common.{◌≡◌, ◌∙◌, ◌+◌, ◌*◌, ◌<◌, ◌≤◌, ◌++◌, ◌∷◌, [], ℕ, List, arith, ap, sym, append_assoc, length, subst}
 use Rattle.std.specs.List.{All}
 use Rattle.std.proofs.lemmas.List.Elements.{All-push}
@@ -19,7 +20,8 @@ loop-index-preserved c =
       (
         more ++ code ∷ [],
         pushed ∙ ap (λ (front : List ℕ). front ++ code ∷ []) before.1 ∙ append_assoc c.args.codes.now.items more (code ∷ []),
-        code_more bytes more index code (λ i. omega (arith, c.type_inv.records i)) there before.2 (c.read_u16.ensures ∙ ap (little_number 2) (take_rest bytes (2 * index))),
+        code_more bytes more index code (λ i. omega (arith, c.type_inv.records i)) there before.2
+            (c.read_u16.ensures ∙ ap (little_number 2) (take_rest bytes (2 * index))),
         (let e : length (more ++ code ∷ []) ≡ length more + 1 = length-append more (code ∷ []) in omega (arith, before.3)),
       ),
       λ fit. subst (All Fits) (sym pushed) (All-push Fits c.loop-index.codes.items code (c.loop-index.invariant.1 fit) (omega arith)),

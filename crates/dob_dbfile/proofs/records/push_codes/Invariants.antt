@@ -1,3 +1,4 @@
+-- The codes of the records so far stand.
 use Rattle.std.proofs.Common.{◌≡◌, ◌*◌, ◌<◌, ◌++◌, ℕ, List, take, length}
 use Rattle.std.specs.List.{All}
 use Rattle.dob_dbfile.specs.Format.{code_bytes}

@@ -1,3 +1,4 @@
+-- The record of a class more is appended.
 use Rattle.std.proofs.Common.{◌∙◌, ◌++◌, ◌<◌, List, ℕ, arith, ap, sym, append_assoc, take, length}
 use Rattle.byteorder.specs.Endian.{little_bytes}
 use Rattle.dob_value.specs.Codes.{code_of_value}

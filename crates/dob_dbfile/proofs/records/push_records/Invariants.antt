@@ -1,3 +1,4 @@
+-- The records of the classes so far stand.
 use Rattle.std.proofs.Common.{◌≡◌, ◌++◌, take}
 use Rattle.dob_dbfile.specs.Format.{records}
 use Rattle.dob_dbfile.proofs.records.push_records.Given as goal

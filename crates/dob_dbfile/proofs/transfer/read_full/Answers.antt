@@ -1,3 +1,4 @@
+-- The room filled grows by what a call gives.
 use Rattle.std.proofs.Common.{◌∙◌, ◌-◌, rules, subst, length}
 use Rattle.std.proofs.Math.Bool.{or-false}
 use Rattle.dob_dbfile.proofs.Filled.{filled_more, after-after}

@@ -1,3 +1,4 @@
+-- The room filled so far has the stream's next bytes.
 use Rattle.std.proofs.Common.{◌≡◌, length, take, ◌-◌, ◌≤◌}
 use Rattle.dob_dbfile.specs.Devices.{Stream, after}
 use Rattle.dob_dbfile.proofs.transfer.read_full.Given as goal

@@ -1,4 +1,4 @@
-use Rattle.std.proofs.Common.{arith, length-drop}
+use Rattle.std.proofs.Common.{◌∙◌, arith, length-drop}
 use Rattle.std.proofs.lemmas.List.{take_rest}
 use Rattle.dob_dbfile.proofs.Sinks.{Appends-take, Keeps-trans, stops_after, works_on}
 use Rattle.dob_dbfile.proofs.transfer.write_all.Goals as goal
@@ -13,9 +13,11 @@ loop-done-preserved g c =
       Appends-take _ _ _ bytes done c.in-Ok.count c.loop-done.invariant.1 more,
       Keeps-trans _ _ _ c.loop-done.invariant.2 c.in-Ok.ensures.flushes,
       works_on (g.W.Sink.state c.args.sink.now) (g.W.Sink.state c.loop-done.sink) (g.W.Sink.state c.write.new.self) c.loop-done.invariant.3 c.in-Ok.ensures.failed,
+      c.in-Ok.ensures.same ∙ c.loop-done.invariant.4,
     )
 
 pub returns-in-Err-clause-part : goal.returns-in-Err-clause-part
 returns-in-Err-clause-part g c =
     stops_after (g.W.Sink.state c.args.sink.now) (g.W.Sink.state c.loop-done.sink) (g.W.Sink.state c.write.new.self) c.args.bytes.now c.loop-done.done
-    c.loop-done.invariant.0 c.loop-done.invariant.1 c.loop-done.invariant.2 c.in-Err.ensures.bytes c.in-Err.ensures.flushes c.in-Err.ensures.failed
+    c.loop-done.invariant.0 c.loop-done.invariant.1 c.loop-done.invariant.2 c.loop-done.invariant.4
+    c.in-Err.ensures.bytes c.in-Err.ensures.flushes c.in-Err.ensures.same c.in-Err.ensures.failed

@@ -1,5 +1,5 @@
 use Rattle.std.proofs.Common.{◌≡◌, length, take, ◌-◌, ◌≤◌}
-use Rattle.dob_dbfile.specs.Sinks.{IsNotFlushed, Takes, Works, change}
+use Rattle.dob_dbfile.specs.Sinks.{IsNotFlushed, IsSame, Takes, Works, change}
 use Rattle.dob_dbfile.proofs.transfer.write_all.Given as goal
 
 -- so many bytes have gone in, and nothing has failed or been flushed
@@ -9,6 +9,7 @@ invariant-loop-done g l =
     × Takes (change (g.W.Sink.state l.initial.sink) (g.W.Sink.state l.sink)) (take l.done l.bytes)
     × IsNotFlushed (change (g.W.Sink.state l.initial.sink) (g.W.Sink.state l.sink))
     × Works (change (g.W.Sink.state l.initial.sink) (g.W.Sink.state l.sink))
+    × IsSame (change (g.W.Sink.state l.initial.sink) (g.W.Sink.state l.sink))
 
 abbrev pub decreases-loop-done : goal.decreases-loop-done
 decreases-loop-done g l = length l.bytes - l.done

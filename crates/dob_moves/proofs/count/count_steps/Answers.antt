@@ -14,12 +14,14 @@ overflow_add-count c =
 pub loop-left-smaller : goal.loop-left-smaller
 loop-left-smaller c =
     (count_next c.args.setup.now c.loop-left.left c.lowest_square-from.result c.without_square-left.result c.loop-left.count c.count_steps_from-count.result
-    c.loop-left.invariant (omega arith) c.lowest_square-from.ensures c.without_square-left.ensures c.count_steps_from-count.ensures.number c.count_steps_from-count.ensures.few).less
+    c.loop-left.invariant (omega arith)
+    c.lowest_square-from.ensures c.without_square-left.ensures c.count_steps_from-count.ensures.number c.count_steps_from-count.ensures.few).less
 
 pub loop-left-preserved : goal.loop-left-preserved
 loop-left-preserved c =
     (count_next c.args.setup.now c.loop-left.left c.lowest_square-from.result c.without_square-left.result c.loop-left.count c.count_steps_from-count.result
-    c.loop-left.invariant (omega arith) c.lowest_square-from.ensures c.without_square-left.ensures c.count_steps_from-count.ensures.number c.count_steps_from-count.ensures.few).next
+    c.loop-left.invariant (omega arith)
+    c.lowest_square-from.ensures c.without_square-left.ensures c.count_steps_from-count.ensures.number c.count_steps_from-count.ensures.few).next
 
 pub returns-clause-number : goal.returns-clause-number
 returns-clause-number c = (count_end c.args.setup.now c.loop-left.left c.loop-left.count c.loop-left.invariant (omega arith)).0

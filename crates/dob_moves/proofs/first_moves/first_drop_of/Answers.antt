@@ -10,7 +10,8 @@ use Rattle.dob_moves.specs.Walks.{first, put_on, drops_of}
 use Rattle.dob_moves.proofs.Firsts.{below_found, first-option}
 use Rattle.dob_moves.proofs.first_moves.first_drop_of.Goals as goal
 
-put_found : (p : Setup) (kind : HandKind) (i : ℕ) → 0 < held p.hands.mover kind → i < 12 → first (each_below (λ to. option_to_list (put_on p kind to)) i) ≡ None → is_some (put_on p kind i) ≡ true → first (drops_of p kind) ≡ put_on p kind i
+put_found : (p : Setup) (kind : HandKind) (i : ℕ) → 0 < held p.hands.mover kind → i < 12
+    → first (each_below (λ to. option_to_list (put_on p kind to)) i) ≡ None → is_some (put_on p kind i) ≡ true → first (drops_of p kind) ≡ put_on p kind i
 unfolding drops_of
 put_found p kind i some below before found =
     rw (lt-ltb 0 (held p.hands.mover kind) some)

@@ -1,3 +1,4 @@
+-- The law: each outcome is `moved` and turned.
 use Rattle.std.proofs.Common.{sym, ◌∙◌}
 use Rattle.dob_moves.proofs.Outcomes.{Goes-is}
 use Rattle.dob_moves.proofs.laws.moves_have_one_outcome.Goals as goal

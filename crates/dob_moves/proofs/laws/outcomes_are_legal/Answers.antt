@@ -1,3 +1,4 @@
+-- The law, from the lemma on outcomes.
 use Rattle.dob_moves.proofs.Outcomes.{IsLegal-Goes}
 use Rattle.dob_moves.proofs.laws.outcomes_are_legal.Goals as goal
 

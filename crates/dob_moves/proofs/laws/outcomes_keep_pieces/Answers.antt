@@ -1,3 +1,4 @@
+-- The law, from the lemma on outcomes.
 use Rattle.dob_moves.proofs.Outcomes.{total-Goes}
 use Rattle.dob_moves.proofs.laws.outcomes_keep_pieces.Goals as goal
 

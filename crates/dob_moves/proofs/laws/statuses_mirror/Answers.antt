@@ -1,3 +1,4 @@
+-- The law, from the lemma on mirror images.
 use Rattle.dob_moves.proofs.Mirrors.{HasStatus-mirrored}
 use Rattle.dob_moves.proofs.laws.statuses_mirror.Goals as goal
 

@@ -21,10 +21,13 @@ loop-left-smaller c =
 pub loop-left-preserved : goal.loop-left-preserved
 loop-left-preserved c =
     walk_next (empty_at c.args.setup.now) (puts_on c.args.setup.now c.args.kind) c.loop-left.left c.lowest_square-to.result c.without_square-left.result
-    c.args.moves.now.items c.loop-left.moves.items _ (puts_quiet c.args.setup.now c.args.kind) c.loop-left.invariant (omega arith) c.lowest_square-to.ensures c.without_square-left.ensures
-    (λ passes. c.in_ok-push.ensures.items ∙ ap (λ (ms : List Move). c.loop-left.moves.items ++ ms) (sym (put_there c.args.setup.now c.args.kind c.lowest_square-to.result passes)))
+    c.args.moves.now.items c.loop-left.moves.items _ (puts_quiet c.args.setup.now c.args.kind) c.loop-left.invariant
+    (omega arith) c.lowest_square-to.ensures c.without_square-left.ensures
+    (λ passes. c.in_ok-push.ensures.items
+    ∙ ap (λ (ms : List Move). c.loop-left.moves.items ++ ms) (sym (put_there c.args.setup.now c.args.kind c.lowest_square-to.result passes)))
 
 pub returns : goal.returns
 returns c =
-    (walk_end (empty_at c.args.setup.now) (puts_on c.args.setup.now c.args.kind) c.loop-left.left c.args.moves.now.items c.loop-left.moves.items (puts_quiet c.args.setup.now c.args.kind) c.loop-left.invariant (omega arith))
+    (walk_end (empty_at c.args.setup.now) (puts_on c.args.setup.now c.args.kind) c.loop-left.left c.args.moves.now.items c.loop-left.moves.items
+    (puts_quiet c.args.setup.now c.args.kind) c.loop-left.invariant (omega arith))
     ∙ ap (λ (ms : List Move). c.args.moves.now.items ++ ms) (sym (drops_all c.args.setup.now c.args.kind (omega arith)))

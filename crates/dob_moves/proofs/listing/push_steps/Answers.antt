@@ -17,9 +17,11 @@ loop-left-smaller c =
 pub loop-left-preserved : goal.loop-left-preserved
 loop-left-preserved c =
     walk_next (own_at c.args.setup.now) (steps_from Elsewhere c.args.setup.now) c.loop-left.left c.lowest_square-from.result c.without_square-left.result
-    c.args.moves.now.items c.loop-left.moves.items _ (from_quiet c.args.setup.now) c.loop-left.invariant (omega arith) c.lowest_square-from.ensures c.without_square-left.ensures
+    c.args.moves.now.items c.loop-left.moves.items _ (from_quiet c.args.setup.now) c.loop-left.invariant
+    (omega arith) c.lowest_square-from.ensures c.without_square-left.ensures
     (λ passes. c.in_ok-push_steps_from.ensures)
 
 pub returns : goal.returns
 unfolding all_steps
-returns c = (walk_end (own_at c.args.setup.now) (steps_from Elsewhere c.args.setup.now) c.loop-left.left c.args.moves.now.items c.loop-left.moves.items (from_quiet c.args.setup.now) c.loop-left.invariant (omega arith))
+returns c = (walk_end (own_at c.args.setup.now) (steps_from Elsewhere c.args.setup.now) c.loop-left.left c.args.moves.now.items c.loop-left.moves.items
+    (from_quiet c.args.setup.now) c.loop-left.invariant (omega arith))

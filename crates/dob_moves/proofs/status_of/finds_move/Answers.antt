@@ -8,4 +8,5 @@ returns-then-is_some c =
 
 pub returns-else-is_some : goal.returns-else-is_some
 returns-else-is_some c =
-    drop_answer c.args.position.now.setup c.is_some-else-is_some.result c.first_step.result c.first_drop.result c.args.position.now.legal.squares c.first_step.ensures (cc) c.first_drop.ensures (cc)
+    drop_answer c.args.position.now.setup c.is_some-else-is_some.result c.first_step.result c.first_drop.result
+    c.args.position.now.legal.squares c.first_step.ensures (cc) c.first_drop.ensures (cc)

@@ -43,5 +43,6 @@ returns c =
     let same : c.in-Some.kind ≡ found.0 = cc in
     let stands : at p from ≡ Some (piece_of Mover c.in-Some.kind) = found.1 ∙ ap (λ (k : Kind). Some (piece_of Mover k)) (sym same) in
     subst (λ (grows : Bool). IsFirstCatch p (Step c.in-Some.kind from lion true grows)) (sym c.grows_at.ensures)
-    (first_attack p lion c.attackers-attackers.result from c.in-Some.kind c.args.position.now.legal.squares c.args.position.now.legal.lions c.enemy_lion-to.ensures
+    (first_attack p lion c.attackers-attackers.result from c.in-Some.kind c.args.position.now.legal.squares
+    c.args.position.now.legal.lions c.enemy_lion-to.ensures
     are c.if-attackers-eq0.false c.lowest_square-from.ensures stands)

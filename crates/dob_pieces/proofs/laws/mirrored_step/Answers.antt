@@ -1,3 +1,4 @@
+-- The law, computed for each kind and each two squares.
 use Rattle.dob_pieces.proofs.Symmetries.{leads-mirrored}
 use Rattle.dob_pieces.proofs.laws.mirrored_step.Goals as goal
 

@@ -1,4 +1,4 @@
--- The verdicts of the classes in order, and the first refusal among them.
+-- The verdicts of the classes in order, and the first fault among them.
 use Rattle.std.proofs.Common.{◌≡◌, ℕ, ◌-◌, ◌<◌, length, ap, sym, subst, ◌∙◌, arith, Bool, List}
 use Rattle.std.specs.Prelude.{is_err}
 use Rattle.std.specs.Borrow.{Bor}
@@ -9,7 +9,7 @@ use Rattle.rayon.proofs.ToStd.{nat_range-All}
 use Rattle.dob_pieces.specs.declared.piece_set.PieceSet.{PieceSet}
 use Rattle.dob_rank.specs.Marks.{classes_of}
 use Rattle.dob_probe.specs.Faults.{IsVerdict}
-use Rattle.dob_probe.proofs.Verdicts.{Verdict, IsFirstRefusal, first_refusal, consistent_answered, fault_answered, right_answered, passed_answered}
+use Rattle.dob_probe.proofs.Verdicts.{Verdict, IsFirstFault, first_fault, consistent_answered, fault_answered, right_answered, passed_answered}
 use Rattle.dob_probe.proofs.checks.check.Goals as goal
 
 pub find_first-refused-requires-clause-items : goal.find_first-refused-requires-clause-items
@@ -19,10 +19,10 @@ find_first-refused-requires-clause-items g c = λ κs lives.
     let count : c.class_count.result ≡ length values =
     c.class_count.ensures.number ∙ ap (λ (set : PieceSet). classes_of set) c.classes.ensures.set ∙ c.classes.ensures.count in
     let inside = nat_range-All (λ i. i < length values) 0 c.class_count.result (λ i low high. omega (arith, high, count)) in
-    rw (c.map.ensures.base, c.map.ensures.f, ends.0, ends.1) (λ k d lt. (inside k d lt, λ y p q e. tt))
+    rw (c.map_init.ensures.base, c.map_init.ensures.f, ends.0, ends.1) (tt, λ k d lt. (λ p. inside k d lt, λ p q y e b same. tt))
 
 -- what was found
-found_is : (g : _) (c : goal.After-unwrap_or g) → IsFirstRefusal c.args.table.now 0 (length c.args.table.now.values) c.find_first-refused.result
+found_is : (g : _) (c : goal.After-unwrap_or g) → IsFirstFault c.args.table.now 0 (length c.args.table.now.values) c.find_first-refused.result
 found_is g c =
     let table = c.args.table.now in
     let done = c.find_first-refused.ensures in
@@ -30,15 +30,16 @@ found_is g c =
     let count : c.class_count.result ≡ length table.values =
     c.class_count.ensures.number ∙ ap (λ (set : PieceSet). classes_of set) c.classes.ensures.set ∙ c.classes.ensures.count in
     let whole : c.class_count.result - 0 ≡ length table.values = omega arith in
-    let chain = rw (c.map.ensures.base, c.map.ensures.f) at done.2 in
+    let chain = rw (c.map_init.ensures.base, c.map_init.ensures.f) at done.2 in
     let places = chain.1 ∙ (λ i. nat_range (ends.0 i) (ends.1 i)) ∙ ap (range_with_len 0) whole in
     let verdicts : AllZip (IsVerdict table) (range_with_len 0 (length table.values)) done.0 =
-    subst (λ (classes : List ℕ). AllZip (IsVerdict table) classes done.0) places chain.2 in
+    subst (λ (classes : List ℕ). AllZip (IsVerdict table) classes done.0) places
+    (AllZip-weaken _ (IsVerdict table) (λ class verdict h. h.2) chain.0 done.0 chain.2) in
     let told : AllZip (λ (v : Verdict) (b : Bool). b ≡ is_err v) done.0 done.1 =
     AllZip-weaken (λ (v : Verdict) (b : Bool). (p : Bor Verdict) × (p.now ≡ v) × (b ≡ is_err p.now)) (λ (v : Verdict) (b : Bool). b ≡ is_err v)
     (λ v b h. h.2 ∙ ap is_err h.1) done.0 done.1 done.3 in
-    subst (IsFirstRefusal table 0 (length table.values)) (sym done.4)
-    (first_refusal table 0 (length table.values) done.0 done.1 verdicts told)
+    subst (IsFirstFault table 0 (length table.values)) (sym done.4)
+    (first_fault table 0 (length table.values) done.0 done.1 verdicts told)
 
 pub returns-clause-consistent : goal.returns-clause-consistent
 returns-clause-consistent g c =

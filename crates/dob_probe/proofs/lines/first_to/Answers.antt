@@ -2,14 +2,10 @@
 use Rattle.std.proofs.Common.{◌≡◌, rules, refl, sym, subst}
 use Rattle.std.proofs.lemmas.Option.{slice_get_read}
 use Rattle.dob_pieces.specs.declared.piece_set.PieceSet.{PieceSet}
-use Rattle.dob_pieces.specs.declared.setup.Setup.{Setup}
 use Rattle.dob_moves.specs.Statuses.{AreMoves}
-use Rattle.dob_moves.proofs.Outcomes.{Goes-is}
 use Rattle.dob_rank.specs.Order.{IsInClass}
-use Rattle.dob_value.specs.declared.value.Value.{Value}
 use Rattle.dob_value.proofs.Successors.{choice_goes, moves_keep_the_set}
 use Rattle.dob_probe.specs.Lines.{GivenBy, LeadsTo}
-use Rattle.dob_probe.proofs.Entries.{one_given}
 use Rattle.dob_probe.proofs.Ways.{none_below_more, first_found, none_leads, other_value}
 use Rattle.dob_probe.proofs.lines.first_to.Goals as goal
 use Rattle.dob_probe.proofs.lines.first_to.Goals.{After-deref-choice-items}

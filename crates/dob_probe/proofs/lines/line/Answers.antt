@@ -1,4 +1,4 @@
-use Rattle.std.proofs.Common.{List, Vec, Global}
+use Rattle.std.proofs.Common.{Vec, Global}
 use Rattle.dob_moves.specs.declared.game_move.Move.{Move}
 use Rattle.dob_probe.proofs.Ways.{break_answered}
 use Rattle.dob_probe.proofs.Best.{best_answered}

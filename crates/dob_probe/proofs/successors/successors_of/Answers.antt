@@ -1,17 +1,11 @@
 -- Each successor's value goes to the end of the list.
-use Rattle.std.proofs.Common.{◌∷◌, ◌++◌, [], List, refl, sym, subst}
+use Rattle.std.proofs.Common.{◌∷◌, ◌++◌, [], List, refl}
 use Rattle.std.proofs.lemmas.Option.{slice_get_read}
 use Rattle.dob_pieces.specs.declared.setup.Setup.{Setup}
-use Rattle.dob_moves.specs.Statuses.{AreMoves}
 use Rattle.dob_value.specs.declared.value.Value.{Value}
 use Rattle.dob_value.proofs.Successors.{choice_goes, successors_none, successors_more, successors_all}
 use Rattle.dob_probe.specs.Lines.{GivenBy}
 use Rattle.dob_probe.proofs.successors.successors_of.Goals as goal
-use Rattle.dob_probe.proofs.successors.successors_of.Goals.{After-deref-choice-items}
-
--- what is known of the list of moves
-choices_are : (c : After-deref-choice-items) → AreMoves c.args.position.now.setup c.deref-choice-items.result.now
-choices_are c = subst (λ xs. AreMoves c.args.position.now.setup xs) (sym c.deref-choice-items.ensures.value) c.in_ok-choices.ensures
 
 pub loop-choice-init : goal.loop-choice-init
 loop-choice-init c =
@@ -19,25 +13,25 @@ loop-choice-init c =
 
 pub value_to-value-requires-clause-open : goal.value_to-value-requires-clause-open
 value_to-value-requires-clause-open c =
-    (choice_goes c.args.position.now.setup c.deref-choice-items.result.now c.loop-choice.choice-index c.choice-item.result
-    (choices_are (goal.at.value_to-value-requires-clause-open c).After-deref-choice-items) c.loop-choice-test.true c.choice-item.is).0
+    (choice_goes c.args.position.now.setup c.args.choices.now c.loop-choice.choice-index c.choice-item.result
+    c.requires.choices c.loop-choice-test.true c.choice-item.is).0
 
 pub value_to-value-requires-clause-can_go : goal.value_to-value-requires-clause-can_go
 value_to-value-requires-clause-can_go c =
-    (choice_goes c.args.position.now.setup c.deref-choice-items.result.now c.loop-choice.choice-index c.choice-item.result
-    (choices_are (goal.at.value_to-value-requires-clause-can_go c).After-deref-choice-items) c.loop-choice-test.true c.choice-item.is).1
+    (choice_goes c.args.position.now.setup c.args.choices.now c.loop-choice.choice-index c.choice-item.result
+    c.requires.choices c.loop-choice-test.true c.choice-item.is).1
 
 pub loop-choice-preserved : goal.loop-choice-preserved
 loop-choice-preserved c =
     let Gives : Value → Setup → Type 0 = λ v q. GivenBy c.args.table.now q v in
     let setup = c.args.position.now.setup in
-    let choices = c.deref-choice-items.result.now in
+    let choices = c.args.choices.now in
     let index = c.loop-choice.choice-index in
     let choice = c.choice-item.result in
     let value = c.value_to-value.result in
     let values : List Value = c.loop-choice.invariant.0 in
     let here = slice_get_read choices _ index choice refl c.loop-choice-test.true c.choice-item.is in
-    let goes = choice_goes setup choices index choice (choices_are (goal.at.loop-choice-preserved c).After-deref-choice-items)
+    let goes = choice_goes setup choices index choice c.requires.choices
     c.loop-choice-test.true c.choice-item.is in (
       values ++ value ∷ [],
       successors_more Gives setup choices index values choice value here goes.1 c.value_to-value.ensures c.loop-choice.invariant.1,
@@ -47,8 +41,8 @@ loop-choice-preserved c =
 pub returns : goal.returns
 returns c = (
   c.loop-choice.invariant.0,
-  successors_all (λ (v : Value) q. GivenBy c.args.table.now q v) c.args.position.now.setup c.deref-choice-items.result.now
+  successors_all (λ (v : Value) q. GivenBy c.args.table.now q v) c.args.position.now.setup c.args.choices.now
       c.loop-choice.choice-index c.loop-choice.invariant.0 c.loop-choice-test.false
-      (choices_are (goal.at.returns c).After-deref-choice-items) c.loop-choice.invariant.1,
+      c.requires.choices c.loop-choice.invariant.1,
   c.loop-choice.invariant.2,
 )

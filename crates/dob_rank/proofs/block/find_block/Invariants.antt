@@ -1,3 +1,4 @@
+-- The rank is at or behind the start of the block reached.
 use Rattle.std.proofs.Common.{◌≡◌, ◌≤◌}
 use Rattle.dob_rank.specs.Numbers.{sum_below, block_size}
 use Rattle.dob_rank.proofs.block.find_block.Given as goal

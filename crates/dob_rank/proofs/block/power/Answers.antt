@@ -1,3 +1,4 @@
+-- The first power of a base is the base.
 use Rattle.dob_rank.proofs.Loops.{power_at_one}
 use Rattle.dob_rank.proofs.block.power.Goals as goal
 

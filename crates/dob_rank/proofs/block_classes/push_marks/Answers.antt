@@ -29,4 +29,5 @@ returns-in-Later-clause-count c =
 pub returns-in-Mixed-clause-words : goal.returns-in-Mixed-clause-words
 returns-in-Mixed-clause-words c =
     let kept = kept_by c.args.set c.args.block c.args.run Mixed (sym c.kind_of.ensures ∙ c.in-Mixed.is) in
-    subst (λ (ws : List Word). IfOk c.push_words.result (λ _. c.push_words.new.words.items ≡ c.args.words.now.items ++ ws)) (sym kept) c.push_words.ensures.words
+    subst (λ (ws : List Word). IfOk c.push_words.result (λ _. c.push_words.new.words.items ≡ c.args.words.now.items ++ ws))
+    (sym kept) c.push_words.ensures.words

@@ -1,3 +1,4 @@
+-- The first words of the run stand, and the count is of their marks.
 use Rattle.std.proofs.Common.{◌≡◌, ◌+◌, ◌*◌, ◌++◌, min, map}
 use Rattle.std.specs.List.{range_with_len}
 use Rattle.dob_rank.specs.Marks.{marked, marks_below}

@@ -25,13 +25,16 @@ overflow_add-first c =
 
 pub overflow_add-word : goal.overflow_add-word
 overflow_add-word c =
-    let assoc : start_of c.args.set c.args.block + (c.args.first + (c.loop-place.place - 1)) ≡ start_of c.args.set c.args.block + c.args.first + (c.loop-place.place - 1) = omega arith in
+    let assoc : start_of c.args.set c.args.block + (c.args.first + (c.loop-place.place - 1)) ≡ start_of c.args.set c.args.block
+    + c.args.first + (c.loop-place.place - 1) = omega arith in
     let step = word_step (marked c.args.set) c.args.len (start_of c.args.set c.args.block + c.args.first) c.loop-place.place c.loop-place.word c.mark_of.result
     c.loop-place-test.true c.loop-place.auto.place c.requires.few c.loop-place.invariant (c.mark_of.ensures ∙ ap (λ n. one_if (marked c.args.set n)) assoc) in
     omega (arith, step.small)
 
 pub loop-place-preserved : goal.loop-place-preserved
 loop-place-preserved c =
-    let assoc : start_of c.args.set c.args.block + (c.args.first + (c.loop-place.place - 1)) ≡ start_of c.args.set c.args.block + c.args.first + (c.loop-place.place - 1) = omega arith in
+    let assoc : start_of c.args.set c.args.block + (c.args.first + (c.loop-place.place - 1)) ≡ start_of c.args.set c.args.block
+    + c.args.first + (c.loop-place.place - 1) = omega arith in
     (word_step (marked c.args.set) c.args.len (start_of c.args.set c.args.block + c.args.first) c.loop-place.place c.loop-place.word c.mark_of.result
-    c.loop-place-test.true c.loop-place.auto.place c.requires.few c.loop-place.invariant (c.mark_of.ensures ∙ ap (λ n. one_if (marked c.args.set n)) assoc)).word_is
+    c.loop-place-test.true c.loop-place.auto.place c.requires.few c.loop-place.invariant (c.mark_of.ensures
+    ∙ ap (λ n. one_if (marked c.args.set n)) assoc)).word_is

@@ -1,3 +1,4 @@
+-- The word has the marks from the place reached on.
 use Rattle.std.proofs.Common.{◌≡◌, ◌+◌, ◌-◌}
 use Rattle.dob_rank.specs.Numbers.{start_of}
 use Rattle.dob_rank.specs.Marks.{marked, word_of}

@@ -1,3 +1,4 @@
+-- A mask has as many bits as its layer has squares.
 use Rattle.std.proofs.Common.{ap, ◌∙◌}
 use lib.Count.{ones}
 use Rattle.dob_rank.proofs.Planes.{ones-layer_mask}

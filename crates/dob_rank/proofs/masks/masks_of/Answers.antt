@@ -18,16 +18,21 @@ overflow_add-planes c =
     omega (arith, low, is)
 
 pub returns-clause-own_lion : goal.returns-clause-own_lion
-returns-clause-own_lion c = (planes_all c.args.board.now c.loop-square.square c.loop-square.planes c.told-board (omega arith) c.loop-square.invariant.planes_are).own_lion
+returns-clause-own_lion c = (planes_all c.args.board.now c.loop-square.square c.loop-square.planes c.told-board
+    (omega arith) c.loop-square.invariant.planes_are).own_lion
 
 pub returns-clause-enemy_lion : goal.returns-clause-enemy_lion
-returns-clause-enemy_lion c = (planes_all c.args.board.now c.loop-square.square c.loop-square.planes c.told-board (omega arith) c.loop-square.invariant.planes_are).enemy_lion
+returns-clause-enemy_lion c = (planes_all c.args.board.now c.loop-square.square c.loop-square.planes c.told-board
+    (omega arith) c.loop-square.invariant.planes_are).enemy_lion
 
 pub returns-clause-chicks : goal.returns-clause-chicks
-returns-clause-chicks c = (planes_all c.args.board.now c.loop-square.square c.loop-square.planes c.told-board (omega arith) c.loop-square.invariant.planes_are).chicks
+returns-clause-chicks c = (planes_all c.args.board.now c.loop-square.square c.loop-square.planes c.told-board
+    (omega arith) c.loop-square.invariant.planes_are).chicks
 
 pub returns-clause-elephants : goal.returns-clause-elephants
-returns-clause-elephants c = (planes_all c.args.board.now c.loop-square.square c.loop-square.planes c.told-board (omega arith) c.loop-square.invariant.planes_are).elephants
+returns-clause-elephants c = (planes_all c.args.board.now c.loop-square.square c.loop-square.planes c.told-board
+    (omega arith) c.loop-square.invariant.planes_are).elephants
 
 pub returns-clause-giraffes : goal.returns-clause-giraffes
-returns-clause-giraffes c = (planes_all c.args.board.now c.loop-square.square c.loop-square.planes c.told-board (omega arith) c.loop-square.invariant.planes_are).giraffes
+returns-clause-giraffes c = (planes_all c.args.board.now c.loop-square.square c.loop-square.planes c.told-board
+    (omega arith) c.loop-square.invariant.planes_are).giraffes

@@ -1,3 +1,4 @@
+-- The word has the planes of the squares from the one reached on.
 use Rattle.std.proofs.Common.{◌≡◌, map, drop}
 use Rattle.dob_rank.specs.Numbers.{layer}
 use Rattle.dob_rank.specs.Masks.{planes}

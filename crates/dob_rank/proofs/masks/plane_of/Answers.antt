@@ -11,14 +11,14 @@ use Rattle.dob_pieces.specs.declared.kind.Side.TheVariants.{Mover, Enemy}
 use Rattle.dob_pieces.specs.declared.kind.Piece.{Piece}
 use Rattle.dob_pieces.specs.Setups.{Cell, piece_of}
 use Rattle.dob_rank.specs.declared.masks.TheConstants.{PLANES}
-use Rattle.dob_rank.specs.Numbers.{layer, layer_of}
+use Rattle.dob_rank.specs.Numbers.{order, layer, layer_of}
 use Rattle.dob_rank.specs.Masks.{plane}
 use Rattle.dob_rank.proofs.masks.plane_of.Goals as goal
 
 entry : Piece → ℕ → ℕ
 entry piece none = get_or PLANES (tag_of kinds.the_type piece.kind + 5 * tag_of sides.the_type piece.side + 10 * none) 0
 
-of_piece : (side : Side) (kind : Kind) → entry (piece_of side kind) 0 ≡ plane (layer_of side kind)
+of_piece : (side : Side) (kind : Kind) → entry (piece_of side kind) 0 ≡ plane (order (layer_of side kind))
 unfolding entry
 of_piece Mover Lion = refl
 of_piece Mover Giraffe = refl
@@ -35,7 +35,8 @@ empty_cell : entry (piece_of Mover Lion) 1 ≡ 0
 unfolding entry
 empty_cell = refl
 
-of_cell : (cell : Cell) (piece : Piece) (empty : Bool) (none : ℕ) → piece ≡ unwrap_or cell (piece_of Mover Lion) → is_some cell ≡ not empty → none ≡ bool_byte empty →
+of_cell : (cell : Cell) (piece : Piece) (empty : Bool) (none : ℕ) → piece ≡ unwrap_or cell (piece_of Mover Lion)
+    → is_some cell ≡ not empty → none ≡ bool_byte empty →
     entry piece none ≡ plane (layer cell)
 of_cell None piece true none p e n = ap (λ (x : Piece). entry x none) p ∙ ap (entry (piece_of Mover Lion)) n ∙ empty_cell
 of_cell None piece false none p e n = absurd (cc)

@@ -3,7 +3,9 @@ use Rattle.std.proofs.Common.{◌≡◌, ◌<◌, ◌-◌, ℕ, None, replicate,
 use Rattle.dob_pieces.specs.Setups.{Cell}
 use Rattle.dob_rank.specs.Numbers.{numbers_by, cell_of}
 use Rattle.dob_rank.specs.Placing.{past}
-use Rattle.dob_rank.proofs.Placed.{after_lions, after_chicks, after_elephants, with_lions, with_chicks, with_elephants, lions_by, chicks_by, elephants_by, lions_stand, chicks_stand, elephants_stand, whole_board, first_below, second_below, put-same}
+use Rattle.dob_rank.proofs.Placed.{after_lions, after_chicks, after_elephants, with_lions, with_chicks, with_elephants, lions_by, chicks_by}
+use Rattle.dob_rank.proofs.Placed.{elephants_by, lions_stand, chicks_stand, elephants_stand, whole_board, first_below, second_below}
+use Rattle.dob_rank.proofs.Placed.{put-same}
 use Rattle.dob_rank.proofs.placing.board_by.Goals as goal
 
 -- places past two that are taken
@@ -12,62 +14,106 @@ among_same a b x a' b' x' r e f g h =
     e ∙ ap (λ n. past n (past a x)) g ∙ ap (λ n. past b' (past n x)) f ∙ ap (λ n. past b' (past a' n)) h
 
 pub put-requires-clause-first : goal.put-requires-clause-first
-put-requires-clause-first c = λ some. subst (λ (n : ℕ). n < 12) (sym (c.among-chick_squares.ensures.first ∙ ap (after_lions c.args.digits.now) c.places_of-chicks.ensures.first))
-    (first_below (numbers_by c.args.digits.now) 2 (slice_index c.args.on_board.now 0) (slice_index c.args.digits.now 5) 10 (lions_by c.args.digits.now) (with_lions c.args.digits.now) (after_lions c.args.digits.now)
-    c.requires.chicks c.requires.chick_squares (lions_stand c.args.on_board.now c.args.digits.now c.requires) some)
+put-requires-clause-first c =
+    let on_board = c.args.on_board.now in
+    let digits = c.args.digits.now in
+    λ some. subst (λ (n : ℕ). n < 12)
+    (sym (c.among-chick_squares.ensures.first ∙ ap (after_lions digits) c.places_of-chicks.ensures.first))
+    (first_below (numbers_by digits) 2 (slice_index on_board 0) (slice_index digits 5) 10
+    (lions_by digits) (with_lions digits) (after_lions digits)
+    c.requires.chicks c.requires.chick_squares (lions_stand on_board digits c.requires) some)
 
 pub put-requires-clause-second : goal.put-requires-clause-second
-put-requires-clause-second c = λ some. subst (λ (n : ℕ). n < 12) (sym (c.among-chick_squares.ensures.second ∙ ap (after_lions c.args.digits.now) c.places_of-chicks.ensures.second))
-    (second_below (numbers_by c.args.digits.now) 2 (slice_index c.args.on_board.now 0) (slice_index c.args.digits.now 5) 10 (lions_by c.args.digits.now) (with_lions c.args.digits.now) (after_lions c.args.digits.now)
-    c.requires.chicks c.requires.chick_squares (lions_stand c.args.on_board.now c.args.digits.now c.requires) some)
+put-requires-clause-second c =
+    let on_board = c.args.on_board.now in
+    let digits = c.args.digits.now in
+    λ some. subst (λ (n : ℕ). n < 12) (sym (c.among-chick_squares.ensures.second ∙ ap (after_lions digits) c.places_of-chicks.ensures.second))
+    (second_below (numbers_by digits) 2 (slice_index on_board 0) (slice_index digits 5) 10
+    (lions_by digits) (with_lions digits) (after_lions digits)
+    c.requires.chicks c.requires.chick_squares (lions_stand on_board digits c.requires) some)
 
 pub put-requires-2-clause-first : goal.put-requires-2-clause-first
-put-requires-2-clause-first c = λ some. subst (λ (n : ℕ). n < 12) (sym (c.among-elephant_squares.ensures.first ∙ ap (after_lions c.args.digits.now) (among_same _ _ _ _ _ _ _ c.among.ensures.first c.places_of-chicks.ensures.first
+put-requires-2-clause-first c =
+    let on_board = c.args.on_board.now in
+    let digits = c.args.digits.now in
+    λ some. subst (λ (n : ℕ). n < 12)
+    (sym (c.among-elephant_squares.ensures.first
+    ∙ ap (after_lions digits) (among_same _ _ _ _ _ _ _ c.among.ensures.first c.places_of-chicks.ensures.first
     c.places_of-chicks.ensures.second c.places_of-elephants.ensures.first)))
-    (first_below (numbers_by c.args.digits.now) 3 (slice_index c.args.on_board.now 1) (slice_index c.args.digits.now 6) (10 - slice_index c.args.on_board.now 0) (chicks_by c.args.on_board.now c.args.digits.now) (with_chicks c.args.on_board.now c.args.digits.now) (after_chicks c.args.on_board.now c.args.digits.now)
-    c.requires.elephants c.requires.elephant_squares (chicks_stand c.args.on_board.now c.args.digits.now c.requires) some)
+    (first_below (numbers_by digits) 3 (slice_index on_board 1) (slice_index digits 6)
+    (10 - slice_index on_board 0) (chicks_by on_board digits) (with_chicks on_board digits)
+    (after_chicks on_board digits)
+    c.requires.elephants c.requires.elephant_squares (chicks_stand on_board digits c.requires) some)
 
 pub put-requires-2-clause-second : goal.put-requires-2-clause-second
-put-requires-2-clause-second c = λ some. subst (λ (n : ℕ). n < 12) (sym (c.among-elephant_squares.ensures.second ∙ ap (after_lions c.args.digits.now) (among_same _ _ _ _ _ _ _ c.among.ensures.second c.places_of-chicks.ensures.first
+put-requires-2-clause-second c =
+    let on_board = c.args.on_board.now in
+    let digits = c.args.digits.now in
+    λ some. subst (λ (n : ℕ). n < 12)
+    (sym (c.among-elephant_squares.ensures.second
+    ∙ ap (after_lions digits) (among_same _ _ _ _ _ _ _ c.among.ensures.second c.places_of-chicks.ensures.first
     c.places_of-chicks.ensures.second c.places_of-elephants.ensures.second)))
-    (second_below (numbers_by c.args.digits.now) 3 (slice_index c.args.on_board.now 1) (slice_index c.args.digits.now 6) (10 - slice_index c.args.on_board.now 0) (chicks_by c.args.on_board.now c.args.digits.now) (with_chicks c.args.on_board.now c.args.digits.now) (after_chicks c.args.on_board.now c.args.digits.now)
-    c.requires.elephants c.requires.elephant_squares (chicks_stand c.args.on_board.now c.args.digits.now c.requires) some)
+    (second_below (numbers_by digits) 3 (slice_index on_board 1) (slice_index digits 6)
+    (10 - slice_index on_board 0) (chicks_by on_board digits) (with_chicks on_board digits)
+    (after_chicks on_board digits)
+    c.requires.elephants c.requires.elephant_squares (chicks_stand on_board digits c.requires) some)
 
 pub put-requires-3-clause-first : goal.put-requires-3-clause-first
-put-requires-3-clause-first c = λ some. subst (λ (n : ℕ). n < 12) (sym (c.among-giraffe_squares.ensures.first ∙ ap (after_lions c.args.digits.now) (among_same _ _ _ _ _ _ _ c.among-3.ensures.first c.places_of-chicks.ensures.first
+put-requires-3-clause-first c =
+    let on_board = c.args.on_board.now in
+    let digits = c.args.digits.now in
+    λ some. subst (λ (n : ℕ). n < 12)
+    (sym (c.among-giraffe_squares.ensures.first
+    ∙ ap (after_lions digits) (among_same _ _ _ _ _ _ _ c.among-3.ensures.first c.places_of-chicks.ensures.first
     c.places_of-chicks.ensures.second (among_same _ _ _ _ _ _ _ c.among-2.ensures.first c.places_of-elephants.ensures.first
     c.places_of-elephants.ensures.second c.places_of-giraffes.ensures.first))))
-    (first_below (numbers_by c.args.digits.now) 4 (slice_index c.args.on_board.now 2) (slice_index c.args.digits.now 7) (10 - slice_index c.args.on_board.now 0 - slice_index c.args.on_board.now 1) (elephants_by c.args.on_board.now c.args.digits.now) (with_elephants c.args.on_board.now c.args.digits.now) (after_elephants c.args.on_board.now c.args.digits.now)
-    c.requires.giraffes c.requires.giraffe_squares (elephants_stand c.args.on_board.now c.args.digits.now c.requires) some)
+    (first_below (numbers_by digits) 4 (slice_index on_board 2) (slice_index digits 7)
+    (10 - slice_index on_board 0 - slice_index on_board 1) (elephants_by on_board digits)
+    (with_elephants on_board digits) (after_elephants on_board digits)
+    c.requires.giraffes c.requires.giraffe_squares (elephants_stand on_board digits c.requires) some)
 
 pub put-requires-3-clause-second : goal.put-requires-3-clause-second
-put-requires-3-clause-second c = λ some. subst (λ (n : ℕ). n < 12) (sym (c.among-giraffe_squares.ensures.second ∙ ap (after_lions c.args.digits.now) (among_same _ _ _ _ _ _ _ c.among-3.ensures.second c.places_of-chicks.ensures.first
+put-requires-3-clause-second c =
+    let on_board = c.args.on_board.now in
+    let digits = c.args.digits.now in
+    λ some. subst (λ (n : ℕ). n < 12)
+    (sym (c.among-giraffe_squares.ensures.second
+    ∙ ap (after_lions digits) (among_same _ _ _ _ _ _ _ c.among-3.ensures.second c.places_of-chicks.ensures.first
     c.places_of-chicks.ensures.second (among_same _ _ _ _ _ _ _ c.among-2.ensures.second c.places_of-elephants.ensures.first
     c.places_of-elephants.ensures.second c.places_of-giraffes.ensures.second))))
-    (second_below (numbers_by c.args.digits.now) 4 (slice_index c.args.on_board.now 2) (slice_index c.args.digits.now 7) (10 - slice_index c.args.on_board.now 0 - slice_index c.args.on_board.now 1) (elephants_by c.args.on_board.now c.args.digits.now) (with_elephants c.args.on_board.now c.args.digits.now) (after_elephants c.args.on_board.now c.args.digits.now)
-    c.requires.giraffes c.requires.giraffe_squares (elephants_stand c.args.on_board.now c.args.digits.now c.requires) some)
+    (second_below (numbers_by digits) 4 (slice_index on_board 2) (slice_index digits 7)
+    (10 - slice_index on_board 0 - slice_index on_board 1) (elephants_by on_board digits)
+    (with_elephants on_board digits) (after_elephants on_board digits)
+    c.requires.giraffes c.requires.giraffe_squares (elephants_stand on_board digits c.requires) some)
 
 pub returns : goal.returns
 returns c =
+    let on_board = c.args.on_board.now in
+    let digits = c.args.digits.now in
     c.put-3.ensures
-    ∙ put-same 4 (slice_index c.args.on_board.now 2) _ _ (slice_index c.args.digits.now 10) _ _ _ (with_elephants c.args.on_board.now c.args.digits.now)
-    (c.among-giraffe_squares.ensures.first ∙ ap (after_lions c.args.digits.now) (among_same _ _ _ _ _ _ _ c.among-3.ensures.first c.places_of-chicks.ensures.first
+    ∙ put-same 4 (slice_index on_board 2) _ _ (slice_index digits 10) _ _ _ (with_elephants on_board digits)
+    (c.among-giraffe_squares.ensures.first
+    ∙ ap (after_lions digits) (among_same _ _ _ _ _ _ _ c.among-3.ensures.first c.places_of-chicks.ensures.first
     c.places_of-chicks.ensures.second (among_same _ _ _ _ _ _ _ c.among-2.ensures.first c.places_of-elephants.ensures.first
     c.places_of-elephants.ensures.second c.places_of-giraffes.ensures.first)))
-    (c.among-giraffe_squares.ensures.second ∙ ap (after_lions c.args.digits.now) (among_same _ _ _ _ _ _ _ c.among-3.ensures.second c.places_of-chicks.ensures.first
+    (c.among-giraffe_squares.ensures.second
+    ∙ ap (after_lions digits) (among_same _ _ _ _ _ _ _ c.among-3.ensures.second c.places_of-chicks.ensures.first
     c.places_of-chicks.ensures.second (among_same _ _ _ _ _ _ _ c.among-2.ensures.second c.places_of-elephants.ensures.first
     c.places_of-elephants.ensures.second c.places_of-giraffes.ensures.second)))
     (c.put-2.ensures
-    ∙ put-same 3 (slice_index c.args.on_board.now 1) _ _ (slice_index c.args.digits.now 9) _ _ _ (with_chicks c.args.on_board.now c.args.digits.now)
-    (c.among-elephant_squares.ensures.first ∙ ap (after_lions c.args.digits.now) (among_same _ _ _ _ _ _ _ c.among.ensures.first c.places_of-chicks.ensures.first
+    ∙ put-same 3 (slice_index on_board 1) _ _ (slice_index digits 9) _ _ _ (with_chicks on_board digits)
+    (c.among-elephant_squares.ensures.first
+    ∙ ap (after_lions digits) (among_same _ _ _ _ _ _ _ c.among.ensures.first c.places_of-chicks.ensures.first
     c.places_of-chicks.ensures.second c.places_of-elephants.ensures.first))
-    (c.among-elephant_squares.ensures.second ∙ ap (after_lions c.args.digits.now) (among_same _ _ _ _ _ _ _ c.among.ensures.second c.places_of-chicks.ensures.first
+    (c.among-elephant_squares.ensures.second
+    ∙ ap (after_lions digits) (among_same _ _ _ _ _ _ _ c.among.ensures.second c.places_of-chicks.ensures.first
     c.places_of-chicks.ensures.second c.places_of-elephants.ensures.second))
     (c.put.ensures
-    ∙ put-same 2 (slice_index c.args.on_board.now 0) _ _ (slice_index c.args.digits.now 8) _ _ _ (with_lions c.args.digits.now)
-    (c.among-chick_squares.ensures.first ∙ ap (after_lions c.args.digits.now) c.places_of-chicks.ensures.first)
-    (c.among-chick_squares.ensures.second ∙ ap (after_lions c.args.digits.now) c.places_of-chicks.ensures.second)
-    (ap (λ (cell : Cell). set (set (replicate 12 None) (slice_index c.args.digits.now 3) cell) c.past.result c.cell_of-2.result) c.cell_of.ensures
-    ∙ ap (λ (square : ℕ). set (set (replicate 12 None) (slice_index c.args.digits.now 3) (cell_of 0 0)) square c.cell_of-2.result) c.past.ensures.value
-    ∙ ap (set (set (replicate 12 None) (slice_index c.args.digits.now 3) (cell_of 0 0)) (past (slice_index c.args.digits.now 3) (slice_index c.args.digits.now 4))) c.cell_of-2.ensures)))
-    ∙ whole_board c.args.on_board.now c.args.digits.now c.requires
+    ∙ put-same 2 (slice_index on_board 0) _ _ (slice_index digits 8) _ _ _ (with_lions digits)
+    (c.among-chick_squares.ensures.first ∙ ap (after_lions digits) c.places_of-chicks.ensures.first)
+    (c.among-chick_squares.ensures.second ∙ ap (after_lions digits) c.places_of-chicks.ensures.second)
+    (ap (λ (cell : Cell). set (set (replicate 12 None) (slice_index digits 3) cell) c.past.result c.cell_of-2.result) c.cell_of.ensures
+    ∙ ap (λ (square : ℕ). set (set (replicate 12 None) (slice_index digits 3) (cell_of 0 0)) square c.cell_of-2.result) c.past.ensures.value
+    ∙ ap (set (set (replicate 12 None) (slice_index digits 3) (cell_of 0 0))
+    (past (slice_index digits 3) (slice_index digits 4))) c.cell_of-2.ensures)))
+    ∙ whole_board on_board digits c.requires

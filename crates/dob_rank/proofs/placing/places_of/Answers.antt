@@ -1,3 +1,4 @@
+-- One of at most ten squares is below 12.
 use Rattle.dob_rank.proofs.Pairs.{few_ones}
 use Rattle.dob_rank.proofs.placing.places_of.Goals as goal
 

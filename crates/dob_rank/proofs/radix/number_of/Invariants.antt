@@ -1,3 +1,4 @@
+-- The number and the weight are those of the bases and digits from the one reached on.
 use Rattle.std.proofs.Common.{◌≡◌, drop}
 use Rattle.dob_rank.specs.Numbers.{product, number_of}
 use Rattle.dob_rank.proofs.radix.number_of.Given as goal

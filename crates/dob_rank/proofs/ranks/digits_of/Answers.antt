@@ -37,7 +37,8 @@ forms_of-requires-2-clause-few c = (numbers_are c.args.position.now.setup c.args
 pub forms_of-requires-3-clause-few : goal.forms_of-requires-3-clause-few
 forms_of-requires-3-clause-few c = (numbers_are c.args.position.now.setup c.args.on_board.now c.args.position.now.legal c.requires.on_board).few_giraffes
 
-eleven : (a b c d e f g h i j k a' b' c' d' e' f' g' h' i' j' k' : ℕ) → a ≡ a' → b ≡ b' → c ≡ c' → d ≡ d' → e ≡ e' → f ≡ f' → g ≡ g' → h ≡ h' → i ≡ i' → j ≡ j' → k ≡ k' →
+eleven : (a b c d e f g h i j k a' b' c' d' e' f' g' h' i' j' k' : ℕ) → a ≡ a' → b ≡ b' → c ≡ c' → d ≡ d'
+    → e ≡ e' → f ≡ f' → g ≡ g' → h ≡ h' → i ≡ i' → j ≡ j' → k ≡ k' →
     a ∷ b ∷ c ∷ d ∷ e ∷ f ∷ g ∷ h ∷ i ∷ j ∷ k ∷ [] ≡ a' ∷ b' ∷ c' ∷ d' ∷ e' ∷ f' ∷ g' ∷ h' ∷ i' ∷ j' ∷ k' ∷ []
 eleven a b c d e f g h i j k a' b' c' d' e' f' g' h' i' j' k' p q r s t u v w x y z = cc
 

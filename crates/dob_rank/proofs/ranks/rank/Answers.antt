@@ -30,11 +30,13 @@ returns-clause-count c = λ set is_of.
     let of_set = c.piece_set_of-set.ensures in
     let is = IsPositionOf-totals c.piece_set_of-set.result c.args.position.now.setup c.args.position.now.legal of_set.chicks of_set.elephants of_set.giraffes in
     HasRank-sets c.piece_set_of-set.result set c.args.position.now.setup _ is is_of
-    (ranked c.piece_set_of-set.result c.args.position.now.setup _ _ _ c.place_with-block.ensures.block c.place_with-block.ensures.place c.block_start.ensures.value)
+    (ranked c.piece_set_of-set.result c.args.position.now.setup _ _ _ c.place_with-block.ensures.block
+    c.place_with-block.ensures.place c.block_start.ensures.value)
 
 pub returns-clause-number : goal.returns-clause-number
 returns-clause-number c = λ set is_of.
     let of_set = c.piece_set_of-set.ensures in
     let is = IsPositionOf-totals c.piece_set_of-set.result c.args.position.now.setup c.args.position.now.legal of_set.chicks of_set.elephants of_set.giraffes in
-    ranked c.piece_set_of-set.result c.args.position.now.setup _ _ _ c.place_with-block.ensures.block c.place_with-block.ensures.place c.block_start.ensures.value
+    ranked c.piece_set_of-set.result c.args.position.now.setup _ _ _ c.place_with-block.ensures.block
+    c.place_with-block.ensures.place c.block_start.ensures.value
     ∙ rank_of-sets c.piece_set_of-set.result set c.args.position.now.setup is is_of

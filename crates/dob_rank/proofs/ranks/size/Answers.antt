@@ -1,3 +1,4 @@
+-- The positions before the end of the last block are all.
 use Rattle.dob_rank.specs.Order.{HasSize}
 use Rattle.std.proofs.Common.{◌∙◌, sym, ap, subst}
 use Rattle.dob_rank.specs.Numbers.{sum_below, block_size}
@@ -6,7 +7,9 @@ use Rattle.dob_rank.proofs.Numbering.{HasSize-size_of}
 use Rattle.dob_rank.proofs.ranks.size.Goals as goal
 
 pub returns-clause-count : goal.returns-clause-count
-returns-clause-count c = subst (HasSize c.args.set) (sym (c.block_start.ensures.value ∙ ap (sum_below (block_size c.args.set)) c.blocks-2.ensures.value ∙ sym (size_of-sum c.args.set))) (HasSize-size_of c.args.set)
+returns-clause-count c = subst (HasSize c.args.set)
+    (sym (c.block_start.ensures.value ∙ ap (sum_below (block_size c.args.set)) c.blocks-2.ensures.value ∙ sym (size_of-sum c.args.set)))
+    (HasSize-size_of c.args.set)
 
 pub returns-clause-number : goal.returns-clause-number
 returns-clause-number c = c.block_start.ensures.value ∙ ap (sum_below (block_size c.args.set)) c.blocks-2.ensures.value ∙ sym (size_of-sum c.args.set)

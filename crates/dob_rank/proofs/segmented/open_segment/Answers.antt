@@ -1,3 +1,4 @@
+-- An empty segment more changes no item.
 use Rattle.std.proofs.Common.{◌≡◌, ◌≤◌, ◌/◌, ◌^◌, refl, ap, sym, ◌∙◌, length, vec_len, arith}
 use Rattle.dob_rank.proofs.Segmentation.{end_at}
 use Rattle.dob_rank.specs.Segmented.{joined}
@@ -8,14 +9,16 @@ returns-in_ok-push-clause-same g c =
     let all_full : length (joined c.args.segments.now.items) / 2 ^ c.args.shift ≡ length c.args.segments.now.items
     = sym c.requires.end ∙ c.if-number-len.true ∙ c.len.ensures ∙ c.args.segments.now.ok.0 in
     ap (λ vs. joined vs) c.in_ok-push.ensures.items
-    ∙ ((end_at c.args.shift _ c.args.segments.now.items c.requires.whole refl).opened all_full c.in_ok-with_capacity.field-0 c.in_ok-with_capacity.ensures.items).0
+    ∙ ((end_at c.args.shift _ c.args.segments.now.items c.requires.whole refl).opened all_full
+    c.in_ok-with_capacity.field-0 c.in_ok-with_capacity.ensures.items).0
 
 pub returns-in_ok-push-clause-whole : goal.returns-in_ok-push-clause-whole
 returns-in_ok-push-clause-whole g c =
     let all_full : length (joined c.args.segments.now.items) / 2 ^ c.args.shift ≡ length c.args.segments.now.items
     = sym c.requires.end ∙ c.if-number-len.true ∙ c.len.ensures ∙ c.args.segments.now.ok.0 in
     rw c.in_ok-push.ensures.items
-    ((end_at c.args.shift _ c.args.segments.now.items c.requires.whole refl).opened all_full c.in_ok-with_capacity.field-0 c.in_ok-with_capacity.ensures.items).1
+    ((end_at c.args.shift _ c.args.segments.now.items c.requires.whole refl).opened all_full
+    c.in_ok-with_capacity.field-0 c.in_ok-with_capacity.ensures.items).1
 
 pub returns-else-number-len-clause-opened : goal.returns-else-number-len-clause-opened
 returns-else-number-len-clause-opened g c =

@@ -1,3 +1,4 @@
+-- A place in a segment is below the segments' length.
 use Rattle.std.proofs.Common.{ℕ, ◌-◌, bit_and, ap, ◌∙◌, arith}
 use Rattle.std.proofs.lemmas.Nat.{and_mask, one_shl}
 use Rattle.dob_rank.proofs.segmented.split.Goals as goal

@@ -1,3 +1,4 @@
+-- The table's entry is the sum, computed for each set and each block.
 use Rattle.std.proofs.Common.{ℕ, ◌≤◌, subst, sym}
 use Rattle.dob_rank.proofs.BlockStarts.{start_is}
 use Rattle.dob_rank.proofs.Blocks.{blocks_small}

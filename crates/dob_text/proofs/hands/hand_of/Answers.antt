@@ -17,8 +17,10 @@ returns-then-giraffes-rest c =
     let is_rest : rest ≡ drop c.front_len-chicks.result word = take_rest word c.front_len-chicks.result in
     let is_last : last ≡ drop c.front_len-elephants.result rest = take_rest rest c.front_len-elephants.result in
     let counted : Counts c.args.side word c.front_len-chicks.result c.front_len-elephants.result c.front_len-giraffes.result =
-    counts c.args.side word rest last _ _ _ _ _ _ c.piece_letter.ensures.value c.piece_letter-2.ensures.value c.piece_letter-3.ensures.value is_rest is_last c.front_len-chicks.ensures.value c.front_len-elephants.ensures.value c.front_len-giraffes.ensures.value in
-    let size : length last ≡ length (drop c.front_len-elephants.result (drop c.front_len-chicks.result word)) = ap length (is_last ∙ ap (drop c.front_len-elephants.result) is_rest) in
+    counts c.args.side word rest last _ _ _ _ _ _ c.piece_letter.ensures.value c.piece_letter-2.ensures.value c.piece_letter-3.ensures.value
+    is_rest is_last c.front_len-chicks.ensures.value c.front_len-elephants.ensures.value c.front_len-giraffes.ensures.value in
+    let size : length last ≡ length (drop c.front_len-elephants.result (drop c.front_len-chicks.result word))
+    = ap length (is_last ∙ ap (drop c.front_len-elephants.result) is_rest) in
     let other : word ≢ 45 ∷ [] = λ e.
     let one : length word ≡ 1 = ap length e in
     let dash : get_or word 0 0 ≡ 45 = ap (λ (xs : List ℕ). get_or xs 0 0) e in
@@ -36,8 +38,10 @@ returns c =
     let is_rest : rest ≡ drop c.front_len-chicks.result word = take_rest word c.front_len-chicks.result in
     let is_last : last ≡ drop c.front_len-elephants.result rest = take_rest rest c.front_len-elephants.result in
     let counted : Counts c.args.side word c.front_len-chicks.result c.front_len-elephants.result c.front_len-giraffes.result =
-    counts c.args.side word rest last _ _ _ _ _ _ c.piece_letter.ensures.value c.piece_letter-2.ensures.value c.piece_letter-3.ensures.value is_rest is_last c.front_len-chicks.ensures.value c.front_len-elephants.ensures.value c.front_len-giraffes.ensures.value in
-    let size : length last ≡ length (drop c.front_len-elephants.result (drop c.front_len-chicks.result word)) = ap length (is_last ∙ ap (drop c.front_len-elephants.result) is_rest) in (
+    counts c.args.side word rest last _ _ _ _ _ _ c.piece_letter.ensures.value c.piece_letter-2.ensures.value c.piece_letter-3.ensures.value
+    is_rest is_last c.front_len-chicks.ensures.value c.front_len-elephants.ensures.value c.front_len-giraffes.ensures.value in
+    let size : length last ≡ length (drop c.front_len-elephants.result (drop c.front_len-chicks.result word))
+    = ap length (is_last ∙ ap (drop c.front_len-elephants.result) is_rest) in (
       record { chicks = c.front_len-chicks.result; elephants = c.front_len-elephants.result; giraffes = c.front_len-giraffes.result },
       hand_spelled c.args.side word _ _ _ c.requires counted.chicks counted.elephants counted.giraffes (omega arith),
       same_hand _ _ c.capped_count.ensures c.capped_count-2.ensures c.capped_count-3.ensures,

@@ -5,5 +5,6 @@ use Rattle.dob_text.proofs.read_positions.read_position.Goals as goal
 
 pub returns : goal.returns
 returns c =
-    let reads : Reads c.args.text.now c.read_bytes.result = subst (λ (text : List ℕ). Reads text c.read_bytes.result) c.as_bytes.ensures.value c.read_bytes.ensures in
+    let reads : Reads c.args.text.now c.read_bytes.result
+    = subst (λ (text : List ℕ). Reads text c.read_bytes.result) c.as_bytes.ensures.value c.read_bytes.ensures in
     record { read = read_as _ _ reads; whole = whole_as _ _ reads; refused = refused_as _ _ reads }

@@ -24,6 +24,7 @@ pub returns : goal.returns
 returns c =
     let parts : AreParts c.args.text.now _ _ _ = c.in-Some.ensures.1 in (
       record { board = c.in-Some-board_of.board; hands = record { mover = c.in-Some-hand_of.ensures.0; enemy = c.in-Some-hand_of-2.ensures.0 } },
-      spelled_by _ _ _ _ c.in-Some-board_of.board c.in-Some-hand_of.ensures.0 c.in-Some-hand_of-2.ensures.0 parts c.in-Some-board_of.ensures.0 c.in-Some-board_of.ensures.1 c.in-Some-hand_of.ensures.1 c.in-Some-hand_of-2.ensures.1,
+      spelled_by _ _ _ _ c.in-Some-board_of.board c.in-Some-hand_of.ensures.0 c.in-Some-hand_of-2.ensures.0 parts c.in-Some-board_of.ensures.0
+          c.in-Some-board_of.ensures.1 c.in-Some-hand_of.ensures.1 c.in-Some-hand_of-2.ensures.1,
       same_setup _ _ refl c.in-Some-hand_of.ensures.2 c.in-Some-hand_of-2.ensures.2,
     )

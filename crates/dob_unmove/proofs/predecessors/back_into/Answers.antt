@@ -1,6 +1,6 @@
 -- Sorting keeps how often each class stands there, and the list that counts the moves into the class is the list of its
 -- predecessors.
-use Rattle.std.proofs.Common.{ℕ, List, subst}
+use Rattle.std.proofs.Common.{ℕ, subst}
 use Rattle.std.proofs.lemmas.List.Sorted.{IsNonDecreasingBy-from_sort}
 use Rattle.dob_pieces.specs.declared.setup.Setup.{Setup}
 use Rattle.dob_rank.specs.ClassRows.{class_setup}

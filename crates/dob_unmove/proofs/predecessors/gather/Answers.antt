@@ -1,44 +1,40 @@
 -- The walks over the position and over its mirror image count the edges.
-use Rattle.std.proofs.Common.{ℕ, refl, sym, ◌∙◌}
-use Rattle.dob_pieces.specs.declared.setup.Setup.{Setup}
-use Rattle.dob_rank.specs.declared.classes.Classes.{Classes}
+use Rattle.std.proofs.Common.{true≢false, sym, ap, ◌∙◌}
+use Rattle.dob_pieces.specs.Setups.{mirrored}
 use Rattle.dob_unmove.specs.Classes.{IsFirstIn}
 use Rattle.dob_unmove.proofs.Classes.{IsNumbering-classes}
-use Rattle.dob_unmove.proofs.Gathering.{own_image, other_image, walked_alone, walked_both}
-use Rattle.dob_unmove.proofs.Kept.{position_mirrored, turned_image}
+use Rattle.dob_unmove.proofs.Gathering.{alone_found, both_found}
+use Rattle.dob_unmove.proofs.Kept.{turned_legal, turned_position}
 use Rattle.dob_unmove.proofs.predecessors.gather.Goals as goal
 
-pub take_all-requires : goal.take_all-requires
-take_all-requires c = ((c.args.first.now.setup, c.requires.1.0.0, c.turned-after.ensures), c.of.ensures)
+pub of-ways-requires : goal.of-ways-requires
+of-ways-requires c = (c.args.first.now.setup, c.args.first.now.legal, c.turned-after.ensures)
 
-pub class_of_first-requires : goal.class_of_first-requires
-class_of_first-requires c =
-    position_mirrored c.args.classes.now.set c.args.first.now.setup c.mirrored-image.result.setup c.requires.1.0.0 c.mirrored-image.ensures
+pub gather_all-requires : goal.gather_all-requires
+gather_all-requires c = record { of_set = (c.args.first.now.setup, c.requires.1.0.0, c.turned-after.ensures); ways_are = c.of-ways.ensures }
 
-pub take_all-requires-2 : goal.take_all-requires-2
-take_all-requires-2 c =
-    let q = c.args.first.now.setup in (
-      turned_image c.take_all.new.taker.classes.now.set q c.mirrored-image.result.setup c.turned-after.result c.turned-after-2.result c.args.first.now.legal
-          c.mirrored-image.ensures c.turned-after.ensures c.turned-after-2.ensures c.in_ok-take_all.ensures.suited.0,
-      c.of-gathered.ensures,
-    )
+pub of-requires : goal.of-requires
+of-requires c = turned_legal c.args.first.now.setup c.mirrored-image.result c.args.first.now.legal (c.mirrored-image.ensures ∙ ap mirrored c.turned-after.ensures)
 
-pub returns-then-is_some : goal.returns-then-is_some
-returns-then-is_some c =
-    let first : Classes → Setup → ℕ → Type 0 = λ classes. IsFirstIn classes.set in
+pub gather_all-requires-2 : goal.gather_all-requires-2
+gather_all-requires-2 c = record {
+  of_set = turned_position c.args.classes.now.set c.args.first.now.setup c.mirrored-image.result c.requires.1.0.0 (c.mirrored-image.ensures ∙ ap mirrored c.turned-after.ensures);
+  ways_are = c.of.ensures;
+}
+
+pub returns-then-is_own_image : goal.returns-then-is_own_image
+returns-then-is_own_image c =
+    let first = IsFirstIn c.args.classes.now.set in
     let n = IsNumbering-classes c.args.classes.now.set in
     let q = c.args.first.now.setup in
-    let own = own_image (first c.args.classes.now) q c.mirrored-image.result.setup c.class_of_first.result n c.requires c.mirrored-image.ensures
-    c.class_of_first.ensures (sym c.is_some.ensures ∙ c.if-is_some.true) in
-    walked_alone first q c.turned-after.result _ c.take_all.new.taker n c.args.first.now.legal own c.turned-after.ensures c.clear.ensures.items c.in_ok-take_all.ensures.taken
+    alone_found first n q c.turned-after.result _ c.gather_all.new.found.items c.args.first.now.legal (c.is_own_image.ensures.0 c.if-is_own_image.true) c.turned-after.ensures
+    c.clear.ensures.items c.in_ok-gather_all.ensures
 
 pub returns : goal.returns
 returns c =
-    let first : Classes → Setup → ℕ → Type 0 = λ classes. IsFirstIn classes.set in
+    let first = IsFirstIn c.args.classes.now.set in
     let n = IsNumbering-classes c.args.classes.now.set in
     let q = c.args.first.now.setup in
-    let image = c.mirrored-image.result.setup in
-    let other = other_image (first c.args.classes.now) q image c.class_of_first.result c.requires c.mirrored-image.ensures
-    c.class_of_first.ensures (sym c.is_some.ensures ∙ c.if-is_some.false) in
-    walked_both first q image c.turned-after.result c.turned-after-2.result _ c.take_all.new.taker _ c.take_all-2.new.taker n c.args.first.now.legal other c.mirrored-image.ensures
-    c.turned-after.ensures c.turned-after-2.ensures c.clear.ensures.items c.in_ok-take_all.ensures.taken refl refl c.in_ok-take_all-2.ensures.taken
+    both_found first n q c.turned-after.result c.mirrored-image.result _ c.gather_all.new.found.items c.gather_all-2.new.found.items c.args.first.now.legal
+    (λ own. true≢false (sym (c.is_own_image.ensures.1 own) ∙ c.if-is_own_image.false))
+    c.turned-after.ensures (c.mirrored-image.ensures ∙ ap mirrored c.turned-after.ensures) c.clear.ensures.items c.in_ok-gather_all.ensures c.in_ok-gather_all-2.ensures

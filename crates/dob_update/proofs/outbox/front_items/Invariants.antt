@@ -1,6 +1,6 @@
--- The list has the items so far.
-use Rattle.std.proofs.Common.{◌≡◌, take}
+-- The items of the parts so far.
+use Rattle.dob_update.proofs.Told.{IsTelling}
 use Rattle.dob_update.proofs.outbox.front_items.Given as goal
 
-abbrev pub invariant-loop-index : goal.invariant-loop-index
-invariant-loop-index l = l.list.items ≡ take l.index l.items.items
+abbrev pub invariant-loop-part : goal.invariant-loop-part
+invariant-loop-part l = IsTelling l.parts l.classes.items l.part-index l.next l.list.items

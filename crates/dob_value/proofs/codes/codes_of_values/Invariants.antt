@@ -1,3 +1,4 @@
+-- The codes of the values so far stand.
 use Rattle.std.proofs.Common.{◌≡◌, ◌<◌, take, All}
 use Rattle.dob_value.specs.Codes.{values_of_codes}
 use Rattle.dob_value.proofs.codes.codes_of_values.Given as goal

@@ -1,3 +1,4 @@
+-- The nodes of the classes so far stand.
 use Rattle.dob_value.specs.Graphs.{AreNodes}
 use Rattle.dob_value.proofs.graph.graph_of.Given as goal
 

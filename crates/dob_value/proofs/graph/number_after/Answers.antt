@@ -1,3 +1,4 @@
+-- What stands after a move is a position of the same set.
 use Rattle.dob_value.proofs.Successors.{moves_keep_the_set}
 use Rattle.dob_value.proofs.graph.number_after.Goals as goal
 

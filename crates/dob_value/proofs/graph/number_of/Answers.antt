@@ -1,3 +1,4 @@
+-- The class number is that of the position or of its mirror image.
 use Rattle.dob_rank.specs.Marks.{classes_of}
 use Rattle.dob_rank.proofs.Marks.{HasClasses-classes_of}
 use Rattle.dob_value.proofs.Rows.{class_outlook}

@@ -1,3 +1,4 @@
+-- The successors by the moves so far stand.
 use Rattle.std.proofs.Common.{◌≡◌, ℕ, ◌++◌, List}
 use Rattle.dob_value.specs.Graphs.{ClassStandsFor}
 use Rattle.dob_value.proofs.Successors.{AreSuccessorsBelow}

@@ -1,3 +1,4 @@
+-- The law, by induction on the depth.
 use Rattle.dob_value.proofs.Depths.{won_stays}
 use Rattle.dob_value.proofs.laws.won_stays_won.Goals as goal
 

@@ -8,7 +8,8 @@ use Rattle.dob_value.proofs.sweep.settle.Goals as goal
 
 pub loop-depth-init : goal.loop-depth-init
 loop-depth-init c = record {
-  cut_off = subst (λ xs. AreCutOff 0 c.args.graph.now.set xs) (sym (c.in_ok-values.ensures ∙ ap (map value_at_start) c.deref.ensures.value)) (starts_cut c.args.graph.now c.requires);
+  cut_off = subst (λ xs. AreCutOff 0 c.args.graph.now.set xs) (sym (c.in_ok-values.ensures ∙ ap (map value_at_start) c.deref.ensures.value))
+      (starts_cut c.args.graph.now c.requires);
   below = omega arith;
 }
 

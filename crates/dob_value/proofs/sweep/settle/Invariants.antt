@@ -1,3 +1,4 @@
+-- The entries are the values cut off at the depth reached.
 use Rattle.std.proofs.Common.{◌-◌, ◌≤◌}
 use Rattle.dob_value.specs.declared.sweep.TheConstants.{MAX_DISTANCE}
 use Rattle.dob_value.specs.Graphs.{AreCutOff}

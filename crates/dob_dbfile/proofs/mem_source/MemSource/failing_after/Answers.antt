@@ -1,3 +1,4 @@
+-- The stream ends or fails after so many bytes.
 use Rattle.std.proofs.Common.{arith}
 use Rattle.dob_dbfile.proofs.Cuts.{cut-front}
 use Rattle.dob_dbfile.proofs.mem_source.MemSource.failing_after.Goals as goal

@@ -15,7 +15,7 @@ add_for_others-requires c =
     record {
       addressed = (
         node.set,
-        c.deref-2.ensures.value ∙ c.in_ok-targets.ensures.list ∙ ap (λ st. predecessors st c.get-settlement.result.class) c.requires.set,
+        c.deref-3.ensures.value ∙ c.in_ok-targets.ensures.list ∙ ap (λ st. predecessors st c.get-settlement.result.class) c.requires.set,
         λ to. subst (λ (m : ℕ). IsOutboxTo node.set m node.id to (outbox_in node.set m node.id node.outboxes.items to)) (sym c.requires.sound.receivers)
             (c.requires.sound.addressed to),
       );
@@ -26,7 +26,7 @@ returns-clause-sound c =
     let node = c.args.self.now in
     let sound = c.requires.sound in
     let s = c.get-settlement.result in
-    let ready = ready_added node.set c.deref-2.result.now s node.n node.id node.outboxes.items c.add_for_others.new.outboxes.items
+    let ready = ready_added node.set c.deref-3.result.now s node.n node.id node.outboxes.items c.add_for_others.new.outboxes.items
     c.get-settlement.ensures.was c.get-settlement.ensures.now c.in_ok-add_for_others.ensures
     (record { receivers = sound.receivers; addressed = sound.addressed; nothing_to_self = sound.nothing_to_self }) in
     record {
@@ -35,7 +35,7 @@ returns-clause-sound c =
       entries = entries_more s node.own.items c.push_all.new.queue.items c.push_items.new.items.items
           (filter (λ to. owner_of node.n to == node.id) c.deref.result.now) c.get-settlement.ensures.was c.get-settlement.ensures.now
           sound.entries (c.in_ok-push_items.ensures ∙ ap (λ xs. xs ++ items_of (λ _. c.deref.result.now) node.n node.id s) c.clear.ensures.items)
-          (c.push_all.ensures ∙ ap (λ xs. xs ++ c.deref-3.result.now) c.reserve.ensures.items ∙ ap (λ xs. node.own.items ++ xs) c.deref-3.ensures.value);
+          (c.push_all.ensures ∙ ap (λ xs. xs ++ c.deref-2.result.now) c.reserve.ensures.items ∙ ap (λ xs. node.own.items ++ xs) c.deref-2.ensures.value);
       receivers = ready.receivers;
       addressed = ready.addressed;
       nothing_to_self = ready.nothing_to_self;

@@ -7,10 +7,12 @@ pub returns-in-Lion : goal.returns-in-Lion
 returns-in-Lion c = source_mask Lion c.args.self c.args.to c.index.result c.in-Lion.is c.index.ensures.value c.index.ensures.bound
 
 pub returns-in-Giraffe : goal.returns-in-Giraffe
-returns-in-Giraffe c = source_mask Giraffe c.args.self c.args.to c.index-in-Giraffe.result c.in-Giraffe.is c.index-in-Giraffe.ensures.value c.index-in-Giraffe.ensures.bound
+returns-in-Giraffe c = source_mask Giraffe c.args.self c.args.to c.index-in-Giraffe.result c.in-Giraffe.is
+    c.index-in-Giraffe.ensures.value c.index-in-Giraffe.ensures.bound
 
 pub returns-in-Elephant : goal.returns-in-Elephant
-returns-in-Elephant c = source_mask Elephant c.args.self c.args.to c.index-in-Elephant.result c.in-Elephant.is c.index-in-Elephant.ensures.value c.index-in-Elephant.ensures.bound
+returns-in-Elephant c = source_mask Elephant c.args.self c.args.to c.index-in-Elephant.result c.in-Elephant.is
+    c.index-in-Elephant.ensures.value c.index-in-Elephant.ensures.bound
 
 pub returns-in-Chick : goal.returns-in-Chick
 returns-in-Chick c = source_mask Chick c.args.self c.args.to c.index-in-Chick.result c.in-Chick.is c.index-in-Chick.ensures.value c.index-in-Chick.ensures.bound

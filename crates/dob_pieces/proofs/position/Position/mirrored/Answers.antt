@@ -1,3 +1,4 @@
+-- The mirror image of a position is legal.
 use Rattle.std.proofs.Common.{sym, subst}
 use Rattle.dob_pieces.specs.Setups.{IsLegal}
 use Rattle.dob_pieces.proofs.Boards.{IsLegal-mirrored}

@@ -1,3 +1,4 @@
+-- The tests in their order find the first fault, or the setup is legal.
 use Rattle.std.proofs.Common.{rules}
 use Rattle.std.proofs.lemmas.Bool.{both_ways}
 use Rattle.dob_pieces.proofs.setup.Setup.fault.Goals as goal

@@ -1,3 +1,4 @@
+-- No cell of the far row has the mover's lion.
 use Rattle.std.proofs.Common.{◌≡◌, sym, ap, ◌∙◌, length, drop, rules}
 use Rattle.std.specs.List.{list_any}
 use Rattle.std.proofs.lemmas.Bool.{not-true, not_from_false}

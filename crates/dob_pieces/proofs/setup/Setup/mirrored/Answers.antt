@@ -1,3 +1,4 @@
+-- The board filled square by square is the mirrored one.
 use Rattle.std.proofs.Common.{List, ap, ◌∙◌, arith}
 use Rattle.dob_pieces.specs.Squares.{mirrored_square}
 use Rattle.dob_pieces.specs.Setups.{Cell, at, mirrored}

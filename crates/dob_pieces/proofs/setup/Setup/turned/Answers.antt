@@ -1,3 +1,4 @@
+-- The board filled square by square is the turned one.
 use Rattle.std.proofs.Common.{List, ap, ◌∙◌, arith}
 use Rattle.dob_pieces.specs.Squares.{turned_square}
 use Rattle.dob_pieces.specs.Setups.{Cell, at, turned_cell, turned}

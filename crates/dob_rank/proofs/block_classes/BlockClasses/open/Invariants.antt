@@ -1,3 +1,4 @@
+-- The runs so far have their entries and words, and the count is of the marks before the next one.
 use Rattle.std.proofs.Common.{◌≡◌}
 use Rattle.dob_rank.specs.Marks.{marked, marks_below}
 use Rattle.dob_rank.specs.Runs.{run_start}

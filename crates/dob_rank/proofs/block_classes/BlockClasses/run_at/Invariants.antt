@@ -1,3 +1,4 @@
+-- The class stands between the two runs, which come closer.
 use Rattle.std.proofs.Common.{◌<◌, ◌≤◌, ◌-◌}
 use Rattle.dob_rank.specs.Marks.{marked, marks_below}
 use Rattle.dob_rank.specs.Runs.{runs_in, run_start}

@@ -1,14 +1,15 @@
+-- The class stands between the two places, which come closer.
 use Rattle.std.proofs.Common.{◌<◌, ◌≤◌, ◌+◌, ◌-◌}
-use Rattle.dob_rank.specs.Numbers.{block_size, start_of}
 use Rattle.dob_rank.specs.Marks.{marked, marks_below}
+use Rattle.dob_rank.specs.Runs.{run_size, run_start}
 use Rattle.dob_rank.proofs.block_classes.BlockClasses.search.Given as goal
 
 abbrev pub invariant-loop-high : goal.invariant-loop-high
 invariant-loop-high l = record {
   some : l.low < l.high;
-  within : l.high ≤ block_size l.self.set l.self.number;
-  low_is : marks_below (marked l.self.set) (start_of l.self.set l.self.number + l.low) ≤ l.class;
-  high_is : l.class < marks_below (marked l.self.set) (start_of l.self.set l.self.number + l.high);
+  within : l.high ≤ run_size l.self.set l.self.number;
+  low_is : marks_below (marked l.self.set) (run_start l.self.set l.self.number l.run + l.low) ≤ l.class;
+  high_is : l.class < marks_below (marked l.self.set) (run_start l.self.set l.self.number l.run + l.high);
 }
 
 abbrev pub decreases-loop-high : goal.decreases-loop-high

@@ -1,3 +1,4 @@
+-- All blocks from the one reached on begin behind the class.
 use Rattle.std.proofs.Common.{◌<◌}
 use Rattle.dob_rank.specs.Numbers.{start_of}
 use Rattle.dob_rank.specs.Marks.{marked, marks_below}

@@ -6,14 +6,16 @@ use Rattle.dob_rank.proofs.ClassNumbers.{class_of_marked, class_of_unmarked}
 use Rattle.dob_rank.proofs.classes.Classes.class_by.Goals as goal
 
 pub look_up-requires : goal.look_up-requires
-look_up-requires c = subst (IsPositionOf c.args.self.now.set) (sym c.mirrored.ensures) (IsPositionOf-mirrored c.args.self.now.set c.args.position.now.setup c.requires.position)
+look_up-requires c = subst (IsPositionOf c.args.self.now.set) (sym c.mirrored.ensures)
+    (IsPositionOf-mirrored c.args.self.now.set c.args.position.now.setup c.requires.position)
 
-pub returns-then-is_first : goal.returns-then-is_first
-returns-then-is_first c =
-    class_of_marked c.args.self.now.set c.args.position.now.setup _ c.requires.position (sym c.look_up_by-is_first.ensures.mark ∙ c.if-is_first.true)
-    c.look_up_by-is_first.ensures.before
+pub returns-then-is_representative : goal.returns-then-is_representative
+returns-then-is_representative c =
+    class_of_marked c.args.self.now.set c.args.position.now.setup _ c.requires.position
+    (sym c.look_up_by-is_representative.ensures.mark ∙ c.if-is_representative.true)
+    c.look_up_by-is_representative.ensures.before
 
-pub returns-else-is_first : goal.returns-else-is_first
-returns-else-is_first c =
+pub returns-else-is_representative : goal.returns-else-is_representative
+returns-else-is_representative c =
     class_of_unmarked c.args.self.now.set c.args.position.now.setup c.mirrored.result.setup _ c.requires.position
-    (sym c.look_up_by-is_first.ensures.mark ∙ c.if-is_first.false) c.mirrored.ensures c.look_up.ensures.before
+    (sym c.look_up_by-is_representative.ensures.mark ∙ c.if-is_representative.false) c.mirrored.ensures c.look_up.ensures.before

@@ -1,3 +1,4 @@
+-- The marks of all ranks are as many as the classes.
 use Rattle.std.proofs.Common.{sym, subst}
 use Rattle.dob_rank.specs.Order.{HasClasses}
 use Rattle.dob_rank.proofs.Marks.{HasClasses-classes_of}

@@ -7,24 +7,24 @@ use Rattle.dob_rank.proofs.ClassNumbers.{IsAtClass, at_class, later_unmarked, cl
 use Rattle.dob_rank.proofs.classes.Classes.class_of_representative.Goals as goal
 
 -- a marked rank is that of its class's representative
-found : (c : goal.Then-is_first) → IsAtClass c.args.self.now.set c.args.position.now.setup c.look_up-is_first.result.1
+found : (c : goal.Then-is_representative) → IsAtClass c.args.self.now.set c.args.position.now.setup c.look_up-is_representative.result.1
 found c =
     let set = c.args.self.now.set in
     let s = c.args.position.now.setup in
-    at_class set s (rank_of set s) c.look_up-is_first.result.1 c.requires refl (rank_of-below set s c.requires)
-    (sym c.look_up-is_first.ensures.mark ∙ c.if-is_first.true) (sym c.look_up-is_first.ensures.before)
+    at_class set s (rank_of set s) c.look_up-is_representative.result.1 c.requires refl (rank_of-below set s c.requires)
+    (sym c.look_up-is_representative.ensures.mark ∙ c.if-is_representative.true) (sym c.look_up-is_representative.ensures.before)
 
-pub returns-then-is_first-clause-class : goal.returns-then-is_first-clause-class
-returns-then-is_first-clause-class c = ((found c).representative.1, (found c).before)
+pub returns-then-is_representative-clause-class : goal.returns-then-is_representative-clause-class
+returns-then-is_representative-clause-class c = ((found c).representative.1, (found c).before)
 
-pub returns-then-is_first-clause-number : goal.returns-then-is_first-clause-number
-returns-then-is_first-clause-number c = sym (found c).number_is
+pub returns-then-is_representative-clause-number : goal.returns-then-is_representative-clause-number
+returns-then-is_representative-clause-number c = sym (found c).number_is
 
-pub returns-then-is_first-clause-bound : goal.returns-then-is_first-clause-bound
-returns-then-is_first-clause-bound c =
+pub returns-then-is_representative-clause-bound : goal.returns-then-is_representative-clause-bound
+returns-then-is_representative-clause-bound c =
     let set = c.args.self.now.set in
     subst (λ (n : ℕ). n < classes_of set) (found c).number_is (class_number-below set c.args.position.now.setup c.requires)
 
-pub returns-else-is_first-clause-class : goal.returns-else-is_first-clause-class
-returns-else-is_first-clause-class c =
-    later_unmarked c.args.self.now.set c.args.position.now.setup _ c.requires refl (sym c.look_up-is_first.ensures.mark ∙ c.if-is_first.false)
+pub returns-else-is_representative-clause-class : goal.returns-else-is_representative-clause-class
+returns-else-is_representative-clause-class c =
+    later_unmarked c.args.self.now.set c.args.position.now.setup _ c.requires refl (sym c.look_up-is_representative.ensures.mark ∙ c.if-is_representative.false)

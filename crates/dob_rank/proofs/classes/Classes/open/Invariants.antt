@@ -1,3 +1,4 @@
+-- The first blocks stand, and the count is of the classes in them.
 use Rattle.std.proofs.Common.{◌≡◌, vec_len}
 use Rattle.dob_rank.specs.Numbers.{start_of}
 use Rattle.dob_rank.specs.Marks.{marked, marks_below}

@@ -1,3 +1,4 @@
+-- So many items stand.
 use Rattle.std.proofs.Common.{◌≡◌, replicate}
 use Rattle.dob_rank.proofs.segmented.Segments.filled.Given as goal
 

@@ -1,3 +1,4 @@
+-- An index is a segment and a place in it.
 use Rattle.std.proofs.Common.{refl}
 use Rattle.std.proofs.lemmas.Option.{slice_get_read}
 use Rattle.dob_rank.proofs.Segmentation.{number_below, within_below, read_is}

@@ -1,3 +1,4 @@
+-- The item joins the last segment; where memory is refused the list is as it was.
 use Rattle.std.proofs.Common.{◌≤◌, ◌+◌, ℕ, ap, sym, ◌∙◌, length, arith, Result, Ok, Err}
 use Rattle.std.specs.Result.{OnErr}
 use Rattle.std.proofs.lemmas.List.{length_push}
@@ -19,7 +20,8 @@ invariant_of-self-in_err-push g c =
 
 pub returns-in_err-push-clause-unchanged : goal.returns-in_err-push-clause-unchanged
 returns-in_err-push-clause-unchanged g c =
-    on_err c.from_residual-in_err-push.result (same_is c.self.inside.shift c.self.inside.count c.split-number.result.0 c.open_segment.new.segments c.args.self.now
+    on_err c.from_residual-in_err-push.result
+    (same_is c.self.inside.shift c.self.inside.count c.split-number.result.0 c.open_segment.new.segments c.args.self.now
     c.open_segment.ensures.whole (c.open_segment.ensures.same ∙ c.self.view_is) (c.self.invariant.2 ∙ ap length c.self.view_is)
     c.split-number.ensures.number c.in_ok-open_segment.ensures.opened
     c.index_mut-segment.result.now c.push.new.self c.index_mut-segment.ensures.value c.in_err-push.ensures.items).0

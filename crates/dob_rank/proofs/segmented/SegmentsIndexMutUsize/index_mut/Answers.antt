@@ -1,3 +1,4 @@
+-- What is lent is the item, and the rest stays.
 use Rattle.std.proofs.Common.{refl, length, ap, ◌∙◌, sym}
 use Rattle.std.proofs.Math.ListN.{length-set}
 use Rattle.std.specs.Vec.{with_item}

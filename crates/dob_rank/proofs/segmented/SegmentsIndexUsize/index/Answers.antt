@@ -1,3 +1,4 @@
+-- An index is a segment and a place in it.
 use Rattle.dob_rank.proofs.Segmentation.{number_below, within_below, read_is}
 use Rattle.dob_rank.proofs.segmented.SegmentsIndexUsize.index.Goals as goal
 

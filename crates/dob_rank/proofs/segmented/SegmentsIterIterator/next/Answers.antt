@@ -1,3 +1,4 @@
+-- A step gives the item at the place reached.
 use Rattle.std.proofs.Common.{◌<◌, ◌+◌, ◌∷◌, ap, sym, ◌∙◌, length, length-drop, drop, arith}
 use Rattle.std.proofs.lemmas.List.{drop_more}
 use Rattle.dob_rank.proofs.segmented.SegmentsIterIterator.next.Goals as goal

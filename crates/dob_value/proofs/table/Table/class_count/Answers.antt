@@ -1,3 +1,4 @@
+-- A table has a value for each class.
 use Rattle.std.proofs.Common.{ap, length, ◌∙◌}
 use Rattle.dob_rank.specs.Order.{IsRepresentative}
 use Rattle.dob_value.specs.Codes.{values_of_codes}

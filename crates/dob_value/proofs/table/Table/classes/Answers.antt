@@ -1,3 +1,4 @@
+-- The classes are as many as the values.
 use Rattle.std.proofs.Common.{◌≡◌, length, subst}
 use Rattle.dob_rank.specs.Order.{IsRepresentative}
 use Rattle.dob_rank.specs.Marks.{classes_of}

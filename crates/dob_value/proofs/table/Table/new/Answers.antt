@@ -1,3 +1,4 @@
+-- A table has a value for each class.
 use Rattle.std.proofs.Common.{subst, sym, ◌∙◌}
 use Rattle.std.proofs.lemmas.List.{length-map}
 use Rattle.dob_rank.specs.Order.{HasClasses}

@@ -1,3 +1,4 @@
+-- A class number below the count has a value.
 use Rattle.std.proofs.Common.{◌<◌, length, sym, subst, refl}
 use Rattle.std.proofs.lemmas.Option.{slice_get_read}
 use Rattle.dob_value.specs.Follows.{ClassTable, HasInTable}

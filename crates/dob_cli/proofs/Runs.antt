@@ -1,0 +1,97 @@
+-- From what the program does with what it read to what it owes for the words.
+use Rattle.std.proofs.Common.{◌≡◌, ℕ, inl, inr, List, refl, subst}
+use Rattle.dob_dbfile.specs.Sinks.{Change, IsSame, IsUntouched, Says}
+use Rattle.dob_cli.specs.declared.fault.Fault.{Fault}
+use Rattle.dob_cli.specs.declared.fault.Fault.TheVariants.{Memory, Io}
+use Rattle.dob_cli.specs.declared.command.Order.{Order}
+use Rattle.dob_cli.specs.declared.command.Reading.{Reading}
+use Rattle.dob_cli.specs.declared.command.Reading.TheVariants as reading
+use Rattle.dob_cli.specs.Forms.{Text}
+use Rattle.dob_cli.specs.Words.{Meaning, meaning_of}
+use Rattle.dob_cli.specs.Readings.{IsReadingOf}
+use Rattle.dob_cli.specs.Endings.{Answers, Ending, Tells, TellsMemory, TellsOneFault, version_line}
+use Rattle.dob_cli.specs.Orders.{AnswersOrder, AreLinesFor, IsFaultFor}
+use Rattle.dob_cli.specs.Runs.{Ran, RanOn}
+use Rattle.dob_cli.proofs.Orders.{done_check, done_count, done_line, done_probe, done_value}
+
+-- ---- the streams are those that they were
+
+untouched_same : (c : Change) → IsUntouched c → IsSame c
+untouched_same c same = rw same refl
+
+said_same : (c : Change) (bytes : List ℕ) → Says c bytes → IsSame c
+said_same c bytes (inl wrote) = wrote.same
+said_same c bytes (inr stopped) = stopped.1.same
+
+fault_same : (fault : Fault) (status : ℕ) (c : Change) → TellsOneFault fault status c → IsSame c
+fault_same fault status c (inl told) = said_same c _ told.1
+fault_same fault status c (inr told) = said_same c _ told.1
+
+told_same : (text : List ℕ) (e : Ending) → Tells text e → IsSame e.out × IsSame e.err
+told_same text e (inl told) = (told.1.same, untouched_same e.err told.2)
+told_same text e (inr failed) = (failed.0.1.same, fault_same Io e.status e.err failed.1)
+
+answers_same : (AreLines : List ℕ → Type 0) (Holds : Fault → Type 0) (e : Ending) → Answers AreLines Holds e → IsSame e.out × IsSame e.err
+answers_same AreLines Holds e (inl lines) = (lines.told.same, untouched_same e.err lines.silent)
+answers_same AreLines Holds e (inr (inl fault)) = (untouched_same e.out fault.silent, said_same e.err _ fault.told.1)
+answers_same AreLines Holds e (inr (inr failed)) = (failed.part.1.same, fault_same Io e.status e.err failed.told)
+
+-- ---- what was done is what the words ask for
+
+-- want of memory is a fault of every order
+memory_answered : (AreLines : List ℕ → Type 0) (Holds : Fault → Type 0) (e : Ending) → Holds Memory → TellsMemory e → Answers AreLines Holds e
+memory_answered AreLines Holds e holds told = inr (inl (record { fault = Memory; holds = holds; told = told.0; silent = told.1 }))
+
+module _ (Has : Text → List ℕ → Type 0) (words : List Text) (e : Ending) where
+  pub ran_memory : TellsMemory e → Ran Has words e
+  ran_memory told = record {
+    value = λ text _. memory_answered _ _ e tt told;
+    count = λ set _. memory_answered _ _ e tt told;
+    probe = λ file text _. memory_answered _ _ e tt told;
+    line = λ file text _. memory_answered _ _ e tt told;
+    check = λ file _. memory_answered _ _ e tt told;
+    help = λ _. inr told;
+    version = λ _. inr told;
+    topic = λ _. inl (inr told);
+    usage = λ _. inr told;
+    same_out = untouched_same e.out told.1;
+    same_err = said_same e.err _ told.0.1;
+  }
+
+  -- the words mean what was read
+  asked : (r : Reading) → IsReadingOf (meaning_of words) r → (m : Meaning) → meaning_of words ≡ m → IsReadingOf m r
+  asked r read m is = subst (λ x. IsReadingOf x r) is read
+
+  pub ran_order : (o : Order) → IsReadingOf (meaning_of words) (reading.Order o) → AnswersOrder Has o e → Ran Has words e
+  ran_order o read answers = record {
+    value = λ text is. done_value Has e o text (asked (reading.Order o) read _ is) answers;
+    count = λ set is. done_count Has e o set (asked (reading.Order o) read _ is) answers;
+    probe = λ file text is. done_probe Has e o file text (asked (reading.Order o) read _ is) answers;
+    line = λ file text is. done_line Has e o file text (asked (reading.Order o) read _ is) answers;
+    check = λ file is. done_check Has e o file (asked (reading.Order o) read _ is) answers;
+    help = λ is. absurd (asked (reading.Order o) read _ is);
+    version = λ is. absurd (asked (reading.Order o) read _ is);
+    topic = λ is. absurd (asked (reading.Order o) read _ is);
+    usage = λ is. absurd (asked (reading.Order o) read _ is);
+    same_out = (answers_same (AreLinesFor Has o) (IsFaultFor Has o) e answers).0;
+    same_err = (answers_same (AreLinesFor Has o) (IsFaultFor Has o) e answers).1;
+  }
+
+  pub ran_version : IsReadingOf (meaning_of words) reading.Version → Tells version_line e → Ran Has words e
+  ran_version read told = record {
+    value = λ text is. absurd (asked reading.Version read _ is);
+    count = λ set is. absurd (asked reading.Version read _ is);
+    probe = λ file text is. absurd (asked reading.Version read _ is);
+    line = λ file text is. absurd (asked reading.Version read _ is);
+    check = λ file is. absurd (asked reading.Version read _ is);
+    help = λ is. absurd (asked reading.Version read _ is);
+    version = λ _. inl told;
+    topic = λ is. absurd (asked reading.Version read _ is);
+    usage = λ is. absurd (asked reading.Version read _ is);
+    same_out = (told_same _ e told).0;
+    same_err = (told_same _ e told).1;
+  }
+
+-- these are the words
+pub ran_on : (Has : Text → List ℕ → Type 0) (given words : List Text) (e : Ending) → given ≡ words → Ran Has given e → RanOn Has words e
+ran_on Has given words e same ran = inl (subst (λ ws. Ran Has ws e) same ran)

@@ -1,0 +1,11 @@
+-- Each subcommand's answer is the order's.
+use Rattle.dob_cli.proofs.program.answer.Goals as goal
+
+pub returns-in-Probe-clause-ok : goal.returns-in-Probe-clause-ok
+returns-in-Probe-clause-ok g c = rw c.in-Probe.is c.answer_probe.ensures.ok
+
+pub returns-in-Line-clause-ok : goal.returns-in-Line-clause-ok
+returns-in-Line-clause-ok g c = rw c.in-Line.is c.answer_line.ensures.ok
+
+pub returns-in-Check-clause-ok : goal.returns-in-Check-clause-ok
+returns-in-Check-clause-ok g c = rw c.in-Check.is c.answer_check.ensures.ok

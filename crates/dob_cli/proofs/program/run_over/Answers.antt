@@ -1,0 +1,15 @@
+-- What was done with what was read is what the words ask for.
+use Rattle.std.proofs.Common.{refl}
+use Rattle.dob_cli.proofs.Runs.{ran_memory, ran_order, ran_version}
+use Rattle.dob_cli.proofs.program.run_over.Goals as goal
+
+pub returns-in-Err : goal.returns-in-Err
+returns-in-Err g c = ran_memory (g.S.Shelf.has c.args.shelf.now) _ _ (c.tell_memory.ensures, refl)
+
+pub returns-in-Ok-Version : goal.returns-in-Ok-Version
+returns-in-Ok-Version g c =
+    ran_version (g.S.Shelf.has c.args.shelf.now) _ _ (rw c.in-Ok-Version.field-0-is at c.in-Ok-Version.ensures.meaning) c.tell-in-Ok-Version.ensures
+
+pub returns-in-Ok-Order : goal.returns-in-Ok-Order
+returns-in-Ok-Order g c =
+    ran_order (g.S.Shelf.has c.args.shelf.now) _ _ c.in-Ok-Order.order (rw c.in-Ok-Order.field-0-is at c.in-Ok-Order.ensures.meaning) c.run_order.ensures

@@ -1,0 +1,30 @@
+-- The position that was read is the text's, and the table the file's.
+use Rattle.std.proofs.Common.{rules}
+use Rattle.std.proofs.lemmas.Result.{err_from_is_err_and}
+use Rattle.dob_rank.specs.Order.{IsPositionOf}
+use Rattle.dob_cli.proofs.tables.answer_probe.Goals as goal
+
+pub returns-in_err-value-clause-err : goal.returns-in_err-value-clause-err
+returns-in_err-value-clause-err g c =
+    let p = err_from_is_err_and c.from_residual-in_err-value.result c.from_residual-in_err-value.ensures.1 in
+    let position = c.in_ok-position.position in
+    let other : ¬ IsPositionOf c.in_ok-table.table.set c.in_ok-position.position.setup = c.in_err-value.ensures.other.0 (search rules) in
+    rw (p.1, p.2) (
+      c.in_ok-table.table,
+      position.setup,
+      c.in_ok-table.ensures.table,
+      (position.legal, record { squares = position.legal.squares; spelled = c.in_ok-position.ensures.read }),
+      other,
+    )
+
+pub returns-clause-ok : goal.returns-clause-ok
+returns-clause-ok g c =
+    let position = c.in_ok-position.position in record {
+      table = c.in_ok-table.table;
+      file = c.in_ok-table.ensures.table;
+      position = position.setup;
+      named = (position.legal, record { squares = position.legal.squares; spelled = c.in_ok-position.ensures.read });
+      value = c.in_ok-value.value;
+      given = c.in_ok-value.ensures.value;
+      same = c.in_ok-line_of.ensures;
+    }

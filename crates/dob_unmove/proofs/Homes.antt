@@ -1,0 +1,187 @@
+-- Where the mover's lion of a representative stands.
+use Rattle.std.proofs.Common.{◌≡◌, ℕ, zero, suc, ◌+◌, ◌<◌, ◌==◌, nat_lt, ◌&&◌, ◌||◌, ◌⊎◌, Bool, true, false, cond, List, [], ◌∷◌, ◌++◌, Some, None, length, get_or, refl, sym, ap, ◌∙◌, subst, arith, inl, inr}
+use Rattle.std.specs.List.{count_by}
+use Rattle.std.proofs.lemmas.Bool.{cases_Bool, and_parts, ltb-true, eqb-true}
+use Rattle.std.proofs.lemmas.List.Sums.{sum_by-cons}
+use Rattle.dob_pieces.specs.declared.piece_set.PieceSet.{PieceSet}
+use Rattle.dob_pieces.specs.declared.kind.HandKind.{HandKind}
+use Rattle.dob_pieces.specs.declared.kind.HandKind.TheVariants as hand
+use Rattle.dob_pieces.specs.declared.kind.Kind.TheVariants.{Lion}
+use Rattle.dob_pieces.specs.declared.kind.Side.{Side}
+use Rattle.dob_pieces.specs.declared.kind.Side.TheVariants.{Mover, Enemy}
+use Rattle.dob_pieces.specs.declared.hand.Hands.{Hands}
+use Rattle.dob_pieces.specs.declared.setup.Setup.{Setup}
+use Rattle.dob_pieces.specs.Squares.{mirrored_square}
+use Rattle.dob_pieces.specs.Setups.{Cell, at, held, piece_of, holds_lion, holds_kind, total, mirrored}
+use Rattle.dob_pieces.proofs.Boards.{all_below, all_below-at, at-mirrored, within-from_piece, total-mirrored}
+use Rattle.dob_pieces.proofs.Symmetries.{mirrored_square_bound, mirrored_square_twice}
+use Rattle.dob_rank.specs.Order.{squares_from, squares, forms, each_kind, key, Precedes, Before, IsPositionOf, IsFirstIn}
+use Rattle.dob_rank.proofs.Found.{IsPositionOf-mirrored}
+use Rattle.dob_unmove.specs.Ways.{is_home}
+
+-- ---- the list of one square
+
+module _ (test : Cell → Bool) where
+  counted : (c : Cell) (cs : List Cell) → count_by test (c ∷ cs) ≡ cond (test c) 1 0 + count_by test cs
+  counted c cs = sum_by-cons (λ x. cond (test x) 1 0) c cs
+
+  one_if_true : (c : Cell) → test c ≡ true → cond {A = ℕ} (test c) 1 0 ≡ 1
+  one_if_true c is = ap (λ b. cond b 1 0) is
+
+  none_if_false : (c : Cell) → test c ≡ false → cond {A = ℕ} (test c) 1 0 ≡ 0
+  none_if_false c isnt = ap (λ b. cond b 1 0) isnt
+
+  no_squares : (from : ℕ) (cells : List Cell) → count_by test cells ≡ 0 → squares_from from test cells ≡ []
+  no_squares from [] none = refl
+  no_squares from (c ∷ cs) none = elim (cases_Bool (test c)) [
+    | inl is ↦ (let sum = counted c cs in let one = one_if_true c is in absurd (omega (arith, sum, one, none)))
+    | inr isnt ↦
+        (let sum = counted c cs in
+        let zero_there = none_if_false c isnt in
+        ap (λ b. cond b (from ∷ squares_from (suc from) test cs) (squares_from (suc from) test cs)) isnt
+        ∙ no_squares (suc from) cs (omega (arith, sum, zero_there, none)))
+  ]
+
+  some_there : (cells : List Cell) (k : ℕ) → k < length cells → test (get_or cells k None) ≡ true → 0 < count_by test cells
+  some_there [] k lt is = absurd (omega arith)
+  some_there (c ∷ cs) zero lt is = let sum = counted c cs in let one = one_if_true c is in omega (arith, sum, one)
+  some_there (c ∷ cs) (suc k) lt is = let sum = counted c cs in let more = some_there cs k (omega arith) is in omega (arith, sum, more)
+
+  one_square : (from k : ℕ) (cells : List Cell) → count_by test cells ≡ 1 → k < length cells → test (get_or cells k None) ≡ true → squares_from from test cells ≡ (from + k) ∷ []
+  one_square from k [] one lt is = absurd (omega arith)
+  one_square from zero (c ∷ cs) one lt is =
+      let sum = counted c cs in
+      let here = one_if_true c is in
+      let same : from ≡ from + 0 = omega arith in
+      ap (λ b. cond b (from ∷ squares_from (suc from) test cs) (squares_from (suc from) test cs)) is
+      ∙ ap (λ (xs : List ℕ). from ∷ xs) (no_squares (suc from) cs (omega (arith, sum, here, one))) ∙ ap (λ (n : ℕ). n ∷ []) same
+  one_square from (suc k) (c ∷ cs) one lt is = elim (cases_Bool (test c)) [
+    | inl first ↦
+        (let sum = counted c cs in
+        let here = one_if_true c first in
+        let more = some_there cs k (omega arith) is in
+        absurd (omega (arith, sum, here, more, one)))
+    | inr isnt ↦
+        (let sum = counted c cs in
+        let zero_there = none_if_false c isnt in
+        let same : suc from + k ≡ from + suc k = omega arith in
+        ap (λ b. cond b (from ∷ squares_from (suc from) test cs) (squares_from (suc from) test cs)) isnt
+        ∙ one_square (suc from) k cs (omega (arith, sum, zero_there, one)) (omega arith) is ∙ ap (λ (n : ℕ). n ∷ []) same)
+  ]
+
+lion_holds : (side : Side) → holds_lion side (Some (piece_of side Lion)) ≡ true
+lion_holds Mover = refl
+lion_holds Enemy = refl
+
+lion_square : (side : Side) (set : PieceSet) (p : Setup) (s : ℕ) → IsPositionOf set p → at p s ≡ Some (piece_of side Lion) → squares (holds_lion side) p ≡ s ∷ []
+lion_square side set p s is there =
+    let same : 0 + s ≡ s = omega arith in
+    one_square (holds_lion side) 0 s p.board (is.legal.lions side) (within-from_piece p s (piece_of side Lion) there)
+    (ap (holds_lion side) there ∙ lion_holds side) ∙ ap (λ (n : ℕ). n ∷ []) same
+
+-- ---- the order with the mirror image
+
+hands-mirrored : (p : Setup) → (mirrored p).hands ≡ p.hands
+unfolding mirrored
+hands-mirrored p = refl
+
+counts-mirrored : (kind : HandKind) (p : Setup) → length p.board ≡ 12 → count_by (holds_kind kind) (mirrored p).board ≡ count_by (holds_kind kind) p.board
+unfolding total
+counts-mirrored kind p twelve =
+    let all = total-mirrored kind p twelve in
+    let mover : held (mirrored p).hands.mover kind ≡ held p.hands.mover kind = ap (λ (h : Hands). held h.mover kind) (hands-mirrored p) in
+    let enemy : held (mirrored p).hands.enemy kind ≡ held p.hands.enemy kind = ap (λ (h : Hands). held h.enemy kind) (hands-mirrored p) in
+    omega (arith, all, mover, enemy)
+
+lion-mirrored : (p : Setup) (side : Side) (s : ℕ) → s < 12 → at p s ≡ Some (piece_of side Lion) → at (mirrored p) (mirrored_square s) ≡ Some (piece_of side Lion)
+lion-mirrored p side s lt there = at-mirrored p (mirrored_square s) (mirrored_square_bound s lt) ∙ ap (at p) (mirrored_square_twice s lt) ∙ there
+
+-- after the counts and the hands, the lions decide
+abbrev lions_before : ℕ → ℕ → ℕ → ℕ → Type 0
+lions_before s e s2 e2 = (s < s2) ⊎ ((s ≡ s2) × (e < e2))
+
+six_before : (a b : List ℕ) (s e s2 e2 : ℕ) (xs ys : List ℕ) → a ≡ b → lions_before s e s2 e2
+    → Precedes (a ++ (s ∷ e ∷ xs)) (b ++ (s2 ∷ e2 ∷ ys))
+six_before [] [] s e s2 e2 xs ys same (inl lt) = inl lt
+six_before [] [] s e s2 e2 xs ys same (inr both) = inr (both.0, inl both.1)
+six_before [] (y ∷ b) s e s2 e2 xs ys same less = cc
+six_before (x ∷ a) [] s e s2 e2 xs ys same less = cc
+six_before (x ∷ a) (y ∷ b) s e s2 e2 xs ys same less = inr (let h : x ≡ y = cc in h, six_before a b s e s2 e2 xs ys (let t : a ≡ b = cc in t) less)
+
+counts_first : Setup → List ℕ
+counts_first p = each_kind (λ kind. count_by (holds_kind kind) p.board) ++ each_kind (held p.hands.mover)
+
+counts_first-mirrored : (p : Setup) → length p.board ≡ 12 → counts_first (mirrored p) ≡ counts_first p
+unfolding counts_first
+counts_first-mirrored p twelve =
+    let chicks = counts-mirrored hand.Chick p twelve in
+    let elephants = counts-mirrored hand.Elephant p twelve in
+    let giraffes = counts-mirrored hand.Giraffe p twelve in
+    (λ i. chicks i ∷ elephants i ∷ giraffes i ∷ each_kind (held (hands-mirrored p i).mover))
+
+-- the rest of the key
+rest_of : Setup → List ℕ
+rest_of p =
+    squares (holds_kind hand.Chick) p
+    ++ (squares (holds_kind hand.Elephant) p
+    ++ (squares (holds_kind hand.Giraffe) p
+    ++ (forms hand.Chick p
+    ++ (forms hand.Elephant p
+    ++ forms hand.Giraffe p))))
+
+key-lions : (p : Setup) (s e : ℕ) → squares (holds_lion Mover) p ≡ s ∷ [] → squares (holds_lion Enemy) p ≡ e ∷ []
+    → key p ≡ counts_first p ++ (s ∷ e ∷ rest_of p)
+unfolding key counts_first rest_of
+key-lions p s e own other =
+    ap (λ (xs : List ℕ). each_kind (λ kind. count_by (holds_kind kind) p.board) ++ (each_kind (held p.hands.mover) ++ (xs ++ (squares (holds_lion Enemy) p ++ rest_of p)))) own
+    ∙ ap (λ (xs : List ℕ). each_kind (λ kind. count_by (holds_kind kind) p.board) ++ (each_kind (held p.hands.mover) ++ (s ∷ (xs ++ rest_of p)))) other
+
+image_before : (set : PieceSet) (p : Setup) (s e : ℕ) → IsPositionOf set p → at p s ≡ Some (piece_of Mover Lion) → at p e ≡ Some (piece_of Enemy Lion)
+    → s < 12 → e < 12 → lions_before (mirrored_square s) (mirrored_square e) s e → Before (mirrored p) p
+unfolding Before
+image_before set p s e is own other low_s low_e less =
+    let image = IsPositionOf-mirrored set p is in
+    let mine = key-lions p s e (lion_square Mover set p s is own) (lion_square Enemy set p e is other) in
+    let theirs = key-lions (mirrored p) (mirrored_square s) (mirrored_square e)
+    (lion_square Mover set (mirrored p) (mirrored_square s) image (lion-mirrored p Mover s low_s own))
+    (lion_square Enemy set (mirrored p) (mirrored_square e) image (lion-mirrored p Enemy e low_e other)) in
+    subst (λ (xs : List ℕ). Precedes xs (key p)) (sym theirs)
+    (subst (λ (xs : List ℕ). Precedes (counts_first (mirrored p) ++ (mirrored_square s ∷ mirrored_square e ∷ rest_of (mirrored p))) xs) (sym mine)
+    (six_before (counts_first (mirrored p)) (counts_first p) (mirrored_square s) (mirrored_square e) s e (rest_of (mirrored p)) (rest_of p)
+    (counts_first-mirrored p is.legal.squares) less))
+
+either_true : (a b : Bool) → (a || b) ≡ true → (a ≡ true) ⊎ (b ≡ true)
+either_true true b h = inl refl
+either_true false b h = inr h
+
+-- the lions of one square each that aren't at home have their mirror images before them
+abbrev tells_before : ℕ → ℕ → Bool
+tells_before s e = is_home e s || (nat_lt 8 s || (nat_lt (mirrored_square s) s || ((mirrored_square s == s) && nat_lt (mirrored_square e) e)))
+
+all_tell : all_below (λ s. all_below (tells_before s) 12) 12 ≡ true
+all_tell = refl
+
+pub first_home : (set : PieceSet) (p : Setup) (class s e : ℕ) → IsFirstIn set p class → at p s ≡ Some (piece_of Mover Lion) → at p e ≡ Some (piece_of Enemy Lion)
+    → is_home e s ≡ true
+first_home set p class s e first own other =
+    let is = first.0.0 in
+    let twelve = is.legal.squares in
+    let in_s = within-from_piece p s (piece_of Mover Lion) own in
+    let in_e = within-from_piece p e (piece_of Enemy Lion) other in
+    let low_s : s < 12 = omega (arith, in_s, twelve) in
+    let low_e : e < 12 = omega (arith, in_e, twelve) in
+    let told : tells_before s e ≡ true = all_below-at (tells_before s) 12 e (all_below-at (λ s. all_below (tells_before s) 12) 12 s all_tell low_s) low_e in
+    elim (either_true (is_home e s) _ told) [
+      | inl home ↦ home
+      | inr rest ↦ elim (either_true (nat_lt 8 s) _ rest) [
+        | inl far ↦ absurd (is.legal.home s (let high = ltb-true 8 s far in omega (arith, high)) own)
+        | inr image ↦ absurd (first.0.1 (image_before set p s e is own other low_s low_e (lions image)))
+      ]
+    ]
+  where
+    lions : (nat_lt (mirrored_square s) s || ((mirrored_square s == s) && nat_lt (mirrored_square e) e)) ≡ true → lions_before (mirrored_square s) (mirrored_square e) s e
+    lions told = elim (either_true (nat_lt (mirrored_square s) s) _ told) [
+      | inl less ↦ inl (ltb-true (mirrored_square s) s less)
+      | inr same ↦ (let both = and_parts (mirrored_square s == s) (nat_lt (mirrored_square e) e) same in
+          inr (eqb-true (mirrored_square s) s both.0, ltb-true (mirrored_square e) e both.1))
+    ]

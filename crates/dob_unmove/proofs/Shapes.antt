@@ -1,0 +1,76 @@
+-- Where the ways of a list end, and from where they come.
+use Rattle.std.proofs.Common.{◌≡◌, ℕ, ◌&&◌, true, not, List, ◌++◌, Option, Some, None, sym, ap, inl, inr, Contains}
+use Rattle.std.specs.Option.{is_some}
+use Rattle.std.proofs.lemmas.List.Elements.{Contains-append_cases}
+use Rattle.dob_pieces.specs.declared.kind.Kind.{Kind}
+use Rattle.dob_pieces.specs.declared.kind.Kind.TheVariants.{Lion, Giraffe, Elephant, Chick, Hen}
+use Rattle.dob_pieces.specs.declared.kind.HandKind.{HandKind}
+use Rattle.dob_pieces.specs.declared.kind.HandKind.TheVariants as hand
+use Rattle.dob_pieces.specs.declared.setup.Setup.{Setup}
+use Rattle.dob_pieces.specs.Pieces.{leads, kind_on_board}
+use Rattle.dob_pieces.specs.Setups.{at}
+use Rattle.dob_pieces.proofs.Lists.{cons_cases, cond_sound, each_sound}
+use Rattle.dob_unmove.specs.declared.undo.Undo.{Undo}
+use Rattle.dob_unmove.specs.declared.undo.Undo.TheVariants.{Unstep, Unput}
+use Rattle.dob_unmove.specs.Walks.{stands, holds_caught, uncatch, unsteps_between, unsteps_from, unsteps, unputs, undoes_at}
+use Rattle.dob_unmove.proofs.Listed.{if_so_sound}
+
+-- the square on which the move ended
+abbrev pub ends_on : Undo → ℕ
+ends_on (Unstep kind from to caught) = to
+ends_on (Unput kind to) = to
+
+either : {P : Type 0} (xs ys : List Undo) (u : Undo) → Contains (xs ++ ys) u → (Contains xs u → P) → (Contains ys u → P) → P
+either xs ys u h first second = elim (Contains-append_cases xs ys u h) [ inl a ↦ first a | inr b ↦ second b ]
+
+-- a step from the one square to the other, with a catch or without
+abbrev pub IsStep : Kind → ℕ → ℕ → Undo → Type 0
+IsStep kind from to u = (caught : Option Kind) × (Unstep kind from to caught ≡ u)
+
+module _ (t : Setup) where
+  caught_step : (kind : Kind) (from to : ℕ) (caught : Kind) (u : Undo) → Contains (uncatch t kind from to caught) u → IsStep kind from to u
+  caught_step kind from to caught u h = (Some caught, (if_so_sound (holds_caught t.hands.mover caught) (Unstep kind from to (Some caught)) u h).1)
+
+  between_step : (kind : Kind) (from to : ℕ) (u : Undo) → Contains (unsteps_between t kind from to) u → IsStep kind from to u
+  between_step kind from to u h = elim (cons_cases _ _ u h) [
+    | inl e ↦ (None, e)
+    | inr rest ↦
+        either _ _ u rest (caught_step kind from to Giraffe u)
+        (λ rest. either _ _ u rest (caught_step kind from to Elephant u)
+        (λ rest. either _ _ u rest (caught_step kind from to Chick u) (caught_step kind from to Hen u)))
+  ]
+
+  -- a step of the kind between these squares, of which the first is empty
+  pub record IsFrom (kind : Kind) (to from : ℕ) (u : Undo) : Type 0 where
+    pub test : (not (is_some (at t from)) && leads kind from to) ≡ true
+    pub step : IsStep kind from to u
+
+  pub from_step : (kind : Kind) (to from : ℕ) (u : Undo) → Contains (unsteps_from t kind to from) u → IsFrom kind to from u
+  unfolding unsteps_from
+  from_step kind to from u h =
+      let found = cond_sound _ _ u h in
+      record { test = found.0; step = between_step kind from to u found.1 }
+
+  step_ends : (kind : Kind) (from to : ℕ) (u : Undo) → IsStep kind from to u → ends_on u ≡ to
+  step_ends kind from to u s = ap ends_on (sym s.1)
+
+  unsteps_end : (kind : Kind) (to : ℕ) (u : Undo) → Contains (unsteps t kind to) u → ends_on u ≡ to
+  unfolding unsteps
+  unsteps_end kind to u h =
+      let w = each_sound (unsteps_from t kind to) 12 u (cond_sound _ _ u h).1 in
+      step_ends kind w.0 to u (from_step kind to w.0 u w.2).step
+
+  unputs_end : (kind : HandKind) (to : ℕ) (u : Undo) → Contains (unputs t kind to) u → ends_on u ≡ to
+  unfolding unputs
+  unputs_end kind to u h = ap ends_on (sym (if_so_sound (stands (at t to) (kind_on_board kind)) (Unput kind to) u h).1)
+
+  pub undoes_end : (to : ℕ) (u : Undo) → Contains (undoes_at t to) u → ends_on u ≡ to
+  unfolding undoes_at
+  undoes_end to u h =
+      either _ _ u h (unsteps_end Lion to u)
+      (λ rest. either _ _ u rest (unsteps_end Giraffe to u)
+      (λ rest. either _ _ u rest (unsteps_end Elephant to u)
+      (λ rest. either _ _ u rest (unsteps_end Chick to u)
+      (λ rest. either _ _ u rest (unsteps_end Hen to u)
+      (λ rest. either _ _ u rest (unputs_end hand.Chick to u)
+      (λ rest. either _ _ u rest (unputs_end hand.Elephant to u) (unputs_end hand.Giraffe to u)))))))

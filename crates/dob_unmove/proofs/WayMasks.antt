@@ -1,0 +1,151 @@
+-- The masks of the ways: where the lion may stand, where a move may have ended, from where a piece may have come.
+use Rattle.std.proofs.Common.{◌≡◌, ◌≢◌, ℕ, ◌-◌, ◌*◌, ◌%◌, ◌^◌, ◌<◌, ◌==◌, nat_lt, nat_eq, ◌&&◌, ◌||◌, min, not, Bool, true, false, cond, bit_and, refl, sym, ap, ◌∙◌, arith, w16, Some, None, inl, inr}
+use Rattle.std.specs.Int.{bit_at}
+use Rattle.std.proofs.lemmas.Bool.{and_parts, cases_Bool, eqb-true, ltb-true, eq-eqb, ne_eqb}
+use Rattle.std.proofs.lemmas.Nat.{and_le_l}
+use Rattle.std.proofs.lemmas.Nat.Bits.{bit_at_and, bit_at_not, same_from_bits_below, bit_at-zero}
+use Rattle.dob_pieces.specs.declared.kind.Kind.{Kind}
+use Rattle.dob_pieces.specs.declared.kind.Kind.TheVariants.{Lion, Giraffe, Elephant, Chick, Hen}
+use Rattle.dob_pieces.specs.declared.kind.Side.{Side}
+use Rattle.dob_pieces.specs.declared.kind.Side.TheVariants.{Mover, Enemy}
+use Rattle.dob_pieces.specs.declared.setup.Setup.{Setup}
+use Rattle.dob_pieces.specs.Squares.{column}
+use Rattle.dob_pieces.specs.Setups.{Cell, at, piece_of, holds_lion, HasLions}
+use Rattle.dob_pieces.specs.Masks.{IsMask, is_own, is_piece}
+use Rattle.dob_pieces.proofs.Boards.{all_below, all_below-at, one_lion}
+use Rattle.dob_pieces.proofs.Attacks.{is_that_lion}
+use Rattle.dob_pieces.proofs.MaskBits.{IsMask-and, IsMask-same, none_passes}
+use Rattle.dob_unmove.specs.declared.attackers.Attackers.TheVariants.{One}
+use Rattle.dob_unmove.specs.declared.attackers.Threat.{Threat}
+use Rattle.dob_unmove.specs.Threats.{elsewhere}
+use Rattle.dob_unmove.specs.Ways.{is_home, TellsHome, may_end, comes_home}
+
+-- the squares of the one mask that the other hasn't
+pub IsMask-without : (f g : ℕ → Bool) (a b : ℕ) → IsMask f a → IsMask g b → IsMask (λ s. f s && not (g s)) (bit_and a (65535 - b))
+IsMask-without f g a b is are = record {
+  within = let le = and_le_l a (65535 - b) in let lt = is.within in omega (arith, le, lt);
+  bits = λ s lt.
+      bit_at_and a (65535 - b) s
+      ∙ ap (λ (n : ℕ). min n (bit_at (65535 - b) s)) (is.bits s lt)
+      ∙ ap (λ (n : ℕ). min (cond (f s) 1 0) n) (bit_at_not w16 b s (let low = are.within in omega (arith, low)) (omega (arith, lt)) ∙ ap (λ (n : ℕ). 1 - n) (are.bits s lt))
+      ∙ both (f s) (g s);
+}
+  where
+    both : (x y : Bool) → min (cond x 1 0) (1 - cond y 1 0) ≡ cond (x && not y) 1 0
+    both true true = refl
+    both true false = refl
+    both false true = refl
+    both false false = refl
+
+-- ---- masks of constants
+
+-- the mask by a computed test of all squares
+abbrev has_bits : ℕ → (ℕ → Bool) → Bool
+has_bits mask test = nat_lt mask 4096 && all_below (λ s. nat_eq (bit_at mask s) (cond (test s) 1 0)) 12
+
+by_bits : (mask : ℕ) (test : ℕ → Bool) → has_bits mask test ≡ true → IsMask test mask
+by_bits mask test h =
+    let parts = and_parts (nat_lt mask 4096) (all_below (λ s. nat_eq (bit_at mask s) (cond (test s) 1 0)) 12) h in
+    record {
+      within = ltb-true mask 4096 parts.0;
+      bits = λ s lt. eqb-true (bit_at mask s) (cond (test s) 1 0) (all_below-at (λ s. nat_eq (bit_at mask s) (cond (test s) 1 0)) 12 s parts.1 lt);
+    }
+
+abbrev home_by : Bool → ℕ → Bool
+home_by aside s = nat_lt s 9 && ((column s == 0) || ((column s == 1) && not aside))
+
+pub homes_on_a : (lion : ℕ) → (column lion == 2) ≡ true → IsMask (is_home lion) 73
+homes_on_a lion e = IsMask-same (home_by true) (is_home lion) 73 (λ s lt. ap (λ b. home_by b s) (sym e)) (by_bits 73 (home_by true) refl)
+
+pub homes_on_both : (lion : ℕ) → (column lion == 2) ≡ false → IsMask (is_home lion) 219
+homes_on_both lion e = IsMask-same (home_by false) (is_home lion) 219 (λ s lt. ap (λ b. home_by b s) (sym e)) (by_bits 219 (home_by false) refl)
+
+pub everywhere : (test : ℕ → Bool) → ((s : ℕ) → test s ≡ true) → IsMask test 4095
+everywhere test all = IsMask-same (λ s. true) test 4095 (λ s lt. sym (all s)) (by_bits 4095 (λ s. true) refl)
+
+pub nowhere : (test : ℕ → Bool) → ((s : ℕ) → test s ≡ false) → IsMask test 0
+nowhere test none = IsMask-same (λ s. false) test 0 (λ s lt. sym (none s)) (by_bits 0 (λ s. false) refl)
+
+abbrev alone_test : ℕ → Bool
+alone_test a = has_bits (1 * 2 ^ a % 65536) (λ s. not (not (a == s)))
+
+all_alone : all_below alone_test 12 ≡ true
+all_alone = refl
+
+pub alone : (a : ℕ) → a < 12 → IsMask (λ s. not (elsewhere (One a) s)) (1 * 2 ^ a % 65536)
+alone a lt = by_bits (1 * 2 ^ a % 65536) (λ s. not (not (a == s))) (all_below-at alone_test 12 a all_alone lt)
+
+pub comes_anywhere : (kind : Kind) (lion : ℕ) → kind ≢ Lion → IsMask (comes_home kind lion) 4095
+comes_anywhere Lion lion other = absurd (other refl)
+comes_anywhere Giraffe lion other = everywhere (comes_home Giraffe lion) (λ s. refl)
+comes_anywhere Elephant lion other = everywhere (comes_home Elephant lion) (λ s. refl)
+comes_anywhere Chick lion other = everywhere (comes_home Chick lion) (λ s. refl)
+comes_anywhere Hen lion other = everywhere (comes_home Hen lion) (λ s. refl)
+
+-- ---- where a move may have ended
+
+-- a mask in which nothing passes is empty
+empty_mask : (test : ℕ → Bool) (mask : ℕ) → IsMask test mask → ((s : ℕ) → s < 12 → test s ≡ false) → mask ≡ 0
+empty_mask test mask is none =
+    same_from_bits_below 12 mask 0 is.within (omega arith) (λ k lt. is.bits k lt ∙ ap (λ b. cond b 1 0) (none k lt) ∙ sym (bit_at-zero k))
+
+and_true : (b : Bool) → (b && true) ≡ b
+and_true true = refl
+and_true false = refl
+
+lion_holds : (cell : Cell) → is_piece Mover Lion cell ≡ true → holds_lion Mover cell ≡ true
+lion_holds None h = cc
+lion_holds (Some piece) h = of_piece piece.side piece.kind h where
+  of_piece : (side : Side) (kind : Kind) → is_piece Mover Lion (Some (piece_of side kind)) ≡ true → holds_lion Mover (Some (piece_of side kind)) ≡ true
+  of_piece Mover Lion h = refl
+  of_piece Mover Giraffe h = cc
+  of_piece Mover Elephant h = cc
+  of_piece Mover Chick h = cc
+  of_piece Mover Hen h = cc
+  of_piece Enemy kind h = cc
+
+module _ (after : Setup) (threat : Threat) (lions : HasLions after) (lion homes calm own place : ℕ)
+    (lion_is : IsMask (λ s. is_piece Mover Lion (at after s)) lion) (homes_are : IsMask (is_home threat.lion) homes)
+    (own_are : IsMask (λ s. is_own (at after s)) own) (calm_are : IsMask (λ s. not (elsewhere threat.attackers s)) calm)
+    (there : at after place ≡ Some (piece_of Mover Lion)) (low : place < 12) where
+  both_are : IsMask (λ s. is_piece Mover Lion (at after s) && is_home threat.lion s) (bit_and lion homes)
+  both_are = IsMask-and _ _ lion homes lion_is homes_are
+
+  here : is_piece Mover Lion (at after place) ≡ true
+  here = ap (is_piece Mover Lion) there
+
+  -- no lion at home
+  pub away : bit_and lion homes ≡ 0 → TellsHome after threat.lion false
+  away none s is =
+      let same : s ≡ place = one_lion Mover after s place lions is there in
+      ap (is_home threat.lion) same ∙ ap (λ b. b && is_home threat.lion place) (sym here)
+      ∙ none_passes (λ s. is_piece Mover Lion (at after s) && is_home threat.lion s) (bit_and lion homes) both_are none place low
+
+  -- the lion at home
+  pub at_home : bit_and lion homes ≢ 0 → TellsHome after threat.lion true
+  at_home some s is = elim (cases_Bool (is_home threat.lion s)) [
+    | inl yes_home ↦ yes_home
+    | inr no_home ↦ absurd (some (none_there s is no_home))
+  ] where
+    none_there : (s : ℕ) → at after s ≡ Some (piece_of Mover Lion) → is_home threat.lion s ≡ false → bit_and lion homes ≡ 0
+    none_there s is no_home = empty_mask (λ s. is_piece Mover Lion (at after s) && is_home threat.lion s) (bit_and lion homes) both_are
+        (λ k lt. elim (cases_Bool (is_piece Mover Lion (at after k))) [
+          | inl lion_there ↦
+              (let found : at after k ≡ Some (piece_of Mover Lion) = is_that_lion Mover (at after k) (lion_holds (at after k) lion_there) in
+              let same : k ≡ s = one_lion Mover after k s lions found is in
+              ap (λ b. b && is_home threat.lion k) lion_there ∙ ap (is_home threat.lion) same ∙ no_home)
+          | inr not_there ↦ ap (λ b. b && is_home threat.lion k) not_there
+        ])
+
+  pub calm_ends : IsMask (may_end after threat true) (bit_and own calm)
+  calm_ends = IsMask-same (λ s. is_own (at after s) && not (elsewhere threat.attackers s)) (may_end after threat true) (bit_and own calm)
+      (λ s lt. sym (and_true (is_own (at after s) && not (elsewhere threat.attackers s)))) (IsMask-and _ _ own calm own_are calm_are)
+
+  pub lion_ends : IsMask (may_end after threat false) (bit_and (bit_and own calm) lion)
+  lion_ends = IsMask-and _ _ (bit_and own calm) lion (IsMask-and _ _ own calm own_are calm_are) lion_is
+
+pub is_two : (lion c : ℕ) → c ≡ column lion → c ≡ 2 → (column lion == 2) ≡ true
+is_two lion c e two = eq-eqb (column lion) 2 (sym e ∙ two)
+
+pub not_two : (lion c : ℕ) → c ≡ column lion → c ≢ 2 → (column lion == 2) ≡ false
+not_two lion c e other = ne_eqb (column lion) 2 (λ two. other (e ∙ two))

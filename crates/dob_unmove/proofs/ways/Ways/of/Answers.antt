@@ -1,0 +1,49 @@
+-- by whether the lion stands at home
+use Rattle.std.proofs.Common.{ℕ, ◌<◌, true, false, refl, sym, subst, arith, w16}
+use Rattle.std.specs.Int.{trailing_zeros}
+use Rattle.dob_pieces.specs.declared.kind.Side.TheVariants.{Mover}
+use Rattle.dob_pieces.specs.declared.kind.Kind.TheVariants.{Lion}
+use Rattle.dob_pieces.specs.Setups.{piece_of}
+use Rattle.dob_pieces.specs.Masks.{IsMask}
+use Rattle.dob_pieces.proofs.Attacks.{lion_at}
+use Rattle.dob_pieces.proofs.Boards.{within-from_piece}
+use Rattle.dob_unmove.specs.Ways.{may_end}
+use Rattle.dob_unmove.proofs.Threats.{turned_squares, turned_lions}
+use Rattle.dob_unmove.proofs.WayMasks.{away, at_home, calm_ends, lion_ends}
+use Rattle.dob_unmove.proofs.ways.Ways.of.Goals as goal
+use Rattle.dob_unmove.proofs.ways.Ways.of.Goals.{then-masks-homes-eq0, else-masks-homes-eq0}
+
+pub returns : goal.returns
+returns c =
+    let after = c.args.after.now in
+    let masks = c.of-masks.result in
+    let are = c.of-masks.ensures in
+    let threat = c.by-threat.result in
+    let lions = turned_lions after c.requires in
+    let place : ℕ = trailing_zeros w16 masks.lion in
+    let there = lion_at after Mover masks.lion place (turned_squares after c.requires) lions are.lion_is refl in
+    let within = within-from_piece after place (piece_of Mover Lion) there in
+    let twelve = turned_squares after c.requires in
+    let low : place < 12 = omega (arith, within, twelve) in
+    elim c.if-masks-homes-eq0.branch [
+      | then-masks-homes-eq0 w ↦ record {
+        masks_are = are;
+        threat_is = c.by-threat.ensures;
+        homes_are = c.homes_of-homes.ensures;
+        stays = false;
+        home_is = away after threat lions masks.lion c.homes_of-homes.result c.calm_ends.result masks.own place are.lion_is c.homes_of-homes.ensures are.own_are
+            c.calm_ends.ensures there low w.if-masks-homes-eq0.true;
+        ends_are = subst (IsMask (may_end after threat false)) (sym w.ends-is)
+            (lion_ends after threat lions masks.lion c.homes_of-homes.result c.calm_ends.result masks.own place are.lion_is c.homes_of-homes.ensures are.own_are c.calm_ends.ensures there low);
+      }
+      | else-masks-homes-eq0 w ↦ record {
+        masks_are = are;
+        threat_is = c.by-threat.ensures;
+        homes_are = c.homes_of-homes.ensures;
+        stays = true;
+        home_is = at_home after threat lions masks.lion c.homes_of-homes.result c.calm_ends.result masks.own place are.lion_is c.homes_of-homes.ensures are.own_are
+            c.calm_ends.ensures there low w.if-masks-homes-eq0.false;
+        ends_are = subst (IsMask (may_end after threat true)) (sym w.ends-is)
+            (calm_ends after threat lions masks.lion c.homes_of-homes.result c.calm_ends.result masks.own place are.lion_is c.homes_of-homes.ensures are.own_are c.calm_ends.ensures there low);
+      }
+    ]

@@ -1,0 +1,102 @@
+// The plain program of predecessors: each way back square by square, as the definitions go, and the setup before each
+// made anew. It is for comparisons with the walk by masks, which a test and a measurement make; nothing else calls it.
+ghost use Rattle.std.specs.Prelude.{◌≡◌, ◌<◌, ℕ, IfOk, MatchOption};
+ghost use Rattle.dob_pieces.specs.declared.setup.Setup.{Setup};
+ghost use Rattle.dob_rank.specs.Order.{IsPositionOf};
+ghost use Rattle.dob_rank.specs.Marks.{classes_of};
+ghost use Rattle.dob_unmove.specs.declared.undo.Undo.{Undo};
+ghost use Rattle.dob_unmove.specs.Undoes.{CanUndo, earlier};
+ghost use Rattle.dob_unmove.specs.Unmoves.{CountEdges, ArePredecessors};
+ghost use Rattle.dob_unmove.specs.Edges.{predecessors};
+ghost use Rattle.dob_unmove.specs.Classes.{IsTurned, IsFirstIn};
+ghost use Rattle.dob_unmove.specs.Gathers.{Finds, Adds};
+ghost use Rattle.dob_unmove.specs.Threats.{IsThreat};
+
+use crate::attackers::Threat;
+use crate::earlier::open_before;
+use crate::undo::Undo;
+use crate::walk::{Taker, take_all};
+use dob_pieces::{Memory, Position, Setup};
+use dob_rank::Classes;
+
+// The classes found so far, and the threat to the enemy lion in the setup from which ways back are taken.
+#[derive(Drop)]
+struct Gathered<'a> {
+    classes: &'a Classes,
+    threat: Threat,
+    found: Vec<u64>,
+}
+
+impl Taker for Gathered<'_> {
+    ghost suits = { λ after gathered. IsTurned (IsPositionOf gathered.classes.now.set) after × IsThreat after gathered.threat };
+
+    ghost takes = { λ after old undo new. (new.classes ≡ old.classes) × Adds (IsFirstIn old.classes.now.set) after undo old.found.items new.found.items };
+
+    fn take(&mut self, after: &Setup, undo: Undo) -> Result<(), Memory> {
+        if let Some(class) = class_before(self.classes, after, &self.threat, undo) {
+            self.found.push(class)?;
+        }
+        Ok(())
+    }
+}
+
+// The class whose representative stood there before the move, if a representative did and was open.
+fn class_before(classes: &Classes, after: &Setup, threat: &Threat, undo: Undo) -> Option<u64>
+    requires can { CanUndo after.now undo }
+    requires of_set { IsTurned (IsPositionOf classes.now.set) after.now }
+    requires threat { IsThreat after.now threat.now }
+    ensures { Finds (IsFirstIn classes.now.set) (earlier after.now undo) result }
+{
+    if threat.stood_before(&undo) {
+        return None;
+    }
+    match open_before(after, undo) {
+        None => None,
+        Some(position) => class_of_first(classes, &position),
+    }
+}
+
+// The class whose representative the position of the set is; `None` where it is none.
+pub(crate) fn class_of_first(classes: &Classes, position: &Position) -> Option<u64>
+    requires { IsPositionOf classes.now.set position.now.setup }
+    ensures { MatchOption result (¬ ((class : ℕ) × IsFirstIn classes.now.set position.now.setup class)) (IsFirstIn classes.now.set position.now.setup) }
+{
+    classes.class_of_representative(position)
+}
+
+// The classes from which moves lead to the representative of a class or to its mirror image, in the order of the walk, in
+// the room of that list.
+fn gather(room: Vec<u64>, classes: &Classes, first: &Position) -> Result<Vec<u64>, Memory>
+    requires { (class : ℕ) × IsFirstIn classes.now.set first.now.setup class }
+    ensures { IfOk result (λ list. CountEdges (IsFirstIn classes.now.set) first.now.setup list.items) }
+{
+    let mut found = room;
+    found.clear();
+    let after = first.turned();
+    let mut gathered = Gathered {
+        classes,
+        threat: Threat::of(&after),
+        found,
+    };
+    take_all(&mut gathered, &after)?;
+    let image = first.mirrored();
+    if class_of_first(classes, &image).is_some() {
+        return Ok(gathered.found);
+    }
+    let after = image.turned();
+    gathered.threat = Threat::of(&after);
+    take_all(&mut gathered, &after)?;
+    Ok(gathered.found)
+}
+
+/// The classes from which moves lead into the class, ascending, each as often as moves of its representative lead
+/// there, in the room of a list; what it held is gone. Err where no memory was left for it to grow.
+pub fn back_into(room: Vec<u64>, classes: &Classes, class: u64) -> Result<Vec<u64>, Memory>
+    requires { class < classes_of classes.now.set }
+    ensures counts { IfOk result (λ list. (q : Setup) → IsFirstIn classes.now.set q class → ArePredecessors (IsFirstIn classes.now.set) q list.items) }
+    ensures list { IfOk result (λ list. list.items ≡ predecessors classes.now.set class) }
+{
+    let mut numbers = gather(room, classes, &classes.class_at(class))?;
+    numbers.sort_unstable();
+    Ok(numbers)
+}

@@ -1,0 +1,109 @@
+// What masks tell of the ways to take a move back: where it may have ended, and from where a piece may have come, so that what
+// stood before was open and the earlier one of its class. All other ways are skipped.
+ghost use Rattle.std.specs.Prelude.{◌≡◌, not};
+ghost use Rattle.dob_pieces.specs.Masks.{IsMask, AreMasks};
+ghost use Rattle.dob_pieces.specs.Setups.{at, IsLegal};
+ghost use Rattle.dob_pieces.specs.declared.setup.Setup.{Setup};
+ghost use Rattle.dob_unmove.specs.Classes.{IsTurned};
+ghost use Rattle.dob_unmove.specs.Threats.{elsewhere};
+ghost use Rattle.dob_unmove.specs.Walks.{stands as stands_there};
+ghost use Rattle.dob_unmove.specs.Ways.{is_home, comes_home, may_come, AreWays};
+
+use crate::attackers::{Attackers, Threat};
+use dob_pieces::{Kind, Masks, Setup, Square};
+
+/// All squares.
+const ALL: u16 = 4095;
+
+/// The squares of rows 1 to 3 on column a, and those on columns a and b.
+const HOMES_ON_A: u16 = 73;
+
+const HOMES_ON_A_AND_B: u16 = 219;
+
+/// What the masks of a setup after a move tell, in which the side that made it is the mover.
+#[derive(Clone, Copy, Debug)]
+pub(crate) struct Ways {
+    pub(crate) masks: Masks,
+    pub(crate) threat: Threat,
+    /// Where the mover's lion of a representative may stand.
+    pub(crate) homes: u16,
+    /// Where the move may have ended.
+    pub(crate) ends: u16,
+}
+
+/// Where the mover's lion of a representative may stand, by the square of the enemy's.
+fn homes_of(lion: Square) -> u16
+    ensures { IsMask (is_home lion) result }
+{
+    if lion.column() == 2 {
+        HOMES_ON_A
+    } else {
+        HOMES_ON_A_AND_B
+    }
+}
+
+/// Where a move may have ended if no piece that didn't move attacks the enemy lion.
+fn calm_ends(attackers: Attackers) -> u16
+    ensures { IsMask (λ square. not (elsewhere attackers square)) result }
+{
+    match attackers {
+        Attackers::Nobody => ALL,
+        Attackers::One(attacker) => 1 << attacker.index(),
+        Attackers::Several => 0,
+    }
+}
+
+impl Ways {
+    /// What tells of the ways that lead to the setup.
+    pub(crate) fn of(after: &Setup) -> Ways
+        requires { IsTurned IsLegal after.now }
+        ensures { AreWays after.now result }
+    {
+        let masks = Masks::of(after);
+        let threat = Threat::by(after, &masks);
+        let homes = homes_of(threat.lion);
+        let calm = masks.own & calm_ends(threat.attackers);
+        let ends = if masks.lion & homes == 0 {
+            calm & masks.lion
+        } else {
+            calm
+        };
+        Ways {
+            masks,
+            threat,
+            homes,
+            ends,
+        }
+    }
+
+    /// From where a piece of that kind may have come to the square.
+    pub(crate) fn sources(&self, kind: Kind, to: Square) -> u16
+        ensures { (after : Setup) → AreWays after self.now → IsMask (may_come after self.now.threat.lion kind to) result }
+    {
+        kind.sources(to) & self.masks.empty & !kind.sources(self.threat.lion) & self.homes_for(kind)
+    }
+
+    // Where a piece of that kind may have stood as far as the lions say: the lion at home, and any other everywhere.
+    fn homes_for(&self, kind: Kind) -> u16
+        ensures { (after : Setup) → AreWays after self.now → IsMask (comes_home kind self.now.threat.lion) result }
+    {
+        match kind {
+            Kind::Lion => self.homes,
+            _ => ALL,
+        }
+    }
+
+    /// Whether the mover's piece of that kind stands on the square.
+    pub(crate) fn stands(&self, kind: Kind, square: Square) -> bool
+        ensures { (after : Setup) → AreWays after self.now → result ≡ stands_there (at after square) kind }
+    {
+        let mask = match kind {
+            Kind::Lion => self.masks.lion,
+            Kind::Giraffe => self.masks.giraffes,
+            Kind::Elephant => self.masks.elephants,
+            Kind::Chick => self.masks.chicks,
+            Kind::Hen => self.masks.hens,
+        };
+        mask >> square.index() & 1 == 1
+    }
+}
