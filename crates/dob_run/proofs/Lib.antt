@@ -1,1 +1,4 @@
 pub mod Counted
+pub mod Keeping
+pub mod Planned
+pub mod Lawfuls
