@@ -1,1 +1,6 @@
 pub mod Counted
+pub mod Laying
+pub mod Parting
+pub mod Places
+pub mod Rejoining
+pub mod Seated

@@ -1,3 +1,9 @@
+pub mod Closing
+pub mod Ending
 pub mod Hands
+pub mod Laid
 pub mod Links
 pub mod Mails
+pub mod Opening
+pub mod Rows
+pub mod Seating
