@@ -3,4 +3,5 @@ pub mod Laying
 pub mod Parting
 pub mod Places
 pub mod Rejoining
+pub mod Scanned
 pub mod Seated

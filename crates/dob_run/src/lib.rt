@@ -9,10 +9,12 @@ mod lay;
 mod links;
 mod mail;
 mod rejoin;
+mod scans;
 
 pub use gate::{Free, Gate};
 pub use hands::{Inlet, Outlet};
 pub use mail::Mail;
+pub use scans::scan;
 
 #[cfg(test)]
 mod tests;

@@ -1,9 +1,12 @@
-// Crews that are closed as they were opened.
+// Crews that are closed as they were opened, and openings found by threads.
 ghost use Rattle.dob_safra.specs.Laws.{IsSize};
 
 use crate::closing::{Ended, close_mails};
 use crate::crew::open_mails;
-use dob_pieces::Memory;
+use crate::scan;
+use dob_node::opening;
+use dob_pieces::{Memory, PieceSet};
+use dob_rank::Classes;
 use dob_update::Batch;
 use std::alloc::Global;
 use std::process::Abort;
@@ -64,5 +67,20 @@ fn crews_that_did_nothing(rt: HostRuntime) -> Result<(), Fail> {
     open_and_close(&rt, rt.alloc(), 1)?;
     open_and_close(&rt, rt.alloc(), 2)?;
     open_and_close(&rt, rt.alloc(), 16)?;
+    Ok(())
+}
+
+#[test]
+fn many_threads_find_what_one_does(rt: HostRuntime) -> Result<(), Fail> {
+    let set = PieceSet::read("001").expect(&rt, "a set");
+    let classes = Classes::open(rt.alloc(), set).expect(&rt, "classes");
+    let scanned = scan(&rt, rt.alloc(), &classes)?;
+    let listed = opening(rt.alloc(), &classes)?;
+    assert!(rt; scanned.len() == 1116);
+    assert!(rt; scanned.len() == listed.len());
+    for (one, other) in scanned.iter().zip(listed.iter()) {
+        assert!(rt; one.status == other.status);
+        assert!(rt; one.moves == other.moves);
+    }
     Ok(())
 }
