@@ -1,4 +1,7 @@
+pub mod Closing
+pub mod Ending
 pub mod Hands
+pub mod Laid
 pub mod Links
 pub mod Mails
 pub mod Batches
@@ -6,3 +9,6 @@ pub mod Workers
 pub mod Keeps
 pub mod Runners
 pub mod Props
+pub mod Opening
+pub mod Rows
+pub mod Seating

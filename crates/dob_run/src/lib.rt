@@ -2,13 +2,18 @@
 #![tactic(auto)]
 
 mod batches;
+mod closing;
+mod crew;
 mod gate;
 mod hands;
+mod lay;
 mod links;
 mod mail;
+mod rejoin;
 mod ring;
 mod rounds;
 mod runner;
+mod scans;
 mod turn;
 mod words;
 mod works;
@@ -17,3 +22,7 @@ pub use gate::{Free, Gate};
 pub use hands::{Inlet, Outlet};
 pub use mail::Mail;
 pub use runner::Runner;
+pub use scans::scan;
+
+#[cfg(test)]
+mod tests;
