@@ -1,16 +1,17 @@
 -- One event more of a round, and one round more.
-use Rattle.std.proofs.Common.{◌≡◌, ℕ, zero, suc, ◌+◌, ◌*◌, ◌<◌, ◌≤◌, ◌⊎◌, inl, inr, refl, sym, ap, ◌∙◌, subst, arith, add-one, map, Bool, true, false, List, [], ◌∷◌, ◌++◌, None}
+use Rattle.std.proofs.Common.{◌≡◌, ℕ, ◌+◌, ◌*◌, ◌<◌, ◌≤◌, inl, inr, refl, sym, ap, ◌∙◌, subst, arith, add-one, nat_eq, Bool, true, false, None}
 use Rattle.std.proofs.Math.Nat.{mul-le-mul_right}
-use Rattle.std.specs.List.{range_with_len}
 use Rattle.std.proofs.lemmas.Bool.{cases_order}
+use Rattle.std.proofs.lemmas.Bool.Decides.{nat_tests}
 use Rattle.std.proofs.lemmas.List.FromFn.{map-range_with_len_more}
 use Rattle.dob_world.specs.declared.world.World.{World}
-use Rattle.dob_world.specs.Worlds.{Setting, World as State}
+use Rattle.dob_world.specs.Worlds.{Setting, State}
 use Rattle.dob_world.specs.Events.{CanHappen}
 use Rattle.dob_world.specs.Runs.{IsDoneOrSkipped, IsAfter}
 use Rattle.dob_world.specs.Rounds.{round_length, round_event, round_front, round_of, rounds_of, IsStill}
 use Rattle.dob_world.specs.Shown.{setting_of, state_of, IsStanding}
 use Rattle.dob_world.specs.Results.{HasMadeRound, HasDriven}
+use Rattle.dob_world.proofs.Still.{still_ended}
 use Rattle.dob_world.proofs.Ran.{Stepped, after_both, after_more}
 
 -- The first so many events of a round are made.
@@ -72,11 +73,26 @@ round_made old new upto still way whole quiet busy = record {
   standing = way.standing;
   going = way.going;
   steps = subst (λ (m : ℕ). new.steps ≤ old.steps + m) whole way.most;
-  still = λ yes. let were = way.quiet (quiet yes) in
-      subst (λ (w : State). IsStill (setting_of old) w) (sym were.0)
-      (λ place low. were.1 place (subst (λ (m : ℕ). place < m) (sym whole) low));
+  still = left;
+  ended = λ is. still_ended (setting_of new) (state_of new) way.standing.setting way.standing.linked way.standing.told
+      (subst (λ (s : Setting). IsStill s (state_of new)) (sym way.setting) (left is));
   busy = busy;
 }
+  where
+    left : still ≡ true → IsStill (setting_of old) (state_of new)
+    left is = let were = way.quiet (quiet is) in
+        subst (λ (w : State). IsStill (setting_of old) w) (sym were.0)
+        (λ place low. were.1 place (subst (λ (m : ℕ). place < m) (sym whole) low))
+
+same_count : (a b : ℕ) → nat_eq a b ≡ true → a ≡ b
+same_count a b is = grind (arith, nat_tests)
+
+more_count : (a b : ℕ) → b ≤ a → nat_eq a b ≡ false → b < a
+more_count a b least is = grind (arith, nat_tests)
+
+pub round_done : (old new : World) (upto : ℕ) → Partway old new upto → upto ≡ round_length old.n → HasMadeRound old (nat_eq new.steps old.steps) new
+round_done old new upto way whole = round_made old new upto (nat_eq new.steps old.steps) way whole (same_count new.steps old.steps)
+    (more_count new.steps old.steps way.least)
 
 -- ---- rounds
 
@@ -91,6 +107,7 @@ no_rounds world standing going = record {
   steps = omega arith;
   busy = λ no. (refl, omega arith);
   still = λ yes. absurd cc;
+  ended = λ yes. absurd cc;
 }
 
 pub round_more : (old mid new : World) (rounds : ℕ) (still : Bool) → HasDriven old rounds false mid → HasMadeRound mid still new →
@@ -114,6 +131,7 @@ round_more old mid new rounds still before round =
           (subst (λ (m : ℕ). new.steps ≤ mid.steps + round_length m) same_n round.steps);
       busy = λ no. (refl, let more : mid.steps < new.steps = round.busy no in omega (arith, all.1));
       still = λ yes. subst (λ (s : Setting). IsStill s (state_of new)) before.setting (round.still yes);
+      ended = round.ended;
     }
   where
     steps_more : (a b c r l : ℕ) → b ≤ a + r * l → c ≤ b + l → c ≤ a + (r + 1) * l
@@ -131,6 +149,7 @@ still_longer old new few rounds driven less = record {
   steps = driven.steps;
   busy = λ no. absurd cc;
   still = driven.still;
+  ended = driven.ended;
 }
 
 -- a further round has room

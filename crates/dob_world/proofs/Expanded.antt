@@ -1,12 +1,11 @@
 -- A settlement that a node of the world expands.
-use Rattle.std.proofs.Common.{◌≡◌, ◌≢◌, ℕ, ◌+◌, ◌<◌, arith, refl, sym, ap, ◌∙◌, subst, cond, nat_lt, List, [], ◌++◌, length, Some, slice_get, set}
+use Rattle.std.proofs.Common.{◌≡◌, ℕ, ◌+◌, ◌<◌, arith, refl, sym, ap, ◌∙◌, subst, cond, nat_lt, List, [], ◌++◌, length, Some, slice_get, set}
 use Rattle.std.proofs.lemmas.Option.{slice_get_within}
 use Rattle.std.proofs.lemmas.List.{length-set}
 use Rattle.dob_moves.specs.Statuses.{HasStatus}
 use Rattle.dob_rank.specs.Marks.{classes_of}
 use Rattle.dob_rank.specs.ClassRows.{class_setup}
 use Rattle.dob_unmove.specs.Edges.{predecessors}
-use Rattle.dob_share.specs.declared.news.Item.{Item}
 use Rattle.dob_share.specs.declared.share.Share.{Share}
 use Rattle.dob_share.specs.Owners.{owner_of}
 use Rattle.dob_share.specs.Cells.{fresh}
@@ -19,7 +18,7 @@ use Rattle.dob_node.specs.Nodes.{IsSound, IsExpanded, outbox_to}
 use Rattle.dob_world.specs.declared.lane.Lane.{Lane}
 use Rattle.dob_world.specs.Worlds.{Setting}
 use Rattle.dob_world.specs.Events.{Expands}
-use Rattle.dob_world.specs.Shown.{part, nodes_shown, state_shown, IsNodeOf, AreInPlace}
+use Rattle.dob_world.specs.Shown.{part, nodes_shown, world_shown, IsNodeOf, AreInPlace}
 use Rattle.dob_world.proofs.Slots.{here, was, elsewhere, stays, set_cases}
 
 pub in_place_node : (k : Setting) (nodes : List Node) (lanes : List Lane) (i : ℕ) (node after : Node) → slice_get nodes i ≡ Some node →
@@ -45,8 +44,8 @@ module _ (k : Setting) (nodes : List Node) (lanes : List Lane) (i : ℕ) (node a
         (sym step.same.3) is.statuses;
   }
 
-  pub expands : Expands k i (state_shown k.set k.n nodes lanes) (state_shown k.set k.n (set nodes i after) lanes)
-  unfolding state_shown nodes_shown
+  pub expands : Expands k i (world_shown k.set k.n nodes lanes) (world_shown k.set k.n (set nodes i after) lanes)
+  unfolding world_shown nodes_shown
   expands = record {
     settlement = step.settlement;
     is_next = ap (λ o. slice_get (part [] (λ (x : Node). x.history.settlements) o) (part 0 (λ (x : Node). x.expanded) o)) there ∙ step.first;
@@ -74,15 +73,15 @@ module _ (k : Setting) (nodes : List Node) (lanes : List Lane) (i : ℕ) (node a
     links = (λ m l. refl, λ m l. refl);
   }
 
-  pub can_expand : (state_shown k.set k.n nodes lanes).expanded i < length ((state_shown k.set k.n nodes lanes).nodes.history i)
-  unfolding state_shown nodes_shown
+  pub can_expand : (world_shown k.set k.n nodes lanes).expanded i < length ((world_shown k.set k.n nodes lanes).nodes.history i)
+  unfolding world_shown nodes_shown
   can_expand = slice_get_within (part [] (λ (x : Node). x.history.settlements) (slice_get nodes i)) (part 0 (λ (x : Node). x.expanded) (slice_get nodes i)) step.settlement
       (ap (λ o. slice_get (part [] (λ (x : Node). x.history.settlements) o) (part 0 (λ (x : Node). x.expanded) o)) there ∙ step.first)
 
 module _ (k : Setting) (nodes : List Node) (lanes : List Lane) (i : ℕ) (node after : Node) (there : slice_get nodes i ≡ Some node) where
   pub cant_expand : node.expanded ≡ length node.history.settlements →
-      (state_shown k.set k.n nodes lanes).expanded i < length ((state_shown k.set k.n nodes lanes).nodes.history i) → ⊥
-  unfolding state_shown nodes_shown
+      (world_shown k.set k.n nodes lanes).expanded i < length ((world_shown k.set k.n nodes lanes).nodes.history i) → ⊥
+  unfolding world_shown nodes_shown
   cant_expand all less =
       let e : part 0 (λ (x : Node). x.expanded) (slice_get nodes i) ≡ node.expanded = was nodes i node after there 0 (λ (x : Node). x.expanded) in
       let h : length (part [] (λ (x : Node). x.history.settlements) (slice_get nodes i)) ≡ length node.history.settlements =

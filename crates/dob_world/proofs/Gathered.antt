@@ -1,5 +1,5 @@
 -- The values that the nodes of a world show.
-use Rattle.std.proofs.Common.{◌≡◌, ℕ, ◌+◌, ◌<◌, ◌⊎◌, inl, inr, cond, refl, sym, ap, ◌∙◌, subst, arith, List, [], ◌∷◌, ◌++◌, length, Some, slice_get, eqb}
+use Rattle.std.proofs.Common.{◌≡◌, ℕ, ◌+◌, ◌<◌, inl, inr, cond, refl, sym, ap, ◌∙◌, subst, arith, List, [], ◌∷◌, ◌++◌, length, Some, slice_get, eqb}
 use Rattle.std.proofs.lemmas.Bool.{cases_order}
 use Rattle.std.proofs.lemmas.List.{length-append, map-append, get_or_push, get_or_append_left}
 use Rattle.std.proofs.lemmas.Option.{slice_get-get_or}
@@ -21,16 +21,16 @@ use Rattle.dob_node.proofs.Rest.{below_owner}
 use Rattle.dob_node.proofs.Soles.{one_value}
 use Rattle.dob_world.specs.declared.lane.Lane.{Lane}
 use Rattle.dob_world.specs.Worlds.{Setting, Nodes, value_in, AreLawful}
-use Rattle.dob_world.specs.Shown.{part, nodes_shown, state_shown, IsNodeOf, AreInPlace}
-use Rattle.dob_world.specs.Results.{AreValuesBelow}
+use Rattle.dob_world.specs.Shown.{part, nodes_shown, world_shown, IsNodeOf, AreInPlace}
+use Rattle.dob_world.specs.Headline.{AreValuesBelow}
 use Rattle.dob_world.proofs.Made.{kept_of}
 use Rattle.dob_world.proofs.Taken.{lt_true}
 
 module _ (k : Setting) (nodes : List Node) (lanes : List Lane) (some : 0 < k.n) (places : AreInPlace k nodes lanes)
-    (lawful : AreLawful k (state_shown k.set k.n nodes lanes).nodes) (class : ℕ) (low : class < classes_of k.set) (node : Node)
+    (lawful : AreLawful k (world_shown k.set k.n nodes lanes).nodes) (class : ℕ) (low : class < classes_of k.set) (node : Node)
     (there : slice_get nodes (owner_of k.n class) ≡ Some node) where
   abbrev pub shown : Nodes
-  shown = (state_shown k.set k.n nodes lanes).nodes
+  shown = (world_shown k.set k.n nodes lanes).nodes
 
   is_node : IsNodeOf k (owner_of k.n class) node
   is_node = places.node (owner_of k.n class) node there
@@ -40,7 +40,7 @@ module _ (k : Setting) (nodes : List Node) (lanes : List Lane) (some : 0 < k.n) 
   owned = ((kept_of k (owner_of k.n class) node is_node).owned class).1 (refl, low)
 
   cell_shown : shown.cell class ≡ cell_at node.share class
-  unfolding state_shown nodes_shown
+  unfolding world_shown nodes_shown
   cell_shown = ap (λ b. cond b (part (fresh 0) (λ (x : Node). cell_at x.share class) (slice_get nodes (owner_of k.n class))) (fresh 0))
       (lt_true class (classes_of k.set) low)
       ∙ ap (part (fresh 0) (λ (x : Node). cell_at x.share class)) there

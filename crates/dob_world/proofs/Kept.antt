@@ -4,11 +4,9 @@ use Rattle.dob_unmove.specs.Edges.{predecessors}
 use Rattle.dob_share.specs.declared.news.Item.{Item}
 use Rattle.dob_update.specs.Items.{items_from}
 use Rattle.dob_update.specs.Batches.{BatchView}
-use Rattle.dob_world.specs.declared.event.Event.{Event}
-use Rattle.dob_world.specs.declared.event.Event.TheVariants.{Expand, Own, Post, Take}
-use Rattle.dob_world.specs.Worlds.{Setting, Nodes, World, items_in, items_of_batches, AreLawful, IsLinked}
-use Rattle.dob_world.specs.Events.{Happens}
-use Rattle.dob_world.specs.Runs.{IsAfter}
+use Rattle.dob_world.specs.declared.event.Event.TheVariants.{Expand, Own, Post, Take, Pass, Announce}
+use Rattle.dob_world.specs.Worlds.{Setting, World, State, items_in, items_of_batches, AreLawful, IsLinked}
+use Rattle.dob_world.specs.Events.{Expands, AppliesOwn, Posts, TakesBatch}
 use Rattle.dob_world.specs.Laws.{HappeningKeepsAll, EventsKeepAll, ListsAreBeginnings, OwnItemFits, TakenItemFits}
 use Rattle.dob_world.proofs.Places.{lawful_stay}
 use Rattle.dob_world.proofs.Applied.{next_fits, lawful_step, step_grows, next_after, all_applied}
@@ -41,44 +39,63 @@ next_waiting k world i j batch batches linked low_i low_j differs is =
     ∙ ap (λ bs. world.nodes.applied i j ++ (items_of_batches bs ++ (world.outbox i j ++ later))) is
     ∙ ap (λ xs. world.nodes.applied i j ++ xs) (append_assoc batch.items (items_of_batches batches) (world.outbox i j ++ later))
 
+-- ---- one event of nodes and links
+
+module _ (k : Setting) (old new : World) (lawful : AreLawful k old.nodes) (linked : IsLinked k old) where
+  pub expanded_keeps : (i : ℕ) → i < k.n → Expands k i old new → AreLawful k new.nodes × IsLinked k new
+  expanded_keeps i low step = (lawful_stay k old.nodes new.nodes step.nodes lawful, linked_expanded k i old new low linked step)
+
+  pub owned_keeps : (i : ℕ) → 0 < k.n → i < k.n → AppliesOwn k i old new → AreLawful k new.nodes × IsLinked k new
+  owned_keeps i some low step =
+      let next = next_own k old i (step.item ∷ new.own i) linked low step.first in
+      let later = items_from (predecessors k.set) k.n i (drop (old.expanded i) (old.nodes.history i)) in (
+        lawful_step k some i i low low step.item old.nodes lawful (new.own i ++ later) next new.nodes step.applied,
+        linked_own k i old new low linked step (step_grows k i i step.item old.nodes new.nodes step.applied),
+      )
+
+  pub posted_keeps : (i j : ℕ) → i < k.n → j < k.n → i ≢ j → Posts k i j old new → AreLawful k new.nodes × IsLinked k new
+  posted_keeps i j low_i low_j differs step = (
+    lawful_stay k old.nodes new.nodes step.nodes lawful,
+    linked_posted k i j old new low_i low_j differs linked step,
+  )
+
+  pub taken_keeps : (i j : ℕ) → 0 < k.n → i < k.n → j < k.n → i ≢ j → TakesBatch k i j old new → AreLawful k new.nodes × IsLinked k new
+  taken_keeps i j some low_i low_j differs step =
+      let next = next_waiting k old i j step.batch (new.waiting i j) linked low_i low_j differs step.first in
+      let later = items_from (predecessors k.set) k.n j (drop (old.expanded i) (old.nodes.history i)) in
+      let both = all_applied k some i j low_i low_j differs step.batch.items (items_of_batches (new.waiting i j) ++ (old.outbox i j ++ later))
+      old.nodes new.nodes lawful next step.applied in (
+        both.0,
+        linked_taken k i j old new differs linked step both.1,
+      )
+
+  world_keeps : new ≡ old → AreLawful k new.nodes × IsLinked k new
+  world_keeps same = (subst (λ (w : World). AreLawful k w.nodes) (sym same) lawful, subst (λ (w : World). IsLinked k w) (sym same) linked)
+
 -- ---- events
 
 pub happening_keeps_all : HappeningKeepsAll
-happening_keeps_all k old new (Expand i) some lawful linked can step = (
-  lawful_stay k old.nodes new.nodes step.nodes lawful,
-  linked_expanded k i old new can.0 linked step,
-)
-happening_keeps_all k old new (Own i) some lawful linked can step =
-    let next = next_own k old i (step.item ∷ new.own i) linked can.0 step.first in
-    let later = items_from (predecessors k.set) k.n i (drop (old.expanded i) (old.nodes.history i)) in (
-      lawful_step k some i i can.0 can.0 step.item old.nodes lawful (new.own i ++ later) next new.nodes step.applied,
-      linked_own k i old new can.0 linked step (step_grows k i i step.item old.nodes new.nodes step.applied),
-    )
-happening_keeps_all k old new (Post i j) some lawful linked can step = (
-  lawful_stay k old.nodes new.nodes step.nodes lawful,
-  linked_posted k i j old new can.0 can.1 can.2 linked step,
-)
+happening_keeps_all k old new (Expand i) some lawful linked can step = expanded_keeps k old.world new.world lawful linked i can.0 step.0
+happening_keeps_all k old new (Own i) some lawful linked can step = owned_keeps k old.world new.world lawful linked i some can.0 step.0
+happening_keeps_all k old new (Post i j) some lawful linked can step =
+    posted_keeps k old.world new.world lawful linked i j can.0 can.1 can.2 step.0
 happening_keeps_all k old new (Take i j) some lawful linked can step =
-    let next = next_waiting k old i j step.batch (new.waiting i j) linked can.0 can.1 can.2 step.first in
-    let later = items_from (predecessors k.set) k.n j (drop (old.expanded i) (old.nodes.history i)) in
-    let both = all_applied k some i j can.0 can.1 can.2 step.batch.items (items_of_batches (new.waiting i j) ++ (old.outbox i j ++ later))
-    old.nodes new.nodes lawful next step.applied in (
-      both.0,
-      linked_taken k i j old new can.2 linked step both.1,
-    )
+    taken_keeps k old.world new.world lawful linked i j some can.0 can.1 can.2 step.0
+happening_keeps_all k old new (Pass i) some lawful linked can step = world_keeps k old.world new.world lawful linked step.0
+happening_keeps_all k old new Announce some lawful linked can step = world_keeps k old.world new.world lawful linked step.0
 
 pub events_keep_all : EventsKeepAll
 events_keep_all k old new [] some lawful linked after = (
-  subst (λ (w : World). AreLawful k w.nodes) (sym after) lawful,
-  subst (λ (w : World). IsLinked k w) (sym after) linked,
+  subst (λ (w : State). AreLawful k w.world.nodes) (sym after) lawful,
+  subst (λ (w : State). IsLinked k w.world) (sym after) linked,
 )
 events_keep_all k old new (event ∷ events) some lawful linked after = elim after.1 [
   | inl done ↦
       let both = happening_keeps_all k old after.0 event some lawful linked done.0 done.1 in
       events_keep_all k after.0 new events some both.0 both.1 after.2
   | inr skipped ↦
-      events_keep_all k after.0 new events some (subst (λ (w : World). AreLawful k w.nodes) (sym skipped.1) lawful)
-      (subst (λ (w : World). IsLinked k w) (sym skipped.1) linked) after.2
+      events_keep_all k after.0 new events some (subst (λ (w : State). AreLawful k w.world.nodes) (sym skipped.1) lawful)
+      (subst (λ (w : State). IsLinked k w.world) (sym skipped.1) linked) after.2
 ]
 
 -- ---- lists

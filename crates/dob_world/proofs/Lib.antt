@@ -3,6 +3,10 @@ pub mod Applied
 pub mod Linked
 pub mod Kept
 pub mod Rest
+pub mod Told
+pub mod Over
+pub mod Still
+pub mod Counters
 pub mod Taken
 pub mod Firsts
 pub mod Slots
@@ -10,10 +14,12 @@ pub mod Expanded
 pub mod Moves
 pub mod Made
 pub mod Outcomes
+pub mod Stood
 pub mod Stands
 pub mod Stopped
 pub mod Openings
 pub mod Starts
+pub mod Promise
 pub mod Pushed
 pub mod Ran
 pub mod Lent

@@ -1,5 +1,5 @@
 -- Own items applied, batches taken and batches posted in a world that stands.
-use Rattle.std.proofs.Common.{◌≡◌, ◌≢◌, ℕ, ◌+◌, ◌*◌, ◌<◌, ◌≤◌, ◌⊎◌, inl, inr, cond, nat_lt, arith, refl, sym, ap, ◌∙◌, subst, List, [], ◌∷◌, ◌++◌, length, take, drop, Some, slice_get, set}
+use Rattle.std.proofs.Common.{◌≡◌, ◌≢◌, ℕ, ◌+◌, ◌*◌, ◌<◌, ◌⊎◌, inl, inr, cond, nat_lt, sym, ap, ◌∙◌, subst, List, [], ◌∷◌, ◌++◌, length, take, drop, Some, slice_get, set}
 use Rattle.std.specs.List.{All}
 use Rattle.std.proofs.lemmas.List.Elements.{All-head, All-tail, All-append, All-cons, All-nil}
 use Rattle.dob_moves.specs.declared.position_status.Status.{Status}
@@ -14,18 +14,18 @@ use Rattle.dob_share.specs.Owners.{owner_of}
 use Rattle.dob_share.specs.Cells.{fresh}
 use Rattle.dob_share.specs.Shares.{IsOwn, status_at, cell_at}
 use Rattle.dob_update.specs.Items.{items_from}
-use Rattle.dob_update.specs.Batches.{BatchView, OutboxView}
+use Rattle.dob_update.specs.Batches.{OutboxView}
 use Rattle.dob_link.specs.Links.{LinkView}
 use Rattle.dob_node.specs.Stores.{HistoryView}
 use Rattle.dob_node.specs.Outboxes.{outbox_in}
-use Rattle.dob_node.specs.Takes.{HasEntries, AreKept, AreTaken}
+use Rattle.dob_node.specs.Takes.{AreKept, AreTaken}
 use Rattle.dob_node.specs.declared.node.Node.{Node}
 use Rattle.dob_node.specs.Nodes.{IsSound, outbox_to}
 use Rattle.dob_world.specs.declared.lane.Lane.{Lane}
 use Rattle.dob_world.specs.Worlds.{Setting, AreLawful, IsLinked, items_of_batches}
 use Rattle.dob_world.specs.Events.{AppliesOwn, TakesBatch, Posts}
 use Rattle.dob_world.specs.Lanes.{IsBatchFor, HasListed, HasReceived, HasPosted}
-use Rattle.dob_world.specs.Shown.{part, lane_at, nodes_shown, state_shown, IsNodeOf, IsLaneOf}
+use Rattle.dob_world.specs.Shown.{part, lane_at, nodes_shown, world_shown, IsNodeOf, IsLaneOf}
 use Rattle.dob_world.proofs.Slots.{here, was, elsewhere, stays, lane_here, lane_was, lane_else, lane_stays}
 use Rattle.dob_world.proofs.Kept.{next_own, next_waiting}
 use Rattle.dob_world.proofs.Moves.{applies_one, applies_many}
@@ -99,20 +99,20 @@ module _ (k : Setting) (nodes : List Node) (lanes : List Lane) (i : ℕ) (low : 
     batches = subst (λ (l : LinkView). All (IsBatchFor k.set k.n i) l.waiting) (sym step.same.0) of.batches;
   }
 
-  own_first : (state_shown k.set k.n nodes lanes).own i ≡ step.applied.item ∷ after.own.items
-  unfolding state_shown
+  own_first : (world_shown k.set k.n nodes lanes).own i ≡ step.applied.item ∷ after.own.items
+  unfolding world_shown
   own_first = was nodes i node after there_n [] (λ (x : Node). x.own.items) ∙ step.applied.first
 
-  pub owns : 0 < k.n → AreLawful k (state_shown k.set k.n nodes lanes).nodes → IsLinked k (state_shown k.set k.n nodes lanes) →
-      AppliesOwn k i (state_shown k.set k.n nodes lanes) (state_shown k.set k.n (set nodes i after) (set lanes (i * k.n + i) next))
-  unfolding state_shown
+  pub owns : 0 < k.n → AreLawful k (world_shown k.set k.n nodes lanes).nodes → IsLinked k (world_shown k.set k.n nodes lanes) →
+      AppliesOwn k i (world_shown k.set k.n nodes lanes) (world_shown k.set k.n (set nodes i after) (set lanes (i * k.n + i) next))
+  unfolding world_shown
   owns some lawful linked = record {
     item = step.applied.item;
     first = own_first ∙ ap (λ xs. step.applied.item ∷ xs) (sym (here nodes i node after there_n [] (λ (x : Node). x.own.items)));
     applied = applies_one k nodes lanes i i low low node after lane next there_n there_l whole some step.applied.item
-        (after.own.items ++ items_from (predecessors k.set) k.n i (drop ((state_shown k.set k.n nodes lanes).expanded i) ((state_shown k.set k.n nodes lanes).nodes.history i)))
+        (after.own.items ++ items_from (predecessors k.set) k.n i (drop ((world_shown k.set k.n nodes lanes).expanded i) ((world_shown k.set k.n nodes lanes).nodes.history i)))
         (kept_of k i node is) step.applied.taken lawful
-        (next_own k (state_shown k.set k.n nodes lanes) i (step.applied.item ∷ after.own.items) linked low own_first) step.listed;
+        (next_own k (world_shown k.set k.n nodes lanes) i (step.applied.item ∷ after.own.items) linked low own_first) step.listed;
     others = elsewhere nodes i node after there_n [] (λ (x : Node). x.own.items);
     same = (
       stays nodes i node after there_n 0 (λ (x : Node). x.expanded) step.applied.same.3,
@@ -146,21 +146,21 @@ module _ (k : Setting) (nodes : List Node) (lanes : List Lane) (i j : ℕ) (low_
     batches = All-tail (IsBatchFor k.set k.n j) step.batch next.link.waiting batches_are;
   }
 
-  pub waits_first : (state_shown k.set k.n nodes lanes).waiting i j ≡ step.batch ∷ next.link.waiting
-  unfolding state_shown
+  pub waits_first : (world_shown k.set k.n nodes lanes).waiting i j ≡ step.batch ∷ next.link.waiting
+  unfolding world_shown
   waits_first = lane_was k.n lanes i j lane next low_i low_j whole there_l [] (λ (x : Lane). x.link.waiting) ∙ waits_are
 
-  pub receives : 0 < k.n → AreLawful k (state_shown k.set k.n nodes lanes).nodes → IsLinked k (state_shown k.set k.n nodes lanes) →
-      TakesBatch k i j (state_shown k.set k.n nodes lanes) (state_shown k.set k.n (set nodes j after) (set lanes (i * k.n + j) next))
-  unfolding state_shown
+  pub receives : 0 < k.n → AreLawful k (world_shown k.set k.n nodes lanes).nodes → IsLinked k (world_shown k.set k.n nodes lanes) →
+      TakesBatch k i j (world_shown k.set k.n nodes lanes) (world_shown k.set k.n (set nodes j after) (set lanes (i * k.n + j) next))
+  unfolding world_shown
   receives some lawful linked = record {
     batch = step.batch;
     first = waits_first ∙ ap (λ bs. step.batch ∷ bs) (sym (lane_here k.n lanes i j lane next low_i low_j whole there_l [] (λ (x : Lane). x.link.waiting)));
     applied = applies_many k nodes lanes i j low_i low_j node after lane next there_n there_l whole some step.batch.items
-        (items_of_batches next.link.waiting ++ ((state_shown k.set k.n nodes lanes).outbox i j
-        ++ items_from (predecessors k.set) k.n j (drop ((state_shown k.set k.n nodes lanes).expanded i) ((state_shown k.set k.n nodes lanes).nodes.history i))))
+        (items_of_batches next.link.waiting ++ ((world_shown k.set k.n nodes lanes).outbox i j
+        ++ items_from (predecessors k.set) k.n j (drop ((world_shown k.set k.n nodes lanes).expanded i) ((world_shown k.set k.n nodes lanes).nodes.history i))))
         differs (kept_of k j node is) (All-head (IsBatchFor k.set k.n j) step.batch next.link.waiting batches_are).entries step.taken.taken lawful
-        (next_waiting k (state_shown k.set k.n nodes lanes) i j step.batch next.link.waiting linked low_i low_j differs waits_first) step.listed;
+        (next_waiting k (world_shown k.set k.n nodes lanes) i j step.batch next.link.waiting linked low_i low_j differs waits_first) step.listed;
     others = lane_else k.n lanes i j lane next low_i low_j whole there_l [] (λ (x : Lane). x.link.waiting);
     same = (
       stays nodes j node after there_n 0 (λ (x : Node). x.expanded) step.taken.same.3,
@@ -198,8 +198,8 @@ module _ (k : Setting) (nodes : List Node) (lanes : List Lane) (i j : ℕ) (low_
         (All-cons (IsBatchFor k.set k.n j) step.batch [] batch_for (All-nil (IsBatchFor k.set k.n j))));
   }
 
-  pub posts : Posts k i j (state_shown k.set k.n nodes lanes) (state_shown k.set k.n (set nodes i after) (set lanes (i * k.n + j) next))
-  unfolding state_shown nodes_shown
+  pub posts : Posts k i j (world_shown k.set k.n nodes lanes) (world_shown k.set k.n (set nodes i after) (set lanes (i * k.n + j) next))
+  unfolding world_shown nodes_shown
   posts = record {
     batch = step.batch;
     items = step.cut.cut.items ∙ ap (λ xs. take k.batch xs) (sym (was nodes i node after there_n [] (λ (x : Node). (outbox_to x j).items)));

@@ -1,32 +1,24 @@
 -- Items that a node of the world applies, its own or those of a batch, and batches that it posts.
-use Rattle.std.proofs.Common.{◌≡◌, ◌≢◌, ℕ, ◌+◌, ◌*◌, ◌<◌, ◌≤◌, ◌&&◌, ◌⊎◌, inl, inr, eqb, nat_lt, Bool, true, false, cond, arith, refl, sym, ap, ◌∙◌, subst, List, [], ◌∷◌, ◌++◌, length, Some, slice_get, set}
+use Rattle.std.proofs.Common.{◌≡◌, ◌≢◌, ℕ, ◌+◌, ◌*◌, ◌<◌, ◌&&◌, ◌⊎◌, inl, inr, eqb, nat_lt, Bool, true, false, cond, refl, sym, ap, ◌∙◌, subst, List, [], ◌∷◌, ◌++◌, length, Some, slice_get, set}
 use Rattle.std.specs.List.{All}
-use Rattle.std.proofs.lemmas.Bool.{cases_eq, eqb-true}
+use Rattle.std.proofs.lemmas.Bool.{eqb-true}
 use Rattle.std.proofs.lemmas.List.{length-set}
-use Rattle.std.proofs.lemmas.List.Elements.{All-tail, All-append, All-cons, All-nil}
-use Rattle.dob_moves.specs.Statuses.{HasStatus}
 use Rattle.dob_rank.specs.Marks.{classes_of}
-use Rattle.dob_rank.specs.ClassRows.{class_setup}
-use Rattle.dob_unmove.specs.Edges.{predecessors}
 use Rattle.dob_share.specs.declared.news.Item.{Item}
 use Rattle.dob_share.specs.declared.share.Share.{Share}
 use Rattle.dob_share.specs.Owners.{owner_of}
 use Rattle.dob_share.specs.Cells.{Cell, fresh}
-use Rattle.dob_share.specs.Shares.{IsOwn, status_at, cell_at, SameClasses}
-use Rattle.dob_update.specs.Batches.{BatchView, OutboxView, IsCut}
-use Rattle.dob_link.specs.Links.{LinkView}
+use Rattle.dob_share.specs.Shares.{cell_at}
 use Rattle.dob_node.specs.Stores.{HistoryView}
 use Rattle.dob_node.specs.Takes.{HasEntries, AreKept, IsTaken, AreTaken}
 use Rattle.dob_node.specs.declared.node.Node.{Node}
-use Rattle.dob_node.specs.Nodes.{IsSound, outbox_to}
 use Rattle.dob_world.specs.declared.lane.Lane.{Lane}
 use Rattle.dob_world.specs.Worlds.{Setting, Nodes, items_in, AreLawful}
-use Rattle.dob_world.specs.Events.{NodesStay, Applies, AppliesAll, AppliesOwn, TakesBatch, Posts}
-use Rattle.dob_world.specs.Lanes.{IsBatchFor, HasListed, HasReceived, HasPosted}
-use Rattle.dob_world.specs.Shown.{part, lane_at, nodes_shown, state_shown, IsNodeOf, IsLaneOf, AreInPlace}
+use Rattle.dob_world.specs.Events.{Applies, AppliesAll}
+use Rattle.dob_world.specs.Shown.{part, lane_at, nodes_shown, IsNodeOf, IsLaneOf, AreInPlace}
 use Rattle.dob_world.proofs.Places.{at_node, at_link, nodes_same}
-use Rattle.dob_world.proofs.Slots.{here, was, elsewhere, stays, set_cases, lane_here, lane_was, lane_else, lane_stays, lane_cases}
-use Rattle.dob_world.proofs.Taken.{with_share, own_test, history_here, history_else, applied_here, applied_else, alike, unlike, both_true, lt_true, lt_from, item_applies, items_apply}
+use Rattle.dob_world.proofs.Slots.{here, was, elsewhere, set_cases, lane_here, lane_was, lane_else, lane_cases}
+use Rattle.dob_world.proofs.Taken.{with_share, own_test, history_here, history_else, applied_here, applied_else, alike, both_true, item_applies, items_apply}
 
 by_test : (b : Bool) (x y z : Cell) → (b ≡ true → x ≡ z) → (b ≡ false → y ≡ z) → cond b x y ≡ z
 by_test true x y z yes_is no_is = yes_is refl

@@ -1,5 +1,5 @@
 -- The histories of nodes at their opening.
-use Rattle.std.proofs.Common.{◌≡◌, ◌≢◌, ℕ, zero, suc, ◌+◌, ◌*◌, ◌/◌, ◌%◌, ◌<◌, ◌≤◌, inl, inr, eqb, Bool, true, false, cond, refl, sym, ap, ◌∙◌, subst, arith, List, [], ◌++◌, length, Option, None, Some, lit≤}
+use Rattle.std.proofs.Common.{◌≡◌, ◌≢◌, ℕ, zero, suc, ◌+◌, ◌*◌, ◌%◌, ◌<◌, ◌≤◌, inl, inr, eqb, Bool, true, false, cond, refl, sym, ap, ◌∙◌, subst, arith, List, [], ◌++◌, length, Option, None, Some, lit≤}
 use Rattle.std.specs.List.{All}
 use Rattle.std.proofs.Math.Nat.{mul-add-mod_self_right, mod-eq_of_lt}
 use Rattle.std.proofs.lemmas.Nat.{same_from_place}
@@ -12,7 +12,6 @@ use Rattle.dob_value.specs.declared.value.Value.{Value}
 use Rattle.dob_value.specs.declared.value.Value.TheVariants.{Draw}
 use Rattle.dob_value.specs.Follows.{IsEntry}
 use Rattle.dob_share.specs.declared.news.Settlement.{Settlement}
-use Rattle.dob_share.specs.Owners.{owner_of}
 use Rattle.dob_share.specs.Values.{Better}
 use Rattle.dob_node.specs.Histories.{value_of, IsChained}
 use Rattle.dob_node.specs.Quiet.{FollowsAtStatus}

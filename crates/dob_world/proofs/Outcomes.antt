@@ -1,37 +1,23 @@
 -- What comes of an event in a world that stands: it was possible, it happened, and the world stands.
-use Rattle.std.proofs.Common.{◌≡◌, ◌≢◌, ℕ, ◌+◌, ◌*◌, ◌<◌, ◌≤◌, ◌⊎◌, inl, inr, arith, refl, sym, ap, ◌∙◌, subst, List, [], ◌∷◌, ◌++◌, length, Some, slice_get, set}
-use Rattle.std.proofs.lemmas.List.{length-append}
-use Rattle.dob_link.specs.Links.{LinkView}
+use Rattle.std.proofs.Common.{◌≡◌, ◌≢◌, ℕ, ◌+◌, ◌*◌, ◌<◌, ◌≤◌, ◌⊎◌, inl, inr, arith, refl, sym, ap, ◌∙◌, subst, List, [], ◌∷◌, length, Some, slice_get, set}
 use Rattle.dob_update.specs.Batches.{BatchView}
 use Rattle.dob_share.specs.declared.news.Item.{Item}
 use Rattle.dob_node.specs.declared.node.Node.{Node}
 use Rattle.dob_node.specs.Nodes.{IsSound, outbox_to}
 use Rattle.dob_world.specs.declared.lane.Lane.{Lane}
-use Rattle.dob_world.specs.declared.event.Event.{Event}
-use Rattle.dob_world.specs.declared.event.Event.TheVariants.{Own, Post, Take}
 use Rattle.dob_world.specs.Worlds.{Setting, AreLawful, IsLinked}
-use Rattle.dob_world.specs.Events.{CanHappen, Happens}
+use Rattle.dob_world.specs.Events.{AppliesOwn, Posts, TakesBatch}
 use Rattle.dob_world.specs.Lanes.{HasListed, HasReceived, HasPosted}
-use Rattle.dob_world.specs.Shown.{part, lane_at, state_shown, IsNodeOf, IsLaneOf, AreInPlace}
+use Rattle.dob_world.specs.Shown.{part, lane_at, world_shown, AreInPlace}
 use Rattle.dob_world.proofs.Slots.{was, lane_was}
-use Rattle.dob_world.proofs.Kept.{happening_keeps_all}
 use Rattle.dob_world.proofs.Moves.{in_place_both}
 use Rattle.dob_world.proofs.Made.{owns, node_owned, lane_owned, receives, node_received, lane_received, waits_first, posts, node_posted, lane_posted}
 
-pub record Outcome (k : Setting) (event : Event) (nodes after : List Node) (lanes next : List Lane) : Type 0 where
-  pub can : CanHappen k (state_shown k.set k.n nodes lanes) event
-  pub happens : Happens k (state_shown k.set k.n nodes lanes) event (state_shown k.set k.n after next)
+-- what an event could do, it did, and nodes and lanes stand in their places
+pub record Outcome (k : Setting) (Can Step : Type 0) (after : List Node) (next : List Lane) : Type 0 where
+  pub can : Can
+  pub happens : Step
   pub places : AreInPlace k after next
-  pub lawful : AreLawful k (state_shown k.set k.n after next).nodes
-  pub linked : IsLinked k (state_shown k.set k.n after next)
-
-outcome : (k : Setting) (event : Event) (nodes after : List Node) (lanes next : List Lane) → 0 < k.n →
-    AreLawful k (state_shown k.set k.n nodes lanes).nodes → IsLinked k (state_shown k.set k.n nodes lanes) →
-    CanHappen k (state_shown k.set k.n nodes lanes) event → Happens k (state_shown k.set k.n nodes lanes) event (state_shown k.set k.n after next) →
-    AreInPlace k after next → Outcome k event nodes after lanes next
-outcome k event nodes after lanes next some lawful linked can happens places =
-    let both = happening_keeps_all k (state_shown k.set k.n nodes lanes) (state_shown k.set k.n after next) event some lawful linked can happens in
-    record { can = can; happens = happens; places = places; lawful = both.0; linked = both.1 }
 
 some_of : {X : Type 0} (xs rest : List X) (x : X) → xs ≡ x ∷ rest → 0 < length xs
 some_of xs rest x is = let e : length xs ≡ length (x ∷ rest) = ap length is in omega arith
@@ -44,84 +30,98 @@ pub none_of : {X : Type 0} (xs : List X) → xs ≡ [] → 0 < length xs → ⊥
 none_of xs is some = let e : length xs ≡ 0 = ap length is in omega arith
 
 module _ (k : Setting) (nodes : List Node) (lanes : List Lane) (some : 0 < k.n) (places : AreInPlace k nodes lanes)
-    (lawful : AreLawful k (state_shown k.set k.n nodes lanes).nodes) (linked : IsLinked k (state_shown k.set k.n nodes lanes))
+    (lawful : AreLawful k (world_shown k.set k.n nodes lanes).nodes) (linked : IsLinked k (world_shown k.set k.n nodes lanes))
     (node after : Node) (lane next : Lane) (sound : IsSound after) where
   pub owned : (i : ℕ) → i < k.n → slice_get nodes i ≡ Some node → lane_at k.n lanes i i ≡ Some lane → HasListed node lane after next →
-      Outcome k (Own i) nodes (set nodes i after) lanes (set lanes (i * k.n + i) next)
+      Outcome k ((i < k.n) × (0 < length ((world_shown k.set k.n nodes lanes).own i)))
+      (AppliesOwn k i (world_shown k.set k.n nodes lanes) (world_shown k.set k.n (set nodes i after) (set lanes (i * k.n + i) next)))
+      (set nodes i after) (set lanes (i * k.n + i) next)
   owned i low there_n there_l step =
       let is = places.node i node there_n in
       let happens = owns k nodes lanes i low node after lane next there_n there_l places.lanes_whole is step some lawful linked in
-      outcome k (Own i) nodes (set nodes i after) lanes (set lanes (i * k.n + i) next) some lawful linked (
-        low,
-        some_of ((state_shown k.set k.n nodes lanes).own i) ((state_shown k.set k.n (set nodes i after) (set lanes (i * k.n + i) next)).own i)
-            happens.item happens.first,
-      ) happens
-      (in_place_both k nodes lanes i node after i i lane next low low there_n there_l places
-      (node_owned k nodes lanes i low node after lane next there_n there_l places.lanes_whole is step sound)
-      (lane_owned k nodes lanes i low node after lane next there_n there_l places.lanes_whole is step (places.lane i i lane there_l)))
+      record {
+        can = (
+          low,
+          some_of ((world_shown k.set k.n nodes lanes).own i) ((world_shown k.set k.n (set nodes i after) (set lanes (i * k.n + i) next)).own i)
+              happens.item happens.first,
+        );
+        happens = happens;
+        places = in_place_both k nodes lanes i node after i i lane next low low there_n there_l places
+            (node_owned k nodes lanes i low node after lane next there_n there_l places.lanes_whole is step sound)
+            (lane_owned k nodes lanes i low node after lane next there_n there_l places.lanes_whole is step (places.lane i i lane there_l));
+      }
 
   pub received : (i j : ℕ) → i < k.n → j < k.n → i ≢ j → slice_get nodes j ≡ Some node → lane_at k.n lanes i j ≡ Some lane → HasReceived node lane after next →
-      Outcome k (Take i j) nodes (set nodes j after) lanes (set lanes (i * k.n + j) next)
+      Outcome k ((i < k.n) × (j < k.n) × (i ≢ j) × (0 < length ((world_shown k.set k.n nodes lanes).waiting i j)))
+      (TakesBatch k i j (world_shown k.set k.n nodes lanes) (world_shown k.set k.n (set nodes j after) (set lanes (i * k.n + j) next)))
+      (set nodes j after) (set lanes (i * k.n + j) next)
   received i j low_i low_j differs there_n there_l step =
       let is = places.node j node there_n in
       let is_lane = places.lane i j lane there_l in
-      let happens = receives k nodes lanes i j low_i low_j differs node after lane next there_n there_l places.lanes_whole is is_lane step some lawful linked in
-      outcome k (Take i j) nodes (set nodes j after) lanes (set lanes (i * k.n + j) next) some lawful linked (
-        low_i,
-        low_j,
-        differs,
-        some_of ((state_shown k.set k.n nodes lanes).waiting i j) next.link.waiting step.batch
-            (waits_first k nodes lanes i j low_i low_j differs node after lane next there_n there_l places.lanes_whole is is_lane step),
-      ) happens
-      (in_place_both k nodes lanes j node after i j lane next low_i low_j there_n there_l places
-      (node_received k nodes lanes i j low_i low_j differs node after lane next there_n there_l places.lanes_whole is is_lane step sound)
-      (lane_received k nodes lanes i j low_i low_j differs node after lane next there_n there_l places.lanes_whole is is_lane step))
+      record {
+        can = (
+          low_i,
+          low_j,
+          differs,
+          some_of ((world_shown k.set k.n nodes lanes).waiting i j) next.link.waiting step.batch
+              (waits_first k nodes lanes i j low_i low_j differs node after lane next there_n there_l places.lanes_whole is is_lane step),
+        );
+        happens = receives k nodes lanes i j low_i low_j differs node after lane next there_n there_l places.lanes_whole is is_lane step some lawful linked;
+        places = in_place_both k nodes lanes j node after i j lane next low_i low_j there_n there_l places
+            (node_received k nodes lanes i j low_i low_j differs node after lane next there_n there_l places.lanes_whole is is_lane step sound)
+            (lane_received k nodes lanes i j low_i low_j differs node after lane next there_n there_l places.lanes_whole is is_lane step);
+      }
 
-  outbox_was : (i j : ℕ) → slice_get nodes i ≡ Some node → (state_shown k.set k.n nodes lanes).outbox i j ≡ (outbox_to node j).items
-  unfolding state_shown
+  outbox_was : (i j : ℕ) → slice_get nodes i ≡ Some node → (world_shown k.set k.n nodes lanes).outbox i j ≡ (outbox_to node j).items
+  unfolding world_shown
   outbox_was i j there = was nodes i node after there [] (λ (x : Node). (outbox_to x j).items)
 
-  waiting_was : (i j : ℕ) → i < k.n → j < k.n → lane_at k.n lanes i j ≡ Some lane → (state_shown k.set k.n nodes lanes).waiting i j ≡ lane.link.waiting
-  unfolding state_shown
+  waiting_was : (i j : ℕ) → i < k.n → j < k.n → lane_at k.n lanes i j ≡ Some lane → (world_shown k.set k.n nodes lanes).waiting i j ≡ lane.link.waiting
+  unfolding world_shown
   waiting_was i j low_i low_j there = lane_was k.n lanes i j lane next low_i low_j places.lanes_whole there [] (λ (x : Lane). x.link.waiting)
 
   pub posted : (i j : ℕ) → i < k.n → j < k.n → i ≢ j → slice_get nodes i ≡ Some node → lane_at k.n lanes i j ≡ Some lane →
       HasPosted j k.batch node lane after next → ((outbox_to node j).items ≡ [] → ⊥) → length lane.link.waiting < lane.link.capacity →
-      Outcome k (Post i j) nodes (set nodes i after) lanes (set lanes (i * k.n + j) next)
+      Outcome k ((i < k.n) × (j < k.n) × (i ≢ j) × (0 < length ((world_shown k.set k.n nodes lanes).outbox i j))
+      × (length ((world_shown k.set k.n nodes lanes).waiting i j) < k.capacity))
+      (Posts k i j (world_shown k.set k.n nodes lanes) (world_shown k.set k.n (set nodes i after) (set lanes (i * k.n + j) next)))
+      (set nodes i after) (set lanes (i * k.n + j) next)
   posted i j low_i low_j differs there_n there_l step full room =
       let is = places.node i node there_n in
       let is_lane = places.lane i j lane there_l in
-      outcome k (Post i j) nodes (set nodes i after) lanes (set lanes (i * k.n + j) next) some lawful linked (
-        low_i,
-        low_j,
-        differs,
-        subst (λ (xs : List Item). 0 < length xs) (sym (outbox_was i j there_n)) (not_none (outbox_to node j).items full),
-        subst (λ (xs : List BatchView). length xs < k.capacity) (sym (waiting_was i j low_i low_j there_l))
-            (subst (λ (m : ℕ). length lane.link.waiting < m) is_lane.capacity room),
-      )
-      (posts k nodes lanes i j low_i low_j node after lane next there_n there_l places.lanes_whole is is_lane step)
-      (in_place_both k nodes lanes i node after i j lane next low_i low_j there_n there_l places
-      (node_posted k nodes lanes i j low_i low_j node after lane next there_n there_l places.lanes_whole is is_lane step sound)
-      (lane_posted k nodes lanes i j low_i low_j node after lane next there_n there_l places.lanes_whole is is_lane step))
+      record {
+        can = (
+          low_i,
+          low_j,
+          differs,
+          subst (λ (xs : List Item). 0 < length xs) (sym (outbox_was i j there_n)) (not_none (outbox_to node j).items full),
+          subst (λ (xs : List BatchView). length xs < k.capacity) (sym (waiting_was i j low_i low_j there_l))
+              (subst (λ (m : ℕ). length lane.link.waiting < m) is_lane.capacity room),
+        );
+        happens = posts k nodes lanes i j low_i low_j node after lane next there_n there_l places.lanes_whole is is_lane step;
+        places = in_place_both k nodes lanes i node after i j lane next low_i low_j there_n there_l places
+            (node_posted k nodes lanes i j low_i low_j node after lane next there_n there_l places.lanes_whole is is_lane step sound)
+            (lane_posted k nodes lanes i j low_i low_j node after lane next there_n there_l places.lanes_whole is is_lane step);
+      }
 
 -- ---- what can't happen
 
 module _ (k : Setting) (nodes : List Node) (lanes : List Lane) (node : Node) (lane : Lane) (whole : length lanes ≡ k.n * k.n) where
-  pub cant_own : (i : ℕ) → slice_get nodes i ≡ Some node → node.own.items ≡ [] → 0 < length ((state_shown k.set k.n nodes lanes).own i) → ⊥
-  unfolding state_shown
+  pub cant_own : (i : ℕ) → slice_get nodes i ≡ Some node → node.own.items ≡ [] → 0 < length ((world_shown k.set k.n nodes lanes).own i) → ⊥
+  unfolding world_shown
   cant_own i there none some = none_of (part [] (λ (x : Node). x.own.items) (slice_get nodes i))
       (was nodes i node node there [] (λ (x : Node). x.own.items) ∙ none) some
 
   pub cant_take : (i j : ℕ) → i < k.n → j < k.n → lane_at k.n lanes i j ≡ Some lane → lane.link.waiting ≡ [] →
-      0 < length ((state_shown k.set k.n nodes lanes).waiting i j) → ⊥
-  unfolding state_shown
+      0 < length ((world_shown k.set k.n nodes lanes).waiting i j) → ⊥
+  unfolding world_shown
   cant_take i j low_i low_j there none some = none_of (part [] (λ (x : Lane). x.link.waiting) (lane_at k.n lanes i j))
       (lane_was k.n lanes i j lane lane low_i low_j whole there [] (λ (x : Lane). x.link.waiting) ∙ none) some
 
   pub cant_post : (i j : ℕ) → i < k.n → j < k.n → slice_get nodes i ≡ Some node → lane_at k.n lanes i j ≡ Some lane → lane.link.capacity ≡ k.capacity →
       ((outbox_to node j).items ≡ []) ⊎ (lane.link.capacity ≤ length lane.link.waiting) →
-      0 < length ((state_shown k.set k.n nodes lanes).outbox i j) → length ((state_shown k.set k.n nodes lanes).waiting i j) < k.capacity → ⊥
-  unfolding state_shown
+      0 < length ((world_shown k.set k.n nodes lanes).outbox i j) → length ((world_shown k.set k.n nodes lanes).waiting i j) < k.capacity → ⊥
+  unfolding world_shown
   cant_post i j low_i low_j there_n there_l cap (inl none) some room = none_of (part [] (λ (x : Node). (outbox_to x j).items) (slice_get nodes i))
       (was nodes i node node there_n [] (λ (x : Node). (outbox_to x j).items) ∙ none) some
   cant_post i j low_i low_j there_n there_l cap (inr full) some room =

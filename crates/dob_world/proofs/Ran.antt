@@ -1,16 +1,19 @@
 -- One event more of a run.
-use Rattle.std.proofs.Common.{◌≡◌, ◌≢◌, ℕ, ◌+◌, ◌<◌, ◌≤◌, ◌⊎◌, inl, inr, refl, sym, ap, ◌∙◌, subst, arith, add-one, List, [], ◌∷◌, ◌++◌, length, take, get_or, None}
+use Rattle.std.proofs.Common.{◌≡◌, ℕ, ◌+◌, ◌<◌, ◌≤◌, inl, inr, refl, sym, ap, ◌∙◌, subst, arith, add-one, List, [], ◌∷◌, ◌++◌, length, take, get_or, None}
 use Rattle.std.proofs.Math.Seq.{take-suc}
 use Rattle.dob_world.specs.declared.event.Event.{Event}
 use Rattle.dob_world.specs.declared.step.Step.{Step}
 use Rattle.dob_world.specs.declared.step.Step.TheVariants.{Done, Skipped}
 use Rattle.dob_world.specs.declared.world.World.{World}
-use Rattle.dob_world.specs.Worlds.{Setting, World as State, AreLawful, IsLinked}
+use Rattle.dob_world.specs.Worlds.{Setting, World as Shown, State}
 use Rattle.dob_world.specs.Events.{CanHappen}
 use Rattle.dob_world.specs.Runs.{IsDoneOrSkipped, IsAfter}
-use Rattle.dob_world.specs.Shown.{setting_of, state_of, state_shown, IsStanding, IsUnchanged, IsMade, IsStart}
+use Rattle.dob_world.specs.Shown.{setting_of, state_of, world_shown, ring_of, IsStanding, IsUnchanged, IsMade, IsStart}
 use Rattle.dob_world.specs.Results.{HasRun}
-use Rattle.dob_world.proofs.Kept.{lists_are_beginnings}
+use Rattle.dob_safra.specs.Rings.{Ring}
+use Rattle.dob_world.specs.declared.detector.Detector.{Detector}
+use Rattle.dob_world.specs.Headline.{Headline}
+use Rattle.dob_world.proofs.Promise.{standing_headline}
 
 -- events, and then others
 pub after_both : (k : Setting) (old between new : State) (front behind : List Event) → IsAfter k old front between → IsAfter k between behind new →
@@ -25,10 +28,15 @@ after_more k old between new events event after step = after_both k old between 
 
 state_same : (old new : World) → IsUnchanged old new → state_of new ≡ state_of old
 state_same old new same =
-    ap (λ set. state_shown set new.n new.nodes.items new.lanes.items) (ap (λ (k : Setting). k.set) same.setting)
-    ∙ ap (λ n. state_shown old.classes.set n new.nodes.items new.lanes.items) (ap (λ (k : Setting). k.n) same.setting)
-    ∙ ap (λ nodes. state_shown old.classes.set old.n nodes new.lanes.items) same.nodes
-    ∙ ap (λ lanes. state_shown old.classes.set old.n old.nodes.items lanes) same.lanes
+    ap (λ (d : Detector). with_ring (world_shown new.classes.set new.n new.nodes.items new.lanes.items) (ring_of d)) same.detector
+    ∙ ap (λ (w : Shown). with_ring w (ring_of old.detector)) (
+    ap (λ set. world_shown set new.n new.nodes.items new.lanes.items) (ap (λ (k : Setting). k.set) same.setting)
+    ∙ ap (λ n. world_shown old.classes.set n new.nodes.items new.lanes.items) (ap (λ (k : Setting). k.n) same.setting)
+    ∙ ap (λ nodes. world_shown old.classes.set old.n nodes new.lanes.items) same.nodes
+    ∙ ap (λ lanes. world_shown old.classes.set old.n old.nodes.items lanes) same.lanes)
+  where
+    with_ring : Shown → Ring → State
+    with_ring w r = record { world = w; ring = r }
 
 -- What a step makes of a world.
 pub record Stepped (event : Event) (old new : World) : Type 0 where
@@ -67,16 +75,8 @@ ran k start events world setting is_start after standing going = record {
   after = after;
   standing = standing;
   going = going;
-  sent = λ i j low_i low_j differs. (lists_are_beginnings k (state_of world) i j linked low_i low_j differs).0;
-  applied = λ i j low_i low_j differs. (lists_are_beginnings k (state_of world) i j linked low_i low_j differs).1;
-  own = λ i low. lawful.begun i i low low;
+  headline = subst (λ (s : Setting). Headline s (state_of world)) setting (standing_headline world standing);
 }
-  where
-    linked : IsLinked k (state_of world)
-    linked = subst (λ (s : Setting). IsLinked s (state_of world)) setting standing.linked
-
-    lawful : AreLawful k (state_of world).nodes
-    lawful = subst (λ (s : Setting). AreLawful s (state_of world).nodes) setting standing.lawful
 
 -- one event more
 pub ran_more : (k : Setting) (events : List Event) (place : ℕ) (default : Event) (old new : World) → place < length events →

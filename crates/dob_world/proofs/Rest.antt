@@ -1,9 +1,8 @@
 -- A lawful and linked world at rest has the value table.
-use Rattle.std.proofs.Common.{◌≡◌, ◌≢◌, ℕ, ◌<◌, inl, inr, sym, ap, ◌∙◌, subst, arith, List, [], ◌++◌, length, take}
+use Rattle.std.proofs.Common.{◌≡◌, ℕ, ◌<◌, inl, inr, sym, ap, ◌∙◌, subst, arith, ◌++◌, length}
 use Rattle.std.proofs.lemmas.Bool.{cases_eq}
 use Rattle.std.proofs.lemmas.List.{append-nil, take_all}
 use Rattle.dob_unmove.specs.Edges.{predecessors}
-use Rattle.dob_share.specs.declared.news.Item.{Item}
 use Rattle.dob_update.specs.Items.{items_from}
 use Rattle.dob_node.proofs.Ends.{lawful_is_right}
 use Rattle.dob_world.specs.Worlds.{Setting, World, value_in, items_in, told_in, items_of_batches, IsLinked, IsAtRest}

@@ -1,9 +1,8 @@
 -- A world of opened nodes with empty lanes is lawful and linked.
-use Rattle.std.proofs.Common.{◌≡◌, ◌≢◌, ℕ, zero, suc, ◌+◌, ◌*◌, ◌/◌, ◌%◌, ◌<◌, ◌≤◌, ◌⊎◌, inl, inr, nat_lt, Bool, true, false, cond, refl, sym, ap, ◌∙◌, subst, arith, List, [], ◌∷◌, ◌++◌, length, take, Option, None, Some, slice_get}
+use Rattle.std.proofs.Common.{◌≡◌, ℕ, zero, suc, ◌+◌, ◌*◌, ◌/◌, ◌%◌, ◌<◌, inr, nat_lt, Bool, true, false, cond, refl, sym, ap, ◌∙◌, subst, arith, List, [], ◌∷◌, ◌++◌, length, take, Option, None, Some, slice_get}
 use Rattle.std.specs.List.{All}
 use Rattle.std.proofs.Math.Nat.{mod-add-div'}
 use Rattle.std.proofs.lemmas.Option.{slice_get_within}
-use Rattle.dob_pieces.specs.declared.piece_set.PieceSet.{PieceSet}
 use Rattle.dob_moves.specs.declared.position_status.Status.{Status}
 use Rattle.dob_moves.specs.declared.position_status.Status.TheVariants.{Open}
 use Rattle.dob_moves.specs.MoveLists.{moves_of}
@@ -11,33 +10,30 @@ use Rattle.dob_moves.specs.Statuses.{HasStatus}
 use Rattle.dob_moves.proofs.Cases.{one_status}
 use Rattle.dob_rank.specs.Marks.{classes_of}
 use Rattle.dob_rank.specs.ClassRows.{class_setup}
-use Rattle.dob_value.specs.declared.value.Value.{Value}
 use Rattle.dob_value.specs.declared.value.Value.TheVariants.{Draw}
 use Rattle.dob_value.specs.Follows.{IsEntry}
 use Rattle.dob_unmove.specs.Edges.{predecessors}
 use Rattle.dob_share.specs.declared.news.Settlement.{Settlement}
-use Rattle.dob_share.specs.declared.news.Item.{Item}
 use Rattle.dob_share.specs.declared.opening.Opening.{Opening}
 use Rattle.dob_share.specs.Owners.{owner_of}
-use Rattle.dob_share.specs.Openings.{opening_of}
-use Rattle.dob_share.specs.Cells.{SameCell, SumsUp, CellValue, fresh}
-use Rattle.dob_share.specs.Shares.{places_of, IsOwn, cell_at}
+use Rattle.dob_share.specs.Cells.{SameCell, CellValue, fresh}
+use Rattle.dob_share.specs.Shares.{places_of, cell_at}
 use Rattle.dob_update.specs.Items.{items_from}
-use Rattle.dob_update.specs.Batches.{BatchView, OutboxView}
+use Rattle.dob_update.specs.Batches.{OutboxView}
 use Rattle.dob_node.specs.Histories.{value_of, IsChained}
 use Rattle.dob_node.specs.Quiet.{FollowsAtStatus}
 use Rattle.dob_node.specs.Openings.{AreOpenings}
 use Rattle.dob_node.specs.OpeningLists.{opening_value, opening_settlements, status_in}
 use Rattle.dob_node.specs.Lawful.{known_of}
 use Rattle.dob_node.specs.declared.node.Node.{Node}
-use Rattle.dob_node.specs.Nodes.{IsSound, IsOpened, outbox_to}
+use Rattle.dob_node.specs.Nodes.{outbox_to}
 use Rattle.dob_node.proofs.Takes.{SumsUp-same, CellValue-same}
 use Rattle.dob_node.proofs.Totals.{start_sums}
 use Rattle.dob_node.proofs.Rest.{below_owner}
 use Rattle.dob_node.proofs.SoleOpens.{listed_opening}
 use Rattle.dob_world.specs.declared.lane.Lane.{Lane}
 use Rattle.dob_world.specs.Worlds.{Setting, Nodes, value_in, AreLawful, IsLinked, items_of_batches}
-use Rattle.dob_world.specs.Shown.{part, lane_at, nodes_shown, state_shown, IsNodeOf, IsLaneOf, AreInPlace, AreOpenedNodes, AreEmptyLanes, IsEmptyLane}
+use Rattle.dob_world.specs.Shown.{part, lane_at, nodes_shown, world_shown, IsNodeOf, AreInPlace, AreOpenedNodes, AreEmptyLanes, IsEmptyLane}
 use Rattle.dob_world.specs.Lanes.{IsBatchFor}
 use Rattle.dob_link.specs.Links.{LinkView}
 use Rattle.std.proofs.lemmas.List.Elements.{All-nil}
@@ -151,12 +147,17 @@ module _ (k : Setting) (openings : List Opening) (nodes : List Node) (lanes : Li
     values = λ p low. refl;
   }
 
-  pub lawful_shown : AreLawful k (state_shown k.set k.n nodes lanes).nodes
-  unfolding state_shown
+  pub lawful_shown : AreLawful k (world_shown k.set k.n nodes lanes).nodes
+  unfolding world_shown
   lawful_shown = lawful_start
 
-  pub linked_start : IsLinked k (state_shown k.set k.n nodes lanes)
-  unfolding state_shown
+  pub waits_start : (i j : ℕ) → (world_shown k.set k.n nodes lanes).waiting i j ≡ []
+  unfolding world_shown
+  waits_start i j = part_nil (λ (x : Lane). x.link.waiting) (lane_at k.n lanes i j)
+      (λ lane there. ap (λ (l : LinkView). l.waiting) (lane_empty i j lane there).link)
+
+  pub linked_start : IsLinked k (world_shown k.set k.n nodes lanes)
+  unfolding world_shown
   linked_start = record {
     expanded = λ i low. let e = none_expanded i low in omega arith;
     own = λ i low. told_none i i low ∙ sym (ap (λ xs. xs ++ part [] (λ (x : Node). x.own.items) (slice_get nodes i)) (none_applied i i) ∙ none_own i);

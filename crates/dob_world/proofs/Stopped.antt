@@ -1,5 +1,5 @@
 -- No node of a world that stands stops because an item contradicts its cell.
-use Rattle.std.proofs.Common.{◌≡◌, ◌≢◌, ℕ, ◌+◌, ◌*◌, ◌<◌, ◌⊎◌, inl, inr, refl, sym, ap, ◌∙◌, subst, List, [], ◌∷◌, ◌++◌, append_assoc, length, drop, Some, slice_get}
+use Rattle.std.proofs.Common.{◌≡◌, ◌≢◌, ℕ, ◌<◌, ◌⊎◌, inl, inr, refl, sym, ap, ◌∙◌, subst, List, [], ◌∷◌, ◌++◌, append_assoc, drop, Some, slice_get}
 use Rattle.std.specs.List.{All}
 use Rattle.std.proofs.lemmas.List.Elements.{All-head, All-tail, All-nil, All-cons}
 use Rattle.dob_moves.specs.declared.position_status.Status.TheVariants.{Open}
@@ -11,7 +11,7 @@ use Rattle.dob_update.specs.Batches.{BatchView}
 use Rattle.dob_share.specs.declared.news.Item.{Item}
 use Rattle.dob_share.specs.declared.share.Share.{Share}
 use Rattle.dob_share.specs.Cells.{Cell, Takes}
-use Rattle.dob_share.specs.Shares.{IsOwn, status_at, cell_at, Fits}
+use Rattle.dob_share.specs.Shares.{status_at, cell_at, Fits}
 use Rattle.dob_node.specs.Stores.{HistoryView}
 use Rattle.dob_node.specs.Lawful.{CanApply}
 use Rattle.dob_node.specs.declared.cause.Cause.{Cause}
@@ -22,7 +22,7 @@ use Rattle.dob_node.specs.Nodes.{HasRefused}
 use Rattle.dob_world.specs.declared.lane.Lane.{Lane}
 use Rattle.dob_world.specs.Worlds.{Setting, AreLawful, IsLinked, items_in, items_of_batches}
 use Rattle.dob_world.specs.Lanes.{IsBatchFor}
-use Rattle.dob_world.specs.Shown.{lane_at, nodes_shown, state_shown, IsNodeOf, AreInPlace}
+use Rattle.dob_world.specs.Shown.{lane_at, nodes_shown, world_shown, IsNodeOf, AreInPlace}
 use Rattle.dob_world.proofs.Kept.{own_item_fits, taken_item_fits, next_waiting}
 use Rattle.dob_world.proofs.Slots.{was, lane_was}
 use Rattle.dob_world.proofs.Taken.{own_is, with_share, cell_here}
@@ -45,13 +45,13 @@ fits_by k i node share history cell item is kept statuses can same = (
 )
 
 module _ (k : Setting) (nodes : List Node) (lanes : List Lane) (some : 0 < k.n) (places : AreInPlace k nodes lanes)
-    (lawful : AreLawful k (state_shown k.set k.n nodes lanes).nodes) (linked : IsLinked k (state_shown k.set k.n nodes lanes)) where
+    (lawful : AreLawful k (world_shown k.set k.n nodes lanes).nodes) (linked : IsLinked k (world_shown k.set k.n nodes lanes)) where
   pub own_fits : (i : ℕ) (node : Node) (lane : Lane) (item : Item) (behind : List Item) → i < k.n → slice_get nodes i ≡ Some node →
       lane_at k.n lanes i i ≡ Some lane → node.own.items ≡ item ∷ behind → Fits node.share item
-  unfolding state_shown
+  unfolding world_shown
   own_fits i node lane item behind low there_n there_l first =
       let is = places.node i node there_n in
-      let can = own_item_fits k (state_shown k.set k.n nodes lanes) i item behind some lawful linked low
+      let can = own_item_fits k (world_shown k.set k.n nodes lanes) i item behind some lawful linked low
       (was nodes i node node there_n [] (λ (x : Node). x.own.items) ∙ first) in
       fits_by k i node node.share node.history (nodes_shown k.set k.n nodes lanes).cell item is (kept_of k i node is) (λ class. refl) can
       (sym (cell_there k nodes lanes i i low low node node lane lane there_n there_l places.lanes_whole item.to
@@ -69,13 +69,13 @@ module _ (k : Setting) (nodes : List Node) (lanes : List Lane) (some : 0 < k.n) 
   pub take_no_contradiction : (i j : ℕ) (node : Node) (lane : Lane) (why : Cause) (class : ℕ) → i < k.n → j < k.n → i ≢ j → slice_get nodes j ≡ Some node →
       lane_at k.n lanes i j ≡ Some lane → (why ≡ cause.Memory) ⊎ ((batch : BatchView) × (rest : List BatchView) × (lane.link.waiting ≡ batch ∷ rest)
       × StopsAt batch.items node.share node.history why) → why ≡ cause.Contradiction class → ⊥
-  unfolding state_shown
+  unfolding world_shown
   take_no_contradiction i j node lane why class low_i low_j differs there_n there_l (inl memory) is =
       let e : cause.Memory ≡ cause.Contradiction class = sym memory ∙ is in cc
   take_no_contradiction i j node lane why class low_i low_j differs there_n there_l (inr stopped) is =
       let batch = stopped.0 in
       let at = stopped.3 in
-      let state = state_shown k.set k.n nodes lanes in
+      let state = world_shown k.set k.n nodes lanes in
       let here = places.node j node there_n in
       let is_lane = places.lane i j lane there_l in
       let first : state.waiting i j ≡ batch ∷ stopped.1 =

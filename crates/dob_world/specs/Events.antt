@@ -1,5 +1,5 @@
 -- The events of a world: when each can happen, and what it changes. What isn't named stays as it was.
-use Rattle.std.specs.Prelude.{◌≡◌, ◌≢◌, ℕ, ◌+◌, ◌<◌, ◌⊎◌, List, [], ◌∷◌, ◌++◌, length, take, drop, slice_get, Some}
+use Rattle.std.specs.Prelude.{◌≡◌, ◌≢◌, ℕ, ◌+◌, ◌<◌, ◌⊎◌, true, false, List, [], ◌∷◌, ◌++◌, length, take, drop, slice_get, Some}
 use Rattle.dob_unmove.specs.Edges.{predecessors}
 use Rattle.dob_share.specs.declared.news.Settlement.{Settlement}
 use Rattle.dob_share.specs.declared.news.Item.{Item}
@@ -7,18 +7,27 @@ use Rattle.dob_update.specs.Items.{items_of}
 use Rattle.dob_update.specs.Batches.{BatchView}
 use Rattle.dob_node.specs.Lawful.{AreAfter, IsApplied, AreSettled}
 use Rattle.dob_world.specs.declared.event.Event.{Event}
-use Rattle.dob_world.specs.declared.event.Event.TheVariants.{Expand, Own, Post, Take}
-use Rattle.dob_world.specs.Worlds.{Setting, Nodes, World, value_in}
+use Rattle.dob_safra.specs.declared.event.RingEvent.TheVariants as ring
+use Rattle.dob_safra.specs.Rings.{IsAnnounceable, Moved}
+use Rattle.dob_world.specs.declared.event.Event.TheVariants.{Expand, Own, Post, Take, Pass, Announce}
+use Rattle.dob_world.specs.Worlds.{Setting, Nodes, World, State, IsIdle, value_in}
 
 -- ---- when an event can happen
 
+-- The end may be announced: node 0 is idle, and by the ring it may.
+abbrev pub MayEnd : Setting → State → Type 0
+MayEnd k state = IsIdle k state.world 0 × IsAnnounceable k.n state.ring true
+
 -- Node i has a settlement that isn't expanded; it has an own item; it isn't j, has something to send to j, and the link
--- to it has fewer batches waiting than its capacity; it isn't j, and a batch waits on the link to it.
-abbrev pub CanHappen : Setting → World → Event → Type 0
-CanHappen k world (Expand i) = (i < k.n) × (world.expanded i < length (world.nodes.history i))
-CanHappen k world (Own i) = (i < k.n) × (0 < length (world.own i))
-CanHappen k world (Post i j) = (i < k.n) × (j < k.n) × (i ≢ j) × (0 < length (world.outbox i j)) × (length (world.waiting i j) < k.capacity)
-CanHappen k world (Take i j) = (i < k.n) × (j < k.n) × (i ≢ j) × (0 < length (world.waiting i j))
+-- to it has fewer batches waiting than its capacity; it isn't j, and a batch waits on the link to it; it has the token and
+-- is idle, the end isn't announced, and if it is node 0 the end may not be announced; the end may be announced and isn't.
+abbrev pub CanHappen : Setting → State → Event → Type 0
+CanHappen k state (Expand i) = (i < k.n) × (state.world.expanded i < length (state.world.nodes.history i))
+CanHappen k state (Own i) = (i < k.n) × (0 < length (state.world.own i))
+CanHappen k state (Post i j) = (i < k.n) × (j < k.n) × (i ≢ j) × (0 < length (state.world.outbox i j)) × (length (state.world.waiting i j) < k.capacity)
+CanHappen k state (Take i j) = (i < k.n) × (j < k.n) × (i ≢ j) × (0 < length (state.world.waiting i j))
+CanHappen k state (Pass i) = (i < k.n) × (state.ring.token.at ≡ i) × IsIdle k state.world i × (state.ring.announced ≡ false) × (i ≡ 0 → ¬ MayEnd k state)
+CanHappen k state Announce = MayEnd k state × (state.ring.announced ≡ false)
 
 -- ---- what stays
 
@@ -98,9 +107,11 @@ pub record TakesBatch (k : Setting) (i j : ℕ) (old new : World) : Type 0 where
   pub others : OtherLinksStay i j old.waiting new.waiting
   pub same : Stays old.expanded new.expanded × Stays old.own new.own × LinksStay old.outbox new.outbox × LinksStay old.sent new.sent
 
--- the event makes the new world of the old one
-abbrev pub Happens : Setting → World → Event → World → Type 0
-Happens k old (Expand i) new = Expands k i old new
-Happens k old (Own i) new = AppliesOwn k i old new
-Happens k old (Post i j) new = Posts k i j old new
-Happens k old (Take i j) new = TakesBatch k i j old new
+-- The event makes the new state of the old one. Of the ring's state it changes what the ring's own event does.
+abbrev pub Happens : Setting → State → Event → State → Type 0
+Happens k old (Expand i) new = Expands k i old.world new.world × (new.ring ≡ old.ring)
+Happens k old (Own i) new = AppliesOwn k i old.world new.world × (new.ring ≡ old.ring)
+Happens k old (Post i j) new = Posts k i j old.world new.world × Moved k.n old.ring (ring.Post i j) new.ring
+Happens k old (Take i j) new = TakesBatch k i j old.world new.world × Moved k.n old.ring (ring.Take i j) new.ring
+Happens k old (Pass i) new = (new.world ≡ old.world) × Moved k.n old.ring (ring.Pass i) new.ring
+Happens k old Announce new = (new.world ≡ old.world) × Moved k.n old.ring ring.Announce new.ring

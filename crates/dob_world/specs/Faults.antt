@@ -5,7 +5,7 @@ use Rattle.dob_rank.specs.declared.fault.Fault.TheVariants as rank
 use Rattle.dob_node.specs.declared.cause.Cause.{Cause}
 use Rattle.dob_node.specs.declared.cause.Cause.TheVariants as cause
 use Rattle.dob_world.specs.declared.fault.Fault.{Fault}
-use Rattle.dob_world.specs.declared.fault.Fault.TheVariants.{SetTooLarge, Nodes, Sizes, Stopped, Memory}
+use Rattle.dob_world.specs.declared.fault.Fault.TheVariants.{SetTooLarge, Stopped, Memory}
 
 -- a refusal of the classes, as why there is no world
 abbrev pub fault_of_rank : RankFault → Fault

@@ -1,5 +1,5 @@
 -- Laws of worlds, of which `src/laws.rt` has one function each.
-use Rattle.std.specs.Prelude.{◌≡◌, ◌≢◌, ℕ, ◌<◌, List, [], ◌∷◌, ◌++◌, length, Some, slice_get}
+use Rattle.std.specs.Prelude.{◌≡◌, ◌≢◌, ℕ, ◌^◌, ◌<◌, ◌≤◌, true, List, ◌∷◌, ◌++◌, length, Some, slice_get}
 use Rattle.dob_rank.specs.Marks.{classes_of}
 use Rattle.dob_value.specs.declared.value.Value.{Value}
 use Rattle.dob_value.specs.Follows.{IsValueTable}
@@ -9,19 +9,27 @@ use Rattle.dob_update.specs.Batches.{BatchView}
 use Rattle.dob_node.specs.Openings.{AreOpenings}
 use Rattle.dob_node.specs.Lawful.{CanApply}
 use Rattle.dob_world.specs.declared.event.Event.{Event}
-use Rattle.dob_world.specs.Worlds.{Setting, Nodes, World, value_in, items_in, AreLawful, IsLinked, IsAtRest, IsBeginning}
-use Rattle.dob_world.specs.Events.{CanHappen, Happens, AppliesAll}
+use Rattle.dob_world.specs.Worlds.{Setting, Nodes, World, State, value_in, items_in, AreLawful, IsLinked, IsAtRest, IsTold, IsBeginning}
+use Rattle.dob_world.specs.Events.{CanHappen, Happens, MayEnd, AppliesAll}
 use Rattle.dob_world.specs.Runs.{IsAfter}
+use Rattle.dob_world.specs.Rounds.{IsStill}
+use Rattle.dob_world.specs.Headline.{IsSilent, Headline}
+use Rattle.dob_world.specs.Shown.{IsNumber, IsSetting, IsStart, HasAtMost}
 
 -- each event leaves a lawful and linked world so
 abbrev pub HappeningKeepsAll : Type 0
-HappeningKeepsAll = (k : Setting) (old new : World) (event : Event) → 0 < k.n → AreLawful k old.nodes → IsLinked k old →
-    CanHappen k old event → Happens k old event new → AreLawful k new.nodes × IsLinked k new
+HappeningKeepsAll = (k : Setting) (old new : State) (event : Event) → 0 < k.n → AreLawful k old.world.nodes → IsLinked k old.world →
+    CanHappen k old event → Happens k old event new → AreLawful k new.world.nodes × IsLinked k new.world
 
 -- so do events one after another, done or skipped
 abbrev pub EventsKeepAll : Type 0
-EventsKeepAll = (k : Setting) (old new : World) (events : List Event) → 0 < k.n → AreLawful k old.nodes → IsLinked k old →
-    IsAfter k old events new → AreLawful k new.nodes × IsLinked k new
+EventsKeepAll = (k : Setting) (old new : State) (events : List Event) → 0 < k.n → AreLawful k old.world.nodes → IsLinked k old.world →
+    IsAfter k old events new → AreLawful k new.world.nodes × IsLinked k new.world
+
+-- Each event leaves a ring that tells what is so telling what is so, while no link has more than 2^40 posted batches.
+abbrev pub HappeningKeepsTold : Type 0
+HappeningKeepsTold = (k : Setting) (old new : State) (event : Event) → IsNumber k.n → IsTold k old → CanHappen k old event →
+    Happens k old event new → HasAtMost k.n (2 ^ 40) new.ring → IsTold k new
 
 -- What was sent is a beginning of the items that the history makes, and what was applied is a beginning of what was
 -- sent, each item once and in order.
@@ -46,3 +54,26 @@ abbrev pub RestIsRight : Type 0
 RestIsRight = (k : Setting) (world : World) (openings : List Opening) (values : List Value) → 0 < k.n → AreOpenings k.set openings →
     AreLawful k world.nodes → IsLinked k world → IsAtRest k world → length values ≡ classes_of k.set →
     ((class : ℕ) → class < classes_of k.set → slice_get values class ≡ Some (value_in k.n world.nodes class)) → IsValueTable k.set values
+
+-- where the end may be announced, nothing is left to do
+abbrev pub EndIsRest : Type 0
+EndIsRest = (k : Setting) (state : State) → IsNumber k.n → IsTold k state → MayEnd k state → IsAtRest k state.world
+
+-- where nothing is left to do, that stays: an event changes nothing of nodes and links
+abbrev pub RestStays : Type 0
+RestStays = (k : Setting) (old new : State) (event : Event) → IsAtRest k old.world → CanHappen k old event → Happens k old event new →
+    new.world ≡ old.world
+
+-- once the end is announced, nothing is left to do
+abbrev pub EndIsSilent : Type 0
+EndIsSilent = (k : Setting) (state : State) → IsTold k state → state.ring.announced ≡ true → IsSilent k state
+
+-- where no event of a round can happen, the end is announced
+abbrev pub StillIsEnded : Type 0
+StillIsEnded = (k : Setting) (state : State) → IsSetting k → IsLinked k state.world → IsTold k state → IsStill k state →
+    (state.ring.announced ≡ true) × IsAtRest k state.world
+
+-- the promise of the whole holds after any events, at most 2^40
+abbrev pub HeadlineHolds : Type 0
+HeadlineHolds = (k : Setting) (start state : State) (events : List Event) → IsSetting k → IsStart k start → length events ≤ 2 ^ 40 →
+    IsAfter k start events state → Headline k state

@@ -7,4 +7,5 @@ pub mod FaultTexts
 pub mod Lanes
 pub mod Shown
 pub mod Rounds
+pub mod Headline
 pub mod Results

@@ -1,13 +1,13 @@
 -- Which worlds there are, and what a run of events leaves.
-use Rattle.std.specs.Prelude.{◌≡◌, ◌≢◌, ℕ, ◌+◌, ◌*◌, ◌<◌, ◌≤◌, Bool, true, false, None, Some, List, length, slice_get}
-use Rattle.dob_value.specs.declared.value.Value.{Value}
+use Rattle.std.specs.Prelude.{◌≡◌, ℕ, ◌+◌, ◌*◌, ◌<◌, ◌≤◌, Bool, true, false, None, List}
 use Rattle.dob_world.specs.declared.event.Event.{Event}
 use Rattle.dob_world.specs.declared.fault.Fault.{Fault}
 use Rattle.dob_world.specs.declared.fault.Fault.TheVariants.{SetTooLarge, Nodes, Sizes, Stopped, Memory}
 use Rattle.dob_world.specs.declared.world.World.{World}
-use Rattle.dob_world.specs.Worlds.{Setting, World as State, items_in, IsBeginning}
+use Rattle.dob_world.specs.Worlds.{Setting, State}
 use Rattle.dob_world.specs.Runs.{IsAfter}
 use Rattle.dob_world.specs.Rounds.{round_length, round_of, rounds_of, IsStill}
+use Rattle.dob_world.specs.Headline.{Headline}
 use Rattle.dob_world.specs.Shown.{setting_of, state_of, IsSmall, IsNumber, AreSizes, IsSetting, IsStanding, IsStart}
 
 -- Why there is no world of that setting: the first of these that isn't so, or memory is refused where all are.
@@ -18,9 +18,7 @@ IsRefused k Sizes = IsSmall k.set × IsNumber k.n × (¬ AreSizes k.batch k.capa
 IsRefused k (Stopped node why) = ⊥
 IsRefused k Memory = IsSetting k
 
--- The world is the opening world changed by the events, in order. What was sent over each link is a beginning of the
--- sender's items, and what was applied is a beginning of what was sent; of its own items a node has applied a beginning.
--- That each cell is what is known by the items applied is part of standing.
+-- The world is the opening world changed by the events, in order, and the promise of the whole holds of it.
 pub record HasRun (k : Setting) (events : List Event) (world : World) : Type 0 where
   pub setting : setting_of world ≡ k
   pub start : State
@@ -28,16 +26,10 @@ pub record HasRun (k : Setting) (events : List Event) (world : World) : Type 0 w
   pub after : IsAfter k start events (state_of world)
   pub standing : IsStanding world
   pub going : world.failed ≡ None
-  pub sent : (i j : ℕ) → i < k.n → j < k.n → i ≢ j → IsBeginning ((state_of world).sent i j) (items_in k (state_of world).nodes i j)
-  pub applied : (i j : ℕ) → i < k.n → j < k.n → i ≢ j → IsBeginning ((state_of world).nodes.applied i j) ((state_of world).sent i j)
-  pub own : (i : ℕ) → i < k.n → IsBeginning ((state_of world).nodes.applied i i) (items_in k (state_of world).nodes i i)
+  pub headline : Headline k (state_of world)
 
--- the values of the classes below a number, in order
-pub record AreValuesBelow (value : ℕ → Value) (count : ℕ) (values : List Value) : Type 0 where
-  pub whole : length values ≡ count
-  pub each : (class : ℕ) → class < count → slice_get values class ≡ Some (value class)
-
--- A round of events is made. The answer is whether none of them was done; then none can happen in the world left.
+-- A round of events is made. The answer is whether none of them was done; then none can happen in the world left, and the
+-- end is announced.
 pub record HasMadeRound (old : World) (given : Bool) (new : World) : Type 0 where
   pub setting : setting_of new ≡ setting_of old
   pub after : IsAfter (setting_of old) (state_of old) (round_of old.n) (state_of new)
@@ -45,6 +37,7 @@ pub record HasMadeRound (old : World) (given : Bool) (new : World) : Type 0 wher
   pub going : new.failed ≡ None
   pub steps : new.steps ≤ old.steps + round_length old.n
   pub still : given ≡ true → IsStill (setting_of old) (state_of new)
+  pub ended : given ≡ true → new.detector.announced ≡ true
   pub busy : given ≡ false → old.steps < new.steps
 
 -- The world is driven by that many rounds, or by fewer after the last of which it is still. Each round but that one has
@@ -59,3 +52,4 @@ pub record HasDriven (old : World) (rounds : ℕ) (given : Bool) (new : World) :
   pub steps : new.steps ≤ old.steps + made * round_length old.n
   pub busy : given ≡ false → (made ≡ rounds) × (old.steps + made ≤ new.steps)
   pub still : given ≡ true → IsStill (setting_of old) (state_of new)
+  pub ended : given ≡ true → new.detector.announced ≡ true

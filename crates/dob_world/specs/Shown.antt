@@ -1,5 +1,5 @@
--- What a world shows: its nodes and lanes as functions of node numbers; and what it keeps while no node has stopped.
-use Rattle.std.specs.Prelude.{◌≡◌, ◌≢◌, ℕ, ◌+◌, ◌*◌, ◌<◌, ◌≤◌, ◌&&◌, nat_lt, cond, List, [], length, Option, None, Some, MatchOption, slice_get}
+-- What a world shows: its nodes, lanes and ring as functions of node numbers; and what it keeps while no node has stopped.
+use Rattle.std.specs.Prelude.{◌≡◌, ℕ, ◌+◌, ◌*◌, ◌<◌, ◌≤◌, nat_lt, false, cond, pos, List, [], length, Option, None, Some, MatchOption, slice_get, slice_index, slice_index_or}
 use Rattle.std.specs.List.{All}
 use Rattle.dob_pieces.specs.declared.piece_set.PieceSet.{PieceSet}
 use Rattle.dob_moves.specs.Statuses.{HasStatus}
@@ -13,12 +13,14 @@ use Rattle.dob_link.specs.Links.{link_of}
 use Rattle.dob_node.specs.declared.node.Node.{Node}
 use Rattle.dob_node.specs.Nodes.{IsSound, IsOpened, outbox_to}
 use Rattle.dob_node.specs.Openings.{AreOpenings}
+use Rattle.dob_safra.specs.Rings.{Ring, counter, IsStart as IsStartRing}
+use Rattle.dob_world.specs.declared.detector.Detector.{Detector}
 use Rattle.dob_world.specs.declared.event.Event.{Event}
 use Rattle.dob_world.specs.declared.lane.Lane.{Lane}
 use Rattle.dob_world.specs.declared.world.World.{World}
 use Rattle.dob_world.specs.Faults.{IsStop}
 use Rattle.dob_world.specs.Lanes.{IsBatchFor}
-use Rattle.dob_world.specs.Worlds.{Setting, Nodes, World as State, AreLawful, IsLinked}
+use Rattle.dob_world.specs.Worlds.{Setting, Nodes, World as Shown, State, AreLawful, IsLinked, IsTold}
 use Rattle.dob_world.specs.Events.{CanHappen, Happens}
 
 abbrev pub setting_of : World → Setting
@@ -41,8 +43,8 @@ nodes_shown set n nodes lanes = record {
   cell = λ class. cond (nat_lt class (classes_of set)) (part (fresh 0) (λ (node : Node). cell_at node.share class) (slice_get nodes (owner_of n class))) (fresh 0);
 }
 
-unfoldable pub state_shown : PieceSet → ℕ → List Node → List Lane → State
-state_shown set n nodes lanes = record {
+unfoldable pub world_shown : PieceSet → ℕ → List Node → List Lane → Shown
+world_shown set n nodes lanes = record {
   nodes = nodes_shown set n nodes lanes;
   expanded = λ i. part 0 (λ (node : Node). node.expanded) (slice_get nodes i);
   own = λ i. part [] (λ (node : Node). node.own.items) (slice_get nodes i);
@@ -51,8 +53,18 @@ state_shown set n nodes lanes = record {
   sent = λ i j. part [] (λ (lane : Lane). lane.sent.items) (lane_at n lanes i j);
 }
 
+-- what the detector shows
+abbrev pub ring_of : Detector → Ring
+ring_of detector = record {
+  posted = λ i j. slice_index detector.posted.items (i * detector.n + j);
+  taken = λ i j. slice_index detector.taken.items (i * detector.n + j);
+  black = λ i. slice_index_or detector.black.items i false;
+  token = detector.token;
+  announced = detector.announced;
+}
+
 abbrev pub state_of : World → State
-state_of world = state_shown world.classes.set world.n world.nodes.items world.lanes.items
+state_of world = record { world = world_shown world.classes.set world.n world.nodes.items world.lanes.items; ring = ring_of world.detector }
 
 -- ---- what is kept
 
@@ -96,13 +108,38 @@ pub record AreInPlace (k : Setting) (nodes : List Node) (lanes : List Lane) : Ty
 abbrev pub HasOpenings : PieceSet → Type 0
 HasOpenings set = (openings : List Opening) × AreOpenings set openings
 
--- A world of which no node has stopped: what it shows is lawful and linked.
-pub record IsStanding (world : World) : Type 0 where
-  pub setting : IsSetting (setting_of world)
-  pub openings : HasOpenings world.classes.set
-  pub places : AreInPlace (setting_of world) world.nodes.items world.lanes.items
-  pub lawful : AreLawful (setting_of world) (state_of world).nodes
-  pub linked : IsLinked (setting_of world) (state_of world)
+-- A list has a place for each pair of nodes or for each node, and each node's counter is kept.
+pub record IsCounted (detector : Detector) : Type 0 where
+  pub nodes : IsNumber detector.n
+  pub posted : length detector.posted.items ≡ detector.n * detector.n
+  pub taken : length detector.taken.items ≡ detector.n * detector.n
+  pub black : length detector.black.items ≡ detector.n
+  pub counters : length detector.counters.items ≡ detector.n
+  pub counted : (i : ℕ) → i < detector.n → slice_index_or detector.counters.items i (pos 0) ≡ counter detector.n (ring_of detector) i
+
+-- no link has more posted batches than so many
+abbrev pub HasAtMost : ℕ → ℕ → Ring → Type 0
+HasAtMost n bound ring = (i j : ℕ) → i < n → j < n → ring.posted i j ≤ bound
+
+-- Nodes, lanes and detector of a world of which no node has stopped, after so many events: what they show is lawful and
+-- linked, and the ring tells what is so.
+pub record Stand (k : Setting) (nodes : List Node) (lanes : List Lane) (detector : Detector) (steps : ℕ) : Type 0 where
+  pub setting : IsSetting k
+  pub openings : HasOpenings k.set
+  pub places : AreInPlace k nodes lanes
+  pub counted : IsCounted detector
+  pub same_n : detector.n ≡ k.n
+  pub lawful : AreLawful k (world_shown k.set k.n nodes lanes).nodes
+  pub linked : IsLinked k (world_shown k.set k.n nodes lanes)
+  pub told : IsTold k (record { world = world_shown k.set k.n nodes lanes; ring = ring_of detector })
+  pub few : HasAtMost k.n steps (ring_of detector)
+
+abbrev pub IsStanding : World → Type 0
+IsStanding world = Stand (setting_of world) world.nodes.items world.lanes.items world.detector world.steps
+
+-- the world stands once an event more is counted
+abbrev pub WillStand : World → Type 0
+WillStand world = Stand (setting_of world) world.nodes.items world.lanes.items world.detector (world.steps + 1)
 
 -- The world stands, or it has stopped; but never because an item contradicts its cell.
 abbrev pub IsKept : World → Type 0
@@ -113,6 +150,7 @@ pub record IsUnchanged (old new : World) : Type 0 where
   pub setting : setting_of new ≡ setting_of old
   pub nodes : new.nodes.items ≡ old.nodes.items
   pub lanes : new.lanes.items ≡ old.lanes.items
+  pub detector : new.detector ≡ old.detector
   pub steps : new.steps ≡ old.steps
   pub failed : new.failed ≡ old.failed
 
@@ -121,7 +159,6 @@ pub record IsMade (event : Event) (old new : World) : Type 0 where
   pub setting : setting_of new ≡ setting_of old
   pub can : CanHappen (setting_of old) (state_of old) event
   pub happens : Happens (setting_of old) (state_of old) event (state_of new)
-  pub standing : IsStanding new
 
 -- ---- the start
 
@@ -140,7 +177,7 @@ pub record AreOpenedNodes (openings : List Opening) (set : PieceSet) (n upto : �
   pub whole : length nodes ≡ upto
   pub each : (i : ℕ) (node : Node) → slice_get nodes i ≡ Some node → IsOpened openings set i n node × IsSound node
 
--- The state before the first event: each node is opened, and nothing has gone over a lane.
+-- The state before the first event: each node is opened, nothing has gone over a lane, and the ring is at its start.
 pub record IsStart (k : Setting) (state : State) : Type 0 where
   pub openings : List Opening
   pub are_openings : AreOpenings k.set openings
@@ -148,4 +185,5 @@ pub record IsStart (k : Setting) (state : State) : Type 0 where
   pub lanes : List Lane
   pub opened : AreOpenedNodes openings k.set k.n k.n nodes
   pub empty : AreEmptyLanes k.capacity (k.n * k.n) lanes
-  pub state_is : state ≡ state_shown k.set k.n nodes lanes
+  pub world_is : state.world ≡ world_shown k.set k.n nodes lanes
+  pub ring : IsStartRing k.n state.ring

@@ -1,5 +1,6 @@
--- A world of nodes and links as functions of node numbers: what it consists of, and when it is lawful and linked.
-use Rattle.std.specs.Prelude.{◌≡◌, ◌≢◌, ℕ, ◌<◌, ◌≤◌, List, [], ◌++◌, length, take}
+-- A world of nodes, links and the ring as functions of node numbers: what it consists of, when it is lawful and linked, and
+-- when nothing is left to do.
+use Rattle.std.specs.Prelude.{◌≡◌, ◌≢◌, ℕ, ◌+◌, ◌<◌, ◌≤◌, false, List, [], ◌++◌, length, take}
 use Rattle.std.specs.List.{flat_map}
 use Rattle.dob_pieces.specs.declared.piece_set.PieceSet.{PieceSet}
 use Rattle.dob_value.specs.declared.value.Value.{Value}
@@ -12,6 +13,7 @@ use Rattle.dob_update.specs.Items.{items_from}
 use Rattle.dob_update.specs.Batches.{BatchView}
 use Rattle.dob_node.specs.Histories.{value_of}
 use Rattle.dob_node.specs.Lawful.{IsLawful}
+use Rattle.dob_safra.specs.Rings.{Ring, sum_below, IsLawful as IsLawfulRing}
 
 -- what a world is made for: a piece set, the number of nodes, the greatest size of a batch, and the links' capacity
 pub record Setting : Type 0 where
@@ -37,6 +39,11 @@ pub record World : Type 0 where
   pub outbox : ℕ → ℕ → List Item
   pub waiting : ℕ → ℕ → List BatchView
   pub sent : ℕ → ℕ → List Item
+
+-- All that there is: nodes and links, and the ring that finds out when nothing is left to do.
+pub record State : Type 0 where
+  pub world : World
+  pub ring : Ring
 
 -- the value of a class, after the history of its owner
 abbrev pub value_in : ℕ → Nodes → ℕ → Value
@@ -74,6 +81,23 @@ pub record IsAtRest (k : Setting) (world : World) : Type 0 where
   pub own : (i : ℕ) → i < k.n → world.own i ≡ []
   pub outboxes : (i j : ℕ) → i < k.n → j < k.n → i ≢ j → world.outbox i j ≡ []
   pub links : (i j : ℕ) → i < k.n → j < k.n → i ≢ j → world.waiting i j ≡ []
+
+-- Node i is idle: it has no settlement left to expand, no own item left to apply, and nothing left to send.
+pub record IsIdle (k : Setting) (world : World) (i : ℕ) : Type 0 where
+  pub expanded : world.expanded i ≡ length (world.nodes.history i)
+  pub own : world.own i ≡ []
+  pub outboxes : (j : ℕ) → j < k.n → j ≢ i → world.outbox i j ≡ []
+
+-- The ring tells of the nodes and links what is so. It is lawful; each node that isn't idle is black, so that a white one
+-- is idle; and the batches posted to a node are those that it took and those that wait on the link.
+pub record IsTold (k : Setting) (state : State) : Type 0 where
+  pub lawful : IsLawfulRing k.n state.ring
+  pub idle : (i : ℕ) → i < k.n → state.ring.black i ≡ false → IsIdle k state.world i
+  pub posted : (i j : ℕ) → i < k.n → j < k.n → state.ring.posted i j ≡ state.ring.taken i j + length (state.world.waiting i j)
+
+-- how many batches wait on all links
+abbrev pub waiting_batches : ℕ → World → ℕ
+waiting_batches n world = sum_below n (λ i. sum_below n (λ j. length (world.waiting i j)))
 
 -- some items more make the second list of the first one
 abbrev pub IsBeginning : List Item → List Item → Type 0

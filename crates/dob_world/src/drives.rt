@@ -11,8 +11,9 @@ use crate::world::World;
 
 impl World {
     /// Makes rounds of events, at most so many, up to the first in which no event was done. A round is each node's `Expand`
-    /// and `Own`, then all `Post`, then all `Take`, by sender and then by receiver. The answer is whether no event of the
-    /// last round was done; it is false for no round.
+    /// and `Own`, then all `Post`, then all `Take`, by sender and then by receiver, then `Pass` from the last node down, and
+    /// `Announce`. The answer is whether no event of the last round was done; then the end is announced. It is false for no
+    /// round.
     ///
     /// Error: `Stopped`, as at a step.
     pub fn drive(&mut self, rounds: u64) -> Result<bool, Fault>
@@ -42,7 +43,7 @@ impl World {
     {
         let before = self.steps;
         let n = self.n;
-        for place in 0..2 * n + 2 * (n * n) {
+        for place in 0..3 * n + 2 * (n * n) + 1 {
             match self.step(event_at(n, place)) {
                 Ok(_) => {}
                 Err(fault) => return Err(fault),
@@ -61,6 +62,8 @@ fn event_at(n: usize, place: usize) -> Event
 {
     let first_post = 2 * n;
     let first_take = 2 * n + n * n;
+    let first_pass = 2 * n + 2 * (n * n);
+    let last = 3 * n + 2 * (n * n);
     if place < first_post {
         if place % 2 == 0 {
             Event::Expand(place / 2)
@@ -73,11 +76,15 @@ fn event_at(n: usize, place: usize) -> Event
             from: pair / n,
             to: pair % n,
         }
-    } else {
+    } else if place < first_pass {
         let pair = place - first_take;
         Event::Take {
             from: pair / n,
             to: pair % n,
         }
+    } else if place < last {
+        Event::Pass(last - 1 - place)
+    } else {
+        Event::Announce
     }
 }

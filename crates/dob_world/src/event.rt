@@ -11,4 +11,8 @@ pub enum Event {
     Post { from: usize, to: usize },
     /// A node takes a batch of another one, and applies its items.
     Take { from: usize, to: usize },
+    /// A node that has the token and is idle passes it.
+    Pass(usize),
+    /// Node 0 announces the end.
+    Announce,
 }

@@ -1,5 +1,5 @@
 // Laws of worlds, each the contract of a function that does nothing.
-ghost use Rattle.dob_world.specs.Laws.{HappeningKeepsAll, EventsKeepAll, ListsAreBeginnings, OwnItemFits, TakenItemFits, RestIsRight};
+ghost use Rattle.dob_world.specs.Laws.{HappeningKeepsAll, EventsKeepAll, HappeningKeepsTold, ListsAreBeginnings, OwnItemFits, TakenItemFits, RestIsRight, EndIsRest, RestStays, EndIsSilent, StillIsEnded, HeadlineHolds};
 
 /// Each event leaves a lawful and linked world lawful and linked.
 pub fn happening_keeps_all()
@@ -9,6 +9,11 @@ pub fn happening_keeps_all()
 /// So do events one after another, done or skipped.
 pub fn events_keep_all()
     ensures { EventsKeepAll }
+{}
+
+/// Each event leaves a ring that tells what is so telling what is so, while no link has more than 2^40 posted batches.
+pub fn happening_keeps_told()
+    ensures { HappeningKeepsTold }
 {}
 
 /// In a linked world what was sent over a link is a beginning of the sender's items, and what was applied is a beginning
@@ -30,4 +35,31 @@ pub fn taken_item_fits()
 /// A lawful and linked world at rest has the value table.
 pub fn rest_is_right()
     ensures { RestIsRight }
+{}
+
+/// Where the end may be announced, nothing is left to do.
+pub fn end_is_rest()
+    ensures { EndIsRest }
+{}
+
+/// Where nothing is left to do, that stays: an event changes nothing of nodes and links.
+pub fn rest_stays()
+    ensures { RestStays }
+{}
+
+/// Once the end is announced nothing is left to do, and so no event can happen.
+pub fn end_is_silent()
+    ensures { EndIsSilent }
+{}
+
+/// Where no event of a round can happen, the end is announced.
+pub fn still_is_ended()
+    ensures { StillIsEnded }
+{}
+
+/// For every list of at most 2^40 events: what each owner has applied from a sender is a beginning of what that sender sent,
+/// in its order and each update once; once the end is announced nothing more is sent or applied, and the values are those
+/// of the game.
+pub fn headline_holds()
+    ensures { HeadlineHolds }
 {}

@@ -1,6 +1,7 @@
-// A world of nodes and of links between them, in which one event happens at a time.
+// A world of nodes, of links between them and of a ring that detects the end, in which one event happens at a time.
 #![tactic(auto)]
 
+mod detector;
 mod drives;
 mod event;
 mod fault;

@@ -30,12 +30,19 @@ impl World {
         self.steps
     }
 
+    /// Whether the end is announced.
+    pub fn announced(&self) -> bool
+        ensures { result ≡ (state_of self.now).ring.announced }
+    {
+        self.detector.announced
+    }
+
     /// The items that the node `from` has sent to the node `to`, in order.
     pub fn sent(&self, from: usize, to: usize) -> &[Item]
         requires standing { IsStanding self.now }
         requires from { from < self.now.n }
         requires to { to < self.now.n }
-        ensures { result.now ≡ (state_of self.now).sent from to }
+        ensures { result.now ≡ (state_of self.now).world.sent from to }
     {
         &self.lanes[from * self.n + to].sent
     }
@@ -45,7 +52,7 @@ impl World {
         requires standing { IsStanding self.now }
         requires from { from < self.now.n }
         requires to { to < self.now.n }
-        ensures { result.now ≡ (state_of self.now).nodes.applied from to }
+        ensures { result.now ≡ (state_of self.now).world.nodes.applied from to }
     {
         &self.lanes[from * self.n + to].applied
     }
@@ -54,7 +61,7 @@ impl World {
     pub fn history(&self, node: usize) -> History<'_>
         requires standing { IsStanding self.now }
         requires node { node < self.now.n }
-        ensures { result ≡ (state_of self.now).nodes.history node }
+        ensures { result ≡ (state_of self.now).world.nodes.history node }
     {
         History {
             node: &self.nodes[node],

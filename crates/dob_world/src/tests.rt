@@ -63,7 +63,7 @@ fn finish(rt: &impl Abort, world: &mut World)
 {
     let n = world.n as u64;
     assert!(rt; n <= 16 && world.steps <= 1 << 30);
-    assert!(rt; world.steps + 20_000 * (2 * n + 2 * (n * n)) <= 1 << 40);
+    assert!(rt; world.steps + 20_000 * (3 * n + 2 * (n * n) + 1) <= 1 << 40);
     let Ok(still) = world.drive(20_000) else {
         panic!(rt; "a node has stopped");
     };

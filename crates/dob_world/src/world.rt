@@ -1,8 +1,9 @@
-// The world: nodes that own the classes of a piece set, and a lane from each to each.
+// The world: nodes that own the classes of a piece set, a lane from each to each, and what detects the end.
 ghost use Rattle.std.specs.Prelude.{◌≡◌, ◌≢◌, ◌+◌, ◌*◌, ◌^◌, ◌<◌, ◌≤◌, ◌↔◌, true, false, IfOk, IfErr, IfSome, OnOk};
 ghost use Rattle.dob_node.specs.Openings.{AreOpenings};
 ghost use Rattle.dob_world.specs.Shown.{AreOpenedNodes, AreEmptyLanes};
 
+use crate::detector::Detector;
 use crate::event::Event;
 use crate::fault::Fault;
 use crate::lane::Lane;
@@ -13,8 +14,8 @@ use dob_pieces::{Memory, PieceSet};
 use dob_rank::Classes;
 use std::alloc::Global;
 
-/// Nodes of which each owns a share of a piece set's classes, the links between them, and the lists of all items that
-/// were sent over these and applied.
+/// Nodes of which each owns a share of a piece set's classes, the links between them, the lists of all items that were
+/// sent over these and applied, and the ring that detects the end.
 #[derive(Drop)]
 pub struct World {
     pub(crate) alloc: Global,
@@ -24,18 +25,20 @@ pub struct World {
     pub(crate) capacity: usize,
     pub(crate) nodes: Vec<Node>,
     pub(crate) lanes: Vec<Lane>,
+    pub(crate) detector: Detector,
     pub(crate) steps: u64,
     pub(crate) failed: Option<Fault>,
 }
 
 impl World {
-    ghost use Rattle.dob_world.specs.declared.event.Event.TheVariants.{Expand, Own, Post, Take};
-    ghost use Rattle.dob_world.specs.Worlds.{IsLinked};
-    ghost use Rattle.dob_world.specs.Events.{CanHappen};
+    ghost use Rattle.dob_world.specs.declared.event.Event.TheVariants.{Expand, Own, Post, Take, Pass, Announce};
+    ghost use Rattle.dob_world.specs.Worlds.{IsLinked, IsIdle};
+    ghost use Rattle.dob_world.specs.Events.{CanHappen, MayEnd};
     ghost use Rattle.dob_world.specs.declared.fault.Fault.TheVariants as fault;
     ghost use Rattle.dob_world.specs.Faults.{IsStop};
-    ghost use Rattle.dob_world.specs.Shown.{setting_of, state_of, IsStanding, IsKept, IsUnchanged, IsMade, IsStart};
+    ghost use Rattle.dob_world.specs.Shown.{setting_of, state_of, IsStanding, WillStand, IsKept, IsUnchanged, IsMade, IsStart};
     ghost use Rattle.dob_world.specs.Results.{IsRefused};
+    ghost use Rattle.dob_world.specs.Headline.{Headline};
 
     /// A world of `n` nodes before its first event, with batches of at most `batch` items and links with room for
     /// `capacity` batches.
@@ -68,6 +71,7 @@ impl World {
         let openings = opening(alloc, &classes)?;
         let nodes = open_nodes(alloc, &openings, set, n)?;
         let lanes = open_lanes(alloc, n * n, capacity)?;
+        let detector = Detector::open(alloc, n)?;
         Ok(World {
             alloc,
             classes,
@@ -76,6 +80,7 @@ impl World {
             capacity,
             nodes,
             lanes,
+            detector,
             steps: 0,
             failed: None,
         })
@@ -91,19 +96,15 @@ impl World {
         ensures skipped { result ≡ Ok Step.Skipped → (¬ CanHappen (setting_of self.old) (state_of self.old) event) × IsUnchanged self.old self.new }
         ensures stopped { IfErr result (λ fault. IsStop fault × (self.new.failed ≡ Some fault)) }
         ensures stays { IfSome self.old.failed (λ fault. result ≡ Err fault) }
+        ensures silent { self.old.detector.announced ≡ true → result ≡ Ok Step.Done → ⊥ }
+        ensures headline { OnOk result (Headline (setting_of self.new) (state_of self.new)) }
         ensures going { OnOk result ((self.new.failed ≡ None) × IsStanding self.new) }
         ensures kept { IsKept self.new }
     {
         if let Some(fault) = self.failed {
             return Err(fault);
         }
-        let happened = match event {
-            Event::Expand(node) => self.expand(node),
-            Event::Own(node) => self.own(node),
-            Event::Post { from, to } => self.post(from, to),
-            Event::Take { from, to } => self.take(from, to),
-        };
-        match happened {
+        match self.make(event) {
             Ok(true) => {
                 self.steps += 1;
                 Ok(Step::Done)
@@ -116,10 +117,29 @@ impl World {
         }
     }
 
+    // Makes the event happen, which isn't counted yet. False where it can't.
+    fn make(&mut self, event: Event) -> Result<bool, Fault>
+        requires standing { IsStanding self.old }
+        requires few { self.old.steps < 2 ^ 40 }
+        ensures done { result ≡ Ok true → IsMade event self.old self.new × WillStand self.new × (self.new.failed ≡ self.old.failed) × (self.new.steps ≡ self.old.steps) }
+        ensures skipped { result ≡ Ok false → (¬ CanHappen (setting_of self.old) (state_of self.old) event) × IsUnchanged self.old self.new }
+        ensures stopped { IfErr result (λ fault. IsStop fault) }
+    {
+        match event {
+            Event::Expand(node) => self.expand(node),
+            Event::Own(node) => self.own(node),
+            Event::Post { from, to } => self.post(from, to),
+            Event::Take { from, to } => self.take(from, to),
+            Event::Pass(node) => Ok(self.pass(node)),
+            Event::Announce => Ok(self.announce()),
+        }
+    }
+
     // The next settlement of a node becomes items. False where there is none.
     fn expand(&mut self, node: usize) -> Result<bool, Fault>
-        requires { IsStanding self.old }
-        ensures done { result ≡ Ok true → IsMade (Expand node) self.old self.new × (self.new.failed ≡ self.old.failed) × (self.new.steps ≡ self.old.steps) }
+        requires standing { IsStanding self.old }
+        requires few { self.old.steps < 2 ^ 40 }
+        ensures done { result ≡ Ok true → IsMade (Expand node) self.old self.new × WillStand self.new × (self.new.failed ≡ self.old.failed) × (self.new.steps ≡ self.old.steps) }
         ensures skipped { result ≡ Ok false → (¬ CanHappen (setting_of self.old) (state_of self.old) (Expand node)) × IsUnchanged self.old self.new }
         ensures stopped { IfErr result (λ fault. IsStop fault) }
     {
@@ -134,8 +154,9 @@ impl World {
 
     // The first own item of a node is applied. False where there is none.
     fn own(&mut self, node: usize) -> Result<bool, Fault>
-        requires { IsStanding self.old }
-        ensures done { result ≡ Ok true → IsMade (Own node) self.old self.new × (self.new.failed ≡ self.old.failed) × (self.new.steps ≡ self.old.steps) }
+        requires standing { IsStanding self.old }
+        requires few { self.old.steps < 2 ^ 40 }
+        ensures done { result ≡ Ok true → IsMade (Own node) self.old self.new × WillStand self.new × (self.new.failed ≡ self.old.failed) × (self.new.steps ≡ self.old.steps) }
         ensures skipped { result ≡ Ok false → (¬ CanHappen (setting_of self.old) (state_of self.old) (Own node)) × IsUnchanged self.old self.new }
         ensures stopped { IfErr result (λ fault. IsStop fault) }
     {
@@ -151,8 +172,9 @@ impl World {
 
     // A node posts a batch to another one. False where it has nothing to send, or the link has no room.
     fn post(&mut self, from: usize, to: usize) -> Result<bool, Fault>
-        requires { IsStanding self.old }
-        ensures done { result ≡ Ok true → IsMade (Post from to) self.old self.new × (self.new.failed ≡ self.old.failed) × (self.new.steps ≡ self.old.steps) }
+        requires standing { IsStanding self.old }
+        requires few { self.old.steps < 2 ^ 40 }
+        ensures done { result ≡ Ok true → IsMade (Post from to) self.old self.new × WillStand self.new × (self.new.failed ≡ self.old.failed) × (self.new.steps ≡ self.old.steps) }
         ensures skipped { result ≡ Ok false → (¬ CanHappen (setting_of self.old) (state_of self.old) (Post from to)) × IsUnchanged self.old self.new }
         ensures stopped { IfErr result (λ fault. IsStop fault) }
     {
@@ -166,15 +188,20 @@ impl World {
             to,
             self.batch,
         ) {
-            Ok(happened) => Ok(happened),
+            Ok(true) => {
+                self.detector.count_post(from, to);
+                Ok(true)
+            }
+            Ok(false) => Ok(false),
             Err(cause) => Err(Fault::Stopped { node: from, cause }),
         }
     }
 
     // A node takes a batch of another one. False where none waits.
     fn take(&mut self, from: usize, to: usize) -> Result<bool, Fault>
-        requires { IsStanding self.old }
-        ensures done { result ≡ Ok true → IsMade (Take from to) self.old self.new × (self.new.failed ≡ self.old.failed) × (self.new.steps ≡ self.old.steps) }
+        requires standing { IsStanding self.old }
+        requires few { self.old.steps < 2 ^ 40 }
+        ensures done { result ≡ Ok true → IsMade (Take from to) self.old self.new × WillStand self.new × (self.new.failed ≡ self.old.failed) × (self.new.steps ≡ self.old.steps) }
         ensures skipped { result ≡ Ok false → (¬ CanHappen (setting_of self.old) (state_of self.old) (Take from to)) × IsUnchanged self.old self.new }
         ensures stopped { IfErr result (λ fault. IsStop fault) }
     {
@@ -183,9 +210,50 @@ impl World {
         }
         let place = from * self.n + to;
         match receive(&mut self.nodes[to], &mut self.lanes[place]) {
-            Ok(happened) => Ok(happened),
+            Ok(true) => {
+                self.detector.count_take(from, to);
+                Ok(true)
+            }
+            Ok(false) => Ok(false),
             Err(cause) => Err(Fault::Stopped { node: to, cause }),
         }
+    }
+
+    // An idle node passes the token. False where it hasn't got it or isn't idle, or where the end is or may be announced.
+    fn pass(&mut self, node: usize) -> bool
+        requires standing { IsStanding self.old }
+        requires few { self.old.steps < 2 ^ 40 }
+        ensures done { result ≡ true → IsMade (Pass node) self.old self.new × WillStand self.new × (self.new.failed ≡ self.old.failed) × (self.new.steps ≡ self.old.steps) }
+        ensures skipped { result ≡ false → (¬ CanHappen (setting_of self.old) (state_of self.old) (Pass node)) × IsUnchanged self.old self.new }
+    {
+        if node >= self.n || node != self.detector.token.at || self.detector.announced {
+            return false;
+        }
+        if !self.nodes[node].is_idle() {
+            return false;
+        }
+        if node == 0 && self.detector.may_end() {
+            return false;
+        }
+        self.detector.pass_token();
+        true
+    }
+
+    // Node 0 announces the end. False where the end may not be announced or is.
+    fn announce(&mut self) -> bool
+        requires standing { IsStanding self.old }
+        requires few { self.old.steps < 2 ^ 40 }
+        ensures done { result ≡ true → IsMade Announce self.old self.new × WillStand self.new × (self.new.failed ≡ self.old.failed) × (self.new.steps ≡ self.old.steps) }
+        ensures skipped { result ≡ false → (¬ CanHappen (setting_of self.old) (state_of self.old) Announce) × IsUnchanged self.old self.new }
+    {
+        if self.detector.announced || !self.detector.may_end() {
+            return false;
+        }
+        if !self.nodes[0].is_idle() {
+            return false;
+        }
+        self.detector.announce_end();
+        true
     }
 }
 

@@ -1,5 +1,5 @@
 -- The opening world is the one after no events, and each event makes a run longer.
-use Rattle.std.proofs.Common.{◌≡◌, ◌≤◌, refl, sym, ap, ◌∙◌, subst, arith, [], Ok}
+use Rattle.std.proofs.Common.{refl, ap, subst, arith, [], Ok}
 use Rattle.dob_world.specs.Worlds.{Setting}
 use Rattle.dob_world.specs.Shown.{state_of, IsStart}
 use Rattle.dob_world.proofs.Ran.{ran, stepped, ran_more}

@@ -1,6 +1,5 @@
 -- The events so far have happened, or were skipped.
 use Rattle.std.proofs.Common.{◌≤◌, take}
-use Rattle.dob_world.specs.Worlds.{Setting}
 use Rattle.dob_world.specs.Results.{HasRun}
 use Rattle.dob_world.proofs.runs.run.Given as goal
 

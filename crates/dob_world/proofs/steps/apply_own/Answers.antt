@@ -1,4 +1,4 @@
-use Rattle.std.proofs.Common.{◌≡◌, refl, sym, ap, ◌∙◌, Ok, inl, inr, ◌++◌, ◌∷◌, []}
+use Rattle.std.proofs.Common.{refl, sym, ap, ◌∙◌, Ok, inl, inr, ◌++◌, ◌∷◌, []}
 use Rattle.std.proofs.lemmas.Bool.{cases_Bool}
 use Rattle.dob_node.specs.Nodes.{HasApplied}
 use Rattle.dob_world.proofs.Firsts.{none_first, first_same, some_first}

@@ -1,4 +1,4 @@
-use Rattle.std.proofs.Common.{◌≡◌, ◌≤◌, refl, sym, ap, ◌∙◌, subst, arith, Ok, Some, IfSome, ◌++◌, ◌∷◌, [], length}
+use Rattle.std.proofs.Common.{◌≡◌, ◌≤◌, refl, ap, ◌∙◌, subst, IfSome, ◌++◌, ◌∷◌, [], length}
 use Rattle.dob_update.specs.Batches.{BatchView}
 use Rattle.dob_link.specs.Links.{link_of}
 use Rattle.dob_node.specs.Nodes.{HasCut}

@@ -52,7 +52,7 @@ loop-class-preserved c =
     record {
       codes = subst (λ xs. All (λ code. code < 65536) xs) (sym c.in_ok-push.ensures.items)
           (All-push (λ (code : ℕ). code < 65536) c.loop-class.codes.items c.code_of_value.result c.loop-class.invariant.codes c.code_of_value.type_inv);
-      values = values_more (value_in c.args.self.now.n (state_of c.args.self.now).nodes) class c.loop-class.codes.items c.push.new.self.items
+      values = values_more (value_in c.args.self.now.n (state_of c.args.self.now).world.nodes) class c.loop-class.codes.items c.push.new.self.items
           c.code_of_value.result c.value.result c.loop-class.invariant.values c.in_ok-push.ensures.items c.code_of_value.ensures.back
           (shows k nodes lanes standing.setting.nodes.0 standing.places standing.lawful class low node there c.value.result c.value.ensures);
     }

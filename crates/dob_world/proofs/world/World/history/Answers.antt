@@ -1,5 +1,5 @@
 -- The history of the node.
-use Rattle.std.proofs.Common.{sym, ◌∙◌}
+use Rattle.std.proofs.Common.{sym}
 use Rattle.dob_world.specs.Shown.{setting_of}
 use Rattle.dob_world.proofs.Stands.{node_there}
 use Rattle.dob_world.proofs.Lent.{history_shown}

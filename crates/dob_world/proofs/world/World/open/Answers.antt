@@ -1,10 +1,10 @@
 -- The world as it is opened.
-use Rattle.std.proofs.Common.{◌≡◌, ◌<◌, ◌≤◌, refl, sym, ap, subst, arith}
-use Rattle.dob_node.specs.Openings.{AreOpenings}
+use Rattle.std.proofs.Common.{◌<◌, refl, sym, subst, arith}
 use Rattle.dob_world.specs.Worlds.{Setting}
 use Rattle.dob_pieces.specs.declared.piece_set.PieceSet.{PieceSet}
-use Rattle.dob_world.specs.Shown.{AreOpenedNodes, IsSmall}
-use Rattle.dob_world.proofs.Starts.{places_start, lawful_shown, linked_start}
+use Rattle.dob_world.specs.Shown.{world_shown, ring_of, AreOpenedNodes, IsSmall, IsSetting}
+use Rattle.dob_world.proofs.Starts.{places_start, lawful_shown, linked_start, waits_start}
+use Rattle.dob_world.proofs.Promise.{told_start, few_start}
 use Rattle.dob_world.proofs.world.World.open.Goals as goal
 
 pub returns-clause-standing : goal.returns-clause-standing
@@ -16,17 +16,24 @@ returns-clause-standing c =
     let some : 0 < c.args.n = omega arith in
     let opened : AreOpenedNodes openings k.set k.n k.n nodes =
     subst (λ st. AreOpenedNodes openings st c.args.n c.args.n nodes) (sym c.in_ok-classes.ensures.set)
-    (subst (λ xs. AreOpenedNodes xs c.args.set c.args.n c.args.n nodes) c.deref.ensures.value c.in_ok-nodes.ensures) in (
+    (subst (λ xs. AreOpenedNodes xs c.args.set c.args.n c.args.n nodes) c.deref.ensures.value c.in_ok-nodes.ensures) in
+    let setting : IsSetting k = record {
+      small = subst (λ (st : PieceSet). IsSmall st) (sym c.in_ok-classes.ensures.set) (omega arith);
+      nodes = (omega arith, omega arith);
+      sizes = (omega arith, omega arith, omega arith, omega arith);
+    } in
+    let detector = c.in_ok-detector.detector in (
       record {
-        setting = record {
-          small = subst (λ (st : PieceSet). IsSmall st) (sym c.in_ok-classes.ensures.set) (omega arith);
-          nodes = (omega arith, omega arith);
-          sizes = (omega arith, omega arith, omega arith, omega arith);
-        };
+        setting = setting;
         openings = (openings, c.in_ok-openings.ensures);
         places = places_start k openings nodes lanes some c.in_ok-openings.ensures opened c.in_ok-lanes.ensures;
+        counted = c.in_ok-detector.ensures.counted.0;
+        same_n = c.in_ok-detector.ensures.counted.1;
         lawful = lawful_shown k openings nodes lanes some c.in_ok-openings.ensures opened c.in_ok-lanes.ensures;
         linked = linked_start k openings nodes lanes some c.in_ok-openings.ensures opened c.in_ok-lanes.ensures;
+        told = told_start k (record { world = world_shown k.set k.n nodes lanes; ring = ring_of detector }) setting c.in_ok-detector.ensures.start
+            (waits_start k openings nodes lanes some c.in_ok-openings.ensures opened c.in_ok-lanes.ensures);
+        few = few_start c.args.n (ring_of detector) 0 c.in_ok-detector.ensures.start;
       },
       refl,
       refl,

@@ -1,20 +1,20 @@
 -- The node that applies an own item.
-use Rattle.std.proofs.Common.{◌≡◌, ◌<◌, ◌+◌, ◌*◌, refl, sym, ap, ◌∙◌, subst, arith, true, false, Ok, Some, slice_get, slice_set, length}
+use Rattle.std.proofs.Common.{◌<◌, ◌+◌, ◌*◌, refl, ap, ◌∙◌, arith, true, false, Ok, slice_set, length}
 use Rattle.dob_world.specs.declared.event.Event.TheVariants.{Own}
-use Rattle.dob_world.specs.Events.{CanHappen}
-use Rattle.dob_world.specs.Shown.{setting_of, state_of, state_shown, lane_at, IsNodeOf, IsStanding}
+use Rattle.dob_world.specs.Shown.{setting_of}
 use Rattle.dob_world.proofs.Slots.{there_by, set_same}
 use Rattle.dob_world.proofs.Stands.{node_there, lane_there, slot_there}
 use Rattle.dob_world.proofs.Outcomes.{owned, cant_own}
 use Rattle.dob_world.proofs.Stopped.{own_no_contradiction}
 use Rattle.dob_world.proofs.Firsts.{ok_is}
+use Rattle.dob_world.proofs.Stood.{stand_after}
 use Rattle.dob_world.proofs.world.World.own.Goals as goal
 
 pub apply_own-requires : goal.apply_own-requires
 apply_own-requires c =
     let nodes = c.args.self.now.nodes.items in
-    let low : c.args.node < length nodes = omega (arith, c.requires.places.nodes_whole) in
-    (c.requires.places.node c.args.node c.index_mut.result.now (there_by nodes c.args.node c.index_mut.result.now low c.index_mut.ensures.value)).sound
+    let low : c.args.node < length nodes = omega (arith, c.requires.standing.places.nodes_whole) in
+    (c.requires.standing.places.node c.args.node c.index_mut.result.now (there_by nodes c.args.node c.index_mut.result.now low c.index_mut.ensures.value)).sound
 
 pub returns-in-Ok-clause-done : goal.returns-in-Ok-clause-done
 returns-in-Ok-clause-done c = λ e.
@@ -25,16 +25,15 @@ returns-in-Ok-clause-done c = λ e.
     let node = c.index_mut.result.now in
     let lane = c.index_mut-2.result.now in
     let below : i < c.args.self.now.n = c.if-node-self.false in
-    let there_n = node_there k nodes lanes c.requires.places i node below c.index_mut.ensures.value in
-    let there_l = lane_there k nodes lanes c.requires.places i i lane below below c.index_mut-2.ensures.value in
-    let o = owned k nodes lanes c.requires.setting.nodes.0 c.requires.places c.requires.lawful c.requires.linked node c.apply_own.new.node lane c.apply_own.new.lane
+    let there_n = node_there k nodes lanes c.requires.standing.places i node below c.index_mut.ensures.value in
+    let there_l = lane_there k nodes lanes c.requires.standing.places i i lane below below c.index_mut-2.ensures.value in
+    let o = owned k nodes lanes c.requires.standing.setting.nodes.0 c.requires.standing.places c.requires.standing.lawful c.requires.standing.linked
+    node c.apply_own.new.node lane c.apply_own.new.lane
     c.in-Ok.ensures.sound i below there_n there_l (c.in-Ok.ensures.applied (ap Ok (ok_is c.in-Ok.happened true e))) in (
-      record {
-        setting = refl;
-        can = o.can;
-        happens = o.happens;
-        standing = record { setting = c.requires.setting; openings = c.requires.openings; places = o.places; lawful = o.lawful; linked = o.linked };
-      },
+      record { setting = refl; can = o.can; happens = (o.happens, refl) },
+      stand_after k nodes lanes c.args.self.now.detector c.args.self.now.steps c.requires.standing (slice_set nodes i c.apply_own.new.node)
+          (slice_set lanes (i * c.args.self.now.n + i) c.apply_own.new.lane) c.args.self.now.detector
+          (Own i) c.requires.few o.places c.requires.standing.counted refl o.can (o.happens, refl),
       refl,
       refl,
     )
@@ -49,14 +48,15 @@ returns-in-Ok-clause-skipped c = λ e.
     let lane = c.index_mut-2.result.now in
     let below : i < c.args.self.now.n = c.if-node-self.false in
     let no = ok_is c.in-Ok.happened false e in
-    let there_n = node_there k nodes lanes c.requires.places i node below c.index_mut.ensures.value in
-    let there_l = slot_there k nodes lanes c.requires.places i i lane below below c.index_mut-2.ensures.value in (
-      λ can. cant_own k nodes lanes node lane c.requires.places.lanes_whole i there_n (c.in-Ok.ensures.none.0 (ap Ok no)) can.1,
+    let there_n = node_there k nodes lanes c.requires.standing.places i node below c.index_mut.ensures.value in
+    let there_l = slot_there k nodes lanes c.requires.standing.places i i lane below below c.index_mut-2.ensures.value in (
+      λ can. cant_own k nodes lanes node lane c.requires.standing.places.lanes_whole i there_n (c.in-Ok.ensures.none.0 (ap Ok no)) can.1,
       record {
         setting = refl;
         nodes = ap (λ x. slice_set nodes i x) (c.in-Ok.ensures.nothing (ap Ok no)).0 ∙ set_same nodes i node there_n;
         lanes = ap (λ x. slice_set lanes (i * c.args.self.now.n + i) x) (c.in-Ok.ensures.nothing (ap Ok no)).1
             ∙ set_same lanes (i * c.args.self.now.n + i) lane there_l;
+        detector = refl;
         steps = refl;
         failed = refl;
       },
@@ -71,11 +71,11 @@ returns-in-Err-clause-stopped c =
     let node = c.index_mut.result.now in
     let lane = c.index_mut-2.result.now in
     let below : i < c.args.self.now.n = c.if-node-self.false in
-    let there_n = node_there k nodes lanes c.requires.places i node below c.index_mut.ensures.value in
-    let there_l = lane_there k nodes lanes c.requires.places i i lane below below c.index_mut-2.ensures.value in (
+    let there_n = node_there k nodes lanes c.requires.standing.places i node below c.index_mut.ensures.value in
+    let there_l = lane_there k nodes lanes c.requires.standing.places i i lane below below c.index_mut-2.ensures.value in (
       i,
       c.in-Err.cause,
       refl,
-      λ class is. own_no_contradiction k nodes lanes c.requires.setting.nodes.0 c.requires.places c.requires.lawful c.requires.linked i node lane
+      λ class is. own_no_contradiction k nodes lanes c.requires.standing.setting.nodes.0 c.requires.standing.places c.requires.standing.lawful c.requires.standing.linked i node lane
           c.in-Err.cause class below there_n there_l c.in-Err.ensures.stopped is,
     )

@@ -1,12 +1,12 @@
 -- The node that posts.
-use Rattle.std.proofs.Common.{◌≡◌, ℕ, ◌<◌, ◌+◌, ◌*◌, refl, sym, ap, ◌∙◌, subst, arith, true, false, Ok, Some, slice_get, slice_set, length}
+use Rattle.std.proofs.Common.{ℕ, ◌<◌, ◌+◌, ◌*◌, refl, sym, ap, ◌∙◌, subst, Ok, slice_set}
 use Rattle.dob_world.specs.declared.event.Event.TheVariants.{Post}
-use Rattle.dob_world.specs.Events.{CanHappen}
-use Rattle.dob_world.specs.Shown.{setting_of, state_of, state_shown, lane_at, IsNodeOf, IsStanding}
-use Rattle.dob_world.proofs.Slots.{there_by, set_same}
+use Rattle.dob_safra.specs.declared.event.RingEvent.TheVariants as ring
+use Rattle.dob_world.specs.Shown.{setting_of, ring_of}
+use Rattle.dob_world.proofs.Slots.{set_same}
 use Rattle.dob_world.proofs.Stands.{node_there, lane_there, slot_there}
 use Rattle.dob_world.proofs.Outcomes.{posted, cant_post}
-use Rattle.dob_world.proofs.Firsts.{ok_is}
+use Rattle.dob_world.proofs.Stood.{stand_after, ring_lawful, low_ring, moved_here, sender_black, room_to_post}
 use Rattle.dob_world.proofs.world.World.post.Goals as goal
 
 pub post-requires-clause-sound : goal.post-requires-clause-sound
@@ -20,8 +20,8 @@ post-requires-clause-sound c =
     let lane = c.index_mut-2.result.now in
     let low_i : i < c.args.self.now.n = c.if-from-self.false in
     let low_j : j < c.args.self.now.n = c.if-to-self.false in
-    let there_n = node_there k nodes lanes c.requires.places i node low_i c.index_mut.ensures.value in
-    (c.requires.places.node i node there_n).sound
+    let there_n = node_there k nodes lanes c.requires.standing.places i node low_i c.index_mut.ensures.value in
+    (c.requires.standing.places.node i node there_n).sound
 
 pub post-requires-clause-to : goal.post-requires-clause-to
 post-requires-clause-to c =
@@ -34,58 +34,114 @@ post-requires-clause-to c =
     let lane = c.index_mut-2.result.now in
     let low_i : i < c.args.self.now.n = c.if-from-self.false in
     let low_j : j < c.args.self.now.n = c.if-to-self.false in
-    let there_n = node_there k nodes lanes c.requires.places i node low_i c.index_mut.ensures.value in
-    subst (λ (m : ℕ). j < m) (sym (c.requires.places.node i node there_n).of.2) low_j
+    let there_n = node_there k nodes lanes c.requires.standing.places i node low_i c.index_mut.ensures.value in
+    subst (λ (m : ℕ). j < m) (sym (c.requires.standing.places.node i node there_n).of.2) low_j
 
-pub returns-in-Ok-clause-done : goal.returns-in-Ok-clause-done
-returns-in-Ok-clause-done c = λ e.
+pub count_post-requires-clause-counted : goal.count_post-requires-clause-counted
+count_post-requires-clause-counted c =
+    c.requires.standing.counted
+
+pub count_post-requires-clause-lawful : goal.count_post-requires-clause-lawful
+count_post-requires-clause-lawful c =
     let k = setting_of c.args.self.now in
     let nodes = c.args.self.now.nodes.items in
     let lanes = c.args.self.now.lanes.items in
+    ring_lawful k nodes lanes c.args.self.now.detector c.args.self.now.steps c.requires.standing
+
+pub count_post-requires-clause-from : goal.count_post-requires-clause-from
+count_post-requires-clause-from c =
+    let k = setting_of c.args.self.now in
+    let nodes = c.args.self.now.nodes.items in
+    let lanes = c.args.self.now.lanes.items in
+    low_ring k nodes lanes c.args.self.now.detector c.args.self.now.steps c.requires.standing c.args.from c.if-from-self.false
+
+pub count_post-requires-clause-to : goal.count_post-requires-clause-to
+count_post-requires-clause-to c =
+    let k = setting_of c.args.self.now in
+    let nodes = c.args.self.now.nodes.items in
+    let lanes = c.args.self.now.lanes.items in
+    low_ring k nodes lanes c.args.self.now.detector c.args.self.now.steps c.requires.standing c.args.to c.if-to-self.false
+
+pub count_post-requires-clause-few : goal.count_post-requires-clause-few
+count_post-requires-clause-few c =
+    let k = setting_of c.args.self.now in
+    let nodes = c.args.self.now.nodes.items in
+    let lanes = c.args.self.now.lanes.items in
+    room_to_post k nodes lanes c.args.self.now.detector c.args.self.now.steps c.requires.standing c.args.from c.args.to c.if-from-self.false c.if-to-self.false c.requires.few
+
+pub count_post-requires-clause-black : goal.count_post-requires-clause-black
+count_post-requires-clause-black c =
+    let k = setting_of c.args.self.now in
+    let nodes = c.args.self.now.nodes.items in
+    let lanes = c.args.self.now.lanes.items in
+    let detector = c.args.self.now.detector in
     let i = c.args.from in
     let j = c.args.to in
     let node = c.index_mut.result.now in
     let lane = c.index_mut-2.result.now in
     let low_i : i < c.args.self.now.n = c.if-from-self.false in
     let low_j : j < c.args.self.now.n = c.if-to-self.false in
-    let there_n = node_there k nodes lanes c.requires.places i node low_i c.index_mut.ensures.value in
-    let there_l = lane_there k nodes lanes c.requires.places i j lane low_i low_j c.index_mut-2.ensures.value in
-    let done = ok_is c.in-Ok.happened true e in
-    let some = c.in-Ok.ensures.some (ap Ok done) in
-    let o = posted k nodes lanes c.requires.setting.nodes.0 c.requires.places c.requires.lawful c.requires.linked node c.post.new.node lane c.post.new.lane
-    c.in-Ok.ensures.sound i j low_i low_j c.if-from-to.false there_n there_l (c.in-Ok.ensures.posted (ap Ok done)) some.0 some.1 in (
-      record {
-        setting = refl;
-        can = o.can;
-        happens = o.happens;
-        standing = record { setting = c.requires.setting; openings = c.requires.openings; places = o.places; lawful = o.lawful; linked = o.linked };
-      },
+    let stand = c.requires.standing in
+    let there_n = node_there k nodes lanes stand.places i node low_i c.index_mut.ensures.value in
+    let there_l = lane_there k nodes lanes stand.places i j lane low_i low_j c.index_mut-2.ensures.value in
+    let done = ap Ok c.in-Ok-true.field-0-test in
+    let some = c.in-Ok-true.ensures.some done in
+    let o = posted k nodes lanes stand.setting.nodes.0 stand.places stand.lawful stand.linked node c.post.new.node lane c.post.new.lane
+    c.in-Ok-true.ensures.sound i j low_i low_j c.if-from-to.false there_n there_l (c.in-Ok-true.ensures.posted done) some.0 some.1 in
+    sender_black k nodes lanes detector c.args.self.now.steps stand i j low_i low_j c.if-from-to.false o.can.3
+
+pub returns-in-Ok-true-clause-done : goal.returns-in-Ok-true-clause-done
+returns-in-Ok-true-clause-done c = λ e.
+    let k = setting_of c.args.self.now in
+    let nodes = c.args.self.now.nodes.items in
+    let lanes = c.args.self.now.lanes.items in
+    let detector = c.args.self.now.detector in
+    let i = c.args.from in
+    let j = c.args.to in
+    let node = c.index_mut.result.now in
+    let lane = c.index_mut-2.result.now in
+    let low_i : i < c.args.self.now.n = c.if-from-self.false in
+    let low_j : j < c.args.self.now.n = c.if-to-self.false in
+    let stand = c.requires.standing in
+    let there_n = node_there k nodes lanes stand.places i node low_i c.index_mut.ensures.value in
+    let there_l = lane_there k nodes lanes stand.places i j lane low_i low_j c.index_mut-2.ensures.value in
+    let done = ap Ok c.in-Ok-true.field-0-test in
+    let some = c.in-Ok-true.ensures.some done in
+    let o = posted k nodes lanes stand.setting.nodes.0 stand.places stand.lawful stand.linked node c.post.new.node lane c.post.new.lane
+    c.in-Ok-true.ensures.sound i j low_i low_j c.if-from-to.false there_n there_l (c.in-Ok-true.ensures.posted done) some.0 some.1 in
+    let moved = moved_here k nodes lanes detector c.args.self.now.steps stand (ring.Post i j) (ring_of c.count_post.new.self) c.count_post.ensures.moved in (
+      record { setting = refl; can = o.can; happens = (o.happens, moved) },
+      stand_after k nodes lanes detector c.args.self.now.steps stand (slice_set nodes i c.post.new.node) (slice_set lanes (i * c.args.self.now.n + j) c.post.new.lane)
+          c.count_post.new.self (Post i j) c.requires.few o.places c.count_post.ensures.counted.0 c.count_post.ensures.counted.1 o.can (o.happens, moved),
       refl,
       refl,
     )
 
-pub returns-in-Ok-clause-skipped : goal.returns-in-Ok-clause-skipped
-returns-in-Ok-clause-skipped c = λ e.
+pub returns-in-Ok-false-clause-skipped : goal.returns-in-Ok-false-clause-skipped
+returns-in-Ok-false-clause-skipped c = λ e.
     let k = setting_of c.args.self.now in
     let nodes = c.args.self.now.nodes.items in
     let lanes = c.args.self.now.lanes.items in
+    let detector = c.args.self.now.detector in
     let i = c.args.from in
     let j = c.args.to in
     let node = c.index_mut.result.now in
     let lane = c.index_mut-2.result.now in
     let low_i : i < c.args.self.now.n = c.if-from-self.false in
     let low_j : j < c.args.self.now.n = c.if-to-self.false in
-    let there_n = node_there k nodes lanes c.requires.places i node low_i c.index_mut.ensures.value in
-    let there_l = lane_there k nodes lanes c.requires.places i j lane low_i low_j c.index_mut-2.ensures.value in
-    let slot_l = slot_there k nodes lanes c.requires.places i j lane low_i low_j c.index_mut-2.ensures.value in
-    let no = ok_is c.in-Ok.happened false e in (
-      λ can. cant_post k nodes lanes node lane c.requires.places.lanes_whole i j low_i low_j there_n there_l (c.requires.places.lane i j lane there_l).capacity
-          (c.in-Ok.ensures.none (ap Ok no)) can.3 can.4,
+    let stand = c.requires.standing in
+    let there_n = node_there k nodes lanes stand.places i node low_i c.index_mut.ensures.value in
+    let there_l = lane_there k nodes lanes stand.places i j lane low_i low_j c.index_mut-2.ensures.value in
+    let slot_l = slot_there k nodes lanes stand.places i j lane low_i low_j c.index_mut-2.ensures.value in
+    let none = ap Ok c.in-Ok-false.field-0-test in (
+      λ can. cant_post k nodes lanes node lane stand.places.lanes_whole i j low_i low_j there_n there_l (stand.places.lane i j lane there_l).capacity
+          (c.in-Ok-false.ensures.none none) can.3 can.4,
       record {
         setting = refl;
-        nodes = ap (λ x. slice_set nodes i x) (c.in-Ok.ensures.nothing (ap Ok no)).0 ∙ set_same nodes i node there_n;
-        lanes = ap (λ x. slice_set lanes (i * c.args.self.now.n + j) x) (c.in-Ok.ensures.nothing (ap Ok no)).1
+        nodes = ap (λ x. slice_set nodes i x) (c.in-Ok-false.ensures.nothing none).0 ∙ set_same nodes i node there_n;
+        lanes = ap (λ x. slice_set lanes (i * c.args.self.now.n + j) x) (c.in-Ok-false.ensures.nothing none).1
             ∙ set_same lanes (i * c.args.self.now.n + j) lane slot_l;
+        detector = refl;
         steps = refl;
         failed = refl;
       },

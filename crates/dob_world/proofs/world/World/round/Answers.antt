@@ -1,8 +1,9 @@
 -- One event more is made, or skipped.
-use Rattle.std.proofs.Common.{refl, subst, ap, Ok}
+use Rattle.std.proofs.Common.{◌≡◌, arith, refl, subst, ap, Ok}
 use Rattle.dob_world.specs.declared.event.Event.{Event}
+use Rattle.dob_world.specs.Rounds.{round_length}
 use Rattle.dob_world.proofs.Ran.{Stepped, stepped}
-use Rattle.dob_world.proofs.Driven.{one_more}
+use Rattle.dob_world.proofs.Driven.{one_more, round_done}
 use Rattle.dob_world.proofs.world.World.round.Goals as goal
 
 pub loop-place-preserved : goal.loop-place-preserved
@@ -15,3 +16,8 @@ loop-place-preserved c =
       before = refl;
       n = refl;
     }
+
+pub returns-clause-made : goal.returns-clause-made
+returns-clause-made c =
+    let whole : c.loop-place.place ≡ round_length c.args.self.now.n = omega (arith, c.loop-place-test.false, c.loop-place.auto.place-end) in
+    round_done c.args.self.now c.loop-place.self c.loop-place.place c.loop-place.invariant.way whole

@@ -1,0 +1,73 @@
+-- Where nothing is left to do, and what the promise of the whole says of every world.
+use Rattle.std.proofs.Common.{◌≡◌, ◌+◌, ◌-◌, ◌<◌, Bool, true, false, refl, sym, ap, ◌∙◌, arith, List, [], ◌∷◌, length}
+use Rattle.dob_safra.specs.Rings.{sum_below, in_flight, AllWhite, AllTaken}
+use Rattle.dob_safra.specs.Laws.{IsQuiet}
+use Rattle.dob_safra.proofs.Quiet.{quiet}
+use Rattle.dob_safra.proofs.Sums.{sum_same}
+use Rattle.dob_world.specs.declared.event.Event.{Event}
+use Rattle.dob_world.specs.declared.event.Event.TheVariants.{Expand, Own, Post, Take, Pass, Announce}
+use Rattle.dob_world.specs.Worlds.{Setting, State, IsTold, IsAtRest, waiting_batches}
+use Rattle.dob_world.specs.Events.{CanHappen}
+use Rattle.dob_world.specs.Laws.{EndIsRest, RestStays, EndIsSilent}
+
+none_some : {X : Type 0} (xs : List X) → xs ≡ [] → 0 < length xs → ⊥
+none_some xs is some = let e : length xs ≡ 0 = ap length is in omega arith
+
+none_long : {X : Type 0} (xs : List X) → length xs ≡ 0 → xs ≡ []
+none_long [] is = refl
+none_long (x ∷ xs) is = absurd (omega (arith, is))
+
+-- where all nodes are white and each batch is taken, nothing is left to do
+pub white_rest : (k : Setting) (state : State) → IsTold k state → AllWhite k.n state.ring → AllTaken k.n state.ring → IsAtRest k state.world
+white_rest k state told white taken = record {
+  expanded = λ i low. (told.idle i low (white i low)).expanded;
+  own = λ i low. (told.idle i low (white i low)).own;
+  outboxes = λ i j low_i low_j differs. (told.idle i low_i (white i low_i)).outboxes j low_j (λ same. differs (sym same));
+  links = λ i j low_i low_j differs. none_long (state.world.waiting i j)
+      (let is : state.ring.posted i j ≡ state.ring.taken i j + length (state.world.waiting i j) = told.posted i j low_i low_j in
+      let all : state.ring.posted i j ≡ state.ring.taken i j = taken i j low_i low_j in
+      omega (arith, is, all));
+}
+
+pub end_is_rest : EndIsRest
+end_is_rest k state size told may =
+    let is : IsQuiet k.n state.ring = quiet k.n state.ring true size told.lawful may.1 in
+    white_rest k state told is.all_white is.all_taken
+
+announced_not : (b : Bool) → b ≡ true → b ≡ false → ⊥
+announced_not b ended running = let e : true ≡ false = sym ended ∙ running in absurd cc
+
+-- ---- what can happen where nothing is left to do
+
+pub rest_stays : RestStays
+rest_stays k old new (Expand i) rest can step = absurd (let e : old.world.expanded i ≡ length (old.world.nodes.history i) = rest.expanded i can.0 in omega (arith, can.1))
+rest_stays k old new (Own i) rest can step = absurd (none_some (old.world.own i) (rest.own i can.0) can.1)
+rest_stays k old new (Post i j) rest can step = absurd (none_some (old.world.outbox i j) (rest.outboxes i j can.0 can.1 can.2) can.3)
+rest_stays k old new (Take i j) rest can step = absurd (none_some (old.world.waiting i j) (rest.links i j can.0 can.1 can.2) can.3)
+rest_stays k old new (Pass i) rest can step = step.0
+rest_stays k old new Announce rest can step = step.0
+
+pub end_is_silent : EndIsSilent
+end_is_silent k state told ended = record {
+  rest = rest;
+  nothing = none;
+}
+  where
+    rest : IsAtRest k state.world
+    rest = white_rest k state told (told.lawful.all_white ended) (told.lawful.all_taken ended)
+
+    none : (event : Event) → CanHappen k state event → ⊥
+    none (Expand i) can = let e : state.world.expanded i ≡ length (state.world.nodes.history i) = rest.expanded i can.0 in omega (arith, can.1)
+    none (Own i) can = none_some (state.world.own i) (rest.own i can.0) can.1
+    none (Post i j) can = none_some (state.world.outbox i j) (rest.outboxes i j can.0 can.1 can.2) can.3
+    none (Take i j) can = none_some (state.world.waiting i j) (rest.links i j can.0 can.1 can.2) can.3
+    none (Pass i) can = announced_not state.ring.announced ended can.3
+    none Announce can = announced_not state.ring.announced ended can.1
+
+-- ---- batches in flight
+
+pub flight_waits : (k : Setting) (state : State) → IsTold k state → in_flight k.n state.ring ≡ waiting_batches k.n state.world
+flight_waits k state told =
+    sum_same k.n (λ i. sum_below k.n (λ j. length (state.world.waiting i j))) (λ i. sum_below k.n (λ j. state.ring.posted i j - state.ring.taken i j))
+    (λ i low_i. sum_same k.n (λ j. length (state.world.waiting i j)) (λ j. state.ring.posted i j - state.ring.taken i j)
+    (λ j low_j. let is : state.ring.posted i j ≡ state.ring.taken i j + length (state.world.waiting i j) = told.posted i j low_i low_j in omega (arith, is)))

@@ -1,0 +1,112 @@
+-- A world that stands after an event, and what standing gives of the ring and of idle nodes.
+use Rattle.std.proofs.Common.{◌≡◌, ◌≢◌, ℕ, zero, suc, ◌+◌, ◌^◌, ◌<◌, ◌≤◌, inl, inr, true, refl, sym, ap, ◌∙◌, subst, arith, List, [], ◌∷◌, length, Some, slice_get}
+use Rattle.std.specs.Prelude.{slice_index_or}
+use Rattle.std.proofs.lemmas.Bool.{cases_lt, cases_eq}
+use Rattle.dob_safra.specs.declared.event.RingEvent.{RingEvent}
+use Rattle.dob_safra.specs.Rings.{Ring, IsLawful, Moved, IsAnnounceable}
+use Rattle.dob_update.specs.Batches.{OutboxView, empty_outbox}
+use Rattle.dob_node.specs.declared.node.Node.{Node}
+use Rattle.dob_node.specs.Nodes.{IsIdle as IsIdleNode, outbox_to}
+use Rattle.dob_world.specs.declared.detector.Detector.{Detector}
+use Rattle.dob_world.specs.declared.event.Event.{Event}
+use Rattle.dob_world.specs.declared.lane.Lane.{Lane}
+use Rattle.dob_world.specs.Worlds.{Setting, State, IsIdle}
+use Rattle.dob_world.specs.Events.{CanHappen, Happens}
+use Rattle.dob_world.specs.Shown.{nodes_shown, world_shown, ring_of, AreInPlace, IsCounted, Stand, HasAtMost}
+use Rattle.dob_world.proofs.Slots.{was}
+use Rattle.dob_world.proofs.Kept.{happening_keeps_all}
+use Rattle.dob_world.proofs.Told.{busy_black, happening_keeps_told, posted_most}
+
+abbrev pub state_at : Setting → List Node → List Lane → Detector → State
+state_at k nodes lanes detector = record { world = world_shown k.set k.n nodes lanes; ring = ring_of detector }
+
+none_some : {X : Type 0} (xs : List X) → xs ≡ [] → 0 < length xs → ⊥
+none_some xs is some = let e : length xs ≡ 0 = ap length is in omega arith
+
+module _ (k : Setting) (nodes : List Node) (lanes : List Lane) (detector : Detector) (steps : ℕ) (stand : Stand k nodes lanes detector steps) where
+  pub stand_after : (after : List Node) (next : List Lane) (new : Detector) (event : Event) → steps < 2 ^ 40 → AreInPlace k after next → IsCounted new →
+      new.n ≡ detector.n → CanHappen k (state_at k nodes lanes detector) event →
+      Happens k (state_at k nodes lanes detector) event (state_at k after next new) → Stand k after next new (steps + 1)
+  stand_after after next new event room places counted same can happens =
+      let both = happening_keeps_all k (state_at k nodes lanes detector) (state_at k after next new) event stand.setting.nodes.0 stand.lawful stand.linked can happens in
+      let few : HasAtMost k.n (steps + 1) (ring_of new) =
+      posted_most k (state_at k nodes lanes detector) (state_at k after next new) event steps happens stand.few in
+      record {
+        setting = stand.setting;
+        openings = stand.openings;
+        places = places;
+        counted = counted;
+        same_n = same ∙ stand.same_n;
+        lawful = both.0;
+        linked = both.1;
+        told = happening_keeps_told k (state_at k nodes lanes detector) (state_at k after next new) event stand.setting.nodes stand.told can happens
+            (λ i j low_i low_j. omega (arith, few i j low_i low_j, room));
+        few = few;
+      }
+
+  -- ---- what the detector may count
+
+  pub ring_lawful : IsLawful detector.n (ring_of detector)
+  ring_lawful = subst (λ (m : ℕ). IsLawful m (ring_of detector)) (sym stand.same_n) stand.told.lawful
+
+  pub low_ring : (i : ℕ) → i < k.n → i < detector.n
+  low_ring i low = omega (arith, low, stand.same_n)
+
+  pub moved_here : (event : RingEvent) (new : Ring) → Moved detector.n (ring_of detector) event new → Moved k.n (ring_of detector) event new
+  moved_here event new moved = subst (λ (m : ℕ). Moved m (ring_of detector) event new) stand.same_n moved
+
+  pub announceable_here : IsAnnounceable detector.n (ring_of detector) true → IsAnnounceable k.n (ring_of detector) true
+  announceable_here may = subst (λ (m : ℕ). IsAnnounceable m (ring_of detector) true) stand.same_n may
+
+  pub announceable_there : IsAnnounceable k.n (ring_of detector) true → IsAnnounceable detector.n (ring_of detector) true
+  announceable_there may = subst (λ (m : ℕ). IsAnnounceable m (ring_of detector) true) (sym stand.same_n) may
+
+  pub sender_black : (i j : ℕ) → i < k.n → j < k.n → i ≢ j → 0 < length ((world_shown k.set k.n nodes lanes).outbox i j) → (ring_of detector).black i ≡ true
+  sender_black i j low_i low_j differs some = busy_black k (state_at k nodes lanes detector) stand.told i low_i
+      (λ idle. none_some ((world_shown k.set k.n nodes lanes).outbox i j) (idle.outboxes j low_j (λ same. differs (sym same))) some)
+
+  pub room_to_post : (i j : ℕ) → i < k.n → j < k.n → steps < 2 ^ 40 → (ring_of detector).posted i j < 2 ^ 40
+  room_to_post i j low_i low_j room = let few : (ring_of detector).posted i j ≤ steps = stand.few i j low_i low_j in omega (arith, few, room)
+
+  pub batch_waits : (i j : ℕ) → i < k.n → j < k.n → 0 < length ((world_shown k.set k.n nodes lanes).waiting i j) →
+      (ring_of detector).taken i j < (ring_of detector).posted i j
+  batch_waits i j low_i low_j some =
+      let is : (ring_of detector).posted i j ≡ (ring_of detector).taken i j + length ((world_shown k.set k.n nodes lanes).waiting i j) =
+      stand.told.posted i j low_i low_j in
+      omega (arith, is, some)
+
+-- ---- idle nodes
+
+beyond : {X : Type 0} (xs : List X) (i : ℕ) (d : X) → length xs ≤ i → slice_index_or xs i d ≡ d
+beyond [] i d past = refl
+beyond (x ∷ xs) zero d past = absurd (omega arith)
+beyond (x ∷ xs) (suc i) d past = beyond xs i d (omega arith)
+
+module _ (k : Setting) (nodes : List Node) (lanes : List Lane) (places : AreInPlace k nodes lanes) (i : ℕ) (node : Node) (low : i < k.n)
+    (there : slice_get nodes i ≡ Some node) where
+  pub idle_shown : IsIdleNode node → IsIdle k (world_shown k.set k.n nodes lanes) i
+  unfolding world_shown nodes_shown
+  idle_shown idle = record {
+    expanded = was nodes i node node there 0 (λ (x : Node). x.expanded) ∙ idle.expanded
+        ∙ ap length (sym (was nodes i node node there [] (λ (x : Node). x.history.settlements)));
+    own = was nodes i node node there [] (λ (x : Node). x.own.items) ∙ idle.applied;
+    outboxes = λ j low_j differs. was nodes i node node there [] (λ (x : Node). (outbox_to x j).items) ∙ idle.sent j;
+  }
+
+  pub shown_idle : IsIdle k (world_shown k.set k.n nodes lanes) i → IsIdleNode node
+  unfolding world_shown nodes_shown
+  shown_idle idle = record {
+    expanded = sym (was nodes i node node there 0 (λ (x : Node). x.expanded)) ∙ idle.expanded
+        ∙ ap length (was nodes i node node there [] (λ (x : Node). x.history.settlements));
+    applied = sym (was nodes i node node there [] (λ (x : Node). x.own.items)) ∙ idle.own;
+    sent = λ to. elim (cases_lt to k.n) [
+      | inl within ↦ elim (cases_eq to i) [
+        | inl itself ↦ ap (λ (m : ℕ). (outbox_to node m).items) (itself ∙ sym (places.node i node there).of.1) ∙ (places.node i node there).sound.nothing_to_self
+        | inr other ↦ sym (was nodes i node node there [] (λ (x : Node). (outbox_to x to).items)) ∙ idle.outboxes to within other
+      ]
+      | inr past ↦ ap (λ (o : OutboxView). o.items) (beyond node.outboxes.items to (empty_outbox node.set node.n node.id to)
+          (let count : length node.outboxes.items ≡ node.n = (places.node i node there).sound.receivers in
+          let of : node.n ≡ k.n = (places.node i node there).of.2 in
+          omega (arith, count, of, past)))
+    ];
+  }

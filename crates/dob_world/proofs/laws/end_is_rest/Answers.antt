@@ -1,0 +1,5 @@
+use Rattle.dob_world.proofs.Over.{end_is_rest}
+use Rattle.dob_world.proofs.laws.end_is_rest.Goals as goal
+
+pub returns : goal.returns
+returns c = end_is_rest

@@ -1,0 +1,5 @@
+use Rattle.dob_world.proofs.Over.{end_is_silent}
+use Rattle.dob_world.proofs.laws.end_is_silent.Goals as goal
+
+pub returns : goal.returns
+returns c = end_is_silent

@@ -1,0 +1,5 @@
+use Rattle.dob_world.proofs.Over.{rest_stays}
+use Rattle.dob_world.proofs.laws.rest_stays.Goals as goal
+
+pub returns : goal.returns
+returns c = rest_stays

@@ -1,0 +1,5 @@
+use Rattle.dob_world.proofs.Still.{still_is_ended}
+use Rattle.dob_world.proofs.laws.still_is_ended.Goals as goal
+
+pub returns : goal.returns
+returns c = still_is_ended

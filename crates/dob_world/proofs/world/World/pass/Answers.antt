@@ -1,0 +1,57 @@
+-- The node that passes the token.
+use Rattle.std.proofs.Common.{◌≡◌, ◌<◌, ℕ, refl, sym, ◌∙◌, subst}
+use Rattle.dob_safra.specs.declared.event.RingEvent.TheVariants as ring
+use Rattle.dob_safra.specs.Rings.{Moved}
+use Rattle.dob_world.specs.declared.event.Event.TheVariants.{Pass}
+use Rattle.dob_world.specs.Events.{CanHappen, MayEnd}
+use Rattle.dob_world.specs.Shown.{setting_of, state_of, ring_of}
+use Rattle.dob_world.proofs.Stands.{node_there}
+use Rattle.dob_world.proofs.Stood.{stand_after, moved_here, announceable_there, idle_shown, shown_idle}
+use Rattle.dob_world.proofs.world.World.pass.Goals as goal
+use Rattle.dob_world.proofs.world.World.pass.Goals.{else-node-eq0-via-then-node-eq0+else-may_end, else-node-eq0-via-else-node-eq0}
+
+pub returns-then-not-is_idle-clause-skipped : goal.returns-then-not-is_idle-clause-skipped
+returns-then-not-is_idle-clause-skipped c = λ e.
+    let k = setting_of c.args.self.now in
+    let nodes = c.args.self.now.nodes.items in
+    let lanes = c.args.self.now.lanes.items in
+    let places = c.requires.standing.places in
+    let node = c.index.result.now in
+    let low : c.args.node < c.args.self.now.n = c.if-node-self.false in
+    let there = node_there k nodes lanes places c.args.node node low c.index.ensures in (
+      λ can. let both = sym (c.is_idle.ensures.1 (shown_idle k nodes lanes places c.args.node node low there can.2)) ∙ c.if-not-is_idle.true in cc,
+      record { setting = refl; nodes = refl; lanes = refl; detector = refl; steps = refl; failed = refl },
+    )
+
+pub returns-clause-done : goal.returns-clause-done
+returns-clause-done c = λ e.
+    let k = setting_of c.args.self.now in
+    let nodes = c.args.self.now.nodes.items in
+    let lanes = c.args.self.now.lanes.items in
+    let detector = c.args.self.now.detector in
+    let steps = c.args.self.now.steps in
+    let stand = c.requires.standing in
+    let node = c.index.result.now in
+    let low : c.args.node < c.args.self.now.n = c.if-node-self.false in
+    let there = node_there k nodes lanes stand.places c.args.node node low c.index.ensures in
+    let at : detector.token.at ≡ c.args.node = sym c.if-node-self-2.false in
+    let not_yet : c.args.node ≡ 0 → MayEnd k (state_of c.args.self.now) → ⊥ = λ first may. elim c.else-node-eq0.branch [
+      | else-node-eq0-via-then-node-eq0+else-may_end w ↦
+          let both = sym (w.may_end.ensures.1 (announceable_there k nodes lanes detector steps stand may.1)) ∙ w.if-may_end.false in cc
+      | else-node-eq0-via-else-node-eq0 w ↦ w.if-node-eq0.false first
+    ] in
+    let can : CanHappen k (state_of c.args.self.now) (Pass c.args.node) = (
+      low,
+      at,
+      idle_shown k nodes lanes stand.places c.args.node node low there (c.is_idle.ensures.0 c.if-not-is_idle.false),
+      c.if-self.false,
+      not_yet,
+    ) in
+    let moved = subst (λ (i : ℕ). Moved k.n (ring_of detector) (ring.Pass i) (ring_of c.pass_token.new.self)) at
+    (moved_here k nodes lanes detector steps stand (ring.Pass detector.token.at) (ring_of c.pass_token.new.self) c.pass_token.ensures.moved) in (
+      record { setting = refl; can = can; happens = (refl, moved) },
+      stand_after k nodes lanes detector steps stand nodes lanes c.pass_token.new.self (Pass c.args.node) c.requires.few stand.places
+          c.pass_token.ensures.counted.0 c.pass_token.ensures.counted.1 can (refl, moved),
+      refl,
+      refl,
+    )

@@ -1,0 +1,30 @@
+-- The world stands on after the event, and so the promise of the whole holds of it.
+use Rattle.std.proofs.Common.{◌≡◌, ◌+◌, rules, ap, ◌∙◌, Ok, None}
+use Rattle.dob_world.specs.Shown.{setting_of, IsStanding}
+use Rattle.dob_world.proofs.Promise.{standing_headline, stood_headline, stand_unchanged}
+use Rattle.dob_world.proofs.world.World.step.Goals as goal
+
+pub returns-in-Ok-true-clause-headline : goal.returns-in-Ok-true-clause-headline
+returns-in-Ok-true-clause-headline c =
+    let made = c.in-Ok-true.ensures.done (ap Ok c.in-Ok-true.field-0-test) in
+    let world = c.make.new.self in
+    stood_headline (setting_of world) world.nodes.items world.lanes.items world.detector (world.steps + 1) made.1
+
+pub returns-in-Ok-true-clause-going : goal.returns-in-Ok-true-clause-going
+returns-in-Ok-true-clause-going c =
+    let made = c.in-Ok-true.ensures.done (ap Ok c.in-Ok-true.field-0-test) in
+    let none : c.args.self.now.failed ≡ None = search rules in
+    (made.2 ∙ none, made.1)
+
+pub returns-in-Ok-false-clause-headline : goal.returns-in-Ok-false-clause-headline
+returns-in-Ok-false-clause-headline c =
+    let skipped = c.in-Ok-false.ensures.skipped (ap Ok c.in-Ok-false.field-0-test) in
+    let standing : IsStanding c.args.self.now = search rules in
+    standing_headline c.make.new.self (stand_unchanged c.args.self.now c.make.new.self skipped.1 standing)
+
+pub returns-in-Ok-false-clause-going : goal.returns-in-Ok-false-clause-going
+returns-in-Ok-false-clause-going c =
+    let skipped = c.in-Ok-false.ensures.skipped (ap Ok c.in-Ok-false.field-0-test) in
+    let standing : IsStanding c.args.self.now = search rules in
+    let none : c.args.self.now.failed ≡ None = search rules in
+    (skipped.1.failed ∙ none, stand_unchanged c.args.self.now c.make.new.self skipped.1 standing)

@@ -1,0 +1,111 @@
+// What finds out that nothing is left to do: Safra's ring beside the nodes, with the batches that they posted and took.
+ghost use Rattle.std.specs.Prelude.{◌≡◌, ◌<◌, ◌≤◌, ◌^◌, ◌↔◌, true, IfOk, IsTrue};
+ghost use Rattle.dob_safra.specs.declared.event.RingEvent.TheVariants.{Post, Take, Pass, Announce};
+ghost use Rattle.dob_safra.specs.Rings.{IsLawful, IsStart, IsAnnounceable, Moved};
+ghost use Rattle.dob_world.specs.Shown.{ring_of, IsNumber, IsCounted};
+
+use dob_pieces::Memory;
+use dob_safra::{Token, may_announce, passed};
+use std::alloc::Global;
+
+/// How many batches were posted and how many of them taken, by sender and then by receiver; each node's counter and
+/// whether it is black; the token; and whether the end is announced.
+#[derive(Drop)]
+pub(crate) struct Detector {
+    pub(crate) n: usize,
+    pub(crate) posted: Vec<u64>,
+    pub(crate) taken: Vec<u64>,
+    pub(crate) counters: Vec<i64>,
+    pub(crate) black: Vec<bool>,
+    pub(crate) token: Token,
+    pub(crate) announced: bool,
+}
+
+impl Detector {
+    /// The ring of `n` nodes at its start.
+    pub(crate) fn open(alloc: Global, n: usize) -> Result<Detector, Memory>
+        requires { IsNumber n }
+        ensures start { IfOk result (λ detector. IsStart n (ring_of detector)) }
+        ensures counted { IfOk result (λ detector. IsCounted detector × (detector.n ≡ n)) }
+    {
+        let posted = vec![in alloc; 0; n * n]?;
+        let taken = vec![in alloc; 0; n * n]?;
+        let counters = vec![in alloc; 0; n]?;
+        let black = vec![in alloc; true; n]?;
+        Ok(Detector {
+            n,
+            posted,
+            taken,
+            counters,
+            black,
+            token: Token {
+                at: 0,
+                black: true,
+                sum: 0,
+            },
+            announced: false,
+        })
+    }
+
+    /// The black node `from` has posted a batch to the node `to`.
+    pub(crate) fn count_post(&mut self, from: usize, to: usize)
+        requires counted { IsCounted self.old }
+        requires lawful { IsLawful self.old.n (ring_of self.old) }
+        requires from { from < self.old.n }
+        requires to { to < self.old.n }
+        requires black { (ring_of self.old).black from ≡ true }
+        requires few { (ring_of self.old).posted from to < 2 ^ 40 }
+        ensures moved { Moved self.old.n (ring_of self.old) (Post from to) (ring_of self.new) }
+        ensures counted { IsCounted self.new × (self.new.n ≡ self.old.n) }
+    {
+        let place = from * self.n + to;
+        self.posted[place] += 1;
+        self.counters[from] += 1;
+    }
+
+    /// The node `to` has taken a batch of the node `from`, and is black now.
+    pub(crate) fn count_take(&mut self, from: usize, to: usize)
+        requires counted { IsCounted self.old }
+        requires lawful { IsLawful self.old.n (ring_of self.old) }
+        requires from { from < self.old.n }
+        requires to { to < self.old.n }
+        requires waiting { (ring_of self.old).taken from to < (ring_of self.old).posted from to }
+        ensures moved { Moved self.old.n (ring_of self.old) (Take from to) (ring_of self.new) }
+        ensures counted { IsCounted self.new × (self.new.n ≡ self.old.n) }
+    {
+        let place = from * self.n + to;
+        self.taken[place] += 1;
+        self.counters[to] -= 1;
+        self.black[to] = true;
+    }
+
+    /// The node that has the token passes it, and is white now.
+    pub(crate) fn pass_token(&mut self)
+        requires counted { IsCounted self.old }
+        requires lawful { IsLawful self.old.n (ring_of self.old) }
+        ensures moved { Moved self.old.n (ring_of self.old) (Pass self.old.token.at) (ring_of self.new) }
+        ensures counted { IsCounted self.new × (self.new.n ≡ self.old.n) }
+    {
+        let node = self.token.at;
+        self.token = passed(self.token, self.counters[node], self.black[node], self.n);
+        self.black[node] = false;
+    }
+
+    /// Whether the end may be announced, where node 0 is idle.
+    pub(crate) fn may_end(&self) -> bool
+        requires { IsCounted self.now }
+        ensures { IsTrue result ↔ IsAnnounceable self.now.n (ring_of self.now) true }
+    {
+        may_announce(self.token, self.counters[0], self.black[0], true)
+    }
+
+    /// The end, which may be announced, is.
+    pub(crate) fn announce_end(&mut self)
+        requires counted { IsCounted self.old }
+        requires may { IsAnnounceable self.old.n (ring_of self.old) true }
+        ensures moved { Moved self.old.n (ring_of self.old) Announce (ring_of self.new) }
+        ensures counted { IsCounted self.new × (self.new.n ≡ self.old.n) }
+    {
+        self.announced = true;
+    }
+}
