@@ -1,7 +1,7 @@
 // Questions and answers about worlds: `drive CEG N BATCH CAPACITY ROUNDS`, what driving a world by so many rounds answers,
 // and `events CEG N BATCH CAPACITY E ..`, a letter for each event: `D` where it is done, `s` where it is skipped, `?` where
-// it is none. Events are written `E0`, `O0`, `P0.1` and `T0.1` by the first letters of their names and their nodes. Behind
-// it stands what the world then shows, as shown.rt says.
+// it is none. Events are written `E0`, `O0`, `P0.1` and `T0.1` by the first letters of their names and their nodes, `S0` for a
+// pass of the token and `A` for the announcement. Behind it stands what the world then shows, as shown.rt says.
 ghost use Rattle.std.specs.Prelude.{◌≡◌, ◌*◌, ◌^◌, ◌≤◌, None, true, OnOk};
 ghost use Rattle.dob_world.specs.Rounds.{round_length};
 ghost use Rattle.dob_world.specs.Shown.{IsStanding, IsKept};
@@ -86,7 +86,7 @@ fn are_few(rounds: u64, nodes: usize) -> bool
     ensures { result ≡ true → rounds * round_length nodes ≤ 2 ^ 40 }
 {
     let nodes = nodes as u64;
-    match rounds.checked_mul(2 * nodes + 2 * (nodes * nodes)) {
+    match rounds.checked_mul(3 * nodes + 2 * (nodes * nodes) + 1) {
         Some(events) => events <= MOST_EVENTS,
         None => false,
     }
@@ -140,6 +140,8 @@ fn read_event(text: &str) -> Option<Event> {
             let (from, to) = read_nodes(nodes)?;
             Some(Event::Take { from, to })
         }
+        'S' => Some(Event::Pass(nodes.parse::<usize>().ok()?)),
+        'A' if nodes.is_empty() => Some(Event::Announce),
         _ => None,
     }
 }

@@ -116,7 +116,8 @@ pub(crate) fn show(alloc: Global, world: &World, nodes: usize) -> Result<String,
         Ok(told) => told,
         Err(_) => return Err(Memory),
     };
-    let mut text = format!(in alloc; "steps {steps} announced false {outcomes}")?;
+    let announced = world.announced();
+    let mut text = format!(in alloc; "steps {steps} announced {announced} {outcomes}")?;
     write!(text, " longest {} improved {}", told.longest, told.improved)?;
     write!(text, " sent {} settled", told.sent)?;
     for node in 0..nodes {
