@@ -217,6 +217,29 @@ impl Node {
         are_empty(&self.outboxes)
     }
 
+    /// Whether it has expanded all that its history has.
+    pub fn is_expanded(&self) -> bool
+        ensures { IsTrue result ↔ (self.now.expanded ≡ length self.now.history.settlements) }
+    {
+        self.expanded == self.history.len()
+    }
+
+    /// How many items it has to send to the node `to`.
+    pub fn left_for(&self, to: usize) -> usize
+        requires sound { IsSound self.now }
+        requires to { to < self.now.n }
+        ensures { result ≡ length (outbox_to self.now to).items }
+    {
+        self.outboxes[to].len()
+    }
+
+    /// How many own items it has to apply.
+    pub fn left_for_itself(&self) -> usize
+        ensures { result ≡ length self.now.own.items }
+    {
+        self.own.len()
+    }
+
     /// How many settlements its history has.
     pub fn settled(&self) -> u64
         ensures count { result ≡ length self.now.history.settlements }

@@ -55,7 +55,8 @@ few_in_layer s t legal below = by_layer t below
     by_layer (suc (suc zero)) h = few_left (count 2 (map layer s.board)) s.hands.mover.chicks s.hands.enemy.chicks
         (total hand.Chick s) parts.chicks (legal.few hand.Chick)
     by_layer (suc (suc (suc zero))) h
-        = few_left (count 3 (map layer s.board)) s.hands.mover.elephants s.hands.enemy.elephants (total hand.Elephant s) parts.elephants (legal.few hand.Elephant)
+        = few_left (count 3 (map layer s.board)) s.hands.mover.elephants s.hands.enemy.elephants
+        (total hand.Elephant s) parts.elephants (legal.few hand.Elephant)
     by_layer (suc (suc (suc (suc zero)))) h
         = few_left (count 4 (map layer s.board)) s.hands.mover.giraffes s.hands.enemy.giraffes (total hand.Giraffe s) parts.giraffes (legal.few hand.Giraffe)
     by_layer (suc (suc (suc (suc (suc t))))) h = absurd (omega (arith, h))

@@ -5,12 +5,12 @@ use Rattle.dob_update.specs.Batches.{BatchView}
 use Rattle.dob_safra.proofs.Kept.{same_or_not}
 use Rattle.dob_run.specs.Mails.{AreCounts}
 
-there_set : {L : Type 0} → (xs : List L) (k : ℕ) (new x : L) → slice_get (set xs k new) k ≡ Some x → new ≡ x
+pub there_set : {L : Type 0} → (xs : List L) (k : ℕ) (new x : L) → slice_get (set xs k new) k ≡ Some x → new ≡ x
 there_set [] k new x e = absurd (cc)
 there_set (y ∷ xs) zero new x e = cc
 there_set (y ∷ xs) (suc k) new x e = there_set xs k new x e
 
-else_set : {L : Type 0} → (xs : List L) (k j : ℕ) (new : L) → j ≢ k → slice_get (set xs k new) j ≡ slice_get xs j
+pub else_set : {L : Type 0} → (xs : List L) (k j : ℕ) (new : L) → j ≢ k → slice_get (set xs k new) j ≡ slice_get xs j
 else_set [] k j new apart = refl
 else_set (y ∷ xs) zero zero new apart = absurd (apart refl)
 else_set (y ∷ xs) zero (suc j) new apart = refl

@@ -1,1 +1,10 @@
 pub mod Counted
+pub mod Keeping
+pub mod Planned
+pub mod Lawfuls
+pub mod Laying
+pub mod Parting
+pub mod Places
+pub mod Rejoining
+pub mod Scanned
+pub mod Seated

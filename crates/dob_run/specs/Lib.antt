@@ -1,3 +1,14 @@
+pub mod Closing
+pub mod Ending
 pub mod Hands
+pub mod Laid
 pub mod Links
 pub mod Mails
+pub mod Batches
+pub mod Workers
+pub mod Keeps
+pub mod Runners
+pub mod Props
+pub mod Opening
+pub mod Rows
+pub mod Seating

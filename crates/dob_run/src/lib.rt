@@ -1,11 +1,28 @@
 // Workers: what a thread that drives a node of a build has, and what its steps keep.
 #![tactic(auto)]
 
+mod batches;
+mod closing;
+mod crew;
 mod gate;
 mod hands;
+mod lay;
 mod links;
 mod mail;
+mod rejoin;
+mod ring;
+mod rounds;
+mod runner;
+mod scans;
+mod turn;
+mod words;
+mod works;
 
 pub use gate::{Free, Gate};
 pub use hands::{Inlet, Outlet};
 pub use mail::Mail;
+pub use runner::Runner;
+pub use scans::scan;
+
+#[cfg(test)]
+mod tests;

@@ -1,12 +1,16 @@
 // What a worker does with its ends: it holds and offers batches, and receives and releases them.
-ghost use Rattle.std.specs.Prelude.{◌≡◌, ◌≢◌, ◌≤◌, ◌⊎◌, ◌↔◌, IsTrue, None, ◌∷◌, [], ◌++◌, length, MatchOption};
+ghost use Rattle.std.specs.Prelude.{◌≡◌, ◌≢◌, ◌≤◌, ◌⊎◌, IsTrue, true, false, None, Some, ◌∷◌, [], ◌++◌, length, MatchOption};
 ghost use Rattle.dob_chan.specs.Channels.{most_batches};
-ghost use Rattle.dob_chan.specs.Ends.{SendsOnSame, TakesOnSame};
+ghost use Rattle.dob_update.specs.Batches.{BatchView};
+ghost use Rattle.dob_chan.specs.Ends.{sent_by, taken_by};
+ghost use Rattle.dob_run.specs.Batches.{IsBatchFor};
 ghost use Rattle.dob_run.specs.Hands.{in_hand};
-ghost use Rattle.dob_run.specs.Links.{offered, worked};
+ghost use Rattle.dob_run.specs.Links.{offered, worked, KeepsOutlet, KeepsInlet};
 
+use crate::batches::is_for;
 use crate::hands::{Inlet, Outlet};
 use dob_chan::{SendEnd, TakeEnd};
+use dob_pieces::PieceSet;
 use dob_update::Batch;
 use std::sync::Wait;
 
@@ -21,7 +25,8 @@ impl Outlet {
 
     /// Whether a batch is in the hand.
     pub fn is_full(&self) -> bool
-        ensures { IsTrue result ↔ (self.now.hand ≢ None) }
+        ensures full { result ≡ true → self.now.hand ≢ None }
+        ensures empty { result ≡ false → self.now.hand ≡ None }
     {
         self.hand.is_some()
     }
@@ -40,7 +45,7 @@ impl Outlet {
     pub fn offer<R: Wait>(&mut self, rt: &R)
         requires { length (offered self.old) ≤ most_batches }
         ensures offered { offered self.new ≡ offered self.old }
-        ensures same { SendsOnSame self.old.end self.new.end }
+        ensures keeps { KeepsOutlet self.old self.new }
         ensures hand { (self.new.hand ≡ self.old.hand) ⊎ (self.new.hand ≡ None) }
     {
         let Some(batch) = self.hand.take() else {
@@ -63,15 +68,27 @@ impl Inlet {
 
     /// Whether a batch is in the hand.
     pub fn is_full(&self) -> bool
-        ensures { IsTrue result ↔ (self.now.hand ≢ None) }
+        ensures full { result ≡ true → self.now.hand ≢ None }
+        ensures empty { result ≡ false → self.now.hand ≡ None }
     {
         self.hand.is_some()
+    }
+
+    /// Whether the hand has a batch that the node `from` cut for the node `to` of that piece set, one of `n`, with items that
+    /// such a node can work in. Any other batch is none of the node's.
+    pub fn holds_for(&self, set: PieceSet, n: usize, from: usize, to: usize) -> bool
+        ensures { IsTrue result → (batch : BatchView) × (self.now.hand ≡ Some batch) × IsBatchFor set n from to batch }
+    {
+        match &self.hand {
+            Some(batch) => is_for(batch, set, n, from, to),
+            None => false,
+        }
     }
 
     /// Takes the channel's next batch into the hand, if that is empty; tries once. Its promises hold if it returns.
     pub fn receive<R: Wait>(&mut self, rt: &R)
         ensures worked { worked self.new ≡ worked self.old }
-        ensures same { TakesOnSame self.old.end self.new.end }
+        ensures keeps { KeepsInlet self.old self.new }
         ensures held { self.old.hand ≢ None → self.new.hand ≡ self.old.hand }
     {
         if self.hand.is_some() {

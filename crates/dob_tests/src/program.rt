@@ -1,7 +1,7 @@
 // What the program prints and its exit status, by its words.
 use crate::shelves::put;
-use dob_cli::{MemShelf, run_given, run_words};
-use dob_dbfile::{MemSink, Std, write_table};
+use dob_cli::{MemShelf, run_given, run_over, run_words};
+use dob_dbfile::{MemSink, write_table};
 use dob_pieces::PieceSet;
 use dob_rank::Classes;
 use dob_value::{Table, code_of_value, sweep_table};
@@ -41,22 +41,17 @@ fn shelf_with(alloc: Global, bytes: &[u8]) -> Result<MemShelf, AllocError> {
     }
 }
 
-fn run_over(
-    rt: &(impl Threads + Sync),
-    alloc: Global,
-    shelf: &mut MemShelf,
-    words: &[&str],
-) -> Told {
+fn run_on(rt: &(impl Threads + Sync), alloc: Global, shelf: &mut MemShelf, words: &[&str]) -> Told {
     let mut out = MemSink::new(alloc);
     let mut err = MemSink::new(alloc);
-    let status = run_words(rt, alloc, words, shelf, &mut out, &mut err);
+    let status = run_over(rt, alloc, words, shelf, &mut out, &mut err);
     Told { status, out, err }
 }
 
 // Over an empty file.
 fn run(rt: &(impl Threads + Sync), alloc: Global, words: &[&str]) -> Result<Told, AllocError> {
     let mut shelf = shelf_with(alloc, &[])?;
-    Ok(run_over(rt, alloc, &mut shelf, words))
+    Ok(run_on(rt, alloc, &mut shelf, words))
 }
 
 /// A stream that takes so many bytes and then fails.
@@ -246,22 +241,38 @@ fn help_is_told_on_standard_output(rt: HostRuntime) -> Result<(), Fail> {
 }
 
 #[test]
+fn writers_of_the_standard_library(rt: HostRuntime) -> Result<(), Fail> {
+    let rows: [(&[&str], u8, &[u8], &[u8]); 3] = [
+        (&["value", "..l/.../L../... - -"], 0, b"win 3\n", b""),
+        (&["value", ""], 1, b"", b"dobutsu: E1 Shape\n"),
+        (&["--version"], 0, b"dobutsu 0.1.0\n", b""),
+    ];
+    for (words, status, lines, refusal) in rows {
+        let mut out = Vec::new(rt.alloc());
+        let mut err = Vec::new(rt.alloc());
+        let mut shelf = MemShelf::new(rt.alloc());
+        let ended = run_words(&rt, rt.alloc(), words, &mut shelf, &mut out, &mut err);
+        assert_eq!(rt; ended, status, "{words:?}");
+        assert_eq!(rt; out.as_slice(), lines, "{words:?}");
+        assert_eq!(rt; err.as_slice(), refusal, "{words:?}");
+    }
+    Ok(())
+}
+
+#[test]
 fn standard_output_that_fails(rt: HostRuntime) -> Result<(), Fail> {
     for room in 0..6 {
-        let mut out = Std::new(Narrow {
+        let mut out = Narrow {
             room,
             taken: Vec::new(rt.alloc()),
-        });
-        let mut err = Std::new(Vec::new(rt.alloc()));
+        };
+        let mut err = Vec::new(rt.alloc());
         let words = ["value", "..l/.../L../... - -"];
-        let mut shelf = shelf_with(rt.alloc(), &[])?;
+        let mut shelf = MemShelf::new(rt.alloc());
         let status = run_words(&rt, rt.alloc(), &words, &mut shelf, &mut out, &mut err);
         assert_eq!(rt; status, 3);
-        assert_eq!(rt; out.into_inner().taken.as_slice(), &b"win 3\n"[..room]);
-        assert_eq!(rt;
-            err.into_inner().as_slice(),
-            b"dobutsu: E24 Io\n".as_slice()
-        );
+        assert_eq!(rt; out.taken.as_slice(), &b"win 3\n"[..room]);
+        assert_eq!(rt; err.as_slice(), b"dobutsu: E24 Io\n".as_slice());
     }
     Ok(())
 }
@@ -269,20 +280,17 @@ fn standard_output_that_fails(rt: HostRuntime) -> Result<(), Fail> {
 #[test]
 fn standard_error_that_fails(rt: HostRuntime) -> Result<(), Fail> {
     for room in 0..8 {
-        let mut out = Std::new(Vec::new(rt.alloc()));
-        let mut err = Std::new(Narrow {
+        let mut out = Vec::new(rt.alloc());
+        let mut err = Narrow {
             room,
             taken: Vec::new(rt.alloc()),
-        });
-        let mut shelf = shelf_with(rt.alloc(), &[])?;
+        };
+        let mut shelf = MemShelf::new(rt.alloc());
         let words = ["value", ""];
         let status = run_words(&rt, rt.alloc(), &words, &mut shelf, &mut out, &mut err);
         assert_eq!(rt; status, 1);
-        assert!(rt; out.into_inner().is_empty());
-        assert_eq!(rt;
-            err.into_inner().taken.as_slice(),
-            &b"dobutsu: E1 Shape\n"[..room]
-        );
+        assert!(rt; out.is_empty());
+        assert_eq!(rt; err.taken.as_slice(), &b"dobutsu: E1 Shape\n"[..room]);
     }
     Ok(())
 }
@@ -306,16 +314,16 @@ impl Write for Unflushed {
 
 #[test]
 fn standard_output_that_cannot_be_flushed(rt: HostRuntime) -> Result<(), Fail> {
-    let mut out = Std::new(Unflushed {
+    let mut out = Unflushed {
         taken: Vec::new(rt.alloc()),
-    });
-    let mut err = MemSink::new(rt.alloc());
+    };
+    let mut err = Vec::new(rt.alloc());
     let words = ["value", "..l/.../L../... - -"];
-    let mut shelf = shelf_with(rt.alloc(), &[])?;
+    let mut shelf = MemShelf::new(rt.alloc());
     let status = run_words(&rt, rt.alloc(), &words, &mut shelf, &mut out, &mut err);
     assert_eq!(rt; status, 3);
-    assert_eq!(rt; out.into_inner().taken.as_slice(), b"win 3\n".as_slice());
-    assert_eq!(rt; err.bytes(), b"dobutsu: E24 Io\n".as_slice());
+    assert_eq!(rt; out.taken.as_slice(), b"win 3\n".as_slice());
+    assert_eq!(rt; err.as_slice(), b"dobutsu: E24 Io\n".as_slice());
     Ok(())
 }
 
@@ -399,7 +407,7 @@ fn answers_from_a_file(rt: HostRuntime) -> Result<(), Fail> {
         (&["probe", "--db", FILE, ".../.l./.L./... - -"], "win 1\n"),
     ];
     for (words, line) in rows {
-        let told = run_over(&rt, rt.alloc(), &mut shelf, words);
+        let told = run_on(&rt, rt.alloc(), &mut shelf, words);
         assert_eq!(rt; told.out.bytes(), line.as_bytes(), "{words:?}");
         assert_eq!(rt; told.status, 0);
         assert!(rt; told.err.bytes().is_empty());
@@ -439,7 +447,7 @@ fn refused_by_a_file(rt: HostRuntime) -> Result<(), Fail> {
         (&["check", "--db", "none"], 3, "E24 Io"),
     ];
     for (words, status, fault) in rows {
-        let told = run_over(&rt, rt.alloc(), &mut shelf, words);
+        let told = run_on(&rt, rt.alloc(), &mut shelf, words);
         let line = format!(in rt.alloc(); "dobutsu: {fault}\n")?;
         assert_eq!(rt; told.err.bytes(), line.as_str().as_bytes(), "{words:?}");
         assert_eq!(rt; told.status, status);
@@ -464,7 +472,7 @@ fn lines_by_wrong_values(rt: HostRuntime) -> Result<(), Fail> {
         let file = file_with(&rt, rt.alloc(), class, code)?;
         let mut shelf = shelf_with(rt.alloc(), &file)?;
         let words = ["line", "--db", FILE, text];
-        let told = run_over(&rt, rt.alloc(), &mut shelf, &words);
+        let told = run_on(&rt, rt.alloc(), &mut shelf, &words);
         assert_eq!(rt; told.out.bytes(), line.as_bytes(), "{class} as {code}");
     }
     Ok(())
@@ -477,7 +485,7 @@ fn no_line_after_a_try(rt: HostRuntime) -> Result<(), Fail> {
         let file = file_with(&rt, rt.alloc(), 38, code)?;
         let mut shelf = shelf_with(rt.alloc(), &file)?;
         let words = ["line", "--db", FILE, ".../L../.../..l - -"];
-        let told = run_over(&rt, rt.alloc(), &mut shelf, &words);
+        let told = run_on(&rt, rt.alloc(), &mut shelf, &words);
         let line = b"dobutsu: E21 Inconsistent class 38\n".as_slice();
         assert_eq!(rt; told.err.bytes(), line, "as {code}");
     }
@@ -490,7 +498,7 @@ fn answers_beside_a_wrong_value(rt: HostRuntime) -> Result<(), Fail> {
     let file = file_with(&rt, rt.alloc(), 17, 8)?;
     let mut shelf = shelf_with(rt.alloc(), &file)?;
     let words = ["probe", "--db", FILE, LONG];
-    let told = run_over(&rt, rt.alloc(), &mut shelf, &words);
+    let told = run_on(&rt, rt.alloc(), &mut shelf, &words);
     assert_eq!(rt; told.out.bytes(), b"win 7\n".as_slice());
     Ok(())
 }
@@ -498,7 +506,7 @@ fn answers_beside_a_wrong_value(rt: HostRuntime) -> Result<(), Fail> {
 #[test]
 fn an_empty_file(rt: HostRuntime) -> Result<(), Fail> {
     let mut empty = shelf_with(rt.alloc(), &[])?;
-    let told = run_over(&rt, rt.alloc(), &mut empty, &["check", "--db", FILE]);
+    let told = run_on(&rt, rt.alloc(), &mut empty, &["check", "--db", FILE]);
     assert_eq!(rt; told.err.bytes(), b"dobutsu: E15 Truncated\n".as_slice());
     assert_eq!(rt; told.status, 1);
     Ok(())
@@ -528,7 +536,7 @@ fn the_first_break_of_a_file(rt: HostRuntime) -> Result<(), Fail> {
     for (class, code, broken) in rows {
         let file = file_with(&rt, rt.alloc(), class, code)?;
         let mut shelf = shelf_with(rt.alloc(), &file)?;
-        let told = run_over(&rt, rt.alloc(), &mut shelf, &["check", "--db", FILE]);
+        let told = run_on(&rt, rt.alloc(), &mut shelf, &["check", "--db", FILE]);
         let line = format!(in rt.alloc(); "dobutsu: E21 Inconsistent class {broken}\n")?;
         assert_eq!(rt; told.err.bytes(), line.as_str().as_bytes(), "{class}");
         assert_eq!(rt; told.status, 1);
@@ -572,7 +580,7 @@ fn spoilt_files(rt: HostRuntime) -> Result<(), Fail> {
             &["line", "--db", FILE, LONG],
         ];
         for given in words {
-            let told = run_over(&rt, rt.alloc(), &mut shelf, given);
+            let told = run_on(&rt, rt.alloc(), &mut shelf, given);
             assert_eq!(rt; told.err.bytes(), line.as_bytes(), "{given:?}");
             assert_eq!(rt; told.status, 1);
             assert!(rt; told.out.bytes().is_empty());

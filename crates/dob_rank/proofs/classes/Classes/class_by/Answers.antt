@@ -11,7 +11,8 @@ look_up-requires c = subst (IsPositionOf c.args.self.now.set) (sym c.mirrored.en
 
 pub returns-then-is_representative : goal.returns-then-is_representative
 returns-then-is_representative c =
-    class_of_marked c.args.self.now.set c.args.position.now.setup _ c.requires.position (sym c.look_up_by-is_representative.ensures.mark ∙ c.if-is_representative.true)
+    class_of_marked c.args.self.now.set c.args.position.now.setup _ c.requires.position
+    (sym c.look_up_by-is_representative.ensures.mark ∙ c.if-is_representative.true)
     c.look_up_by-is_representative.ensures.before
 
 pub returns-else-is_representative : goal.returns-else-is_representative

@@ -5,9 +5,10 @@ use Rattle.dob_board.specs.declared.view.Stand.{Stand}
 use Rattle.dob_board.specs.Seats.{TakesOne}
 use Rattle.dob_run.specs.declared.hands.Inlet.{Inlet}
 use Rattle.dob_run.specs.Hands.{in_hand}
-use Rattle.dob_run.specs.Links.{offered, worked}
+use Rattle.dob_run.specs.Links.{offered, worked, KeepsOutlet, KeepsInlet}
 use Rattle.dob_run.specs.Mails.{AreCounts, HasChangedOne}
 use Rattle.dob_run.proofs.Counted.{counts_rise, got_there}
+use Rattle.dob_run.proofs.Keeping.{outlet_same, inlet_same, inlet_kept, one_kept, each_same}
 use Rattle.dob_run.proofs.mail.Mail.accept.Goals as goal
 
 held_one : (hand : Option BatchView) → hand ≢ None → length (in_hand hand) ≡ 1
@@ -52,3 +53,14 @@ returns-clause-worked c =
     let old = c.index_mut.result.now in
     let at : slice_get mail.inlets.items c.args.from ≡ Some old = got_there mail.inlets.items c.args.from old (search rules) c.index_mut.ensures.value in
     accepted c.release.result old.hand mail.inlets.items c.args.from old c.release.new.self at c.release.ensures.end c.release.ensures.batch c.release.ensures.worked
+
+pub returns-clause-keeps : goal.returns-clause-keeps
+returns-clause-keeps c =
+    let mail = c.args.self.now in
+    let old = c.index_mut.result.now in
+    let at : slice_get mail.inlets.items c.args.from ≡ Some old = got_there mail.inlets.items c.args.from old (search rules) c.index_mut.ensures.value in
+    record {
+      seat = c.take.ensures.same;
+      outlets = each_same KeepsOutlet outlet_same mail.outlets.items mail.outlets.items refl;
+      inlets = one_kept KeepsInlet inlet_same mail.inlets.items c.args.from old c.release.new.self at (inlet_kept old c.release.new.self c.release.ensures.end);
+    }

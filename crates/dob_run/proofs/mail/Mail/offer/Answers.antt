@@ -1,7 +1,9 @@
-use Rattle.std.proofs.Common.{◌≡◌, ◌≤◌, ◌^◌, length, Some, rules, arith, refl, ap}
+use Rattle.std.proofs.Common.{◌≡◌, ◌≤◌, ◌^◌, ◌⊎◌, inl, inr, ◌∙◌, length, Some, None, rules, arith, refl, ap}
 use Rattle.std.specs.Prelude.{slice_get}
-use Rattle.dob_run.specs.Links.{offered}
+use Rattle.dob_run.specs.declared.hands.Outlet.{Outlet}
+use Rattle.dob_run.specs.Links.{offered, KeepsOutlet, KeepsInlet}
 use Rattle.dob_run.proofs.Counted.{counts_stay, got_there}
+use Rattle.dob_run.proofs.Keeping.{outlet_same, inlet_same, one_kept, each_same, seat_same}
 use Rattle.dob_run.proofs.mail.Mail.offer.Goals as goal
 
 pub offer-requires : goal.offer-requires
@@ -29,4 +31,25 @@ returns-clause-offered g c =
     let mail = c.args.self.now in
     let old = c.index_mut.result.now in
     let at : slice_get mail.outlets.items c.args.to ≡ Some old = got_there mail.outlets.items c.args.to old (search rules) c.index_mut.ensures.value in
-    (old, c.offer.new.self, at, (c.offer.ensures.same, c.offer.ensures.offered), refl)
+    (old, c.offer.new.self, at, (c.offer.ensures.keeps, c.offer.ensures.offered), refl)
+
+pub returns-clause-hands : goal.returns-clause-hands
+returns-clause-hands g c =
+    let mail = c.args.self.now in
+    let old = c.index_mut.result.now in
+    let at : slice_get mail.outlets.items c.args.to ≡ Some old = got_there mail.outlets.items c.args.to old (search rules) c.index_mut.ensures.value in
+    one_kept (λ (x y : Outlet). x.hand ≡ None → y.hand ≡ None) (λ x e. e) mail.outlets.items c.args.to old c.offer.new.self at (emptied old c.offer.new.self c.offer.ensures.hand)
+  where
+    emptied : (x y : Outlet) → (y.hand ≡ x.hand) ⊎ (y.hand ≡ None) → x.hand ≡ None → y.hand ≡ None
+    emptied x y kept none = elim kept [ inl same ↦ same ∙ none | inr out ↦ out ]
+
+pub returns-clause-keeps : goal.returns-clause-keeps
+returns-clause-keeps g c =
+    let mail = c.args.self.now in
+    let old = c.index_mut.result.now in
+    let at : slice_get mail.outlets.items c.args.to ≡ Some old = got_there mail.outlets.items c.args.to old (search rules) c.index_mut.ensures.value in
+    record {
+      seat = seat_same mail.seat;
+      outlets = one_kept KeepsOutlet outlet_same mail.outlets.items c.args.to old c.offer.new.self at c.offer.ensures.keeps;
+      inlets = each_same KeepsInlet inlet_same mail.inlets.items mail.inlets.items refl;
+    }

@@ -1,9 +1,10 @@
 use Rattle.std.proofs.Common.{◌≡◌, suc, List, ℕ, [], ◌∷◌, length, Some, rules, arith, refl, sym, ap, ◌∙◌, subst, length-append}
 use Rattle.std.specs.Prelude.{slice_get, slice_set}
 use Rattle.dob_board.specs.declared.view.Stand.{Stand}
-use Rattle.dob_run.specs.Links.{offered, worked}
+use Rattle.dob_run.specs.Links.{offered, worked, KeepsOutlet, KeepsInlet}
 use Rattle.dob_run.specs.Mails.{AreCounts}
 use Rattle.dob_run.proofs.Counted.{counts_rise, got_there}
+use Rattle.dob_run.proofs.Keeping.{outlet_same, outlet_kept, inlet_same, one_kept, each_same}
 use Rattle.dob_run.proofs.mail.Mail.post.Goals as goal
 
 pub invariant_of-self : goal.invariant_of-self
@@ -29,3 +30,14 @@ returns-clause-offered c =
     let old = c.index_mut.result.now in
     let at : slice_get mail.outlets.items c.args.to ≡ Some old = got_there mail.outlets.items c.args.to old (search rules) c.index_mut.ensures.value in
     (old, c.hold.new.self, at, (c.hold.ensures.end, c.hold.ensures.offered), refl)
+
+pub returns-clause-keeps : goal.returns-clause-keeps
+returns-clause-keeps c =
+    let mail = c.args.self.now in
+    let old = c.index_mut.result.now in
+    let at : slice_get mail.outlets.items c.args.to ≡ Some old = got_there mail.outlets.items c.args.to old (search rules) c.index_mut.ensures.value in
+    record {
+      seat = c.post.ensures.same;
+      outlets = one_kept KeepsOutlet outlet_same mail.outlets.items c.args.to old c.hold.new.self at (outlet_kept old c.hold.new.self c.hold.ensures.end);
+      inlets = each_same KeepsInlet inlet_same mail.inlets.items mail.inlets.items refl;
+    }

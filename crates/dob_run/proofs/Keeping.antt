@@ -1,0 +1,178 @@
+-- What links, mails and runners keep, through one step and the next.
+use Rattle.std.proofs.Common.{◌≡◌, ◌≢◌, ℕ, zero, suc, ◌<◌, List, [], ◌∷◌, ◌++◌, length, set, Some, None, refl, sym, ap, ◌∙◌, subst, inl, inr, arith, append_assoc}
+use Rattle.std.proofs.lemmas.List.{append-nil}
+use Rattle.std.specs.Prelude.{slice_get, Result, MatchResult}
+use Rattle.std.specs.Result.{IsErrAnd}
+use Rattle.std.proofs.lemmas.Result.{err_from_is_err_and}
+use Rattle.dob_update.specs.Batches.{BatchView}
+use Rattle.dob_safra.proofs.Kept.{same_or_not}
+use Rattle.dob_board.specs.declared.seat.NodeSeat.{NodeSeat}
+use Rattle.dob_board.specs.declared.halt.Halt.{Halt}
+use Rattle.dob_board.specs.declared.halt.Halt.TheVariants.{Running, Ended, Failed}
+use Rattle.dob_board.specs.Words.{halt_word}
+use Rattle.dob_board.specs.Seats.{IsSameSeat}
+use Rattle.dob_node.specs.declared.cause.Cause.{Cause}
+use Rattle.dob_chan.specs.declared.ends.SendEnd.{SendEnd}
+use Rattle.dob_chan.specs.declared.ends.TakeEnd.{TakeEnd}
+use Rattle.dob_chan.specs.Ends.{sent_by, taken_by, SendsOnSame, TakesOnSame}
+use Rattle.dob_run.specs.declared.hands.Outlet.{Outlet}
+use Rattle.dob_run.specs.declared.hands.Inlet.{Inlet}
+use Rattle.dob_run.specs.declared.mail.Mail.{Mail}
+use Rattle.dob_run.specs.declared.runner.Runner.{Runner}
+use Rattle.dob_run.specs.Links.{GoesOn, KeepsOutlet, KeepsInlet}
+use Rattle.dob_run.specs.Mails.{KeepsEach, AreOut}
+use Rattle.dob_run.specs.Keeps.{KeepsMail, HasSameLinks}
+use Rattle.dob_run.specs.Runners.{KeepsRunner, GoesOn as Goes, HasFailed, HasTurned, Steps}
+use Rattle.dob_run.proofs.Counted.{there_set, else_set}
+
+-- ---- lists of batches
+
+pub goes_on_same : (xs ys : List BatchView) → ys ≡ xs → GoesOn xs ys
+goes_on_same xs ys same = ([], same ∙ sym (append-nil xs))
+
+goes_on_trans : (xs ys zs : List BatchView) → GoesOn xs ys → GoesOn ys zs → GoesOn xs zs
+goes_on_trans xs ys zs one two = (one.0 ++ two.0, two.1 ∙ ap (λ bs. bs ++ two.0) one.1 ∙ append_assoc xs one.0 two.0)
+
+-- ---- links
+
+pub outlet_kept : (old new : Outlet) → new.end ≡ old.end → KeepsOutlet old new
+outlet_kept old new same =
+    (subst (λ (e : SendEnd). SendsOnSame old.end e) (sym same) refl, goes_on_same (sent_by old.end) (sent_by new.end) (ap (λ (e : SendEnd). sent_by e) same))
+
+pub inlet_kept : (old new : Inlet) → new.end ≡ old.end → KeepsInlet old new
+inlet_kept old new same =
+    (subst (λ (e : TakeEnd). TakesOnSame old.end e) (sym same) refl, goes_on_same (taken_by old.end) (taken_by new.end) (ap (λ (e : TakeEnd). taken_by e) same))
+
+pub outlet_same : (x : Outlet) → KeepsOutlet x x
+outlet_same x = outlet_kept x x refl
+
+pub inlet_same : (x : Inlet) → KeepsInlet x x
+inlet_same x = inlet_kept x x refl
+
+outlet_trans : (x y z : Outlet) → KeepsOutlet x y → KeepsOutlet y z → KeepsOutlet x z
+outlet_trans x y z one two = (two.0 ∙ one.0, goes_on_trans (sent_by x.end) (sent_by y.end) (sent_by z.end) one.1 two.1)
+
+inlet_trans : (x y z : Inlet) → KeepsInlet x y → KeepsInlet y z → KeepsInlet x z
+inlet_trans x y z one two = (two.0 ∙ one.0, goes_on_trans (taken_by x.end) (taken_by y.end) (taken_by z.end) one.1 two.1)
+
+-- ---- lists of links
+
+same_item : {L : Type 0} (x y : L) → Some x ≡ Some y → x ≡ y
+same_item x y e = cc
+
+-- what stood elsewhere and what stands at the place
+pub each_after : {L : Type 0} (Q : ℕ → L → Type 0) (xs : List L) (k : ℕ) (y : L) → ((j : ℕ) (l : L) → j ≢ k → slice_get xs j ≡ Some l → Q j l) → Q k y →
+    (j : ℕ) (l : L) → slice_get (set xs k y) j ≡ Some l → Q j l
+each_after Q xs k y others here j l at = elim (same_or_not j k) [
+  | inl same ↦
+      let is : y ≡ l = there_set xs k y l (ap (slice_get (set xs k y)) (sym same) ∙ at) in
+      subst (λ m. Q m l) (sym same) (subst (λ m. Q k m) is here)
+  | inr apart ↦ others j l apart (sym (else_set xs k j y apart) ∙ at)
+]
+
+pub one_kept : {L : Type 0} (Keeps : L → L → Type 0) → ((x : L) → Keeps x x) → (xs : List L) (k : ℕ) (x y : L) → slice_get xs k ≡ Some x → Keeps x y →
+    KeepsEach Keeps xs (set xs k y)
+one_kept Keeps self xs k x y at keeps j before after old new =
+    each_after (λ m l. slice_get xs m ≡ Some before → Keeps before l) xs k y
+    (λ m l apart there was. subst (Keeps before) (same_item before l (sym was ∙ there)) (self before))
+    (λ was. subst (λ b. Keeps b y) (same_item x before (sym at ∙ was)) keeps) j after new old
+
+pub each_same : {L : Type 0} (Keeps : L → L → Type 0) → ((x : L) → Keeps x x) → (xs ys : List L) → ys ≡ xs → KeepsEach Keeps xs ys
+each_same Keeps self xs ys same j before after old new =
+    subst (Keeps before) (same_item before after (sym old ∙ (ap (λ zs. slice_get zs j) (sym same) ∙ new))) (self before)
+
+there_is : {L : Type 0} (xs ys : List L) (j : ℕ) (x : L) → length xs ≡ length ys → slice_get xs j ≡ Some x → (y : L) × (slice_get ys j ≡ Some y)
+there_is [] ys j x same at = absurd (cc)
+there_is (a ∷ xs) [] j x same at = absurd (omega (arith, same))
+there_is (a ∷ xs) (b ∷ ys) zero x same at = (b, refl)
+there_is (a ∷ xs) (b ∷ ys) (suc j) x same at = there_is xs ys j x (omega (arith, same)) at
+
+each_trans : {L : Type 0} (Keeps : L → L → Type 0) → ((x y z : L) → Keeps x y → Keeps y z → Keeps x z) → (xs ys zs : List L) → length xs ≡ length ys →
+    KeepsEach Keeps xs ys → KeepsEach Keeps ys zs → KeepsEach Keeps xs zs
+each_trans Keeps trans xs ys zs long one two j before after old new =
+    let between = there_is xs ys j before long old in
+    trans before between.0 after (one j before between.0 old between.1) (two j between.0 after between.1 new)
+
+-- ---- seats and mails
+
+pub seat_same : (seat : NodeSeat) → IsSameSeat seat seat
+seat_same seat = record { node = refl; nodes = refl; board = refl }
+
+pub seat_trans : (a b c : NodeSeat) → IsSameSeat a b → IsSameSeat b c → IsSameSeat a c
+seat_trans a b c one two = record { node = two.node ∙ one.node; nodes = two.nodes ∙ one.nodes; board = two.board ∙ one.board }
+
+pub mail_same : (mail : Mail) → KeepsMail mail mail
+mail_same mail = record {
+  seat = seat_same mail.seat;
+  outlets = each_same KeepsOutlet outlet_same mail.outlets.items mail.outlets.items refl;
+  inlets = each_same KeepsInlet inlet_same mail.inlets.items mail.inlets.items refl;
+}
+
+pub links_kept : (old new : Mail) → HasSameLinks old new → KeepsMail old new
+links_kept old new same = record {
+  seat = same.seat;
+  outlets = each_same KeepsOutlet outlet_same old.outlets.items new.outlets.items (ap (λ v. v.items) same.outlets);
+  inlets = each_same KeepsInlet inlet_same old.inlets.items new.inlets.items (ap (λ v. v.items) same.inlets);
+}
+
+pub mail_trans : (a b c : Mail) → KeepsMail a b → KeepsMail b c → KeepsMail a c
+mail_trans a b c one two = record {
+  seat = seat_trans a.seat b.seat c.seat one.seat two.seat;
+  outlets = each_trans KeepsOutlet outlet_trans a.outlets.items b.outlets.items c.outlets.items
+      (omega (arith, a.outlets_len, b.outlets_len, one.seat.nodes)) one.outlets two.outlets;
+  inlets = each_trans KeepsInlet inlet_trans a.inlets.items b.inlets.items c.inlets.items
+      (omega (arith, a.inlets_len, b.inlets_len, one.seat.nodes)) one.inlets two.inlets;
+}
+
+-- ---- halts
+
+pub same_halt : (a b : Halt) → halt_word a ≡ halt_word b → a ≡ b
+same_halt Running Running e = refl
+same_halt Running Ended e = absurd (omega (arith, e))
+same_halt Running (Failed j) e = absurd (omega (arith, e))
+same_halt Ended Running e = absurd (omega (arith, e))
+same_halt Ended Ended e = refl
+same_halt Ended (Failed j) e = absurd (omega (arith, e))
+same_halt (Failed i) Running e = absurd (omega (arith, e))
+same_halt (Failed i) Ended e = absurd (omega (arith, e))
+same_halt (Failed i) (Failed j) e = ap Failed (omega (arith, e))
+
+-- ---- runners
+
+pub runner_same : (r : Runner) → KeepsRunner r r
+runner_same r = record { mail = mail_same r.mail; set = refl; size = refl }
+
+pub runner_trans : (a b c : Runner) → KeepsRunner a b → KeepsRunner b c → KeepsRunner a c
+runner_trans a b c one two = record { mail = mail_trans a.mail b.mail c.mail one.mail two.mail; set = two.set ∙ one.set; size = two.size ∙ one.size }
+
+pub goes_trans : (a b c : Runner) → Goes a b → Goes b c → Goes a c
+goes_trans a b c one two = record { keeps = runner_trans a b c one.keeps two.keeps; unfailed = two.unfailed; halt = two.halt ∙ one.halt }
+
+pub failed_after : (a b c : Runner) (why : Cause) → KeepsRunner a b → HasFailed b c why → HasFailed a c why
+failed_after a b c why kept failed = record { keeps = runner_trans a b c kept failed.keeps; cause = failed.cause; stopped = failed.stopped }
+
+pub some_at : {L : Type 0} (xs : List L) (k : ℕ) → k < length xs → (x : L) × (slice_get xs k ≡ Some x)
+some_at [] k within = absurd (omega (arith, within))
+some_at (x ∷ xs) zero within = (x, refl)
+some_at (x ∷ xs) (suc k) within = some_at xs k (omega (arith, within))
+
+-- hands that were empty are
+pub out_still : (old new : Mail) → new.seat.nodes ≡ old.seat.nodes →
+    ((j : ℕ) (before after : Outlet) → slice_get old.outlets.items j ≡ Some before → slice_get new.outlets.items j ≡ Some after → before.hand ≡ None → after.hand ≡ None) →
+    AreOut old.outlets.items → AreOut new.outlets.items
+out_still old new nodes each out j after at =
+    let before = there_is new.outlets.items old.outlets.items j after (omega (arith, new.outlets_len, old.outlets_len, nodes)) at in
+    each j before.0 after before.1 at (out j before.0 before.1)
+
+-- a failure that is handed on
+pub carried_on : {A : Type 0} (a b c : Runner) (r : Result A Cause) (why : Cause) → IsErrAnd r (λ given. given ≡ why) → KeepsRunner a b → HasFailed b c why →
+    Steps a c r
+carried_on a b c r why is kept failed =
+    let given = err_from_is_err_and r is in
+    subst (λ s. Steps a c s) (sym given.1) (subst (HasFailed a c) (sym given.2) (failed_after a b c why kept failed))
+
+pub turn_failed : (a b c : Runner) (r : Result Halt Cause) (why : Cause) → IsErrAnd r (λ given. given ≡ why) → KeepsRunner a b → HasFailed b c why →
+    MatchResult r (HasTurned a c) (HasFailed a c)
+turn_failed a b c r why is kept failed =
+    let given = err_from_is_err_and r is in
+    subst (λ s. MatchResult s (HasTurned a c) (HasFailed a c)) (sym given.1) (subst (HasFailed a c) (sym given.2) (failed_after a b c why kept failed))

@@ -1,0 +1,224 @@
+-- Each step of a worker leaves it lawful.
+use Rattle.std.proofs.Common.{◌≡◌, ◌≢◌, ℕ, ◌^◌, ◌<◌, ◌≤◌, refl, sym, ap, ◌∙◌, subst, arith, append_assoc, List, [], ◌∷◌, ◌++◌, length, length-append, take, drop, Bool, true, false, Some, inl, inr}
+use Rattle.std.specs.Prelude.{slice_get, slice_set}
+use Rattle.std.proofs.lemmas.List.{append-nil, take-append-drop, length-take}
+use Rattle.std.proofs.lemmas.Bool.{cases_lt}
+use Rattle.std.proofs.lemmas.Option.{slice_get_within}
+use Rattle.dob_pieces.specs.declared.piece_set.PieceSet.{PieceSet}
+use Rattle.dob_unmove.specs.Edges.{predecessors}
+use Rattle.dob_share.specs.declared.news.Settlement.{Settlement}
+use Rattle.dob_share.specs.declared.news.Item.{Item}
+use Rattle.dob_update.specs.Items.{items_of, items_from}
+use Rattle.dob_update.specs.Batches.{BatchView, OutboxView, empty_outbox}
+use Rattle.dob_node.specs.Stores.{HistoryView}
+use Rattle.dob_node.specs.declared.node.Node.{Node}
+use Rattle.dob_node.specs.Takes.{listed}
+use Rattle.dob_node.specs.Nodes.{outbox_to, IsSound, IsIdle, IsExpanded, HasApplied, HasTaken, HasCut}
+use Rattle.dob_node.specs.Outboxes.{outbox_in}
+use Rattle.dob_run.specs.declared.hands.Outlet.{Outlet}
+use Rattle.dob_run.specs.declared.mail.Mail.{Mail}
+use Rattle.dob_run.specs.Links.{offered, KeepsOutlet}
+use Rattle.dob_run.specs.Mails.{HasChangedOne, AreOut}
+use Rattle.dob_run.specs.Runners.{IsNew}
+use Rattle.dob_run.specs.Workers.{planned, items_in, AreLast, SendsRight, IsLawful}
+use Rattle.dob_run.proofs.Keeping.{each_after}
+use Rattle.dob_run.proofs.Planned.{told_more, told_grown, history_grown, last_more, last_less, items_in_more, each_more}
+
+-- ---- the mail alone changed
+
+-- the same links, and another colour or the same
+pub recoloured : (set : PieceSet) (size : ℕ) (node : Node) (old new : Mail) → IsLawful set size node old → new.seat.node ≡ old.seat.node →
+    new.seat.nodes ≡ old.seat.nodes → new.outlets.items ≡ old.outlets.items → (new.seat.black ≡ false → IsIdle node × AreOut old.outlets.items) →
+    IsLawful set size node new
+recoloured set size node old new law same_node same_nodes same_outlets white = record {
+  of = (law.of.0, law.of.1 ∙ sym same_node, law.of.2 ∙ sym same_nodes);
+  sound = law.sound;
+  sends = λ to outlet apart at. law.sends to outlet (λ e. apart (e ∙ sym same_node)) (ap (λ os. slice_get os to) (sym same_outlets) ∙ at);
+  own = law.own;
+  white = λ is. (let rest = white is in (rest.0, subst AreOut (sym same_outlets) rest.1));
+}
+
+-- one outlet was offered what it was before
+pub offered_again : (set : PieceSet) (size to : ℕ) (node : Node) (old new : Mail) → IsLawful set size node old → new.seat ≡ old.seat →
+    HasChangedOne (λ (before after : Outlet). KeepsOutlet before after × (offered after ≡ offered before)) to old.outlets.items new.outlets.items →
+    (AreOut old.outlets.items → AreOut new.outlets.items) → IsLawful set size node new
+offered_again set size to node old new law seat one hands = record {
+  of = (law.of.0, law.of.1 ∙ sym (ap (λ s. s.node) seat), law.of.2 ∙ sym (ap (λ s. s.nodes) seat));
+  sound = law.sound;
+  sends = λ j outlet apart at. there j outlet (subst (λ os. slice_get os j ≡ Some outlet) one.4 at) (λ e. apart (e ∙ sym (ap (λ s. s.node) seat)));
+  own = law.own;
+  white = λ is. (let rest = law.white (sym (ap (λ s. s.black) seat) ∙ is) in (rest.0, hands rest.1));
+}
+  where
+    there : (j : ℕ) (outlet : Outlet) → slice_get (slice_set old.outlets.items to one.1) j ≡ Some outlet → j ≢ old.seat.node → SendsRight node size j (offered outlet)
+    there = each_after (λ j outlet. j ≢ old.seat.node → SendsRight node size j (offered outlet)) old.outlets.items to one.1
+        (λ j outlet other at apart. law.sends j outlet apart at)
+        (λ apart. subst (λ bs. SendsRight node size to bs) (sym one.3.1) (law.sends to one.0 apart one.2))
+
+-- ---- the node alone changed
+
+pub no_colour : (b : Bool) → b ≡ true → b ≡ false → ⊥
+no_colour b is isnt = absurd (cc)
+
+planned_same : (old new : Node) (to : ℕ) → new.set ≡ old.set → new.n ≡ old.n → new.expanded ≡ old.expanded →
+    (more : List Settlement) → new.history.settlements ≡ old.history.settlements ++ more → old.expanded ≤ length old.history.settlements →
+    planned new to ≡ planned old to
+planned_same old new to set n expanded more grown within =
+    ap (λ s. items_from (predecessors s) new.n to (take new.expanded new.history.settlements)) set
+    ∙ ap (λ m. items_from (predecessors old.set) m to (take new.expanded new.history.settlements)) n
+    ∙ ap (λ e. items_from (predecessors old.set) old.n to (take e new.history.settlements)) expanded
+    ∙ told_grown (predecessors old.set) old.n to old.history.settlements more new.history.settlements old.expanded within grown
+
+outbox_same : (old new : Node) (to : ℕ) → new.set ≡ old.set → new.id ≡ old.id → new.n ≡ old.n → new.outboxes.items ≡ old.outboxes.items →
+    outbox_to new to ≡ outbox_to old to
+outbox_same old new to set id n outboxes =
+    ap (λ s. outbox_in s new.n new.id new.outboxes.items to) set
+    ∙ ap (λ m. outbox_in old.set m new.id new.outboxes.items to) n
+    ∙ ap (λ i. outbox_in old.set old.n i new.outboxes.items to) id
+    ∙ ap (λ os. outbox_in old.set old.n old.id os to) outboxes
+
+sends_still : (old new : Node) (size to : ℕ) (batches : List BatchView) → planned new to ≡ planned old to → outbox_to new to ≡ outbox_to old to →
+    SendsRight old size to batches → SendsRight new size to batches
+sends_still old new size to batches plan outbox sends = record {
+  items = plan ∙ sends.items ∙ ap (λ (o : OutboxView). items_in batches ++ o.items) (sym outbox);
+  cut = ap (λ (o : OutboxView). o.next) outbox ∙ sends.cut;
+  small = sends.small;
+}
+
+-- the own list lost its first item
+pub applied_own : (set : PieceSet) (size : ℕ) (old new : Node) (mail : Mail) → IsLawful set size old mail → HasApplied old new → IsSound new →
+    IsLawful set size new mail
+applied_own set size old new mail law step sound =
+    let more = step.taken.settled in
+    let grown : new.history.settlements ≡ old.history.settlements ++ listed more.0 = ap (λ (h : HistoryView). h.settlements) more.2 in
+    let plan : (to : ℕ) → planned new to ≡ planned old to =
+    λ to. planned_same old new to step.same.0 step.same.2 step.same.3 (listed more.0) grown law.sound.told in record {
+      of = (step.same.0 ∙ law.of.0, step.same.1 ∙ law.of.1, step.same.2 ∙ law.of.2);
+      sound = sound;
+      sends = λ to outlet apart at. sends_still old new size to (offered outlet) (plan to)
+          (outbox_same old new to step.same.0 step.same.1 step.same.2 step.outboxes) (law.sends to outlet apart at);
+      own = subst (λ w. AreLast w new.own.items) (sym (ap (λ i. planned new i) step.same.1 ∙ plan old.id))
+          (last_less (planned old old.id) step.item new.own.items (subst (λ own. AreLast (planned old old.id) own) step.first law.own));
+      white = λ is. absurd (nothing_first old.own.items step.item new.own.items ((law.white is).0.applied) step.first);
+    }
+  where
+    nothing_first : (own : List Item) (item : Item) (rest : List Item) → own ≡ [] → own ≡ item ∷ rest → ⊥
+    nothing_first own item rest none some = absurd (cc)
+
+-- a batch was applied, and the seat is black
+pub applied_batch : (set : PieceSet) (size : ℕ) (items : List Item) (old new : Node) (mail : Mail) → IsLawful set size old mail → mail.seat.black ≡ true →
+    HasTaken items old new → IsSound new → IsLawful set size new mail
+applied_batch set size items old new mail law black step sound =
+    let more = history_grown items old.share new.share old.history new.history step.taken in
+    let plan : (to : ℕ) → planned new to ≡ planned old to =
+    λ to. planned_same old new to step.same.0 step.same.2 step.same.3 more.0 more.1 law.sound.told in record {
+      of = (step.same.0 ∙ law.of.0, step.same.1 ∙ law.of.1, step.same.2 ∙ law.of.2);
+      sound = sound;
+      sends = λ to outlet apart at. sends_still old new size to (offered outlet) (plan to)
+          (outbox_same old new to step.same.0 step.same.1 step.same.2 step.outboxes) (law.sends to outlet apart at);
+      own = subst (λ w. AreLast w new.own.items) (sym (ap (λ i. planned new i) step.same.1 ∙ plan old.id))
+          (subst (λ own. AreLast (planned old old.id) own) (sym step.own) law.own);
+      white = λ is. absurd (no_colour mail.seat.black black is);
+    }
+
+-- a settlement was expanded
+pub expanded_one : (set : PieceSet) (size : ℕ) (old new : Node) (mail : Mail) → IsLawful set size old mail → IsExpanded old new → IsSound new →
+    IsLawful set size new mail
+expanded_one set size old new mail law step sound = record {
+  of = (step.same.0 ∙ law.of.0, step.same.1 ∙ law.of.1, step.same.2 ∙ law.of.2);
+  sound = sound;
+  sends = λ to outlet apart at. (let within = slice_get_within mail.outlets.items to outlet at in
+      sent to (offered outlet) (low to within) (λ e. apart (e ∙ law.of.1)) (law.sends to outlet apart at));
+  own = subst (λ w. AreLast w new.own.items) (sym (ap (λ i. planned new i) step.same.1 ∙ plan old.id))
+      (subst (λ own. AreLast (planned old old.id ++ items_of (predecessors old.set) old.n old.id step.settlement) own) (sym step.own)
+      (last_more (planned old old.id) old.own.items (items_of (predecessors old.set) old.n old.id step.settlement) law.own));
+  white = λ is. (let all = (law.white is).0.expanded in
+      let some = slice_get_within old.history.settlements old.expanded step.settlement step.first in absurd (omega (arith, all, some)));
+}
+  where
+    low : (to : ℕ) → to < length mail.outlets.items → to < old.n
+    low to within = omega (arith, mail.outlets_len, law.of.2, within)
+
+    plan : (to : ℕ) → planned new to ≡ planned old to ++ items_of (predecessors old.set) old.n to step.settlement
+    plan to =
+        ap (λ s. items_from (predecessors s) new.n to (take new.expanded new.history.settlements)) step.same.0
+        ∙ ap (λ m. items_from (predecessors old.set) m to (take new.expanded new.history.settlements)) step.same.2
+        ∙ ap (λ (h : HistoryView). items_from (predecessors old.set) old.n to (take new.expanded h.settlements)) step.same.4
+        ∙ ap (λ e. items_from (predecessors old.set) old.n to (take e old.history.settlements)) step.expanded
+        ∙ told_more (predecessors old.set) old.n to old.history.settlements old.expanded step.settlement step.first
+
+    sent : (to : ℕ) (batches : List BatchView) → to < old.n → to ≢ old.id → SendsRight old size to batches → SendsRight new size to batches
+    sent to batches within apart sends =
+        let items = items_of (predecessors old.set) old.n to step.settlement in
+        let outbox = step.sent to within apart in record {
+          items = plan to ∙ ap (λ xs. xs ++ items) sends.items ∙ append_assoc (items_in batches) (outbox_to old to).items items
+              ∙ ap (λ (o : OutboxView). items_in batches ++ o.items) (sym outbox);
+          cut = ap (λ (o : OutboxView). o.next) outbox ∙ sends.cut;
+          small = sends.small;
+        }
+
+-- ---- a batch was cut and put into the hand of an outlet
+
+pub cut_one : (set : PieceSet) (size to : ℕ) (batch : BatchView) (node after : Node) (old new : Mail) → IsLawful set size node old →
+    HasCut to size batch node after → IsSound after → new.seat.node ≡ old.seat.node → new.seat.nodes ≡ old.seat.nodes → new.seat.black ≡ true →
+    HasChangedOne (λ (x y : Outlet). (y.end ≡ x.end) × (offered y ≡ offered x ++ batch ∷ [])) to old.outlets.items new.outlets.items →
+    IsLawful set size after new
+cut_one set size to batch node after old new law step sound same_node same_nodes black one = record {
+  of = (step.same.0 ∙ law.of.0, step.same.1 ∙ (law.of.1 ∙ sym same_node), step.same.2 ∙ (law.of.2 ∙ sym same_nodes));
+  sound = sound;
+  sends = λ j outlet apart at. there j outlet (subst (λ os. slice_get os j ≡ Some outlet) one.4 at) (λ e. apart (e ∙ sym same_node));
+  own = subst (λ w. AreLast w after.own.items) (sym (ap (λ i. planned after i) step.same.1 ∙ plan node.id))
+      (subst (λ own. AreLast (planned node node.id) own) (sym step.kept.2) law.own);
+  white = λ is. absurd (no_colour new.seat.black black is);
+}
+  where
+    plan : (j : ℕ) → planned after j ≡ planned node j
+    plan j = planned_same node after j step.same.0 step.same.2 step.same.3 []
+        (ap (λ (h : HistoryView). h.settlements) step.kept.1 ∙ sym (append-nil node.history.settlements)) law.sound.told
+
+    here : SendsRight node size to (offered one.0) → SendsRight after size to (offered one.0 ++ batch ∷ [])
+    here sends = record {
+      items = plan to ∙ sends.items
+          ∙ ap (λ xs. items_in (offered one.0) ++ xs) (sym (take-append-drop size (outbox_to node to).items))
+          ∙ sym (append_assoc (items_in (offered one.0)) (take size (outbox_to node to).items) (drop size (outbox_to node to).items))
+          ∙ ap (λ xs. (items_in (offered one.0) ++ xs) ++ drop size (outbox_to node to).items) (sym step.cut.items)
+          ∙ ap (λ xs. xs ++ drop size (outbox_to node to).items) (sym (items_in_more (offered one.0) batch))
+          ∙ ap (λ xs. items_in (offered one.0 ++ batch ∷ []) ++ xs) (sym step.cut.left);
+      cut = step.cut.next ∙ (let long = length-append (offered one.0) (batch ∷ []) in let was = sends.cut in omega (arith, long, was));
+      small = each_more (λ b. length b.items ≤ size) (offered one.0) batch sends.small
+          (subst (λ xs. length xs ≤ size) (sym step.cut.items) (omega (arith, length-take size (outbox_to node to).items)));
+    }
+
+    there : (j : ℕ) (outlet : Outlet) → slice_get (slice_set old.outlets.items to one.1) j ≡ Some outlet → j ≢ old.seat.node → SendsRight after size j (offered outlet)
+    there = each_after (λ j outlet. j ≢ old.seat.node → SendsRight after size j (offered outlet)) old.outlets.items to one.1
+        (λ j outlet other at apart. sends_still node after size j (offered outlet) (plan j) (step.others j other) (law.sends j outlet apart at))
+        (λ apart. subst (λ bs. SendsRight after size to bs) (sym one.3.1) (here (law.sends to one.0 apart one.2)))
+
+-- ---- the start
+
+-- the node was opened, and nothing was offered
+pub begun : (set : PieceSet) (size : ℕ) (node : Node) (mail : Mail) → IsNew set node mail → IsLawful set size node mail
+begun set size node mail is = record {
+  of = is.opened.of;
+  sound = is.sound;
+  sends = λ to outlet apart at. (let nothing : offered outlet ≡ [] = is.unsent to outlet at in
+      let outbox : outbox_to node to ≡ empty_outbox set mail.seat.nodes mail.seat.node to = is.opened.outboxes to in record {
+        items = planned_none to ∙ ap (λ (o : OutboxView). o.items) (sym outbox) ∙ ap (λ bs. items_in bs ++ (outbox_to node to).items) (sym nothing);
+        cut = ap (λ (o : OutboxView). o.next) outbox ∙ ap length (sym nothing);
+        small = λ k batch there. absurd (none_there (offered outlet) nothing k batch there);
+      });
+  own = subst (λ own. AreLast (planned node node.id) own) (sym is.opened.nothing.1) (subst (λ w. AreLast w []) (sym (planned_none node.id)) refl);
+  white = λ colour. absurd (no_colour mail.seat.black is.black colour);
+}
+  where
+    planned_none : (to : ℕ) → planned node to ≡ []
+    planned_none to = ap (λ e. items_from (predecessors node.set) node.n to (take e node.history.settlements)) is.opened.nothing.0
+
+    none_there : (batches : List BatchView) → batches ≡ [] → (k : ℕ) (b : BatchView) → slice_get batches k ≡ Some b → ⊥
+    none_there [] none k b there = absurd (cc)
+    none_there (x ∷ xs) none k b there = absurd (cc)
+
+-- ---- counts
+
+pub few_cut : (count : ℕ) → (2 ^ 40 ≤ count → ⊥) → count < 2 ^ 40
+few_cut count isnt = elim (cases_lt count (2 ^ 40)) [ inl few ↦ few | inr many ↦ absurd (isnt many) ]

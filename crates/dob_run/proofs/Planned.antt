@@ -1,0 +1,82 @@
+-- What a node planned, after it has expanded a settlement, and after its history went on.
+use Rattle.std.proofs.Common.{◌≡◌, ℕ, zero, suc, ◌+◌, ◌-◌, ◌≤◌, sym, ap, ◌∙◌, subst, arith, add-one, append_assoc, List, [], ◌∷◌, ◌++◌, length, length-append, length-drop, take, drop, slice_get, Some}
+use Rattle.std.proofs.Math.Seq.{take-suc}
+use Rattle.std.proofs.lemmas.Grind.{flat_map-append}
+use Rattle.std.proofs.lemmas.List.{append-nil, take-append-le, drop-append-le}
+use Rattle.std.proofs.lemmas.Option.{slice_get_within, get_or_from_slice_get}
+use Rattle.dob_share.specs.declared.news.Settlement.{Settlement}
+use Rattle.dob_share.specs.declared.news.Item.{Item}
+use Rattle.dob_share.specs.declared.share.Share.{Share}
+use Rattle.dob_update.specs.Items.{items_of, items_from}
+use Rattle.dob_update.specs.Batches.{BatchView}
+use Rattle.dob_node.specs.Stores.{HistoryView}
+use Rattle.dob_node.specs.Takes.{AreTaken, listed}
+use Rattle.dob_node.proofs.Settles.{items_from-append}
+use Rattle.dob_run.specs.Workers.{AreLast, items_in}
+
+-- with one settlement more
+pub told_more : (targets : ℕ → List ℕ) (n node : ℕ) (h : List Settlement) (e : ℕ) (s : Settlement) → slice_get h e ≡ Some s →
+    items_from targets n node (take (e + 1) h) ≡ items_from targets n node (take e h) ++ items_of targets n node s
+told_more targets n node h e s there =
+    ap (λ xs. items_from targets n node xs) (rw add-one (take-suc h e s (slice_get_within h e s there)
+    ∙ ap (λ x. take e h ++ x ∷ []) (get_or_from_slice_get h e s s there)))
+    ∙ items_from-append targets n node (take e h) (s ∷ [])
+    ∙ ap (λ xs. items_from targets n node (take e h) ++ xs) (append-nil (items_of targets n node s))
+
+-- where the history goes on
+pub told_grown : (targets : ℕ → List ℕ) (n node : ℕ) (h more g : List Settlement) (e : ℕ) → e ≤ length h → g ≡ h ++ more →
+    items_from targets n node (take e g) ≡ items_from targets n node (take e h)
+told_grown targets n node h more g e within is =
+    ap (λ xs. items_from targets n node (take e xs)) is ∙ ap (λ xs. items_from targets n node xs) (take-append-le e h more within)
+
+-- items that are taken make a history that goes on
+pub history_grown : (items : List Item) (share after : Share) (history grown : HistoryView) → AreTaken items share after history grown →
+    (more : List Settlement) × (grown.settlements ≡ history.settlements ++ more)
+history_grown [] share after history grown none = ([], ap (λ (h : HistoryView). h.settlements) none.1 ∙ sym (append-nil history.settlements))
+history_grown (item ∷ items) share after history grown taken =
+    let first = taken.2.settled in
+    let rest = history_grown items taken.0 after taken.1 grown taken.3 in (
+      listed first.0 ++ rest.0,
+      rest.1 ∙ ap (λ (h : HistoryView). h.settlements ++ rest.0) first.2 ∙ append_assoc history.settlements (listed first.0) rest.0,
+    )
+
+-- ---- the last of a list
+
+pub last_more : (whole last more : List Item) → AreLast whole last → AreLast (whole ++ more) (last ++ more)
+last_more whole last more are =
+    let same : length (whole ++ more) - length (last ++ more) ≡ length whole - length last =
+    omega (arith, length-append whole more, length-append last more) in
+    ap (λ k. drop k (whole ++ more)) same
+    ∙ drop-append-le (length whole - length last) whole more (omega arith)
+    ∙ ap (λ xs. xs ++ more) are
+
+drop_next : (k : ℕ) (xs : List Item) (x : Item) (rest : List Item) → drop k xs ≡ x ∷ rest → drop (suc k) xs ≡ rest
+drop_next zero [] x rest e = absurd (cc)
+drop_next (suc k) [] x rest e = absurd (cc)
+drop_next zero (y ∷ xs) x rest e = cc
+drop_next (suc k) (y ∷ xs) x rest e = drop_next k xs x rest e
+
+pub last_less : (whole : List Item) (item : Item) (last : List Item) → AreLast whole (item ∷ last) → AreLast whole last
+last_less whole item last are =
+    let k = length whole - length (item ∷ last) in
+    let left : length whole - k ≡ suc (length last) = sym (length-drop k whole) ∙ ap length are in
+    let next : length whole - length last ≡ suc k = omega (arith, left) in
+    ap (λ m. drop m whole) next ∙ drop_next k whole item last are
+
+-- ---- batches
+
+pub items_in_more : (batches : List BatchView) (batch : BatchView) → items_in (batches ++ batch ∷ []) ≡ items_in batches ++ batch.items
+items_in_more batches batch =
+    flat_map-append (λ (b : BatchView). b.items) batches (batch ∷ []) ∙ ap (λ xs. items_in batches ++ xs) (append-nil batch.items)
+
+-- what was said of each batch, and of one more
+pub each_more : (P : BatchView → Type 0) (batches : List BatchView) (batch : BatchView) →
+    ((k : ℕ) (b : BatchView) → slice_get batches k ≡ Some b → P b) → P batch →
+    (k : ℕ) (b : BatchView) → slice_get (batches ++ batch ∷ []) k ≡ Some b → P b
+each_more P [] batch each last zero b at = subst P (same_batch batch b at) last
+  where
+    same_batch : (x y : BatchView) → Some x ≡ Some y → x ≡ y
+    same_batch x y e = cc
+each_more P [] batch each last (suc k) b at = absurd (cc)
+each_more P (x ∷ xs) batch each last zero b at = each zero b at
+each_more P (x ∷ xs) batch each last (suc k) b at = each_more P xs batch (λ j. each (suc j)) last k b at

@@ -1,0 +1,4 @@
+use Rattle.dob_run.proofs.hands.Inlet.holds_for.Goals as goal
+
+pub returns-in-Some : goal.returns-in-Some
+returns-in-Some c = λ yes. (c.in-Some.batch, c.in-Some.is, c.is_for.ensures yes)

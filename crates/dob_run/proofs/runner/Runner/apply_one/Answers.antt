@@ -1,0 +1,19 @@
+use Rattle.std.proofs.Common.{Ok, ap, sym, subst, inl, inr}
+use Rattle.std.proofs.lemmas.Bool.{cases_Bool}
+use Rattle.dob_node.specs.declared.node.Node.{Node}
+use Rattle.dob_run.specs.Workers.{IsLawful}
+use Rattle.dob_run.proofs.Lawfuls.{applied_own}
+use Rattle.dob_run.proofs.runner.Runner.apply_one.Goals as goal
+
+pub invariant_of-self : goal.invariant_of-self
+invariant_of-self c =
+    let r = c.args.self.now in
+    record {
+      some = r.some;
+      at_most = r.at_most;
+      going = r.going;
+      lawful = λ none. (let law = r.lawful none in elim (cases_Bool c.in-Ok.applied) [
+        | inl did ↦ applied_own r.set r.size r.node c.apply_own.new.self r.mail law (c.in-Ok.ensures.applied (ap Ok did)) c.in-Ok.ensures.sound
+        | inr none_left ↦ subst (λ (n : Node). IsLawful r.set r.size n r.mail) (sym (c.in-Ok.ensures.nothing (ap Ok none_left))) law
+      ]);
+    }

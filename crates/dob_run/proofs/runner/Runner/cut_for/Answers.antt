@@ -1,0 +1,42 @@
+use Rattle.std.proofs.Common.{◌≡◌, ◌<◌, ◌^◌, true, ap, ◌∙◌, subst, inl, inr, arith, Ok, Err, Some, None, IfSome, Option, Result}
+use Rattle.std.proofs.lemmas.Bool.{cases_Bool}
+use Rattle.dob_update.specs.Batches.{BatchView}
+use Rattle.dob_board.specs.declared.view.Stand.{Stand}
+use Rattle.dob_node.specs.declared.cause.Cause.{Cause}
+use Rattle.dob_node.specs.Nodes.{outbox_to, HasCut}
+use Rattle.dob_run.proofs.Keeping.{some_at}
+use Rattle.dob_run.proofs.Lawfuls.{cut_one, few_cut}
+use Rattle.dob_run.proofs.runner.Runner.cut_for.Goals as goal
+
+cut_none : (cut : Option BatchView) (batch : BatchView) → cut ≡ Some batch → (let given : Result (Option BatchView) Cause = Ok cut in given ≡ Ok None) → ⊥
+cut_none cut batch some none = absurd (cc)
+
+cut_counts : (cut : Option BatchView) (why : Cause) → (let given : Result (Option BatchView) Cause = Ok cut in given ≡ Err why) → ⊥
+cut_counts cut why is = absurd (cc)
+
+pub post-requires-clause-few : goal.post-requires-clause-few
+post-requires-clause-few c =
+    let r = c.args.self.now in
+    let law = r.lawful c.requires.unfailed in
+    let spot = some_at r.mail.outlets.items c.args.to (omega (arith, r.mail.outlets_len, c.requires.node)) in
+    let few : (outbox_to r.node c.args.to).next < 2 ^ 40 = few_cut (outbox_to r.node c.args.to).next
+    (λ many. cut_counts c.in-Ok.cut _ (c.in-Ok.ensures.counts.1 (λ empty. cut_none c.in-Ok.cut c.in-Some.batch c.in-Some.is (c.in-Ok.ensures.none.1 empty), many))) in
+    omega (arith, few, r.mail.posted c.args.to spot.0 spot.1, (law.sends c.args.to spot.0 c.requires.other spot.1).cut)
+
+pub invariant_of-self-2 : goal.invariant_of-self-2
+invariant_of-self-2 c =
+    let r = c.args.self.now in
+    let law = r.lawful c.requires.unfailed in
+    let cut : HasCut c.args.to r.size c.in-Some.batch r.node c.cut_for.new.self =
+    subst (λ given. IfSome given (λ (b : BatchView). HasCut c.args.to r.size b r.node c.cut_for.new.self)) c.in-Some.is c.in-Ok.ensures.cut in
+    let was_black : r.mail.seat.black ≡ true = elim (cases_Bool r.mail.seat.black) [
+      | inl black ↦ black
+      | inr white ↦ absurd (cut_none c.in-Ok.cut c.in-Some.batch c.in-Some.is (c.in-Ok.ensures.none.1 ((law.white white).0.sent c.args.to)))
+    ] in
+    record {
+      some = r.some;
+      at_most = r.at_most;
+      going = λ _. c.requires.unfailed;
+      lawful = λ none. cut_one r.set r.size c.args.to c.in-Some.batch r.node c.cut_for.new.self r.mail c.post.new.self law cut c.in-Ok.ensures.sound
+          c.post.ensures.same.node c.post.ensures.same.nodes (ap (λ (s : Stand). s.black) c.post.ensures.counted ∙ was_black) c.post.ensures.offered;
+    }

@@ -1,0 +1,16 @@
+use Rattle.std.proofs.Common.{sym, ◌∙◌}
+use Rattle.dob_run.proofs.Keeping.{goes_trans, carried_on}
+use Rattle.dob_run.proofs.runner.Runner.expand_all.Goals as goal
+
+pub expand_one-requires-clause-set : goal.expand_one-requires-clause-set
+expand_one-requires-clause-set c = c.requires.set ∙ sym c.loop.invariant.keeps.set
+
+pub returns-in_err-more : goal.returns-in_err-more
+returns-in_err-more c = carried_on c.args.self.now c.loop.self c.expand_one.new.self c.from_residual.result c.in_err-more.field-0.0 c.from_residual.ensures.1
+    c.loop.invariant.keeps c.in_err-more.ensures
+
+pub returns-then-not-more : goal.returns-then-not-more
+returns-then-not-more c = goes_trans c.args.self.now c.loop.self c.expand_one.new.self c.loop.invariant c.in_ok-more.ensures
+
+pub loop-preserved : goal.loop-preserved
+loop-preserved c = goes_trans c.args.self.now c.loop.self c.expand_one.new.self c.loop.invariant c.in_ok-more.ensures

@@ -1,0 +1,15 @@
+use Rattle.std.proofs.Common.{sym, ap, ◌∙◌}
+use Rattle.dob_run.proofs.Lawfuls.{recoloured}
+use Rattle.dob_run.proofs.runner.Runner.looks.Goals as goal
+
+pub invariant_of-self : goal.invariant_of-self
+invariant_of-self c =
+    let r = c.args.self.now in
+    record {
+      some = r.some;
+      at_most = r.at_most;
+      going = λ _. c.requires;
+      lawful = λ none. recoloured r.set r.size r.node r.mail c.halted.new.self (r.lawful none)
+          c.halted.ensures.links.seat.node c.halted.ensures.links.seat.nodes (ap (λ v. v.items) c.halted.ensures.links.outlets)
+          (λ is. (r.lawful none).white (sym c.halted.ensures.colour ∙ is));
+    }

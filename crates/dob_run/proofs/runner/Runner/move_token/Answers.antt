@@ -1,0 +1,43 @@
+use Rattle.std.proofs.Common.{sym, ap, ◌∙◌}
+use Rattle.dob_run.proofs.Lawfuls.{recoloured}
+use Rattle.dob_run.proofs.runner.Runner.move_token.Goals as goal
+
+pub invariant_of-self : goal.invariant_of-self
+invariant_of-self c =
+    let r = c.args.self.now in
+    record {
+      some = r.some;
+      at_most = r.at_most;
+      going = λ _. c.requires.unfailed;
+      lawful = λ none. recoloured r.set r.size r.node r.mail c.finds_token.new.self (r.lawful none)
+          c.finds_token.ensures.links.seat.node c.finds_token.ensures.links.seat.nodes (ap (λ v. v.items) c.finds_token.ensures.links.outlets)
+          (λ is. (r.lawful none).white (sym c.finds_token.ensures.colour ∙ is));
+    }
+
+pub invariant_of-self-then-may_announce : goal.invariant_of-self-then-may_announce
+invariant_of-self-then-may_announce c =
+    let r = c.args.self.now in
+    record {
+      some = r.some;
+      at_most = r.at_most;
+      going = λ _. c.requires.unfailed;
+      lawful = λ none. recoloured r.set r.size r.node r.mail c.announce.new.self (r.lawful none)
+          (c.announce.ensures.links.seat.node ∙ c.finds_token.ensures.links.seat.node)
+          (c.announce.ensures.links.seat.nodes ∙ c.finds_token.ensures.links.seat.nodes)
+          (ap (λ v. v.items) (c.announce.ensures.links.outlets ∙ c.finds_token.ensures.links.outlets))
+          (λ is. (r.lawful none).white (sym (c.announce.ensures.colour ∙ c.finds_token.ensures.colour) ∙ is));
+    }
+
+pub invariant_of-self-else-may_announce : goal.invariant_of-self-else-may_announce
+invariant_of-self-else-may_announce c =
+    let r = c.args.self.now in
+    record {
+      some = r.some;
+      at_most = r.at_most;
+      going = λ _. c.requires.unfailed;
+      lawful = λ none. recoloured r.set r.size r.node r.mail c.pass.new.self (r.lawful none)
+          (c.pass.ensures.links.seat.node ∙ c.finds_token.ensures.links.seat.node)
+          (c.pass.ensures.links.seat.nodes ∙ c.finds_token.ensures.links.seat.nodes)
+          (ap (λ v. v.items) (c.pass.ensures.links.outlets ∙ c.finds_token.ensures.links.outlets))
+          (λ is. (c.requires.idle.idle, c.requires.idle.sent));
+    }

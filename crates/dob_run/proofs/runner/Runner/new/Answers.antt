@@ -1,0 +1,11 @@
+use Rattle.std.proofs.Common.{refl}
+use Rattle.dob_run.proofs.Lawfuls.{begun}
+use Rattle.dob_run.proofs.runner.Runner.new.Goals as goal
+
+pub invariant_of-result : goal.invariant_of-result
+invariant_of-result c = record {
+  some = c.requires.some;
+  at_most = c.requires.at_most;
+  going = λ _. refl;
+  lawful = λ _. begun c.args.set c.args.size c.args.node c.args.mail c.requires.fresh;
+}

@@ -1,0 +1,19 @@
+use Rattle.std.proofs.Common.{refl}
+use Rattle.dob_run.specs.Runners.{GoesOn, GoesRound}
+use Rattle.dob_run.proofs.Keeping.{runner_trans, turn_failed}
+use Rattle.dob_run.proofs.runner.Runner.turn.Goals as goal
+
+pub returns-in_err-did : goal.returns-in_err-did
+returns-in_err-did g c = turn_failed c.args.self.now c.looks-halt.new.self c.work.new.self c.from_residual.result c.in_err-did.field-0.0 c.from_residual.ensures.1
+    c.looks-halt.ensures.goes.keeps c.in_err-did.ensures
+
+pub returns : goal.returns
+returns g c =
+    let worked : GoesOn c.looks-halt.new.self c.work.new.self = c.in_ok-did.ensures in
+    let ended : GoesRound c.work.new.self c.ends_turn.new.self = c.ends_turn.ensures in
+    record {
+      keeps = runner_trans c.args.self.now c.work.new.self c.ends_turn.new.self
+          (runner_trans c.args.self.now c.looks-halt.new.self c.work.new.self c.looks-halt.ensures.goes.keeps worked.keeps) ended.keeps;
+      unfailed = ended.unfailed;
+      halt_is = refl;
+    }

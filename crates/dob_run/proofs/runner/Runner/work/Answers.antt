@@ -1,0 +1,51 @@
+use Rattle.std.proofs.Common.{sym, ◌∙◌}
+use Rattle.dob_run.specs.Runners.{GoesOn}
+use Rattle.dob_run.proofs.Keeping.{runner_same, goes_trans, carried_on}
+use Rattle.dob_run.proofs.runner.Runner.work.Goals as goal
+
+pub returns-in_err-took : goal.returns-in_err-took
+returns-in_err-took g c = carried_on c.args.self.now c.args.self.now c.take_all.new.self c.from_residual.result c.in_err-took.field-0.0 c.from_residual.ensures.1
+    (runner_same c.args.self.now) c.in_err-took.ensures
+
+pub expand_all-requires-clause-set : goal.expand_all-requires-clause-set
+expand_all-requires-clause-set g c =
+    let took : GoesOn c.args.self.now c.take_all.new.self = c.in_ok-took.ensures in
+    c.requires.set ∙ sym took.keeps.set
+
+pub returns-in_err-expanded : goal.returns-in_err-expanded
+returns-in_err-expanded g c =
+    let took : GoesOn c.args.self.now c.take_all.new.self = c.in_ok-took.ensures in
+    carried_on c.args.self.now c.take_all.new.self c.expand_all.new.self c.from_residual-in_err-expanded.result c.in_err-expanded.field-0.0
+    c.from_residual-in_err-expanded.ensures.1 took.keeps c.in_err-expanded.ensures
+
+pub returns-in_err-applied : goal.returns-in_err-applied
+returns-in_err-applied g c =
+    let expanded : GoesOn c.args.self.now c.expand_all.new.self =
+    goes_trans c.args.self.now c.take_all.new.self c.expand_all.new.self c.in_ok-took.ensures c.in_ok-expanded.ensures in
+    carried_on c.args.self.now c.expand_all.new.self c.apply_all.new.self c.from_residual-in_err-applied.result c.in_err-applied.field-0.0
+    c.from_residual-in_err-applied.ensures.1 expanded.keeps c.in_err-applied.ensures
+
+pub returns-in_err-sent : goal.returns-in_err-sent
+returns-in_err-sent g c =
+    let expanded : GoesOn c.args.self.now c.expand_all.new.self =
+    goes_trans c.args.self.now c.take_all.new.self c.expand_all.new.self c.in_ok-took.ensures c.in_ok-expanded.ensures in
+    let applied : GoesOn c.args.self.now c.apply_all.new.self =
+    goes_trans c.args.self.now c.expand_all.new.self c.apply_all.new.self expanded c.in_ok-applied.ensures in
+    carried_on c.args.self.now c.apply_all.new.self c.send_all.new.self c.from_residual-in_err-sent.result c.in_err-sent.field-0.0
+    c.from_residual-in_err-sent.ensures.1 applied.keeps c.in_err-sent.ensures
+
+pub returns-then-applied : goal.returns-then-applied
+returns-then-applied g c =
+    let expanded : GoesOn c.args.self.now c.expand_all.new.self =
+    goes_trans c.args.self.now c.take_all.new.self c.expand_all.new.self c.in_ok-took.ensures c.in_ok-expanded.ensures in
+    let applied : GoesOn c.args.self.now c.apply_all.new.self =
+    goes_trans c.args.self.now c.expand_all.new.self c.apply_all.new.self expanded c.in_ok-applied.ensures in
+    goes_trans c.args.self.now c.apply_all.new.self c.send_all.new.self applied c.in_ok-sent.ensures
+
+pub returns-else-applied : goal.returns-else-applied
+returns-else-applied g c =
+    let expanded : GoesOn c.args.self.now c.expand_all.new.self =
+    goes_trans c.args.self.now c.take_all.new.self c.expand_all.new.self c.in_ok-took.ensures c.in_ok-expanded.ensures in
+    let applied : GoesOn c.args.self.now c.apply_all.new.self =
+    goes_trans c.args.self.now c.expand_all.new.self c.apply_all.new.self expanded c.in_ok-applied.ensures in
+    goes_trans c.args.self.now c.apply_all.new.self c.send_all.new.self applied c.in_ok-sent.ensures

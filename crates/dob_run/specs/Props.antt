@@ -1,0 +1,115 @@
+-- That a worker is lawful has one proof at most.
+use Rattle.std.specs.Prelude.{ℕ, suc, ◌<◌, List, Option}
+use Rattle.std.specs.List.{All}
+use Rattle.std.specs.Coded.{Coded-set, coded_ℕ, coded_list, coded_option, ×_prop, Π_prop, Unit-prop, le_prop}
+use Rattle.dob_pieces.specs.contracts.piece_set.PieceSet as set_row
+use Rattle.dob_share.specs.contracts.news.Item as item_row
+use Rattle.dob_update.specs.contracts.batch.Batch as batch_row
+use Rattle.dob_pieces.specs.declared.piece_set.PieceSet.{PieceSet}
+use Rattle.dob_value.specs.declared.value.Value.{Value}
+use Rattle.dob_value.specs.declared.value.Value.TheVariants.{Win, Loss, Draw}
+use Rattle.dob_value.specs.Follows.{IsEntry}
+use Rattle.dob_share.specs.declared.news.Item.{Item}
+use Rattle.dob_rank.specs.Marks.{classes_of}
+use Rattle.dob_share.specs.declared.news.Settlement.{Settlement}
+use Rattle.dob_share.specs.declared.share.Share.{Share}
+use Rattle.dob_share.specs.Cells.{Cell}
+use Rattle.dob_share.specs.Shares.{IsOwn, cell_at}
+use Rattle.dob_update.specs.Batches.{BatchView, OutboxView}
+use Rattle.dob_node.specs.declared.node.Node.{Node}
+use Rattle.dob_node.specs.Stores.{HistoryView}
+use Rattle.dob_node.specs.Takes.{HasEntries, HasParities, AreKept}
+use Rattle.dob_node.specs.Outboxes.{IsOutboxTo}
+use Rattle.dob_node.specs.Nodes.{outbox_to, IsSound, IsIdle}
+use Rattle.dob_run.specs.declared.hands.Outlet.{Outlet}
+use Rattle.dob_run.specs.declared.mail.Mail.{Mail}
+use Rattle.dob_run.specs.Links.{offered}
+use Rattle.dob_run.specs.Mails.{AreOut}
+use Rattle.dob_run.specs.Workers.{SendsRight, IsLawful}
+
+ℕ-set : IsSet ℕ
+ℕ-set = Coded-set coded_ℕ
+
+items_set : IsSet (List Item)
+items_set = Coded-set (coded_list item_row.the_row.coded)
+
+hand_set : IsSet (Option BatchView)
+hand_set = Coded-set (coded_option batch_row.the_row.coded)
+
+set_set : IsSet PieceSet
+set_set = Coded-set set_row.the_row.coded
+
+All-prop : {X : Type 0} (P : X → Type 0) → ((x : X) → IsProp (P x)) → (xs : List X) → IsProp (All P xs)
+All-prop P each xs = Π_prop (λ k. Π_prop (λ d. Π_prop (λ _. each _)))
+
+IsEntry-prop : (v : Value) → IsProp (IsEntry v)
+IsEntry-prop (Win plies) = ×_prop (ℕ-set _ _) le_prop
+IsEntry-prop (Loss plies) = ×_prop (ℕ-set _ _) le_prop
+IsEntry-prop Draw = Unit-prop
+
+HasEntries-prop : (item : Item) → IsProp (HasEntries item)
+HasEntries-prop item = ×_prop (IsEntry-prop item.was) (IsEntry-prop item.now)
+
+IsOwn-prop : (share : Share) (class : ℕ) → IsProp (IsOwn share class)
+unfolding IsOwn
+IsOwn-prop share class = ×_prop (ℕ-set _ _) le_prop
+
+HasParities-prop : (cell : Cell) → IsProp (HasParities cell)
+HasParities-prop cell a b = λ i. record {
+  wins = Π_prop (λ plies. Π_prop (λ _. ℕ-set _ _)) a.wins b.wins i;
+  least = Π_prop (λ plies. Π_prop (λ _. ℕ-set _ _)) a.least b.least i;
+}
+
+AreKept-prop : (set : PieceSet) (n id : ℕ) (share : Share) (history : HistoryView) → IsProp (AreKept set n id share history)
+AreKept-prop set n id share history a b = λ i. record {
+  share_is = ×_prop (ℕ-set _ _) (ℕ-set _ _) a.share_is b.share_is i;
+  history_is = ×_prop (ℕ-set _ _) (ℕ-set _ _) a.history_is b.history_is i;
+  one_of_n = le_prop a.one_of_n b.one_of_n i;
+  few = le_prop a.few b.few i;
+  owned = Π_prop (λ class. ×_prop (Π_prop (λ _. ×_prop (ℕ-set _ _) le_prop)) (Π_prop (λ _. IsOwn-prop share class))) a.owned b.owned i;
+  counted = ℕ-set _ _ a.counted b.counted i;
+  classes = All-prop (λ (s : Settlement). s.class < classes_of set) (λ s. le_prop {n = suc s.class} {m = classes_of set}) history.settlements a.classes b.classes i;
+  parities = Π_prop (λ class. Π_prop (λ _. HasParities-prop (cell_at share class))) a.parities b.parities i;
+}
+
+IsOutboxTo-prop : (set : PieceSet) (n from to : ℕ) (outbox : OutboxView) → IsProp (IsOutboxTo set n from to outbox)
+IsOutboxTo-prop set n from to outbox a b = λ i. record {
+  of = (set_set _ _ a.of.0 b.of.0 i, ℕ-set _ _ a.of.1 b.of.1 i, ℕ-set _ _ a.of.2 b.of.2 i, ℕ-set _ _ a.of.3 b.of.3 i);
+  entries = All-prop HasEntries HasEntries-prop outbox.items a.entries b.entries i;
+}
+
+pub IsSound-prop : (node : Node) → IsProp (IsSound node)
+IsSound-prop node a b = λ i. record {
+  kept = AreKept-prop node.set node.n node.id node.share node.history a.kept b.kept i;
+  told = le_prop a.told b.told i;
+  entries = All-prop HasEntries HasEntries-prop node.own.items a.entries b.entries i;
+  receivers = ℕ-set _ _ a.receivers b.receivers i;
+  addressed = Π_prop (λ to. IsOutboxTo-prop node.set node.n node.id to (outbox_to node to)) a.addressed b.addressed i;
+  nothing_to_self = items_set _ _ a.nothing_to_self b.nothing_to_self i;
+}
+
+IsIdle-prop : (node : Node) → IsProp (IsIdle node)
+IsIdle-prop node a b = λ i. record {
+  expanded = ℕ-set _ _ a.expanded b.expanded i;
+  applied = items_set _ _ a.applied b.applied i;
+  sent = Π_prop (λ to. items_set _ _) a.sent b.sent i;
+}
+
+SendsRight-prop : (node : Node) (size to : ℕ) (batches : List BatchView) → IsProp (SendsRight node size to batches)
+SendsRight-prop node size to batches a b = λ i. record {
+  items = items_set _ _ a.items b.items i;
+  cut = ℕ-set _ _ a.cut b.cut i;
+  small = Π_prop (λ k. Π_prop (λ batch. Π_prop (λ _. le_prop))) a.small b.small i;
+}
+
+AreOut-prop : (outlets : List Outlet) → IsProp (AreOut outlets)
+AreOut-prop outlets = Π_prop (λ to. Π_prop (λ outlet. Π_prop (λ _. hand_set _ _)))
+
+pub IsLawful-prop : (set : PieceSet) (size : ℕ) (node : Node) (mail : Mail) → IsProp (IsLawful set size node mail)
+IsLawful-prop set size node mail a b = λ i. record {
+  of = (set_set _ _ a.of.0 b.of.0 i, ℕ-set _ _ a.of.1 b.of.1 i, ℕ-set _ _ a.of.2 b.of.2 i);
+  sound = IsSound-prop node a.sound b.sound i;
+  sends = Π_prop (λ to. Π_prop (λ outlet. Π_prop (λ _. Π_prop (λ _. SendsRight-prop node size to (offered outlet))))) a.sends b.sends i;
+  own = items_set _ _ a.own b.own i;
+  white = Π_prop (λ _. ×_prop (IsIdle-prop node) (AreOut-prop mail.outlets.items)) a.white b.white i;
+}

@@ -1,0 +1,43 @@
+-- A worker's node beside its mail, and when the two are lawful together.
+use Rattle.std.specs.Prelude.{◌≡◌, ◌≢◌, ℕ, ◌-◌, ◌≤◌, ◌++◌, List, Some, false, length, take, drop, slice_get}
+use Rattle.std.specs.List.{flat_map}
+use Rattle.dob_pieces.specs.declared.piece_set.PieceSet.{PieceSet}
+use Rattle.dob_unmove.specs.Edges.{predecessors}
+use Rattle.dob_share.specs.declared.news.Item.{Item}
+use Rattle.dob_update.specs.Items.{items_from}
+use Rattle.dob_update.specs.Batches.{BatchView}
+use Rattle.dob_node.specs.declared.node.Node.{Node}
+use Rattle.dob_node.specs.Nodes.{outbox_to, IsSound, IsIdle}
+use Rattle.dob_run.specs.declared.hands.Outlet.{Outlet}
+use Rattle.dob_run.specs.declared.mail.Mail.{Mail}
+use Rattle.dob_run.specs.Links.{offered}
+use Rattle.dob_run.specs.Mails.{AreOut}
+
+-- the items for a node of the settlements that the worker's node has expanded
+abbrev pub planned : Node → ℕ → List Item
+planned node to = items_from (predecessors node.set) node.n to (take node.expanded node.history.settlements)
+
+-- the items of batches, in order
+abbrev pub items_in : List BatchView → List Item
+items_in batches = flat_map (λ (b : BatchView). b.items) batches
+
+-- these are the last of a list
+abbrev pub AreLast : List Item → List Item → Type 0
+AreLast whole last = drop (length whole - length last) whole ≡ last
+
+-- What the node planned for another one is what is in the batches that were offered to it and then what is left in the outbox
+-- for it; and it cut so many batches, none of them with more items than that size.
+pub record SendsRight (node : Node) (size to : ℕ) (batches : List BatchView) : Type 0 where
+  pub items : planned node to ≡ items_in batches ++ (outbox_to node to).items
+  pub cut : (outbox_to node to).next ≡ length batches
+  pub small : (k : ℕ) (batch : BatchView) → slice_get batches k ≡ Some batch → length batch.items ≤ size
+
+-- The worker of a node is lawful: its node is that of the seat and of the piece set; what it planned for other nodes is on
+-- its way or left in its outboxes, and what it planned for itself and hasn't applied is in its own list; and where its seat
+-- is white it has nothing to expand, to apply or to send, and no batch in a sending hand.
+pub record IsLawful (set : PieceSet) (size : ℕ) (node : Node) (mail : Mail) : Type 0 where
+  pub of : (node.set ≡ set) × (node.id ≡ mail.seat.node) × (node.n ≡ mail.seat.nodes)
+  pub sound : IsSound node
+  pub sends : (to : ℕ) (outlet : Outlet) → to ≢ mail.seat.node → slice_get mail.outlets.items to ≡ Some outlet → SendsRight node size to (offered outlet)
+  pub own : AreLast (planned node node.id) node.own.items
+  pub white : mail.seat.black ≡ false → IsIdle node × AreOut mail.outlets.items

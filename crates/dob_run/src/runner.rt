@@ -1,0 +1,27 @@
+// A worker of a build: a node, and its mail.
+ghost use Rattle.std.specs.Prelude.{◌≡◌, ◌<◌, ◌≤◌, None};
+ghost use Rattle.std.specs.Coded.{Π_prop};
+ghost use Rattle.dob_board.specs.declared.halt.Halt.TheVariants.{Running};
+ghost use Rattle.dob_run.specs.Workers.{IsLawful};
+ghost use Rattle.dob_run.specs.Props.{IsLawful-prop};
+
+use crate::mail::Mail;
+use crossbeam_utils::Backoff;
+use dob_node::{Cause, Node};
+use dob_pieces::PieceSet;
+
+/// A worker of a build by nodes that own the classes of a piece set: its node, its seat with the ends of its channels, and
+/// the greatest size of a batch. Unless it has failed it is lawful at every moment.
+#[derive(Drop)]
+pub struct Runner {
+    pub(crate) node: Node,
+    pub(crate) mail: Mail,
+    pub(crate) set: PieceSet,
+    pub(crate) size: usize,
+    pub(crate) failed: Option<Cause>,
+    pub(crate) backoff: Backoff,
+    ghost some: { 0 < size },
+    ghost at_most: { size ≤ 4096 },
+    ghost going: { mail.seat.halt ≡ Running → failed ≡ None },
+    ghost lawful: { failed ≡ None → IsLawful set size node mail } by { Π_prop (λ _. IsLawful-prop set size node mail) },
+}

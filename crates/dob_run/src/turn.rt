@@ -1,0 +1,115 @@
+// A turn of a runner.
+ghost use Rattle.std.specs.Prelude.{◌≡◌, ◌≢◌, ◌↔◌, ◌<◌, ◌≤◌, IsTrue, None, MatchResult};
+ghost use Rattle.dob_board.specs.declared.halt.Halt.TheVariants.{Running};
+ghost use Rattle.dob_run.specs.Runners.{Steps, GoesRound, HasFailed, HasTurned, IsNew};
+
+use crate::gate::Gate;
+use crate::mail::Mail;
+use crate::runner::Runner;
+use crossbeam_utils::Backoff;
+use dob_board::Halt;
+use dob_node::{Cause, Node};
+use dob_pieces::PieceSet;
+use dob_rank::Classes;
+use std::sync::Wait;
+
+impl Runner {
+    /// The runner of a node that was opened for the piece set and has made no step, and of the mail of its seat, over which
+    /// nothing has gone. It cuts batches of at most `size` items, 1 to 4096.
+    pub(crate) fn new(node: Node, mail: Mail, set: PieceSet, size: usize) -> Runner
+        requires some { 0 < size }
+        requires at_most { size ≤ 4096 }
+        requires fresh { IsNew set node mail }
+        ensures node { result.node ≡ node }
+        ensures mail { result.mail ≡ mail }
+        ensures set { result.set ≡ set }
+        ensures unfailed { result.failed ≡ None }
+    {
+        Runner {
+            node,
+            mail,
+            set,
+            size,
+            failed: None,
+            backoff: Backoff::new(),
+        }
+    }
+
+    /// Whether the runner's seat has seen that the run ended or failed.
+    pub fn stopped(&self) -> bool
+        ensures { IsTrue result ↔ (self.now.mail.seat.halt ≢ Running) }
+    {
+        self.mail.seat.halt != Halt::Running
+    }
+
+    /// Gives up for a cause that isn't the node's own: the board is told, and the runner keeps the cause.
+    pub(crate) fn give_up(&mut self, why: Cause)
+        ensures { HasFailed self.old self.new why }
+    {
+        self.failed = Some(why);
+        self.mail.fail();
+    }
+
+    /// One turn: a runner that the gate lets pass and whose run goes on does a turn's work for its node, and if there was
+    /// none it looks for the token, or pauses. The answer is the halt that its seat knows.
+    ///
+    /// Errors, after which the run has failed: `Held` where the gate says no; else the cause of the node.
+    pub fn turn<R: Wait, G: Gate>(
+        &mut self,
+        rt: &R,
+        classes: &Classes,
+        gate: &G,
+    ) -> Result<Halt, Cause>
+        requires running { self.old.mail.seat.halt ≡ Running }
+        requires set { classes.now.set ≡ self.old.set }
+        ensures { MatchResult result (HasTurned self.old self.new) (HasFailed self.old self.new) }
+    {
+        if !gate.enter(self.mail.seat.node) {
+            self.give_up(Cause::Held);
+            return Err(Cause::Held);
+        }
+        let halt = self.looks();
+        if halt != Halt::Running {
+            return Ok(halt);
+        }
+        let did = self.work(rt, classes)?;
+        self.ends_turn(did);
+        Ok(self.mail.seat.halt)
+    }
+
+    // Looks whether the run goes on.
+    fn looks(&mut self) -> Halt
+        requires { self.old.failed ≡ None }
+        ensures goes { GoesRound self.old self.new }
+        ensures halt { result ≡ self.new.mail.seat.halt }
+    {
+        self.mail.halted()
+    }
+
+    // What is left of a turn that did something, or nothing.
+    fn ends_turn(&mut self, did: bool)
+        requires { self.old.failed ≡ None }
+        ensures { GoesRound self.old self.new }
+    {
+        if did {
+            self.backoff.reset();
+        } else {
+            self.rest();
+        }
+    }
+
+    /// A turn's work: at most one batch from each node is applied; settlements are expanded until as many items are made as
+    /// a batch holds, and the own items are applied; and at most one batch is sent to each node. Whether anything was done.
+    pub(crate) fn work<R: Wait>(&mut self, rt: &R, classes: &Classes) -> Result<bool, Cause>
+        requires unfailed { self.old.failed ≡ None }
+        requires set { classes.now.set ≡ self.old.set }
+        ensures { Steps self.old self.new result }
+    {
+        let took = self.take_all(rt)?;
+        let expanded = self.expand_all(classes)?;
+        let applied = self.apply_all()?;
+        let small = !took && self.node.is_expanded();
+        let sent = self.send_all(rt, small)?;
+        Ok(took || expanded || applied || sent)
+    }
+}

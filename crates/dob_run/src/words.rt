@@ -1,0 +1,101 @@
+// What a worker does with the words of the board besides its counts: the token and the halt.
+ghost use Rattle.std.specs.Prelude.{◌≡◌, ◌≢◌, ◌↔◌, ℕ, IsTrue, Some, None, true, false};
+ghost use Rattle.dob_board.specs.declared.halt.Halt.TheVariants.{Running};
+ghost use Rattle.dob_board.specs.Seats.{stand_of, MayEnd};
+ghost use Rattle.dob_run.specs.Mails.{AreOut, AreIn};
+ghost use Rattle.dob_run.specs.Keeps.{HasSameLinks};
+
+use crate::hands::{Inlet, Outlet};
+use crate::mail::Mail;
+use dob_board::Halt;
+
+impl Mail {
+    /// Whether the board's token is at the node, which knows it from then on until it passes it.
+    pub fn finds_token(&mut self) -> bool
+        ensures found { IsTrue result → self.new.seat.token ≢ None }
+        ensures links { HasSameLinks self.old self.new }
+        ensures colour { self.new.seat.black ≡ self.old.seat.black }
+        ensures halt { self.new.seat.halt ≡ self.old.seat.halt }
+    {
+        let token = self.seat.token();
+        token.at == self.seat.node
+    }
+
+    /// Passes the token, which the node knows; the node is white afterwards.
+    pub fn pass(&mut self)
+        requires { self.old.seat.token ≢ None }
+        ensures links { HasSameLinks self.old self.new }
+        ensures colour { self.new.seat.black ≡ false }
+        ensures halt { self.new.seat.halt ≡ self.old.seat.halt }
+    {
+        self.seat.pass();
+    }
+
+    /// Whether the node may announce the end if it is idle.
+    pub fn may_announce(&self) -> bool
+        ensures { IsTrue result ↔ MayEnd (stand_of self.now.seat) }
+    {
+        self.seat.may_announce()
+    }
+
+    /// Announces the end, which the node may do. The halt that its seat finds isn't `Running`.
+    pub fn announce(&mut self)
+        requires { MayEnd (stand_of self.old.seat) }
+        ensures links { HasSameLinks self.old self.new }
+        ensures colour { self.new.seat.black ≡ self.old.seat.black }
+        ensures stopped { self.new.seat.halt ≢ Running }
+    {
+        let _ = self.seat.announce();
+    }
+
+    /// Says that the node failed the run. The halt that its seat finds isn't `Running`.
+    pub fn fail(&mut self)
+        ensures links { HasSameLinks self.old self.new }
+        ensures colour { self.new.seat.black ≡ self.old.seat.black }
+        ensures stopped { self.new.seat.halt ≢ Running }
+    {
+        let _ = self.seat.fail();
+    }
+
+    /// Whether the run goes on, as the board says now.
+    pub fn halted(&mut self) -> Halt
+        ensures halt { result ≡ self.new.seat.halt }
+        ensures links { HasSameLinks self.old self.new }
+        ensures colour { self.new.seat.black ≡ self.old.seat.black }
+        ensures stays { self.old.seat.halt ≢ Running → self.new.seat.halt ≡ self.old.seat.halt }
+    {
+        self.seat.halted()
+    }
+
+    /// Whether no batch lies in a hand.
+    pub fn is_out_of_hand(&self) -> bool
+        ensures out { IsTrue result → AreOut self.now.outlets.items }
+        ensures in_hand { IsTrue result → AreIn self.now.inlets.items }
+    {
+        are_out(&self.outlets) && are_in(&self.inlets)
+    }
+}
+
+// Whether each sending hand is empty.
+fn are_out(outlets: &[Outlet]) -> bool
+    ensures { IsTrue result → AreOut outlets.now }
+{
+    for outlet in outlets {
+        if outlet.is_full() {
+            return false;
+        }
+    }
+    true
+}
+
+// Whether each taking hand is empty.
+fn are_in(inlets: &[Inlet]) -> bool
+    ensures { IsTrue result → AreIn inlets.now }
+{
+    for inlet in inlets {
+        if inlet.is_full() {
+            return false;
+        }
+    }
+    true
+}

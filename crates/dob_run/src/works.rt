@@ -1,0 +1,126 @@
+// What a runner does for its node: it takes batches, expands settlements, applies items and sends batches.
+ghost use Rattle.std.specs.Prelude.{◌≡◌, ◌≢◌, ◌<◌, Some, None, slice_get};
+ghost use Rattle.dob_run.specs.Runners.{Steps};
+
+use crate::hands::Outlet;
+use crate::runner::Runner;
+use dob_node::Cause;
+use dob_rank::Classes;
+use std::sync::Wait;
+
+impl Runner {
+    /// Takes the next batch of the node `from`, if that is another one and a batch of it came that the board knows of, and
+    /// applies its items. False where there is none.
+    pub(crate) fn take_from<R: Wait>(&mut self, rt: &R, from: usize) -> Result<bool, Cause>
+        requires unfailed { self.old.failed ≡ None }
+        requires node { from < self.old.mail.seat.nodes }
+        ensures { Steps self.old self.new result }
+    {
+        if from == self.mail.seat.node {
+            return Ok(false);
+        }
+        self.mail.receive(rt, from);
+        let Some(batch) = self.mail.accept(self.set, from) else {
+            return Ok(false);
+        };
+        match self.node.apply_batch(&batch) {
+            Ok(()) => Ok(true),
+            Err(why) => {
+                self.failed = Some(why);
+                self.mail.fail();
+                Err(why)
+            }
+        }
+    }
+
+    /// Expands the next settlement of the node's history. False where there is none.
+    pub(crate) fn expand_one(&mut self, classes: &Classes) -> Result<bool, Cause>
+        requires unfailed { self.old.failed ≡ None }
+        requires set { classes.now.set ≡ self.old.set }
+        ensures { Steps self.old self.new result }
+    {
+        match self.node.expand(classes) {
+            Ok(expanded) => Ok(expanded),
+            Err(why) => {
+                self.failed = Some(why);
+                self.mail.fail();
+                Err(why)
+            }
+        }
+    }
+
+    /// Applies the first of the node's own items. False where there is none.
+    pub(crate) fn apply_one(&mut self) -> Result<bool, Cause>
+        requires { self.old.failed ≡ None }
+        ensures { Steps self.old self.new result }
+    {
+        match self.node.apply_own() {
+            Ok(applied) => Ok(applied),
+            Err(why) => {
+                self.failed = Some(why);
+                self.mail.fail();
+                Err(why)
+            }
+        }
+    }
+
+    /// Cuts a batch for the node `to`, another one for which no batch lies in the hand, counts it on the board and puts it
+    /// into the hand. False where nothing is left to send to that node.
+    fn cut_for(&mut self, to: usize) -> Result<bool, Cause>
+        requires unfailed { self.old.failed ≡ None }
+        requires node { to < self.old.mail.seat.nodes }
+        requires other { to ≢ self.old.mail.seat.node }
+        requires empty { (outlet : Outlet) → slice_get self.old.mail.outlets.items to ≡ Some outlet → outlet.hand ≡ None }
+        ensures { Steps self.old self.new result }
+    {
+        let cut = match self.node.cut_for(to, self.size) {
+            Ok(cut) => cut,
+            Err(why) => {
+                self.failed = Some(why);
+                self.mail.fail();
+                return Err(why);
+            }
+        };
+        let Some(batch) = cut else {
+            return Ok(false);
+        };
+        self.mail.post(to, batch);
+        Ok(true)
+    }
+
+    /// Cuts a batch for the node `to`, another one, as above, if none lies in the hand and a whole one is left to send, or
+    /// anything where small ones are asked for.
+    fn fill_for(&mut self, to: usize, small: bool) -> Result<bool, Cause>
+        requires unfailed { self.old.failed ≡ None }
+        requires node { to < self.old.mail.seat.nodes }
+        requires other { to ≢ self.old.mail.seat.node }
+        ensures { Steps self.old self.new result }
+    {
+        if self.mail.is_full(to) {
+            return Ok(false);
+        }
+        let left = self.node.left_for(to);
+        if left == 0 || (left < self.size && !small) {
+            return Ok(false);
+        }
+        self.cut_for(to)
+    }
+
+    /// Offers a batch for the node `to`, if that is another one, to its channel: the one in the hand or a new one. Whether it
+    /// was sent.
+    pub(crate) fn send_to<R: Wait>(&mut self, rt: &R, to: usize, small: bool) -> Result<bool, Cause>
+        requires unfailed { self.old.failed ≡ None }
+        requires node { to < self.old.mail.seat.nodes }
+        ensures { Steps self.old self.new result }
+    {
+        if to == self.mail.seat.node {
+            return Ok(false);
+        }
+        self.fill_for(to, small)?;
+        if !self.mail.is_full(to) {
+            return Ok(false);
+        }
+        self.mail.offer(rt, to);
+        Ok(!self.mail.is_full(to))
+    }
+}
