@@ -1,4 +1,5 @@
 pub mod Hands
+pub mod Knows
 pub mod Links
 pub mod Mails
 pub mod Batches
