@@ -2,6 +2,7 @@ pub mod Closing
 pub mod Ending
 pub mod Hands
 pub mod Laid
+pub mod Knows
 pub mod Links
 pub mod Mails
 pub mod Batches
