@@ -106,10 +106,12 @@ pub stored_more : (n id count : ℕ) (stored : List Stored) (s : Stored) (given 
     settlement_of n id count s ≡ given →
     settlements_from n id 0 (take (count + 1) (set stored count s)) ≡ settlements_from n id 0 (take count stored) ++ given ∷ []
 stored_more n id count stored s given low is =
-    let low_enough : count ≤ length stored = omega arith in
+    let all : count ≤ length stored = omega arith in
+    let long : length (take count stored) ≡ count = length-take-le count stored all in
+    let place : 0 + length (take count stored) ≡ count = omega arith in
     ap (settlements_from n id 0) (take_more_set stored count s low)
     ∙ settlements_from-push n id 0 (take count stored) s
-    ∙ ap (λ m. settlements_from n id 0 (take count stored) ++ settlement_of n id m s ∷ []) (let e : 0 + length (take count stored) ≡ count = (let long : length (take count stored) ≡ count = length-take-le count stored low_enough in omega arith) in e)
+    ∙ ap (λ m. settlements_from n id 0 (take count stored) ++ settlement_of n id m s ∷ []) place
     ∙ ap (λ t. settlements_from n id 0 (take count stored) ++ t ∷ []) is
 
 -- room is seen by nobody

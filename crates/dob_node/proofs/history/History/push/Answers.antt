@@ -1,5 +1,5 @@
 -- What is stored behind the others is seen as the settlement at the end.
-use Rattle.std.proofs.Common.{◌≡◌, ◌/◌, ◌%◌, ◌<◌, ◌^◌, ap, ◌∙◌, sym, subst}
+use Rattle.std.proofs.Common.{◌≡◌, ◌/◌, ◌%◌, ◌<◌, ◌^◌, ◌∙◌, sym, subst}
 use Rattle.dob_node.specs.Stores.{HistoryView}
 use Rattle.dob_node.proofs.Stored.{count_is, next_seen}
 use Rattle.dob_node.proofs.history.History.push.Goals as goal
