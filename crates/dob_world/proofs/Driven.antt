@@ -1,5 +1,5 @@
 -- One event more of a round, and one round more.
-use Rattle.std.proofs.Common.{◌≡◌, ℕ, ◌+◌, ◌*◌, ◌<◌, ◌≤◌, inl, inr, refl, sym, ap, ◌∙◌, subst, arith, add-one, nat_eq, Bool, true, false, None}
+use Rattle.std.proofs.Common.{◌≡◌, ℕ, ◌+◌, ◌*◌, ◌<◌, ◌≤◌, inl, inr, refl, sym, ap, ◌∙◌, subst, arith, add-one, nat_eq, Bool, true, false, None, ◌++◌}
 use Rattle.std.proofs.Math.Nat.{mul-le-mul_right}
 use Rattle.std.proofs.lemmas.Bool.{cases_order}
 use Rattle.std.proofs.lemmas.Bool.Decides.{nat_tests}
@@ -11,6 +11,8 @@ use Rattle.dob_world.specs.Runs.{IsDoneOrSkipped, IsAfter}
 use Rattle.dob_world.specs.Rounds.{round_length, round_event, round_front, round_of, rounds_of, IsStill}
 use Rattle.dob_world.specs.Shown.{setting_of, state_of, IsStanding}
 use Rattle.dob_world.specs.Results.{HasMadeRound, HasDriven}
+use Rattle.dob_world.specs.declared.fault.Fault.{Fault}
+use Rattle.dob_world.specs.Stops.{IsStopBy, IsStopInRounds}
 use Rattle.dob_world.proofs.Still.{still_ended}
 use Rattle.dob_world.proofs.Ran.{Stepped, after_both, after_more}
 
@@ -165,3 +167,36 @@ room_left old mid round rounds limit driven less room =
     enough a b l limit one all =
         let more : (round + 1) * l ≤ rounds * l = mul-le-mul_right l (let up : round + 1 ≤ rounds = omega (arith, less) in up) in
         let is : (round + 1) * l ≡ round * l + l = rw add-one (omega arith) in omega (arith, one, all, more, is)
+
+-- An event of the round stops a node.
+pub round_stops : (old mid : World) (place : ℕ) (fault : Fault) → Partway old mid place → place < round_length old.n →
+    IsStopBy (setting_of mid) (state_of mid).world (round_event old.n place) fault → IsStopInRounds (setting_of old) (state_of old) 1 fault
+round_stops old mid place fault way low stop = record {
+  made = 0;
+  few = omega arith;
+  place = place;
+  low = low;
+  state = state_of mid;
+  after = way.after;
+  stop = subst (λ (k : Setting). IsStopBy k (state_of mid).world (round_event old.n place) fault) way.setting stop;
+}
+
+-- An event of a round after others stops a node.
+pub drive_stops : (old mid : World) (made rounds : ℕ) (fault : Fault) → HasDriven old made false mid → made < rounds →
+    IsStopInRounds (setting_of mid) (state_of mid) 1 fault → IsStopInRounds (setting_of old) (state_of old) rounds fault
+drive_stops old mid made rounds fault driven few stopped =
+    let here : IsStopInRounds (setting_of old) (state_of mid) 1 fault =
+    subst (λ (k : Setting). IsStopInRounds k (state_of mid) 1 fault) driven.setting stopped in
+    let first : here.made ≡ 0 = omega (arith, here.few) in
+    let before : driven.made ≡ made = (driven.busy refl).0 in
+    record {
+      made = made;
+      few = few;
+      place = here.place;
+      low = here.low;
+      state = here.state;
+      after = after_both (setting_of old) (state_of old) (state_of mid) here.state (rounds_of old.n made) (round_front old.n here.place)
+          (subst (λ (m : ℕ). IsAfter (setting_of old) (state_of old) (rounds_of old.n m) (state_of mid)) before driven.after)
+          (subst (λ (m : ℕ). IsAfter (setting_of old) (state_of mid) (rounds_of old.n m ++ round_front old.n here.place) here.state) first here.after);
+      stop = here.stop;
+    }

@@ -1,6 +1,7 @@
 -- One event more of a run.
 use Rattle.std.proofs.Common.{◌≡◌, ℕ, ◌+◌, ◌<◌, ◌≤◌, inl, inr, refl, sym, ap, ◌∙◌, subst, arith, add-one, List, [], ◌∷◌, ◌++◌, length, take, get_or, None}
 use Rattle.std.proofs.Math.Seq.{take-suc}
+use Rattle.std.proofs.lemmas.Option.{slice_get-get_or}
 use Rattle.dob_world.specs.declared.event.Event.{Event}
 use Rattle.dob_world.specs.declared.step.Step.{Step}
 use Rattle.dob_world.specs.declared.step.Step.TheVariants.{Done, Skipped}
@@ -8,8 +9,10 @@ use Rattle.dob_world.specs.declared.world.World.{World}
 use Rattle.dob_world.specs.Worlds.{Setting, World as Shown, State}
 use Rattle.dob_world.specs.Events.{CanHappen}
 use Rattle.dob_world.specs.Runs.{IsDoneOrSkipped, IsAfter}
-use Rattle.dob_world.specs.Shown.{setting_of, state_of, world_shown, ring_of, IsStanding, IsUnchanged, IsMade, IsStart}
-use Rattle.dob_world.specs.Results.{HasRun}
+use Rattle.dob_world.specs.Shown.{setting_of, state_of, world_shown, ring_of, IsSetting, IsStanding, IsUnchanged, IsMade, IsStart}
+use Rattle.dob_world.specs.Results.{HasRun, HasStopped}
+use Rattle.dob_world.specs.declared.fault.Fault.{Fault}
+use Rattle.dob_world.specs.Stops.{IsStopBy}
 use Rattle.dob_safra.specs.Rings.{Ring}
 use Rattle.dob_world.specs.declared.detector.Detector.{Detector}
 use Rattle.dob_world.specs.Headline.{Headline}
@@ -88,3 +91,20 @@ ran_more k events place default old new low run step going standing =
     (after_more k run.start (state_of old) (state_of new) (take place events) (get_or events place default) run.after
     (subst (λ (s : Setting). IsDoneOrSkipped s (state_of old) (get_or events place default) (state_of new)) run.setting step.step))
     standing going)
+
+-- the event after those of a run stops a node
+pub run_stops : (k : Setting) (events : List Event) (place : ℕ) (default : Event) (world : World) (fault : Fault) → place < length events →
+    HasRun k (take place events) world → IsStopBy (setting_of world) (state_of world).world (get_or events place default) fault → HasStopped k events fault
+run_stops k events place default world fault low run stop = record {
+  setting = subst IsSetting run.setting run.standing.setting;
+  start = run.start;
+  is_start = run.is_start;
+  stop = record {
+    place = place;
+    event = get_or events place default;
+    there = slice_get-get_or events place default low;
+    state = state_of world;
+    after = run.after;
+    stop = subst (λ (s : Setting). IsStopBy s (state_of world).world (get_or events place default) fault) run.setting stop;
+  };
+}

@@ -1,4 +1,4 @@
--- No node of a world that stands stops because an item contradicts its cell.
+-- Why a node of a world that stands stops: never because an item contradicts its cell.
 use Rattle.std.proofs.Common.{◌≡◌, ◌≢◌, ℕ, ◌<◌, ◌⊎◌, inl, inr, refl, sym, ap, ◌∙◌, subst, List, [], ◌∷◌, ◌++◌, append_assoc, drop, Some, slice_get}
 use Rattle.std.specs.List.{All}
 use Rattle.std.proofs.lemmas.List.Elements.{All-head, All-tail, All-nil, All-cons}
@@ -10,8 +10,9 @@ use Rattle.dob_update.specs.Items.{items_from}
 use Rattle.dob_update.specs.Batches.{BatchView}
 use Rattle.dob_share.specs.declared.news.Item.{Item}
 use Rattle.dob_share.specs.declared.share.Share.{Share}
-use Rattle.dob_share.specs.Cells.{Cell, Takes}
-use Rattle.dob_share.specs.Shares.{status_at, cell_at, Fits}
+use Rattle.dob_share.specs.Cells.{Cell, Takes, changed}
+use Rattle.dob_share.specs.Steps.{IsTooDeep}
+use Rattle.dob_share.specs.Shares.{status_at, cell_at, Fits, GoesTooDeep}
 use Rattle.dob_node.specs.Stores.{HistoryView}
 use Rattle.dob_node.specs.Lawful.{CanApply}
 use Rattle.dob_node.specs.declared.cause.Cause.{Cause}
@@ -20,8 +21,11 @@ use Rattle.dob_node.specs.Takes.{HasEntries, AreKept, IsReason, StopsAt}
 use Rattle.dob_node.specs.declared.node.Node.{Node}
 use Rattle.dob_node.specs.Nodes.{HasRefused}
 use Rattle.dob_world.specs.declared.lane.Lane.{Lane}
+use Rattle.dob_world.specs.declared.event.Event.TheVariants.{Own, Take}
+use Rattle.dob_world.specs.declared.fault.Fault.TheVariants.{Stopped}
 use Rattle.dob_world.specs.Worlds.{Setting, AreLawful, IsLinked, items_in, items_of_batches}
 use Rattle.dob_world.specs.Lanes.{IsBatchFor}
+use Rattle.dob_world.specs.Stops.{IsStopBy}
 use Rattle.dob_world.specs.Shown.{lane_at, nodes_shown, world_shown, IsNodeOf, AreInPlace}
 use Rattle.dob_world.proofs.Kept.{own_item_fits, taken_item_fits, next_waiting}
 use Rattle.dob_world.proofs.Slots.{was, lane_was}
@@ -44,35 +48,68 @@ fits_by k i node share history cell item is kept statuses can same = (
   subst (λ c. Takes item.was item.now c) same can.takes,
 )
 
+-- An item that fits is refused for want of memory, or since it goes too deep.
+reason_stop : (item : Item) (share : Share) (why : Cause) → Fits share item → IsReason item share why →
+    (why ≡ cause.Memory) ⊎ ((why ≡ cause.TooDeep) × GoesTooDeep share item)
+reason_stop item share cause.TooDeep fits is = inr (refl, is.1)
+reason_stop item share (cause.Contradiction class) fits is = absurd (is.1 fits)
+reason_stop item share cause.Memory fits is = inl refl
+reason_stop item share cause.Held fits is = absurd is
+reason_stop item share cause.Counts fits is = absurd is
+
+-- it goes too deep as much in an equal cell
+deep_there : (share : Share) (cell : ℕ → Cell) (item : Item) → cell item.to ≡ cell_at share item.to → GoesTooDeep share item →
+    IsTooDeep (changed item.was item.now (cell item.to))
+unfolding GoesTooDeep
+deep_there share cell item same deep = subst (λ (c : Cell). IsTooDeep (changed item.was item.now c)) (sym same) deep
+
 module _ (k : Setting) (nodes : List Node) (lanes : List Lane) (some : 0 < k.n) (places : AreInPlace k nodes lanes)
     (lawful : AreLawful k (world_shown k.set k.n nodes lanes).nodes) (linked : IsLinked k (world_shown k.set k.n nodes lanes)) where
-  pub own_fits : (i : ℕ) (node : Node) (lane : Lane) (item : Item) (behind : List Item) → i < k.n → slice_get nodes i ≡ Some node →
-      lane_at k.n lanes i i ≡ Some lane → node.own.items ≡ item ∷ behind → Fits node.share item
+  own_cell : (i : ℕ) (node : Node) (lane : Lane) (item : Item) (behind : List Item) → i < k.n → slice_get nodes i ≡ Some node →
+      lane_at k.n lanes i i ≡ Some lane → node.own.items ≡ item ∷ behind →
+      CanApply k.set k.n i (nodes_shown k.set k.n nodes lanes).cell item × ((nodes_shown k.set k.n nodes lanes).cell item.to ≡ cell_at node.share item.to)
   unfolding world_shown
-  own_fits i node lane item behind low there_n there_l first =
-      let is = places.node i node there_n in
+  own_cell i node lane item behind low there_n there_l first =
       let can = own_item_fits k (world_shown k.set k.n nodes lanes) i item behind some lawful linked low
-      (was nodes i node node there_n [] (λ (x : Node). x.own.items) ∙ first) in
-      fits_by k i node node.share node.history (nodes_shown k.set k.n nodes lanes).cell item is (kept_of k i node is) (λ class. refl) can
-      (sym (cell_there k nodes lanes i i low low node node lane lane there_n there_l places.lanes_whole item.to
-      (own_is k i i (nodes_shown k.set k.n nodes lanes) node.share [] [] item.to can.below can.own)))
+      (was nodes i node node there_n [] (λ (x : Node). x.own.items) ∙ first) in (
+        can,
+        sym (cell_there k nodes lanes i i low low node node lane lane there_n there_l places.lanes_whole item.to
+            (own_is k i i (nodes_shown k.set k.n nodes lanes) node.share [] [] item.to can.below can.own)),
+      )
 
-  -- so an own item isn't refused as a contradiction
-  pub own_no_contradiction : (i : ℕ) (node : Node) (lane : Lane) (why : Cause) (class : ℕ) → i < k.n → slice_get nodes i ≡ Some node →
-      lane_at k.n lanes i i ≡ Some lane → (why ≡ cause.Memory) ⊎ HasRefused node why → why ≡ cause.Contradiction class → ⊥
-  own_no_contradiction i node lane why class low there_n there_l (inl memory) is = let e : cause.Memory ≡ cause.Contradiction class = sym memory ∙ is in cc
-  own_no_contradiction i node lane why class low there_n there_l (inr refused) is =
-      let no : IsReason refused.item node.share (cause.Contradiction class) = subst (λ w. IsReason refused.item node.share w) is refused.refused in
-      no.1 (own_fits i node lane refused.item refused.behind low there_n there_l refused.first)
-
-  -- nor is one of a batch
-  pub take_no_contradiction : (i j : ℕ) (node : Node) (lane : Lane) (why : Cause) (class : ℕ) → i < k.n → j < k.n → i ≢ j → slice_get nodes j ≡ Some node →
-      lane_at k.n lanes i j ≡ Some lane → (why ≡ cause.Memory) ⊎ ((batch : BatchView) × (rest : List BatchView) × (lane.link.waiting ≡ batch ∷ rest)
-      × StopsAt batch.items node.share node.history why) → why ≡ cause.Contradiction class → ⊥
+  -- An own item is refused for want of memory, or since it goes too deep.
+  pub own_stops : (i : ℕ) (node : Node) (lane : Lane) (why : Cause) → i < k.n → slice_get nodes i ≡ Some node →
+      lane_at k.n lanes i i ≡ Some lane → (why ≡ cause.Memory) ⊎ HasRefused node why → IsStopBy k (world_shown k.set k.n nodes lanes) (Own i) (Stopped i why)
   unfolding world_shown
-  take_no_contradiction i j node lane why class low_i low_j differs there_n there_l (inl memory) is =
-      let e : cause.Memory ≡ cause.Contradiction class = sym memory ∙ is in cc
-  take_no_contradiction i j node lane why class low_i low_j differs there_n there_l (inr stopped) is =
+  own_stops i node lane why low there_n there_l (inl memory) = (low, inl (ap (λ (c : Cause). Stopped i c) memory))
+  own_stops i node lane why low there_n there_l (inr refused) =
+      let item = refused.item in
+      let is = places.node i node there_n in
+      let own = own_cell i node lane item refused.behind low there_n there_l refused.first in
+      let fits = fits_by k i node node.share node.history (nodes_shown k.set k.n nodes lanes).cell item is (kept_of k i node is) (λ class. refl) own.0 own.1 in
+      elim (reason_stop item node.share why fits refused.refused) [
+        | inl memory ↦ (low, inl (ap (λ (c : Cause). Stopped i c) memory))
+        | inr deep ↦ (
+          low,
+          inr (
+            ap (λ (c : Cause). Stopped i c) deep.0,
+            record {
+              item = item;
+              behind = refused.behind;
+              first = was nodes i node node there_n [] (λ (x : Node). x.own.items) ∙ refused.first;
+              deep = deep_there node.share (nodes_shown k.set k.n nodes lanes).cell item own.1 deep.1;
+            },
+          ),
+        )
+      ]
+
+  -- So is one of a batch.
+  pub take_stops : (i j : ℕ) (node : Node) (lane : Lane) (why : Cause) → i < k.n → j < k.n → i ≢ j → slice_get nodes j ≡ Some node →
+      lane_at k.n lanes i j ≡ Some lane → (why ≡ cause.Memory) ⊎ ((batch : BatchView) × (rest : List BatchView) × (lane.link.waiting ≡ batch ∷ rest)
+      × StopsAt batch.items node.share node.history why) → IsStopBy k (world_shown k.set k.n nodes lanes) (Take i j) (Stopped j why)
+  unfolding world_shown
+  take_stops i j node lane why low_i low_j differs there_n there_l (inl memory) = (low_j, inl (ap (λ (c : Cause). Stopped j c) memory))
+  take_stops i j node lane why low_i low_j differs there_n there_l (inr stopped) =
       let batch = stopped.0 in
       let at = stopped.3 in
       let state = world_shown k.set k.n nodes lanes in
@@ -94,9 +131,28 @@ module _ (k : Setting) (nodes : List Node) (lanes : List Lane) (some : 0 < k.n) 
       let can = taken_item_fits k state i j batch stopped.1 at.front at.item at.behind
       (with_share k i j (nodes_shown k.set k.n nodes lanes) at.after at.grown.settlements (lane.applied.items ++ at.front)) some lawful linked low_i low_j differs first
       at.items_are both.0 in
-      let fits = fits_by k j node at.after at.grown
-      (with_share k i j (nodes_shown k.set k.n nodes lanes) at.after at.grown.settlements (lane.applied.items ++ at.front)).cell at.item here both.1
-      (chain_statuses at.front node.share at.after node.history at.grown at.taken) can
-      (cell_here k i j (nodes_shown k.set k.n nodes lanes) at.after at.grown.settlements (lane.applied.items ++ at.front) at.item.to can.below can.own) in
-      let no : IsReason at.item at.after (cause.Contradiction class) = subst (λ w. IsReason at.item at.after w) is at.refused in
-      no.1 fits
+      let between = with_share k i j (nodes_shown k.set k.n nodes lanes) at.after at.grown.settlements (lane.applied.items ++ at.front) in
+      let same = cell_here k i j (nodes_shown k.set k.n nodes lanes) at.after at.grown.settlements (lane.applied.items ++ at.front) at.item.to can.below can.own in
+      let fits = fits_by k j node at.after at.grown between.cell at.item here both.1
+      (chain_statuses at.front node.share at.after node.history at.grown at.taken) can same in
+      elim (reason_stop at.item at.after why fits at.refused) [
+        | inl memory ↦ (low_j, inl (ap (λ (c : Cause). Stopped j c) memory))
+        | inr deep ↦ (
+          low_j,
+          inr (
+            ap (λ (c : Cause). Stopped j c) deep.0,
+            record {
+              batch = batch;
+              batches = stopped.1;
+              first = first;
+              front = at.front;
+              item = at.item;
+              behind = at.behind;
+              items_are = at.items_are;
+              between = between;
+              applied = both.0;
+              deep = deep_there at.after between.cell at.item same deep.1;
+            },
+          ),
+        )
+      ]

@@ -5,6 +5,7 @@ pub mod Laws
 pub mod Faults
 pub mod FaultTexts
 pub mod Lanes
+pub mod Stops
 pub mod Shown
 pub mod Rounds
 pub mod Headline

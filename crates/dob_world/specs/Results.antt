@@ -1,5 +1,6 @@
 -- Which worlds there are, and what a run of events leaves.
 use Rattle.std.specs.Prelude.{◌≡◌, ℕ, ◌+◌, ◌*◌, ◌<◌, ◌≤◌, Bool, true, false, None, List}
+use Rattle.dob_rank.specs.Limits.{IsSmall}
 use Rattle.dob_world.specs.declared.event.Event.{Event}
 use Rattle.dob_world.specs.declared.fault.Fault.{Fault}
 use Rattle.dob_world.specs.declared.fault.Fault.TheVariants.{SetTooLarge, Nodes, Sizes, Stopped, Memory}
@@ -8,7 +9,8 @@ use Rattle.dob_world.specs.Worlds.{Setting, State}
 use Rattle.dob_world.specs.Runs.{IsAfter}
 use Rattle.dob_world.specs.Rounds.{round_length, round_of, rounds_of, IsStill}
 use Rattle.dob_world.specs.Headline.{Headline}
-use Rattle.dob_world.specs.Shown.{setting_of, state_of, IsSmall, IsNumber, AreSizes, IsSetting, IsStanding, IsStart}
+use Rattle.dob_world.specs.Stops.{IsStopIn}
+use Rattle.dob_world.specs.Shown.{setting_of, state_of, IsNumber, AreSizes, IsSetting, IsStanding, IsStart}
 
 -- Why there is no world of that setting: the first of these that isn't so, or memory is refused where all are.
 abbrev pub IsRefused : Setting → Fault → Type 0
@@ -27,6 +29,13 @@ pub record HasRun (k : Setting) (events : List Event) (world : World) : Type 0 w
   pub standing : IsStanding world
   pub going : world.failed ≡ None
   pub headline : Headline k (state_of world)
+
+-- The opening world is changed by the events up to one at which a node stops.
+pub record HasStopped (k : Setting) (events : List Event) (fault : Fault) : Type 0 where
+  pub setting : IsSetting k
+  pub start : State
+  pub is_start : IsStart k start
+  pub stop : IsStopIn k start events fault
 
 -- A round of events is made. The answer is whether none of them was done; then none can happen in the world left, and the
 -- end is announced.

@@ -3,6 +3,7 @@ use Rattle.std.specs.Prelude.{◌≡◌, ℕ, ◌+◌, ◌*◌, ◌<◌, ◌≤�
 use Rattle.std.specs.List.{All}
 use Rattle.dob_pieces.specs.declared.piece_set.PieceSet.{PieceSet}
 use Rattle.dob_moves.specs.Statuses.{HasStatus}
+use Rattle.dob_rank.specs.Limits.{IsSmall}
 use Rattle.dob_rank.specs.Marks.{classes_of}
 use Rattle.dob_rank.specs.ClassRows.{class_setup}
 use Rattle.dob_share.specs.declared.opening.Opening.{Opening}
@@ -18,10 +19,10 @@ use Rattle.dob_world.specs.declared.detector.Detector.{Detector}
 use Rattle.dob_world.specs.declared.event.Event.{Event}
 use Rattle.dob_world.specs.declared.lane.Lane.{Lane}
 use Rattle.dob_world.specs.declared.world.World.{World}
-use Rattle.dob_world.specs.Faults.{IsStop}
 use Rattle.dob_world.specs.Lanes.{IsBatchFor}
 use Rattle.dob_world.specs.Worlds.{Setting, Nodes, World as Shown, State, AreLawful, IsLinked, IsTold}
 use Rattle.dob_world.specs.Events.{CanHappen, Happens}
+use Rattle.dob_world.specs.Stops.{IsStop}
 
 abbrev pub setting_of : World → Setting
 setting_of world = record { set = world.classes.set; n = world.n; batch = world.batch; capacity = world.capacity }
@@ -67,10 +68,6 @@ abbrev pub state_of : World → State
 state_of world = record { world = world_shown world.classes.set world.n world.nodes.items world.lanes.items; ring = ring_of world.detector }
 
 -- ---- what is kept
-
--- the set has at most three pieces beside the lions
-abbrev pub IsSmall : PieceSet → Type 0
-IsSmall set = set.chicks + set.elephants + set.giraffes ≤ 3
 
 -- so many nodes can be in a world
 abbrev pub IsNumber : ℕ → Type 0

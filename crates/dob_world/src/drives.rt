@@ -1,8 +1,8 @@
 // A world that is driven by rounds of events until nothing is left to do.
 ghost use Rattle.std.specs.Prelude.{◌≡◌, ℕ, ◌+◌, ◌*◌, ◌^◌, ◌<◌, ◌≤◌, None, Some, IfOk, IfErr};
-ghost use Rattle.dob_world.specs.Faults.{IsStop};
 ghost use Rattle.dob_world.specs.Rounds.{round_length, round_event};
-ghost use Rattle.dob_world.specs.Shown.{IsStanding};
+ghost use Rattle.dob_world.specs.Shown.{setting_of, state_of, IsStanding};
+ghost use Rattle.dob_world.specs.Stops.{IsStopInRounds};
 ghost use Rattle.dob_world.specs.Results.{HasMadeRound, HasDriven};
 
 use crate::event::Event;
@@ -21,7 +21,7 @@ impl World {
         requires standing { IsStanding self.old }
         requires going { self.old.failed ≡ None }
         ensures driven { IfOk result (λ still. HasDriven self.old rounds still self.new) }
-        ensures stopped { IfErr result (λ fault. IsStop fault × (self.new.failed ≡ Some fault)) }
+        ensures stopped { IfErr result (λ fault. IsStopInRounds (setting_of self.old) (state_of self.old) rounds fault × (self.new.failed ≡ Some fault)) }
     {
         for _round in 0..rounds {
             match self.round() {
@@ -39,7 +39,7 @@ impl World {
         requires standing { IsStanding self.old }
         requires going { self.old.failed ≡ None }
         ensures made { IfOk result (λ still. HasMadeRound self.old still self.new) }
-        ensures stopped { IfErr result (λ fault. IsStop fault × (self.new.failed ≡ Some fault)) }
+        ensures stopped { IfErr result (λ fault. IsStopInRounds (setting_of self.old) (state_of self.old) 1 fault × (self.new.failed ≡ Some fault)) }
     {
         let before = self.steps;
         let n = self.n;

@@ -1,8 +1,6 @@
 // Events one after another.
 ghost use Rattle.std.specs.Prelude.{◌≡◌, ◌^◌, ◌≤◌, ◌⊎◌, length, IfOk, IfErr};
-ghost use Rattle.dob_world.specs.Faults.{IsStop};
-ghost use Rattle.dob_world.specs.Shown.{IsSetting};
-ghost use Rattle.dob_world.specs.Results.{IsRefused, HasRun};
+ghost use Rattle.dob_world.specs.Results.{IsRefused, HasRun, HasStopped};
 
 use crate::event::Event;
 use crate::fault::Fault;
@@ -13,7 +11,8 @@ use std::alloc::Global;
 /// The world of `n` nodes, with batches of at most `batch` items and links with room for `capacity` batches, after the
 /// events in order. Those that can't happen are skipped.
 ///
-/// Errors: those of `World::open`; `Stopped`, where a node has stopped, but never because an item contradicts its cell.
+/// Errors: those of `World::open`; `Stopped`, where one of the events stops a node, but never because an item contradicts its
+/// cell.
 pub fn run(
     alloc: Global,
     set: PieceSet,
@@ -24,7 +23,7 @@ pub fn run(
 ) -> Result<World, Fault>
     requires few { length events.now ≤ 2 ^ 40 }
     ensures run { IfOk result (λ world. HasRun (record { set = set; n = n; batch = batch; capacity = capacity }) events.now world) }
-    ensures refused { IfErr result (λ fault. IsRefused (record { set = set; n = n; batch = batch; capacity = capacity }) fault ⊎ (IsSetting (record { set = set; n = n; batch = batch; capacity = capacity }) × IsStop fault)) }
+    ensures refused { IfErr result (λ fault. IsRefused (record { set = set; n = n; batch = batch; capacity = capacity }) fault ⊎ HasStopped (record { set = set; n = n; batch = batch; capacity = capacity }) events.now fault) }
 {
     let mut world = match World::open(alloc, set, n, batch, capacity) {
         Ok(world) => world,

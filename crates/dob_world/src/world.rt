@@ -1,6 +1,7 @@
 // The world: nodes that own the classes of a piece set, a lane from each to each, and what detects the end.
 ghost use Rattle.std.specs.Prelude.{◌≡◌, ◌≢◌, ◌+◌, ◌*◌, ◌^◌, ◌<◌, ◌≤◌, ◌↔◌, true, false, IfOk, IfErr, IfSome, OnOk};
 ghost use Rattle.dob_node.specs.Openings.{AreOpenings};
+ghost use Rattle.dob_rank.specs.Limits.{IsTooLarge};
 ghost use Rattle.dob_world.specs.Shown.{AreOpenedNodes, AreEmptyLanes};
 
 use crate::detector::Detector;
@@ -11,7 +12,7 @@ use crate::step::Step;
 use crate::steps::{apply_own, post, receive};
 use dob_node::{Node, Opening, opening};
 use dob_pieces::{Memory, PieceSet};
-use dob_rank::Classes;
+use dob_rank::{Classes, MOST_PIECES};
 use std::alloc::Global;
 
 /// Nodes of which each owns a share of a piece set's classes, the links between them, the lists of all items that were
@@ -35,7 +36,7 @@ impl World {
     ghost use Rattle.dob_world.specs.Worlds.{IsLinked, IsIdle};
     ghost use Rattle.dob_world.specs.Events.{CanHappen, MayEnd};
     ghost use Rattle.dob_world.specs.declared.fault.Fault.TheVariants as fault;
-    ghost use Rattle.dob_world.specs.Faults.{IsStop};
+    ghost use Rattle.dob_world.specs.Stops.{IsStopBy, IsStop};
     ghost use Rattle.dob_world.specs.Shown.{setting_of, state_of, IsStanding, WillStand, IsKept, IsUnchanged, IsMade, IsStart};
     ghost use Rattle.dob_world.specs.Results.{IsRefused};
     ghost use Rattle.dob_world.specs.Headline.{Headline};
@@ -43,7 +44,7 @@ impl World {
     /// A world of `n` nodes before its first event, with batches of at most `batch` items and links with room for
     /// `capacity` batches.
     ///
-    /// Errors, tested in this order: `SetTooLarge` where the set has more than three pieces besides the lions; `Nodes`
+    /// Errors, tested in this order: `SetTooLarge` where the set has more than `MOST_PIECES` pieces besides the lions; `Nodes`
     /// where `n` isn't 1 to 16; `Sizes` where `batch` isn't 1 to 4096 or `capacity` not 1 to 1024; `Memory`.
     pub fn open(
         alloc: Global,
@@ -52,13 +53,13 @@ impl World {
         batch: usize,
         capacity: usize,
     ) -> Result<World, Fault>
-        ensures too_large { result ≡ Err fault.SetTooLarge ↔ (3 < set.chicks + set.elephants + set.giraffes) }
+        ensures too_large { result ≡ Err fault.SetTooLarge ↔ IsTooLarge set }
         ensures setting { IfOk result (λ world. setting_of world ≡ record { set = set; n = n; batch = batch; capacity = capacity }) }
         ensures standing { IfOk result (λ world. IsStanding world × (world.failed ≡ None) × (world.steps ≡ 0)) }
         ensures opened { IfOk result (λ world. IsStart (setting_of world) (state_of world)) }
         ensures refused { IfErr result (λ fault. IsRefused (record { set = set; n = n; batch = batch; capacity = capacity }) fault) }
     {
-        if set.chicks + set.elephants + set.giraffes > 3 {
+        if set.chicks + set.elephants + set.giraffes > MOST_PIECES {
             return Err(Fault::SetTooLarge);
         }
         if n < 1 || n > 16 {
@@ -88,13 +89,14 @@ impl World {
 
     /// Makes the event happen, or skips it where it can't.
     ///
-    /// Error: `Stopped`, where a node of the event has stopped; then, and at each further step, the same.
+    /// Error: `Stopped`, where the node that makes a step at the event has stopped; then, and at each further step, the same.
     pub fn step(&mut self, event: Event) -> Result<Step, Fault>
         requires few { self.old.steps < 2 ^ 40 }
         requires kept { IsKept self.old }
         ensures done { result ≡ Ok Step.Done → IsMade event self.old self.new × (self.new.steps ≡ self.old.steps + 1) }
         ensures skipped { result ≡ Ok Step.Skipped → (¬ CanHappen (setting_of self.old) (state_of self.old) event) × IsUnchanged self.old self.new }
         ensures stopped { IfErr result (λ fault. IsStop fault × (self.new.failed ≡ Some fault)) }
+        ensures named { self.old.failed ≡ None → IfErr result (λ fault. IsStopBy (setting_of self.old) (state_of self.old).world event fault) }
         ensures stays { IfSome self.old.failed (λ fault. result ≡ Err fault) }
         ensures silent { self.old.detector.announced ≡ true → result ≡ Ok Step.Done → ⊥ }
         ensures headline { OnOk result (Headline (setting_of self.new) (state_of self.new)) }
@@ -123,7 +125,7 @@ impl World {
         requires few { self.old.steps < 2 ^ 40 }
         ensures done { result ≡ Ok true → IsMade event self.old self.new × WillStand self.new × (self.new.failed ≡ self.old.failed) × (self.new.steps ≡ self.old.steps) }
         ensures skipped { result ≡ Ok false → (¬ CanHappen (setting_of self.old) (state_of self.old) event) × IsUnchanged self.old self.new }
-        ensures stopped { IfErr result (λ fault. IsStop fault) }
+        ensures stopped { IfErr result (λ fault. IsStopBy (setting_of self.old) (state_of self.old).world event fault) }
     {
         match event {
             Event::Expand(node) => self.expand(node),
@@ -141,7 +143,7 @@ impl World {
         requires few { self.old.steps < 2 ^ 40 }
         ensures done { result ≡ Ok true → IsMade (Expand node) self.old self.new × WillStand self.new × (self.new.failed ≡ self.old.failed) × (self.new.steps ≡ self.old.steps) }
         ensures skipped { result ≡ Ok false → (¬ CanHappen (setting_of self.old) (state_of self.old) (Expand node)) × IsUnchanged self.old self.new }
-        ensures stopped { IfErr result (λ fault. IsStop fault) }
+        ensures stopped { IfErr result (λ fault. IsStopBy (setting_of self.old) (state_of self.old).world (Expand node) fault) }
     {
         if node >= self.n {
             return Ok(false);
@@ -158,7 +160,7 @@ impl World {
         requires few { self.old.steps < 2 ^ 40 }
         ensures done { result ≡ Ok true → IsMade (Own node) self.old self.new × WillStand self.new × (self.new.failed ≡ self.old.failed) × (self.new.steps ≡ self.old.steps) }
         ensures skipped { result ≡ Ok false → (¬ CanHappen (setting_of self.old) (state_of self.old) (Own node)) × IsUnchanged self.old self.new }
-        ensures stopped { IfErr result (λ fault. IsStop fault) }
+        ensures stopped { IfErr result (λ fault. IsStopBy (setting_of self.old) (state_of self.old).world (Own node) fault) }
     {
         if node >= self.n {
             return Ok(false);
@@ -176,7 +178,7 @@ impl World {
         requires few { self.old.steps < 2 ^ 40 }
         ensures done { result ≡ Ok true → IsMade (Post from to) self.old self.new × WillStand self.new × (self.new.failed ≡ self.old.failed) × (self.new.steps ≡ self.old.steps) }
         ensures skipped { result ≡ Ok false → (¬ CanHappen (setting_of self.old) (state_of self.old) (Post from to)) × IsUnchanged self.old self.new }
-        ensures stopped { IfErr result (λ fault. IsStop fault) }
+        ensures stopped { IfErr result (λ fault. IsStopBy (setting_of self.old) (state_of self.old).world (Post from to) fault) }
     {
         if from >= self.n || to >= self.n || from == to {
             return Ok(false);
@@ -203,7 +205,7 @@ impl World {
         requires few { self.old.steps < 2 ^ 40 }
         ensures done { result ≡ Ok true → IsMade (Take from to) self.old self.new × WillStand self.new × (self.new.failed ≡ self.old.failed) × (self.new.steps ≡ self.old.steps) }
         ensures skipped { result ≡ Ok false → (¬ CanHappen (setting_of self.old) (state_of self.old) (Take from to)) × IsUnchanged self.old self.new }
-        ensures stopped { IfErr result (λ fault. IsStop fault) }
+        ensures stopped { IfErr result (λ fault. IsStopBy (setting_of self.old) (state_of self.old).world (Take from to) fault) }
     {
         if from >= self.n || to >= self.n || from == to {
             return Ok(false);

@@ -1,8 +1,8 @@
 -- The opening world is the one after no events, and each event makes a run longer.
-use Rattle.std.proofs.Common.{refl, ap, subst, arith, [], Ok}
+use Rattle.std.proofs.Common.{inr, refl, ap, subst, arith, [], Ok}
 use Rattle.dob_world.specs.Worlds.{Setting}
 use Rattle.dob_world.specs.Shown.{state_of, IsStart}
-use Rattle.dob_world.proofs.Ran.{ran, stepped, ran_more}
+use Rattle.dob_world.proofs.Ran.{ran, stepped, ran_more, run_stops}
 use Rattle.dob_world.proofs.runs.run.Goals as goal
 
 pub loop-event-init : goal.loop-event-init
@@ -26,3 +26,10 @@ loop-event-preserved c =
           step out.going.0 out.going.1;
       steps = omega (arith, step.steps, c.loop-event.invariant.steps);
     }
+
+pub returns-in-Err-step-clause-refused : goal.returns-in-Err-step-clause-refused
+returns-in-Err-step-clause-refused c =
+    let k : Setting = record { set = c.args.set; n = c.args.n; batch = c.args.batch; capacity = c.args.capacity } in
+    let run = c.loop-event.invariant.run in
+    inr (run_stops k c.args.events.now c.loop-event.event-index _ c.loop-event.world c.in-Err-step.fault c.loop-event-test.true run
+    (c.in-Err-step.ensures.named run.going))

@@ -1,7 +1,7 @@
 -- One round more, after which the world is still or not.
 use Rattle.std.proofs.Common.{◌+◌, ◌≤◌, Bool, true, false, arith, subst}
 use Rattle.dob_world.specs.Results.{HasMadeRound}
-use Rattle.dob_world.proofs.Driven.{round_more, still_longer}
+use Rattle.dob_world.proofs.Driven.{round_more, still_longer, drive_stops}
 use Rattle.dob_world.proofs.world.World.drive.Goals as goal
 
 pub returns-in-Ok-true-clause-driven : goal.returns-in-Ok-true-clause-driven
@@ -14,3 +14,10 @@ returns-in-Ok-true-clause-driven c =
 pub loop-round-preserved : goal.loop-round-preserved
 loop-round-preserved c = round_more c.args.self.now c.loop-round.self c.round.new.self c.loop-round._round false c.loop-round.invariant
     (subst (λ (b : Bool). HasMadeRound c.loop-round.self b c.round.new.self) c.in-Ok-false.field-0-test c.in-Ok-false.ensures.made)
+
+pub returns-in-Err-clause-stopped : goal.returns-in-Err-clause-stopped
+returns-in-Err-clause-stopped c = (
+  drive_stops c.args.self.now c.loop-round.self c.loop-round._round c.args.rounds c.in-Err.fault c.loop-round.invariant c.loop-round-test.true
+      c.in-Err.ensures.stopped.0,
+  c.in-Err.ensures.stopped.1,
+)

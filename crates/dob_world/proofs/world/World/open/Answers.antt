@@ -2,7 +2,8 @@
 use Rattle.std.proofs.Common.{◌<◌, refl, sym, subst, arith}
 use Rattle.dob_world.specs.Worlds.{Setting}
 use Rattle.dob_pieces.specs.declared.piece_set.PieceSet.{PieceSet}
-use Rattle.dob_world.specs.Shown.{world_shown, ring_of, AreOpenedNodes, IsSmall, IsSetting}
+use Rattle.dob_world.specs.Shown.{world_shown, ring_of, AreOpenedNodes, IsSetting}
+use Rattle.dob_rank.specs.Limits.{IsSmall}
 use Rattle.dob_world.proofs.Starts.{places_start, lawful_shown, linked_start, waits_start}
 use Rattle.dob_world.proofs.Promise.{told_start, few_start}
 use Rattle.dob_world.proofs.world.World.open.Goals as goal

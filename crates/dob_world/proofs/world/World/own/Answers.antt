@@ -5,7 +5,7 @@ use Rattle.dob_world.specs.Shown.{setting_of}
 use Rattle.dob_world.proofs.Slots.{there_by, set_same}
 use Rattle.dob_world.proofs.Stands.{node_there, lane_there, slot_there}
 use Rattle.dob_world.proofs.Outcomes.{owned, cant_own}
-use Rattle.dob_world.proofs.Stopped.{own_no_contradiction}
+use Rattle.dob_world.proofs.Stopped.{own_stops}
 use Rattle.dob_world.proofs.Firsts.{ok_is}
 use Rattle.dob_world.proofs.Stood.{stand_after}
 use Rattle.dob_world.proofs.world.World.own.Goals as goal
@@ -72,10 +72,6 @@ returns-in-Err-clause-stopped c =
     let lane = c.index_mut-2.result.now in
     let below : i < c.args.self.now.n = c.if-node-self.false in
     let there_n = node_there k nodes lanes c.requires.standing.places i node below c.index_mut.ensures.value in
-    let there_l = lane_there k nodes lanes c.requires.standing.places i i lane below below c.index_mut-2.ensures.value in (
-      i,
-      c.in-Err.cause,
-      refl,
-      λ class is. own_no_contradiction k nodes lanes c.requires.standing.setting.nodes.0 c.requires.standing.places c.requires.standing.lawful c.requires.standing.linked i node lane
-          c.in-Err.cause class below there_n there_l c.in-Err.ensures.stopped is,
-    )
+    let there_l = lane_there k nodes lanes c.requires.standing.places i i lane below below c.index_mut-2.ensures.value in
+    own_stops k nodes lanes c.requires.standing.setting.nodes.0 c.requires.standing.places c.requires.standing.lawful c.requires.standing.linked i node lane
+    c.in-Err.cause below there_n there_l c.in-Err.ensures.stopped

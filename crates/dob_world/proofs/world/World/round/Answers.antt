@@ -1,9 +1,11 @@
 -- One event more is made, or skipped.
-use Rattle.std.proofs.Common.{◌≡◌, arith, refl, subst, ap, Ok}
+use Rattle.std.proofs.Common.{◌≡◌, ◌<◌, arith, refl, subst, ap, Ok}
 use Rattle.dob_world.specs.declared.event.Event.{Event}
 use Rattle.dob_world.specs.Rounds.{round_length}
+use Rattle.dob_world.specs.Stops.{IsStopBy}
+use Rattle.dob_world.specs.Shown.{setting_of, state_of}
 use Rattle.dob_world.proofs.Ran.{Stepped, stepped}
-use Rattle.dob_world.proofs.Driven.{one_more, round_done}
+use Rattle.dob_world.proofs.Driven.{one_more, round_done, round_stops}
 use Rattle.dob_world.proofs.world.World.round.Goals as goal
 
 pub loop-place-preserved : goal.loop-place-preserved
@@ -21,3 +23,13 @@ pub returns-clause-made : goal.returns-clause-made
 returns-clause-made c =
     let whole : c.loop-place.place ≡ round_length c.args.self.now.n = omega (arith, c.loop-place-test.false, c.loop-place.auto.place-end) in
     round_done c.args.self.now c.loop-place.self c.loop-place.place c.loop-place.invariant.way whole
+
+pub returns-in-Err-clause-stopped : goal.returns-in-Err-clause-stopped
+returns-in-Err-clause-stopped c =
+    let mid = c.loop-place.self in
+    let way = c.loop-place.invariant.way in
+    let low : c.loop-place.place < round_length c.args.self.now.n = omega (arith, c.loop-place-test.true) in (
+      round_stops c.args.self.now mid c.loop-place.place c.in-Err.fault way low
+          (subst (λ (e : Event). IsStopBy (setting_of mid) (state_of mid).world e c.in-Err.fault) c.event_at.ensures (c.in-Err.ensures.named way.going)),
+      c.in-Err.ensures.stopped.1,
+    )

@@ -1,6 +1,6 @@
 -- The world stands on after the event, and so the promise of the whole holds of it.
-use Rattle.std.proofs.Common.{◌≡◌, ◌+◌, rules, ap, ◌∙◌, Ok, None}
-use Rattle.dob_world.specs.Shown.{setting_of, IsStanding}
+use Rattle.std.proofs.Common.{◌≡◌, ◌+◌, rules, refl, ap, ◌∙◌, Ok, None}
+use Rattle.dob_world.specs.Shown.{setting_of, state_of, IsStanding}
 use Rattle.dob_world.proofs.Promise.{standing_headline, stood_headline, stand_unchanged}
 use Rattle.dob_world.proofs.world.World.step.Goals as goal
 
@@ -28,3 +28,13 @@ returns-in-Ok-false-clause-going c =
     let standing : IsStanding c.args.self.now = search rules in
     let none : c.args.self.now.failed ≡ None = search rules in
     (skipped.1.failed ∙ none, stand_unchanged c.args.self.now c.make.new.self skipped.1 standing)
+
+pub returns-in-Err-clause-stopped : goal.returns-in-Err-clause-stopped
+returns-in-Err-clause-stopped c =
+    let old = c.args.self.now in
+    ((setting_of old, (state_of old).world, c.args.event, c.in-Err.ensures.stopped), refl)
+
+pub returns-in-Err-clause-kept : goal.returns-in-Err-clause-kept
+returns-in-Err-clause-kept c =
+    let old = c.args.self.now in
+    (setting_of old, (state_of old).world, c.args.event, c.in-Err.ensures.stopped)

@@ -10,7 +10,7 @@ use Rattle.dob_world.specs.Shown.{setting_of, ring_of}
 use Rattle.dob_world.proofs.Slots.{set_same}
 use Rattle.dob_world.proofs.Stands.{node_there, lane_there, slot_there}
 use Rattle.dob_world.proofs.Outcomes.{received, cant_take}
-use Rattle.dob_world.proofs.Stopped.{take_no_contradiction}
+use Rattle.dob_world.proofs.Stopped.{take_stops}
 use Rattle.dob_world.proofs.Stood.{stand_after, ring_lawful, low_ring, moved_here, batch_waits}
 use Rattle.dob_world.proofs.world.World.take.Goals as goal
 
@@ -158,10 +158,6 @@ returns-in-Err-clause-stopped c =
     let low_i : i < c.args.self.now.n = c.if-from-self.false in
     let low_j : j < c.args.self.now.n = c.if-to-self.false in
     let there_n = node_there k nodes lanes c.requires.standing.places j node low_j c.index_mut.ensures.value in
-    let there_l = lane_there k nodes lanes c.requires.standing.places i j lane low_i low_j c.index_mut-2.ensures.value in (
-      j,
-      c.in-Err.cause,
-      refl,
-      λ class is. take_no_contradiction k nodes lanes c.requires.standing.setting.nodes.0 c.requires.standing.places c.requires.standing.lawful c.requires.standing.linked i j node lane
-          c.in-Err.cause class low_i low_j c.if-from-to.false there_n there_l c.in-Err.ensures.stopped is,
-    )
+    let there_l = lane_there k nodes lanes c.requires.standing.places i j lane low_i low_j c.index_mut-2.ensures.value in
+    take_stops k nodes lanes c.requires.standing.setting.nodes.0 c.requires.standing.places c.requires.standing.lawful c.requires.standing.linked i j node lane
+    c.in-Err.cause low_i low_j c.if-from-to.false there_n there_l c.in-Err.ensures.stopped

@@ -1,0 +1,72 @@
+-- Where a node of a world stops: at which event, and for which cause.
+use Rattle.std.specs.Prelude.{◌≡◌, ℕ, ◌<◌, ◌⊎◌, List, ◌∷◌, ◌++◌, take, slice_get, Some}
+use Rattle.dob_share.specs.declared.news.Item.{Item}
+use Rattle.dob_share.specs.Cells.{changed}
+use Rattle.dob_share.specs.Steps.{IsTooDeep}
+use Rattle.dob_update.specs.Batches.{BatchView}
+use Rattle.dob_node.specs.declared.cause.Cause.TheVariants as cause
+use Rattle.dob_world.specs.declared.event.Event.{Event}
+use Rattle.dob_world.specs.declared.event.Event.TheVariants.{Expand, Own, Post, Take, Pass, Announce}
+use Rattle.dob_world.specs.declared.fault.Fault.{Fault}
+use Rattle.dob_world.specs.declared.fault.Fault.TheVariants.{Stopped}
+use Rattle.dob_world.specs.Worlds.{Setting, Nodes, World, State}
+use Rattle.dob_world.specs.Events.{AppliesAll}
+use Rattle.dob_world.specs.Runs.{IsAfter}
+use Rattle.dob_world.specs.Rounds.{round_length, round_event, round_front, rounds_of}
+
+-- the item would give its class a value whose distance is above the greatest that is kept
+abbrev pub GoesTooDeep : Nodes → Item → Type 0
+GoesTooDeep nodes item = IsTooDeep (changed item.was item.now (nodes.cell item.to))
+
+-- The first own item of node i goes too deep.
+pub record OwnGoesTooDeep (world : World) (i : ℕ) : Type 0 where
+  pub item : Item
+  pub behind : List Item
+  pub first : world.own i ≡ item ∷ behind
+  pub deep : GoesTooDeep world.nodes item
+
+-- An item of the first batch that waits on the link from i to j goes too deep, once those before it are applied.
+pub record TakenGoesTooDeep (k : Setting) (world : World) (i j : ℕ) : Type 0 where
+  pub batch : BatchView
+  pub batches : List BatchView
+  pub first : world.waiting i j ≡ batch ∷ batches
+  pub front : List Item
+  pub item : Item
+  pub behind : List Item
+  pub items_are : batch.items ≡ front ++ item ∷ behind
+  pub between : Nodes
+  pub applied : AppliesAll k i j front world.nodes between
+  pub deep : GoesTooDeep between item
+
+-- The event stops the node that makes a step at it: since a growth was refused; or since an item that it applies goes too
+-- deep, or there are as many batches as are counted. No node stops as it passes the token or announces the end.
+abbrev pub IsStopBy : Setting → World → Event → Fault → Type 0
+IsStopBy k world (Expand i) fault = (i < k.n) × (fault ≡ Stopped i cause.Memory)
+IsStopBy k world (Own i) fault = (i < k.n) × ((fault ≡ Stopped i cause.Memory) ⊎ ((fault ≡ Stopped i cause.TooDeep) × OwnGoesTooDeep world i))
+IsStopBy k world (Post i j) fault = (i < k.n) × ((fault ≡ Stopped i cause.Memory) ⊎ (fault ≡ Stopped i cause.Counts))
+IsStopBy k world (Take i j) fault = (j < k.n) × ((fault ≡ Stopped j cause.Memory) ⊎ ((fault ≡ Stopped j cause.TooDeep) × TakenGoesTooDeep k world i j))
+IsStopBy k world (Pass i) fault = ⊥
+IsStopBy k world Announce fault = ⊥
+
+-- Some event of some world stops a node so; thus never because an item contradicts its cell.
+abbrev pub IsStop : Fault → Type 0
+IsStop fault = (k : Setting) × (world : World) × (event : Event) × IsStopBy k world event fault
+
+-- One of the events stops a node, after those before it.
+pub record IsStopIn (k : Setting) (start : State) (events : List Event) (fault : Fault) : Type 0 where
+  pub place : ℕ
+  pub event : Event
+  pub there : slice_get events place ≡ Some event
+  pub state : State
+  pub after : IsAfter k start (take place events) state
+  pub stop : IsStopBy k state.world event fault
+
+-- An event of one of so many rounds stops a node, after the rounds before it and the events before it in its own.
+pub record IsStopInRounds (k : Setting) (start : State) (rounds : ℕ) (fault : Fault) : Type 0 where
+  pub made : ℕ
+  pub few : made < rounds
+  pub place : ℕ
+  pub low : place < round_length k.n
+  pub state : State
+  pub after : IsAfter k start (rounds_of k.n made ++ round_front k.n place) state
+  pub stop : IsStopBy k state.world (round_event k.n place) fault
