@@ -4,3 +4,6 @@ pub mod Planned
 pub mod Lawfuls
 pub mod Summing
 pub mod Knowing
+pub mod Applied
+pub mod Opened
+pub mod Finished

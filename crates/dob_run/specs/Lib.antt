@@ -7,3 +7,4 @@ pub mod Workers
 pub mod Keeps
 pub mod Runners
 pub mod Props
+pub mod Finished

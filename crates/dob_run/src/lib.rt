@@ -4,6 +4,7 @@
 mod batches;
 mod gate;
 mod hands;
+mod laws;
 mod links;
 mod mail;
 mod ring;
@@ -15,5 +16,6 @@ mod works;
 
 pub use gate::{Free, Gate};
 pub use hands::{Inlet, Outlet};
+pub use laws::finished_is_right;
 pub use mail::Mail;
 pub use runner::Runner;
