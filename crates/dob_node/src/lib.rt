@@ -14,7 +14,7 @@ pub use cause::{Cause, Fault};
 pub use dob_share::Opening;
 pub use lone::alone;
 pub use node::{MAX_BATCHES, Node, Part};
-pub use openings::opening;
+pub use openings::{opening, opening_at};
 
 #[cfg(test)]
 mod tests;

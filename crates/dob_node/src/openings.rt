@@ -19,7 +19,7 @@ pub(crate) fn opening_of(position: &Position) -> Opening
 }
 
 /// The status and the number of moves of the class of that number.
-fn opening_at(classes: &Classes, class: u64) -> Opening
+pub fn opening_at(classes: &Classes, class: u64) -> Opening
     requires { class < classes_of classes.now.set }
     ensures { IsOpening (class_setup classes.now.set class) result }
 {

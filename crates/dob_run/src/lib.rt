@@ -2,14 +2,19 @@
 #![tactic(auto)]
 
 mod batches;
+mod closing;
+mod crew;
 mod gate;
 mod hands;
 mod laws;
+mod lay;
 mod links;
 mod mail;
+mod rejoin;
 mod ring;
 mod rounds;
 mod runner;
+mod scans;
 mod turn;
 mod words;
 mod works;
@@ -19,3 +24,7 @@ pub use hands::{Inlet, Outlet};
 pub use laws::finished_is_right;
 pub use mail::Mail;
 pub use runner::Runner;
+pub use scans::scan;
+
+#[cfg(test)]
+mod tests;

@@ -1,0 +1,65 @@
+-- What stands where in a list after one thing more, or after one was exchanged.
+use Rattle.std.proofs.Common.{◌≡◌, ℕ, zero, suc, ◌+◌, ◌<◌, ◌≤◌, ◌⊎◌, inl, inr, List, [], ◌∷◌, ◌++◌, length, map, drop, Some, refl, sym, ap, ◌∙◌, arith, ⊎_elim, append_assoc}
+use Rattle.std.proofs.lemmas.List.{append-nil}
+use Rattle.std.specs.Prelude.{slice_get}
+
+pub at_end : {A : Type 0} → (l : List A) (a b : A) (j : ℕ) → slice_get (l ++ a ∷ []) j ≡ Some b → (slice_get l j ≡ Some b) ⊎ ((j ≡ length l) × (a ≡ b))
+at_end [] a b zero e = inr (refl, (cc))
+at_end [] a b (suc j) e = absurd (cc)
+at_end (x ∷ xs) a b zero e = inl e
+at_end (x ∷ xs) a b (suc j) e = ⊎_elim (λ l. inl l) (λ r. inr (ap suc r.0, r.1)) (at_end xs a b j e)
+
+pub get_last : {A : Type 0} → (l : List A) (a : A) → slice_get (l ++ a ∷ []) (length l) ≡ Some a
+get_last [] a = refl
+get_last (x ∷ xs) a = get_last xs a
+
+pub get_before : {A : Type 0} → (l : List A) (a b : A) (j : ℕ) → slice_get l j ≡ Some b → slice_get (l ++ a ∷ []) j ≡ Some b
+get_before [] a b j e = absurd (cc)
+get_before (x ∷ xs) a b zero e = e
+get_before (x ∷ xs) a b (suc j) e = get_before xs a b j e
+
+pub inside : {A : Type 0} → (l : List A) (a : A) (j : ℕ) → slice_get l j ≡ Some a → j < length l
+inside [] a j e = absurd (cc)
+inside (x ∷ xs) a zero e = omega arith
+inside (x ∷ xs) a (suc j) e = let h = inside xs a j e in omega arith
+
+pub one_thing : {A : Type 0} → (a b : A) → Some a ≡ Some b → a ≡ b
+one_thing a b e = cc
+
+pub get_front : {A : Type 0} → (l m : List A) (b : A) (j : ℕ) → slice_get l j ≡ Some b → slice_get (l ++ m) j ≡ Some b
+get_front [] m b j e = absurd (cc)
+get_front (x ∷ xs) m b zero e = e
+get_front (x ∷ xs) m b (suc j) e = get_front xs m b j e
+
+-- what comes next of a list of which the first k things went
+pub next_is : {A : Type 0} → (l rest : List A) (a : A) (k : ℕ) → drop k l ≡ a ∷ rest → slice_get l k ≡ Some a
+next_is [] rest a zero e = absurd (cc)
+next_is [] rest a (suc k) e = absurd (cc)
+next_is (x ∷ xs) rest a zero e = cc
+next_is (x ∷ xs) rest a (suc k) e = next_is xs rest a k e
+
+then_drop : {A : Type 0} → (l rest : List A) (a : A) (k : ℕ) → drop k l ≡ a ∷ rest → rest ≡ drop (suc k) l
+then_drop [] rest a zero e = absurd (cc)
+then_drop [] rest a (suc k) e = absurd (cc)
+then_drop (x ∷ xs) rest a zero e = cc
+then_drop (x ∷ xs) rest a (suc k) e = then_drop xs rest a k e
+
+pub then_left : {A : Type 0} → (l rest : List A) (a : A) (k : ℕ) → drop k l ≡ a ∷ rest → rest ≡ drop (k + 1) l
+then_left l rest a k e = let one_more : suc k ≡ k + 1 = omega arith in then_drop l rest a k e ∙ ap (λ (m : ℕ). drop m l) one_more
+
+pub all_gone : {A : Type 0} → (l : List A) (k : ℕ) → length (drop k l) ≡ 0 → length l ≤ k
+all_gone [] k e = omega arith
+all_gone (x ∷ xs) zero e = absurd (omega (arith, e))
+all_gone (x ∷ xs) (suc k) e = let h = all_gone xs k e in omega arith
+
+-- a function of all things is that of those that went, and then that of those that are left
+module _ {A B : Type 0} (f : A → B) where
+  pub moves_on : (all done grown : List B) (rest after : List A) (x : A) (y : B) → all ≡ done ++ map f rest → rest ≡ x ∷ after → y ≡ f x →
+      grown ≡ done ++ y ∷ [] → all ≡ grown ++ map f after
+  moves_on all done grown rest after x y so_far is y_is grown_is =
+      so_far ∙ ap (λ (r : List A). done ++ map f r) is ∙ ap (λ (z : B). done ++ z ∷ map f after) (sym y_is)
+      ∙ sym (append_assoc done (y ∷ []) (map f after)) ∙ ap (λ (g : List B). g ++ map f after) (sym grown_is)
+
+  pub ends_up : (all done : List B) (rest : List A) → all ≡ done ++ map f rest → length rest ≡ 0 → done ≡ all
+  ends_up all done [] so_far none = sym (so_far ∙ append-nil done)
+  ends_up all done (x ∷ xs) so_far none = absurd (omega (arith, none))

@@ -1,0 +1,53 @@
+use Rattle.std.proofs.Common.{◌≡◌, ℕ, arith, sym, subst, List, length, vec_len, ◌∙◌, map}
+use Rattle.dob_board.specs.declared.seat.NodeSeat.{NodeSeat}
+use Rattle.dob_board.specs.Seats.{AreSeats, AreWords}
+use Rattle.dob_run.specs.Ending.{AreEnds, AreJoined}
+use Rattle.dob_run.specs.Closing.{ArePartsOf, seat_in}
+use Rattle.dob_run.proofs.Parting.{count_is, nodes_are, ends_are, links_are}
+use Rattle.dob_run.proofs.closing.close_mails.Goals as goal
+use Rattle.dob_run.proofs.closing.close_mails.Goals.{In_ok-seats}
+
+parted : (g : _) (c : In_ok-seats g) → ArePartsOf c.args.board.nodes c.args.mails.items c.in_ok-seats.field-0
+parted g c =
+    let count = count_is c.args.board c.args.mails.items c.requires in
+    let many : vec_len c.args.mails ≡ c.args.board.nodes = omega (arith, count) in
+    subst (λ (k : ℕ). ArePartsOf k c.args.mails.items c.in_ok-seats.field-0) many c.in_ok-seats.ensures
+
+ends : (g : _) (c : In_ok-seats g) → AreEnds c.args.board.nodes c.in_ok-seats.field-0.sends.items c.in_ok-seats.field-0.takes.items
+ends g c = ends_are c.args.board c.args.mails.items c.in_ok-seats.field-0 c.requires (parted g c)
+
+sends_len : (g : _) (c : In_ok-seats g) → vec_len c.in_ok-seats.field-0.sends ≡ c.args.board.nodes
+sends_len g c = let count = (ends g c).senders.count in omega (arith, count)
+
+pub part_mails-requires : goal.part_mails-requires
+part_mails-requires g c = λ k mail at.
+    let count = count_is c.args.board c.args.mails.items c.requires in
+    let nodes = nodes_are c.args.board c.args.mails.items c.requires k mail at in
+    omega (arith, count, nodes)
+
+pub close-closed-requires : goal.close-closed-requires
+close-closed-requires g c =
+    subst (λ (seats : List NodeSeat). AreSeats c.args.board.rest.table_id c.args.board.nodes seats)
+    (sym (parted g (goal.at.close-closed-requires g c).In_ok-seats).seats) c.requires.seats
+
+pub rejoin_all-requires : goal.rejoin_all-requires
+rejoin_all-requires g c =
+    let here = (goal.at.rejoin_all-requires g c).In_ok-seats in
+    let parts = c.in_ok-seats.field-0 in
+    subst (λ (k : ℕ). AreEnds k parts.sends.items parts.takes.items) (sym (sends_len g here)) (ends g here)
+
+pub returns : goal.returns
+returns g c =
+    let here = (goal.at.returns g c).In_ok-seats in
+    let parts = c.in_ok-seats.field-0 in
+    let n = c.args.board.nodes in
+    let links = c.in_ok-links.links.items in
+    let joined : AreJoined n n parts.sends.items parts.takes.items links =
+    subst (λ (k : ℕ). AreJoined k k parts.sends.items parts.takes.items links) (sends_len g here) c.in_ok-links.ensures in
+    record {
+      words = subst (λ (seats : List NodeSeat). AreWords n seats c.close-closed.result.words.items) (parted g here).seats c.close-closed.ensures;
+      count = joined.count;
+      links = links_are c.args.board c.args.mails.items parts c.requires (parted g here) links joined;
+      sending = (parted g here).sending;
+      taking = (parted g here).taking;
+    }

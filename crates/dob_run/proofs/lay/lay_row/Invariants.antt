@@ -1,0 +1,5 @@
+use Rattle.dob_run.specs.Laid.{IsRowLaid}
+use Rattle.dob_run.proofs.lay.lay_row.Given as goal
+
+abbrev pub invariant-loop-to : goal.invariant-loop-to
+invariant-loop-to l = IsRowLaid l.capacity l.to l.row.items l.fn.columns.items l.columns.items

@@ -1,0 +1,10 @@
+use Rattle.std.proofs.Common.{◌≡◌, drop, vec_len}
+use Rattle.std.specs.Vec.Iter.{into_iter_items}
+use Rattle.dob_run.specs.Ending.{AreDealt}
+use Rattle.dob_run.proofs.rejoin.deal.Given as goal
+
+abbrev pub invariant-loop-place : goal.invariant-loop-place
+invariant-loop-place l = record {
+  rest : into_iter_items l.left ≡ drop l.place l.fn.ends.items;
+  dealt : AreDealt l.place l.fn.ends.items l.fn.rows.items l.rows.items;
+}

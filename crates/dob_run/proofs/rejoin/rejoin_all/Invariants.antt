@@ -1,0 +1,7 @@
+use Rattle.std.proofs.Common.{vec_len}
+use Rattle.std.specs.Vec.Iter.{into_iter_items}
+use Rattle.dob_run.proofs.Rejoining.{AreOn}
+use Rattle.dob_run.proofs.rejoin.rejoin_all.Given as goal
+
+abbrev pub invariant-loop-row : goal.invariant-loop-row
+invariant-loop-row g l = AreOn (vec_len l.fn.sends) l.fn.sends.items l.fn.takes.items (into_iter_items l.row-iterator) (into_iter_items l.left) l.links.items

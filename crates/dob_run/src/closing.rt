@@ -1,0 +1,134 @@
+// How the mails of a crew are closed: the seats go back to the board, and the ends of each channel come together again.
+ghost use Rattle.std.specs.Prelude.{◌≡◌, ℕ, Some, IfOk, OnOk, slice_get, vec_len, length, []};
+ghost use Rattle.dob_run.specs.Rows.{AreRows};
+ghost use Rattle.dob_run.specs.Closing.{IsCrew, HasAdded, ArePartsOf, HasEnded};
+
+use crate::hands::{Inlet, Outlet};
+use crate::mail::Mail;
+use crate::rejoin::{deal, part_inlets, part_outlets, rejoin_all};
+use dob_board::{Board, Closed, NodeSeat};
+use dob_chan::{Rejoined, SendEnd, TakeEnd};
+use dob_pieces::Memory;
+use dob_update::Batch;
+use std::alloc::Global;
+use std::sync::Wait;
+
+/// What the mails of a crew leave: the words of its board, what went through each channel, row by row of senders, and what
+/// lies in the hands of each node, one place a node.
+#[derive(Drop)]
+pub(crate) struct Ended {
+    pub(crate) closed: Closed,
+    pub(crate) links: Vec<Rejoined>,
+    pub(crate) sending: Vec<Vec<Option<Batch>>>,
+    pub(crate) taking: Vec<Vec<Option<Batch>>>,
+}
+
+// The mails of some nodes of a crew, taken apart. The taking ends stand in the rows of the nodes that send to them.
+#[derive(Drop)]
+struct Parts {
+    seats: Vec<NodeSeat>,
+    sends: Vec<Vec<SendEnd>>,
+    takes: Vec<Vec<TakeEnd>>,
+    sending: Vec<Vec<Option<Batch>>>,
+    taking: Vec<Vec<Option<Batch>>>,
+}
+
+/// Closes a crew's mails with its board. Its promises hold if it returns.
+///
+/// Error: `Memory`, which gives the crew up.
+pub(crate) fn close_mails<R: Wait>(
+    rt: &R,
+    alloc: Global,
+    board: Board,
+    mails: Vec<Mail>,
+) -> Result<Ended, Memory>
+    requires { IsCrew board mails.items }
+    ensures { IfOk result (HasEnded board.nodes mails.items) }
+{
+    let Parts {
+        seats,
+        sends,
+        takes,
+        sending,
+        taking,
+    } = part_mails(alloc, mails)?;
+    let closed = board.close(seats);
+    let links = rejoin_all(rt, alloc, sends, takes)?;
+    Ok(Ended {
+        closed,
+        links,
+        sending,
+        taking,
+    })
+}
+
+// The mails, taken apart.
+fn part_mails(alloc: Global, mails: Vec<Mail>) -> Result<Parts, Memory>
+    requires { (k : ℕ) (mail : _) → slice_get mails.items k ≡ Some mail → mail.seat.nodes ≡ vec_len mails }
+    ensures { IfOk result (ArePartsOf (vec_len mails) mails.items) }
+{
+    let mut parts = no_parts(alloc, mails.len())?;
+    for mail in mails {
+        parts.add(alloc, mail)?;
+    }
+    Ok(parts)
+}
+
+// The parts of no mails of a crew of so many.
+fn no_parts(alloc: Global, count: usize) -> Result<Parts, Memory>
+    ensures { IfOk result (ArePartsOf count []) }
+{
+    let takes = empty_rows(alloc, count)?;
+    Ok(Parts {
+        seats: Vec::with_capacity(alloc, count)?,
+        sends: Vec::with_capacity(alloc, count)?,
+        takes,
+        sending: Vec::with_capacity(alloc, count)?,
+        taking: Vec::with_capacity(alloc, count)?,
+    })
+}
+
+// So many empty rows.
+fn empty_rows(alloc: Global, count: usize) -> Result<Vec<Vec<TakeEnd>>, Memory>
+    ensures { IfOk result (λ rows. AreRows count 0 rows.items) }
+{
+    let mut rows = Vec::with_capacity(alloc, count)?;
+    for _ in 0..count {
+        rows.push(Vec::new(alloc))?;
+    }
+    Ok(rows)
+}
+
+impl Mail {
+    // The seat, the outlets and the inlets.
+    fn parts(self) -> (NodeSeat, Vec<Outlet>, Vec<Inlet>)
+        ensures seat { result.0 ≡ self.seat }
+        ensures outlets { result.1 ≡ self.outlets }
+        ensures inlets { result.2 ≡ self.inlets }
+    {
+        let Mail {
+            seat,
+            outlets,
+            inlets,
+        } = self;
+        (seat, outlets, inlets)
+    }
+}
+
+impl Parts {
+    // Takes one mail more apart.
+    fn add(&mut self, alloc: Global, mail: Mail) -> Result<(), Memory>
+        requires { mail.seat.nodes ≡ vec_len self.old.takes }
+        ensures { OnOk result (HasAdded self.old mail self.new) }
+    {
+        let (seat, outlets, inlets) = mail.parts();
+        let (sends, sending) = part_outlets(alloc, outlets)?;
+        let (takes, taking) = part_inlets(alloc, inlets)?;
+        deal(takes, &mut self.takes)?;
+        self.seats.push(seat)?;
+        self.sends.push(sends)?;
+        self.sending.push(sending)?;
+        self.taking.push(taking)?;
+        Ok(())
+    }
+}
