@@ -1,12 +1,15 @@
+pub mod Applied
 pub mod Counted
+pub mod Finished
 pub mod Keeping
-pub mod Planned
+pub mod Knowing
 pub mod Lawfuls
 pub mod Laying
+pub mod Opened
 pub mod Parting
 pub mod Places
+pub mod Planned
 pub mod Rejoining
 pub mod Scanned
 pub mod Seated
 pub mod Summing
-pub mod Knowing

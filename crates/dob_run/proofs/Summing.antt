@@ -1,5 +1,5 @@
 -- Cells that are the sum of what is known, as an equation and as a relation.
-use Rattle.std.proofs.Common.{◌≡◌, ℕ, ◌<◌, ◌≤◌, inl, inr, refl, sym, ap, ◌∙◌, subst, arith, List, [], ◌∷◌, Contains, Option, None, Some, min}
+use Rattle.std.proofs.Common.{◌≡◌, ℕ, ◌≤◌, inl, inr, refl, sym, ap, subst, arith, List, [], ◌∷◌, Contains, Option, None, Some, min}
 use Rattle.std.proofs.lemmas.List.Elements.{Contains-append_right}
 use Rattle.std.proofs.lemmas.Bool.{cases_order}
 use Rattle.dob_pieces.proofs.Lists.{none_in_empty, head_in, cons_cases}

@@ -6,6 +6,7 @@ mod closing;
 mod crew;
 mod gate;
 mod hands;
+mod laws;
 mod lay;
 mod links;
 mod mail;
@@ -20,6 +21,7 @@ mod works;
 
 pub use gate::{Free, Gate};
 pub use hands::{Inlet, Outlet};
+pub use laws::finished_is_right;
 pub use mail::Mail;
 pub use runner::Runner;
 pub use scans::scan;
