@@ -8,3 +8,5 @@ pub mod Places
 pub mod Rejoining
 pub mod Scanned
 pub mod Seated
+pub mod Threaded
+pub mod Manned

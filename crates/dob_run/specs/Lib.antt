@@ -1,9 +1,11 @@
 pub mod Closing
 pub mod Ending
+pub mod Faults
 pub mod Hands
 pub mod Laid
 pub mod Links
 pub mod Mails
+pub mod Manned
 pub mod Batches
 pub mod Workers
 pub mod Keeps
@@ -12,3 +14,5 @@ pub mod Props
 pub mod Opening
 pub mod Rows
 pub mod Seating
+pub mod Started
+pub mod Turns
