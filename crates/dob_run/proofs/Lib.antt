@@ -5,6 +5,7 @@ pub mod Keeping
 pub mod Knowing
 pub mod Lawfuls
 pub mod Laying
+pub mod Manned
 pub mod Opened
 pub mod Parting
 pub mod Places
@@ -13,3 +14,4 @@ pub mod Rejoining
 pub mod Scanned
 pub mod Seated
 pub mod Summing
+pub mod Threaded

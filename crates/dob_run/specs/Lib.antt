@@ -1,6 +1,7 @@
 pub mod Batches
 pub mod Closing
 pub mod Ending
+pub mod Faults
 pub mod Finished
 pub mod Hands
 pub mod Keeps
@@ -8,9 +9,12 @@ pub mod Knows
 pub mod Laid
 pub mod Links
 pub mod Mails
+pub mod Manned
 pub mod Opening
 pub mod Props
 pub mod Rows
 pub mod Runners
 pub mod Seating
+pub mod Started
+pub mod Turns
 pub mod Workers

@@ -4,6 +4,7 @@
 mod batches;
 mod closing;
 mod crew;
+mod fault;
 mod gate;
 mod hands;
 mod laws;
@@ -15,7 +16,9 @@ mod ring;
 mod rounds;
 mod runner;
 mod scans;
+mod threads;
 mod turn;
+mod turns;
 mod words;
 mod works;
 
