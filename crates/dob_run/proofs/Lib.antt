@@ -10,3 +10,4 @@ pub mod Scanned
 pub mod Seated
 pub mod Threaded
 pub mod Manned
+pub mod Leaving

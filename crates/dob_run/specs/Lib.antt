@@ -15,4 +15,5 @@ pub mod Opening
 pub mod Rows
 pub mod Seating
 pub mod Started
+pub mod Turned
 pub mod Turns

@@ -14,6 +14,7 @@ mod rejoin;
 mod ring;
 mod rounds;
 mod runner;
+mod runs;
 mod scans;
 mod threads;
 mod turn;
@@ -21,10 +22,12 @@ mod turns;
 mod words;
 mod works;
 
+pub use fault::Fault;
 pub use gate::{Free, Gate};
 pub use hands::{Inlet, Outlet};
 pub use mail::Mail;
 pub use runner::Runner;
+pub use runs::{Turned, Worker, run_turns};
 pub use scans::scan;
 
 #[cfg(test)]
