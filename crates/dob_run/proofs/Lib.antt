@@ -5,6 +5,7 @@ pub mod Keeping
 pub mod Knowing
 pub mod Lawfuls
 pub mod Laying
+pub mod Leaving
 pub mod Manned
 pub mod Opened
 pub mod Parting

@@ -20,7 +20,7 @@ use Rattle.dob_run.proofs.Places.{inside, one_thing}
 use Rattle.dob_run.proofs.Parting.{get_map, map_got, some_at}
 
 -- what stands at a place has its other at that place
-zip_at : {X Y : Type 0} → (R : X → Y → Type 0) (xs : List X) (ys : List Y) (k : ℕ) (y : Y) → AllZip R xs ys → slice_get ys k ≡ Some y →
+pub zip_at : {X Y : Type 0} → (R : X → Y → Type 0) (xs : List X) (ys : List Y) (k : ℕ) (y : Y) → AllZip R xs ys → slice_get ys k ≡ Some y →
     (x : X) × (slice_get xs k ≡ Some x) × R x y
 zip_at R [] [] k y are at = absurd (cc)
 zip_at R [] (b ∷ ys) k y are at = absurd are
@@ -28,7 +28,7 @@ zip_at R (a ∷ xs) [] k y are at = absurd are
 zip_at R (a ∷ xs) (b ∷ ys) zero y are at = (a, refl, subst (R a) (one_thing b y at) are.0)
 zip_at R (a ∷ xs) (b ∷ ys) (suc k) y are at = zip_at R xs ys k y are.1 at
 
-zip_long : {X Y : Type 0} → (R : X → Y → Type 0) (xs : List X) (ys : List Y) → AllZip R xs ys → length ys ≡ length xs
+pub zip_long : {X Y : Type 0} → (R : X → Y → Type 0) (xs : List X) (ys : List Y) → AllZip R xs ys → length ys ≡ length xs
 zip_long R [] [] are = refl
 zip_long R [] (b ∷ ys) are = absurd are
 zip_long R (a ∷ xs) [] are = absurd are

@@ -16,5 +16,6 @@ pub mod Rows
 pub mod Runners
 pub mod Seating
 pub mod Started
+pub mod Turned
 pub mod Turns
 pub mod Workers

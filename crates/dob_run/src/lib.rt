@@ -15,6 +15,7 @@ mod rejoin;
 mod ring;
 mod rounds;
 mod runner;
+mod runs;
 mod scans;
 mod threads;
 mod turn;
@@ -22,11 +23,13 @@ mod turns;
 mod words;
 mod works;
 
+pub use fault::Fault;
 pub use gate::{Free, Gate};
 pub use hands::{Inlet, Outlet};
 pub use laws::finished_is_right;
 pub use mail::Mail;
 pub use runner::Runner;
+pub use runs::{Turned, Worker, run_turns};
 pub use scans::scan;
 
 #[cfg(test)]
