@@ -1,7 +1,7 @@
 -- What a crew's runners leave when they are closed, put together from their parts.
-use Rattle.std.proofs.Common.{◌≡◌, ◌≢◌, ℕ, zero, suc, ◌+◌, ◌*◌, ◌<◌, ◌≤◌, inl, inr, List, [], ◌∷◌, ◌++◌, Option, Some, None, length, map, drop, refl, sym, ap, ◌∙◌, subst, arith, length-append}
+use Rattle.std.proofs.Common.{◌≡◌, ◌≢◌, ℕ, ◌+◌, ◌*◌, ◌<◌, ◌≤◌, inl, inr, List, [], ◌∷◌, ◌++◌, Option, Some, None, length, map, drop, sym, ap, ◌∙◌, subst, arith, length-append}
 use Rattle.std.proofs.Common.{Global}
-use Rattle.std.specs.Prelude.{slice_get, slice_index, Result, Ok, Err, IfErr}
+use Rattle.std.specs.Prelude.{slice_get, Result, Ok, Err, IfErr}
 use Rattle.std.specs.Result.{IsErrAnd}
 use Rattle.std.proofs.lemmas.Result.{err_from_is_err_and}
 use Rattle.std.proofs.lemmas.List.{length-map}
@@ -13,7 +13,6 @@ use Rattle.dob_safra.specs.Laws.{IsSize}
 use Rattle.dob_update.specs.Batches.{BatchView}
 use Rattle.dob_board.specs.declared.board.Board.{Board}
 use Rattle.dob_board.specs.declared.board.Closed.{Closed}
-use Rattle.dob_board.specs.declared.seat.NodeSeat.{NodeSeat}
 use Rattle.dob_board.specs.Seats.{AreWords, IsSeatOf}
 use Rattle.dob_chan.specs.declared.calls.Rejoined.{Rejoined}
 use Rattle.dob_chan.specs.Ends.{sent_by, taken_by}
@@ -32,7 +31,7 @@ use Rattle.dob_run.specs.Closing.{AreLinked, seat_in, IsCrew, row_of, hands_out,
 use Rattle.dob_run.specs.Ending.{outlet_hand, inlet_hand, IsJoined}
 use Rattle.dob_run.specs.Hands.{in_hand, worked_of}
 use Rattle.dob_run.specs.Links.{offered}
-use Rattle.dob_run.specs.Manned.{mail_of, node_of, IsRunnerFor, AreRunnersFor}
+use Rattle.dob_run.specs.Manned.{mail_of, node_of, AreRunnersFor}
 use Rattle.dob_run.specs.Runners.{KeepsRunner}
 use Rattle.dob_run.specs.Turned.{IsLink, IsTurned, AreSizes, IsSmall, IsStop, IsRefused, AreUnfailed, IsFirstFailed, AreWorkers, HasLeft}
 use Rattle.dob_run.specs.Workers.{planned, items_in, SendsRight, IsLawful}

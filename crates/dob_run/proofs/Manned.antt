@@ -1,21 +1,18 @@
 -- The runners of a crew's mails, before and after their turns.
-use Rattle.std.proofs.Common.{◌≡◌, ℕ, zero, suc, ◌+◌, ◌<◌, List, [], ◌∷◌, length, map, Some, None, refl, sym, ap, ◌∙◌, subst, arith}
+use Rattle.std.proofs.Common.{◌≡◌, ℕ, zero, suc, List, [], ◌∷◌, length, map, Some, refl, sym, ap, ◌∙◌, subst, arith}
 use Rattle.std.specs.Prelude.{slice_get}
 use Rattle.std.proofs.lemmas.List.{length-map}
 use Rattle.std.specs.List.{AllZip}
 use Rattle.dob_pieces.specs.declared.piece_set.PieceSet.{PieceSet}
 use Rattle.dob_board.specs.declared.board.Board.{Board}
-use Rattle.dob_board.specs.declared.seat.NodeSeat.{NodeSeat}
 use Rattle.dob_board.specs.Seats.{IsSeatOf}
 use Rattle.dob_chan.specs.Ends.{ArePaired}
-use Rattle.dob_run.specs.declared.hands.Outlet.{Outlet}
-use Rattle.dob_run.specs.declared.hands.Inlet.{Inlet}
 use Rattle.dob_run.specs.declared.mail.Mail.{Mail}
 use Rattle.dob_run.specs.declared.runner.Runner.{Runner}
-use Rattle.dob_run.specs.Closing.{AreLinked, seat_in, IsCrew}
+use Rattle.dob_run.specs.Closing.{seat_in, IsCrew}
 use Rattle.dob_run.specs.Runners.{KeepsRunner}
 use Rattle.dob_run.specs.Turns.{AllSuit}
-use Rattle.dob_run.specs.Manned.{mail_of, IsRunnerFor, AreRunnersFor, IsRunnerOf}
+use Rattle.dob_run.specs.Manned.{mail_of, AreRunnersFor, IsRunnerOf}
 use Rattle.dob_run.proofs.Places.{inside, one_thing}
 use Rattle.dob_run.proofs.Parting.{get_map, map_got, some_at}
 

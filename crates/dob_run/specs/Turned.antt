@@ -16,7 +16,7 @@ use Rattle.dob_run.specs.declared.hands.Inlet.{Inlet}
 use Rattle.dob_run.specs.declared.runner.Runner.{Runner}
 use Rattle.dob_run.specs.declared.runs.Worker.{Worker}
 use Rattle.dob_run.specs.declared.runs.Turned.{Turned}
-use Rattle.dob_run.specs.Closing.{AreLinked, seat_in, row_of, hands_out, hands_in}
+use Rattle.dob_run.specs.Closing.{AreLinked, seat_in, hands_out, hands_in}
 use Rattle.dob_run.specs.Ending.{IsJoined}
 use Rattle.dob_run.specs.Hands.{in_hand}
 use Rattle.dob_run.specs.Manned.{mail_of}

@@ -88,6 +88,7 @@ fn many_threads_find_what_one_does(rt: HostRuntime) -> Result<(), Fail> {
 }
 
 // Each of two nodes raises its flag and looks for the other's, so often that the other's thread must come to it.
+#[derive(Drop)]
 struct Meeting {
     first: AtomicBool,
     second: AtomicBool,
@@ -126,6 +127,7 @@ fn two_nodes_meet(rt: HostRuntime) -> Result<(), Fail> {
 }
 
 // Lets no node go on but the first.
+#[derive(Drop)]
 struct FirstAlone;
 
 impl Gate for FirstAlone {

@@ -1,4 +1,4 @@
-use Rattle.std.proofs.Common.{◌≡◌, ℕ, List, rules, subst}
+use Rattle.std.proofs.Common.{ℕ, List, rules, subst}
 use Rattle.dob_run.specs.Turns.{AllSuit}
 use Rattle.dob_run.specs.declared.runner.Runner.{Runner}
 use Rattle.dob_run.specs.Turned.{IsTurned, AreUnfailed, IsFirstFailed, IsStop}
