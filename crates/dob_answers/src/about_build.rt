@@ -20,7 +20,7 @@ fn tell_made(alloc: Global, made: Option<Table>) -> Result<String, Memory> {
 }
 
 /// `win N loss N draw N`: the numbers of the table's classes.
-fn tell_outcomes(alloc: Global, table: &Table) -> Result<String, AllocError> {
+pub(crate) fn tell_outcomes(alloc: Global, table: &Table) -> Result<String, AllocError> {
     let (mut wins, mut losses, mut draws) = (0_u64, 0_u64, 0_u64);
     for class in 0..table.class_count() {
         match table.value(class) {

@@ -6,6 +6,7 @@ ghost use Rattle.std.specs.Prelude.{◌≤◌};
 ghost use Rattle.dob_rank.specs.Marks.{classes_of};
 
 use crate::opened::Opened;
+use crate::value_names::{Named, read_value};
 use dob_moves::{count_moves, status};
 use dob_pieces::PieceSet;
 use dob_rank::Classes;
@@ -92,8 +93,8 @@ fn reply_to(
     match share.apply(item) {
         Ok(None) => "-".to_string(alloc),
         Ok(Some(settled)) => {
-            let was = name_of(alloc, settled.was)?;
-            let now = name_of(alloc, settled.now)?;
+            let was = Named(settled.was);
+            let now = Named(settled.now);
             format!(in alloc; "{was}>{now}")
         }
         Err(dob_share::Fault::TooDeep) => "E12".to_string(alloc),
@@ -105,25 +106,4 @@ fn reply_to(
 fn read_change(text: &str) -> Option<(Value, Value)> {
     let (was, now) = text.split_once('>')?;
     Some((read_value(was)?, read_value(now)?))
-}
-
-/// The value of that name.
-fn read_value(name: &str) -> Option<Value> {
-    if name == "d" {
-        return Some(Value::Draw);
-    }
-    if let Some(plies) = name.strip_prefix('w') {
-        return Some(Value::Win(plies.parse::<u16>().ok()?));
-    }
-    let plies = name.strip_prefix('l')?;
-    Some(Value::Loss(plies.parse::<u16>().ok()?))
-}
-
-/// The name of the value.
-fn name_of(alloc: Global, value: Value) -> Result<String, AllocError> {
-    match value {
-        Value::Draw => "d".to_string(alloc),
-        Value::Win(plies) => format!(in alloc; "w{plies}"),
-        Value::Loss(plies) => format!(in alloc; "l{plies}"),
-    }
 }

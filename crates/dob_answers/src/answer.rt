@@ -4,6 +4,7 @@ use crate::about_cell::about_cell;
 use crate::about_position::about_position;
 use crate::about_set::about_set;
 use crate::about_token::about_token;
+use crate::about_world::about_world;
 use crate::opened::Opened;
 use crate::question::Question;
 use dob_pieces::{Memory, PieceSet};
@@ -32,6 +33,10 @@ pub(crate) fn reply(alloc: Global, opened: &mut Opened, line: &str) -> Result<St
             Err(fault) => fault_line(alloc, fault),
             Ok(set) => told_build(alloc, about_build(alloc, set, limit)),
         },
+        Some(Question::World(text, sizes, matter)) => match PieceSet::read(text) {
+            Err(fault) => fault_line(alloc, fault),
+            Ok(set) => told_world(alloc, about_world(alloc, set, sizes, matter)),
+        },
         Some(Question::Token(matter)) => Ok(about_token(alloc, matter)?),
     }
 }
@@ -50,6 +55,15 @@ fn told_build(alloc: Global, answer: Result<String, dob_node::Fault>) -> Result<
     match answer {
         Ok(text) => Ok(text),
         Err(dob_node::Fault::Memory) => Err(Memory),
+        Err(fault) => fault_line(alloc, fault),
+    }
+}
+
+/// The answer, or the line of the fault of a world.
+fn told_world(alloc: Global, answer: Result<String, dob_world::Fault>) -> Result<String, Memory> {
+    match answer {
+        Ok(text) => Ok(text),
+        Err(dob_world::Fault::Memory) => Err(Memory),
         Err(fault) => fault_line(alloc, fault),
     }
 }

@@ -1,8 +1,9 @@
 // Answers questions about positions and piece sets, one a line, so that this implementation can be compared with
 // another: `moves TEXT`, `after I TEXT`, `catch TEXT`, `value TEXT`, `rank TEXT`, `class TEXT`, `unrank CEG N`,
 // `classat CEG K`, `size CEG`, `back CEG K`, `edges CEG P Q`, `apply CEG CLASS CHANGE ..`, as about_cell.rt says,
-// `alone CEG LIMIT`, as about_build.rt says, and about tokens of the ring, as about_token.rt says. A text that is no
-// position and a set that is none get their faults, and any other line `unknown question`.
+// `alone CEG LIMIT`, as about_build.rt says, about worlds of nodes, as about_world.rt says, and about tokens of the ring,
+// as about_token.rt says. A text that is no position and a set that is none get their faults, and any other line
+// `unknown question`.
 #![tactic(auto)]
 
 mod about_build;
@@ -10,9 +11,12 @@ mod about_cell;
 mod about_position;
 mod about_set;
 mod about_token;
+mod about_world;
 mod answer;
 mod opened;
 mod question;
+mod shown;
+mod value_names;
 
 use crate::opened::Opened;
 use anyhow::Result;

@@ -1,5 +1,6 @@
 // The questions that a line can ask.
 use crate::about_token::OfToken;
+use crate::about_world::{OfWorld, Sizes};
 
 /// What a line asks.
 #[derive(Clone, Copy)]
@@ -12,6 +13,8 @@ pub(crate) enum Question<'a> {
     Cell(u64, &'a str, &'a str),
     /// Which values one node alone finds for the piece set of that text in so many steps.
     Build(&'a str, u64),
+    /// What comes of something in a world of the piece set of that text with those sizes.
+    World(&'a str, Sizes, OfWorld<'a>),
     /// Something about tokens of the ring.
     Token(OfToken),
 }
@@ -90,6 +93,11 @@ impl<'a> Question<'a> {
             "alone" => {
                 let (set, limit) = set_and_number(rest)?;
                 Some(Question::Build(set, limit))
+            }
+            "drive" | "events" => {
+                let (set, rest) = rest.split_once(' ')?;
+                let (sizes, matter) = OfWorld::read(word, rest)?;
+                Some(Question::World(set, sizes, matter))
             }
             _ => Some(Question::Token(OfToken::read(word, rest)?)),
         }

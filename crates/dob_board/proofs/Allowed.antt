@@ -32,7 +32,8 @@ seated n i stand told = (one n i stand told, [])
 -- ---- post
 
 posts_allows : (n i j id slots : ℕ) (stand : Stand) (told : List RingEvent) → j < n → stand.black ≡ true → slice_index stand.posted j < 2 ^ 40 →
-    Allows (Held n) slots id (seated n i stand told) (posted_word n i j) (λ x. (x + 1) % 2 ^ 64) (Posted (step slots (posted_word n i j) 1 0 none) (seated n i stand told))
+    Allows (Held n) slots id (seated n i stand told) (posted_word n i j) (λ x. (x + 1) % 2 ^ 64)
+    (Posted (step slots (posted_word n i j) 1 0 none) (seated n i stand told))
 posts_allows n i j id slots stand told j_in is_black room s held len at small =
     let made = posts n i j id s.words s.views stand told held at j_in is_black room in
     let mine = own_node n i id s.words s.views stand told held at in
@@ -46,18 +47,22 @@ posts_allows n i j id slots stand told j_in is_black room s held len at small =
       λ k stand' k_in place stands.
           let j_is : j ≡ k = (posted_place n i j i k j_in k_in place).1 in
           let stand_is : stand ≡ stand' = same_stand stand stand' stands in
-          subst (λ (p : ℕ × Stand). (seated n i (posts_more stand j) (Post i j ∷ log) ≡ seated n i (posts_more p.1 p.0) (Post i j ∷ log)) × Makes n i (Post i p.0) p.1 (posts_more p.1 p.0) told (Post i j ∷ log))
+          subst
+          (λ (p : ℕ × Stand). (seated n i (posts_more stand j) (Post i j ∷ log) ≡ seated n i (posts_more p.1 p.0) (Post i j ∷ log))
+          × Makes n i (Post i p.0) p.1 (posts_more p.1 p.0) told (Post i j ∷ log))
           (λ q. (j_is q, stand_is q)) (refl, made.1),
     )
 
-pub posts_call : (key n i j id slots word : ℕ) (me : Seated) (stand : Stand) (told : List RingEvent) → key ≡ n → me ≡ seated n i stand told → word ≡ posted_word n i j →
+pub posts_call : (key n i j id slots word : ℕ) (me : Seated) (stand : Stand) (told : List RingEvent) → key ≡ n → me ≡ seated n i stand told
+    → word ≡ posted_word n i j →
     j < n → stand.black ≡ true → slice_index stand.posted j < 2 ^ 40 →
     Allows (Held key) slots id me word (λ x. (x + 1) % 2 ^ 64) (Posted (step slots word 1 0 none) me)
 posts_call key n i j id slots word me stand told key_is me_is word_is j_in is_black room =
     subst (λ (p : ℕ × Seated × ℕ). Allows (Held p.0) slots id p.1 p.2 (λ x. (x + 1) % 2 ^ 64) (Posted (step slots p.2 1 0 none) p.1))
     (λ q. (sym key_is q, sym me_is q, sym word_is q)) (posts_allows n i j id slots stand told j_in is_black room)
 
-pub posts_tell : (n i j word found : ℕ) (me after : Seated) (stand : Stand) (told : List RingEvent) → me ≡ seated n i stand told → word ≡ posted_word n i j → j < n →
+pub posts_tell : (n i j word found : ℕ) (me after : Seated) (stand : Stand) (told : List RingEvent) → me ≡ seated n i stand told → word ≡ posted_word n i j
+    → j < n →
     Posted (step 0 word 1 0 none) me found after →
     (after ≡ seated n i (posts_more stand j) after.0.told) × Makes n i (Post i j) stand (posts_more stand j) told after.0.told
 posts_tell n i j word found me after stand told me_is word_is j_in tells =
@@ -89,7 +94,8 @@ looks_allows n i j id slots stand told i_in j_in s held len at small =
     let after : View = one n i (sees stand j number) log in
     let holds : IsHeld n s.words (slice_set s.views id after) =
     subst (λ (x : ℕ). IsHeld n s.words (slice_set s.views id (one n i (sees stand j x) log))) seen.1 seen.2 in
-    let heard : Hears n i (sees stand j number) told log (HasPosted j i number) = subst (λ (x : ℕ). Hears n i (sees stand j x) told log (HasPosted j i x)) seen.1 seen.5 in (
+    let heard : Hears n i (sees stand j number) told log (HasPosted j i number) =
+    subst (λ (x : ℕ). Hears n i (sees stand j x) told log (HasPosted j i x)) seen.1 seen.5 in (
       after,
       keeps,
       tt,
@@ -102,13 +108,15 @@ looks_allows n i j id slots stand told i_in j_in s held len at small =
           (λ q. (j_is q, stand_is q)) (refl, omega (arith, seen.1, seen.3), omega (arith, seen.1, seen.4), heard),
     )
 
-pub looks_call : (key n i j id slots word : ℕ) (me : Seated) (stand : Stand) (told : List RingEvent) → key ≡ n → me ≡ seated n i stand told → word ≡ posted_word n j i →
+pub looks_call : (key n i j id slots word : ℕ) (me : Seated) (stand : Stand) (told : List RingEvent) → key ≡ n → me ≡ seated n i stand told
+    → word ≡ posted_word n j i →
     i < n → j < n → Allows (Held key) slots id me word (λ x. x) (Looked (step slots word 0 0 none) me)
 looks_call key n i j id slots word me stand told key_is me_is word_is i_in j_in =
     subst (λ (p : ℕ × Seated × ℕ). Allows (Held p.0) slots id p.1 p.2 (λ x. x) (Looked (step slots p.2 0 0 none) p.1))
     (λ q. (sym key_is q, sym me_is q, sym word_is q)) (looks_allows n i j id slots stand told i_in j_in)
 
-pub looks_tell : (n i j word found : ℕ) (me after : Seated) (stand : Stand) (told : List RingEvent) → me ≡ seated n i stand told → word ≡ posted_word n j i → j < n →
+pub looks_tell : (n i j word found : ℕ) (me after : Seated) (stand : Stand) (told : List RingEvent) → me ≡ seated n i stand told → word ≡ posted_word n j i
+    → j < n →
     Looked (step 0 word 0 0 none) me found after →
     (after ≡ seated n i (sees stand j found) after.0.told) × (slice_index stand.seen j ≤ found) × (slice_index stand.taken j ≤ found)
     × Hears n i (sees stand j found) told after.0.told (HasPosted j i found)
@@ -118,7 +126,8 @@ looks_tell n i j word found me after stand told me_is word_is j_in tells =
 -- ---- take
 
 takes_allows : (n i j id slots : ℕ) (stand : Stand) (told : List RingEvent) → i < n → j < n → slice_index stand.taken j < slice_index stand.seen j →
-    Allows (Held n) slots id (seated n i stand told) (taken_word n j i) (λ x. (x + 1) % 2 ^ 64) (Took (step slots (taken_word n j i) 1 0 none) (seated n i stand told))
+    Allows (Held n) slots id (seated n i stand told) (taken_word n j i) (λ x. (x + 1) % 2 ^ 64)
+    (Took (step slots (taken_word n j i) 1 0 none) (seated n i stand told))
 takes_allows n i j id slots stand told i_in j_in waiting s held len at small =
     let made = takes n i j id s.words s.views stand told held at j_in waiting in
     let mine = own_node n i id s.words s.views stand told held at in
@@ -137,13 +146,16 @@ takes_allows n i j id slots stand told i_in j_in waiting s held len at small =
           (λ q. (j_is q, stand_is q)) (refl, made.1),
     )
 
-pub takes_call : (key n i j id slots word : ℕ) (me : Seated) (stand : Stand) (told : List RingEvent) → key ≡ n → me ≡ seated n i stand told → word ≡ taken_word n j i →
-    i < n → j < n → slice_index stand.taken j < slice_index stand.seen j → Allows (Held key) slots id me word (λ x. (x + 1) % 2 ^ 64) (Took (step slots word 1 0 none) me)
+pub takes_call : (key n i j id slots word : ℕ) (me : Seated) (stand : Stand) (told : List RingEvent) → key ≡ n → me ≡ seated n i stand told
+    → word ≡ taken_word n j i →
+    i < n → j < n → slice_index stand.taken j < slice_index stand.seen j
+    → Allows (Held key) slots id me word (λ x. (x + 1) % 2 ^ 64) (Took (step slots word 1 0 none) me)
 takes_call key n i j id slots word me stand told key_is me_is word_is i_in j_in waiting =
     subst (λ (p : ℕ × Seated × ℕ). Allows (Held p.0) slots id p.1 p.2 (λ x. (x + 1) % 2 ^ 64) (Took (step slots p.2 1 0 none) p.1))
     (λ q. (sym key_is q, sym me_is q, sym word_is q)) (takes_allows n i j id slots stand told i_in j_in waiting)
 
-pub takes_tell : (n i j word found : ℕ) (me after : Seated) (stand : Stand) (told : List RingEvent) → me ≡ seated n i stand told → word ≡ taken_word n j i → j < n →
+pub takes_tell : (n i j word found : ℕ) (me after : Seated) (stand : Stand) (told : List RingEvent) → me ≡ seated n i stand told → word ≡ taken_word n j i
+    → j < n →
     Took (step 0 word 1 0 none) me found after →
     (after ≡ seated n i (takes_more stand j) after.0.told) × Makes n i (Take j i) stand (takes_more stand j) told after.0.told
 takes_tell n i j word found me after stand told me_is word_is j_in tells =

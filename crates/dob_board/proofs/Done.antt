@@ -19,7 +19,8 @@ pub record FewCounts (n : ℕ) (stand : Stand) : Type 0 where
   pub posted : (k : ℕ) → k < n → slice_index stand.posted k ≤ 2 ^ 40
   pub taken : (k : ℕ) → k < n → slice_index stand.taken k ≤ 2 ^ 40
 
-pub makes_few : (n i : ℕ) (event : RingEvent) (before after : Stand) (told now : List RingEvent) → i < n → Makes n i event before after told now → FewCounts n after
+pub makes_few : (n i : ℕ) (event : RingEvent) (before after : Stand) (told now : List RingEvent) → i < n → Makes n i event before after told now
+    → FewCounts n after
 makes_few n i event before after told now i_in made = record {
   posted = λ k k_in. omega (arith, made.shows_after.posted k k_in, made.is_lawful.few i k i_in k_in);
   taken = λ k k_in. omega (arith, made.shows_after.taken k k_in, made.is_lawful.in_order k i k_in i_in, made.is_lawful.few k i k_in i_in);
@@ -31,8 +32,10 @@ pub record Stepped (n i : ℕ) (event : RingEvent) (before after : Stand) (told 
   pub made : Makes n i event before after told me.0.told
   pub few : FewCounts n after
 
-pub posts_done : (n i j word found x : ℕ) (me after : Seated) (posted taken seen : List ℕ) (black : Bool) (token : Option Token) (halt : Halt) (told : List RingEvent) →
-    me ≡ seated n i (stand_from posted taken seen black token halt) told → word ≡ posted_word n i j → i < n → j < n → length posted ≡ n → x ≡ get_or posted j x →
+pub posts_done : (n i j word found x : ℕ) (me after : Seated) (posted taken seen : List ℕ) (black : Bool) (token : Option Token) (halt : Halt)
+    (told : List RingEvent) →
+    me ≡ seated n i (stand_from posted taken seen black token halt) told → word ≡ posted_word n i j → i < n → j < n → length posted ≡ n
+    → x ≡ get_or posted j x →
     Posted (step 0 word 1 0 none) me found after →
     Stepped n i (Post i j) (stand_from posted taken seen black token halt) (stand_from (set posted j (x + 1)) taken seen black token halt) told after
 posts_done n i j word found x me after posted taken seen black token halt told me_is word_is i_in j_in long x_is tells =
@@ -47,7 +50,8 @@ posts_done n i j word found x me after posted taken seen black token halt told m
       few = makes_few n i (Post i j) (stand posted) (stand (set posted j (x + 1))) told after.0.told i_in made;
     }
 
-pub takes_done : (n i j word found x : ℕ) (me after : Seated) (posted taken seen : List ℕ) (black : Bool) (token : Option Token) (halt : Halt) (told : List RingEvent) →
+pub takes_done : (n i j word found x : ℕ) (me after : Seated) (posted taken seen : List ℕ) (black : Bool) (token : Option Token) (halt : Halt)
+    (told : List RingEvent) →
     me ≡ seated n i (stand_from posted taken seen black token halt) told → word ≡ taken_word n j i → i < n → j < n → length taken ≡ n → x ≡ get_or taken j x →
     Took (step 0 word 1 0 none) me found after →
     Stepped n i (Take j i) (stand_from posted taken seen black token halt) (stand_from posted (set taken j (x + 1)) seen true token halt) told after
@@ -66,7 +70,8 @@ takes_done n i j word found x me after posted taken seen black token halt told m
 
 -- what was told is told still
 pub goes_on : (first middle last : List RingEvent) → GoesOn first middle → GoesOn middle last → GoesOn first last
-goes_on first middle last on further = (further.0 ++ on.0, further.1 ∙ ap (λ (l : List RingEvent). further.0 ++ l) on.1 ∙ sym (append_assoc further.0 on.0 first))
+goes_on first middle last on further =
+    (further.0 ++ on.0, further.1 ∙ ap (λ (l : List RingEvent). further.0 ++ l) on.1 ∙ sym (append_assoc further.0 on.0 first))
 
 -- a look before an event changes neither counts nor colour
 pub makes_later : (n i j number : ℕ) (event : RingEvent) (stand after : Stand) (told middle now : List RingEvent) → GoesOn told middle →
@@ -81,7 +86,8 @@ makes_later n i j number event stand after told middle now on made = record {
   moved = made.moved;
   was_lawful = made.was_lawful;
   is_lawful = made.is_lawful;
-  shows_before = record { posted = made.shows_before.posted; taken = made.shows_before.taken; colour = made.shows_before.colour; token = made.shows_before.token };
+  shows_before =
+      record { posted = made.shows_before.posted; taken = made.shows_before.taken; colour = made.shows_before.colour; token = made.shows_before.token };
   shows_after = made.shows_after;
 }
 

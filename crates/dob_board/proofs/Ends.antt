@@ -1,5 +1,6 @@
 -- How seats come back, and what is read at the end.
-use Rattle.std.proofs.Common.{◌≡◌, ◌≢◌, ℕ, zero, suc, ◌+◌, ◌-◌, ◌<◌, List, [], ◌∷◌, ◌++◌, length, set, get_or, Some, true, eq-eqb, refl, sym, ap, ◌∙◌, subst, ⊎_elim, inl, inr, arith, map, append-nil, append_assoc, length-append, get_or-set_same, get_or-set_other}
+use Rattle.std.proofs.Common.{◌≡◌, ◌≢◌, ℕ, zero, suc, ◌+◌, ◌-◌, ◌<◌, List, [], ◌∷◌, ◌++◌, length, set, get_or, Some, true, eq-eqb, refl, sym, ap, ◌∙◌, subst}
+use Rattle.std.proofs.Common.{⊎_elim, inl, inr, arith, map, append-nil, append_assoc, length-append, get_or-set_same, get_or-set_other}
 use Rattle.std.specs.Prelude.{slice_index, slice_set, slice_get, replicate}
 use mathlib.Core.Option.{none, some, some-ne-none, some-injective}
 use lib.ListN.{get_elem?}
@@ -34,7 +35,8 @@ nobody_is_view n port halt owner ring log = record {
   nodes = λ k stand e. absurd (some-ne-none stand (sym e));
 }
 
-joins : (n i id other size : ℕ) (words : List ℕ) (views : List View) (stand : Stand) (behind : List Stand) (told heard : List RingEvent) (held : IsHeld n words views) →
+joins : (n i id other size : ℕ) (words : List ℕ) (views : List View) (stand : Stand) (behind : List Stand) (told heard : List RingEvent)
+    (held : IsHeld n words views) →
     get_elem? views id ≡ some (view_from size (suc i) behind told) → other ≢ id →
     get_elem? (slice_set views id (view_from n i (stand ∷ behind) heard)) other ≡ some (one n i stand heard) →
     IsHeld n words (slice_set (slice_set views id (view_from n i (stand ∷ behind) heard)) other nobody)
@@ -60,12 +62,16 @@ joins n i id other size words views stand behind told heard held at apart there 
       owner = owner;
       views_are = λ port view e.
           ⊎_elim
-          (λ (x : (port ≡ other) × (nobody ≡ view)). subst (λ (v : View). IsView n owner ring halt held.log port v) x.1 (nobody_is_view n port halt owner ring held.log))
+          (λ (x : (port ≡ other) × (nobody ≡ view)). subst (λ (v : View). IsView n owner ring halt held.log port v) x.1
+          (nobody_is_view n port halt owner ring held.log))
           (λ (x : (port ≢ other) × (get_elem? (set views id both) port ≡ some view)).
           ⊎_elim
           (λ (y : (port ≡ id) × (both ≡ view)).
           subst (λ (p : ℕ × View). IsView n owner ring halt held.log p.0 p.1) (λ q. (sym y.0 q, y.1 q))
-          (record { was_told = (held.views_are other (one n i stand heard) at_other).was_told; nodes = both_nodes n i id halt size held.owner ring stand behind mine.within mine.is_stand rest.nodes }))
+          (record {
+            was_told = (held.views_are other (one n i stand heard) at_other).was_told;
+            nodes = both_nodes n i id halt size held.owner ring stand behind mine.within mine.is_stand rest.nodes;
+          }))
           (λ (y : (port ≢ id) × (get_elem? views port ≡ some view)).
           elsewhere n i other id port halt held.owner ring held.log view mine.owned x.0 (held.views_are port view y.1))
           (at_set views id port both view x.1))
@@ -77,7 +83,8 @@ joins n i id other size words views stand behind told heard held at apart there 
         (k : ℕ) (at : Stand) → get_elem? (stand ∷ behind) k ≡ some at → IsNode n (port_of i id owner) ring halt id n (i + k) at
     both_nodes n i id halt size owner ring stand behind within is rest zero at e =
         let first : i ≡ i + 0 = omega arith in
-        let here : IsNode n (port_of i id owner) ring halt id n i stand = record { size_is = refl; within = within; owned = port_here i id owner; is_stand = is } in
+        let here : IsNode n (port_of i id owner) ring halt id n i stand =
+        record { size_is = refl; within = within; owned = port_here i id owner; is_stand = is } in
         subst (λ (x : ℕ × Stand). IsNode n (port_of i id owner) ring halt id n x.0 x.1) (λ q. (first q, some-injective stand at e q)) here
     both_nodes n i id halt size owner ring stand behind within is rest (suc k) at e =
         let node = rest k at e in
@@ -86,7 +93,8 @@ joins n i id other size words views stand behind told heard held at apart there 
         subst (λ (x : ℕ). IsNode n (port_of i id owner) ring halt id n x at) place
         (record { size_is = refl; within = node.within; owned = port_else i id (suc i + k) owner apart ∙ node.owned; is_stand = node.is_stand })
 
-pub joins_call : (key n i id other : ℕ) (view : View) (me : Seated) (stand : Stand) (heard : List RingEvent) → key ≡ n → view.from ≡ suc i → me ≡ seated n i stand heard →
+pub joins_call : (key n i id other : ℕ) (view : View) (me : Seated) (stand : Stand) (heard : List RingEvent) → key ≡ n → view.from ≡ suc i
+    → me ≡ seated n i stand heard →
     Joins (Held key) id view other me.0 (joined view me.0) nobody
 joins_call key n i id other view me stand heard key_is from_is me_is =
     let from_here : (s : State (Unit {0}) View) → Held n s → get_elem? s.views id ≡ some view → ¬ (other ≡ id) →
@@ -165,7 +173,8 @@ map_push (x ∷ xs) seat = ap (λ (ss : List Stand). stand_of x ∷ ss) (map_pus
 pub last_seat : (board : TableId) (n : ℕ) (all : List Stand) (seats fewer : List NodeSeat) (seat : NodeSeat) (me : Seated) → AreLeft board n all seats me →
     seats ≡ fewer ++ seat ∷ [] → IsSeatOf board n (length fewer) seat × (me.0.from ≡ suc seat.node)
 last_seat board n all seats fewer seat me left seats_is =
-    let is : IsSeatOf board n (length fewer) seat = left.seats_are (length fewer) seat (ap (λ (xs : List NodeSeat). slice_get xs (length fewer)) seats_is ∙ last_there fewer seat) in
+    let is : IsSeatOf board n (length fewer) seat =
+    left.seats_are (length fewer) seat (ap (λ (xs : List NodeSeat). slice_get xs (length fewer)) seats_is ∙ last_there fewer seat) in
     (is, omega (arith, left.from_is, ap length seats_is, length-append fewer (seat ∷ []), is.node))
 
 pub one_less : (board : TableId) (n : ℕ) (all : List Stand) (seats fewer : List NodeSeat) (seat : NodeSeat) (me after : Seated) → AreLeft board n all seats me →
@@ -193,7 +202,8 @@ none_left board n all seats me left none_is =
     let stands_are : me.0.stands ≡ all = sym (left.all_are ∙ ap (λ (xs : List NodeSeat). map stand_of xs ++ me.0.stands) none_is) in
     λ q. (record { size = left.size_is q; from = from_is q; stands = stands_are q; told = me.0.told }, left.no_slot q)
 
-pub all_left : (board : TableId) (n : ℕ) (seats : List NodeSeat) (me : Seated) → AreSeats board n seats → me ≡ (behind n n, []) → AreLeft board n (map stand_of seats) seats me
+pub all_left : (board : TableId) (n : ℕ) (seats : List NodeSeat) (me : Seated) → AreSeats board n seats → me ≡ (behind n n, [])
+    → AreLeft board n (map stand_of seats) seats me
 all_left board n seats me are me_is =
     let view_is : me.0 ≡ behind n n = ap (λ (x : Seated). x.0) me_is in
     let none : n - n ≡ 0 = omega arith in
@@ -201,7 +211,9 @@ all_left board n seats me are me_is =
       size_is = ap (λ (v : View). v.size) view_is;
       from_is = ap (λ (v : View). v.from) view_is ∙ sym are.count;
       no_slot = ap (λ (x : Seated). x.1) me_is;
-      all_are = sym (ap (λ (v : View). map stand_of seats ++ v.stands) view_is ∙ ap (λ (m : ℕ). map stand_of seats ++ replicate m (fresh n)) none ∙ append-nil (map stand_of seats));
+      all_are =
+          sym (ap (λ (v : View). map stand_of seats ++ v.stands) view_is ∙ ap (λ (m : ℕ). map stand_of seats ++ replicate m (fresh n)) none
+          ∙ append-nil (map stand_of seats));
       seats_are = are.seats_are;
     }
 
@@ -211,7 +223,9 @@ pub read_more : (n word found : ℕ) (stands : List Stand) (words : List ℕ) �
     IsWord n stands word found → (w : ℕ) → w < word + 1 → IsWord n stands w (get_or (set words word found) w 0)
 read_more n word found stands words within before here w lt =
     elim (same_or_not w word) [
-      | inl is ↦ let read : get_or (set words word found) w 0 ≡ found = ap (λ (m : ℕ). get_or (set words word found) m 0) is ∙ get_or-set_same words word found 0 within in
+      | inl is ↦
+          let read : get_or (set words word found) w 0 ≡ found =
+          ap (λ (m : ℕ). get_or (set words word found) m 0) is ∙ get_or-set_same words word found 0 within in
           subst (λ (p : ℕ × ℕ). IsWord n stands p.0 p.1) (λ q. (sym is q, sym read q)) here
       | inr apart ↦ subst (IsWord n stands w) (sym (get_or-set_other words word w found 0 apart)) (before w (omega (arith, lt, apart)))
     ]
@@ -229,13 +243,18 @@ seat_there [] k lt = absurd (omega arith)
 seat_there (x ∷ xs) zero lt = (x, refl)
 seat_there (x ∷ xs) (suc k) lt = seat_there xs k (omega arith)
 
-pub are_words : (board : TableId) (n : ℕ) (seats : List NodeSeat) (words : List ℕ) → AreSeats board n seats → AreRead n (map stand_of seats) words → AreWords n seats words
+pub are_words : (board : TableId) (n : ℕ) (seats : List NodeSeat) (words : List ℕ) → AreSeats board n seats → AreRead n (map stand_of seats) words
+    → AreWords n seats words
 are_words board n seats words are read = record {
   count = read.count;
   nodes = (read.words_are 0 (omega arith)).nodes refl;
   token = (read.words_are 1 (omega arith)).token refl;
-  posted = λ i j seat e j_in. (read.words_are (posted_word n i j) (posted_within n i j (seat_within i seat e) j_in)).posted i j (stand_of seat) (stand_there seats i seat e) j_in refl;
-  taken = λ i j seat e j_in. (read.words_are (taken_word n j i) (taken_within n j i j_in (seat_within i seat e))).taken i j (stand_of seat) (stand_there seats i seat e) j_in refl;
+  posted =
+      λ i j seat e j_in. (read.words_are (posted_word n i j) (posted_within n i j (seat_within i seat e) j_in)).posted i j (stand_of seat)
+      (stand_there seats i seat e) j_in refl;
+  taken =
+      λ i j seat e j_in. (read.words_are (taken_word n j i) (taken_within n j i j_in (seat_within i seat e))).taken i j (stand_of seat)
+      (stand_there seats i seat e) j_in refl;
   halt_within = (read.words_are 2 (omega arith)).halt_within refl;
   halt_seen = λ i seat e seen. (read.words_are 2 (omega arith)).halt_seen refl i (stand_of seat) (stand_there seats i seat e) (runs_on seat.halt seen);
   failed = λ i seat e found. same_halt seat.halt (Failed i) ((read.words_are 2 (omega arith)).failed refl i (stand_of seat) (stand_there seats i seat e) found);
@@ -244,7 +263,8 @@ are_words board n seats words are read = record {
       let one' = seat_there seats i (omega (arith, are.count)) in
       let other = seat_there seats j (omega (arith, are.count)) in
       (read.words_are (posted_word n i j) (posted_within n i j i_in j_in)).posted i j (stand_of one'.0) (stand_there seats i one'.0 one'.1) j_in refl
-      ∙ (read.words_are 2 (omega arith)).all_taken refl ended i j (stand_of one'.0) (stand_of other.0) (stand_there seats i one'.0 one'.1) (stand_there seats j other.0 other.1)
+      ∙ (read.words_are 2 (omega arith)).all_taken refl ended i j (stand_of one'.0) (stand_of other.0) (stand_there seats i one'.0 one'.1)
+      (stand_there seats j other.0 other.1)
       ∙ sym ((read.words_are (taken_word n i j) (taken_within n i j i_in j_in)).taken j i (stand_of other.0) (stand_there seats j other.0 other.1) i_in refl);
 }
   where

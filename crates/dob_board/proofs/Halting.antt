@@ -1,5 +1,6 @@
 -- The halt of a board: a look at it, a failure, and the announcement of the end.
-use Rattle.std.proofs.Common.{◌≡◌, ◌≢◌, ℕ, ◌+◌, ◌<◌, ◌⊎◌, List, [], ◌∷◌, length, set, get_or, Bool, true, false, Option, cond, eqb, eq-eqb, ne_eqb, refl, sym, ap, ◌∙◌, subst, inl, inr, arith, length-set, get_or-set_same, get_or-set_other}
+use Rattle.std.proofs.Common.{◌≡◌, ◌≢◌, ℕ, ◌+◌, ◌<◌, ◌⊎◌, List, [], ◌∷◌, length, set, get_or, Bool, true, false, Option, cond, eqb, eq-eqb, ne_eqb, refl, sym}
+use Rattle.std.proofs.Common.{ap, ◌∙◌, subst, inl, inr, arith, length-set, get_or-set_same, get_or-set_other}
 use Rattle.std.specs.Prelude.{slice_index, slice_set}
 use prog.Atomic.{either}
 use mathlib.Core.Option.{none, some}
@@ -71,7 +72,8 @@ finds_stand n i halt ring stand is = record {
 }
 
 -- What a step that left the halt word at that number, and made no event, tells.
-pub record Finding (n i id : ℕ) (words : List ℕ) (views : List View) (log : List RingEvent) (stand : Stand) (told : List RingEvent) (now : List ℕ) (word : ℕ) : Type 0 where
+pub record Finding (n i id : ℕ) (words : List ℕ) (views : List View) (log : List RingEvent) (stand : Stand) (told : List RingEvent) (now : List ℕ)
+    (word : ℕ) : Type 0 where
   pub held : IsHeld n now (slice_set views id (one n i (finds stand word) log))
   pub within : word < 2 + n
   pub stays : stand.halt ≢ 0 → word ≡ stand.halt
@@ -300,7 +302,8 @@ halts_tell n i found me after stand told me_is tells =
 
 fails_finding : (n i id : ℕ) (words : List ℕ) (views : List View) (stand : Stand) (told : List RingEvent) (held : IsHeld n words views) →
     get_elem? views id ≡ some (one n i stand told) →
-    Finding n i id words views held.log stand told (set words 2 (either (eqb (slice_index words 2) 0) (2 + i) (slice_index words 2))) (halt_after (slice_index words 2) (2 + i))
+    Finding n i id words views held.log stand told (set words 2 (either (eqb (slice_index words 2) 0) (2 + i) (slice_index words 2)))
+    (halt_after (slice_index words 2) (2 + i))
 fails_finding n i id words views stand told held at =
     let found : ℕ = slice_index words 2 in
     let with : (after : ℕ) → halt_after found (2 + i) ≡ after → Finding n i id words views held.log stand told (set words 2 after) after →
@@ -310,7 +313,8 @@ fails_finding n i id words views stand told held at =
     elim (same_or_not found 0) [
       | inl running ↦ with (2 + i) (halt_marked found (2 + i) running) (fails n i id words views stand told held at running)
       | inr stopped ↦ with found (halt_found found (2 + i) stopped)
-          (subst (λ (ws : List ℕ). Finding n i id words views held.log stand told ws found) (sym (set_same words 2)) (looks_at_halt n i id words views stand told held at))
+          (subst (λ (ws : List ℕ). Finding n i id words views held.log stand told ws found) (sym (set_same words 2))
+          (looks_at_halt n i id words views stand told held at))
     ]
 
 fails_allows : (n i id slots : ℕ) (stand : Stand) (told : List RingEvent) →
@@ -337,7 +341,8 @@ fails_call key n i id slots mark me stand told key_is me_is mark_is =
 
 pub fails_tell : (n i found mark : ℕ) (me after : Seated) (stand : Stand) (told : List RingEvent) → me ≡ seated n i stand told → mark ≡ 2 + i →
     FailedRun (step 0 2 0 mark none) me found after →
-    Found (seated n i stand told) stand (halt_after found mark) after × Hears n i (finds stand (halt_after found mark)) told after.0.told (HasHalt (halt_after found mark))
+    Found (seated n i stand told) stand (halt_after found mark) after
+    × Hears n i (finds stand (halt_after found mark)) told after.0.told (HasHalt (halt_after found mark))
 fails_tell n i found mark me after stand told me_is mark_is tells =
     (subst (λ (p : Seated). FailedRun (step 0 2 0 mark none) p found after) me_is tells) stand refl mark_is refl
 
@@ -358,8 +363,11 @@ announces_allows n i id slots stand told may s held len at small =
             λ stand' place stands.
                 subst (λ (p : Stand). ((seated n i (finds stand 1) log ≡ seated n i (finds p word) log) × (word < 2 + n) × (p.halt ≢ 0 → word ≡ p.halt))
                 × (found ≡ 0 → Makes n i Announce p (finds p 1) told log) × (found ≢ 0 → Hears n i (finds p found) told log (HasHalt found)))
-                (same_stand stand stand' stands)
-                ((ap (λ (v : View). (v, [])) view_is, omega (arith, word_is, held.size.0), (λ ne. word_is ∙ made.1 ne)), (λ e. made.2), (λ ne. absurd (ne running))),
+                (same_stand stand stand' stands) (
+                  (ap (λ (v : View). (v, [])) view_is, omega (arith, word_is, held.size.0), (λ ne. word_is ∙ made.1 ne)),
+                  (λ e. made.2),
+                  (λ ne. absurd (ne running)),
+                ),
           )
       | inr stopped ↦ let made = looks_at_halt n i id s.words s.views stand told held at in
           let log = held.log in
@@ -373,8 +381,11 @@ announces_allows n i id slots stand told may s held len at small =
             λ stand' place stands.
                 subst (λ (p : Stand). ((seated n i (finds stand found) log ≡ seated n i (finds p word) log) × (word < 2 + n) × (p.halt ≢ 0 → word ≡ p.halt))
                 × (found ≡ 0 → Makes n i Announce p (finds p 1) told log) × (found ≢ 0 → Hears n i (finds p found) told log (HasHalt found)))
-                (same_stand stand stand' stands)
-                ((ap (λ (v : View). (v, [])) view_is, omega (arith, word_is, made.within), (λ ne. word_is ∙ made.stays ne)), (λ e. absurd (stopped e)), (λ ne. made.heard)),
+                (same_stand stand stand' stands) (
+                  (ap (λ (v : View). (v, [])) view_is, omega (arith, word_is, made.within), (λ ne. word_is ∙ made.stays ne)),
+                  (λ e. absurd (stopped e)),
+                  (λ ne. made.heard),
+                ),
           )
     ]
 

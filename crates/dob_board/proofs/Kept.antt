@@ -67,7 +67,12 @@ other_view n i id port halt now owner old new log more view owned apart leaves w
   nodes = λ k stand e.
       let node = was.nodes k stand e in
       let other : view.from + k ≢ i = λ same. apart (sym node.owned ∙ ap owner same ∙ owned) in
-      record { size_is = node.size_is; within = node.within; owned = node.owned; is_stand = stand_stays n i (view.from + k) old new halt now stand node.within other leaves node.is_stand };
+      record {
+        size_is = node.size_is;
+        within = node.within;
+        owned = node.owned;
+        is_stand = stand_stays n i (view.from + k) old new halt now stand node.within other leaves node.is_stand;
+      };
 }
 
 -- node i is the seat's that stands for it alone, and what it knows is right

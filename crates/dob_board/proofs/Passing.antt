@@ -1,5 +1,6 @@
 -- The token of a board: its word, a look at it, and a pass.
-use Rattle.std.proofs.Common.{◌≡◌, ℕ, zero, suc, ◌+◌, ◌-◌, ◌*◌, ◌^◌, ◌<◌, ◌≤◌, List, [], ◌∷◌, length, set, Bool, true, false, eqb, eq-eqb, ne_eqb, Some, refl, sym, ap, ◌∙◌, subst, inl, inr, arith, length-set, get_or-set_same, get_or-set_other}
+use Rattle.std.proofs.Common.{◌≡◌, ℕ, zero, suc, ◌+◌, ◌-◌, ◌*◌, ◌^◌, ◌<◌, ◌≤◌, List, [], ◌∷◌, length, set, Bool, true, false, eqb, eq-eqb, ne_eqb, Some, refl}
+use Rattle.std.proofs.Common.{sym, ap, ◌∙◌, subst, inl, inr, arith, length-set, get_or-set_same, get_or-set_other}
 use Rattle.std.proofs.Math.IntN.{ℤ, pos, neg_ℤ, ◌-ℤ◌}
 use Rattle.std.proofs.lemmas.Int.{ints}
 use Rattle.std.proofs.lemmas.List.Sums.{sum_by-cons}
@@ -242,7 +243,8 @@ passes_held n i id word words views stand token told held at has packed =
 same_token : (first other : Token) → Some first ≡ Some other → first ≡ other
 same_token first other e = cc
 
-passes_allows : (n i id slots word : ℕ) (stand : Stand) (token : Token) (told : List RingEvent) → stand.token ≡ Some token → IsPacked (passed_by n stand token) word →
+passes_allows : (n i id slots word : ℕ) (stand : Stand) (token : Token) (told : List RingEvent) → stand.token ≡ Some token
+    → IsPacked (passed_by n stand token) word →
     Allows (Held n) slots id (seated n i stand told) 1 (λ _. word) (λ _. Passed (step slots 1 word 0 none) (seated n i stand told) word)
 passes_allows n i id slots word stand token told has packed s held len at small =
     let made = passes_held n i id word s.words s.views stand token told held at has packed in
@@ -266,7 +268,8 @@ passes_call key n i id slots word me stand token told key_is me_is has packed =
     subst (λ (p : ℕ × Seated). Allows (Held p.0) slots id p.1 1 (λ _. word) (λ _. Passed (step slots 1 word 0 none) p.1 word))
     (λ q. (sym key_is q, sym me_is q)) (passes_allows n i id slots word stand token told has packed)
 
-pub passes_tell : (n i word : ℕ) (me after : Seated) (stand : Stand) (token : Token) (told : List RingEvent) → me ≡ seated n i stand told → stand.token ≡ Some token →
+pub passes_tell : (n i word : ℕ) (me after : Seated) (stand : Stand) (token : Token) (told : List RingEvent) → me ≡ seated n i stand told
+    → stand.token ≡ Some token →
     Passed (step 0 1 word 0 none) me word after →
     (after ≡ seated n i (passes n i stand token) after.0.told) × Makes n i (Pass i) stand (passes n i stand token) told after.0.told
 passes_tell n i word me after stand token told me_is has tells =
@@ -275,11 +278,14 @@ passes_tell n i word me after stand token told me_is has tells =
 -- ---- bounds
 
 -- a lawful ring's token at node i is in the bounds that stand for i
-pub heard_bounds : (n i : ℕ) (stand : Stand) (told now : List RingEvent) (token : Token) → Hears n i stand told now (HasToken token) → token.at ≡ i → IsInBounds n i token
+pub heard_bounds : (n i : ℕ) (stand : Stand) (told now : List RingEvent) (token : Token) → Hears n i stand told now (HasToken token) → token.at ≡ i
+    → IsInBounds n i token
 heard_bounds n i stand told now token heard here = (
   here,
-  subst (λ (p : ℕ × Token). neg_ℤ (pos ((n - 1 - p.0) * 2 ^ 44)) ≤ℤ p.1.sum) (λ q. ((ap (λ (t : Token). t.at) heard.is_so ∙ here) q, heard.is_so q)) heard.is_lawful.low,
-  subst (λ (p : ℕ × Token). p.1.sum ≤ℤ pos ((n - 1 - p.0) * 2 ^ 44)) (λ q. ((ap (λ (t : Token). t.at) heard.is_so ∙ here) q, heard.is_so q)) heard.is_lawful.high,
+  subst (λ (p : ℕ × Token). neg_ℤ (pos ((n - 1 - p.0) * 2 ^ 44)) ≤ℤ p.1.sum)
+      (λ q. ((ap (λ (t : Token). t.at) heard.is_so ∙ here) q, heard.is_so q)) heard.is_lawful.low,
+  subst (λ (p : ℕ × Token). p.1.sum ≤ℤ pos ((n - 1 - p.0) * 2 ^ 44))
+      (λ q. ((ap (λ (t : Token). t.at) heard.is_so ∙ here) q, heard.is_so q)) heard.is_lawful.high,
 )
 
 pub seen_bounds : (n i : ℕ) (stand : Stand) (told now : List RingEvent) (token known : Token) → Hears n i stand told now (HasToken token) →

@@ -1,5 +1,7 @@
 -- The start of a board, and how the view of all nodes is split.
-use Rattle.std.proofs.Common.{◌≡◌, ◌≢◌, ℕ, zero, suc, ◌+◌, ◌-◌, ◌<◌, ◌⊎◌, List, [], ◌∷◌, ◌++◌, length, set, get_or, Some, true, false, cond, eqb, eq-eqb, ne_eqb, refl, sym, ap, ◌∙◌, subst, ⊎_elim, inl, inr, arith, rules, map, length-set, length-append, get_or-set_same, get_or-set_other}
+use Rattle.std.proofs.Common.{◌≡◌, ◌≢◌, ℕ, zero, suc, ◌+◌, ◌-◌, ◌<◌, ◌⊎◌, List, [], ◌∷◌, ◌++◌, length, set, get_or, Some, true, false, cond, eqb, eq-eqb}
+use Rattle.std.proofs.Common.{ne_eqb, refl, sym, ap, ◌∙◌, subst, ⊎_elim, inl, inr, arith, rules, map, length-set, length-append, get_or-set_same}
+use Rattle.std.proofs.Common.{get_or-set_other}
 use Rattle.std.specs.Prelude.{slice_index, slice_set, slice_get, replicate}
 use mathlib.Core.Option.{some, some-ne-none, some-injective}
 use lib.ListN.{get_elem?}
@@ -48,7 +50,12 @@ elsewhere n i id fresh_port port halt owner ring log view owned apart was = reco
   nodes = λ k stand e.
       let node = was.nodes k stand e in
       let other : view.from + k ≢ i = λ same. apart (sym node.owned ∙ ap owner same ∙ owned) in
-      record { size_is = node.size_is; within = node.within; owned = port_else i fresh_port (view.from + k) owner other ∙ node.owned; is_stand = node.is_stand };
+      record {
+        size_is = node.size_is;
+        within = node.within;
+        owned = port_else i fresh_port (view.from + k) owner other ∙ node.owned;
+        is_stand = node.is_stand;
+      };
 }
 
 abbrev pub view_from : ℕ → ℕ → List Stand → List RingEvent → View
@@ -90,7 +97,8 @@ splits n i id words views stand rest told held at =
                 let apart : i + suc k ≢ i = λ same. omega (arith, same) in
                 let place : i + suc k ≡ suc i + k = omega arith in
                 subst (λ (x : ℕ). IsNode n owner ring halt id n x at') place
-                (record { size_is = refl; within = node.within; owned = port_else i port' (i + suc k) held.owner apart ∙ node.owned; is_stand = node.is_stand });
+                (record
+                { size_is = refl; within = node.within; owned = port_else i port' (i + suc k) held.owner apart ∙ node.owned; is_stand = node.is_stand });
           }))
           (λ (x : (port ≢ id) × (get_elem? views port ≡ some view)).
           elsewhere n i id port' port halt held.owner ring held.log view own.owned x.0 (held.views_are port view x.1))
@@ -114,9 +122,12 @@ pub splits_call : (key n k id : ℕ) (me : Seated) → key ≡ n → k < n → m
     Splits (Held key) id me.0 (others_of me.0) (first_of me.0)
 splits_call key n k id me key_is within me_is =
     let more : n - k ≡ suc (n - suc k) = omega arith in
-    let split : (m : ℕ) → Splits (Held n) id (view_from n k (stands_behind n (suc m)) []) (others_of (view_from n k (stands_behind n (suc m)) [])) (first_of (view_from n k (stands_behind n (suc m)) [])) =
+    let split : (m : ℕ)
+    → Splits (Held n) id (view_from n k (stands_behind n (suc m)) []) (others_of (view_from n k (stands_behind n (suc m)) []))
+    (first_of (view_from n k (stands_behind n (suc m)) [])) =
     λ m s held at. splits n k id s.words s.views (fresh n) (stands_behind n m) [] held at in
-    let view_is : me.0 ≡ view_from n k (stands_behind n (suc (n - suc k))) [] = ap (λ (x : Seated). x.0) me_is ∙ ap (λ (m : ℕ). view_from n k (stands_behind n m) []) more in
+    let view_is : me.0 ≡ view_from n k (stands_behind n (suc (n - suc k))) [] =
+    ap (λ (x : Seated). x.0) me_is ∙ ap (λ (m : ℕ). view_from n k (stands_behind n m) []) more in
     subst (λ (p : ℕ × View). Splits (Held p.0) id p.1 (others_of p.1) (first_of p.1)) (λ q. (sym key_is q, sym view_is q)) (split (n - suc k))
 
 -- ---- start
@@ -200,7 +211,8 @@ begins n word size packed = record {
   black = λ k. true;
   token = first_token;
   packed = subst (IsPacked first_token)
-      (sym (get_or-set_same (set (zeros_of (word_count n)) 0 n) 1 word 0 (omega (arith, length-set (zeros_of (word_count n)) 0 n, zeros_len (word_count n))))) packed;
+      (sym (get_or-set_same (set (zeros_of (word_count n)) 0 n) 1 word 0 (omega (arith, length-set (zeros_of (word_count n)) 0 n, zeros_len (word_count n)))))
+      packed;
   lawful = first_lawful n word size;
   halt_within = omega (arith, first_zero n word 2 (omega arith));
   log = [];
@@ -243,7 +255,8 @@ map_push : (seats : List NodeSeat) (seat : NodeSeat) → map stand_of (seats ++ 
 map_push [] seat = refl
 map_push (x ∷ xs) seat = ap (λ (ss : List Stand). stand_of x ∷ ss) (map_push xs seat)
 
-pub push_first : (board : TableId) (n k : ℕ) (seats pushed : List NodeSeat) (seat : NodeSeat) → AreFirst board n k seats → IsSeatOf board n k seat → stand_of seat ≡ fresh n →
+pub push_first : (board : TableId) (n k : ℕ) (seats pushed : List NodeSeat) (seat : NodeSeat) → AreFirst board n k seats → IsSeatOf board n k seat
+    → stand_of seat ≡ fresh n →
     pushed ≡ seats ++ seat ∷ [] → AreFirst board n (suc k) pushed
 push_first board n k seats pushed seat first is is_fresh pushed_is =
     subst (AreFirst board n (suc k)) (sym pushed_is) (record {
@@ -252,5 +265,7 @@ push_first board n k seats pushed seat first is is_fresh pushed_is =
           (λ there. first.seats_are m other there)
           (λ last. subst (λ (p : ℕ × NodeSeat). IsSeatOf board n p.0 p.1) (λ q. ((sym first.count ∙ sym last.0) q, last.1 q)) is)
           (seats_end seats seat other m e);
-      are_fresh = map_push seats seat ∙ ap (λ (s : Stand). map stand_of seats ++ s ∷ []) is_fresh ∙ ap (λ (ss : List Stand). ss ++ fresh n ∷ []) first.are_fresh ∙ one_more_fresh k (fresh n);
+      are_fresh =
+          map_push seats seat ∙ ap (λ (s : Stand). map stand_of seats ++ s ∷ []) is_fresh ∙ ap (λ (ss : List Stand). ss ++ fresh n ∷ []) first.are_fresh
+          ∙ one_more_fresh k (fresh n);
     })

@@ -1,5 +1,6 @@
 -- The steps of a seat.
-use Rattle.std.proofs.Common.{◌≡◌, ◌≢◌, ℕ, suc, ◌^◌, ◌<◌, ◌≤◌, List, [], ◌∷◌, length, set, get_or, Bool, true, false, cond, eqb, eq-eqb, ne_eqb, refl, sym, ap, ◌∙◌, subst, inl, inr, arith, length-set, get_or-set_same, get_or-set_other}
+use Rattle.std.proofs.Common.{◌≡◌, ◌≢◌, ℕ, suc, ◌^◌, ◌<◌, ◌≤◌, List, [], ◌∷◌, length, set, get_or, Bool, true, false, cond, eqb, eq-eqb, ne_eqb, refl, sym, ap}
+use Rattle.std.proofs.Common.{◌∙◌, subst, inl, inr, arith, length-set, get_or-set_same, get_or-set_other}
 use Rattle.std.specs.Prelude.{slice_index, slice_set}
 use mathlib.Core.Option.{some}
 use lib.ListN.{get_elem?}
@@ -94,8 +95,10 @@ posts n i j id words views stand told held at j_in is_black room =
     let moved : Posts n old i j new = posts_moved n i j words held.black held.token held.wide mine.within j_in (sym is.shows.colour ∙ is_black) in
     let few : HasFew n new = posts_few n i j old new held.lawful moved (omega (arith, is.shows.posted j j_in, room)) in
     let lawful : IsLawful n new = moved_kept n old new (Post i j) held.size held.lawful moved few in
-    let halt : slice_index (posted_after n i j words) 2 ≡ slice_index words 2 = head_stays words (posted_word n i j) (suc (posted_in n words i j)) 2 (omega arith) (omega arith) in
-    let after : IsStand n new (slice_index (posted_after n i j words) 2) i (posts_more stand j) = posts_stand n i j old new (slice_index words 2) (slice_index (posted_after n i j words) 2) stand moved halt is in (
+    let halt : slice_index (posted_after n i j words) 2 ≡ slice_index words 2 =
+    head_stays words (posted_word n i j) (suc (posted_in n words i j)) 2 (omega arith) (omega arith) in
+    let after : IsStand n new (slice_index (posted_after n i j words) 2) i (posts_more stand j) =
+    posts_stand n i j old new (slice_index words 2) (slice_index (posted_after n i j words) 2) stand moved halt is in (
       kept n i id words (posted_after n i j words) views stand (posts_more stand j) told (Post i j ∷ []) held.black held.token held at
           (length-set words (posted_word n i j) (suc (posted_in n words i j)))
           (head_stays words (posted_word n i j) (suc (posted_in n words i j)) 0 (omega arith) (omega arith))
@@ -142,7 +145,8 @@ known n i id words views stand new told held at is =
     kept n i id words words views stand new told [] held.black held.token held at refl refl held.packed held.halt_within held.lawful held.runs
     (stays n i (ring_of n words held.black held.token) (slice_index words 2)) is
 
-sees_stand : (n i j halt : ℕ) (ring : Ring) (stand : Stand) → i < n → j < n → IsStand n ring halt i stand → IsStand n ring halt i (sees stand j (ring.posted j i))
+sees_stand : (n i j halt : ℕ) (ring : Ring) (stand : Stand) → i < n → j < n → IsStand n ring halt i stand
+    → IsStand n ring halt i (sees stand j (ring.posted j i))
 sees_stand n i j halt ring stand i_in j_in is = record {
   posted_len = is.posted_len;
   taken_len = is.taken_len;
@@ -168,7 +172,8 @@ looks n i j id words views stand told held at j_in =
     let ring : Ring = ring_of n words held.black held.token in
     let mine = own_node n i id words views stand told held at in
     let is = mine.is_stand in
-    let after : IsStand n ring (slice_index words 2) i (sees stand j (ring.posted j i)) = sees_stand n i j (slice_index words 2) ring stand mine.within j_in is in (
+    let after : IsStand n ring (slice_index words 2) i (sees stand j (ring.posted j i)) =
+    sees_stand n i j (slice_index words 2) ring stand mine.within j_in is in (
       ring.posted j i,
       refl,
       known n i id words views stand (sees stand j (ring.posted j i)) told held at after,

@@ -18,6 +18,8 @@ take_one old middle new from number not_less waiting noted same counted heard ma
   not_less = not_less;
   waiting = waiting;
   counted = counted ∙ ap (λ (s : Stand). takes_more s from) noted;
-  event = makes_later old.nodes old.node from number (Take from old.node) (stand_of old) (stand_of new) (told_of old) (told_of middle) (told_of new) heard.went_on
-      (subst (λ (p : ℕ × ℕ × Stand). Makes p.0 p.1 (Take from p.1) p.2 (stand_of new) (told_of middle) (told_of new)) (λ q. (same.nodes q, same.node q, noted q)) made);
+  event =
+      makes_later old.nodes old.node from number (Take from old.node) (stand_of old) (stand_of new) (told_of old) (told_of middle) (told_of new) heard.went_on
+      (subst (λ (p : ℕ × ℕ × Stand). Makes p.0 p.1 (Take from p.1) p.2 (stand_of new) (told_of middle) (told_of new))
+      (λ q. (same.nodes q, same.node q, noted q)) made);
 }

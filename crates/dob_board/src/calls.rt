@@ -42,7 +42,8 @@ impl NodeSeat {
         requires few { slice_index self.old.posted.items to < 2 ^ 40 }
         ensures counted { stand_of self.new ≡ posts_more (stand_of self.old) to }
         ensures same { IsSameSeat self.old self.new }
-        ensures event { Makes self.old.nodes self.old.node (Post self.old.node to) (stand_of self.old) (stand_of self.new) (told_of self.old) (told_of self.new) }
+        ensures event { Makes self.old.nodes self.old.node (Post self.old.node to) (stand_of self.old) (stand_of self.new)
+            (told_of self.old) (told_of self.new) }
     {
         let word = posted_index(self.nodes, self.node, to);
         self.board
@@ -73,7 +74,8 @@ impl NodeSeat {
         requires waiting { slice_index self.old.taken.items from < slice_index self.old.seen.items from }
         ensures counted { stand_of self.new ≡ takes_more (stand_of self.old) from }
         ensures same { IsSameSeat self.old self.new }
-        ensures event { Makes self.old.nodes self.old.node (Take from self.old.node) (stand_of self.old) (stand_of self.new) (told_of self.old) (told_of self.new) }
+        ensures event { Makes self.old.nodes self.old.node (Take from self.old.node) (stand_of self.old) (stand_of self.new)
+            (told_of self.old) (told_of self.new) }
     {
         let word = taken_index(self.nodes, from, self.node);
         self.board

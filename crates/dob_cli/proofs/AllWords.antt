@@ -14,7 +14,8 @@ use Rattle.clap.specs.declared.error.kind.ErrorKind.TheVariants as kind
 use Rattle.clap.proofs.FaultLemmas.{stopped_fault}
 use Rattle.clap.proofs.WalkLemmas.{walk_stopped}
 use Rattle.dob_cli.specs.Forms.{Form, Text, check_form, count_form, forms, line_form, probe_form, value_form}
-use Rattle.dob_cli.specs.Words.{Meaning, asks, help, is_dashes, is_help_flag, is_text, meaning_of_command, meaning_of_form, meaning_of_other, topic, usage, version}
+use Rattle.dob_cli.specs.Words.{Meaning, asks, help, is_dashes, is_help_flag, is_text, meaning_of_command, meaning_of_form, meaning_of_other, topic, usage}
+use Rattle.dob_cli.specs.Words.{version}
 use Rattle.dob_cli.specs.Shapes.{Finds, dobutsu_app}
 use Rattle.dob_cli.proofs.Lexing.{flip_bytes, or_false}
 use Rattle.dob_cli.proofs.Turns.{KnowsHelp, help_flag, is_usage, none, or_else_usage}
@@ -65,7 +66,8 @@ helps w word rest e = rw e refl
 refuses : (w : Walk) (word : Text) (rest : List Text) → is_usage (turn_fault top names w word) ≡ true → is_usage (kinds_at w (word ∷ rest)) ≡ true
 unfolding walk_fault
 refuses w word rest fails =
-    or_else_usage (or_else (turn_fault top names w word) (walk_fault top names (walked top.rules names w word) rest)) (ending (fold (walked top.rules names) w (word ∷ rest)))
+    or_else_usage (or_else (turn_fault top names w word) (walk_fault top names (walked top.rules names w word) rest))
+    (ending (fold (walked top.rules names) w (word ∷ rest)))
     (or_else_usage (turn_fault top names w word) (walk_fault top names (walked top.rules names w word) rest) fails)
 
 or_else_nil : (k : Kinds) → or_else k [] ≡ k
@@ -125,7 +127,8 @@ Fits version kinds met = ⊥
 abbrev FitsAt : Meaning → List Text → Type 0
 FitsAt m words = Fits m (kinds_at start words) (subcommand_of dobutsu_app words)
 
-module _ (f : Form) (is : IsTaken f) (enters : IsEntered f) (among : (name : Text) (texts : List Text) (met : Option (Text × List Row)) → (f.name ≡ name) × Finds f texts met → IsMet forms name texts met) where
+module _ (f : Form) (is : IsTaken f) (enters : IsEntered f)
+    (among : (name : Text) (texts : List Text) (met : Option (Text × List Row)) → (f.name ≡ name) × Finds f texts met → IsMet forms name texts met) where
   steps : (rest : List Text) → fold (walked top.rules names) start (f.name ∷ rest) ≡ entered_at f.name rest
   steps rest = ap (λ w. fold (walked top.rules names) w rest) enters.walks ∙ sym (walk_stopped top.rules names start f.name [] rest)
 
@@ -209,12 +212,14 @@ other_fits word rest differs = go (bytes_eq (codes "help") word) (is_help_flag w
     go : (h a b d : Bool) → bytes_eq (codes "help") word ≡ h → is_help_flag word ≡ a → is_text word ≡ b → is_dashes word ≡ d
         → (more : List Text) → FitsAt (cond h topic (cond a help usage)) (word ∷ more)
     go true a b d names_help asks_help text e more =
-        subst (λ w. kinds_at start (w ∷ more) ≡ kind.DisplayHelp ∷ kind.InvalidSubcommand ∷ []) ((bytes_eq-Decides (codes "help") word).0 names_help) (help_kinds more)
+        subst (λ w. kinds_at start (w ∷ more) ≡ kind.DisplayHelp ∷ kind.InvalidSubcommand ∷ []) ((bytes_eq-Decides (codes "help") word).0 names_help)
+        (help_kinds more)
     go false true b d names_help asks_help text e more =
         helps start word more (help_turn top names [] None 1 word none (no_subcommand word differs names_help) refl knows asks_help)
     go false false true d names_help asks_help text e more =
         refuses start word more (rw (text_turn top names [] None 1 word (no_subcommand word differs names_help) refl text) refl)
-    go false false false true names_help asks_help text e [] = subst (λ w. is_usage (kinds_at start (w ∷ [])) ≡ true) ((bytes_eq-Decides (codes "--") word).0 e) only_dashes
+    go false false false true names_help asks_help text e [] =
+        subst (λ w. is_usage (kinds_at start (w ∷ [])) ≡ true) ((bytes_eq-Decides (codes "--") word).0 e) only_dashes
     go false false false true names_help asks_help text e (v ∷ more) =
         subst (λ w. is_usage (kinds_at start (w ∷ v ∷ more)) ≡ true) ((bytes_eq-Decides (codes "--") word).0 e) (dashes_more v more)
     go false false false false names_help asks_help text e more = refuses start word more
@@ -225,13 +230,15 @@ pub words_fit : (words : List Text) → Fits (meaning_of_command words) (fault_o
 words_fit [] = no_words
 words_fit (word ∷ rest) = go forms all_fit (other_fits word rest)
   where
-    go : (fs : List Form) → EachForm (λ f. (more : List Text) → FitsAt (meaning_of_form f more) (f.name ∷ more)) fs → (NamesNone word fs → FitsAt (meaning_of_other word) (word ∷ rest))
+    go : (fs : List Form) → EachForm (λ f. (more : List Text) → FitsAt (meaning_of_form f more) (f.name ∷ more)) fs
+        → (NamesNone word fs → FitsAt (meaning_of_other word) (word ∷ rest))
         → FitsAt (option_map_or (λ f. meaning_of_form f rest) (find (λ f. bytes_eq f.name word) fs) (meaning_of_other word)) (word ∷ rest)
     go [] each other = other tt
     go (f ∷ fs) each other = by (bytes_eq f.name word) refl (λ d. go fs each.1 (λ more. other (d, more)))
       where
         by : (b : Bool) → bytes_eq f.name word ≡ b
-            → (bytes_eq f.name word ≡ false → FitsAt (option_map_or (λ x. meaning_of_form x rest) (find (λ x. bytes_eq x.name word) fs) (meaning_of_other word)) (word ∷ rest))
+            → (bytes_eq f.name word ≡ false
+            → FitsAt (option_map_or (λ x. meaning_of_form x rest) (find (λ x. bytes_eq x.name word) fs) (meaning_of_other word)) (word ∷ rest))
             → FitsAt (option_map_or (λ x. meaning_of_form x rest) (cond b (Some f) (find (λ x. bytes_eq x.name word) fs)) (meaning_of_other word)) (word ∷ rest)
         by true e later = subst (λ w. FitsAt (meaning_of_form f rest) (w ∷ rest)) ((bytes_eq-Decides f.name word).0 e) (each.0 rest)
         by false e later = later e

@@ -1,6 +1,7 @@
 -- How `clap` reads the words after the name of a subcommand, for any form. A further subcommand needs a record
 -- `IsTaken` of its form, each field of which is `refl` (proofs/Taken.antt).
-use Rattle.std.proofs.Common.{◌≡◌, ◌∙◌, ℕ, ◌+◌, min, Bool, refl, sym, ap, subst, cond, codes, true, false, [], ◌∷◌, ◌++◌, List, Option, Some, None, map, true≢false}
+use Rattle.std.proofs.Common.{◌≡◌, ◌∙◌, ℕ, ◌+◌, min, Bool, refl, sym, ap, subst, cond, codes, true, false, [], ◌∷◌, ◌++◌, List, Option, Some, None, map}
+use Rattle.std.proofs.Common.{true≢false}
 use Rattle.std.specs.Prelude.{is_some, not, find, fold, option_map, ◌&&◌, ◌||◌, ◌==◌}
 use Rattle.std.specs.Option.{option_map_or}
 use Rattle.std.specs.List.{after_first, list_any}
@@ -8,16 +9,21 @@ use Rattle.std.specs.Str.{bytes_eq}
 use Rattle.std.proofs.lemmas.Slice.Eq.{bytes_eq-Decides}
 use Rattle.clap.specs.Lexer.{usize_max}
 use Rattle.clap.specs.Words.{first_of}
-use Rattle.clap.specs.Walk.{rows_after, value as a_value, is_pending, with_default, Held, Row, Rule, Waiting, Walk, arg_by_id, arg_by_index, arg_by_long, arg_by_short, finished, idle, next_position, nothing_held, option as waits_for, positional as several, settled, settled_rows, subcommand_met, walk_from, walked}
+use Rattle.clap.specs.Walk.{rows_after, value as a_value, is_pending, with_default, Held, Row, Rule, Waiting, Walk, arg_by_id, arg_by_index, arg_by_long}
+use Rattle.clap.specs.Walk.{arg_by_short, finished, idle, next_position, nothing_held, option as waits_for, positional as several, settled, settled_rows}
+use Rattle.clap.specs.Walk.{subcommand_met, walk_from, walked}
 use Rattle.clap.specs.Simple.{Shape, built_leaf, inherited, marked_built, with_leaf_noted}
 use Rattle.clap.specs.Takes.{is_given}
 use Rattle.clap.specs.Kinds.{Kinds, or_else}
 use Rattle.clap.specs.Faults.{check_fault, defaults_fault, level_fault, settle_fault, step_fault, turn_fault, walk_fault}
 use Rattle.clap.specs.declared.error.kind.ErrorKind.TheVariants as kind
 use Rattle.dob_cli.specs.Forms.{Form, labels}
-use Rattle.dob_cli.specs.Words.{Given, Meaning, Stand, Text, after_dashes, after_part, after_word, asked, asks, at_end, behind, between, call, dashes, ended, help, is_dashes, is_help_flag, is_text, label_of, meaning_of_form, name_in, once, option, option_part, placed, text, text_of, texts_of, topic, unknown, usage, valued, version, wants}
+use Rattle.dob_cli.specs.Words.{Given, Meaning, Stand, Text, after_dashes, after_part, after_word, asked, asks, at_end, behind, between, call, dashes, ended}
+use Rattle.dob_cli.specs.Words.{help, is_dashes, is_help_flag, is_text, label_of, meaning_of_form, name_in, once, option, option_part, placed, text, text_of}
+use Rattle.dob_cli.specs.Words.{texts_of, topic, unknown, usage, valued, version, wants}
 use Rattle.dob_cli.specs.Shapes.{bare_app, form_app}
-use Rattle.dob_cli.proofs.Lexing.{View, empty as no_byte, letter as a_letter, hyphen as one_hyphen, dashes as two_hyphens, long as a_long, short as a_short, flip_bytes, long_name, long_short, no_first, flag_letter, or_false, view}
+use Rattle.dob_cli.proofs.Lexing.{View, empty as no_byte, letter as a_letter, hyphen as one_hyphen, dashes as two_hyphens, long as a_long, short as a_short}
+use Rattle.dob_cli.proofs.Lexing.{flip_bytes, long_name, long_short, no_first, flag_letter, or_false, view}
 use Rattle.dob_cli.proofs.Turns.{KnowsHelp, help_flag, held, is_usage, or_else_usage}
 use Rattle.dob_cli.proofs.Steps.{closed_at, failing_turn, help_turn, open_at, other_turn, text_taken, text_turn, text_turn_at, text_walked, waiting_at}
 use Rattle.dob_cli.proofs.Texts.{Each, Looked, defaults_none, looked, no_faults, rows_of, text_arg, use_passes, use_twice, used_fresh}
@@ -61,7 +67,8 @@ long_options : (os : List (Text × Text)) (more : List Rule) (name : Text)
 long_options [] more name = refl
 long_options (o ∷ os) more name = go (bytes_eq o.0 name) (long_options os more name)
   where
-    go : (b : Bool) → arg_by_long (map option_arg os ++ more) name ≡ option_map_or (λ x. Some (option_arg x)) (find (λ x. bytes_eq x.0 name) os) (arg_by_long more name)
+    go : (b : Bool)
+        → arg_by_long (map option_arg os ++ more) name ≡ option_map_or (λ x. Some (option_arg x)) (find (λ x. bytes_eq x.0 name) os) (arg_by_long more name)
         → cond (b || false) (Some (option_arg o)) (arg_by_long (map option_arg os ++ more) name)
         ≡ option_map_or (λ x. Some (option_arg x)) (cond b (Some o) (find (λ x. bytes_eq x.0 name) os)) (arg_by_long more name)
     go true rec = refl
@@ -107,7 +114,8 @@ module _ (f : Form) (is : IsTaken f) where
   help_by_long : (name : Text) → arg_by_long places name ≡ cond (bytes_eq (codes "help") name) (Some help_flag) None
   help_by_long name = long_placed 1 f.positions (help_flag ∷ []) name ∙ ap (λ b. cond b (Some help_flag) None) (or_false (bytes_eq (codes "help") name))
 
-  by_long : (name : Text) → arg_by_long rules name ≡ option_map_or (λ o. Some (option_arg o)) (found name) (cond (bytes_eq (codes "help") name) (Some help_flag) None)
+  by_long : (name : Text)
+      → arg_by_long rules name ≡ option_map_or (λ o. Some (option_arg o)) (found name) (cond (bytes_eq (codes "help") name) (Some help_flag) None)
   by_long name = long_options f.options places name ∙ ap (option_map_or (λ o. Some (option_arg o)) (found name)) (help_by_long name)
 
   by_short : (x : ℕ) → arg_by_short rules x ≡ cond (104 == x) (Some help_flag) None
@@ -121,7 +129,8 @@ module _ (f : Form) (is : IsTaken f) where
   other_by_long name e = by_long name ∙ go (found name) e
     where
       go : (o : Option (Text × Text)) → is_some (option_map (λ x. x.1) o) ≡ false
-          → option_map_or (λ x. Some (option_arg x)) o (cond (bytes_eq (codes "help") name) (Some help_flag) None) ≡ cond (bytes_eq (codes "help") name) (Some help_flag) None
+          → option_map_or (λ x. Some (option_arg x)) o (cond (bytes_eq (codes "help") name) (Some help_flag) None)
+          ≡ cond (bytes_eq (codes "help") name) (Some help_flag) None
       go None e = refl
       go (Some o) e = absurd (true≢false e)
 
@@ -143,7 +152,8 @@ module _ (f : Form) (is : IsTaken f) where
     }
 
     -- a second text of one label
-    twice_fails : (given : Given) (t u : Text) → text_of label given ≡ Some u → is_usage (settle_fault rules false (held (rows_of given) (Some (label, t ∷ [])))) ≡ true
+    twice_fails : (given : Given) (t u : Text) → text_of label given ≡ Some u
+        → is_usage (settle_fault rules false (held (rows_of given) (Some (label, t ∷ [])))) ≡ true
     twice_fails given t u there = rw (known, use_twice long index label t u given there) refl
 
     -- an option without its text
@@ -158,7 +168,8 @@ module _ (f : Form) (is : IsTaken f) where
 
   -- after the walk
   abbrev ending : Walk → Kinds
-  ending e = or_else (settle_fault rules false e.held) (or_else (defaults_fault (settled rules e.held).rows rules) (check_fault s (finished rules e.held) false))
+  ending e =
+      or_else (settle_fault rules false e.held) (or_else (defaults_fault (settled rules e.held).rows rules) (check_fault s (finished rules e.held) false))
 
   -- from a state of the walk on
   abbrev kinds_at : Walk → List Text → Kinds
@@ -186,11 +197,14 @@ module _ (f : Form) (is : IsTaken f) where
   Reached m w words = Comes m (kinds_at w words) (rows_at w words)
 
   -- one word passes
-  passes : (m : Meaning) (w w2 : Walk) (word : Text) (rest : List Text) → turn_fault s [] w word ≡ [] → walked rules [] w word ≡ w2 → Reached m w2 rest → Reached m w (word ∷ rest)
+  passes : (m : Meaning) (w w2 : Walk) (word : Text) (rest : List Text) → turn_fault s [] w word ≡ [] → walked rules [] w word ≡ w2 → Reached m w2 rest
+      → Reached m w (word ∷ rest)
   unfolding walk_fault
   passes m w w2 word rest fits goes r =
       let at_next : Reached m (walked rules [] w word) rest = subst (λ v. Reached m v rest) (sym goes) r in
-      subst (λ (k : Kinds). Comes m (or_else (or_else k (walk_fault s [] (walked rules [] w word) rest)) (ending (fold (walked rules []) (walked rules [] w word) rest)))
+      subst
+      (λ (k : Kinds).
+      Comes m (or_else (or_else k (walk_fault s [] (walked rules [] w word) rest)) (ending (fold (walked rules []) (walked rules [] w word) rest)))
       (rows_at (walked rules [] w word) rest)) (sym fits) at_next
 
   -- one word asks for help
@@ -255,8 +269,11 @@ module _ (f : Form) (is : IsTaken f) where
       where
         go : (b : Bool) → is_dashes u ≡ b → is_usage (kinds_at (waiting_at waiting rows pending p) (u ∷ more)) ≡ true
         go true d = subst (λ x. is_usage (kinds_at (waiting_at waiting rows pending p) (x ∷ more)) ≡ true) ((bytes_eq-Decides (codes "--") u).0 d)
-            (passes usage (waiting_at waiting rows pending p) (behind_at waiting rows pending p) (codes "--") more (passing waiting) (closes waiting) (closed_fails waiting more))
-        go false d = refuses (waiting_at waiting rows pending p) u more (failing_turn s [] rows pending p waiting u (none_met waiting u) refl fails e (flip_bytes (codes "--") u false d))
+            (passes usage (waiting_at waiting rows pending p) (behind_at waiting rows pending p) (codes "--") more (passing waiting) (closes waiting)
+            (closed_fails waiting more))
+        go false d =
+            refuses (waiting_at waiting rows pending p) u more
+            (failing_turn s [] rows pending p waiting u (none_met waiting u) refl fails e (flip_bytes (codes "--") u false d))
 
     failing : (words : List Text) → is_usage (kinds_at (open_at rows pending p) words) ≡ true
     failing [] = ends_failing (open_at rows pending p) fails
@@ -280,14 +297,17 @@ module _ (f : Form) (is : IsTaken f) where
 
       go : (o : Option (List Text)) → Looked (labels f) given o
           → Comes (option_map_or (asks f.name) o usage) (ending_of (held rows pending)) (finished rules (held rows pending))
-      go (Some texts) l = (refl, rw (good.settles, no_faults rules (settled_rows rules pending rows) is.defaults, last, is.required (rows_of given), l.0) refl, rw last l.1)
+      go (Some texts) l =
+          (refl, rw (good.settles, no_faults rules (settled_rows rules pending rows) is.defaults, last, is.required (rows_of given), l.0) refl, rw last l.1)
       go None l = rw (good.settles, no_faults rules (settled_rows rules pending rows) is.defaults, last, is.required (rows_of given), l) refl
 
-  open_end : (rows : List Row) (pending : Option (Text × List Text)) (p : ℕ) (given : Given) → Good rows pending given → Reached (asked f given) (open_at rows pending p) []
+  open_end : (rows : List Row) (pending : Option (Text × List Text)) (p : ℕ) (given : Given) → Good rows pending given
+      → Reached (asked f given) (open_at rows pending p) []
   unfolding walk_fault
   open_end rows pending p given good = good_end rows pending given good
 
-  closed_end : (rows : List Row) (pending : Option (Text × List Text)) (p : ℕ) (given : Given) → Good rows pending given → Reached (asked f given) (closed_at rows pending p) []
+  closed_end : (rows : List Row) (pending : Option (Text × List Text)) (p : ℕ) (given : Given) → Good rows pending given
+      → Reached (asked f given) (closed_at rows pending p) []
   unfolding walk_fault
   closed_end rows pending p given good = good_end rows pending given good
 
@@ -309,11 +329,14 @@ module _ (f : Form) (is : IsTaken f) where
 
   -- where `clap`'s walk stands, by what the words so far come to
   data Rel : Stand → Walk → Type 0 where
-    rel_between : (rows : List Row) (pending : Option (Text × List Text)) (p : ℕ) (given : Given) (left : List Text) → Good rows pending given → ArePlaced rules p left
+    rel_between : (rows : List Row) (pending : Option (Text × List Text)) (p : ℕ) (given : Given) (left : List Text) → Good rows pending given
+        → ArePlaced rules p left
         → Rel (between given left) (open_at rows pending p)
-    rel_wants : (long : Option Text) (index : Option ℕ) (label : Text) (p : ℕ) (given : Given) (left : List Text) → arg_by_id rules label ≡ Some (text_arg long index label)
+    rel_wants : (long : Option Text) (index : Option ℕ) (label : Text) (p : ℕ) (given : Given) (left : List Text)
+        → arg_by_id rules label ≡ Some (text_arg long index label)
         → text_of label given ≡ None → ArePlaced rules p left → Rel (wants label given left) (waiting_at (waits_for label) (rows_of given) (Some (label, [])) p)
-    rel_behind : (rows : List Row) (pending : Option (Text × List Text)) (p : ℕ) (given : Given) (left : List Text) → Good rows pending given → ArePlaced rules p left
+    rel_behind : (rows : List Row) (pending : Option (Text × List Text)) (p : ℕ) (given : Given) (left : List Text) → Good rows pending given
+        → ArePlaced rules p left
         → Rel (behind given left) (closed_at rows pending p)
 
   -- the rest goes on so
@@ -326,8 +349,10 @@ module _ (f : Form) (is : IsTaken f) where
     Stepped stand w = Reached (at_end f (fold next_stand stand rest)) w (word ∷ rest)
 
     -- a text that an option wants
-    wanted_step : (name : Option Text) (index : Option ℕ) (label : Text) (p : ℕ) (given : Given) (left : List Text) → arg_by_id rules label ≡ Some (text_arg name index label)
-        → text_of label given ≡ None → ArePlaced rules p left → Stepped (next_stand (wants label given left) word) (waiting_at (waits_for label) (rows_of given) (Some (label, [])) p)
+    wanted_step : (name : Option Text) (index : Option ℕ) (label : Text) (p : ℕ) (given : Given) (left : List Text)
+        → arg_by_id rules label ≡ Some (text_arg name index label)
+        → text_of label given ≡ None → ArePlaced rules p left
+        → Stepped (next_stand (wants label given left) word) (waiting_at (waits_for label) (rows_of given) (Some (label, [])) p)
     wanted_step name index label p given left known fresh at = go (is_text word) refl
       where
         w : Walk
@@ -336,23 +361,29 @@ module _ (f : Form) (is : IsTaken f) where
         same : bytes_eq label label ≡ true
         same = (bytes_eq-Decides label label).1 refl
 
-        go : (b : Bool) → is_text word ≡ b → Reached (at_end f (fold next_stand (cond b (between (given ++ (label, word) ∷ []) left) (ended usage)) rest)) w (word ∷ rest)
+        go : (b : Bool) → is_text word ≡ b
+            → Reached (at_end f (fold next_stand (cond b (between (given ++ (label, word) ∷ []) left) (ended usage)) rest)) w (word ∷ rest)
         go true e = passes _ w (open_at (rows_of given) (Some (label, word ∷ [])) p) word rest
             (text_turn_at s [] (rows_of given) (Some (label, [])) p (waits_for label) word refl refl e)
             (text_taken s [] (rows_of given) (Some (label, [])) p (waits_for label) word refl e ∙ rw (known, same) refl)
-            (goes _ _ (rel_between (rows_of given) (Some (label, word ∷ [])) p (given ++ (label, word) ∷ []) left (good_pending name index label known given word fresh) at))
+            (goes _ _
+            (rel_between (rows_of given) (Some (label, word ∷ [])) p (given ++ (label, word) ∷ []) left
+            (good_pending name index label known given word fresh) at))
         go false e = ends_so usage w (word ∷ rest) rest
             (no_text (rows_of given) (Some (label, [])) (wanted_fails name index label known (rows_of given)) p left at (waits_for label) word rest e)
 
     -- a text for the next place, or one too many; `stand` and `at` tell whether it comes behind `--`
     place_step : (stand : Given → List Text → Stand) (at_walk : List Row → Option (Text × List Text) → ℕ → Walk)
-        → ((rows : List Row) (pending : Option (Text × List Text)) (p : ℕ) (given : Given) (left : List Text) → Good rows pending given → ArePlaced rules p left → Rel (stand given left) (at_walk rows pending p))
-        → ((rows : List Row) (pending : Option (Text × List Text)) (p : ℕ) (left : List Text) → is_usage (settle_fault rules false (held rows pending)) ≡ true → ArePlaced rules p left
+        → ((rows : List Row) (pending : Option (Text × List Text)) (p : ℕ) (given : Given) (left : List Text) → Good rows pending given → ArePlaced rules p left
+        → Rel (stand given left) (at_walk rows pending p))
+        → ((rows : List Row) (pending : Option (Text × List Text)) (p : ℕ) (left : List Text) → is_usage (settle_fault rules false (held rows pending)) ≡ true
+        → ArePlaced rules p left
         → is_usage (kinds_at (at_walk rows pending p) rest) ≡ true)
         → (rows : List Row) (pending : Option (Text × List Text)) (p : ℕ) (given : Given) (left : List Text) → Good rows pending given → ArePlaced rules p left
         → turn_fault s [] (at_walk rows pending p) word ≡ step_fault s p (held rows pending) a_value
         → ((label : Text) → arg_by_index rules p ≡ Some (text_arg None (Some p) label)
-        → walked rules [] (at_walk rows pending p) word ≡ at_walk (settled_rows rules pending rows) (Some (label, word ∷ [])) (next_position (text_arg None (Some p) label) p))
+        → walked rules [] (at_walk rows pending p) word
+        ≡ at_walk (settled_rows rules pending rows) (Some (label, word ∷ [])) (next_position (text_arg None (Some p) label) p))
         → Stepped (placed stand given left word) (at_walk rows pending p)
     place_step stand at_walk related failing_on rows pending p given [] good at turn walks =
         ends_so usage (at_walk rows pending p) (word ∷ rest) rest (refuses (at_walk rows pending p) word rest (rw (turn, at) refl))
@@ -368,27 +399,34 @@ module _ (f : Form) (is : IsTaken f) where
         there = walks label at.0 ∙ ap (λ r. at_walk r (Some (label, word ∷ [])) next) good.kept
 
         go : (o : Option Text) → text_of label given ≡ o
-            → Reached (at_end f (fold next_stand (cond (is_some o) (ended usage) (stand (given ++ (label, word) ∷ []) left)) rest)) (at_walk rows pending p) (word ∷ rest)
+            → Reached (at_end f (fold next_stand (cond (is_some o) (ended usage) (stand (given ++ (label, word) ∷ []) left)) rest)) (at_walk rows pending p)
+            (word ∷ rest)
         go None e = passes _ (at_walk rows pending p) (at_walk (rows_of given) (Some (label, word ∷ [])) next) word rest fits there
-            (goes _ _ (related (rows_of given) (Some (label, word ∷ [])) next (given ++ (label, word) ∷ []) left (good_pending None (Some p) label at.1 given word e) at.2))
+            (goes _ _
+            (related (rows_of given) (Some (label, word ∷ [])) next (given ++ (label, word) ∷ []) left
+            (good_pending None (Some p) label at.1 given word e) at.2))
         go (Some u) e = ends_so usage (at_walk rows pending p) (word ∷ rest) rest
             (passes usage (at_walk rows pending p) (at_walk (rows_of given) (Some (label, word ∷ [])) next) word rest fits there
             (failing_on (rows_of given) (Some (label, word ∷ [])) next left (twice_fails None (Some p) label at.1 given word u e) at.2))
 
-    behind_step : (rows : List Row) (pending : Option (Text × List Text)) (p : ℕ) (given : Given) (left : List Text) → Good rows pending given → ArePlaced rules p left
+    behind_step : (rows : List Row) (pending : Option (Text × List Text)) (p : ℕ) (given : Given) (left : List Text) → Good rows pending given
+        → ArePlaced rules p left
         → Stepped (placed behind given left word) (closed_at rows pending p)
     unfolding walked
     behind_step rows pending p given left good at =
         place_step behind closed_at rel_behind (λ r q i ls fails places. closed_fails r q fails i ls places idle rest) rows pending p given left good at refl
         (λ label known. rw (known, and_false (is_pending (text_arg None (Some p) label) pending)) refl)
 
-    text_step : (rows : List Row) (pending : Option (Text × List Text)) (p : ℕ) (given : Given) (left : List Text) → Good rows pending given → ArePlaced rules p left → is_text word ≡ true
+    text_step : (rows : List Row) (pending : Option (Text × List Text)) (p : ℕ) (given : Given) (left : List Text) → Good rows pending given
+        → ArePlaced rules p left → is_text word ≡ true
         → Stepped (placed between given left word) (open_at rows pending p)
     text_step rows pending p given left good at e =
-        place_step between open_at rel_between (λ r q i ls fails places. failing r q fails i ls places rest) rows pending p given left good at (text_turn s [] rows pending p word refl refl e)
+        place_step between open_at rel_between (λ r q i ls fails places. failing r q fails i ls places rest) rows pending p given left good at
+        (text_turn s [] rows pending p word refl refl e)
         (λ label known. text_walked s [] rows pending p word refl e ∙ rw (known, and_false (is_pending (text_arg None (Some p) label) pending)) refl)
 
-    module _ (rows : List Row) (pending : Option (Text × List Text)) (p : ℕ) (given : Given) (left : List Text) (good : Good rows pending given) (at : ArePlaced rules p left) where
+    module _ (rows : List Row) (pending : Option (Text × List Text)) (p : ℕ) (given : Given) (left : List Text) (good : Good rows pending given)
+        (at : ArePlaced rules p left) where
       abbrev here : Walk
       here = open_at rows pending p
 
@@ -398,15 +436,21 @@ module _ (f : Form) (is : IsTaken f) where
           (passes _ here (closed_at rows pending p) (codes "--") rest refl refl (goes _ _ (rel_behind rows pending p given left good at)))
 
       call_step : is_help_flag word ≡ true → Stepped (ended help) here
-      call_step e = ends_so help here (word ∷ rest) rest (helps here word rest (help_turn s [] rows pending p word is_option refl refl (knows_help rows pending given good) e))
+      call_step e =
+          ends_so help here (word ∷ rest) rest
+          (helps here word rest (help_turn s [] rows pending p word is_option refl refl (knows_help rows pending given good) e))
 
       unknown_step : is_option (long_name word) ≡ false → is_text word ≡ false → is_dashes word ≡ false → is_help_flag word ≡ false → Stepped (ended usage) here
       unknown_step own no_text no_dashes no_call = ends_so usage here (word ∷ rest) rest
-          (refuses here word rest (other_turn s [] rows pending p word is_option refl refl (knows_help rows pending given good) own no_text no_call (flip_bytes (codes "--") word false no_dashes)))
+          (refuses here word rest
+          (other_turn s [] rows pending p word is_option refl refl (knows_help rows pending given good) own no_text no_call
+          (flip_bytes (codes "--") word false no_dashes)))
 
   -- what follows a second option of one label
-  again_fails : (name : Option Text) (index : Option ℕ) (label : Text) → arg_by_id rules label ≡ Some (text_arg name index label) → (given : Given) (u : Text) → text_of label given ≡ Some u
-      → (p : ℕ) (left : List Text) → ArePlaced rules p left → (words : List Text) → is_usage (kinds_at (waiting_at (waits_for label) (rows_of given) (Some (label, [])) p) words) ≡ true
+  again_fails : (name : Option Text) (index : Option ℕ) (label : Text) → arg_by_id rules label ≡ Some (text_arg name index label) → (given : Given) (u : Text)
+      → text_of label given ≡ Some u
+      → (p : ℕ) (left : List Text) → ArePlaced rules p left → (words : List Text)
+      → is_usage (kinds_at (waiting_at (waits_for label) (rows_of given) (Some (label, [])) p) words) ≡ true
   again_fails name index label known given u there p left at [] =
       ends_failing (waiting_at (waits_for label) (rows_of given) (Some (label, [])) p) (wanted_fails name index label known (rows_of given))
   again_fails name index label known given u there p left at (v ∷ more) = go (is_text v) refl
@@ -424,7 +468,8 @@ module _ (f : Form) (is : IsTaken f) where
           (failing (rows_of given) (Some (label, v ∷ [])) (twice_fails name index label known given v u there) p left at more)
       go false e = no_text (rows_of given) (Some (label, [])) (wanted_fails name index label known (rows_of given)) p left at (waits_for label) v more e
 
-  module _ (rest : List Text) (goes : Goes rest) (c : ℕ) (cs : Text) (rows : List Row) (pending : Option (Text × List Text)) (p : ℕ) (given : Given) (left : List Text)
+  module _ (rest : List Text) (goes : Goes rest) (c : ℕ) (cs : Text) (rows : List Row) (pending : Option (Text × List Text)) (p : ℕ) (given : Given)
+      (left : List Text)
       (good : Good rows pending given) (at : ArePlaced rules p left) where
     abbrev word : Text
     word = 45 ∷ 45 ∷ c ∷ cs
@@ -443,7 +488,9 @@ module _ (f : Form) (is : IsTaken f) where
 
     module _ (o : Text × Text) (is_found : found (name_in (c ∷ cs)) ≡ Some o) where
       named : arg_by_long rules (name_in (c ∷ cs)) ≡ Some (option_arg o)
-      named = by_long (name_in (c ∷ cs)) ∙ ap (λ m. option_map_or (λ x. Some (option_arg x)) m (cond (bytes_eq (codes "help") (name_in (c ∷ cs))) (Some help_flag) None)) is_found
+      named =
+          by_long (name_in (c ∷ cs))
+          ∙ ap (λ m. option_map_or (λ x. Some (option_arg x)) m (cond (bytes_eq (codes "help") (name_in (c ∷ cs))) (Some help_flag) None)) is_found
 
       labelled : arg_by_id rules o.1 ≡ Some (option_arg o)
       labelled = each_found (λ x. arg_by_id rules x.1 ≡ Some (option_arg x)) (λ x. bytes_eq x.0 (name_in (c ∷ cs))) f.options o is.options is_found
@@ -481,17 +528,23 @@ module _ (f : Form) (is : IsTaken f) where
     long_step no_text no_dashes no_call = go (found (name_in (c ∷ cs))) has_equals refl refl
       where
         go : (m : Option (Text × Text)) (b : Bool) → found (name_in (c ∷ cs)) ≡ m → has_equals ≡ b
-            → Led (after_part given left word (option_map_or (λ label. option_map_or (valued label) (cond b (Some after_equals) None) (option label)) (option_map (λ x. x.1) m) unknown))
-        go None b e eq = unknown_step rest goes word rows pending p given left good at (ap (λ (x : Option (Text × Text)). is_some (option_map (λ y. y.1) x)) e) no_text no_dashes no_call
+            → Led (after_part given left word
+            (option_map_or (λ label. option_map_or (valued label) (cond b (Some after_equals) None) (option label)) (option_map (λ x. x.1) m) unknown))
+        go None b e eq =
+            unknown_step rest goes word rows pending p given left good at
+            (ap (λ (x : Option (Text × Text)). is_some (option_map (λ y. y.1) x)) e) no_text no_dashes no_call
         go (Some o) false e eq = option_step o e eq
         go (Some o) true e eq = valued_step o e eq
 
   -- a word that begins with a hyphen, is not `--` and asks for no help
-  hyphen_step : (rest : List Text) → Goes rest → (word : Text) → View word → (rows : List Row) (pending : Option (Text × List Text)) (p : ℕ) (given : Given) (left : List Text)
+  hyphen_step : (rest : List Text) → Goes rest → (word : Text) → View word
+      → (rows : List Row) (pending : Option (Text × List Text)) (p : ℕ) (given : Given) (left : List Text)
       → Good rows pending given → ArePlaced rules p left → is_text word ≡ false → is_dashes word ≡ false → is_help_flag word ≡ false
-      → Reached (at_end f (fold next_stand (after_part given left word (option_map_or (option_part f.options) (after_dashes word) unknown)) rest)) (open_at rows pending p) (word ∷ rest)
+      → Reached (at_end f (fold next_stand (after_part given left word (option_map_or (option_part f.options) (after_dashes word) unknown)) rest))
+      (open_at rows pending p) (word ∷ rest)
   hyphen_step rest goes _ no_byte rows pending p given left good at t d c = absurd (true≢false t)
-  hyphen_step rest goes _ (a_letter x more e) rows pending p given left good at t d c = absurd (true≢false (sym (ap (λ (o : Option ℕ). not (is_some o)) (flag_letter x more e)) ∙ t))
+  hyphen_step rest goes _ (a_letter x more e) rows pending p given left good at t d c =
+      absurd (true≢false (sym (ap (λ (o : Option ℕ). not (is_some o)) (flag_letter x more e)) ∙ t))
   hyphen_step rest goes _ one_hyphen rows pending p given left good at t d c = absurd (true≢false (sym (ap (λ (o : Option ℕ). not (is_some o)) no_first) ∙ t))
   hyphen_step rest goes _ two_hyphens rows pending p given left good at t d c = absurd (true≢false d)
   hyphen_step rest goes _ (a_long x xs) rows pending p given left good at t d c = long_step rest goes x xs rows pending p given left good at t d c
@@ -507,7 +560,9 @@ module _ (f : Form) (is : IsTaken f) where
   stepped rest goes word _ _ (rel_between rows pending p given left good at) = go (is_text word) (is_dashes word) (is_help_flag word) refl refl refl
     where
       go : (a b c : Bool) → is_text word ≡ a → is_dashes word ≡ b → is_help_flag word ≡ c
-          → Reached (at_end f (fold next_stand (after_part given left word (cond a text (cond b dashes (cond c call (option_map_or (option_part f.options) (after_dashes word) unknown))))) rest))
+          → Reached (at_end f
+          (fold next_stand
+          (after_part given left word (cond a text (cond b dashes (cond c call (option_map_or (option_part f.options) (after_dashes word) unknown))))) rest))
           (open_at rows pending p) (word ∷ rest)
       go true b c t d h = text_step rest goes word rows pending p given left good at t
       go false true c t d h = dashes_step rest goes word rows pending p given left good at d
@@ -516,7 +571,8 @@ module _ (f : Form) (is : IsTaken f) where
 
   ends_wanting : (label : Text) (p : ℕ) (given : Given) (name : Option Text) (index : Option ℕ) → arg_by_id rules label ≡ Some (text_arg name index label)
       → Reached usage (waiting_at (waits_for label) (rows_of given) (Some (label, [])) p) []
-  ends_wanting label p given name index known = ends_failing (waiting_at (waits_for label) (rows_of given) (Some (label, [])) p) (wanted_fails name index label known (rows_of given))
+  ends_wanting label p given name index known =
+      ends_failing (waiting_at (waits_for label) (rows_of given) (Some (label, [])) p) (wanted_fails name index label known (rows_of given))
 
   going : (words : List Text) → Goes words
   going [] _ _ (rel_between rows pending p given left good at) = open_end rows pending p given good

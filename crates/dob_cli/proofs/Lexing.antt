@@ -1,5 +1,6 @@
 -- What `clap`'s lexer makes of a word, by the word's first bytes.
-use Rattle.std.proofs.Common.{◌≡◌, ◌∙◌, ◌+◌, ◌==◌, ◌||◌, ℕ, Bool, arith, suc, take, refl, sym, ap, subst, codes, true, false, [], ◌∷◌, Option, Some, None, true≢false}
+use Rattle.std.proofs.Common.{◌≡◌, ◌∙◌, ◌+◌, ◌==◌, ◌||◌, ℕ, Bool, arith, suc, take, refl, sym, ap, subst, codes, true, false, [], ◌∷◌, Option, Some, None}
+use Rattle.std.proofs.Common.{true≢false}
 use Rattle.std.specs.Prelude.{slice_get, is_some, not}
 use Rattle.std.specs.Str.{bytes_eq, chars}
 use Rattle.std.specs.List.{before_first}

@@ -1,5 +1,6 @@
 -- The lines that ask for something are just those that the words' meaning says.
-use Rattle.std.proofs.Common.{◌≡◌, ◌∙◌, ◌+◌, ℕ, Bool, arith, suc, drop, refl, sym, ap, subst, cond, codes, inl, inr, true, false, [], ◌∷◌, ◌++◌, List, Option, Some, None, append_assoc, append-nil, true≢false}
+use Rattle.std.proofs.Common.{◌≡◌, ◌∙◌, ◌+◌, ℕ, Bool, arith, suc, drop, refl, sym, ap, subst, cond, codes, inl, inr, true, false, [], ◌∷◌, ◌++◌, List, Option}
+use Rattle.std.proofs.Common.{Some, None, append_assoc, append-nil, true≢false}
 use Rattle.std.specs.Prelude.{find, fold, is_some, option_map, ◌||◌, ◌&&◌, ◌==◌, unwrap_or}
 use Rattle.std.specs.Option.{option_map_or}
 use Rattle.std.specs.List.{after_first, before_first}
@@ -8,7 +9,9 @@ use Rattle.std.proofs.lemmas.Slice.Eq.{bytes_eq-Decides}
 use Rattle.std.proofs.lemmas.Bool.Decides.{Decides-eqb}
 use Rattle.clap.specs.Lexer.{has_byte}
 use Rattle.dob_cli.specs.Forms.{Form, Text, check_form, count_form, forms, labels, line_form, probe_form, value_form}
-use Rattle.dob_cli.specs.Words.{Given, Meaning, Stand, after_dashes, after_part, after_word, asked, asks, at_end, behind, between, call, dashes, ended, help, is_dashes, is_help_flag, is_text, label_of, meaning_of, meaning_of_form, meaning_of_other, name_in, option, option_part, part_of, placed, text, text_of, texts_of, topic, unknown, usage, valued, version, wants}
+use Rattle.dob_cli.specs.Words.{Given, Meaning, Stand, after_dashes, after_part, after_word, asked, asks, at_end, behind, between, call, dashes, ended, help}
+use Rattle.dob_cli.specs.Words.{is_dashes, is_help_flag, is_text, label_of, meaning_of, meaning_of_form, meaning_of_other, name_in, option, option_part}
+use Rattle.dob_cli.specs.Words.{part_of, placed, text, text_of, texts_of, topic, unknown, usage, valued, version, wants}
 use Rattle.dob_cli.specs.Lines.{AreNew, Behind, Gives, IsAmong, IsLine, by_dashes, by_option, by_place, by_value, next, none, nothing}
 use Rattle.dob_cli.specs.Readings.{ComesFromLine, IsReadingOf, SomeLine, texts_of_order}
 use Rattle.dob_cli.specs.declared.command.Reading.{Reading}
@@ -27,7 +30,8 @@ equals_split : (t : Text) → has_byte 61 t ≡ true → before_first (λ x. x =
 equals_split [] e = absurd (true≢false (sym e))
 equals_split (x ∷ xs) e = go (x == 61) refl e (equals_split xs)
   where
-    go : (b : Bool) → (x == 61) ≡ b → (b || has_byte 61 xs) ≡ true → (has_byte 61 xs ≡ true → before_first (λ y. y == 61) xs ++ 61 ∷ after_first (λ y. y == 61) xs ≡ xs)
+    go : (b : Bool) → (x == 61) ≡ b → (b || has_byte 61 xs) ≡ true
+        → (has_byte 61 xs ≡ true → before_first (λ y. y == 61) xs ++ 61 ∷ after_first (λ y. y == 61) xs ≡ xs)
         → before_first (λ y. y == 61) (x ∷ xs) ++ 61 ∷ after_first (λ y. y == 61) (x ∷ xs) ≡ x ∷ xs
     go true t e rec = rw t (ap (λ y. y ∷ xs) (sym ((Decides-eqb x 61).0 t)))
     go false t e rec = rw (t, take_one, drop_more) (ap (λ ys. x ∷ ys) (rec e))
@@ -72,7 +76,8 @@ module _ (f : Form) (name : Text) (texts : List Text) where
   abbrev Told : Stand → List Text → Type 0
   Told (between before left) words = (more : Given) × Gives f left words more × Came before more
   Told (wants label before left) words =
-      (t : Text) × (rest : List Text) × (more : Given) × (words ≡ t ∷ rest) × (is_text t ≡ true) × Gives f left rest more × Came (before ++ (label, t) ∷ []) more
+      (t : Text) × (rest : List Text) × (more : Given) × (words ≡ t ∷ rest) × (is_text t ≡ true) × Gives f left rest more
+      × Came (before ++ (label, t) ∷ []) more
   Told (behind before left) words = (more : Given) × Behind left words more × Came before more
   Told (ended m) words = m ≡ asks name texts
 
@@ -115,7 +120,8 @@ module _ (f : Form) (name : Text) (texts : List Text) where
     placed_told before [] t e = not_usage (ended_told usage rest e)
     placed_told before (label ∷ left) t e = go (text_of label before) refl e
       where
-        go : (o : Option Text) → text_of label before ≡ o → Led (cond (is_some o) (ended usage) (between (before ++ (label, word) ∷ []) left)) → Told (between before (label ∷ left)) (word ∷ rest)
+        go : (o : Option Text) → text_of label before ≡ o → Led (cond (is_some o) (ended usage) (between (before ++ (label, word) ∷ []) left))
+            → Told (between before (label ∷ left)) (word ∷ rest)
         go (Some u) fresh e = not_usage (ended_told usage rest e)
         go None fresh e =
             let r : Told (between (before ++ (label, word) ∷ []) left) rest = rec (between (before ++ (label, word) ∷ []) left) e in
@@ -125,28 +131,33 @@ module _ (f : Form) (name : Text) (texts : List Text) where
     behind_told before [] e = not_usage (ended_told usage rest e)
     behind_told before (label ∷ left) e = go (text_of label before) refl e
       where
-        go : (o : Option Text) → text_of label before ≡ o → Led (cond (is_some o) (ended usage) (behind (before ++ (label, word) ∷ []) left)) → Told (behind before (label ∷ left)) (word ∷ rest)
+        go : (o : Option Text) → text_of label before ≡ o → Led (cond (is_some o) (ended usage) (behind (before ++ (label, word) ∷ []) left))
+            → Told (behind before (label ∷ left)) (word ∷ rest)
         go (Some u) fresh e = not_usage (ended_told usage rest e)
         go None fresh e =
             let r : Told (behind (before ++ (label, word) ∷ []) left) rest = rec (behind (before ++ (label, word) ∷ []) left) e in
             ((label, word) ∷ r.0, next label word left rest r.0 r.1, came_more label word before r.0 fresh r.2)
 
-    wanted_told : (label : Text) (before : Given) (left : List Text) → Led (next_stand (wants label before left) word) → Told (wants label before left) (word ∷ rest)
+    wanted_told : (label : Text) (before : Given) (left : List Text) → Led (next_stand (wants label before left) word)
+        → Told (wants label before left) (word ∷ rest)
     wanted_told label before left e = go (is_text word) refl e
       where
-        go : (b : Bool) → is_text word ≡ b → Led (cond b (between (before ++ (label, word) ∷ []) left) (ended usage)) → Told (wants label before left) (word ∷ rest)
+        go : (b : Bool) → is_text word ≡ b → Led (cond b (between (before ++ (label, word) ∷ []) left) (ended usage))
+            → Told (wants label before left) (word ∷ rest)
         go false t e = not_usage (ended_told usage rest e)
         go true t e =
             let r : Told (between (before ++ (label, word) ∷ []) left) rest = rec (between (before ++ (label, word) ∷ []) left) e in
             (word, rest, r.0, refl, t, r.1, r.2)
 
-    option_told : (before : Given) (left : List Text) (r : Text) → codes "--" ++ r ≡ word → Led (after_part before left word (option_part f.options r)) → Told (between before left) (word ∷ rest)
+    option_told : (before : Given) (left : List Text) (r : Text) → codes "--" ++ r ≡ word → Led (after_part before left word (option_part f.options r))
+        → Told (between before left) (word ∷ rest)
     option_told before left r is e = go (label_of f.options (name_in r)) (has_byte 61 r) refl refl e
       where
         behind_equals : Text
         behind_equals = after_first (λ x. x == 61) r
 
-        with_option : (label : Text) → label_of f.options r ≡ Some label → (o : Option Text) → text_of label before ≡ o → Led (cond (is_some o) (ended usage) (wants label before left))
+        with_option : (label : Text) → label_of f.options r ≡ Some label → (o : Option Text) → text_of label before ≡ o
+            → Led (cond (is_some o) (ended usage) (wants label before left))
             → Told (between before left) (word ∷ rest)
         with_option label known (Some u) fresh e = not_usage (ended_told usage rest e)
         with_option label known None fresh e =
@@ -157,7 +168,8 @@ module _ (f : Form) (name : Text) (texts : List Text) where
               came_more label q.0 before q.2 fresh q.6,
             )
 
-        with_value : (label : Text) → label_of f.options (name_in r) ≡ Some label → name_in r ++ 61 ∷ behind_equals ≡ r → (o : Option Text) → text_of label before ≡ o
+        with_value : (label : Text) → label_of f.options (name_in r) ≡ Some label → name_in r ++ 61 ∷ behind_equals ≡ r → (o : Option Text)
+            → text_of label before ≡ o
             → Led (cond (is_some o) (ended usage) (between (before ++ (label, behind_equals) ∷ []) left)) → Told (between before left) (word ∷ rest)
         with_value label known split (Some u) fresh e = not_usage (ended_told usage rest e)
         with_value label known split None fresh e =
@@ -169,7 +181,9 @@ module _ (f : Form) (name : Text) (texts : List Text) where
             )
 
         go : (o : Option Text) (b : Bool) → label_of f.options (name_in r) ≡ o → has_byte 61 r ≡ b
-            → Led (after_part before left word (option_map_or (λ label. option_map_or (valued label) (cond b (Some behind_equals) None) (option label)) o unknown)) → Told (between before left) (word ∷ rest)
+            → Led (after_part before left word
+            (option_map_or (λ label. option_map_or (valued label) (cond b (Some behind_equals) None) (option label)) o unknown))
+            → Told (between before left) (word ∷ rest)
         go None b known h e = not_usage (ended_told usage rest e)
         go (Some label) false known h e = with_option label (ap (label_of f.options) (sym (before_none r h)) ∙ known) (text_of label before) refl e
         go (Some label) true known h e = with_value label known (equals_split r h) (text_of label before) refl e
@@ -183,7 +197,8 @@ module _ (f : Form) (name : Text) (texts : List Text) where
     between_told before left e = go (is_text word) (is_dashes word) (is_help_flag word) refl refl e
       where
         go : (a b c : Bool) → is_text word ≡ a → is_dashes word ≡ b
-            → Led (after_part before left word (cond a text (cond b dashes (cond c call (option_map_or (option_part f.options) (after_dashes word) unknown))))) → Told (between before left) (word ∷ rest)
+            → Led (after_part before left word (cond a text (cond b dashes (cond c call (option_map_or (option_part f.options) (after_dashes word) unknown)))))
+            → Told (between before left) (word ∷ rest)
         go true b c t d e = placed_told before left t e
         go false true c t d e =
             let r : Told (behind before left) rest = rec (behind before left) e in
@@ -212,7 +227,8 @@ pub record IsSpelled (f : Form) : Type 0 where
   pub by_value : Each (λ o. (t : Text) → part_of f.options (codes "--" ++ o.0 ++ 61 ∷ t) ≡ valued o.1 t) f.options
 
 -- a word with two hyphens
-pub long_part : (options : List (Text × Text)) (c : ℕ) (cs : Text) → bytes_eq (codes "help") (c ∷ cs) ≡ false → part_of options (45 ∷ 45 ∷ c ∷ cs) ≡ option_part options (c ∷ cs)
+pub long_part : (options : List (Text × Text)) (c : ℕ) (cs : Text) → bytes_eq (codes "help") (c ∷ cs) ≡ false
+    → part_of options (45 ∷ 45 ∷ c ∷ cs) ≡ option_part options (c ∷ cs)
 long_part options c cs differs = rw (hyphen_first (c ∷ cs), differs) refl
 
 dashes_part : (options : List (Text × Text)) → part_of options (codes "--") ≡ dashes
@@ -223,7 +239,8 @@ module _ (f : Form) (is : IsSpelled f) where
   after = after_word f.options
 
   -- an option is one of the form's
-  known_option : (name label : Text) → label_of f.options name ≡ Some label → (part_of f.options (codes "--" ++ name) ≡ option label) × ((t : Text) → part_of f.options (codes "--" ++ name ++ 61 ∷ t) ≡ valued label t)
+  known_option : (name label : Text) → label_of f.options name ≡ Some label
+      → (part_of f.options (codes "--" ++ name) ≡ option label) × ((t : Text) → part_of f.options (codes "--" ++ name ++ 61 ∷ t) ≡ valued label t)
   known_option name label e = go (find (λ o. bytes_eq o.0 name) f.options) refl e
     where
       go : (m : Option (Text × Text)) → find (λ o. bytes_eq o.0 name) f.options ≡ m → option_map (λ o. o.1) m ≡ Some label
@@ -233,9 +250,11 @@ module _ (f : Form) (is : IsSpelled f) where
           let name_is : o.0 ≡ name = (bytes_eq-Decides o.0 name).0 (found_passes (λ x. bytes_eq x.0 name) f.options o found) in
           let label_is : o.1 ≡ label = ap (λ (m : Option Text). unwrap_or m []) e in (
             subst (λ n. part_of f.options (codes "--" ++ n) ≡ option label) name_is
-                (each_found (λ x. part_of f.options (codes "--" ++ x.0) ≡ option x.1) (λ x. bytes_eq x.0 name) f.options o is.by_name found ∙ ap option label_is),
+                (each_found (λ x. part_of f.options (codes "--" ++ x.0) ≡ option x.1) (λ x. bytes_eq x.0 name) f.options o is.by_name found
+                ∙ ap option label_is),
             λ t. subst (λ n. part_of f.options (codes "--" ++ n ++ 61 ∷ t) ≡ valued label t) name_is
-                (each_found (λ x. (u : Text) → part_of f.options (codes "--" ++ x.0 ++ 61 ∷ u) ≡ valued x.1 u) (λ x. bytes_eq x.0 name) f.options o is.by_value found t ∙ ap (λ l. valued l t) label_is),
+                (each_found (λ x. (u : Text) → part_of f.options (codes "--" ++ x.0 ++ 61 ∷ u) ≡ valued x.1 u)
+                (λ x. bytes_eq x.0 name) f.options o is.by_value found t ∙ ap (λ l. valued l t) label_is),
           )
 
   behind_asked : (left words : List Text) (given before : Given) → Behind left words given → AreNew before given
@@ -269,16 +288,23 @@ pub value_spelled : IsSpelled value_form
 value_spelled = record { by_name = tt; by_value = tt }
 
 pub count_spelled : IsSpelled count_form
-count_spelled = record { by_name = (long_part count_form.options 115 (codes "et") refl, tt); by_value = (λ t. long_part count_form.options 115 (codes "et=" ++ t) refl, tt) }
+count_spelled =
+    record {
+      by_name = (long_part count_form.options 115 (codes "et") refl, tt);
+      by_value = (λ t. long_part count_form.options 115 (codes "et=" ++ t) refl, tt);
+    }
 
 pub probe_spelled : IsSpelled probe_form
-probe_spelled = record { by_name = (long_part probe_form.options 100 (codes "b") refl, tt); by_value = (λ t. long_part probe_form.options 100 (codes "b=" ++ t) refl, tt) }
+probe_spelled =
+    record { by_name = (long_part probe_form.options 100 (codes "b") refl, tt); by_value = (λ t. long_part probe_form.options 100 (codes "b=" ++ t) refl, tt) }
 
 pub line_spelled : IsSpelled line_form
-line_spelled = record { by_name = (long_part line_form.options 100 (codes "b") refl, tt); by_value = (λ t. long_part line_form.options 100 (codes "b=" ++ t) refl, tt) }
+line_spelled =
+    record { by_name = (long_part line_form.options 100 (codes "b") refl, tt); by_value = (λ t. long_part line_form.options 100 (codes "b=" ++ t) refl, tt) }
 
 pub check_spelled : IsSpelled check_form
-check_spelled = record { by_name = (long_part check_form.options 100 (codes "b") refl, tt); by_value = (λ t. long_part check_form.options 100 (codes "b=" ++ t) refl, tt) }
+check_spelled =
+    record { by_name = (long_part check_form.options 100 (codes "b") refl, tt); by_value = (λ t. long_part check_form.options 100 (codes "b=" ++ t) refl, tt) }
 
 abbrev EachForm : (Form → Type 0) → List Form → Type 0
 EachForm P [] = Unit {0}
@@ -309,7 +335,8 @@ line_means f words texts among line =
 
 -- and where something is asked for, the words are a line of it
 
-form_line : (f : Form) (rest : List Text) (name : Text) (texts : List Text) → meaning_of_form f rest ≡ asks name texts → (f.name ≡ name) × IsLine f (f.name ∷ rest) texts
+form_line : (f : Form) (rest : List Text) (name : Text) (texts : List Text) → meaning_of_form f rest ≡ asks name texts
+    → (f.name ≡ name) × IsLine f (f.name ∷ rest) texts
 form_line f rest name texts e =
     let r : Told f name texts (between [] f.positions) rest = told f name texts rest (between [] f.positions) e in
     let p = texts_asked (texts_of (labels f) r.0) r.2.1 in
@@ -334,19 +361,23 @@ line_of (word ∷ rest) name texts e = first (bytes_eq (codes "--version") word)
         by false true e = not_help value_form name texts e
         by false false e = not_usage value_form name texts e
 
-    go : (fs : List Form) → ((f : Form) → IsAmong f fs → IsAmong f forms) → option_map_or (λ f. meaning_of_form f rest) (find (λ f. bytes_eq f.name word) fs) (meaning_of_other word) ≡ asks name texts
+    go : (fs : List Form) → ((f : Form) → IsAmong f fs → IsAmong f forms)
+        → option_map_or (λ f. meaning_of_form f rest) (find (λ f. bytes_eq f.name word) fs) (meaning_of_other word) ≡ asks name texts
         → SomeLine (word ∷ rest) name texts
     go [] among e = other e
     go (f ∷ fs) among e = by (bytes_eq f.name word) refl e (go fs (λ g h. among g (inr h)))
       where
-        by : (b : Bool) → bytes_eq f.name word ≡ b → option_map_or (λ g. meaning_of_form g rest) (cond b (Some f) (find (λ g. bytes_eq g.name word) fs)) (meaning_of_other word) ≡ asks name texts
-            → (option_map_or (λ g. meaning_of_form g rest) (find (λ g. bytes_eq g.name word) fs) (meaning_of_other word) ≡ asks name texts → SomeLine (word ∷ rest) name texts) → SomeLine (word ∷ rest) name texts
+        by : (b : Bool) → bytes_eq f.name word ≡ b
+            → option_map_or (λ g. meaning_of_form g rest) (cond b (Some f) (find (λ g. bytes_eq g.name word) fs)) (meaning_of_other word) ≡ asks name texts
+            → (option_map_or (λ g. meaning_of_form g rest) (find (λ g. bytes_eq g.name word) fs) (meaning_of_other word) ≡ asks name texts
+            → SomeLine (word ∷ rest) name texts) → SomeLine (word ∷ rest) name texts
         by true is e later =
             let l = form_line f rest name texts e in
             (f, among f (inl refl), l.0, subst (λ w. IsLine f (w ∷ rest) texts) ((bytes_eq-Decides f.name word).0 is) l.1)
         by false is e later = later e
 
-    first : (b : Bool) → cond b version (option_map_or (λ f. meaning_of_form f rest) (find (λ f. bytes_eq f.name word) forms) (meaning_of_other word)) ≡ asks name texts
+    first : (b : Bool)
+        → cond b version (option_map_or (λ f. meaning_of_form f rest) (find (λ f. bytes_eq f.name word) forms) (meaning_of_other word)) ≡ asks name texts
         → SomeLine (word ∷ rest) name texts
     first true e = not_version e
     first false e = go forms (λ f h. h) e
@@ -367,6 +398,7 @@ order_from_line words (reading.Help s) h = tt
 order_from_line words (reading.Usage s) h = tt
 
 -- and at each line it is read
-pub reading_at_line : (words : List Text) (f : Form) (texts : List Text) (r : Reading) → IsAmong f forms → IsLine f words texts → IsReadingOf (meaning_of words) r
+pub reading_at_line : (words : List Text) (f : Form) (texts : List Text) (r : Reading) → IsAmong f forms → IsLine f words texts
+    → IsReadingOf (meaning_of words) r
     → IsReadingOf (asks f.name texts) r
 reading_at_line words f texts r among line h = subst (λ m. IsReadingOf m r) (line_means f words texts among line) h

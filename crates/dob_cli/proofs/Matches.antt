@@ -32,7 +32,8 @@ module _ (f : Form) (texts : List Text) (met : Option (Text × List Row)) (found
 
   pub no_first : (a b : Text) → labels f ≡ a ∷ b ∷ [] → (o : Option (Bor Text)) → IsGot a o → o ≡ None → ⊥
   no_first a b both o got is =
-      none_missing (None ∷ first_of b found.0 ∷ []) texts (ap (λ x. x ∷ first_of b found.0 ∷ []) (sym (in_rows a o None got is)) ∙ of_labels (a ∷ b ∷ []) both) refl
+      none_missing (None ∷ first_of b found.0 ∷ []) texts
+      (ap (λ x. x ∷ first_of b found.0 ∷ []) (sym (in_rows a o None got is)) ∙ of_labels (a ∷ b ∷ []) both) refl
 
   -- two texts that may be there
   pair : {x y z w : Option Text} → x ≡ z → y ≡ w → x ∷ y ∷ [] ≡ z ∷ w ∷ []

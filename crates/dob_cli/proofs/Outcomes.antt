@@ -1,9 +1,11 @@
 -- What the matches and the errors of the program's command come to.
-use Rattle.std.proofs.Common.{map, ap₂, ◌≡◌, ◌∙◌, ◌⊎◌, ◌||◌, Bool, not, inl, inr, subst, true, false, sym, ap, refl, List, Option, Some, [], ◌∷◌, is_some, true≢false}
+use Rattle.std.proofs.Common.{map, ap₂, ◌≡◌, ◌∙◌, ◌⊎◌, ◌||◌, Bool, not, inl, inr, subst, true, false, sym, ap, refl, List, Option, Some, [], ◌∷◌, is_some}
+use Rattle.std.proofs.Common.{true≢false}
 use Rattle.std.specs.Prelude.{option_map, slice_get, unwrap_or}
 use Rattle.std.specs.List.{list_all}
 use Rattle.std.specs.Borrow.{Bor}
-use Rattle.clap.specs.Words.{AddsSubcommand, App, HasKind, IsAmong, Kinds, Row, fault_of, first_of, first_value, found_of, is_simple, is_simple_and_free, kind_of, rows_of, subcommand_of, subcommand_rows_of, with_subcommand}
+use Rattle.clap.specs.Words.{AddsSubcommand, App, HasKind, IsAmong, Kinds, Row, fault_of, first_of, first_value, found_of, is_simple, is_simple_and_free}
+use Rattle.clap.specs.Words.{kind_of, rows_of, subcommand_of, subcommand_rows_of, with_subcommand}
 use Rattle.clap.specs.declared.builder.Command.{Command}
 use Rattle.clap.specs.declared.Error.{Error}
 use Rattle.clap.specs.declared.error.ErrorKind.{ErrorKind}
@@ -21,12 +23,14 @@ use Rattle.dob_cli.proofs.Turns.{is_help_kind, is_usage, no_help_kind}
 use Rattle.dob_cli.proofs.AllWords.{Fits, IsMet, words_fit}
 
 -- a command with one more subcommand
-pub subcommand_shape : (old sub new : Command) (a b : App) → HasShape a old → HasShape b sub → AddsSubcommand old sub new → HasShape (with_subcommand a b.top) new
+pub subcommand_shape : (old sub new : Command) (a b : App) → HasShape a old → HasShape b sub → AddsSubcommand old sub new
+    → HasShape (with_subcommand a b.top) new
 subcommand_shape old sub new a b first second adds =
     (adds.shape second.1 ∙ ap₂ (λ (x y : App). with_subcommand x y.top) first.0 second.0, adds.globals ∙ ap₂ (λ (x y : Bool). x || y) first.1 second.1)
 
 -- the text that the subcommand's own matches have for a label is the one that was found
-pub text_in_matches : (label : Text) (f : Form) (texts : List Text) (met : Option (Text × List Row)) (found : Finds f texts met) (inner : ArgMatches) (o : Option (Bor Text))
+pub text_in_matches : (label : Text) (f : Form) (texts : List Text) (met : Option (Text × List Row)) (found : Finds f texts met) (inner : ArgMatches)
+    (o : Option (Bor Text))
     → Some (rows_of (found_of inner)) ≡ option_map (λ p. p.1) met → option_map (λ s. s.now) o ≡ first_value (found_of inner) label
     → first_of label found.0 ≡ option_map (λ s. s.now) o
 text_in_matches label f texts met found inner o kept got =
@@ -74,7 +78,8 @@ pub asked_by_matches : (app : App) (words : List Text) (m : ArgMatches) {X : Typ
 asked_by_matches app words m is kinds matches =
     let clean : fault_of dobutsu_app words ≡ [] = ap (λ a. fault_of a words) (sym is) ∙ kinds (ap is_simple_and_free is) in
     let rows : subcommand_rows_of m ≡ subcommand_of dobutsu_app words = (matches (ap is_simple is)).1 ∙ ap (λ a. subcommand_of a words) is in
-    let fits : Fits (meaning_of_command words) [] (subcommand_of dobutsu_app words) = subst (λ k. Fits (meaning_of_command words) k (subcommand_of dobutsu_app words)) clean (words_fit words) in
+    let fits : Fits (meaning_of_command words) [] (subcommand_of dobutsu_app words) =
+    subst (λ k. Fits (meaning_of_command words) k (subcommand_of dobutsu_app words)) clean (words_fit words) in
     asked_for words (meaning_of_command words) (subcommand_rows_of m) refl (subst (Fits (meaning_of_command words) []) (sym rows) fits)
 
 -- what is known for each form
@@ -97,13 +102,15 @@ pub order_is_meant : (words : List Text) (met : Option (Text × List Row)) (o : 
     → EachForm (λ f. (texts : List Text) → Finds f texts met → IsOrder f.name texts o) forms → IsReadingOf (meaning_of_command words) (reading.Order o)
 order_is_meant words met o is each = subst (λ m. IsReadingOf m (reading.Order o)) (sym is.meant) (go forms each is.found)
   where
-    go : (fs : List Form) → EachForm (λ f. (texts : List Text) → Finds f texts met → IsOrder f.name texts o) fs → IsMet fs is.name is.texts met → IsOrder is.name is.texts o
+    go : (fs : List Form) → EachForm (λ f. (texts : List Text) → Finds f texts met → IsOrder f.name texts o) fs → IsMet fs is.name is.texts met
+        → IsOrder is.name is.texts o
     go [] each found = absurd found
     go (f ∷ fs) each (inl h) = subst (λ n. IsOrder n is.texts o) h.0 (each.0 is.texts h.1)
     go (f ∷ fs) each (inr h) = go fs each.1 h
 
 -- an order that was read is the one that the words ask for
-pub asked_order : (m : Meaning) (name : Text) (texts : List Text) (r : Reading) (o : Order) → r ≡ reading.Order o → m ≡ asks name texts → IsReadingOf m r → IsOrder name texts o
+pub asked_order : (m : Meaning) (name : Text) (texts : List Text) (r : Reading) (o : Order) → r ≡ reading.Order o → m ≡ asks name texts → IsReadingOf m r
+    → IsOrder name texts o
 asked_order m name texts r o is asked read =
     subst (λ (r' : Reading). IsReadingOf (asks name texts) r') is (subst (λ (m' : Meaning). IsReadingOf m' r) asked read)
 
@@ -174,7 +181,8 @@ usage_read (reading.Order o) h = absurd h
 usage_read reading.Version h = absurd h
 
 -- a refusal comes to what the words ask for
-pub refusal_is_meant : (m : Meaning) (kinds : Kinds) (met : Option (Text × List Row)) (k : ErrorKind) (r : Reading) → Fits m kinds met → (k ≡ kind.OutOfMemory) ⊎ IsAmong k kinds
+pub refusal_is_meant : (m : Meaning) (kinds : Kinds) (met : Option (Text × List Row)) (k : ErrorKind) (r : Reading) → Fits m kinds met
+    → (k ≡ kind.OutOfMemory) ⊎ IsAmong k kinds
     → IsReadingOfKind k r → IsReadingOf m r
 refusal_is_meant m kinds met k r fits (inl e) h = absurd (subst (λ x. IsReadingOfKind x r) e h)
 refusal_is_meant (asks name texts) kinds met k r fits (inr among) h = absurd (subst (IsAmong k) fits.0 among)

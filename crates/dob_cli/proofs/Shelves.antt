@@ -12,7 +12,8 @@ use Rattle.std.proofs.lemmas.Slice.Eq.{bytes_eq-Decides}
 use Rattle.dob_cli.specs.Shelves.{HasJust, SameFiles, SameOthers, bytes_in}
 
 -- where all names have what they had
-pub same_files : (old new : List ℕ → Option (List ℕ)) → ((name : List ℕ) → new name ≡ old name) → SameFiles (λ name bytes. old name ≡ Some bytes) (λ name bytes. new name ≡ Some bytes)
+pub same_files : (old new : List ℕ → Option (List ℕ)) → ((name : List ℕ) → new name ≡ old name)
+    → SameFiles (λ name bytes. old name ≡ Some bytes) (λ name bytes. new name ≡ Some bytes)
 same_files old new same name bytes = (λ e. same name ∙ e, λ e. sym (same name) ∙ e)
 
 -- where all but one have
@@ -47,6 +48,7 @@ on_error (Ok v) P holds = tt
 on_error (Err e) P holds = holds
 
 -- a map with the same entries
-pub same_entries : {X Y : Type 0} (old new : BTreeMap (String X) (Vec ℕ Y)) → new.entries ≡ old.entries → (name : List ℕ) → bytes_in new name ≡ bytes_in old name
+pub same_entries : {X Y : Type 0} (old new : BTreeMap (String X) (Vec ℕ Y)) → new.entries ≡ old.entries → (name : List ℕ)
+    → bytes_in new name ≡ bytes_in old name
 same_entries old new same name =
     ap (λ es. option_map (λ bytes. bytes.items) (lookup (is_at (λ k. slice_cmp nat_cmp name (string_bytes k))) es)) same

@@ -1,7 +1,8 @@
 -- What one word of the program's command line does to the walk over the words.
 use Rattle.std.proofs.Common.{◌≡◌, ◌∙◌, ℕ, Bool, ap, codes, true, false, [], ◌∷◌, List, Option, None}
 use Rattle.std.specs.Str.{bytes_eq}
-use Rattle.clap.specs.Walk.{Held, Names, Row, Step, Waiting, Walk, after_step, arg_by_index, idle, plain_word, subcommand_met, to_positional, value, walked, word_met}
+use Rattle.clap.specs.Walk.{Held, Names, Row, Step, Waiting, Walk, after_step, arg_by_index, idle, plain_word, subcommand_met, to_positional, value, walked}
+use Rattle.clap.specs.Walk.{word_met}
 use Rattle.clap.specs.Simple.{Shape}
 use Rattle.clap.specs.Kinds.{Kinds, or_else}
 use Rattle.clap.specs.Faults.{settle_fault, step_fault, turn_fault, word_fault}
@@ -29,15 +30,18 @@ module _ (s : Shape) (names : Names) (rows : List Row) (pending : Option (Text �
   abbrev met : Waiting → Text → Held × Step
   met waiting word = word_met s.rules names false waiting p word (held rows pending)
 
-  text_met : (waiting : Waiting) (word : Text) → subcommand_met names waiting word ≡ None → is_text word ≡ true → met waiting word ≡ plain_word s.rules waiting word (held rows pending)
+  text_met : (waiting : Waiting) (word : Text) → subcommand_met names waiting word ≡ None → is_text word ≡ true
+      → met waiting word ≡ plain_word s.rules waiting word (held rows pending)
   text_met waiting word none text = rw (none, text_differs word text) (text_plain s.rules rows pending waiting word (view word) (text_flag word text))
 
   -- a text goes to what waits for it
   pub text_taken : (waiting : Waiting) (word : Text) → subcommand_met names waiting word ≡ None → is_text word ≡ true
       → walked s.rules names (waiting_at waiting rows pending p) word
-      ≡ after_step s.rules word (waiting_at waiting rows pending p) (plain_word s.rules waiting word (held rows pending)).0 (plain_word s.rules waiting word (held rows pending)).1
+      ≡ after_step s.rules word (waiting_at waiting rows pending p) (plain_word s.rules waiting word (held rows pending)).0
+      (plain_word s.rules waiting word (held rows pending)).1
   unfolding walked
-  text_taken waiting word none text = ap (λ (m : Held × Step). after_step s.rules word (waiting_at waiting rows pending p) m.0 m.1) (text_met waiting word none text)
+  text_taken waiting word none text =
+      ap (λ (m : Held × Step). after_step s.rules word (waiting_at waiting rows pending p) m.0 m.1) (text_met waiting word none text)
 
   pub text_turn_at : (waiting : Waiting) (word : Text) → subcommand_met names waiting word ≡ None → s.args_override_self ≡ false → is_text word ≡ true
       → turn_fault s names (waiting_at waiting rows pending p) word
@@ -67,7 +71,8 @@ module _ (s : Shape) (names : Names) (rows : List Row) (pending : Option (Text �
       (rw (none, differs, again) (word_fails s.rules rows pending fails word (view word) text differs))
 
   -- a word that asks for help ends the walk
-  pub help_turn : (word : Text) (is_option : Text → Bool) → subcommand_met names idle word ≡ None → s.args_override_self ≡ false → KnowsHelp s.rules rows pending is_option
+  pub help_turn : (word : Text) (is_option : Text → Bool) → subcommand_met names idle word ≡ None → s.args_override_self ≡ false
+      → KnowsHelp s.rules rows pending is_option
       → is_help_flag word ≡ true → turn_fault s names w word ≡ kind.DisplayHelp ∷ []
   help_turn word is_option none again knows asks =
       let fails : word_fault s names false idle word (held rows pending) ≡ kind.DisplayHelp ∷ [] =
@@ -75,8 +80,10 @@ module _ (s : Shape) (names : Names) (rows : List Row) (pending : Option (Text �
       ap (λ (k : Kinds). or_else k (step_fault s p (met idle word).0 (met idle word).1)) fails
 
   -- so does any other word that begins with a hyphen
-  pub other_turn : (word : Text) (is_option : Text → Bool) → subcommand_met names idle word ≡ None → s.args_override_self ≡ false → KnowsHelp s.rules rows pending is_option
-      → is_option (long_name word) ≡ false → is_text word ≡ false → is_help_flag word ≡ false → bytes_eq word (codes "--") ≡ false → is_usage (turn_fault s names w word) ≡ true
+  pub other_turn : (word : Text) (is_option : Text → Bool) → subcommand_met names idle word ≡ None → s.args_override_self ≡ false
+      → KnowsHelp s.rules rows pending is_option
+      → is_option (long_name word) ≡ false → is_text word ≡ false → is_help_flag word ≡ false → bytes_eq word (codes "--") ≡ false
+      → is_usage (turn_fault s names w word) ≡ true
   other_turn word is_option none again knows own text asks differs =
       or_else_usage (word_fault s names false idle word (held rows pending)) _
       (rw (none, differs, again) (other_word s.rules rows pending is_option knows word (view word) own text asks differs))

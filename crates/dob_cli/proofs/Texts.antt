@@ -39,7 +39,9 @@ pub row_found : (label : Text) (given : Given) → find (λ r. bytes_eq r.id lab
 row_found label [] = refl
 row_found label (g ∷ given) = go (bytes_eq g.0 label) (row_found label given)
   where
-    go : (b : Bool) → find (λ r. bytes_eq r.id label) (rows_of given) ≡ option_map row_of (find (λ x. bytes_eq x.0 label) given) → cond b (Some (row_of g)) (find (λ r. bytes_eq r.id label) (rows_of given)) ≡ option_map row_of (cond b (Some g) (find (λ x. bytes_eq x.0 label) given))
+    go : (b : Bool) → find (λ r. bytes_eq r.id label) (rows_of given) ≡ option_map row_of (find (λ x. bytes_eq x.0 label) given)
+        → cond b (Some (row_of g)) (find (λ r. bytes_eq r.id label) (rows_of given))
+        ≡ option_map row_of (cond b (Some g) (find (λ x. bytes_eq x.0 label) given))
     go true rec = refl
     go false rec = rec
 
@@ -51,7 +53,8 @@ first_found label given = ap (option_and_then (λ (r : Row). slice_get r.values 
     go (Some g) = refl
 
 given_found : (label : Text) (given : Given) → is_given label (rows_of given) ≡ is_some (text_of label given)
-given_found label given = ap (λ (o : Option Row). option_map_or (λ r. explicit_source r.source) o false) (row_found label given) ∙ go (find (λ g. bytes_eq g.0 label) given)
+given_found label given =
+    ap (λ (o : Option Row). option_map_or (λ r. explicit_source r.source) o false) (row_found label given) ∙ go (find (λ g. bytes_eq g.0 label) given)
   where
     go : (o : Option (Text × Text)) → option_map_or (λ (r : Row). explicit_source r.source) (option_map row_of o) false ≡ is_some (option_map (λ g. g.1) o)
     go None = refl
@@ -61,7 +64,8 @@ pub has_found : (label : Text) (given : Given) → has_row label (rows_of given)
 has_found label [] = refl
 has_found label (g ∷ given) = go (bytes_eq g.0 label) (has_found label given)
   where
-    go : (b : Bool) → has_row label (rows_of given) ≡ is_some (text_of label given) → (b || has_row label (rows_of given)) ≡ is_some (option_map (λ (x : Text × Text). x.1) (cond b (Some g) (find (λ x. bytes_eq x.0 label) given)))
+    go : (b : Bool) → has_row label (rows_of given) ≡ is_some (text_of label given)
+        → (b || has_row label (rows_of given)) ≡ is_some (option_map (λ (x : Text × Text). x.1) (cond b (Some g) (find (λ x. bytes_eq x.0 label) given)))
     go true rec = refl
     go false rec = rec
 
@@ -96,7 +100,8 @@ pub used_fresh : (long : Option Text) (index : Option ℕ) (label t : Text) (giv
     → used (text_arg long index label) (t ∷ []) (rows_of given) ≡ rows_of (given ++ (label, t) ∷ [])
 used_fresh long index label t given fresh =
     let none : has_row label (rows_of given) ≡ false = has_found label given ∙ ap is_some fresh in
-    ap (at_row label (more_values CommandLine (t ∷ [])) (row_of (label, t) ∷ [])) (at_row_fresh label (λ _. []) [] (rows_of given) none ∙ append-nil (rows_of given))
+    ap (at_row label (more_values CommandLine (t ∷ [])) (row_of (label, t) ∷ []))
+    (at_row_fresh label (λ _. []) [] (rows_of given) none ∙ append-nil (rows_of given))
     ∙ (at_row_fresh label (more_values CommandLine (t ∷ [])) (row_of (label, t) ∷ []) (rows_of given) none ∙ sym (map-append row_of given ((label, t) ∷ [])))
 
 pub use_passes : (long : Option Text) (index : Option ℕ) (label t : Text) (given : Given) → text_of label given ≡ None
@@ -109,7 +114,8 @@ pub use_twice : (long : Option Text) (index : Option ℕ) (label t u : Text) (gi
 use_twice long index label t u given there = rw (has_found label given, there) refl
 
 -- and so is none
-pub use_none : (long : Option Text) (index : Option ℕ) (label : Text) (rows : List Row) → use_fault false (text_arg long index label) [] rows ≡ kind.InvalidValue ∷ []
+pub use_none : (long : Option Text) (index : Option ℕ) (label : Text) (rows : List Row)
+    → use_fault false (text_arg long index label) [] rows ≡ kind.InvalidValue ∷ []
 use_none long index label rows = refl
 
 -- ---- no argument has a default

@@ -1,6 +1,7 @@
 -- What `clap` makes of one word of the program's command line, at a command whose one flag is the
 -- help flag; it may have an option too.
-use Rattle.std.proofs.Common.{◌≡◌, ◌∙◌, ◌==◌, ◌&&◌, ℕ, Bool, refl, sym, ap, subst, cond, codes, true, false, [], ◌∷◌, List, Option, Some, None, length, zero, suc, true≢false}
+use Rattle.std.proofs.Common.{◌≡◌, ◌∙◌, ◌==◌, ◌&&◌, ℕ, Bool, refl, sym, ap, subst, cond, codes, true, false, [], ◌∷◌, List, Option, Some, None, length, zero}
+use Rattle.std.proofs.Common.{suc, true≢false}
 use Rattle.std.specs.Prelude.{slice_get, is_some, not}
 use Rattle.std.specs.Option.{option_map_or}
 use Rattle.std.specs.List.{before_first}
@@ -15,7 +16,8 @@ use Rattle.clap.specs.Faults.{flag_word_fault, flags_fault, long_fault, option_f
 use Rattle.clap.specs.declared.error.kind.ErrorKind.{ErrorKind}
 use Rattle.clap.specs.declared.error.kind.ErrorKind.TheVariants as kind
 use Rattle.dob_cli.specs.Words.{Text, flag_of, is_help_flag, is_text}
-use Rattle.dob_cli.proofs.Lexing.{help_letter, help_hyphen, help_dashes, help_long, help_short, View, empty, letter, hyphen, dashes, long, short, hyphen_first, long_name, no_first, long_letter, short_letter, flag_letter, long_short, short_short, before_none}
+use Rattle.dob_cli.proofs.Lexing.{help_letter, help_hyphen, help_dashes, help_long, help_short, View, empty, letter, hyphen, dashes, long, short, hyphen_first}
+use Rattle.dob_cli.proofs.Lexing.{long_name, no_first, long_letter, short_letter, flag_letter, long_short, short_short, before_none}
 
 -- the help flag, built
 abbrev pub help_flag : Rule
@@ -100,14 +102,17 @@ module _ (c : List Rule) (rows : List Row) (pending : Option (Text × List Text)
   short_help : (x : ℕ) (rest : Text) (next : Held → Kinds) → (104 == x) ≡ true → short_fault c false (arg_by_short c x) rest g next ≡ kind.DisplayHelp ∷ []
   short_help x rest next t = rw (knows.by_short x, t, knows.asks) refl
 
-  short_other : (x : ℕ) (rest : Text) (next : Held → Kinds) → (104 == x) ≡ false → short_fault c false (arg_by_short c x) rest g next ≡ kind.UnknownArgument ∷ []
+  short_other : (x : ℕ) (rest : Text) (next : Held → Kinds) → (104 == x) ≡ false
+      → short_fault c false (arg_by_short c x) rest g next ≡ kind.UnknownArgument ∷ []
   short_other x rest next t = rw (knows.by_short x, t) refl
 
-  bundle_help : (k : ℕ) (flags : Text) (x : ℕ) → slice_get (chars flags) 0 ≡ Some x → (104 == x) ≡ true → flags_fault c false (suc k) flags 0 g ≡ kind.DisplayHelp ∷ []
+  bundle_help : (k : ℕ) (flags : Text) (x : ℕ) → slice_get (chars flags) 0 ≡ Some x → (104 == x) ≡ true
+      → flags_fault c false (suc k) flags 0 g ≡ kind.DisplayHelp ∷ []
   unfolding flags_fault
   bundle_help k flags x e t = rw e (short_help x _ _ t)
 
-  bundle_other : (k : ℕ) (flags : Text) (x : ℕ) → slice_get (chars flags) 0 ≡ Some x → (104 == x) ≡ false → flags_fault c false (suc k) flags 0 g ≡ kind.UnknownArgument ∷ []
+  bundle_other : (k : ℕ) (flags : Text) (x : ℕ) → slice_get (chars flags) 0 ≡ Some x → (104 == x) ≡ false
+      → flags_fault c false (suc k) flags 0 g ≡ kind.UnknownArgument ∷ []
   unfolding flags_fault
   bundle_other k flags x e t = rw e (short_other x _ _ t)
 
@@ -120,16 +125,20 @@ module _ (c : List Rule) (rows : List Row) (pending : Option (Text × List Text)
       subst (λ (zs : Text). flag_word_fault c false (long_of (45 ∷ 45 ∷ zs)) (45 ∷ 45 ∷ zs) g ≡ kind.DisplayHelp ∷ []) same
       (rw (knows.by_long (codes "help") knows.no_option, knows.asks) refl)
 
-  long_named : (name : Text) (v : Option Text) → is_option name ≡ false → bytes_eq (codes "help") name ≡ false → long_fault c false (arg_by_long c name) v g ≡ kind.UnknownArgument ∷ []
+  long_named : (name : Text) (v : Option Text) → is_option name ≡ false → bytes_eq (codes "help") name ≡ false
+      → long_fault c false (arg_by_long c name) v g ≡ kind.UnknownArgument ∷ []
   long_named name v own t = rw (knows.by_long name own, t) refl
 
-  long_valued : (name v : Text) → is_option name ≡ false → bytes_eq (codes "help") name ≡ true → long_fault c false (arg_by_long c name) (Some v) g ≡ kind.TooManyValues ∷ []
+  long_valued : (name v : Text) → is_option name ≡ false → bytes_eq (codes "help") name ≡ true
+      → long_fault c false (arg_by_long c name) (Some v) g ≡ kind.TooManyValues ∷ []
   long_valued name v own t = rw (knows.by_long name own, t) refl
 
-  long_other : (a : ℕ) (cs : Text) → is_option (before_first (λ x. x == 61) (a ∷ cs)) ≡ false → bytes_eq (codes "help") (a ∷ cs) ≡ false → is_usage (fault (45 ∷ 45 ∷ a ∷ cs)) ≡ true
+  long_other : (a : ℕ) (cs : Text) → is_option (before_first (λ x. x == 61) (a ∷ cs)) ≡ false → bytes_eq (codes "help") (a ∷ cs) ≡ false
+      → is_usage (fault (45 ∷ 45 ∷ a ∷ cs)) ≡ true
   long_other a cs own differs = go (bytes_eq (codes "help") (before_first (λ x. x == 61) (a ∷ cs))) (has_byte 61 (a ∷ cs)) refl refl
     where
-      go : (b e : Bool) → bytes_eq (codes "help") (before_first (λ x. x == 61) (a ∷ cs)) ≡ b → has_byte 61 (a ∷ cs) ≡ e → is_usage (fault (45 ∷ 45 ∷ a ∷ cs)) ≡ true
+      go : (b e : Bool) → bytes_eq (codes "help") (before_first (λ x. x == 61) (a ∷ cs)) ≡ b → has_byte 61 (a ∷ cs) ≡ e
+          → is_usage (fault (45 ∷ 45 ∷ a ∷ cs)) ≡ true
       go false e t s = rw (long_named (before_first (λ x. x == 61) (a ∷ cs)) _ own t) refl
       go true true t s = rw (s, long_valued (before_first (λ x. x == 61) (a ∷ cs)) _ own t) refl
       go true false t s = absurd (true≢false (sym t ∙ ap (bytes_eq (codes "help")) (before_none (a ∷ cs) s) ∙ differs))
@@ -148,7 +157,8 @@ module _ (c : List Rule) (rows : List Row) (pending : Option (Text × List Text)
       go (Some x) is h = rw (long_short y ys t, short_short y ys t, bundle_help (length ys) (y ∷ ys) x is h) refl
 
   -- another word that begins with a hyphen is no flag of the command
-  pub other_word : (w : Text) → View w → is_option (long_name w) ≡ false → is_text w ≡ false → is_help_flag w ≡ false → bytes_eq w (codes "--") ≡ false → is_usage (fault w) ≡ true
+  pub other_word : (w : Text) → View w → is_option (long_name w) ≡ false → is_text w ≡ false → is_help_flag w ≡ false → bytes_eq w (codes "--") ≡ false
+      → is_usage (fault w) ≡ true
   other_word _ empty own text e d = absurd (true≢false text)
   other_word _ (letter x rest t) own text e d = absurd (true≢false (sym (ap (λ (o : Option ℕ). not (is_some o)) (flag_letter x rest t)) ∙ text))
   other_word _ hyphen own text e d = absurd (true≢false (sym (ap (λ (o : Option ℕ). not (is_some o)) no_first) ∙ text))
@@ -156,7 +166,8 @@ module _ (c : List Rule) (rows : List Row) (pending : Option (Text × List Text)
   other_word _ (long a cs) own text e d = long_other a cs own (sym (help_long a cs) ∙ e)
   other_word _ (short y ys t) own text e d = go (slice_get (chars (y ∷ ys)) 0) refl (sym (help_short y ys t) ∙ e) text
     where
-      go : (o : Option ℕ) → slice_get (chars (y ∷ ys)) 0 ≡ o → option_map_or (λ x. 104 == x) o false ≡ false → not (is_some o) ≡ false → is_usage (fault (45 ∷ y ∷ ys)) ≡ true
+      go : (o : Option ℕ) → slice_get (chars (y ∷ ys)) 0 ≡ o → option_map_or (λ x. 104 == x) o false ≡ false → not (is_some o) ≡ false
+          → is_usage (fault (45 ∷ y ∷ ys)) ≡ true
       go None is h none = absurd (true≢false none)
       go (Some x) is h none = rw (long_short y ys t, short_short y ys t, bundle_other (length ys) (y ∷ ys) x is h) refl
 
@@ -176,7 +187,8 @@ module _ (c : List Rule) (rows : List Row) (pending : Option (Text × List Text)
   long_fails None v = refl
   long_fails (Some a) v = go (takes_values a) v
     where
-      go : (b : Bool) (u : Option Text) → is_usage (cond b (option_fault c false a u f) (cond (is_some u) (kind.TooManyValues ∷ []) (react_fault c false a [] f))) ≡ true
+      go : (b : Bool) (u : Option Text)
+          → is_usage (cond b (option_fault c false a u f) (cond (is_some u) (kind.TooManyValues ∷ []) (react_fault c false a [] f))) ≡ true
       go true u = option_fails a u
       go false (Some x) = refl
       go false None = react_fails a []
@@ -201,6 +213,7 @@ module _ (c : List Rule) (rows : List Row) (pending : Option (Text × List Text)
   word_fails _ (long a cs) text d = long_fails (arg_by_long c (before_first (λ x. x == 61) (a ∷ cs))) (name_and_value (a ∷ cs)).1
   word_fails _ (short y ys t) text d = go (slice_get (chars (y ∷ ys)) 0) refl text
     where
-      go : (o : Option ℕ) → slice_get (chars (y ∷ ys)) 0 ≡ o → not (is_some o) ≡ false → is_usage (flag_word_fault c false (long_of (45 ∷ y ∷ ys)) (45 ∷ y ∷ ys) f) ≡ true
+      go : (o : Option ℕ) → slice_get (chars (y ∷ ys)) 0 ≡ o → not (is_some o) ≡ false
+          → is_usage (flag_word_fault c false (long_of (45 ∷ y ∷ ys)) (45 ∷ y ∷ ys) f) ≡ true
       go None is none = absurd (true≢false none)
       go (Some x) is none = rw (long_short y ys t, short_short y ys t) (bundle_fails (length ys) (y ∷ ys) x is)

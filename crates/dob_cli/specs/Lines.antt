@@ -15,7 +15,8 @@ pub data Gives (form : Form) : List Text → List Text → Given → Type 0 wher
   by_place : (label t : Text) (left words : List Text) (given : Given) → is_text t ≡ true → Gives form left words given
       → Gives form (label ∷ left) (t ∷ words) ((label, t) ∷ given)
   -- `--NAME TEXT`
-  by_option : (name label t : Text) (left words : List Text) (given : Given) → label_of form.options name ≡ Some label → is_text t ≡ true → Gives form left words given
+  by_option : (name label t : Text) (left words : List Text) (given : Given) → label_of form.options name ≡ Some label → is_text t ≡ true
+      → Gives form left words given
       → Gives form left ((codes "--" ++ name) ∷ t ∷ words) ((label, t) ∷ given)
   -- `--NAME=TEXT`, where anything may stand behind the `=`
   by_value : (name label t : Text) (left words : List Text) (given : Given) → label_of form.options name ≡ Some label → Gives form left words given

@@ -52,5 +52,6 @@ pub record RanOver (Has : Text → List ℕ → Type 0) (words : List Text) (sta
 -- it says that an argument isn't UTF-8, with the status of unknown words
 abbrev pub TellsNoText : Ending → Type 0
 TellsNoText e =
-    (e.status ≡ 2) × Says e.err (codes "error: an argument is not UTF-8" ++ line_feed ∷ line_feed ∷ codes "For more information, try '--help'." ++ line_feed ∷ [])
+    (e.status ≡ 2)
+    × Says e.err (codes "error: an argument is not UTF-8" ++ line_feed ∷ line_feed ∷ codes "For more information, try '--help'." ++ line_feed ∷ [])
     × IsUntouched e.out

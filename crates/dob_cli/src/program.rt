@@ -92,7 +92,8 @@ fn run_order<S: Shelf, O: Sink, E: Sink>(
     out: &mut O,
     err: &mut E,
 ) -> u8
-    ensures { AnswersOrder (S.has shelf.old) order.entry (ended result (change (O.state out.old) (O.state out.new)) (change (E.state err.old) (E.state err.new))) }
+    ensures { AnswersOrder (S.has shelf.old) order.entry
+        (ended result (change (O.state out.old) (O.state out.new)) (change (E.state err.old) (E.state err.new))) }
 {
     match answer(rt, alloc, order, shelf) {
         Ok(lines) => tell(alloc, lines.as_str(), out, err),

@@ -2,7 +2,8 @@
 ghost use Rattle.std.specs.Prelude.{◌≡◌, ◌++◌, ◌∷◌, [], false, IfOk, IfErr, OnOk, string_bytes};
 ghost use Rattle.dob_text.specs.MoveText.{move_text};
 ghost use Rattle.dob_cli.specs.Signs.{line_feed};
-ghost use Rattle.dob_cli.specs.Tables.{IsCheckFault, IsCheckLine, IsFileOf, IsMovesLine, IsOpeningFault, IsPositionFault, IsProbeLine, moves_line, moves_text, space_before};
+ghost use Rattle.dob_cli.specs.Tables.{IsCheckFault, IsCheckLine, IsFileOf, IsMovesLine, IsOpeningFault, IsPositionFault};
+ghost use Rattle.dob_cli.specs.Tables.{IsProbeLine, moves_line, moves_text, space_before};
 
 use crate::fault::Fault;
 use crate::program::line_of;

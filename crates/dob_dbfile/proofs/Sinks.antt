@@ -1,5 +1,6 @@
 -- What sinks have received after one call and another.
-use Rattle.std.proofs.Common.{◌≡◌, ℕ, ◌+◌, ◌≤◌, Bool, true, false, List, [], ◌∷◌, ◌++◌, length, Option, Some, None, take, drop, sym, ap, ◌∙◌, append_assoc, append-nil, take-add, refl, arith}
+use Rattle.std.proofs.Common.{◌≡◌, ℕ, ◌+◌, ◌≤◌, Bool, true, false, List, [], ◌∷◌, ◌++◌, length, Option, Some, None, take, drop, sym, ap, ◌∙◌, append_assoc}
+use Rattle.std.proofs.Common.{append-nil, take-add, refl, arith}
 use Rattle.std.specs.Prelude.{◌||◌}
 use Rattle.std.proofs.Math.Seq.{take-length}
 use Rattle.std.specs.Io.KnownBytes.{Appends, Keeps, append_known}
@@ -18,7 +19,8 @@ Appends-nil None = tt
 Appends-nil (Some a) = sym (append-nil a)
 
 -- a beginning, and then the beginning of the rest
-pub Appends-take : (a b c : Option (List ℕ)) (xs : List ℕ) (k n : ℕ) → Appends a b (take k xs) → Appends b c (take n (drop k xs)) → Appends a c (take (k + n) xs)
+pub Appends-take : (a b c : Option (List ℕ)) (xs : List ℕ) (k n : ℕ) → Appends a b (take k xs) → Appends b c (take n (drop k xs))
+    → Appends a c (take (k + n) xs)
 Appends-take a b c xs k n p q = let joined = Appends-append a b c (take k xs) (take n (drop k xs)) p q in rw (take-add k n xs) joined
 
 -- what is kept twice is kept

@@ -105,7 +105,12 @@ impl<'a, W> Lent<'a, W> {
 }
 
 impl<W: Write> Sink for Lent<'_, W> {
-    ghost state = { λ device. record { received = W.contents device.writer.now; flushes = None; has_failed = device.has_failed; writer = Some device.writer.ghost_name } };
+    ghost state = { λ device. record {
+      received = W.contents device.writer.now;
+      flushes = None;
+      has_failed = device.has_failed;
+      writer = Some device.writer.ghost_name;
+    } };
 
     fn write(&mut self, piece: &[u8]) -> Result<usize, Failed> {
         let result = write_some(self.writer, piece);

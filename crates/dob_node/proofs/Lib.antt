@@ -24,3 +24,4 @@ pub mod Sends
 pub mod TakenLists
 pub mod Parts
 pub mod SoleStops
+pub mod Beginnings

@@ -1,5 +1,6 @@
 -- What is stored and read again.
-use Rattle.std.proofs.Common.{◌≡◌, ℕ, zero, suc, ◌+◌, ◌*◌, ◌/◌, ◌%◌, ◌<◌, refl, sym, subst, ap, ◌∙◌, arith, List, [], ◌∷◌, ◌++◌, length, Some, slice_get, get_or}
+use Rattle.std.proofs.Common.{◌≡◌, ℕ, zero, suc, ◌+◌, ◌*◌, ◌/◌, ◌%◌, ◌<◌, refl, sym, subst, ap, ◌∙◌, arith, ◌≤◌, List, [], ◌∷◌, ◌++◌, length, take, Some, slice_get, get_or, set}
+use Rattle.std.proofs.lemmas.List.{length-take-le, get_or-take, take_more_set}
 use Rattle.std.proofs.lemmas.Option.{slice_get_within, slice_get-get_or, get_or_from_slice_get}
 use Rattle.dob_share.specs.declared.news.Settlement.{Settlement}
 use Rattle.dob_node.specs.declared.history.Stored.{Stored}
@@ -86,3 +87,43 @@ seen_more n id stored new view s given is same more =
     ∙ ap (λ t. settlements_from n id 0 stored ++ t ∷ []) same in
     subst (λ (v : HistoryView). seen n id new ≡ record { id = v.id; n = v.n; settlements = v.settlements ++ given ∷ [] }) is
     (ap (λ l. let v : HistoryView = record { id = id; n = n; settlements = l } in v) pushed)
+
+-- ---- the first so many of those stored
+
+pub count_is : (n id count : ℕ) (stored : List Stored) (view : HistoryView) → count ≤ length stored → seen n id (take count stored) ≡ view →
+    count ≡ length view.settlements
+count_is n id count stored view all is = sym (length-take-le count stored all) ∙ seen_length n id (take count stored) view is
+
+pub got_within : (count k : ℕ) (stored : List Stored) (s : Stored) → k < count → count ≤ length stored → slice_get stored k ≡ Some s →
+    slice_get (take count stored) k ≡ Some s
+got_within count k stored s low all there =
+    let long : length (take count stored) ≡ count = length-take-le count stored all in
+    slice_get-get_or (take count stored) k s (omega arith)
+    ∙ ap Some (get_or-take count stored k s low ∙ get_or_from_slice_get stored k s s there)
+
+-- what is written behind them is the next
+pub stored_more : (n id count : ℕ) (stored : List Stored) (s : Stored) (given : Settlement) → count < length stored →
+    settlement_of n id count s ≡ given →
+    settlements_from n id 0 (take (count + 1) (set stored count s)) ≡ settlements_from n id 0 (take count stored) ++ given ∷ []
+stored_more n id count stored s given low is =
+    let all : count ≤ length stored = omega arith in
+    let long : length (take count stored) ≡ count = length-take-le count stored all in
+    let place : 0 + length (take count stored) ≡ count = omega arith in
+    ap (settlements_from n id 0) (take_more_set stored count s low)
+    ∙ settlements_from-push n id 0 (take count stored) s
+    ∙ ap (λ m. settlements_from n id 0 (take count stored) ++ settlement_of n id m s ∷ []) place
+    ∙ ap (λ t. settlements_from n id 0 (take count stored) ++ t ∷ []) is
+
+-- room is seen by nobody
+pub room_unseen : (n id count : ℕ) (stored more : List Stored) (view : HistoryView) → seen n id (take count stored) ≡ view →
+    take count more ≡ take count stored → seen n id (take count more) ≡ view
+room_unseen n id count stored more view is same = ap (λ list. seen n id list) same ∙ is
+
+pub next_seen : (n id count : ℕ) (stored more new : List Stored) (view : HistoryView) (given : Settlement) → seen n id (take count stored) ≡ view →
+    take count more ≡ take count stored →
+    settlements_from n id 0 (take (count + 1) new) ≡ settlements_from n id 0 (take count more) ++ given ∷ [] →
+    seen n id (take (count + 1) new) ≡ record { id = view.id; n = view.n; settlements = view.settlements ++ given ∷ [] }
+next_seen n id count stored more new view given is same one_more =
+    subst (λ (v : HistoryView). seen n id (take (count + 1) new) ≡ record { id = v.id; n = v.n; settlements = v.settlements ++ given ∷ [] })
+    (room_unseen n id count stored more view is same)
+    (ap (λ l. let v : HistoryView = record { id = id; n = n; settlements = l } in v) one_more)

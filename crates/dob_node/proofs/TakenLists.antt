@@ -9,7 +9,7 @@ use Rattle.dob_share.specs.declared.share.Share.{Share}
 use Rattle.dob_node.specs.declared.cause.Cause.{Cause}
 use Rattle.dob_node.specs.Stores.{HistoryView}
 use Rattle.dob_node.proofs.Sounds.{told_still}
-use Rattle.dob_node.specs.Takes.{IsTaken, AreTaken, IsReason, StopsAt}
+use Rattle.dob_node.specs.Takes.{IsTaken, AreTaken, IsReason, StopsAt, AreTakenBefore}
 
 -- one more at the end
 pub taken_more : (front : List Item) (item : Item) (share mid after : Share) (history longer grown : HistoryView) →
@@ -46,6 +46,20 @@ stops_there items k default share mid history longer why low before refused = re
   grown = longer;
   taken = before;
   refused = refused;
+}
+
+-- where the refused item changes nothing, just those before it are taken
+pub taken_before : (items : List Item) (k : ℕ) (default : Item) (share mid after : Share) (history longer grown : HistoryView) (why : Cause) →
+    k < length items → AreTaken (take k items) share mid history longer → (after ≡ mid) × (grown ≡ longer) → IsReason (get_or items k default) mid why →
+    AreTakenBefore items share after history grown why
+taken_before items k default share mid after history longer grown why low before same refused = record {
+  front = take k items;
+  item = get_or items k default;
+  behind = drop (k + 1) items;
+  items_are = sym (take-append-drop k items) ∙ ap (λ xs. take k items ++ xs) (rw add-one (drop-cons items k default low));
+  taken = subst (λ (s : Share). AreTaken (take k items) share s history grown) (sym same.0)
+      (subst (λ (h : HistoryView). AreTaken (take k items) share mid history h) (sym same.1) before);
+  refused = subst (λ (s : Share). IsReason (get_or items k default) s why) (sym same.0) refused;
 }
 
 -- what holds of an error holds of it where it is handed on

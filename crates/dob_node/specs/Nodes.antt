@@ -80,6 +80,15 @@ pub record HasTaken (items : List Item) (old new : Node) : Type 0 where
   pub own : new.own.items ≡ old.own.items
   pub outboxes : new.outboxes.items ≡ old.outboxes.items
 
+-- Those of the items before one that is refused are applied, in order, and nothing else has changed.
+pub record HasTakenBefore (items : List Item) (old new : Node) (why : Cause) : Type 0 where
+  pub front : List Item
+  pub item : Item
+  pub behind : List Item
+  pub items_are : items ≡ front ++ item ∷ behind
+  pub taken : HasTaken front old new
+  pub refused : IsReason item new.share why
+
 -- The batch, which is from the node to that other one, is cut from the outbox for it.
 pub record HasCut (to size : ℕ) (batch : BatchView) (old new : Node) : Type 0 where
   pub of : (batch.set ≡ old.set) × (batch.n ≡ old.n) × (batch.from ≡ old.id) × (batch.to ≡ to)

@@ -75,3 +75,12 @@ pub record StopsAt (items : List Item) (share : Share) (history : HistoryView) (
   pub grown : HistoryView
   pub taken : AreTaken front share after history grown
   pub refused : IsReason item after why
+
+-- The share and the history are those after the items before one of them, and it is refused.
+pub record AreTakenBefore (items : List Item) (share after : Share) (history grown : HistoryView) (why : Cause) : Type 0 where
+  pub front : List Item
+  pub item : Item
+  pub behind : List Item
+  pub items_are : items ≡ front ++ item ∷ behind
+  pub taken : AreTaken front share after history grown
+  pub refused : IsReason item after why

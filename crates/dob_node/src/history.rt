@@ -1,11 +1,18 @@
-// The history of a node: the settlements of its own classes, in order, in 8 bytes each.
-ghost use Rattle.std.specs.Prelude.{◌≡◌, ◌+◌, ◌/◌, ◌^◌, ◌<◌, ◌≤◌, ◌∷◌, ◌++◌, [], length, Some, OnOk, OnErr, slice_get};
+// The history of a node: the settlements of its own classes, in order, in 8 bytes each. It makes the room for a settlement
+// before an item changes a cell.
+ghost use Rattle.std.specs.Prelude.{◌≡◌, ◌≢◌, ◌↔◌, ℕ, ◌+◌, ◌/◌, ◌^◌, ◌<◌, ◌≤◌, ◌∷◌, ◌++◌, [], length, take, Some, Err, IfErr, OnOk, OnErr, slice_get};
+ghost use Rattle.dob_pieces.specs.declared.piece_set.PieceSet.{PieceSet as Set};
 ghost use Rattle.dob_value.specs.Follows.{IsEntry};
 ghost use Rattle.dob_share.specs.Owners.{owner_of};
+ghost use Rattle.dob_share.specs.Shares.{Fits, GoesTooDeep};
+ghost use Rattle.dob_node.specs.declared.cause.Cause.TheVariants as cause;
+ghost use Rattle.dob_node.specs.Stores.{settlements_from};
+ghost use Rattle.dob_node.specs.Takes.{HasEntries, AreKept, IsTaken, IsReason};
 
+use crate::cause::Cause;
 use dob_pieces::Memory;
 use dob_rank::Segments;
-use dob_share::Settlement;
+use dob_share::{Item, Settlement, Share};
 use dob_value::{code_of_value, value_of_code};
 use std::alloc::Global;
 use std::marker::Model;
@@ -21,23 +28,25 @@ pub(crate) struct Stored {
     pub(crate) now: u16,
 }
 
-/// The settlements of one owner `id` among `n`, in order.
+/// The settlements of one owner `id` among `n`, in order: the first `count` of those stored. What is stored behind them is
+/// room for the next.
 #[derive(Drop)]
 pub(crate) struct History {
     id: usize,
     n: usize,
+    count: u64,
     stored: Segments<Stored>,
 }
 
 impl Model for History {
-    ghost use Rattle.std.specs.Prelude.{◌<◌, ◌≤◌};
+    ghost use Rattle.std.specs.Prelude.{◌<◌, ◌≤◌, length, take};
     ghost use Rattle.dob_node.specs.Stores.{HistoryView, settlements_from};
 
     ghost Value = { HistoryView };
 
-    ghost view = { λ h. record { id = h.id; n = h.n; settlements = settlements_from h.n h.id 0 h.stored } };
+    ghost view = { λ h. record { id = h.id; n = h.n; settlements = settlements_from h.n h.id 0 (take h.count h.stored) } };
 
-    ghost invariant = { λ h. (h.id < h.n) × (h.n ≤ 16) };
+    ghost invariant = { λ h. (h.id < h.n) × (h.n ≤ 16) × (h.count ≤ length h.stored) };
 }
 
 impl History {
@@ -50,6 +59,7 @@ impl History {
         History {
             id,
             n,
+            count: 0,
             stored: Segments::new(alloc, SHIFT),
         }
     }
@@ -59,7 +69,9 @@ impl History {
         ensures count { result ≡ length self.now.settlements }
         ensures bound { result ≤ 2 ^ 56 }
     {
-        self.stored.len()
+        // No list has more items than are stored.
+        let _stored = self.stored.len();
+        self.count
     }
 
     /// The settlement of that number.
@@ -88,10 +100,72 @@ impl History {
         ensures ok { OnOk result (self.new ≡ record self.old { settlements = self.old.settlements ++ settlement ∷ [] }) }
         ensures err { OnErr result (self.new ≡ self.old) }
     {
-        self.stored.push(Stored {
-            place: (settlement.class / self.n as u64) as u32,
-            was: code_of_value(settlement.was),
-            now: code_of_value(settlement.now),
-        })
+        make_room(&mut self.stored, self.count)?;
+        store(&mut self.stored, self.count, self.n, settlement);
+        self.count += 1;
+        Ok(())
     }
+
+    /// Applies the item to the share, and adds the settlement that it makes, if it makes one, for which there is room before
+    /// the share changes.
+    ///
+    /// Errors, which leave the share and the history as they were: `Memory`; else `Contradiction` where the item doesn't fit,
+    /// else `TooDeep` where its class's value would be too deep.
+    pub(crate) fn take_item(&mut self, share: &mut Share, item: Item) -> Result<(), Cause>
+        requires kept { (set : Set) × AreKept set share.old.n share.old.id share.old self.old }
+        requires entries { HasEntries item }
+        ensures contradiction { result ≢ Err cause.Memory → (result ≡ Err (cause.Contradiction item.to)) ↔ (¬ Fits share.old item) }
+        ensures too_deep { result ≢ Err cause.Memory → (result ≡ Err cause.TooDeep) ↔ (Fits share.old item × GoesTooDeep share.old item) }
+        ensures why { IfErr result (λ why. IsReason item share.old why) }
+        ensures refused { OnErr result ((share.new ≡ share.old) × (self.new ≡ self.old)) }
+        ensures taken { OnOk result (IsTaken item share.old share.new self.old self.new) }
+        ensures kept { OnOk result ((set : Set) → AreKept set share.old.n share.old.id share.old self.old → AreKept set share.old.n share.old.id share.new self.new) }
+    {
+        // Numbers of settlements always fit.
+        let count = self.len();
+        prove!(count < u64::MAX / 2);
+        make_room(&mut self.stored, self.count)?;
+        let given = share.apply(item)?;
+        if let Some(settlement) = given {
+            store(&mut self.stored, self.count, self.n, settlement);
+            self.count += 1;
+        }
+        Ok(())
+    }
+}
+
+// Makes room behind the first `count` of those stored. `Memory` leaves all as it was.
+fn make_room(stored: &mut Segments<Stored>, count: u64) -> Result<(), Memory>
+    requires { count ≤ length stored.old }
+    ensures same { take count stored.new ≡ take count stored.old }
+    ensures within { count ≤ length stored.new }
+    ensures room { OnOk result (count < length stored.new) }
+    ensures bound { count ≤ 2 ^ 56 }
+{
+    if count == stored.len() {
+        stored.push(Stored {
+            place: 0,
+            was: 0,
+            now: 0,
+        })?;
+    }
+    Ok(())
+}
+
+// Stores a settlement of a class of owner `id` among `n` behind the first `count`, where there is room.
+fn store(stored: &mut Segments<Stored>, count: u64, n: usize, settlement: Settlement)
+    requires room { count < length stored.old }
+    requires number { settlement.number ≡ count }
+    requires owners { 0 < n }
+    requires place { settlement.class / n < 2 ^ 32 }
+    requires was { IsEntry settlement.was }
+    requires now { IsEntry settlement.now }
+    ensures one_more { (id : ℕ) → owner_of n settlement.class ≡ id → settlements_from n id 0 (take (count + 1) stored.new) ≡ settlements_from n id 0 (take count stored.old) ++ settlement ∷ [] }
+    ensures same { length stored.new ≡ length stored.old }
+{
+    stored[count as usize] = Stored {
+        place: (settlement.class / n as u64) as u32,
+        was: code_of_value(settlement.was),
+        now: code_of_value(settlement.now),
+    };
 }

@@ -11,7 +11,7 @@ ghost use Rattle.dob_node.specs.Takes.{HasEntries, StopsAt};
 use crate::cause::Cause;
 use crate::history::History;
 use crate::outboxes::{add_for_others, are_empty, cut_at, empty_outboxes};
-use crate::taking::{take_item, take_items};
+use crate::taking::take_items;
 use dob_moves::Status;
 use dob_pieces::{Memory, PieceSet};
 use dob_rank::Classes;
@@ -52,7 +52,7 @@ pub struct Part {
 
 impl Node {
     ghost use Rattle.dob_node.specs.Openings.{AreOpenings};
-    ghost use Rattle.dob_node.specs.Nodes.{outbox_to, IsSound, IsOpened, IsExpanded, HasApplied, HasRefused, HasTaken, HasCut, IsUnchanged, IsIdle, AreValuesNow};
+    ghost use Rattle.dob_node.specs.Nodes.{outbox_to, IsSound, IsOpened, IsExpanded, HasApplied, HasRefused, HasTaken, HasTakenBefore, HasCut, IsUnchanged, IsIdle, AreValuesNow};
     ghost use Rattle.dob_share.specs.Shares.{IsOwn, HasValueNow};
 
     /// The node of owner `id`, one of `n`, at most 16, before its first step. Its history has a settlement for each own
@@ -96,7 +96,8 @@ impl Node {
     /// Expands the first settlement of the history that isn't: its items for the own classes are to be applied, those for
     /// other nodes' classes are to be sent. False where there is none.
     ///
-    /// Error: `Memory`, after which the node is of no use.
+    /// Error: `Memory`, after which the cells and the history are as they were, but the node has perhaps some of the items
+    /// to apply and to send, and so is of no use.
     pub fn expand(&mut self, classes: &Classes) -> Result<bool, Cause>
         requires set { classes.now.set ≡ self.old.set }
         requires sound { IsSound self.old }
@@ -104,6 +105,7 @@ impl Node {
         ensures nothing { result ≡ Ok false → self.new ≡ self.old }
         ensures expanded { result ≡ Ok true → IsExpanded self.old self.new }
         ensures memory { IfErr result (λ why. why ≡ cause.Memory) }
+        ensures kept { OnErr result ((self.new.share ≡ self.old.share) × (self.new.history ≡ self.old.history) × (self.new.expanded ≡ self.old.expanded)) }
         ensures sound { OnOk result (IsSound self.new) }
     {
         if self.expanded == self.history.len() {
@@ -139,29 +141,30 @@ impl Node {
 
     /// Applies the first of the own items. False where there is none.
     ///
-    /// Errors: `Contradiction` where the item doesn't fit, else `TooDeep` where its class's value would be too deep, both
-    /// of which leave the node as it was; `Memory`, after which the node is of no use.
+    /// Errors, which leave the node as it was: `Memory`; else `Contradiction` where the item doesn't fit, else `TooDeep` where
+    /// its class's value would be too deep.
     pub fn apply_own(&mut self) -> Result<bool, Cause>
         requires { IsSound self.old }
         ensures done { (result ≡ Ok false) ↔ (self.old.own.items ≡ []) }
         ensures nothing { result ≡ Ok false → self.new ≡ self.old }
         ensures applied { result ≡ Ok true → HasApplied self.old self.new }
         ensures stopped { IfErr result (λ why. HasRefused self.old why) }
+        ensures refused { OnErr result (IsUnchanged self.old self.new) }
         ensures sound { OnOk result (IsSound self.new) }
     {
         if self.own.is_empty() {
             return Ok(false);
         }
         let item = self.own[0];
-        take_item(&mut self.share, &mut self.history, item)?;
+        self.history.take_item(&mut self.share, item)?;
         self.own.pop_front();
         Ok(true)
     }
 
     /// Applies the items of a batch of the node's piece set and number of nodes that is for it, in order.
     ///
-    /// Errors, after which the node is of no use: `Contradiction` where an item, once those before it are applied, doesn't
-    /// fit its class's cell; `TooDeep` where it fits and its class's value would be too deep; `Memory`.
+    /// Errors, after which just the items before one are applied: `Contradiction` where it doesn't fit its class's cell then;
+    /// `TooDeep` where it fits and its class's value would be too deep; `Memory`.
     pub fn apply_batch(&mut self, batch: &Batch) -> Result<(), Cause>
         requires sound { IsSound self.old }
         requires set { batch.now.set ≡ self.old.set }
@@ -170,6 +173,7 @@ impl Node {
         requires entries { All HasEntries batch.now.items }
         ensures taken { OnOk result (HasTaken batch.now.items self.old self.new) }
         ensures stopped { IfErr result (λ why. StopsAt batch.now.items self.old.share self.old.history why) }
+        ensures before { IfErr result (λ why. HasTakenBefore batch.now.items self.old self.new why) }
         ensures sound { OnOk result (IsSound self.new) }
     {
         take_items(&mut self.share, &mut self.history, batch.items())?;

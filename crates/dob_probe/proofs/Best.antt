@@ -1,5 +1,6 @@
 -- By the value table lines are the best lines, and none breaks off.
-use Rattle.std.proofs.Common.{◌≡◌, ℕ, zero, suc, ◌-◌, ◌≤◌, inl, inr, refl, sym, subst, ap, ◌∙◌, arith, List, [], ◌∷◌, Some, None, Result, Ok, Err, IfOk, IfErr, MatchResult}
+use Rattle.std.proofs.Common.{◌≡◌, ℕ, zero, suc, ◌-◌, ◌≤◌, inl, inr, refl, sym, subst, ap, ◌∙◌, arith, List, [], ◌∷◌, Some, None, Result, Ok, Err, IfOk, IfErr}
+use Rattle.std.proofs.Common.{MatchResult}
 use Rattle.std.proofs.lemmas.Bool.{cases_lt}
 use Rattle.dob_pieces.specs.declared.setup.Setup.{Setup}
 use Rattle.dob_moves.specs.declared.game_move.Move.{Move}
@@ -97,7 +98,8 @@ module _ (table : ClassTable) (right : IsValueTable table.set table.values) wher
   win_of n q (Loss e) value won = absurd (won_not_lost n e q won value.0)
   win_of n q Draw value won = absurd ((value n).0 won)
 
-  win_goes_on : (n : ℕ) (p : Setup) → IsPositionOf table.set p → ¬ CanCatch p → HasValue p (Win n) → ((m : Move) (q : Setup) → ¬ LeadsTo HasValue p (Loss (n - 1)) m q) → ⊥
+  win_goes_on : (n : ℕ) (p : Setup) → IsPositionOf table.set p → ¬ CanCatch p → HasValue p (Win n)
+      → ((m : Move) (q : Setup) → ¬ LeadsTo HasValue p (Loss (n - 1)) m q) → ⊥
   win_goes_on zero p is no_catch value none = value.0
   win_goes_on (suc n) p is no_catch value none = elim value.0 [
     | inl caught ↦ no_catch caught

@@ -5,7 +5,8 @@ use Rattle.dob_pieces.specs.declared.kind.HandKind.TheVariants as hand
 use Rattle.dob_pieces.specs.declared.setup.Setup.{Setup}
 use Rattle.dob_pieces.specs.Setups.{Cell, total, IsLegal}
 use Rattle.dob_rank.specs.declared.masks.Masks.{Masks}
-use Rattle.dob_rank.specs.Numbers.{layer, count, on_board}
+use Rattle.dob_rank.specs.declared.layers.Layer.TheVariants.{OwnLion, EnemyLion, Chicks, Elephants, Giraffes}
+use Rattle.dob_rank.specs.Numbers.{order, layer, count, on_board}
 use Rattle.dob_rank.specs.Masks.{layer_mask, from_mask}
 use Rattle.dob_rank.specs.BoardMasks.{AreMasks}
 use Rattle.dob_rank.proofs.Digits.{HasParts, HasParts-from_position}
@@ -56,11 +57,11 @@ left_are board masks h are =
 
 -- the numbers on the board, and the pieces in all
 pub record AreNumbers (s : Setup) (numbers : List ℕ) : Type 0 where
-  pub own_lion : count 0 (map layer s.board) ≡ 1
-  pub enemy_lion : count 1 (map layer s.board) ≡ 1
-  pub chicks_are : count 2 (map layer s.board) ≡ slice_index numbers 0
-  pub elephants_are : count 3 (map layer s.board) ≡ slice_index numbers 1
-  pub giraffes_are : count 4 (map layer s.board) ≡ slice_index numbers 2
+  pub own_lion : count (order OwnLion) (map layer s.board) ≡ 1
+  pub enemy_lion : count (order EnemyLion) (map layer s.board) ≡ 1
+  pub chicks_are : count (order Chicks) (map layer s.board) ≡ slice_index numbers 0
+  pub elephants_are : count (order Elephants) (map layer s.board) ≡ slice_index numbers 1
+  pub giraffes_are : count (order Giraffes) (map layer s.board) ≡ slice_index numbers 2
   pub few_chicks : slice_index numbers 0 ≤ 2
   pub few_elephants : slice_index numbers 1 ≤ 2
   pub few_giraffes : slice_index numbers 2 ≤ 2

@@ -12,9 +12,10 @@ use Rattle.dob_pieces.specs.declared.hand.Hand.{Hand}
 use Rattle.dob_pieces.specs.declared.piece_set.PieceSet.{PieceSet}
 use Rattle.dob_pieces.specs.declared.setup.Setup.{Setup}
 use Rattle.dob_pieces.specs.Setups.{Cell, at, held, holds_lion, holds_kind, total, IsLegal}
+use Rattle.dob_rank.specs.declared.layers.Layer.TheVariants.{OwnLion, EnemyLion, Chicks, Elephants, Giraffes}
 use Rattle.dob_rank.specs.Order.{IsPositionOf, pieces_of}
-use Rattle.dob_rank.specs.Numbers.{layer, count, count_from, choose, choice, settle, HasDigits, base_of, forms_number, board_of, bases_by}
-use Rattle.dob_rank.specs.Numbers.{block_bases, on_board, digits, numbers_by, layers_by, setup_by}
+use Rattle.dob_rank.specs.Numbers.{order, layer, count, count_from, choose, choice, settle, HasDigits, base_of, forms_number, board_of}
+use Rattle.dob_rank.specs.Numbers.{bases_by, block_bases, on_board, digits, numbers_by, layers_by, setup_by}
 use Rattle.dob_rank.proofs.Choices.{choice-below}
 use Rattle.dob_rank.proofs.Settled.{hidden, hide, hidden_lower, hidden_later, settle-choice, AreLayers}
 use Rattle.dob_rank.proofs.FormDigits.{AreLayers-map, forms_number-below, board_of-back}
@@ -24,12 +25,12 @@ use Rattle.dob_rank.proofs.LayerCounts.{count-layer, mover_lion, layer-at}
 -- what a position of the set says of its layers and hands
 pub record HasParts (set : PieceSet) (s : Setup) : Type 0 where
   pub squares : length (map layer s.board) ≡ 12
-  pub own_lion : count 0 (map layer s.board) ≡ 1
-  pub other_lion : count 1 (map layer s.board) ≡ 1
-  pub home : choice 0 (map layer s.board) < 9
-  pub chicks : count 2 (map layer s.board) + s.hands.mover.chicks + s.hands.enemy.chicks ≡ set.chicks
-  pub elephants : count 3 (map layer s.board) + s.hands.mover.elephants + s.hands.enemy.elephants ≡ set.elephants
-  pub giraffes : count 4 (map layer s.board) + s.hands.mover.giraffes + s.hands.enemy.giraffes ≡ set.giraffes
+  pub own_lion : count (order OwnLion) (map layer s.board) ≡ 1
+  pub other_lion : count (order EnemyLion) (map layer s.board) ≡ 1
+  pub home : choice (order OwnLion) (map layer s.board) < 9
+  pub chicks : count (order Chicks) (map layer s.board) + s.hands.mover.chicks + s.hands.enemy.chicks ≡ set.chicks
+  pub elephants : count (order Elephants) (map layer s.board) + s.hands.mover.elephants + s.hands.enemy.elephants ≡ set.elephants
+  pub giraffes : count (order Giraffes) (map layer s.board) + s.hands.mover.giraffes + s.hands.enemy.giraffes ≡ set.giraffes
 
 lion_home : (s : Setup) → IsLegal s → count 0 (map layer s.board) ≡ 1 → choice 0 (map layer s.board) < 9
 lion_home s legal one = elim (cases_lt (choice 0 (map layer s.board)) 9) [
@@ -59,10 +60,10 @@ HasParts-from_position set s p =
 
 -- how many squares each layer chooses from
 pub record HasRoom (s : Setup) : Type 0 where
-  pub one : count_from 1 (map layer s.board) ≡ 11
-  pub two : count_from 2 (map layer s.board) ≡ 10
-  pub three : count_from 3 (map layer s.board) ≡ 10 - count 2 (map layer s.board)
-  pub four : count_from 4 (map layer s.board) ≡ 10 - count 2 (map layer s.board) - count 3 (map layer s.board)
+  pub one : count_from (order EnemyLion) (map layer s.board) ≡ 11
+  pub two : count_from (order Chicks) (map layer s.board) ≡ 10
+  pub three : count_from (order Elephants) (map layer s.board) ≡ 10 - count (order Chicks) (map layer s.board)
+  pub four : count_from (order Giraffes) (map layer s.board) ≡ 10 - count (order Chicks) (map layer s.board) - count (order Elephants) (map layer s.board)
 
 HasRoom-from_parts : (set : PieceSet) (s : Setup) → HasParts set s → HasRoom s
 HasRoom-from_parts set s h =

@@ -95,9 +95,9 @@ choice t (l ∷ ls) = cond (nat_lt t l) (with_first (count_from t ls) (count t l
 abbrev pub settle : ℕ → ℕ → ℕ → List ℕ → List ℕ
 settle t pieces number [] = []
 settle t pieces number (l ∷ ls) =
-    let first = with_first (count 5 ls) pieces in
-    cond (l == 5)
-    (cond (nat_lt number first) (t ∷ settle t (pieces - 1) number ls) (5 ∷ settle t pieces (number - first) ls))
+    let first = with_first (count (order Empty) ls) pieces in
+    cond (l == order Empty)
+    (cond (nat_lt number first) (t ∷ settle t (pieces - 1) number ls) (order Empty ∷ settle t pieces (number - first) ls))
     (l ∷ settle t pieces number ls)
 
 -- ---- forms, as digits in the base of their layer
@@ -163,15 +163,17 @@ bases_by set on_board = bases set (slice_index on_board 0) (slice_index on_board
 abbrev pub on_board : Setup → List ℕ
 on_board setup =
     let ls = map layer setup.board in
-    count 2 ls ∷ count 3 ls ∷ count 4 ls ∷ []
+    count (order Chicks) ls ∷ count (order Elephants) ls ∷ count (order Giraffes) ls ∷ []
 
 -- the digits of a setup in its block
 abbrev pub digits : Setup → List ℕ
 digits setup =
     let ls = map layer setup.board in
     setup.hands.mover.chicks ∷ setup.hands.mover.elephants ∷ setup.hands.mover.giraffes
-    ∷ choice 0 ls ∷ choice 1 ls ∷ choice 2 ls ∷ choice 3 ls ∷ choice 4 ls
-    ∷ forms_number 2 setup.board ∷ forms_number 3 setup.board ∷ forms_number 4 setup.board ∷ []
+    ∷ choice (order OwnLion) ls ∷ choice (order EnemyLion) ls
+    ∷ choice (order Chicks) ls ∷ choice (order Elephants) ls ∷ choice (order Giraffes) ls
+    ∷ forms_number (order Chicks) setup.board ∷ forms_number (order Elephants) setup.board
+    ∷ forms_number (order Giraffes) setup.board ∷ []
 
 -- the numbers of the forms, by layer
 abbrev pub numbers_by : List ℕ → ℕ → ℕ
@@ -180,10 +182,10 @@ numbers_by ds = slice_index (0 ∷ 0 ∷ slice_index ds 8 ∷ slice_index ds 9 �
 -- the layers that the numbers on the board and the digits settle, one after another
 abbrev pub layers_by : List ℕ → List ℕ → List ℕ
 layers_by on_board ds =
-    settle 4 (slice_index on_board 2) (slice_index ds 7)
-    (settle 3 (slice_index on_board 1) (slice_index ds 6)
-    (settle 2 (slice_index on_board 0) (slice_index ds 5)
-    (settle 1 1 (slice_index ds 4) (settle 0 1 (slice_index ds 3) (replicate 12 5)))))
+    settle (order Giraffes) (slice_index on_board 2) (slice_index ds 7)
+    (settle (order Elephants) (slice_index on_board 1) (slice_index ds 6)
+    (settle (order Chicks) (slice_index on_board 0) (slice_index ds 5)
+    (settle (order EnemyLion) 1 (slice_index ds 4) (settle (order OwnLion) 1 (slice_index ds 3) (replicate 12 (order Empty))))))
 
 -- the mover's hand that the digits say, and the enemy's with all other pieces of the set
 abbrev pub hand_by : List ℕ → Hand

@@ -3,7 +3,8 @@
 use Rattle.std.specs.Prelude.{◌≤◌, ℕ, zero, suc, ◌+◌, ◌-◌, ◌*◌, ◌/◌, ◌%◌, ◌^◌, nat_lt, if◌then◌else◌, List, [], ◌∷◌, map, slice_index}
 use Rattle.dob_pieces.specs.declared.piece_set.PieceSet.{PieceSet}
 use Rattle.dob_pieces.specs.declared.setup.Setup.{Setup}
-use Rattle.dob_rank.specs.Numbers.{product, digits_of, layer, choose, choice, block_bases, start_of}
+use Rattle.dob_rank.specs.declared.layers.Layer.TheVariants.{OwnLion, EnemyLion}
+use Rattle.dob_rank.specs.Numbers.{product, digits_of, order, layer, choose, choice, block_bases, start_of}
 use Rattle.dob_rank.specs.declared.runs.RunKind.{RunKind}
 use Rattle.dob_rank.specs.declared.runs.RunKind.TheVariants.{First, Later, Mixed}
 
@@ -41,9 +42,15 @@ run_size set block = product (local_bases (digits_of (block_bases set) block))
 unfoldable pub run_start : PieceSet → ℕ → ℕ → ℕ
 run_start set block run = start_of set block + run * run_size set block
 
--- the number of the lions' squares, below 99
+-- on how many pairs of squares the lions can stand: 9 for the mover's, 11 others for the enemy's
+abbrev pub lion_pairs : ℕ
+lion_pairs = 99
+
+-- the number of the lions' squares, below `lion_pairs`
 abbrev pub lions_of : Setup → ℕ
-lions_of setup = choice 0 (map layer setup.board) * 11 + choice 1 (map layer setup.board)
+lions_of setup =
+    let ls = map layer setup.board in
+    choice (order OwnLion) ls * 11 + choice (order EnemyLion) ls
 
 -- the square of the enemy's lion, by its number among those that the mover's lion leaves
 abbrev pub enemy_square : ℕ → ℕ → ℕ

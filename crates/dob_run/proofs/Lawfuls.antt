@@ -1,52 +1,75 @@
 -- Each step of a worker leaves it lawful.
-use Rattle.std.proofs.Common.{◌≡◌, ◌≢◌, ℕ, ◌^◌, ◌<◌, ◌≤◌, refl, sym, ap, ◌∙◌, subst, arith, append_assoc, List, [], ◌∷◌, ◌++◌, length, length-append, take, drop, Bool, true, false, Some, inl, inr}
+use Rattle.std.proofs.Common.{◌≡◌, ◌≢◌, ℕ, ◌-◌, ◌^◌, ◌<◌, ◌≤◌, eqb, cond, Option, None, refl, sym, ap, ◌∙◌, subst, arith, append_assoc, List, [], ◌∷◌, ◌++◌, length, length-append, take, drop, Bool, true, false, Some, inl, inr}
 use Rattle.std.specs.Prelude.{slice_get, slice_set}
 use Rattle.std.proofs.lemmas.List.{append-nil, take-append-drop, length-take}
-use Rattle.std.proofs.lemmas.Bool.{cases_lt}
+use Rattle.std.specs.List.{All}
+use Rattle.std.proofs.lemmas.Bool.{cases_lt, cases_eq}
+use Rattle.std.proofs.lemmas.List.Elements.{All-head}
 use Rattle.std.proofs.lemmas.Option.{slice_get_within}
 use Rattle.dob_pieces.specs.declared.piece_set.PieceSet.{PieceSet}
 use Rattle.dob_unmove.specs.Edges.{predecessors}
 use Rattle.dob_share.specs.declared.news.Settlement.{Settlement}
 use Rattle.dob_share.specs.declared.news.Item.{Item}
+use Rattle.dob_share.specs.declared.share.Share.{Share}
 use Rattle.dob_update.specs.Items.{items_of, items_from}
 use Rattle.dob_update.specs.Batches.{BatchView, OutboxView, empty_outbox}
 use Rattle.dob_node.specs.Stores.{HistoryView}
 use Rattle.dob_node.specs.declared.node.Node.{Node}
-use Rattle.dob_node.specs.Takes.{listed}
+use Rattle.dob_node.specs.Takes.{HasEntries, listed}
 use Rattle.dob_node.specs.Nodes.{outbox_to, IsSound, IsIdle, IsExpanded, HasApplied, HasTaken, HasCut}
 use Rattle.dob_node.specs.Outboxes.{outbox_in}
 use Rattle.dob_run.specs.declared.hands.Outlet.{Outlet}
+use Rattle.dob_run.specs.declared.hands.Inlet.{Inlet}
 use Rattle.dob_run.specs.declared.mail.Mail.{Mail}
-use Rattle.dob_run.specs.Links.{offered, KeepsOutlet}
+use Rattle.dob_run.specs.Knows.{KnowsRight}
+use Rattle.dob_run.specs.Links.{offered, worked, KeepsOutlet}
 use Rattle.dob_run.specs.Mails.{HasChangedOne, AreOut}
 use Rattle.dob_run.specs.Runners.{IsNew}
-use Rattle.dob_run.specs.Workers.{planned, items_in, AreLast, SendsRight, IsLawful}
+use Rattle.dob_run.specs.Workers.{planned, items_in, items_worked, own_applied, applied_from, AreLast, SendsRight, IsLawful}
+use Rattle.dob_run.proofs.Applied.{own_less, own_more, own_still, applied_here, applied_else, applied_still, knows_after}
+use Rattle.dob_run.proofs.Knowing.{taken_one, knows_same, taken_all}
+use Rattle.dob_run.proofs.Opened.{knows_opened}
 use Rattle.dob_run.proofs.Keeping.{each_after}
 use Rattle.dob_run.proofs.Planned.{told_more, told_grown, history_grown, last_more, last_less, items_in_more, each_more}
 
 -- ---- the mail alone changed
 
+worked_still : (node : Node) (old new : Mail) → ((k : ℕ) → items_worked (slice_get new.inlets.items k) ≡ items_worked (slice_get old.inlets.items k)) →
+    KnowsRight node.set node.n node.id node.share node.history.settlements (applied_from node old.inlets.items) →
+    KnowsRight node.set node.n node.id node.share node.history.settlements (applied_from node new.inlets.items)
+worked_still node old new same = knows_same node.set node.n node.id node.share node.history.settlements (applied_from node old.inlets.items)
+    (applied_from node new.inlets.items) (applied_still node node old.inlets.items new.inlets.items refl refl same)
+
+pub same_inlets : (old new : Mail) → new.inlets ≡ old.inlets → (k : ℕ) → items_worked (slice_get new.inlets.items k) ≡ items_worked (slice_get old.inlets.items k)
+same_inlets old new same k = ap (λ v. items_worked (slice_get v.items k)) same
+
 -- the same links, and another colour or the same
 pub recoloured : (set : PieceSet) (size : ℕ) (node : Node) (old new : Mail) → IsLawful set size node old → new.seat.node ≡ old.seat.node →
-    new.seat.nodes ≡ old.seat.nodes → new.outlets.items ≡ old.outlets.items → (new.seat.black ≡ false → IsIdle node × AreOut old.outlets.items) →
-    IsLawful set size node new
-recoloured set size node old new law same_node same_nodes same_outlets white = record {
+    new.seat.nodes ≡ old.seat.nodes → new.outlets.items ≡ old.outlets.items →
+    ((k : ℕ) → items_worked (slice_get new.inlets.items k) ≡ items_worked (slice_get old.inlets.items k)) →
+    (new.seat.black ≡ false → IsIdle node × AreOut old.outlets.items) → IsLawful set size node new
+recoloured set size node old new law same_node same_nodes same_outlets same_worked white = record {
   of = (law.of.0, law.of.1 ∙ sym same_node, law.of.2 ∙ sym same_nodes);
   sound = law.sound;
   sends = λ to outlet apart at. law.sends to outlet (λ e. apart (e ∙ sym same_node)) (ap (λ os. slice_get os to) (sym same_outlets) ∙ at);
+  unused = λ outlet at. law.unused outlet (ap (λ i. slice_get old.outlets.items i) (sym same_node) ∙ ap (λ os. slice_get os new.seat.node) (sym same_outlets) ∙ at);
   own = law.own;
+  knows = worked_still node old new same_worked law.knows;
   white = λ is. (let rest = white is in (rest.0, subst AreOut (sym same_outlets) rest.1));
 }
 
 -- one outlet was offered what it was before
 pub offered_again : (set : PieceSet) (size to : ℕ) (node : Node) (old new : Mail) → IsLawful set size node old → new.seat ≡ old.seat →
     HasChangedOne (λ (before after : Outlet). KeepsOutlet before after × (offered after ≡ offered before)) to old.outlets.items new.outlets.items →
-    (AreOut old.outlets.items → AreOut new.outlets.items) → IsLawful set size node new
-offered_again set size to node old new law seat one hands = record {
+    new.inlets ≡ old.inlets → (AreOut old.outlets.items → AreOut new.outlets.items) → IsLawful set size node new
+offered_again set size to node old new law seat one inlets hands = record {
   of = (law.of.0, law.of.1 ∙ sym (ap (λ s. s.node) seat), law.of.2 ∙ sym (ap (λ s. s.nodes) seat));
   sound = law.sound;
   sends = λ j outlet apart at. there j outlet (subst (λ os. slice_get os j ≡ Some outlet) one.4 at) (λ e. apart (e ∙ sym (ap (λ s. s.node) seat)));
+  unused = λ outlet at. nothing old.seat.node outlet (subst (λ os. slice_get os old.seat.node ≡ Some outlet) one.4
+      (ap (λ s. slice_get new.outlets.items s.node) (sym seat) ∙ at)) refl;
   own = law.own;
+  knows = worked_still node old new (same_inlets old new inlets) law.knows;
   white = λ is. (let rest = law.white (sym (ap (λ s. s.black) seat) ∙ is) in (rest.0, hands rest.1));
 }
   where
@@ -54,6 +77,11 @@ offered_again set size to node old new law seat one hands = record {
     there = each_after (λ j outlet. j ≢ old.seat.node → SendsRight node size j (offered outlet)) old.outlets.items to one.1
         (λ j outlet other at apart. law.sends j outlet apart at)
         (λ apart. subst (λ bs. SendsRight node size to bs) (sym one.3.1) (law.sends to one.0 apart one.2))
+
+    nothing : (j : ℕ) (outlet : Outlet) → slice_get (slice_set old.outlets.items to one.1) j ≡ Some outlet → j ≡ old.seat.node → offered outlet ≡ []
+    nothing = each_after (λ j outlet. j ≡ old.seat.node → offered outlet ≡ []) old.outlets.items to one.1
+        (λ j outlet other at own. law.unused outlet (ap (λ i. slice_get old.outlets.items i) (sym own) ∙ at))
+        (λ own. one.3.1 ∙ law.unused one.0 (ap (λ i. slice_get old.outlets.items i) (sym own) ∙ one.2))
 
 -- ---- the node alone changed
 
@@ -99,27 +127,67 @@ applied_own set size old new mail law step sound =
           (outbox_same old new to step.same.0 step.same.1 step.same.2 step.outboxes) (law.sends to outlet apart at);
       own = subst (λ w. AreLast w new.own.items) (sym (ap (λ i. planned new i) step.same.1 ∙ plan old.id))
           (last_less (planned old old.id) step.item new.own.items (subst (λ own. AreLast (planned old old.id) own) step.first law.own));
+      unused = law.unused;
+      knows = knows_after old new (applied_from new mail.inlets.items) step.same.0 step.same.1 step.same.2
+          (taken_one old.set old.n old.id old.share new.share old.history new.history (applied_from old mail.inlets.items) (applied_from new mail.inlets.items)
+          old.id law.sound.kept.one_of_n step.item
+          (one_more (ap (λ i. planned new i) step.same.1 ∙ plan old.id)) (λ k other. elsewhere k other) law.sound.kept
+          (All-head HasEntries step.item new.own.items (subst (λ xs. All HasEntries xs) step.first law.sound.entries)) step.taken law.knows);
       white = λ is. absurd (nothing_first old.own.items step.item new.own.items ((law.white is).0.applied) step.first);
     }
   where
+    one_more : planned new new.id ≡ planned old old.id → applied_from new mail.inlets.items old.id ≡ applied_from old mail.inlets.items old.id ++ step.item ∷ []
+    one_more plan =
+        applied_here new mail.inlets.items old.id (sym step.same.1)
+        ∙ ap (λ (xs : List Item). take (length xs - length new.own.items) xs) plan
+        ∙ own_less (planned old old.id) old.own.items step.item new.own.items law.own step.first
+        ∙ ap (λ xs. xs ++ step.item ∷ []) (sym (applied_here old mail.inlets.items old.id refl))
+
+    elsewhere : (k : ℕ) → k ≢ old.id → applied_from new mail.inlets.items k ≡ applied_from old mail.inlets.items k
+    elsewhere k other = applied_else new mail.inlets.items k (λ e. other (e ∙ step.same.1)) ∙ sym (applied_else old mail.inlets.items k other)
+
     nothing_first : (own : List Item) (item : Item) (rest : List Item) → own ≡ [] → own ≡ item ∷ rest → ⊥
     nothing_first own item rest none some = absurd (cc)
 
--- a batch was applied, and the seat is black
-pub applied_batch : (set : PieceSet) (size : ℕ) (items : List Item) (old new : Node) (mail : Mail) → IsLawful set size old mail → mail.seat.black ≡ true →
-    HasTaken items old new → IsSound new → IsLawful set size new mail
-applied_batch set size items old new mail law black step sound =
-    let more = history_grown items old.share new.share old.history new.history step.taken in
-    let plan : (to : ℕ) → planned new to ≡ planned old to =
-    λ to. planned_same old new to step.same.0 step.same.2 step.same.3 more.0 more.1 law.sound.told in record {
-      of = (step.same.0 ∙ law.of.0, step.same.1 ∙ law.of.1, step.same.2 ∙ law.of.2);
-      sound = sound;
-      sends = λ to outlet apart at. sends_still old new size to (offered outlet) (plan to)
-          (outbox_same old new to step.same.0 step.same.1 step.same.2 step.outboxes) (law.sends to outlet apart at);
-      own = subst (λ w. AreLast w new.own.items) (sym (ap (λ i. planned new i) step.same.1 ∙ plan old.id))
-          (subst (λ own. AreLast (planned old old.id) own) (sym step.own) law.own);
-      white = λ is. absurd (no_colour mail.seat.black black is);
-    }
+-- a batch of another node was counted as worked in, which blackens the seat, and applied
+pub applied_batch : (set : PieceSet) (size from : ℕ) (batch : BatchView) (node after : Node) (old new : Mail) → IsLawful set size node old →
+    from < old.seat.nodes → from ≢ old.seat.node → All HasEntries batch.items → HasTaken batch.items node after → IsSound after →
+    new.seat.node ≡ old.seat.node → new.seat.nodes ≡ old.seat.nodes → new.seat.black ≡ true → new.outlets.items ≡ old.outlets.items →
+    ((k : ℕ) → k ≢ from → items_worked (slice_get new.inlets.items k) ≡ items_worked (slice_get old.inlets.items k)) →
+    items_worked (slice_get new.inlets.items from) ≡ items_worked (slice_get old.inlets.items from) ++ batch.items → IsLawful set size after new
+applied_batch set size from batch node after old new law low apart entries step sound same_node same_nodes black same_outlets same_worked more_worked = record {
+  of = (step.same.0 ∙ law.of.0, step.same.1 ∙ (law.of.1 ∙ sym same_node), step.same.2 ∙ (law.of.2 ∙ sym same_nodes));
+  sound = sound;
+  sends = λ to outlet other at. sends_still node after size to (offered outlet) (plan to)
+      (outbox_same node after to step.same.0 step.same.1 step.same.2 step.outboxes)
+      (law.sends to outlet (λ e. other (e ∙ sym same_node)) (ap (λ os. slice_get os to) (sym same_outlets) ∙ at));
+  unused = λ outlet at. law.unused outlet (ap (λ i. slice_get old.outlets.items i) (sym same_node) ∙ ap (λ os. slice_get os new.seat.node) (sym same_outlets) ∙ at);
+  own = subst (λ w. AreLast w after.own.items) (sym own_plan) (subst (λ own. AreLast (planned node node.id) own) (sym step.own) law.own);
+  knows = knows_after node after (applied_from after new.inlets.items) step.same.0 step.same.1 step.same.2
+      (taken_all node.set node.n node.id from (subst (λ m. from < m) (sym law.of.2) low) batch.items node.share after.share node.history after.history
+      (applied_from node old.inlets.items) (applied_from after new.inlets.items) law.sound.kept entries step.taken one_more elsewhere law.knows);
+  white = λ is. absurd (no_colour new.seat.black black is);
+}
+  where
+    plan : (to : ℕ) → planned after to ≡ planned node to
+    plan to = (let more = history_grown batch.items node.share after.share node.history after.history step.taken in
+        planned_same node after to step.same.0 step.same.2 step.same.3 more.0 more.1 law.sound.told)
+
+    own_plan : planned after after.id ≡ planned node node.id
+    own_plan = ap (λ i. planned after i) step.same.1 ∙ plan node.id
+
+    not_own : from ≢ node.id
+    not_own e = apart (e ∙ law.of.1)
+
+    one_more : applied_from after new.inlets.items from ≡ applied_from node old.inlets.items from ++ batch.items
+    one_more = applied_else after new.inlets.items from (λ e. not_own (e ∙ step.same.1)) ∙ more_worked
+        ∙ ap (λ xs. xs ++ batch.items) (sym (applied_else node old.inlets.items from not_own))
+
+    elsewhere : (k : ℕ) → k ≢ from → applied_from after new.inlets.items k ≡ applied_from node old.inlets.items k
+    elsewhere k other =
+        ap (λ i. cond (eqb k i) (own_applied after) (items_worked (slice_get new.inlets.items k))) step.same.1
+        ∙ ap (λ xs. cond (eqb k node.id) xs (items_worked (slice_get new.inlets.items k))) (own_still node after own_plan step.own)
+        ∙ ap (λ xs. cond (eqb k node.id) (own_applied node) xs) (same_worked k other)
 
 -- a settlement was expanded
 pub expanded_one : (set : PieceSet) (size : ℕ) (old new : Node) (mail : Mail) → IsLawful set size old mail → IsExpanded old new → IsSound new →
@@ -132,6 +200,12 @@ expanded_one set size old new mail law step sound = record {
   own = subst (λ w. AreLast w new.own.items) (sym (ap (λ i. planned new i) step.same.1 ∙ plan old.id))
       (subst (λ own. AreLast (planned old old.id ++ items_of (predecessors old.set) old.n old.id step.settlement) own) (sym step.own)
       (last_more (planned old old.id) old.own.items (items_of (predecessors old.set) old.n old.id step.settlement) law.own));
+  unused = law.unused;
+  knows = knows_after old new (applied_from new mail.inlets.items) step.same.0 step.same.1 step.same.2
+      (subst (λ (sh : Share). KnowsRight old.set old.n old.id sh new.history.settlements (applied_from new mail.inlets.items)) (sym step.same.3)
+      (subst (λ (hv : HistoryView). KnowsRight old.set old.n old.id old.share hv.settlements (applied_from new mail.inlets.items)) (sym step.same.4)
+      (knows_same old.set old.n old.id old.share old.history.settlements (applied_from old mail.inlets.items) (applied_from new mail.inlets.items)
+      (applied_still old new mail.inlets.items mail.inlets.items step.same.1 own_same (λ k. refl)) law.knows)));
   white = λ is. (let all = (law.white is).0.expanded in
       let some = slice_get_within old.history.settlements old.expanded step.settlement step.first in absurd (omega (arith, all, some)));
 }
@@ -147,6 +221,13 @@ expanded_one set size old new mail law step sound = record {
         ∙ ap (λ e. items_from (predecessors old.set) old.n to (take e old.history.settlements)) step.expanded
         ∙ told_more (predecessors old.set) old.n to old.history.settlements old.expanded step.settlement step.first
 
+    own_same : own_applied new ≡ own_applied old
+    own_same =
+        let more = items_of (predecessors old.set) old.n old.id step.settlement in
+        ap (λ (xs : List Item). take (length xs - length new.own.items) xs) (ap (λ i. planned new i) step.same.1 ∙ plan old.id)
+        ∙ ap (λ (xs : List Item). take (length (planned old old.id ++ more) - length xs) (planned old old.id ++ more)) step.own
+        ∙ own_more (planned old old.id) old.own.items more
+
     sent : (to : ℕ) (batches : List BatchView) → to < old.n → to ≢ old.id → SendsRight old size to batches → SendsRight new size to batches
     sent to batches within apart sends =
         let items = items_of (predecessors old.set) old.n to step.settlement in
@@ -160,18 +241,31 @@ expanded_one set size old new mail law step sound = record {
 -- ---- a batch was cut and put into the hand of an outlet
 
 pub cut_one : (set : PieceSet) (size to : ℕ) (batch : BatchView) (node after : Node) (old new : Mail) → IsLawful set size node old →
-    HasCut to size batch node after → IsSound after → new.seat.node ≡ old.seat.node → new.seat.nodes ≡ old.seat.nodes → new.seat.black ≡ true →
+    to ≢ old.seat.node → HasCut to size batch node after → IsSound after → new.seat.node ≡ old.seat.node → new.seat.nodes ≡ old.seat.nodes → new.seat.black ≡ true →
     HasChangedOne (λ (x y : Outlet). (y.end ≡ x.end) × (offered y ≡ offered x ++ batch ∷ [])) to old.outlets.items new.outlets.items →
-    IsLawful set size after new
-cut_one set size to batch node after old new law step sound same_node same_nodes black one = record {
+    new.inlets ≡ old.inlets → IsLawful set size after new
+cut_one set size to batch node after old new law not_own step sound same_node same_nodes black one inlets = record {
   of = (step.same.0 ∙ law.of.0, step.same.1 ∙ (law.of.1 ∙ sym same_node), step.same.2 ∙ (law.of.2 ∙ sym same_nodes));
   sound = sound;
   sends = λ j outlet apart at. there j outlet (subst (λ os. slice_get os j ≡ Some outlet) one.4 at) (λ e. apart (e ∙ sym same_node));
   own = subst (λ w. AreLast w after.own.items) (sym (ap (λ i. planned after i) step.same.1 ∙ plan node.id))
       (subst (λ own. AreLast (planned node node.id) own) (sym step.kept.2) law.own);
+  unused = λ outlet at. nothing old.seat.node outlet (subst (λ os. slice_get os old.seat.node ≡ Some outlet) one.4
+      (ap (λ i. slice_get new.outlets.items i) (sym same_node) ∙ at)) refl;
+  knows = knows_after node after (applied_from after new.inlets.items) step.same.0 step.same.1 step.same.2
+      (subst (λ (sh : Share). KnowsRight node.set node.n node.id sh after.history.settlements (applied_from after new.inlets.items)) (sym step.kept.0)
+      (subst (λ (hv : HistoryView). KnowsRight node.set node.n node.id node.share hv.settlements (applied_from after new.inlets.items)) (sym step.kept.1)
+      (knows_same node.set node.n node.id node.share node.history.settlements (applied_from node old.inlets.items) (applied_from after new.inlets.items)
+      (applied_still node after old.inlets.items new.inlets.items step.same.1
+      (own_still node after (ap (λ i. planned after i) step.same.1 ∙ plan node.id) step.kept.2) (same_inlets old new inlets)) law.knows)));
   white = λ is. absurd (no_colour new.seat.black black is);
 }
   where
+    nothing : (j : ℕ) (outlet : Outlet) → slice_get (slice_set old.outlets.items to one.1) j ≡ Some outlet → j ≡ old.seat.node → offered outlet ≡ []
+    nothing = each_after (λ j outlet. j ≡ old.seat.node → offered outlet ≡ []) old.outlets.items to one.1
+        (λ j outlet other at own. law.unused outlet (ap (λ i. slice_get old.outlets.items i) (sym own) ∙ at))
+        (λ own. absurd (not_own own))
+
     plan : (j : ℕ) → planned after j ≡ planned node j
     plan j = planned_same node after j step.same.0 step.same.2 step.same.3 []
         (ap (λ (h : HistoryView). h.settlements) step.kept.1 ∙ sym (append-nil node.history.settlements)) law.sound.told
@@ -207,12 +301,34 @@ begun set size node mail is = record {
         cut = ap (λ (o : OutboxView). o.next) outbox ∙ ap length (sym nothing);
         small = λ k batch there. absurd (none_there (offered outlet) nothing k batch there);
       });
+  unused = λ outlet at. is.unsent mail.seat.node outlet at;
   own = subst (λ own. AreLast (planned node node.id) own) (sym is.opened.nothing.1) (subst (λ w. AreLast w []) (sym (planned_none node.id)) refl);
+  knows = knows_at_start (applied_from node mail.inlets.items) none_applied;
   white = λ colour. absurd (no_colour mail.seat.black is.black colour);
 }
   where
     planned_none : (to : ℕ) → planned node to ≡ []
     planned_none to = ap (λ e. items_from (predecessors node.set) node.n to (take e node.history.settlements)) is.opened.nothing.0
+
+    none_worked : (from : ℕ) (o : Option Inlet) → ((inlet : Inlet) → o ≡ Some inlet → worked inlet ≡ []) → items_worked o ≡ []
+    none_worked from None none = refl
+    none_worked from (Some inlet) none = ap items_in (none inlet refl)
+
+    none_applied : (k : ℕ) → applied_from node mail.inlets.items k ≡ []
+    none_applied k = (let own : own_applied node ≡ [] = ap (λ (xs : List Item). take (length xs - length node.own.items) xs) (planned_none node.id)
+        ∙ ap (λ (xs : List Item). take (0 - length xs) []) is.opened.nothing.1 in
+        elim (cases_eq k node.id) [
+          | inl here ↦ applied_here node mail.inlets.items k here ∙ own
+          | inr other ↦ applied_else node mail.inlets.items k other
+              ∙ none_worked k (slice_get mail.inlets.items k) (λ inlet there. is.untaken k inlet there)
+        ])
+
+    knows_at_start : (applied : ℕ → List Item) → ((k : ℕ) → applied k ≡ []) → KnowsRight node.set node.n node.id node.share node.history.settlements applied
+    knows_at_start applied none =
+        subst (λ (s : PieceSet). KnowsRight s node.n node.id node.share node.history.settlements applied) (sym is.opened.of.0)
+        (subst (λ (i : ℕ). KnowsRight set node.n i node.share node.history.settlements applied) (sym is.opened.of.1)
+        (subst (λ (m : ℕ). KnowsRight set m mail.seat.node node.share node.history.settlements applied) (sym is.opened.of.2)
+        (knows_opened set mail.seat.nodes mail.seat.node is.openings node is.are_openings is.opened is.sound applied none)))
 
     none_there : (batches : List BatchView) → batches ≡ [] → (k : ℕ) (b : BatchView) → slice_get batches k ≡ Some b → ⊥
     none_there [] none k b there = absurd (cc)

@@ -1,11 +1,10 @@
 -- Mails taken apart one by one, and what their channels' ends are then.
-use Rattle.std.proofs.Common.{◌≡◌, ◌≢◌, ℕ, zero, suc, ◌+◌, ◌*◌, ◌<◌, ◌≤◌, ◌⊎◌, inl, inr, List, [], ◌∷◌, ◌++◌, length, map, Option, Some, refl, sym, ap, ◌∙◌, subst, arith, length-append, append_assoc}
+use Rattle.std.proofs.Common.{◌≡◌, ℕ, zero, suc, ◌+◌, ◌*◌, ◌<◌, inl, inr, List, [], ◌∷◌, ◌++◌, length, map, Some, refl, sym, ap, ◌∙◌, subst, arith, length-append, append_assoc}
 use Rattle.std.specs.Prelude.{slice_get}
 use Rattle.std.proofs.lemmas.List.{length-map, append-nil}
 use Rattle.std.proofs.Common.{Global}
 use Rattle.std.specs.declared.vec.Vec.{Vec}
 use Rattle.dob_board.specs.declared.board.Board.{Board}
-use Rattle.dob_board.specs.Seats.{AreSeats, AreWords}
 use Rattle.dob_chan.specs.declared.ends.SendEnd.{SendEnd}
 use Rattle.dob_chan.specs.declared.ends.TakeEnd.{TakeEnd}
 use Rattle.dob_chan.specs.declared.calls.Rejoined.{Rejoined}
@@ -14,7 +13,7 @@ use Rattle.dob_run.specs.declared.hands.Outlet.{Outlet}
 use Rattle.dob_run.specs.declared.hands.Inlet.{Inlet}
 use Rattle.dob_run.specs.declared.mail.Mail.{Mail}
 use Rattle.dob_run.specs.declared.closing.Parts.{Parts}
-use Rattle.dob_run.specs.Rows.{StandsAt, AreRows}
+use Rattle.dob_run.specs.Rows.{StandsAt}
 use Rattle.dob_run.specs.Ending.{outlet_end, inlet_end, AreDealt, IsJoined, AreEnds, AreJoined}
 use Rattle.dob_run.specs.Closing.{AreLinked, seat_in, IsCrew, row_of, ends_out, ends_in, hands_out, hands_in, HasRowMore, HasAdded, ArePartsOf}
 use Rattle.dob_run.proofs.Places.{at_end, get_last, get_before, inside, one_thing}

@@ -1,12 +1,12 @@
 -- Ends dealt and channels ended one by one.
-use Rattle.std.proofs.Common.{◌≡◌, ◌≢◌, ℕ, zero, suc, ◌+◌, ◌*◌, ◌<◌, ◌≤◌, ◌⊎◌, inl, inr, List, [], ◌∷◌, ◌++◌, length, set, drop, Some, refl, sym, ap, ◌∙◌, subst, arith, rules, length-append, length-set, append_assoc}
+use Rattle.std.proofs.Common.{◌≡◌, ◌≢◌, ℕ, ◌+◌, ◌*◌, ◌<◌, ◌≤◌, inl, inr, List, [], ◌∷◌, ◌++◌, length, set, drop, Some, refl, sym, ap, ◌∙◌, subst, arith, rules, length-append, length-set, append_assoc}
 use Rattle.std.specs.Prelude.{slice_get}
 use Rattle.std.specs.declared.vec.Vec.{Vec}
 use Rattle.dob_safra.proofs.Kept.{same_or_not}
 use Rattle.dob_chan.specs.declared.ends.SendEnd.{SendEnd}
 use Rattle.dob_chan.specs.declared.ends.TakeEnd.{TakeEnd}
 use Rattle.dob_chan.specs.declared.calls.Rejoined.{Rejoined}
-use Rattle.dob_run.specs.Rows.{StandsAt, AreRows}
+use Rattle.dob_run.specs.Rows.{StandsAt}
 use Rattle.dob_run.specs.Ending.{AreDealt, IsJoined, AreRowJoined, AreJoined}
 use Rattle.dob_run.proofs.Counted.{there_set, else_set}
 use Rattle.dob_run.proofs.Places.{get_last, get_before, get_front, inside, one_thing, next_is, then_left, all_gone}

@@ -1,9 +1,8 @@
 -- Seats that get their rows and columns of links one by one, and what their mails are then.
-use Rattle.std.proofs.Common.{◌≡◌, ◌≢◌, ℕ, zero, suc, ◌+◌, ◌-◌, ◌<◌, ◌≤◌, ◌⊎◌, inl, inr, List, [], ◌∷◌, ◌++◌, length, map, drop, take, replicate, Some, None, refl, sym, ap, ◌∙◌, subst, arith, length-append}
+use Rattle.std.proofs.Common.{◌≡◌, ◌≢◌, ℕ, zero, suc, ◌+◌, ◌-◌, ◌<◌, ◌≤◌, inl, inr, List, [], ◌∷◌, ◌++◌, length, map, drop, take, replicate, Some, refl, sym, ap, ◌∙◌, subst, arith, length-append}
 use Rattle.std.specs.Prelude.{slice_get, slice_index}
 use Rattle.std.proofs.lemmas.List.{length-map}
 use Rattle.std.specs.declared.vec.Vec.{Vec}
-use Rattle.dob_safra.proofs.Kept.{same_or_not}
 use Rattle.dob_update.specs.Batches.{BatchView}
 use Rattle.dob_board.specs.declared.board.Board.{Board}
 use Rattle.dob_board.specs.declared.seat.NodeSeat.{NodeSeat}
@@ -13,17 +12,16 @@ use Rattle.dob_board.specs.declared.halt.Halt.{Halt}
 use Rattle.dob_board.specs.declared.halt.Halt.TheVariants.{Running, Ended, Failed}
 use Rattle.dob_board.specs.Words.{halt_word}
 use Rattle.dob_board.specs.Seats.{AreSeats, IsSeatOf, stand_of}
-use Rattle.dob_chan.specs.Ends.{sent_by, taken_by, ArePaired}
+use Rattle.dob_chan.specs.Ends.{ArePaired}
 use Rattle.dob_run.specs.declared.hands.Outlet.{Outlet}
 use Rattle.dob_run.specs.declared.hands.Inlet.{Inlet}
 use Rattle.dob_run.specs.declared.mail.Mail.{Mail}
 use Rattle.dob_run.specs.Hands.{in_hand}
 use Rattle.dob_run.specs.Links.{offered, worked}
-use Rattle.dob_run.specs.Mails.{AreCounts}
-use Rattle.dob_run.specs.Rows.{StandsAt, AreRows}
+use Rattle.dob_run.specs.Rows.{StandsAt}
 use Rattle.dob_run.specs.Laid.{IsLaid, AreLaid}
-use Rattle.dob_run.specs.Closing.{AreLinked, seat_in, IsCrew}
-use Rattle.dob_run.specs.Opening.{IsNewMail, AreNewMails}
+use Rattle.dob_run.specs.Closing.{AreLinked, seat_in}
+use Rattle.dob_run.specs.Opening.{AreNewMails}
 use Rattle.dob_run.specs.Seating.{CanSeat, CanSeatAll, IsSeated, AreSeated}
 use Rattle.dob_run.proofs.Places.{at_end, inside, one_thing, next_is, then_left, all_gone}
 use Rattle.dob_run.proofs.Parting.{get_map, map_got, some_at}

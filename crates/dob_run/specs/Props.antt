@@ -2,6 +2,8 @@
 use Rattle.std.specs.Prelude.{ℕ, suc, ◌<◌, List, Option}
 use Rattle.std.specs.List.{All}
 use Rattle.std.specs.Coded.{Coded-set, coded_ℕ, coded_list, coded_option, ×_prop, Π_prop, Unit-prop, le_prop}
+use Rattle.dob_moves.specs.contracts.position_status.Status as status_row
+use Rattle.dob_value.specs.contracts.value.Value as value_row
 use Rattle.dob_pieces.specs.contracts.piece_set.PieceSet as set_row
 use Rattle.dob_share.specs.contracts.news.Item as item_row
 use Rattle.dob_update.specs.contracts.batch.Batch as batch_row
@@ -11,11 +13,14 @@ use Rattle.dob_value.specs.declared.value.Value.TheVariants.{Win, Loss, Draw}
 use Rattle.dob_value.specs.Follows.{IsEntry}
 use Rattle.dob_share.specs.declared.news.Item.{Item}
 use Rattle.dob_rank.specs.Marks.{classes_of}
+use Rattle.dob_moves.specs.declared.position_status.Status.{Status}
 use Rattle.dob_share.specs.declared.news.Settlement.{Settlement}
 use Rattle.dob_share.specs.declared.share.Share.{Share}
-use Rattle.dob_share.specs.Cells.{Cell}
+use Rattle.dob_share.specs.Cells.{Cell, SameCell}
+use Rattle.dob_share.specs.Values.{Better}
 use Rattle.dob_share.specs.Shares.{IsOwn, cell_at}
 use Rattle.dob_update.specs.Batches.{BatchView, OutboxView}
+use Rattle.dob_node.specs.Histories.{IsNext, IsChained}
 use Rattle.dob_node.specs.declared.node.Node.{Node}
 use Rattle.dob_node.specs.Stores.{HistoryView}
 use Rattle.dob_node.specs.Takes.{HasEntries, HasParities, AreKept}
@@ -25,7 +30,8 @@ use Rattle.dob_run.specs.declared.hands.Outlet.{Outlet}
 use Rattle.dob_run.specs.declared.mail.Mail.{Mail}
 use Rattle.dob_run.specs.Links.{offered}
 use Rattle.dob_run.specs.Mails.{AreOut}
-use Rattle.dob_run.specs.Workers.{SendsRight, IsLawful}
+use Rattle.dob_run.specs.Knows.{AreSummed, KnowsRight}
+use Rattle.dob_run.specs.Workers.{SendsRight, IsLawful, applied_from}
 
 ℕ-set : IsSet ℕ
 ℕ-set = Coded-set coded_ℕ
@@ -105,11 +111,69 @@ SendsRight-prop node size to batches a b = λ i. record {
 AreOut-prop : (outlets : List Outlet) → IsProp (AreOut outlets)
 AreOut-prop outlets = Π_prop (λ to. Π_prop (λ outlet. Π_prop (λ _. hand_set _ _)))
 
+status_set : IsSet Status
+status_set = Coded-set status_row.the_row.coded
+
+value_set : IsSet Value
+value_set = Coded-set value_row.the_row.coded
+
+least_set : IsSet (Option ℕ)
+least_set = Coded-set (coded_option coded_ℕ)
+
+batches_set : IsSet (List BatchView)
+batches_set = Coded-set (coded_list batch_row.the_row.coded)
+
+Better-prop : (was now : Value) → IsProp (Better was now)
+Better-prop Draw (Win now) = Unit-prop
+Better-prop Draw (Loss now) = Unit-prop
+Better-prop (Win was) (Win now) = le_prop
+Better-prop (Loss was) (Loss now) = le_prop
+Better-prop Draw Draw = λ a b. absurd a
+Better-prop (Win was) (Loss now) = λ a b. absurd a
+Better-prop (Win was) Draw = λ a b. absurd a
+Better-prop (Loss was) (Win now) = λ a b. absurd a
+Better-prop (Loss was) Draw = λ a b. absurd a
+
+IsNext-prop : (classes n id : ℕ) (history : List Settlement) (s : Settlement) → IsProp (IsNext classes n id history s)
+IsNext-prop classes n id history s a b = λ i. record {
+  number = ℕ-set _ _ a.number b.number i;
+  below = le_prop a.below b.below i;
+  own = ℕ-set _ _ a.own b.own i;
+  was = value_set _ _ a.was b.was i;
+  better = Better-prop s.was s.now a.better b.better i;
+}
+
+IsChained-prop : (classes n id : ℕ) (history : List Settlement) → IsProp (IsChained classes n id history)
+IsChained-prop classes n id history = Π_prop (λ before. Π_prop (λ s. Π_prop (λ behind. Π_prop (λ _. IsNext-prop classes n id before s))))
+
+SameCell-prop : (x y : Cell) → IsProp (SameCell x y)
+SameCell-prop x y a b = λ i. record {
+  left = ℕ-set _ _ a.left b.left i;
+  wins = Π_prop (λ plies. ℕ-set _ _) a.wins b.wins i;
+  least = least_set _ _ a.least b.least i;
+}
+
+AreSummed-prop : (set : PieceSet) (n id : ℕ) (share : Share) (applied : ℕ → List Item) → IsProp (AreSummed set n id share applied)
+AreSummed-prop set n id share applied =
+    Π_prop (λ histories. Π_prop (λ _. Π_prop (λ class. Π_prop (λ _. Π_prop (λ _. Π_prop (λ _. SameCell-prop _ _))))))
+
+KnowsRight-prop : (set : PieceSet) (n id : ℕ) (share : Share) (history : List Settlement) (applied : ℕ → List Item) →
+    IsProp (KnowsRight set n id share history applied)
+KnowsRight-prop set n id share history applied a b = λ i. record {
+  chained = IsChained-prop (classes_of set) n id history a.chained b.chained i;
+  entries = All-prop (λ (s : Settlement). IsEntry s.now) (λ (s : Settlement). IsEntry-prop s.now) history a.entries b.entries i;
+  statuses = Π_prop (λ class. Π_prop (λ status. Π_prop (λ _. Π_prop (λ _. Π_prop (λ _. status_set _ _))))) a.statuses b.statuses i;
+  values = Π_prop (λ class. Π_prop (λ value. Π_prop (λ _. Π_prop (λ _. Π_prop (λ _. value_set _ _))))) a.values b.values i;
+  sums = AreSummed-prop set n id share applied a.sums b.sums i;
+}
+
 pub IsLawful-prop : (set : PieceSet) (size : ℕ) (node : Node) (mail : Mail) → IsProp (IsLawful set size node mail)
 IsLawful-prop set size node mail a b = λ i. record {
   of = (set_set _ _ a.of.0 b.of.0 i, ℕ-set _ _ a.of.1 b.of.1 i, ℕ-set _ _ a.of.2 b.of.2 i);
   sound = IsSound-prop node a.sound b.sound i;
   sends = Π_prop (λ to. Π_prop (λ outlet. Π_prop (λ _. Π_prop (λ _. SendsRight-prop node size to (offered outlet))))) a.sends b.sends i;
+  unused = Π_prop (λ outlet. Π_prop (λ _. batches_set _ _)) a.unused b.unused i;
   own = items_set _ _ a.own b.own i;
+  knows = KnowsRight-prop node.set node.n node.id node.share node.history.settlements (applied_from node mail.inlets.items) a.knows b.knows i;
   white = Π_prop (λ _. ×_prop (IsIdle-prop node) (AreOut-prop mail.outlets.items)) a.white b.white i;
 }

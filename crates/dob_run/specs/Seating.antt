@@ -1,5 +1,5 @@
 -- Seats with the rows and columns of links that become their mails.
-use Rattle.std.specs.Prelude.{◌≡◌, ℕ, ◌<◌, List, Some, length, slice_get}
+use Rattle.std.specs.Prelude.{◌≡◌, ℕ, List, Some, length, slice_get}
 use Rattle.std.specs.declared.vec.Vec.{Vec}
 use Rattle.dob_board.specs.declared.seat.NodeSeat.{NodeSeat}
 use Rattle.dob_run.specs.declared.hands.Outlet.{Outlet}

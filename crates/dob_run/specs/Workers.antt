@@ -1,5 +1,5 @@
 -- A worker's node beside its mail, and when the two are lawful together.
-use Rattle.std.specs.Prelude.{◌≡◌, ◌≢◌, ℕ, ◌-◌, ◌≤◌, ◌++◌, List, Some, false, length, take, drop, slice_get}
+use Rattle.std.specs.Prelude.{◌≡◌, ◌≢◌, ℕ, ◌-◌, ◌≤◌, ◌==◌, cond, List, [], ◌++◌, Option, None, Some, false, length, take, drop, slice_get}
 use Rattle.std.specs.List.{flat_map}
 use Rattle.dob_pieces.specs.declared.piece_set.PieceSet.{PieceSet}
 use Rattle.dob_unmove.specs.Edges.{predecessors}
@@ -9,9 +9,11 @@ use Rattle.dob_update.specs.Batches.{BatchView}
 use Rattle.dob_node.specs.declared.node.Node.{Node}
 use Rattle.dob_node.specs.Nodes.{outbox_to, IsSound, IsIdle}
 use Rattle.dob_run.specs.declared.hands.Outlet.{Outlet}
+use Rattle.dob_run.specs.declared.hands.Inlet.{Inlet}
 use Rattle.dob_run.specs.declared.mail.Mail.{Mail}
-use Rattle.dob_run.specs.Links.{offered}
+use Rattle.dob_run.specs.Links.{offered, worked}
 use Rattle.dob_run.specs.Mails.{AreOut}
+use Rattle.dob_run.specs.Knows.{KnowsRight}
 
 -- the items for a node of the settlements that the worker's node has expanded
 abbrev pub planned : Node → ℕ → List Item
@@ -25,6 +27,19 @@ items_in batches = flat_map (λ (b : BatchView). b.items) batches
 abbrev pub AreLast : List Item → List Item → Type 0
 AreLast whole last = drop (length whole - length last) whole ≡ last
 
+-- of what the node planned for itself, the items that aren't left in its own list
+abbrev pub own_applied : Node → List Item
+own_applied node = take (length (planned node node.id) - length node.own.items) (planned node node.id)
+
+-- the items of the batches that were worked in, where there is an inlet
+abbrev pub items_worked : Option Inlet → List Item
+items_worked None = []
+items_worked (Some inlet) = items_in (worked inlet)
+
+-- the items that the node has applied from a node: from itself those planned and gone, from another one those worked in
+abbrev pub applied_from : Node → List Inlet → ℕ → List Item
+applied_from node inlets from = cond (from == node.id) (own_applied node) (items_worked (slice_get inlets from))
+
 -- What the node planned for another one is what is in the batches that were offered to it and then what is left in the outbox
 -- for it; and it cut so many batches, none of them with more items than that size.
 pub record SendsRight (node : Node) (size to : ℕ) (batches : List BatchView) : Type 0 where
@@ -33,11 +48,14 @@ pub record SendsRight (node : Node) (size to : ℕ) (batches : List BatchView) :
   pub small : (k : ℕ) (batch : BatchView) → slice_get batches k ≡ Some batch → length batch.items ≤ size
 
 -- The worker of a node is lawful: its node is that of the seat and of the piece set; what it planned for other nodes is on
--- its way or left in its outboxes, and what it planned for itself and hasn't applied is in its own list; and where its seat
--- is white it has nothing to expand, to apply or to send, and no batch in a sending hand.
+-- its way or left in its outboxes, and what it planned for itself and hasn't applied is in its own list; it knows what the
+-- items that it has applied say; nothing was offered to itself; and where its seat is white it has nothing to expand, to
+-- apply or to send, and no batch in a sending hand.
 pub record IsLawful (set : PieceSet) (size : ℕ) (node : Node) (mail : Mail) : Type 0 where
   pub of : (node.set ≡ set) × (node.id ≡ mail.seat.node) × (node.n ≡ mail.seat.nodes)
   pub sound : IsSound node
   pub sends : (to : ℕ) (outlet : Outlet) → to ≢ mail.seat.node → slice_get mail.outlets.items to ≡ Some outlet → SendsRight node size to (offered outlet)
+  pub unused : (outlet : Outlet) → slice_get mail.outlets.items mail.seat.node ≡ Some outlet → offered outlet ≡ []
   pub own : AreLast (planned node node.id) node.own.items
+  pub knows : KnowsRight node.set node.n node.id node.share node.history.settlements (applied_from node mail.inlets.items)
   pub white : mail.seat.black ≡ false → IsIdle node × AreOut mail.outlets.items

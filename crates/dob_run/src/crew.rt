@@ -1,19 +1,90 @@
-// How a crew begins: with a board, and for each of its nodes a seat and the ends of its channels.
-ghost use Rattle.std.specs.Prelude.{◌≡◌, ◌<◌, IfOk, vec_len, map, replicate, length};
+// How a crew begins: with a board, and for each of its nodes a seat, the ends of its channels, and a runner.
+ghost use Rattle.std.specs.Prelude.{◌≡◌, ◌<◌, ◌≤◌, ℕ, IfOk, vec_len, map, replicate, length};
+ghost use Rattle.std.specs.List.{AllZip};
 ghost use Rattle.dob_safra.specs.Laws.{IsSize};
 ghost use Rattle.dob_board.specs.Rule.{fresh};
 ghost use Rattle.dob_board.specs.Seats.{AreSeats, stand_of};
 ghost use Rattle.dob_run.specs.Laid.{AreLaid};
 ghost use Rattle.dob_run.specs.Closing.{IsCrew};
-ghost use Rattle.dob_run.specs.Opening.{AreNewMails};
+ghost use Rattle.dob_node.specs.Openings.{AreOpenings};
+ghost use Rattle.dob_run.specs.Opening.{IsNewMail, AreNewMails};
+ghost use Rattle.dob_run.specs.Manned.{mail_of, AreRunnersFor, IsRunnerOf};
 ghost use Rattle.dob_run.specs.Seating.{AreSeated, CanSeat, CanSeatAll};
 
 use crate::hands::{Inlet, Outlet};
 use crate::lay::lay;
 use crate::mail::Mail;
+use crate::runner::Runner;
 use dob_board::{Board, NodeSeat};
-use dob_pieces::Memory;
+use dob_node::{Node, Opening, opening};
+use dob_pieces::{Memory, PieceSet};
+use dob_rank::Classes;
 use std::alloc::Global;
+
+/// A board, and the runner of each of `n` nodes, 1 to 16, that own the classes, in order, before their first turn. They cut
+/// batches of at most `batch` items, 1 to 4096, and their channels hold at most `capacity` batches.
+///
+/// Error: `Memory`.
+pub(crate) fn crew(
+    alloc: Global,
+    classes: &Classes,
+    n: usize,
+    batch: usize,
+    capacity: usize,
+) -> Result<(Board, Vec<Runner>), Memory>
+    requires size { IsSize n }
+    requires some { 0 < batch }
+    requires at_most { batch ≤ 4096 }
+    requires room { 0 < capacity }
+    ensures nodes { IfOk result (λ opened. opened.0.nodes ≡ n) }
+    ensures crew { IfOk result (λ opened. IsCrew opened.0 (map mail_of opened.1.items)) }
+    ensures each { IfOk result (λ opened. AreRunnersFor classes.now.set batch opened.1.items) }
+{
+    let openings = opening(alloc, classes)?;
+    let (board, mails) = open_mails(alloc, n, capacity)?;
+    let runners = man_all(alloc, classes.set, &openings, mails, batch)?;
+    Ok((board, runners))
+}
+
+// The runner of each mail.
+fn man_all(
+    alloc: Global,
+    set: PieceSet,
+    openings: &[Opening],
+    mails: Vec<Mail>,
+    size: usize,
+) -> Result<Vec<Runner>, Memory>
+    requires openings { AreOpenings set openings.now }
+    requires some { 0 < size }
+    requires at_most { size ≤ 4096 }
+    requires new { (capacity : ℕ) × AreNewMails capacity mails.items }
+    ensures { IfOk result (λ runners. AllZip (IsRunnerOf set size) mails.items runners.items) }
+{
+    let mut runners = Vec::with_capacity(alloc, mails.len())?;
+    for mail in mails {
+        let runner = man(alloc, set, openings, mail, size)?;
+        runners.push(runner)?;
+    }
+    Ok(runners)
+}
+
+// The runner of a mail, with a node that is opened for its seat.
+fn man(
+    alloc: Global,
+    set: PieceSet,
+    openings: &[Opening],
+    mail: Mail,
+    size: usize,
+) -> Result<Runner, Memory>
+    requires openings { AreOpenings set openings.now }
+    requires some { 0 < size }
+    requires at_most { size ≤ 4096 }
+    requires new { (capacity : ℕ) × IsNewMail capacity mail }
+    ensures { IfOk result (IsRunnerOf set size mail) }
+{
+    let node = Node::open(alloc, openings, set, mail.seat.node, mail.seat.nodes)?;
+    Ok(Runner::new(node, mail, set, size))
+}
 
 /// A board of `n` nodes, 1 to 16, and the mail of each of them, in order, with channels that hold at most `capacity`
 /// batches. Nothing is posted or sent yet.

@@ -4,8 +4,10 @@
 mod batches;
 mod closing;
 mod crew;
+mod fault;
 mod gate;
 mod hands;
+mod laws;
 mod lay;
 mod links;
 mod mail;
@@ -13,15 +15,21 @@ mod rejoin;
 mod ring;
 mod rounds;
 mod runner;
+mod runs;
 mod scans;
+mod threads;
 mod turn;
+mod turns;
 mod words;
 mod works;
 
+pub use fault::Fault;
 pub use gate::{Free, Gate};
 pub use hands::{Inlet, Outlet};
+pub use laws::finished_is_right;
 pub use mail::Mail;
 pub use runner::Runner;
+pub use runs::{Turned, Worker, run_turns};
 pub use scans::scan;
 
 #[cfg(test)]

@@ -23,6 +23,7 @@ impl Runner {
         ensures node { result.node ≡ node }
         ensures mail { result.mail ≡ mail }
         ensures set { result.set ≡ set }
+        ensures size { result.size ≡ size }
         ensures unfailed { result.failed ≡ None }
     {
         Runner {

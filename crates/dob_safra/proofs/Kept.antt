@@ -1,5 +1,6 @@
 -- The events keep lawful states lawful.
-use Rattle.std.proofs.Common.{◌≡◌, ◌≢◌, ℕ, zero, suc, ◌+◌, ◌-◌, ◌*◌, ◌^◌, ◌<◌, ◌≤◌, ◌⊎◌, Bool, true, false, cond, eqb, refl, ap, sym, ◌∙◌, arith, inl, inr, ⊎_elim, subst}
+use Rattle.std.proofs.Common.{◌≡◌, ◌≢◌, ℕ, zero, suc, ◌+◌, ◌-◌, ◌*◌, ◌^◌, ◌<◌, ◌≤◌, ◌⊎◌, Bool, true, false, cond, eqb, refl, ap, sym, ◌∙◌, arith, inl, inr}
+use Rattle.std.proofs.Common.{⊎_elim, subst}
 use Rattle.std.proofs.Math.IntN.{ℤ, pos, ◌+ℤ◌, neg_ℤ}
 use Rattle.std.specs.Prelude.{◌≤ℤ◌}
 use Rattle.std.proofs.lemmas.Int.{ints}
@@ -9,9 +10,11 @@ use Rattle.dob_safra.specs.declared.token.Token.{Token}
 use Rattle.dob_safra.specs.declared.event.RingEvent.{RingEvent}
 use Rattle.dob_safra.specs.declared.event.RingEvent.TheVariants.{Post, Take, Pass, Announce}
 use Rattle.dob_safra.specs.Tokens.{passed_on, new_probe}
-use Rattle.dob_safra.specs.Rings.{Ring, sum_below, counter, counters_below, in_flight, Reason, counted, positive, black_node, black_token, IsLawful, AllWhite, Raises, CountsStay, ColoursStay, Colours, Posts, Takes, Passes, Announces, Moved}
+use Rattle.dob_safra.specs.Rings.{Ring, sum_below, counter, counters_below, in_flight, Reason, counted, positive, black_node, black_token, IsLawful, AllWhite}
+use Rattle.dob_safra.specs.Rings.{Raises, CountsStay, ColoursStay, Colours, Posts, Takes, Passes, Announces, Moved}
 use Rattle.dob_safra.specs.Laws.{IsSize, HasFew, IsQuiet, Fits}
-use Rattle.dob_safra.proofs.Counts.{flipped, posted_below, taken_below, counters_are, rows_stay, flipped_stay, rows_before, rows_raised, flipped_raises, flight_is, flight_at_least, posted_bound, taken_bound}
+use Rattle.dob_safra.proofs.Counts.{flipped, posted_below, taken_below, counters_are, rows_stay, flipped_stay, rows_before, rows_raised, flipped_raises}
+use Rattle.dob_safra.proofs.Counts.{flight_is, flight_at_least, posted_bound, taken_bound}
 use Rattle.dob_safra.proofs.Quiet.{quiet, none_in_flight}
 
 pub same_or_not : (k i : ℕ) → (k ≡ i) ⊎ (k ≢ i)
@@ -27,12 +30,16 @@ raised_at_least n i j k l f g k_in l_in raises =
       | inr apart ↦ omega (arith, raises.others k l k_in l_in (inl apart))
       | inl k_is ↦ elim (same_or_not l j) [
         | inr apart ↦ omega (arith, raises.others k l k_in l_in (inr apart))
-        | inl l_is ↦ let one : g k l ≡ suc (f k l) = ap (λ a. g a l) k_is ∙ ap (g i) l_is ∙ raises.one_more ∙ ap (λ b. suc (f i b)) (sym l_is) ∙ ap (λ a. suc (f a l)) (sym k_is) in omega (arith, one)
+        | inl l_is ↦
+            let one : g k l ≡ suc (f k l) =
+            ap (λ a. g a l) k_is ∙ ap (g i) l_is ∙ raises.one_more ∙ ap (λ b. suc (f i b)) (sym l_is) ∙ ap (λ a. suc (f a l)) (sym k_is) in
+            omega (arith, one)
       ]
     ]
 
 -- where one count was below another, raising it leaves it at most that
-pub raised_at_most : (n i j k l : ℕ) (f g : ℕ → ℕ → ℕ) (bound : ℕ → ℕ → ℕ) → k < n → l < n → Raises n f g i j → f i j < bound i j → f k l ≤ bound k l → g k l ≤ bound k l
+pub raised_at_most : (n i j k l : ℕ) (f g : ℕ → ℕ → ℕ) (bound : ℕ → ℕ → ℕ) → k < n → l < n → Raises n f g i j → f i j < bound i j → f k l ≤ bound k l
+    → g k l ≤ bound k l
 raised_at_most n i j k l f g bound k_in l_in raises below least =
     elim (same_or_not k i) [
       | inr apart ↦ omega (arith, raises.others k l k_in l_in (inl apart))
@@ -118,10 +125,12 @@ takes_above n i j old new token at takes in_order above (counted white sum) =
     let flight : in_flight n old + taken_below n old n ≡ posted_below n old n = flight_is n old in_order in
     let some : old.posted i j - old.taken i j ≤ in_flight n old = flight_at_least n old i j takes.from takes.to in
     let waiting : old.taken i j < old.posted i j = takes.waiting in
-    let stays : counters_below n new (suc token.at) ≡ counters_below n old (suc token.at) = takes_below n i j (suc token.at) old new takes (omega arith) (omega arith) in
+    let stays : counters_below n new (suc token.at) ≡ counters_below n old (suc token.at) =
+    takes_below n i j (suc token.at) old new takes (omega arith) (omega arith) in
     positive (omega (arith, ints, flight, some, waiting, sum, stays, counters_are n old n))
 takes_above n i j old new token at takes in_order above (positive more) =
-    let stays : counters_below n new (suc token.at) ≡ counters_below n old (suc token.at) = takes_below n i j (suc token.at) old new takes (omega arith) (omega arith) in
+    let stays : counters_below n new (suc token.at) ≡ counters_below n old (suc token.at) =
+    takes_below n i j (suc token.at) old new takes (omega arith) (omega arith) in
     positive (omega (arith, ints, stays, more))
 takes_above n i j old new token at takes in_order above (black_node k within is_black) =
     black_node k within (takes.colours.others k (omega arith) (λ e. omega (arith, e)) ∙ is_black)
@@ -266,7 +275,8 @@ passes_kept n i old new size lawful passes =
       low = is.low;
       high = is.high;
       all_white = λ ended. white_stays n i old new passes.colours (lawful.all_white (sym passes.announced ∙ ended));
-      all_taken = λ ended k l k_in l_in. passes.posted k l k_in l_in ∙ lawful.all_taken (sym passes.announced ∙ ended) k l k_in l_in ∙ sym (passes.taken k l k_in l_in);
+      all_taken =
+          λ ended k l k_in l_in. passes.posted k l k_in l_in ∙ lawful.all_taken (sym passes.announced ∙ ended) k l k_in l_in ∙ sym (passes.taken k l k_in l_in);
       reason = is.reason;
     }
 

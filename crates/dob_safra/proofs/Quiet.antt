@@ -3,7 +3,8 @@ use Rattle.std.proofs.Common.{◌≡◌, ℕ, suc, ◌-◌, ◌<◌, Bool, false
 use Rattle.std.proofs.Math.IntN.{pos}
 use Rattle.std.proofs.lemmas.Int.{ints}
 use Rattle.std.proofs.lemmas.Bool.{cases_lt}
-use Rattle.dob_safra.specs.Rings.{Ring, sum_below, counter, counters_below, in_flight, Reason, counted, positive, black_node, black_token, IsLawful, AllWhite, AllTaken, IsAnnounceable}
+use Rattle.dob_safra.specs.Rings.{Ring, sum_below, counter, counters_below, in_flight, Reason, counted, positive, black_node, black_token, IsLawful, AllWhite}
+use Rattle.dob_safra.specs.Rings.{AllTaken, IsAnnounceable}
 use Rattle.dob_safra.specs.Laws.{IsSize, IsQuiet}
 use Rattle.dob_safra.proofs.Sums.{sum_same, sum_zeros, sum_zero}
 use Rattle.dob_safra.proofs.Counts.{counters_are, flight_is}

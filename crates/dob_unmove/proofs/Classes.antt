@@ -16,7 +16,8 @@ IsNumbering-classes set = record {
 }
 
 -- a position of the set is a representative where it is the earlier of its two
-pub first_of_two : (set : PieceSet) (s : Setup) (o : Option ℕ) → IsPositionOf set s → MatchOption o (¬ IsFirstOfTwo s) (λ (class : ℕ). IsFirstOfTwo s × HasClass set s class)
+pub first_of_two : (set : PieceSet) (s : Setup) (o : Option ℕ) → IsPositionOf set s
+    → MatchOption o (¬ IsFirstOfTwo s) (λ (class : ℕ). IsFirstOfTwo s × HasClass set s class)
     → MatchOption o (¬ ((class : ℕ) × IsFirstIn set s class)) (IsFirstIn set s)
 first_of_two set s None p later = λ first. later first.1.0.1
 first_of_two set s (Some class) p first = ((p, first.0), first.1)

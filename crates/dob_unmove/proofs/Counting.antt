@@ -1,9 +1,11 @@
 -- The numbers gathered from all ways count the moves that lead into a class.
-use Rattle.std.proofs.Common.{◌≡◌, ◌≢◌, ℕ, ◌+◌, ◌-◌, ◌<◌, ◌≤◌, ◌==◌, Bool, cond, List, [], ◌∷◌, ◌++◌, Option, Some, None, length, get_or, refl, sym, ap, ◌∙◌, subst, inl, inr, arith, All, AllPairs, Contains, option_to_list, length-append}
+use Rattle.std.proofs.Common.{◌≡◌, ◌≢◌, ℕ, ◌+◌, ◌-◌, ◌<◌, ◌≤◌, ◌==◌, Bool, cond, List, [], ◌∷◌, ◌++◌, Option, Some, None, length, get_or, refl, sym, ap, ◌∙◌}
+use Rattle.std.proofs.Common.{subst, inl, inr, arith, All, AllPairs, Contains, option_to_list, length-append}
 use Rattle.std.specs.List.{count_by}
 use Rattle.std.proofs.lemmas.Bool.{cases_lt, cases_eq, eq-eqb, ne_eqb}
 use Rattle.std.proofs.lemmas.List.{append-nil, get_or_append_left, get_or-append_right, get_or_default}
-use Rattle.std.proofs.lemmas.List.Elements.{Contains-append_left, Contains-append_right, Contains-append_cases, All-contains, All-push, All-tail, All-head, All-nil}
+use Rattle.std.proofs.lemmas.List.Elements.{Contains-append_left, Contains-append_right, Contains-append_cases, All-contains, All-push, All-tail, All-head}
+use Rattle.std.proofs.lemmas.List.Elements.{All-nil}
 use Rattle.std.proofs.lemmas.List.Kept.{AllPairs-cons}
 use Rattle.std.proofs.lemmas.List.Sums.{sum_by_push}
 use Rattle.dob_pieces.specs.declared.setup.Setup.{Setup}
@@ -45,7 +47,8 @@ pairs-append {X} R (x ∷ xs) ys p q across =
               (across x _ (0, omega arith, refl) (k - length xs, omega arith, default_free k d high there))
         ]
       where
-        default_free : (k : ℕ) (d : X) → length xs ≤ k → k + 0 < length xs + length ys → get_or ys (k - length xs) (get_or ys (k - length xs) d) ≡ get_or ys (k - length xs) d
+        default_free : (k : ℕ) (d : X) → length xs ≤ k → k + 0 < length xs + length ys
+            → get_or ys (k - length xs) (get_or ys (k - length xs) d) ≡ get_or ys (k - length xs) d
         default_free k d high there = get_or_default ys (k - length xs) _ d (omega arith)
 
 -- ---- what the walk gathered
@@ -67,11 +70,13 @@ all_gathered classes found first t (u ∷ us) old new h =
     (rest.0 ∙ kept, (h.1.1.0, h.1.1.1, subst (λ (xs : List ℕ). Gathers (first (classes old)) t us xs (found new)) more later))
 
 module _ (IsFirst : Setup → ℕ → Type 0) (n : IsNumbering IsFirst) where
-  known_more : (p : Setup) (found : Option ℕ) (old : List ℕ) → Finds IsFirst p found → All (λ class. (p : Setup) × IsFirst p class) old → All (λ class. (p : Setup) × IsFirst p class) (old ++ option_to_list found)
+  known_more : (p : Setup) (found : Option ℕ) (old : List ℕ) → Finds IsFirst p found → All (λ class. (p : Setup) × IsFirst p class) old
+      → All (λ class. (p : Setup) × IsFirst p class) (old ++ option_to_list found)
   known_more p None old f h = subst (All (λ class. (p : Setup) × IsFirst p class)) (sym (append-nil old)) h
   known_more p (Some class) old f h = All-push (λ class. (p : Setup) × IsFirst p class) old class h (p, f.0)
 
-  pub gathered_known : (t : Setup) (us : List Undo) (old new : List ℕ) → Gathers IsFirst t us old new → All (λ class. (p : Setup) × IsFirst p class) old → All (λ class. (p : Setup) × IsFirst p class) new
+  pub gathered_known : (t : Setup) (us : List Undo) (old new : List ℕ) → Gathers IsFirst t us old new → All (λ class. (p : Setup) × IsFirst p class) old
+      → All (λ class. (p : Setup) × IsFirst p class) new
   gathered_known t [] old new e h = subst (All (λ class. (p : Setup) × IsFirst p class)) e h
   gathered_known t (u ∷ us) old new g h = gathered_known t us _ new g.2 (known_more (earlier t u) g.0 old g.1 h)
 
@@ -139,7 +144,8 @@ module _ (IsFirst : Setup → ℕ → Type 0) (n : IsNumbering IsFirst) where
         once = AllPairs-cons (λ (a b : Move). a ≢ b) (choice u) ms
             (λ k d lt e.
             let w = s.sound (get_or ms k d) (k, lt, get_or_default ms k _ d lt) in
-            let same : u ≡ w.0 = same_undo q u w.0 twelve can (All-contains (CanUndo (turned q)) us w.0 all_can w.1) (e ∙ sym w.2) (n.one_first _ _ class first.0 w.3.0) in
+            let same : u ≡ w.0 =
+            same_undo q u w.0 twelve can (All-contains (CanUndo (turned q)) us w.0 all_can w.1) (e ∙ sym w.2) (n.one_first _ _ class first.0 w.3.0) in
             All-contains (λ (v : Undo). u ≢ v) us w.0 apart w.1 same)
             s.once;
       }
@@ -148,7 +154,8 @@ module _ (IsFirst : Setup → ℕ → Type 0) (n : IsNumbering IsFirst) where
       abbrev Counted : List Undo → List ℕ → List ℕ → Type 0
       Counted us old new = (ms : List Move) × Selects us ms × (number_of new ≡ number_of old + length ms)
 
-      select_step : (u : Undo) (us : List Undo) (old new : List ℕ) (found : Option ℕ) → CanUndo (turned q) u → All (CanUndo (turned q)) us → All (λ (v : Undo). u ≢ v) us
+      select_step : (u : Undo) (us : List Undo) (old new : List ℕ) (found : Option ℕ) → CanUndo (turned q) u → All (CanUndo (turned q)) us
+          → All (λ (v : Undo). u ≢ v) us
           → Finds IsFirst (earlier (turned q) u) found → Counted us (old ++ option_to_list found) new → Counted (u ∷ us) old new
       select_step u us old new None can all_can apart none c =
           (c.0, selects_passed u us c.0 (λ first. none (class, first)) c.1, c.2 ∙ ap (λ k. k + length c.0) (count_none old))
@@ -164,7 +171,8 @@ module _ (IsFirst : Setup → ℕ → Type 0) (n : IsNumbering IsFirst) where
             )
           ]
 
-      select : (us : List Undo) (old new : List ℕ) → All (CanUndo (turned q)) us → AllPairs (λ (u v : Undo). u ≢ v) us → Gathers IsFirst (turned q) us old new → Counted us old new
+      select : (us : List Undo) (old new : List ℕ) → All (CanUndo (turned q)) us → AllPairs (λ (u v : Undo). u ≢ v) us → Gathers IsFirst (turned q) us old new
+          → Counted us old new
       select [] old new can once e = ([], selects_none, ap number_of (sym e) ∙ omega arith)
       select (u ∷ us) old new can once g =
           let tail_can = All-tail (CanUndo (turned q)) u us can in
@@ -190,7 +198,8 @@ module _ (IsFirst : Setup → ℕ → Type 0) (n : IsNumbering IsFirst) where
             let w = undo_from_Goes p m q (n.legal p class is_first).squares goes in
             let listed = undoes_whole (turned q) w.0 (length-turned q) w.1.0 in
             let back = sym w.1.2 in
-            let first : IsOpenFirst IsFirst (earlier (turned q) w.0) class = (subst (λ (x : Setup). IsFirst x class) back is_first, subst (λ (x : Setup). HasStatus x Open) back can) in
+            let first : IsOpenFirst IsFirst (earlier (turned q) w.0) class =
+            (subst (λ (x : Setup). IsFirst x class) back is_first, subst (λ (x : Setup). HasStatus x Open) back can) in
             subst (Contains ms) w.1.1 (s.whole w.0 listed first);
         once = s.once;
       }
@@ -198,7 +207,8 @@ module _ (IsFirst : Setup → ℕ → Type 0) (n : IsNumbering IsFirst) where
       can_all : All (CanUndo (turned q)) (undoes (turned q))
       can_all k d lt = undoes_sound (turned q) (get_or (undoes (turned q)) k d) (k, lt, get_or_default (undoes (turned q)) k _ d lt)
 
-      counted_leading : (old new : List ℕ) → Gathers IsFirst (turned q) (undoes (turned q)) old new → (ms : List Move) × Leading ms × (number_of new ≡ number_of old + length ms)
+      counted_leading : (old new : List ℕ) → Gathers IsFirst (turned q) (undoes (turned q)) old new
+          → (ms : List Move) × Leading ms × (number_of new ≡ number_of old + length ms)
       counted_leading old new g =
           let c = select (undoes (turned q)) old new can_all (undoes_once (turned q)) g in
           (c.0, leading_from c.0 c.1, c.2)
@@ -207,7 +217,8 @@ module _ (IsFirst : Setup → ℕ → Type 0) (n : IsNumbering IsFirst) where
     one_outcome p m a b g h = Goes-is p m a g ∙ sym (Goes-is p m b h)
 
     -- the walk over a position that is its own mirror image counts the moves into its class
-    edges_alone : (q : Setup) (new : List ℕ) → length q.board ≡ 12 → mirrored q ≡ q → Gathers IsFirst (turned q) (undoes (turned q)) [] new → HasEdges p q (number_of new)
+    edges_alone : (q : Setup) (new : List ℕ) → length q.board ≡ 12 → mirrored q ≡ q → Gathers IsFirst (turned q) (undoes (turned q)) [] new
+        → HasEdges p q (number_of new)
     edges_alone q new twelve own g =
         let c = counted_leading q twelve [] new g in
         record {
@@ -249,7 +260,8 @@ module _ (IsFirst : Setup → ℕ → Type 0) (n : IsNumbering IsFirst) where
   nothing_known : All (λ class. (p : Setup) × IsFirst p class) []
   nothing_known = All-nil (λ class. (p : Setup) × IsFirst p class)
 
-  pub counts_alone : (q : Setup) (new : List ℕ) → length q.board ≡ 12 → mirrored q ≡ q → Gathers IsFirst (turned q) (undoes (turned q)) [] new → CountEdges IsFirst q new
+  pub counts_alone : (q : Setup) (new : List ℕ) → length q.board ≡ 12 → mirrored q ≡ q → Gathers IsFirst (turned q) (undoes (turned q)) [] new
+      → CountEdges IsFirst q new
   counts_alone q new twelve own g = record {
     known = gathered_known (turned q) (undoes (turned q)) [] new g nothing_known;
     edges = λ p class is_first. edges_alone p class is_first q new twelve own g;
@@ -258,6 +270,7 @@ module _ (IsFirst : Setup → ℕ → Type 0) (n : IsNumbering IsFirst) where
   pub counts_both : (q : Setup) (mid new : List ℕ) → length q.board ≡ 12 → mirrored q ≢ q → Gathers IsFirst (turned q) (undoes (turned q)) [] mid
       → Gathers IsFirst (turned (mirrored q)) (undoes (turned (mirrored q))) mid new → CountEdges IsFirst q new
   counts_both q mid new twelve other g h = record {
-    known = gathered_known (turned (mirrored q)) (undoes (turned (mirrored q))) mid new h (gathered_known (turned q) (undoes (turned q)) [] mid g nothing_known);
+    known =
+        gathered_known (turned (mirrored q)) (undoes (turned (mirrored q))) mid new h (gathered_known (turned q) (undoes (turned q)) [] mid g nothing_known);
     edges = λ p class is_first. edges_both p class is_first q mid new twelve other g h;
   }

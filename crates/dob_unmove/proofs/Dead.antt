@@ -1,5 +1,6 @@
 -- Ways that lead back to no open representative: where a piece attacked the enemy lion before, or the mover's lion wasn't at home.
-use Rattle.std.proofs.Common.{◌≡◌, ◌≢◌, ℕ, ◌<◌, ◌&&◌, ◌||◌, ◌⊎◌, if◌then◌else◌, not, Bool, true, false, true≢false, cond, List, [], ◌∷◌, Option, Some, None, refl, sym, ap, ◌∙◌, subst, inl, inr, arith}
+use Rattle.std.proofs.Common.{◌≡◌, ◌≢◌, ℕ, ◌<◌, ◌&&◌, ◌||◌, ◌⊎◌, if◌then◌else◌, not, Bool, true, false, true≢false, cond, List, [], ◌∷◌, Option, Some, None}
+use Rattle.std.proofs.Common.{refl, sym, ap, ◌∙◌, subst, inl, inr, arith}
 use Rattle.std.specs.Int.{trailing_zeros, w16}
 use Rattle.std.specs.Option.{is_some}
 use Rattle.std.proofs.lemmas.Bool.{and_parts, cases_Bool}
@@ -64,7 +65,8 @@ module _ (set : PieceSet) (after : Setup) (ways : Ways) (w : CanWalk set after w
   arrives_no_lion kind to cell e none lion =
       true≢false (sym (ap (is_piece Mover Lion) (e ∙ ap (λ (k : Kind). Some (piece_of Mover (arrives_at k to))) lion)) ∙ none)
 
-  stays_there : (u : Undo) (s : ℕ) → CanUndo after u → at after s ≡ own_lion → is_piece Mover Lion (at after (ends_on u)) ≡ false → at (earlier after u) s ≡ own_lion
+  stays_there : (u : Undo) (s : ℕ) → CanUndo after u → at after s ≡ own_lion → is_piece Mover Lion (at after (ends_on u)) ≡ false
+      → at (earlier after u) s ≡ own_lion
   stays_there (Unstep kind from to caught) s can there none =
       at_others after threat legal w.ways_are.threat_is kind from to caught can s
       (λ e. let empty : at after s ≡ None = ap (at after) e ∙ can.empty in cc)
@@ -75,7 +77,10 @@ module _ (set : PieceSet) (after : Setup) (ways : Ways) (w : CanWalk set after w
       (λ e. true≢false (sym (ap (is_piece Mover Lion) (ap (at after) (sym e) ∙ there)) ∙ none)) ∙ there
     where
       on_board : (s : ℕ) → at after s ≡ own_lion → s < 12
-      on_board s there = let low = within-from_piece after s (piece_of Mover Lion) there in let twelve = turned_squares after legal in omega (arith, low, twelve)
+      on_board s there =
+          let low = within-from_piece after s (piece_of Mover Lion) there in
+          let twelve = turned_squares after legal in
+          omega (arith, low, twelve)
 
   -- ---- where the move can't have ended
 
@@ -137,7 +142,8 @@ module _ (set : PieceSet) (after : Setup) (ways : Ways) (w : CanWalk set after w
 
   from_dead : (kind : Kind) (from to : ℕ) (caught : Option Kind) → CanUndo after (Unstep kind from to caught)
       → (leads kind from threat.lion ≡ true) ⊎ (comes_home kind threat.lion from ≡ false) → Dead (Unstep kind from to caught)
-  from_dead kind from to caught can (inl stood) = dead_stood (Unstep kind from to caught) can (ap (λ b. if b then true else elsewhere threat.attackers to) stood)
+  from_dead kind from to caught can (inl stood) =
+      dead_stood (Unstep kind from to caught) can (ap (λ b. if b then true else elsewhere threat.attackers to) stood)
   from_dead kind from to caught can (inr away) =
       let lion = not_home kind from away in
       dead_away (Unstep kind from to caught) from can
@@ -151,12 +157,14 @@ module _ (set : PieceSet) (after : Setup) (ways : Ways) (w : CanWalk set after w
       let can = from_sound after kind k to u (stands-true (at after to) (arrives_at kind to) there) lt inside in
       let step = f.step in
       let dead = from_dead kind k to step.0 (subst (CanUndo after) (sym step.1) can)
-      (come_fails (leads kind k to) (is_empty (at after k)) (leads kind k threat.lion) (comes_home kind threat.lion k) parts.1 (not_some (at after k) parts.0) off) in
+      (come_fails (leads kind k to) (is_empty (at after k)) (leads kind k threat.lion) (comes_home kind threat.lion k) parts.1
+      (not_some (at after k) parts.0) off) in
       subst Dead step.1 dead
 
 -- ---- what the tests say where they hold
 
-pub calm_end : (after : Setup) (threat : Threat) (stays : Bool) (square : ℕ) → may_end after threat stays square ≡ true → elsewhere threat.attackers square ≡ false
+pub calm_end : (after : Setup) (threat : Threat) (stays : Bool) (square : ℕ) → may_end after threat stays square ≡ true
+    → elsewhere threat.attackers square ≡ false
 calm_end after threat stays square on =
     let first = and_parts (is_own (at after square) && not (elsewhere threat.attackers square)) _ on in
     let second = and_parts (is_own (at after square)) (not (elsewhere threat.attackers square)) first.0 in

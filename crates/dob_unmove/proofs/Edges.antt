@@ -1,5 +1,6 @@
 -- The predecessors of a class are the one ascending list that counts the moves into it.
-use Rattle.std.proofs.Common.{◌≡◌, ℕ, ◌<◌, ◌≤◌, ◌⊎◌, Bool, true, false, cond, List, [], ◌∷◌, refl, sym, ap, ◌∙◌, subst, inl, inr, arith, All, AllPairs, Contains}
+use Rattle.std.proofs.Common.{◌≡◌, ℕ, ◌<◌, ◌≤◌, ◌⊎◌, Bool, true, false, cond, List, [], ◌∷◌, refl, sym, ap, ◌∙◌, subst, inl, inr, arith, All, AllPairs}
+use Rattle.std.proofs.Common.{Contains}
 use Rattle.std.specs.List.{count_by, filter}
 use Rattle.std.proofs.lemmas.Bool.{cases_lt, eqb-true, eq-eqb}
 use Rattle.std.proofs.lemmas.List.Elements.{All-contains, All-weaker, All-filter, All-contains_itself, Contains-append_right, filter_passes}
@@ -54,7 +55,8 @@ first_is set q class is =
 contains_filter : {X : Type 0} (test : X → Bool) (xs : List X) (x : X) → Contains xs x → test x ≡ true → Contains (filter test xs) x
 contains_filter test [] x h is = absurd (none_in_empty x h)
 contains_filter {X} test (y ∷ ys) x h is = at (cons_cases y ys x h) (λ later. contains_filter test ys x later is) (test y) refl where
-  at : (y ≡ x) ⊎ Contains ys x → (Contains ys x → Contains (filter test ys) x) → (b : Bool) → test y ≡ b → Contains (cond b (y ∷ filter test ys) (filter test ys)) x
+  at : (y ≡ x) ⊎ Contains ys x → (Contains ys x → Contains (filter test ys) x) → (b : Bool) → test y ≡ b
+      → Contains (cond b (y ∷ filter test ys) (filter test ys)) x
   at (inl same) kept true e = subst (Contains (y ∷ filter test ys)) same (head_in y (filter test ys))
   at (inl same) kept false e = let on : test x ≡ false = ap test (sym same) ∙ e in cc
   at (inr later) kept true e = Contains-append_right (y ∷ []) (filter test ys) x (kept later)
@@ -90,7 +92,8 @@ module _ (set : PieceSet) (p q : Setup) (from class : ℕ) (is_p : IsFirstIn set
   leading_sound m here =
       let is = are.sound m (All-contains (Contains (moves_of p)) leading m leading_listed here) in
       let goes = Goes-moved p m is.1 in
-      let passes : leads_into set p class m ≡ true = All-contains (λ (x : Move). leads_into set p class x ≡ true) leading m (filter_passes (leads_into set p class) (moves_of p)) here in (
+      let passes : leads_into set p class m ≡ true =
+      All-contains (λ (x : Move). leads_into set p class x ≡ true) leading m (filter_passes (leads_into set p class) (moves_of p)) here in (
         is.0,
         (
           turned (moved p m),

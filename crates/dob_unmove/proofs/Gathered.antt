@@ -1,5 +1,6 @@
 -- What the ways add, one list after the other: nothing where none can lead to an open representative.
-use Rattle.std.proofs.Common.{◌≡◌, ℕ, zero, suc, ◌<◌, ◌≤◌, Bool, true, false, List, [], ◌∷◌, ◌++◌, Option, None, refl, sym, subst, arith, Contains, option_to_list, append-nil, inl, inr}
+use Rattle.std.proofs.Common.{◌≡◌, ℕ, zero, suc, ◌<◌, ◌≤◌, Bool, true, false, List, [], ◌∷◌, ◌++◌, Option, None, refl, sym, subst, arith, Contains}
+use Rattle.std.proofs.Common.{option_to_list, append-nil, inl, inr}
 use Rattle.std.specs.Int.{trailing_zeros, w16}
 use Rattle.std.proofs.lemmas.Bool.{cases_lt}
 use Rattle.std.proofs.lemmas.List.Elements.{Contains-append_right}
@@ -19,12 +20,15 @@ pub gathers_one : (IsFirst : Setup → ℕ → Type 0) (after : Setup) (u : Undo
     → ys ≡ xs ++ option_to_list found → Gathers IsFirst after (u ∷ []) xs ys
 gathers_one IsFirst after u found xs ys finds e = (found, finds, sym e)
 
-pub gathers_append : (IsFirst : Setup → ℕ → Type 0) (after : Setup) (us vs : List Undo) (xs ys zs : List ℕ) → Gathers IsFirst after us xs ys → Gathers IsFirst after vs ys zs
+pub gathers_append : (IsFirst : Setup → ℕ → Type 0) (after : Setup) (us vs : List Undo) (xs ys zs : List ℕ) → Gathers IsFirst after us xs ys
+    → Gathers IsFirst after vs ys zs
     → Gathers IsFirst after (us ++ vs) xs zs
 gathers_append IsFirst after [] vs xs ys zs first second = subst (λ (l : List ℕ). Gathers IsFirst after vs l zs) (sym first) second
-gathers_append IsFirst after (u ∷ us) vs xs ys zs first second = (first.0, first.1, gathers_append IsFirst after us vs (xs ++ option_to_list first.0) ys zs first.2 second)
+gathers_append IsFirst after (u ∷ us) vs xs ys zs first second =
+    (first.0, first.1, gathers_append IsFirst after us vs (xs ++ option_to_list first.0) ys zs first.2 second)
 
-pub gathers_cons : (IsFirst : Setup → ℕ → Type 0) (after : Setup) (u : Undo) (us : List Undo) (xs ys zs : List ℕ) → Gathers IsFirst after (u ∷ []) xs ys → Gathers IsFirst after us ys zs
+pub gathers_cons : (IsFirst : Setup → ℕ → Type 0) (after : Setup) (u : Undo) (us : List Undo) (xs ys zs : List ℕ) → Gathers IsFirst after (u ∷ []) xs ys
+    → Gathers IsFirst after us ys zs
     → Gathers IsFirst after (u ∷ us) xs zs
 gathers_cons IsFirst after u us xs ys zs first second = gathers_append IsFirst after (u ∷ []) us xs ys zs first second
 
@@ -34,7 +38,8 @@ pub ruleset gathers = (gathers_none, gathers_append, gathers_cons)
 abbrev pub IsDead : (Setup → ℕ → Type 0) → Setup → Undo → Type 0
 IsDead IsFirst after u = ¬ ((class : ℕ) × IsOpenFirst IsFirst (earlier after u) class)
 
-pub gathers_dead : (IsFirst : Setup → ℕ → Type 0) (after : Setup) (us : List Undo) (xs : List ℕ) → ((u : Undo) → Contains us u → IsDead IsFirst after u) → Gathers IsFirst after us xs xs
+pub gathers_dead : (IsFirst : Setup → ℕ → Type 0) (after : Setup) (us : List Undo) (xs : List ℕ) → ((u : Undo) → Contains us u → IsDead IsFirst after u)
+    → Gathers IsFirst after us xs xs
 gathers_dead IsFirst after [] xs dead = refl
 gathers_dead IsFirst after (u ∷ us) xs dead =
     let rest = gathers_dead IsFirst after us xs (λ v inside. dead v (Contains-append_right (u ∷ []) us v inside)) in
@@ -79,7 +84,8 @@ module _ (IsFirst : Setup → ℕ → Type 0) (after : Setup) (test : ℕ → Bo
   passes_lowest left place before items w some e = (next_left test w.upto left place w.left_are some e).passes
 
   pub gathered_next : AreDead IsFirst after test g → (left place rest : ℕ) (before items new : List ℕ) → IsGathered IsFirst after test g left before items
-      → 0 < left → place ≡ trailing_zeros w16 left → rest ≡ without left place → Gathers IsFirst after (g place) items new → IsGathered IsFirst after test g rest before new
+      → 0 < left → place ≡ trailing_zeros w16 left → rest ≡ without left place → Gathers IsFirst after (g place) items new
+      → IsGathered IsFirst after test g rest before new
   gathered_next dead left place rest before items new w some e gone more =
       let it = next_left test w.upto left place w.left_are some e in
       let lt = it.on_board in

@@ -1,5 +1,6 @@
 -- Where the mover's lion of a representative stands.
-use Rattle.std.proofs.Common.{◌≡◌, ℕ, zero, suc, ◌+◌, ◌<◌, ◌==◌, nat_lt, ◌&&◌, ◌||◌, ◌⊎◌, Bool, true, false, cond, List, [], ◌∷◌, ◌++◌, Some, None, length, get_or, refl, sym, ap, ◌∙◌, subst, arith, inl, inr}
+use Rattle.std.proofs.Common.{◌≡◌, ℕ, zero, suc, ◌+◌, ◌<◌, ◌==◌, nat_lt, ◌&&◌, ◌||◌, ◌⊎◌, Bool, true, false, cond, List, [], ◌∷◌, ◌++◌, Some, None, length}
+use Rattle.std.proofs.Common.{get_or, refl, sym, ap, ◌∙◌, subst, arith, inl, inr}
 use Rattle.std.specs.List.{count_by}
 use Rattle.std.proofs.lemmas.Bool.{cases_Bool, and_parts, ltb-true, eqb-true}
 use Rattle.std.proofs.lemmas.List.Sums.{sum_by-cons}
@@ -47,7 +48,8 @@ module _ (test : Cell → Bool) where
   some_there (c ∷ cs) zero lt is = let sum = counted c cs in let one = one_if_true c is in omega (arith, sum, one)
   some_there (c ∷ cs) (suc k) lt is = let sum = counted c cs in let more = some_there cs k (omega arith) is in omega (arith, sum, more)
 
-  one_square : (from k : ℕ) (cells : List Cell) → count_by test cells ≡ 1 → k < length cells → test (get_or cells k None) ≡ true → squares_from from test cells ≡ (from + k) ∷ []
+  one_square : (from k : ℕ) (cells : List Cell) → count_by test cells ≡ 1 → k < length cells → test (get_or cells k None) ≡ true
+      → squares_from from test cells ≡ (from + k) ∷ []
   one_square from k [] one lt is = absurd (omega arith)
   one_square from zero (c ∷ cs) one lt is =
       let sum = counted c cs in
@@ -73,7 +75,8 @@ lion_holds : (side : Side) → holds_lion side (Some (piece_of side Lion)) ≡ t
 lion_holds Mover = refl
 lion_holds Enemy = refl
 
-lion_square : (side : Side) (set : PieceSet) (p : Setup) (s : ℕ) → IsPositionOf set p → at p s ≡ Some (piece_of side Lion) → squares (holds_lion side) p ≡ s ∷ []
+lion_square : (side : Side) (set : PieceSet) (p : Setup) (s : ℕ) → IsPositionOf set p → at p s ≡ Some (piece_of side Lion)
+    → squares (holds_lion side) p ≡ s ∷ []
 lion_square side set p s is there =
     let same : 0 + s ≡ s = omega arith in
     one_square (holds_lion side) 0 s p.board (is.legal.lions side) (within-from_piece p s (piece_of side Lion) there)
@@ -93,7 +96,8 @@ counts-mirrored kind p twelve =
     let enemy : held (mirrored p).hands.enemy kind ≡ held p.hands.enemy kind = ap (λ (h : Hands). held h.enemy kind) (hands-mirrored p) in
     omega (arith, all, mover, enemy)
 
-lion-mirrored : (p : Setup) (side : Side) (s : ℕ) → s < 12 → at p s ≡ Some (piece_of side Lion) → at (mirrored p) (mirrored_square s) ≡ Some (piece_of side Lion)
+lion-mirrored : (p : Setup) (side : Side) (s : ℕ) → s < 12 → at p s ≡ Some (piece_of side Lion)
+    → at (mirrored p) (mirrored_square s) ≡ Some (piece_of side Lion)
 lion-mirrored p side s lt there = at-mirrored p (mirrored_square s) (mirrored_square_bound s lt) ∙ ap (at p) (mirrored_square_twice s lt) ∙ there
 
 -- after the counts and the hands, the lions decide
@@ -133,7 +137,8 @@ key-lions : (p : Setup) (s e : ℕ) → squares (holds_lion Mover) p ≡ s ∷ [
     → key p ≡ counts_first p ++ (s ∷ e ∷ rest_of p)
 unfolding key counts_first rest_of
 key-lions p s e own other =
-    ap (λ (xs : List ℕ). each_kind (λ kind. count_by (holds_kind kind) p.board) ++ (each_kind (held p.hands.mover) ++ (xs ++ (squares (holds_lion Enemy) p ++ rest_of p)))) own
+    ap (λ (xs : List ℕ). each_kind (λ kind. count_by (holds_kind kind) p.board)
+    ++ (each_kind (held p.hands.mover) ++ (xs ++ (squares (holds_lion Enemy) p ++ rest_of p)))) own
     ∙ ap (λ (xs : List ℕ). each_kind (λ kind. count_by (holds_kind kind) p.board) ++ (each_kind (held p.hands.mover) ++ (s ∷ (xs ++ rest_of p)))) other
 
 image_before : (set : PieceSet) (p : Setup) (s e : ℕ) → IsPositionOf set p → at p s ≡ Some (piece_of Mover Lion) → at p e ≡ Some (piece_of Enemy Lion)
@@ -161,7 +166,8 @@ tells_before s e = is_home e s || (nat_lt 8 s || (nat_lt (mirrored_square s) s |
 all_tell : all_below (λ s. all_below (tells_before s) 12) 12 ≡ true
 all_tell = refl
 
-pub first_home : (set : PieceSet) (p : Setup) (class s e : ℕ) → IsFirstIn set p class → at p s ≡ Some (piece_of Mover Lion) → at p e ≡ Some (piece_of Enemy Lion)
+pub first_home : (set : PieceSet) (p : Setup) (class s e : ℕ) → IsFirstIn set p class → at p s ≡ Some (piece_of Mover Lion)
+    → at p e ≡ Some (piece_of Enemy Lion)
     → is_home e s ≡ true
 first_home set p class s e first own other =
     let is = first.0.0 in
@@ -179,7 +185,8 @@ first_home set p class s e first own other =
       ]
     ]
   where
-    lions : (nat_lt (mirrored_square s) s || ((mirrored_square s == s) && nat_lt (mirrored_square e) e)) ≡ true → lions_before (mirrored_square s) (mirrored_square e) s e
+    lions : (nat_lt (mirrored_square s) s || ((mirrored_square s == s) && nat_lt (mirrored_square e) e)) ≡ true
+        → lions_before (mirrored_square s) (mirrored_square e) s e
     lions told = elim (either_true (nat_lt (mirrored_square s) s) _ told) [
       | inl less ↦ inl (ltb-true (mirrored_square s) s less)
       | inr same ↦ (let both = and_parts (mirrored_square s == s) (nat_lt (mirrored_square e) e) same in

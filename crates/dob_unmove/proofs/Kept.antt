@@ -55,7 +55,8 @@ legal_before after s u can t e home =
     (IsLegal-earlier t.0 u t.1.squares (subst (λ (x : Setup). CanUndo x u) t.2 can) t.1 (subst HasLionOffFarRow before home))
 
 -- and it has the same pieces
-pub position_before : (set : PieceSet) (after p : Setup) (u : Undo) → CanUndo after u → IsTurned (IsPositionOf set) after → p ≡ earlier after u → IsLegal p → IsPositionOf set p
+pub position_before : (set : PieceSet) (after p : Setup) (u : Undo) → CanUndo after u → IsTurned (IsPositionOf set) after → p ≡ earlier after u → IsLegal p
+    → IsPositionOf set p
 position_before set after p u can t e legal = record {
   legal = legal;
   pieces = λ kind.
@@ -74,7 +75,8 @@ pub position_mirrored : (set : PieceSet) (q image : Setup) → IsPositionOf set 
 position_mirrored set q image is e = subst (IsPositionOf set) (sym e) (IsPositionOf-mirrored set q is)
 
 -- after a walk over the one position, for the walk over its mirror image
-pub turned_image : (set : PieceSet) (q image t s : Setup) → IsLegal q → image ≡ mirrored q → t ≡ turned q → s ≡ turned image → IsTurned (IsPositionOf set) t → IsTurned (IsPositionOf set) s
+pub turned_image : (set : PieceSet) (q image t s : Setup) → IsLegal q → image ≡ mirrored q → t ≡ turned q → s ≡ turned image → IsTurned (IsPositionOf set) t
+    → IsTurned (IsPositionOf set) s
 turned_image set q image t s legal im e f walked =
     let same : walked.0 ≡ q
     = sym (turned-turned walked.0 walked.1.legal.squares) ∙ ap turned (sym walked.2 ∙ e) ∙ turned-turned q legal.squares in

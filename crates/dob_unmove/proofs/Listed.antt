@@ -18,7 +18,8 @@ use Rattle.dob_pieces.proofs.Boards.{within-from_piece, leads-to_board}
 use Rattle.dob_unmove.specs.declared.undo.Undo.{Undo}
 use Rattle.dob_unmove.specs.declared.undo.Undo.TheVariants.{Unstep, Unput}
 use Rattle.dob_unmove.specs.Undoes.{arrives_at, CanGiveBack, CanUnstep, CanUndo}
-use Rattle.dob_unmove.specs.Walks.{if_so, is_kind, is_movers, stands, holds_any, holds_caught, uncatch, unsteps_between, unsteps_from, unsteps, unputs, undoes_at, undoes}
+use Rattle.dob_unmove.specs.Walks.{if_so, is_kind, is_movers, stands, holds_any, holds_caught, uncatch, unsteps_between, unsteps_from, unsteps, unputs}
+use Rattle.dob_unmove.specs.Walks.{undoes_at, undoes}
 
 -- ---- the tests
 
@@ -120,27 +121,36 @@ module _ (a b c d e f g h : List Undo) (u : Undo) where
   in_b i = Contains-append_right a (b ++ (c ++ (d ++ (e ++ (f ++ (g ++ h)))))) u (Contains-append_left b (c ++ (d ++ (e ++ (f ++ (g ++ h))))) u i)
 
   in_c : Contains c u → Contains (a ++ (b ++ (c ++ (d ++ (e ++ (f ++ (g ++ h))))))) u
-  in_c i = Contains-append_right a (b ++ (c ++ (d ++ (e ++ (f ++ (g ++ h)))))) u (Contains-append_right b (c ++ (d ++ (e ++ (f ++ (g ++ h))))) u (Contains-append_left c (d ++ (e ++ (f ++ (g ++ h)))) u i))
+  in_c i = Contains-append_right a _ u (Contains-append_right b _ u (Contains-append_left c _ u i))
 
   in_d : Contains d u → Contains (a ++ (b ++ (c ++ (d ++ (e ++ (f ++ (g ++ h))))))) u
-  in_d i = Contains-append_right a (b ++ (c ++ (d ++ (e ++ (f ++ (g ++ h)))))) u (Contains-append_right b (c ++ (d ++ (e ++ (f ++ (g ++ h))))) u (Contains-append_right c (d ++ (e ++ (f ++ (g ++ h)))) u (Contains-append_left d (e ++ (f ++ (g ++ h))) u i)))
+  in_d i = Contains-append_right a _ u (Contains-append_right b _ u (Contains-append_right c _ u (Contains-append_left d _ u i)))
 
   in_e : Contains e u → Contains (a ++ (b ++ (c ++ (d ++ (e ++ (f ++ (g ++ h))))))) u
-  in_e i = Contains-append_right a (b ++ (c ++ (d ++ (e ++ (f ++ (g ++ h)))))) u (Contains-append_right b (c ++ (d ++ (e ++ (f ++ (g ++ h))))) u (Contains-append_right c (d ++ (e ++ (f ++ (g ++ h)))) u (Contains-append_right d (e ++ (f ++ (g ++ h))) u (Contains-append_left e (f ++ (g ++ h)) u i))))
+  in_e i = Contains-append_right a _ u (Contains-append_right b _ u (Contains-append_right c _ u (Contains-append_right d _ u (Contains-append_left e _ u i))))
 
   in_f : Contains f u → Contains (a ++ (b ++ (c ++ (d ++ (e ++ (f ++ (g ++ h))))))) u
-  in_f i = Contains-append_right a (b ++ (c ++ (d ++ (e ++ (f ++ (g ++ h)))))) u (Contains-append_right b (c ++ (d ++ (e ++ (f ++ (g ++ h))))) u (Contains-append_right c (d ++ (e ++ (f ++ (g ++ h)))) u (Contains-append_right d (e ++ (f ++ (g ++ h))) u (Contains-append_right e (f ++ (g ++ h)) u (Contains-append_left f (g ++ h) u i)))))
+  in_f i =
+      Contains-append_right a _ u (Contains-append_right b _ u (Contains-append_right c _ u
+      (Contains-append_right d _ u (Contains-append_right e _ u (Contains-append_left f _ u i)))))
 
   in_g : Contains g u → Contains (a ++ (b ++ (c ++ (d ++ (e ++ (f ++ (g ++ h))))))) u
-  in_g i = Contains-append_right a (b ++ (c ++ (d ++ (e ++ (f ++ (g ++ h)))))) u (Contains-append_right b (c ++ (d ++ (e ++ (f ++ (g ++ h))))) u (Contains-append_right c (d ++ (e ++ (f ++ (g ++ h)))) u (Contains-append_right d (e ++ (f ++ (g ++ h))) u (Contains-append_right e (f ++ (g ++ h)) u (Contains-append_right f (g ++ h) u (Contains-append_left g h u i))))))
+  in_g i =
+      Contains-append_right a _ u (Contains-append_right b _ u (Contains-append_right c _ u
+      (Contains-append_right d _ u (Contains-append_right e _ u (Contains-append_right f _ u
+      (Contains-append_left g _ u i))))))
 
   in_h : Contains h u → Contains (a ++ (b ++ (c ++ (d ++ (e ++ (f ++ (g ++ h))))))) u
-  in_h i = Contains-append_right a (b ++ (c ++ (d ++ (e ++ (f ++ (g ++ h)))))) u (Contains-append_right b (c ++ (d ++ (e ++ (f ++ (g ++ h))))) u (Contains-append_right c (d ++ (e ++ (f ++ (g ++ h)))) u (Contains-append_right d (e ++ (f ++ (g ++ h))) u (Contains-append_right e (f ++ (g ++ h)) u (Contains-append_right f (g ++ h) u (Contains-append_right g h u i))))))
+  in_h i =
+      Contains-append_right a _ u (Contains-append_right b _ u (Contains-append_right c _ u
+      (Contains-append_right d _ u (Contains-append_right e _ u (Contains-append_right f _ u
+      (Contains-append_right g _ u i))))))
 
 -- ---- every way in the list can undo the last move
 
 module _ (t : Setup) where
-  uncatch_sound : (kind : Kind) (from to : ℕ) (caught : Kind) (u : Undo) → CanUnstep t kind from to None → Contains (uncatch t kind from to caught) u → CanUndo t u
+  uncatch_sound : (kind : Kind) (from to : ℕ) (caught : Kind) (u : Undo) → CanUnstep t kind from to None → Contains (uncatch t kind from to caught) u
+      → CanUndo t u
   uncatch_sound kind from to caught u step h =
       let found = if_so_sound (holds_caught t.hands.mover caught) (Unstep kind from to (Some caught)) u h in
       subst (CanUndo t) found.1 (record {
@@ -164,7 +174,8 @@ module _ (t : Setup) where
             (λ rest. append_sound _ _ u rest (uncatch_sound kind from to Chick u step) (uncatch_sound kind from to Hen u step)))
       ]
 
-  pub from_sound : (kind : Kind) (from to : ℕ) (u : Undo) → at t to ≡ Some (piece_of Mover (arrives_at kind to)) → from < 12 → Contains (unsteps_from t kind to from) u → CanUndo t u
+  pub from_sound : (kind : Kind) (from to : ℕ) (u : Undo) → at t to ≡ Some (piece_of Mover (arrives_at kind to)) → from < 12
+      → Contains (unsteps_from t kind to from) u → CanUndo t u
   unfolding unsteps_from
   from_sound kind from to u here low h =
       let found = cond_sound _ _ u h in
@@ -202,13 +213,15 @@ module _ (t : Setup) where
 
   -- ---- every way that can undo the last move is in the list
 
-  uncatch_whole : (kind : Kind) (from to : ℕ) (caught : Kind) → CanGiveBack t.hands.mover (Some caught) → Contains (uncatch t kind from to caught) (Unstep kind from to (Some caught))
+  uncatch_whole : (kind : Kind) (from to : ℕ) (caught : Kind) → CanGiveBack t.hands.mover (Some caught)
+      → Contains (uncatch t kind from to caught) (Unstep kind from to (Some caught))
   uncatch_whole kind from to caught g = if_so_whole (holds_caught t.hands.mover caught) (Unstep kind from to (Some caught)) (holds-from t.hands.mover caught g)
 
   later : (x : Undo) (xs : List Undo) (u : Undo) → Contains xs u → Contains (x ∷ xs) u
   later x xs u h = Contains-append_right (x ∷ []) xs u h
 
-  between_whole : (kind : Kind) (from to : ℕ) (caught : Option Kind) → CanGiveBack t.hands.mover caught → Contains (unsteps_between t kind from to) (Unstep kind from to caught)
+  between_whole : (kind : Kind) (from to : ℕ) (caught : Option Kind) → CanGiveBack t.hands.mover caught
+      → Contains (unsteps_between t kind from to) (Unstep kind from to caught)
   between_whole kind from to None g = head_in _ _
   between_whole kind from to (Some caught) g =
       later (Unstep kind from to None) _ _ (caught_whole caught g)
@@ -217,20 +230,31 @@ module _ (t : Setup) where
       found = uncatch_whole kind from to
 
       caught_whole : (caught : Kind) → CanGiveBack t.hands.mover (Some caught)
-          → Contains (uncatch t kind from to Giraffe ++ (uncatch t kind from to Elephant ++ (uncatch t kind from to Chick ++ uncatch t kind from to Hen))) (Unstep kind from to (Some caught))
+          → Contains (uncatch t kind from to Giraffe ++ (uncatch t kind from to Elephant ++ (uncatch t kind from to Chick ++ uncatch t kind from to Hen)))
+          (Unstep kind from to (Some caught))
       caught_whole Lion g = absurd (no_lion_back t.hands.mover g)
-      caught_whole Giraffe g = first_of_four (uncatch t kind from to Giraffe) (uncatch t kind from to Elephant) (uncatch t kind from to Chick) (uncatch t kind from to Hen) _ (found Giraffe g)
-      caught_whole Elephant g = second_of_four (uncatch t kind from to Giraffe) (uncatch t kind from to Elephant) (uncatch t kind from to Chick) (uncatch t kind from to Hen) _ (found Elephant g)
-      caught_whole Chick g = third_of_four (uncatch t kind from to Giraffe) (uncatch t kind from to Elephant) (uncatch t kind from to Chick) (uncatch t kind from to Hen) _ (found Chick g)
-      caught_whole Hen g = last_of_four (uncatch t kind from to Giraffe) (uncatch t kind from to Elephant) (uncatch t kind from to Chick) (uncatch t kind from to Hen) _ (found Hen g)
+      caught_whole Giraffe g =
+          first_of_four (uncatch t kind from to Giraffe) (uncatch t kind from to Elephant) (uncatch t kind from to Chick) (uncatch t kind from to Hen) _
+          (found Giraffe g)
+      caught_whole Elephant g =
+          second_of_four (uncatch t kind from to Giraffe) (uncatch t kind from to Elephant) (uncatch t kind from to Chick) (uncatch t kind from to Hen) _
+          (found Elephant g)
+      caught_whole Chick g =
+          third_of_four (uncatch t kind from to Giraffe) (uncatch t kind from to Elephant) (uncatch t kind from to Chick) (uncatch t kind from to Hen) _
+          (found Chick g)
+      caught_whole Hen g =
+          last_of_four (uncatch t kind from to Giraffe) (uncatch t kind from to Elephant) (uncatch t kind from to Chick) (uncatch t kind from to Hen) _
+          (found Hen g)
 
-  from_whole : (kind : Kind) (from to : ℕ) (caught : Option Kind) → CanUnstep t kind from to caught → Contains (unsteps_from t kind to from) (Unstep kind from to caught)
+  from_whole : (kind : Kind) (from to : ℕ) (caught : Option Kind) → CanUnstep t kind from to caught
+      → Contains (unsteps_from t kind to from) (Unstep kind from to caught)
   unfolding unsteps_from
   from_whole kind from to caught s =
       let test : (not (is_some (at t from)) && leads kind from to) ≡ true = rw s.empty s.leads in
       cond_whole _ _ _ test (between_whole kind from to caught s.in_hand)
 
-  unsteps_whole : (kind : Kind) (from to : ℕ) (caught : Option Kind) → CanUnstep t kind from to caught → Contains (unsteps t kind to) (Unstep kind from to caught)
+  unsteps_whole : (kind : Kind) (from to : ℕ) (caught : Option Kind) → CanUnstep t kind from to caught
+      → Contains (unsteps t kind to) (Unstep kind from to caught)
   unfolding unsteps
   unsteps_whole kind from to caught s =
       cond_whole _ _ _ (stands-from (at t to) (arrives_at kind to) s.stands)
@@ -242,17 +266,33 @@ module _ (t : Setup) where
 
   step_at_whole : (kind : Kind) (to : ℕ) (u : Undo) → Contains (unsteps t kind to) u → Contains (undoes_at t to) u
   unfolding undoes_at
-  step_at_whole Lion to u h = in_a (unsteps t Lion to) (unsteps t Giraffe to) (unsteps t Elephant to) (unsteps t Chick to) (unsteps t Hen to) (unputs t hand.Chick to) (unputs t hand.Elephant to) (unputs t hand.Giraffe to) u h
-  step_at_whole Giraffe to u h = in_b (unsteps t Lion to) (unsteps t Giraffe to) (unsteps t Elephant to) (unsteps t Chick to) (unsteps t Hen to) (unputs t hand.Chick to) (unputs t hand.Elephant to) (unputs t hand.Giraffe to) u h
-  step_at_whole Elephant to u h = in_c (unsteps t Lion to) (unsteps t Giraffe to) (unsteps t Elephant to) (unsteps t Chick to) (unsteps t Hen to) (unputs t hand.Chick to) (unputs t hand.Elephant to) (unputs t hand.Giraffe to) u h
-  step_at_whole Chick to u h = in_d (unsteps t Lion to) (unsteps t Giraffe to) (unsteps t Elephant to) (unsteps t Chick to) (unsteps t Hen to) (unputs t hand.Chick to) (unputs t hand.Elephant to) (unputs t hand.Giraffe to) u h
-  step_at_whole Hen to u h = in_e (unsteps t Lion to) (unsteps t Giraffe to) (unsteps t Elephant to) (unsteps t Chick to) (unsteps t Hen to) (unputs t hand.Chick to) (unputs t hand.Elephant to) (unputs t hand.Giraffe to) u h
+  step_at_whole Lion to u h =
+      in_a (unsteps t Lion to) (unsteps t Giraffe to) (unsteps t Elephant to) (unsteps t Chick to) (unsteps t Hen to)
+      (unputs t hand.Chick to) (unputs t hand.Elephant to) (unputs t hand.Giraffe to) u h
+  step_at_whole Giraffe to u h =
+      in_b (unsteps t Lion to) (unsteps t Giraffe to) (unsteps t Elephant to) (unsteps t Chick to) (unsteps t Hen to)
+      (unputs t hand.Chick to) (unputs t hand.Elephant to) (unputs t hand.Giraffe to) u h
+  step_at_whole Elephant to u h =
+      in_c (unsteps t Lion to) (unsteps t Giraffe to) (unsteps t Elephant to) (unsteps t Chick to) (unsteps t Hen to)
+      (unputs t hand.Chick to) (unputs t hand.Elephant to) (unputs t hand.Giraffe to) u h
+  step_at_whole Chick to u h =
+      in_d (unsteps t Lion to) (unsteps t Giraffe to) (unsteps t Elephant to) (unsteps t Chick to) (unsteps t Hen to)
+      (unputs t hand.Chick to) (unputs t hand.Elephant to) (unputs t hand.Giraffe to) u h
+  step_at_whole Hen to u h =
+      in_e (unsteps t Lion to) (unsteps t Giraffe to) (unsteps t Elephant to) (unsteps t Chick to) (unsteps t Hen to)
+      (unputs t hand.Chick to) (unputs t hand.Elephant to) (unputs t hand.Giraffe to) u h
 
   put_at_whole : (kind : HandKind) (to : ℕ) (u : Undo) → Contains (unputs t kind to) u → Contains (undoes_at t to) u
   unfolding undoes_at
-  put_at_whole hand.Chick to u h = in_f (unsteps t Lion to) (unsteps t Giraffe to) (unsteps t Elephant to) (unsteps t Chick to) (unsteps t Hen to) (unputs t hand.Chick to) (unputs t hand.Elephant to) (unputs t hand.Giraffe to) u h
-  put_at_whole hand.Elephant to u h = in_g (unsteps t Lion to) (unsteps t Giraffe to) (unsteps t Elephant to) (unsteps t Chick to) (unsteps t Hen to) (unputs t hand.Chick to) (unputs t hand.Elephant to) (unputs t hand.Giraffe to) u h
-  put_at_whole hand.Giraffe to u h = in_h (unsteps t Lion to) (unsteps t Giraffe to) (unsteps t Elephant to) (unsteps t Chick to) (unsteps t Hen to) (unputs t hand.Chick to) (unputs t hand.Elephant to) (unputs t hand.Giraffe to) u h
+  put_at_whole hand.Chick to u h =
+      in_f (unsteps t Lion to) (unsteps t Giraffe to) (unsteps t Elephant to) (unsteps t Chick to) (unsteps t Hen to)
+      (unputs t hand.Chick to) (unputs t hand.Elephant to) (unputs t hand.Giraffe to) u h
+  put_at_whole hand.Elephant to u h =
+      in_g (unsteps t Lion to) (unsteps t Giraffe to) (unsteps t Elephant to) (unsteps t Chick to) (unsteps t Hen to)
+      (unputs t hand.Chick to) (unputs t hand.Elephant to) (unputs t hand.Giraffe to) u h
+  put_at_whole hand.Giraffe to u h =
+      in_h (unsteps t Lion to) (unsteps t Giraffe to) (unsteps t Elephant to) (unsteps t Chick to) (unsteps t Hen to)
+      (unputs t hand.Chick to) (unputs t hand.Elephant to) (unputs t hand.Giraffe to) u h
 
   pub undoes_whole : (u : Undo) → length t.board ≡ 12 → CanUndo t u → Contains (undoes t) u
   unfolding undoes

@@ -50,10 +50,13 @@ rising-once low high us r = λ i j d before within. apart-place _ _ (rising-pair
 -- ---- the places in the walk
 
 module _ (t : Setup) where
-  rising-uncatch : (kind : Kind) (from to : ℕ) (caught : Kind) (low : ℕ) → place (Unstep kind from to (Some caught)) ≡ low → Rising place low (suc low) (uncatch t kind from to caught)
-  rising-uncatch kind from to caught low e = rising-cond place _ low (suc low) (Unstep kind from to (Some caught) ∷ []) (omega arith) (rising-one (Unstep kind from to (Some caught)) low e)
+  rising-uncatch : (kind : Kind) (from to : ℕ) (caught : Kind) (low : ℕ) → place (Unstep kind from to (Some caught)) ≡ low
+      → Rising place low (suc low) (uncatch t kind from to caught)
+  rising-uncatch kind from to caught low e =
+      rising-cond place _ low (suc low) (Unstep kind from to (Some caught) ∷ []) (omega arith) (rising-one (Unstep kind from to (Some caught)) low e)
 
-  rising-between : (kind : Kind) (from to low : ℕ) → low ≡ 1000 * to + (100 * kind_place kind + 5 * from) → Rising place low (low + 5) (unsteps_between t kind from to)
+  rising-between : (kind : Kind) (from to low : ℕ) → low ≡ 1000 * to + (100 * kind_place kind + 5 * from)
+      → Rising place low (low + 5) (unsteps_between t kind from to)
   unfolding place caught_place kind_place
   rising-between kind from to low e =
       let first = rising-uncatch kind from to Giraffe (low + 1) (omega arith) in
@@ -64,12 +67,15 @@ module _ (t : Setup) where
       let elephant = uncatch t kind from to Elephant in
       let chick = uncatch t kind from to Chick in
       let hen = uncatch t kind from to Hen in
-      let rest = rising-append place (low + 3) (low + 4) (low + 5) chick hen (rising-higher _ _ _ chick (omega arith) third) (rising-higher _ _ _ hen (omega arith) last) in
+      let rest =
+      rising-append place (low + 3) (low + 4) (low + 5) chick hen (rising-higher _ _ _ chick (omega arith) third)
+      (rising-higher _ _ _ hen (omega arith) last) in
       let more = rising-append place (low + 2) (low + 3) (low + 5) elephant (chick ++ hen) (rising-higher _ _ _ elephant (omega arith) second) rest in
       let all = rising-append place (low + 1) (low + 2) (low + 5) giraffe (elephant ++ (chick ++ hen)) (rising-higher _ _ _ giraffe (omega arith) first) more in
       (omega arith, rising-lower place _ (low + 1) (low + 5) _ (omega arith) all)
 
-  rising-from : (kind : Kind) (from to low : ℕ) → low ≡ 1000 * to + (100 * kind_place kind + 5 * from) → Rising place low (low + 5) (unsteps_from t kind to from)
+  rising-from : (kind : Kind) (from to low : ℕ) → low ≡ 1000 * to + (100 * kind_place kind + 5 * from)
+      → Rising place low (low + 5) (unsteps_from t kind to from)
   unfolding unsteps_from
   rising-from kind from to low e = rising-cond place _ low (low + 5) (unsteps_between t kind from to) (omega arith) (rising-between kind from to low e)
 

@@ -20,7 +20,8 @@ all_fixed : all_below is_fixed_on_b 12 ≡ true
 all_fixed = refl
 
 fixed_column : (s : ℕ) → s < 12 → mirrored_square s ≡ s → column s ≡ 1
-fixed_column s lt same = eqb-true (column s) 1 (second (mirrored_square s == s) (column s == 1) (eq-eqb (mirrored_square s) s same) (all_below-at is_fixed_on_b 12 s all_fixed lt))
+fixed_column s lt same =
+    eqb-true (column s) 1 (second (mirrored_square s == s) (column s == 1) (eq-eqb (mirrored_square s) s same) (all_below-at is_fixed_on_b 12 s all_fixed lt))
   where
     second : (a b : Bool) → a ≡ true → (not a || b) ≡ true → b ≡ true
     second true b e h = h

@@ -17,7 +17,8 @@ pub takes_append : {S : Type 0} (R : S → Undo → S → Type 0) (a b c : S) (u
 takes_append {S} R a b c [] vs first second = subst (λ (x : S). TakesAll R x vs c) (sym first) second
 takes_append R a b c (u ∷ us) vs first second = (first.0, first.1, takes_append R first.0 b c us vs first.2 second)
 
-pub takes_more : {S : Type 0} (R : S → Undo → S → Type 0) (g : ℕ → List Undo) (i : ℕ) (a b c : S) → TakesAll R a (each_below g i) b → TakesAll R b (g i) c → TakesAll R a (each_below g (i + 1)) c
+pub takes_more : {S : Type 0} (R : S → Undo → S → Type 0) (g : ℕ → List Undo) (i : ℕ) (a b c : S) → TakesAll R a (each_below g i) b → TakesAll R b (g i) c
+    → TakesAll R a (each_below g (i + 1)) c
 takes_more R g i a b c first second = rw add-one (takes_append R a b c (each_below g i) (g i) first second)
 
 pub ruleset runs = (takes_none, takes_one, takes_cons, takes_append, takes_more)

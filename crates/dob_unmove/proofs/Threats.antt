@@ -1,6 +1,7 @@
 -- Before a move some piece could catch the enemy lion exactly where one that didn't move attacks it, or the one that moved
 -- did from where it stood.
-use Rattle.std.proofs.Common.{◌≡◌, ◌≢◌, ℕ, suc, ◌-◌, ◌<◌, ◌==◌, if◌then◌else◌, not, Bool, true, false, true≢false, Option, Some, None, length, set, refl, sym, ap, ◌∙◌, subst, inl, inr, arith}
+use Rattle.std.proofs.Common.{◌≡◌, ◌≢◌, ℕ, suc, ◌-◌, ◌<◌, ◌==◌, if◌then◌else◌, not, Bool, true, false, true≢false, Option, Some, None, length, set, refl, sym}
+use Rattle.std.proofs.Common.{ap, ◌∙◌, subst, inl, inr, arith}
 use Rattle.std.proofs.lemmas.Bool.{cases_Bool, cases_lt, cases_eq, eq-eqb, ne_eqb}
 use Rattle.std.proofs.lemmas.List.{length-set, get_or_past, get_or-set_same, get_or-set_other}
 use Rattle.std.specs.Int.{trailing_zeros, w16}
@@ -104,7 +105,8 @@ attack_by p (Put kind to, catching) = absurd catching
 turned_lion : (cell : Cell) → turned_cell cell ≡ Some (piece_of Enemy Lion) → cell ≡ Some (piece_of Mover Lion)
 turned_lion None e = cc
 turned_lion (Some piece) e = own piece.side piece.kind e where
-  own : (side : Side) (kind : Kind) → Some (piece_of (other_side side) kind) ≡ Some (piece_of Enemy Lion) → Some (piece_of side kind) ≡ Some (piece_of Mover Lion)
+  own : (side : Side) (kind : Kind) → Some (piece_of (other_side side) kind) ≡ Some (piece_of Enemy Lion)
+      → Some (piece_of side kind) ≡ Some (piece_of Mover Lion)
   own Mover kind e = ap (λ (k : Kind). Some (piece_of Mover k)) (ap kind_of e)
   own Enemy kind e = let same : Mover ≡ Enemy = ap side_of e in cc
 
@@ -115,7 +117,8 @@ apart_sides kind e = let same : Mover ≡ Enemy = ap side_of e in cc
 
 module _ (after before : Setup) (threat : Threat) (from to : ℕ) (by_moved : Bool) (h : IsThreat after threat)
     (others : (s : ℕ) → s ≢ from → s ≢ to → at before s ≡ at after s)
-    (from_after : attacks after from threat.lion ≡ false) (from_before : attacks before from threat.lion ≡ by_moved) (to_before : attacks before to threat.lion ≡ false)
+    (from_after : attacks after from threat.lion ≡ false) (from_before : attacks before from threat.lion ≡ by_moved)
+    (to_before : attacks before to threat.lion ≡ false)
     (lion_before : at before threat.lion ≡ Some (piece_of Enemy Lion))
     (lion_only : (s : ℕ) → at before s ≡ Some (piece_of Enemy Lion) → s ≡ threat.lion)
     (twelve : length after.board ≡ 12) where
@@ -145,7 +148,8 @@ module _ (after before : Setup) (threat : Threat) (from to : ℕ) (by_moved : Bo
     | inr isnt ↦ attackers_catch threat.attackers h.attackers (sym (ap (λ b. if b then true else elsewhere threat.attackers to) isnt) ∙ stood)
   ]
 
-  found_elsewhere : (found : Attackers) (s : ℕ) → s < 12 → AreAttackers after threat.lion 12 found → s ≢ to → attacks after s threat.lion ≡ true → elsewhere found to ≡ true
+  found_elsewhere : (found : Attackers) (s : ℕ) → s < 12 → AreAttackers after threat.lion 12 found → s ≢ to → attacks after s threat.lion ≡ true
+      → elsewhere found to ≡ true
   found_elsewhere Nobody s lt are apart is = absurd (true≢false (sym is ∙ are s lt))
   found_elsewhere (One a) s lt are apart is = ap not (ne_eqb a to (λ e. apart (are.2 s lt is ∙ e)))
   found_elsewhere Several s lt are apart is = refl
@@ -160,7 +164,8 @@ module _ (after before : Setup) (threat : Threat) (from to : ℕ) (by_moved : Bo
         | inr apart ↦ elim (cases_eq found.from to) [
           | inl e ↦ absurd (true≢false (sym is ∙ ap (λ (x : ℕ). attacks before x threat.lion) e ∙ to_before))
           | inr away ↦
-              let now : attacks after found.from threat.lion ≡ true = ap (λ (c : Cell). attacks_by c found.from threat.lion) (sym (others found.from apart away)) ∙ is in
+              let now : attacks after found.from threat.lion ≡ true =
+              ap (λ (c : Cell). attacks_by c found.from threat.lion) (sym (others found.from apart away)) ∙ is in
               let piece = attacks_piece (at after found.from) found.from threat.lion now in
               let within = within-from_piece after found.from (piece_of Mover piece.0) piece.1 in
               let one = found_elsewhere threat.attackers found.from (omega (arith, within, twelve)) h.attackers away now in
@@ -188,7 +193,8 @@ module _ (after : Setup) (threat : Threat) (t : IsTurned IsLegal after) (h : IsT
     pub at_from : at before from ≡ Some (piece_of Mover kind)
     unfolding earlier
     at_from = get_or-set_same (set after.board to (enemy_cell caught)) from (Some (piece_of Mover kind)) None
-        (let low = can.on_board in let twelve = turned_squares after t in let same = length-set after.board to (enemy_cell caught) in omega (arith, low, twelve, same))
+        (let low = can.on_board in
+        let twelve = turned_squares after t in let same = length-set after.board to (enemy_cell caught) in omega (arith, low, twelve, same))
 
     at_to : at before to ≡ enemy_cell caught
     unfolding earlier
@@ -233,13 +239,17 @@ module _ (after : Setup) (threat : Threat) (t : IsTurned IsLegal after) (h : IsT
     pub here : at before threat.lion ≡ Some (piece_of Enemy Lion)
     here = at_others threat.lion lion_not_from lion_not_to ∙ h.lion
 
-    pub step_stood : (stood_before threat (Unstep kind from to caught) ≡ true → CanCatch before) × (CanCatch before → stood_before threat (Unstep kind from to caught) ≡ true)
+    pub step_stood : (stood_before threat (Unstep kind from to caught) ≡ true → CanCatch before)
+        × (CanCatch before → stood_before threat (Unstep kind from to caught) ≡ true)
     step_stood =
         let from_after : attacks after from threat.lion ≡ false = ap (λ (c : Cell). attacks_by c from threat.lion) can.empty in
         let from_before : attacks before from threat.lion ≡ leads kind from threat.lion = own_attacks (at before from) kind from threat.lion at_from in
-        let to_before : attacks before to threat.lion ≡ false = ap (λ (c : Cell). attacks_by c to threat.lion) at_to ∙ enemy_stands_still caught to threat.lion in (
-          stood_catches after before threat from to (leads kind from threat.lion) h at_others from_after from_before to_before here only_lion (turned_squares after t),
-          catch_stood after before threat from to (leads kind from threat.lion) h at_others from_after from_before to_before here only_lion (turned_squares after t),
+        let to_before : attacks before to threat.lion ≡ false =
+        ap (λ (c : Cell). attacks_by c to threat.lion) at_to ∙ enemy_stands_still caught to threat.lion in (
+          stood_catches after before threat from to (leads kind from threat.lion) h at_others from_after from_before to_before here only_lion
+              (turned_squares after t),
+          catch_stood after before threat from to (leads kind from threat.lion) h at_others from_after from_before to_before here only_lion
+              (turned_squares after t),
         )
 
   -- ---- a drop taken back
@@ -257,7 +267,10 @@ module _ (after : Setup) (threat : Threat) (t : IsTurned IsLegal after) (h : IsT
     at_rest s away apart = get_or-set_other after.board to s None None apart
 
     drop_on_board : to < 12
-    drop_on_board = let low = within-from_piece after to (piece_of Mover (kind_on_board kind)) can in let twelve = turned_squares after t in omega (arith, low, twelve)
+    drop_on_board =
+        let low = within-from_piece after to (piece_of Mover (kind_on_board kind)) can in
+        let twelve = turned_squares after t in
+        omega (arith, low, twelve)
 
     beyond : (p : Setup) → length p.board ≡ 12 → at p 12 ≡ None
     beyond p twelve = get_or_past p.board 12 None (omega (arith, twelve))
@@ -267,7 +280,10 @@ module _ (after : Setup) (threat : Threat) (t : IsTurned IsLegal after) (h : IsT
     undropped_squares = length-set after.board to None ∙ turned_squares after t
 
     pub lion_not_beyond : threat.lion ≢ 12
-    lion_not_beyond e = let low = within-from_piece after threat.lion (piece_of Enemy Lion) h.lion in let twelve = turned_squares after t in omega (arith, low, twelve, e)
+    lion_not_beyond e =
+        let low = within-from_piece after threat.lion (piece_of Enemy Lion) h.lion in
+        let twelve = turned_squares after t in
+        omega (arith, low, twelve, e)
 
     pub lion_not_dropped : threat.lion ≢ to
     lion_not_dropped e = apart_sides (kind_on_board kind) (sym can ∙ ap (at after) (sym e) ∙ h.lion)
@@ -281,7 +297,8 @@ module _ (after : Setup) (threat : Threat) (t : IsTurned IsLegal after) (h : IsT
       ]
     ]
 
-    pub drop_stood : (stood_before threat (Unput kind to) ≡ true → CanCatch (earlier after (Unput kind to))) × (CanCatch (earlier after (Unput kind to)) → stood_before threat (Unput kind to) ≡ true)
+    pub drop_stood : (stood_before threat (Unput kind to) ≡ true → CanCatch (earlier after (Unput kind to)))
+        × (CanCatch (earlier after (Unput kind to)) → stood_before threat (Unput kind to) ≡ true)
     drop_stood =
         let from_after : attacks after 12 threat.lion ≡ false = ap (λ (c : Cell). attacks_by c 12 threat.lion) (beyond after (turned_squares after t)) in
         let from_before : attacks undropped 12 threat.lion ≡ false = ap (λ (c : Cell). attacks_by c 12 threat.lion) (beyond undropped undropped_squares) in
@@ -292,7 +309,8 @@ module _ (after : Setup) (threat : Threat) (t : IsTurned IsLegal after) (h : IsT
         )
 
   -- a piece attacked the enemy lion before the move exactly where one could catch it
-  pub stood_is : (u : Undo) → CanUndo after u → (stood_before threat u ≡ true → CanCatch (earlier after u)) × (CanCatch (earlier after u) → stood_before threat u ≡ true)
+  pub stood_is : (u : Undo) → CanUndo after u
+      → (stood_before threat u ≡ true → CanCatch (earlier after u)) × (CanCatch (earlier after u) → stood_before threat u ≡ true)
   stood_is (Unstep kind from to caught) can = step_stood kind from to caught can
   stood_is (Unput kind to) can = drop_stood kind to can
 

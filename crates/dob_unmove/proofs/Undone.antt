@@ -1,5 +1,6 @@
 -- The ways that can undo the last move are those of the moves that lead there.
-use Rattle.std.proofs.Common.{◌≡◌, ◌≢◌, ℕ, ◌+◌, ◌-◌, ◌<◌, Bool, true, false, cond, List, Option, Some, None, length, get_or, set, refl, sym, ap, ◌∙◌, subst, arith}
+use Rattle.std.proofs.Common.{◌≡◌, ◌≢◌, ℕ, ◌+◌, ◌-◌, ◌<◌, Bool, true, false, cond, List, Option, Some, None, length, get_or, set, refl, sym, ap, ◌∙◌, subst}
+use Rattle.std.proofs.Common.{arith}
 use Rattle.std.specs.Option.{is_some}
 use Rattle.std.proofs.lemmas.List.{length-set, get_or-set_same, get_or-set_other, set-set, set_comm, set-get_or}
 use Rattle.dob_pieces.specs.declared.kind.Kind.{Kind}
@@ -95,8 +96,11 @@ module _ (q : Setup) (twelve : length q.board ≡ 12) (kind : Kind) (from to : �
     own = at_from;
     leads = u.leads;
     outcome =
-        let board = written_back (turned q).board to from (enemy_cell caught) (Some (piece_of Mover kind)) None (Some (piece_of Mover (arrives_at kind to))) apart u.empty u.stands in
-        let whole : setup_of (set (set (earlier (turned q) (Unstep kind from to caught)).board from None) to (Some (piece_of Mover (arrives_at kind to)))) hands ≡ turned q
+        let board =
+        written_back (turned q).board to from (enemy_cell caught) (Some (piece_of Mover kind)) None
+        (Some (piece_of Mover (arrives_at kind to))) apart u.empty u.stands in
+        let whole : setup_of (set (set (earlier (turned q) (Unstep kind from to caught)).board from None) to (Some (piece_of Mover (arrives_at kind to)))) hands
+        ≡ turned q
         = ap (λ (b : List Cell). setup_of b hands) board ∙ ap (setup_of (turned q).board) same in
         sym (turned-turned q twelve) ∙ ap turned (sym whole);
   }
@@ -167,7 +171,8 @@ module _ (p : Setup) (twelve : length p.board ≡ 12) (kind : Kind) (from to : �
   back_to : earlier stepped (Unstep kind from to caught) ≡ p
   unfolding earlier stepped
   back_to =
-      let board = written_back p.board from to None (Some (piece_of Mover (arrives_at kind to))) (enemy_cell caught) (Some (piece_of Mover kind)) from_to found own in
+      let board =
+      written_back p.board from to None (Some (piece_of Mover (arrives_at kind to))) (enemy_cell caught) (Some (piece_of Mover kind)) from_to found own in
       ap (λ (b : List Cell). setup_of b (record hands { mover = without_caught hands.mover caught })) board ∙ ap (setup_of p.board) before
 
   step_undone : (q : Setup) (grows : Bool) → grows_at kind to ≡ grows → Steps p kind from to (cond grows Hen kind) hands q

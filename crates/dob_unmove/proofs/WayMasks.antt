@@ -1,5 +1,6 @@
 -- The masks of the ways: where the lion may stand, where a move may have ended, from where a piece may have come.
-use Rattle.std.proofs.Common.{◌≡◌, ◌≢◌, ℕ, ◌-◌, ◌*◌, ◌%◌, ◌^◌, ◌<◌, ◌==◌, nat_lt, nat_eq, ◌&&◌, ◌||◌, min, not, Bool, true, false, cond, bit_and, refl, sym, ap, ◌∙◌, arith, w16, Some, None, inl, inr}
+use Rattle.std.proofs.Common.{◌≡◌, ◌≢◌, ℕ, ◌-◌, ◌*◌, ◌%◌, ◌^◌, ◌<◌, ◌==◌, nat_lt, nat_eq, ◌&&◌, ◌||◌, min, not, Bool, true, false, cond, bit_and, refl, sym, ap}
+use Rattle.std.proofs.Common.{◌∙◌, arith, w16, Some, None, inl, inr}
 use Rattle.std.specs.Int.{bit_at}
 use Rattle.std.proofs.lemmas.Bool.{and_parts, cases_Bool, eqb-true, ltb-true, eq-eqb, ne_eqb}
 use Rattle.std.proofs.lemmas.Nat.{and_le_l}
@@ -27,7 +28,8 @@ IsMask-without f g a b is are = record {
   bits = λ s lt.
       bit_at_and a (65535 - b) s
       ∙ ap (λ (n : ℕ). min n (bit_at (65535 - b) s)) (is.bits s lt)
-      ∙ ap (λ (n : ℕ). min (cond (f s) 1 0) n) (bit_at_not w16 b s (let low = are.within in omega (arith, low)) (omega (arith, lt)) ∙ ap (λ (n : ℕ). 1 - n) (are.bits s lt))
+      ∙ ap (λ (n : ℕ). min (cond (f s) 1 0) n)
+      (bit_at_not w16 b s (let low = are.within in omega (arith, low)) (omega (arith, lt)) ∙ ap (λ (n : ℕ). 1 - n) (are.bits s lt))
       ∙ both (f s) (g s);
 }
   where

@@ -17,7 +17,6 @@ pub mod Outcomes
 pub mod Stood
 pub mod Stands
 pub mod Stopped
-pub mod Openings
 pub mod Starts
 pub mod Promise
 pub mod Pushed

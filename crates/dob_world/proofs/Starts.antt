@@ -39,7 +39,7 @@ use Rattle.dob_link.specs.Links.{LinkView}
 use Rattle.std.proofs.lemmas.List.Elements.{All-nil}
 use Rattle.dob_world.proofs.Made.{kept_of, node_opened, low_own}
 use Rattle.dob_world.proofs.Taken.{lt_true}
-use Rattle.dob_world.proofs.Openings.{or_else, closed_follows, opened_value, opened_chained, opened_entries}
+use Rattle.dob_node.proofs.Beginnings.{or_else, closed_follows, opened_value, opened_chained, opened_entries}
 
 some_at : {X : Type 0} (xs : List X) (i : ℕ) → i < length xs → (x : X) × (slice_get xs i ≡ Some x)
 some_at [] i within = absurd (omega arith)

@@ -8,6 +8,8 @@ loop-seat-preserved c =
     let inv = c.loop-seat.invariant in
     record {
       of_board = c.join_last.ensures.of_board ∙ inv.of_board;
-      left = one_less c.args.rest.now.table_id c.args.nodes (map stand_of c.args.seats.items) c.loop-seat.seats.items c.pop.new.self.items c.in-Some.seat c.loop-seat.rest.me c.join_last.new.rest.me
+      left =
+          one_less c.args.rest.now.table_id c.args.nodes (map stand_of c.args.seats.items) c.loop-seat.seats.items c.pop.new.self.items c.in-Some.seat
+          c.loop-seat.rest.me c.join_last.new.rest.me
           inv.left c.in-Some.ensures.items c.join_last.ensures.rest;
     }

@@ -14,4 +14,5 @@ split_seat-seat-requires c = (
 
 pub returns-clause-rest : goal.returns-clause-rest
 returns-clause-rest c =
-    c.split_seat-seat.ensures.2 ∙ ap (λ (me : Seated). (others_of me.0, me.1)) c.requires.rest ∙ ap (λ (v : View). (v, [])) (others-behind c.args.nodes c.args.node c.requires.within)
+    c.split_seat-seat.ensures.2 ∙ ap (λ (me : Seated). (others_of me.0, me.1)) c.requires.rest
+    ∙ ap (λ (v : View). (v, [])) (others-behind c.args.nodes c.args.node c.requires.within)

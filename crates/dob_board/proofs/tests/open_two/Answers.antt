@@ -6,7 +6,8 @@ use Rattle.dob_board.specs.Seats.{IsSeatOf, AreSeats}
 use Rattle.dob_board.proofs.Ends.{last_there, front_there}
 use Rattle.dob_board.proofs.tests.open_two.Goals as goal
 
-two_seats : (board : TableId) (seats rest fewer : List NodeSeat) (first second : NodeSeat) → AreSeats board 2 seats → seats ≡ rest ++ second ∷ [] → rest ≡ fewer ++ first ∷ [] →
+two_seats : (board : TableId) (seats rest fewer : List NodeSeat) (first second : NodeSeat) → AreSeats board 2 seats → seats ≡ rest ++ second ∷ []
+    → rest ≡ fewer ++ first ∷ [] →
     IsSeatOf board 2 0 first × IsSeatOf board 2 1 second
 two_seats board seats rest fewer first second are seats_are rest_is =
     let rest_len : length rest ≡ 1 = omega (arith, are.count, ap length seats_are, length-append rest (second ∷ [])) in

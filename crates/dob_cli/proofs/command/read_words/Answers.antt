@@ -10,20 +10,26 @@ use Rattle.dob_cli.proofs.command.read_words.Goals as goal
 
 pub unreachable-requires : goal.unreachable-requires
 unreachable-requires c =
-    order_is_there (map (λ w. w.now) c.args.words.now) _ (asked_by_matches (app_of c.in_ok-dobutsu_command.field-0) (map (λ w. w.now) c.args.words.now) c.in-Ok.matches
-    c.in_ok-dobutsu_command.ensures.0 c.in-Ok.ensures.kinds c.in-Ok.ensures.matches) (c.in-None.ensures.value, (c.in-None.ensures.count, (c.in-None.ensures.probe, (c.in-None.ensures.line, (c.in-None.ensures.check, tt)))))
+    order_is_there (map (λ w. w.now) c.args.words.now) _
+    (asked_by_matches (app_of c.in_ok-dobutsu_command.field-0) (map (λ w. w.now) c.args.words.now) c.in-Ok.matches
+    c.in_ok-dobutsu_command.ensures.0 c.in-Ok.ensures.kinds c.in-Ok.ensures.matches)
+    (c.in-None.ensures.value, (c.in-None.ensures.count, (c.in-None.ensures.probe, (c.in-None.ensures.line, (c.in-None.ensures.check, tt)))))
 
 pub returns-in-Some-clause-meaning : goal.returns-in-Some-clause-meaning
 returns-in-Some-clause-meaning c =
-    subst (λ m. IsReadingOf m (reading.Order c.in-Some.order)) (command_meaning (map (λ w. w.now) c.args.words.now) (sym c.asks_version.ensures ∙ c.if-asks_version.false))
-    (order_is_meant (map (λ w. w.now) c.args.words.now) _ c.in-Some.order (asked_by_matches (app_of c.in_ok-dobutsu_command.field-0) (map (λ w. w.now) c.args.words.now) c.in-Ok.matches
-    c.in_ok-dobutsu_command.ensures.0 c.in-Ok.ensures.kinds c.in-Ok.ensures.matches) (c.in-Some.ensures.value, (c.in-Some.ensures.count, (c.in-Some.ensures.probe, (c.in-Some.ensures.line, (c.in-Some.ensures.check, tt))))))
+    subst (λ m. IsReadingOf m (reading.Order c.in-Some.order))
+    (command_meaning (map (λ w. w.now) c.args.words.now) (sym c.asks_version.ensures ∙ c.if-asks_version.false))
+    (order_is_meant (map (λ w. w.now) c.args.words.now) _ c.in-Some.order
+    (asked_by_matches (app_of c.in_ok-dobutsu_command.field-0) (map (λ w. w.now) c.args.words.now) c.in-Ok.matches
+    c.in_ok-dobutsu_command.ensures.0 c.in-Ok.ensures.kinds c.in-Ok.ensures.matches)
+    (c.in-Some.ensures.value, (c.in-Some.ensures.count, (c.in-Some.ensures.probe, (c.in-Some.ensures.line, (c.in-Some.ensures.check, tt))))))
 
 pub returns-in-Some-clause-sound : goal.returns-in-Some-clause-sound
 returns-in-Some-clause-sound c = order_from_line _ (reading.Order c.in-Some.order) (returns-in-Some-clause-meaning c)
 
 pub returns-in-Some-clause-complete : goal.returns-in-Some-clause-complete
-returns-in-Some-clause-complete c = λ form texts among line. reading_at_line _ form texts (reading.Order c.in-Some.order) among line (returns-in-Some-clause-meaning c)
+returns-in-Some-clause-complete c =
+    λ form texts among line. reading_at_line _ form texts (reading.Order c.in-Some.order) among line (returns-in-Some-clause-meaning c)
 
 pub returns-in-Err-clause-meaning : goal.returns-in-Err-clause-meaning
 returns-in-Err-clause-meaning c =
@@ -36,4 +42,5 @@ pub returns-in-Err-clause-sound : goal.returns-in-Err-clause-sound
 returns-in-Err-clause-sound c = IfOk-weaker c.read_refusal.result _ _ (order_from_line _) (returns-in-Err-clause-meaning c)
 
 pub returns-in-Err-clause-complete : goal.returns-in-Err-clause-complete
-returns-in-Err-clause-complete c = λ form texts among line. IfOk-weaker c.read_refusal.result _ _ (λ r. reading_at_line _ form texts r among line) (returns-in-Err-clause-meaning c)
+returns-in-Err-clause-complete c =
+    λ form texts among line. IfOk-weaker c.read_refusal.result _ _ (λ r. reading_at_line _ form texts r among line) (returns-in-Err-clause-meaning c)

@@ -12,7 +12,8 @@ loop-done-preserved g c =
       omega (arith, bound, length-drop done bytes),
       Appends-take _ _ _ bytes done c.in-Ok.count c.loop-done.invariant.1 more,
       Keeps-trans _ _ _ c.loop-done.invariant.2 c.in-Ok.ensures.flushes,
-      works_on (g.W.Sink.state c.args.sink.now) (g.W.Sink.state c.loop-done.sink) (g.W.Sink.state c.write.new.self) c.loop-done.invariant.3 c.in-Ok.ensures.failed,
+      works_on (g.W.Sink.state c.args.sink.now) (g.W.Sink.state c.loop-done.sink)
+          (g.W.Sink.state c.write.new.self) c.loop-done.invariant.3 c.in-Ok.ensures.failed,
       c.in-Ok.ensures.same ∙ c.loop-done.invariant.4,
     )
 

@@ -1,4 +1,4 @@
-use Rattle.std.proofs.Common.{◌≡◌, length, take, ◌-◌, ◌≤◌}
+use Rattle.std.proofs.Common.{length, take, ◌-◌, ◌≤◌}
 use Rattle.dob_dbfile.specs.Sinks.{IsNotFlushed, IsSame, Takes, Works, change}
 use Rattle.dob_dbfile.proofs.transfer.write_all.Given as goal
 

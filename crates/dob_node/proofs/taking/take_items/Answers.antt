@@ -1,8 +1,8 @@
 -- One item more is taken.
 use Rattle.std.proofs.Common.{refl}
-use Rattle.dob_node.specs.Takes.{StopsAt}
+use Rattle.dob_node.specs.Takes.{StopsAt, AreTakenBefore}
 use Rattle.dob_node.proofs.Sounds.{kept_own, kept_back}
-use Rattle.dob_node.proofs.TakenLists.{taken_next, stops_there, carried}
+use Rattle.dob_node.proofs.TakenLists.{taken_next, stops_there, taken_before, carried}
 use Rattle.dob_node.proofs.taking.take_items.Goals as goal
 
 pub loop-item-init : goal.loop-item-init
@@ -23,7 +23,17 @@ returns-in_err-take_item-clause-stopped c =
     let history = c.args.history.now in
     carried (λ why. StopsAt items share history why) c.from_residual.result c.in_err-take_item.field-0.0 c.from_residual.ensures.1
     (stops_there items c.loop-item.item-index _ share c.loop-item.share history c.loop-item.history c.in_err-take_item.field-0.0
-    c.loop-item-test.true c.loop-item.invariant.taken c.in_err-take_item.ensures.refused)
+    c.loop-item-test.true c.loop-item.invariant.taken c.in_err-take_item.ensures.why)
+
+pub returns-in_err-take_item-clause-before : goal.returns-in_err-take_item-clause-before
+returns-in_err-take_item-clause-before c =
+    let items = c.args.items.now in
+    let share = c.args.share.now in
+    let history = c.args.history.now in
+    carried (λ why. AreTakenBefore items share c.take_item.new.share history c.take_item.new.self why) c.from_residual.result
+    c.in_err-take_item.field-0.0 c.from_residual.ensures.1
+    (taken_before items c.loop-item.item-index _ share c.loop-item.share c.take_item.new.share history c.loop-item.history c.take_item.new.self
+    c.in_err-take_item.field-0.0 c.loop-item-test.true c.loop-item.invariant.taken c.in_err-take_item.ensures.refused c.in_err-take_item.ensures.why)
 
 pub loop-item-preserved : goal.loop-item-preserved
 loop-item-preserved c =
@@ -32,7 +42,7 @@ loop-item-preserved c =
     let out = c.in_ok-take_item.ensures in
     record {
       taken = taken_next c.args.items.now c.loop-item.item-index _ share c.loop-item.share c.take_item.new.share history c.loop-item.history
-          c.take_item.new.history c.loop-item-test.true c.loop-item.invariant.taken out.taken;
-      kept = λ set kept. kept_back set share.n share.id c.loop-item.share c.take_item.new.share c.loop-item.history c.take_item.new.history
+          c.take_item.new.self c.loop-item-test.true c.loop-item.invariant.taken out.taken;
+      kept = λ set kept. kept_back set share.n share.id c.loop-item.share c.take_item.new.share c.loop-item.history c.take_item.new.self
           (c.loop-item.invariant.kept set kept) out.kept;
     }

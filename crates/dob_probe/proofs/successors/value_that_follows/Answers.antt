@@ -17,13 +17,15 @@ open_is c = subst (λ (s : Status). HasStatus c.args.position.now.setup s) c.in-
 pub value-requires-clause-least : goal.value-requires-clause-least
 value-requires-clause-least c =
     let kept = c.successors_of.ensures in
-    least_has_next c.args.table.now c.args.position.now.setup c.requires.member (open_is (goal.at.value-requires-clause-least c).In-Open) kept.0 kept.1 c.requires.whole
+    least_has_next c.args.table.now c.args.position.now.setup c.requires.member
+    (open_is (goal.at.value-requires-clause-least c).In-Open) kept.0 kept.1 c.requires.whole
     c.successors_of.result.least_loss kept.2.least
 
 pub value-requires-clause-greatest : goal.value-requires-clause-greatest
 value-requires-clause-greatest c =
     let kept = c.successors_of.ensures in
-    greatest_has_next c.args.table.now c.args.position.now.setup c.requires.member (open_is (goal.at.value-requires-clause-greatest c).In-Open) kept.0 kept.1 c.requires.whole
+    greatest_has_next c.args.table.now c.args.position.now.setup c.requires.member
+    (open_is (goal.at.value-requires-clause-greatest c).In-Open) kept.0 kept.1 c.requires.whole
     c.successors_of.result.greatest_win kept.2.greatest
 
 pub returns-in-Open : goal.returns-in-Open

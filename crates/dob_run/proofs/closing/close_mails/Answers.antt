@@ -1,8 +1,8 @@
-use Rattle.std.proofs.Common.{◌≡◌, ℕ, arith, sym, subst, List, length, vec_len, ◌∙◌, map}
+use Rattle.std.proofs.Common.{◌≡◌, ℕ, arith, sym, subst, List, vec_len}
 use Rattle.dob_board.specs.declared.seat.NodeSeat.{NodeSeat}
 use Rattle.dob_board.specs.Seats.{AreSeats, AreWords}
 use Rattle.dob_run.specs.Ending.{AreEnds, AreJoined}
-use Rattle.dob_run.specs.Closing.{ArePartsOf, seat_in}
+use Rattle.dob_run.specs.Closing.{ArePartsOf}
 use Rattle.dob_run.proofs.Parting.{count_is, nodes_are, ends_are, links_are}
 use Rattle.dob_run.proofs.closing.close_mails.Goals as goal
 use Rattle.dob_run.proofs.closing.close_mails.Goals.{In_ok-seats}

@@ -1,7 +1,6 @@
-use Rattle.std.proofs.Common.{◌≡◌, ℕ, rules, arith, sym, subst, List, [], length, vec_len, ◌∙◌}
-use Rattle.dob_run.specs.declared.mail.Mail.{Mail}
+use Rattle.std.proofs.Common.{◌≡◌, ℕ, rules, arith, subst, [], length, vec_len}
 use Rattle.dob_run.specs.Closing.{ArePartsOf}
-use Rattle.dob_run.proofs.Parting.{AreParting, parting_begins, parting_goes_on, one_of, all_parted}
+use Rattle.dob_run.proofs.Parting.{parting_begins, parting_goes_on, one_of, all_parted}
 use Rattle.dob_run.proofs.closing.part_mails.Goals as goal
 
 pub loop-mail-init : goal.loop-mail-init

@@ -1,5 +1,4 @@
-use Rattle.std.proofs.Common.{◌≡◌, ℕ, rules, arith, sym, subst, List, length, vec_len, map, ◌∙◌}
-use Rattle.dob_board.specs.declared.seat.NodeSeat.{NodeSeat}
+use Rattle.std.proofs.Common.{◌≡◌, ℕ, arith, sym, subst, vec_len, map}
 use Rattle.dob_board.specs.Seats.{AreSeats}
 use Rattle.dob_run.specs.Seating.{AreSeated}
 use Rattle.dob_run.specs.Closing.{seat_in}

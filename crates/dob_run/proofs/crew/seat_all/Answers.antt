@@ -1,4 +1,4 @@
-use Rattle.std.proofs.Common.{◌≡◌, ℕ, rules, arith, sym, ap, subst, length, Vec, Global, vec_len}
+use Rattle.std.proofs.Common.{◌≡◌, ℕ, rules, arith, ap, subst, length, Vec, Global, vec_len}
 use Rattle.dob_run.specs.declared.hands.Outlet.{Outlet}
 use Rattle.dob_run.specs.declared.hands.Inlet.{Inlet}
 use Rattle.dob_run.specs.declared.mail.Mail.{Mail}

@@ -1,4 +1,4 @@
-use Rattle.std.proofs.Common.{◌≡◌, drop, vec_len}
+use Rattle.std.proofs.Common.{◌≡◌, drop}
 use Rattle.std.specs.Vec.Iter.{into_iter_items}
 use Rattle.dob_run.specs.Ending.{AreDealt}
 use Rattle.dob_run.proofs.rejoin.deal.Given as goal

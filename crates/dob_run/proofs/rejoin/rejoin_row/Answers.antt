@@ -1,9 +1,7 @@
-use Rattle.std.proofs.Common.{◌≡◌, ◌++◌, ℕ, [], rules, sym, subst, List, length, vec_len, ◌∙◌}
+use Rattle.std.proofs.Common.{◌≡◌, ℕ, rules, sym, subst, List, length, vec_len, ◌∙◌}
 use Rattle.std.proofs.lemmas.List.{append-nil}
-use Rattle.std.specs.Vec.Iter.{into_iter_items}
 use Rattle.dob_chan.specs.declared.ends.SendEnd.{SendEnd}
 use Rattle.dob_chan.specs.declared.ends.TakeEnd.{TakeEnd}
-use Rattle.dob_chan.specs.declared.calls.Rejoined.{Rejoined}
 use Rattle.dob_run.specs.Ending.{AreRowJoined}
 use Rattle.dob_run.proofs.Rejoining.{IsRowOn, row_begins, row_goes_on, next_pair, row_done, taker_left}
 use Rattle.dob_run.proofs.rejoin.rejoin_row.Goals as goal

@@ -30,7 +30,8 @@ returns-then-is_some c =
     let q = c.args.first.now.setup in
     let own = own_image (first c.args.classes.now) q c.mirrored-image.result.setup c.class_of_first.result n c.requires c.mirrored-image.ensures
     c.class_of_first.ensures (sym c.is_some.ensures ∙ c.if-is_some.true) in
-    walked_alone first q c.turned-after.result _ c.take_all.new.taker n c.args.first.now.legal own c.turned-after.ensures c.clear.ensures.items c.in_ok-take_all.ensures.taken
+    walked_alone first q c.turned-after.result _ c.take_all.new.taker n c.args.first.now.legal own c.turned-after.ensures c.clear.ensures.items
+    c.in_ok-take_all.ensures.taken
 
 pub returns : goal.returns
 returns c =
@@ -40,5 +41,6 @@ returns c =
     let image = c.mirrored-image.result.setup in
     let other = other_image (first c.args.classes.now) q image c.class_of_first.result c.requires c.mirrored-image.ensures
     c.class_of_first.ensures (sym c.is_some.ensures ∙ c.if-is_some.false) in
-    walked_both first q image c.turned-after.result c.turned-after-2.result _ c.take_all.new.taker _ c.take_all-2.new.taker n c.args.first.now.legal other c.mirrored-image.ensures
+    walked_both first q image c.turned-after.result c.turned-after-2.result _ c.take_all.new.taker _ c.take_all-2.new.taker n c.args.first.now.legal other
+    c.mirrored-image.ensures
     c.turned-after.ensures c.turned-after-2.ensures c.clear.ensures.items c.in_ok-take_all.ensures.taken refl refl c.in_ok-take_all-2.ensures.taken

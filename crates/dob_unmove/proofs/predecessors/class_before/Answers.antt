@@ -9,7 +9,8 @@ use Rattle.dob_unmove.proofs.predecessors.class_before.Goals as goal
 pub open_before-requires-clause-was_open : goal.open_before-requires-clause-was_open
 open_before-requires-clause-was_open c =
     let w = c.requires.walk in
-    was_open c.args.after.now c.args.ways.now.threat (legal_turned c.args.classes.now.set c.args.after.now w.of_set) w.ways_are.threat_is c.args.undo c.requires.can c.requires.calm
+    was_open c.args.after.now c.args.ways.now.threat (legal_turned c.args.classes.now.set c.args.after.now w.of_set) w.ways_are.threat_is c.args.undo
+    c.requires.can c.requires.calm
 
 pub class_of_first-requires : goal.class_of_first-requires
 class_of_first-requires c =

@@ -14,11 +14,14 @@ pub gather_all-requires : goal.gather_all-requires
 gather_all-requires c = record { of_set = (c.args.first.now.setup, c.requires.1.0.0, c.turned-after.ensures); ways_are = c.of-ways.ensures }
 
 pub of-requires : goal.of-requires
-of-requires c = turned_legal c.args.first.now.setup c.mirrored-image.result c.args.first.now.legal (c.mirrored-image.ensures ∙ ap mirrored c.turned-after.ensures)
+of-requires c =
+    turned_legal c.args.first.now.setup c.mirrored-image.result c.args.first.now.legal (c.mirrored-image.ensures ∙ ap mirrored c.turned-after.ensures)
 
 pub gather_all-requires-2 : goal.gather_all-requires-2
 gather_all-requires-2 c = record {
-  of_set = turned_position c.args.classes.now.set c.args.first.now.setup c.mirrored-image.result c.requires.1.0.0 (c.mirrored-image.ensures ∙ ap mirrored c.turned-after.ensures);
+  of_set =
+      turned_position c.args.classes.now.set c.args.first.now.setup c.mirrored-image.result c.requires.1.0.0
+      (c.mirrored-image.ensures ∙ ap mirrored c.turned-after.ensures);
   ways_are = c.of.ensures;
 }
 
@@ -27,7 +30,8 @@ returns-then-is_own_image c =
     let first = IsFirstIn c.args.classes.now.set in
     let n = IsNumbering-classes c.args.classes.now.set in
     let q = c.args.first.now.setup in
-    alone_found first n q c.turned-after.result _ c.gather_all.new.found.items c.args.first.now.legal (c.is_own_image.ensures.0 c.if-is_own_image.true) c.turned-after.ensures
+    alone_found first n q c.turned-after.result _ c.gather_all.new.found.items c.args.first.now.legal
+    (c.is_own_image.ensures.0 c.if-is_own_image.true) c.turned-after.ensures
     c.clear.ensures.items c.in_ok-gather_all.ensures
 
 pub returns : goal.returns
@@ -37,4 +41,5 @@ returns c =
     let q = c.args.first.now.setup in
     both_found first n q c.turned-after.result c.mirrored-image.result _ c.gather_all.new.found.items c.gather_all-2.new.found.items c.args.first.now.legal
     (λ own. true≢false (sym (c.is_own_image.ensures.1 own) ∙ c.if-is_own_image.false))
-    c.turned-after.ensures (c.mirrored-image.ensures ∙ ap mirrored c.turned-after.ensures) c.clear.ensures.items c.in_ok-gather_all.ensures c.in_ok-gather_all-2.ensures
+    c.turned-after.ensures (c.mirrored-image.ensures ∙ ap mirrored c.turned-after.ensures) c.clear.ensures.items c.in_ok-gather_all.ensures
+    c.in_ok-gather_all-2.ensures

@@ -8,34 +8,42 @@ use Rattle.dob_unmove.proofs.Dead.{ends_dead, calm_end}
 use Rattle.dob_unmove.proofs.predecessors.gather_all.Goals as goal
 
 pub loop-left-init : goal.loop-left-init
-loop-left-init c = λ w. gathered_start (IsFirstIn c.args.classes.now.set) c.args.after.now (may_end c.args.after.now c.args.ways.now.threat w.ways_are.stays) (undoes_at c.args.after.now)
+loop-left-init c =
+    λ w. gathered_start (IsFirstIn c.args.classes.now.set) c.args.after.now (may_end c.args.after.now c.args.ways.now.threat w.ways_are.stays)
+    (undoes_at c.args.after.now)
     c.args.ways.now.ends c.args.found.now.items w.ways_are.ends_are
 
 pub loop-left-smaller : goal.loop-left-smaller
 loop-left-smaller c =
     let w = c.requires in
-    gathered_less (IsFirstIn c.args.classes.now.set) c.args.after.now (may_end c.args.after.now c.args.ways.now.threat w.ways_are.stays) (undoes_at c.args.after.now)
-    c.loop-left.left c.lowest_square-to.result c.without_square-left.result _ _ (c.loop-left.invariant w) (omega arith) c.lowest_square-to.ensures c.without_square-left.ensures
+    gathered_less (IsFirstIn c.args.classes.now.set) c.args.after.now (may_end c.args.after.now c.args.ways.now.threat w.ways_are.stays)
+    (undoes_at c.args.after.now)
+    c.loop-left.left c.lowest_square-to.result c.without_square-left.result _ _ (c.loop-left.invariant w)
+    (omega arith) c.lowest_square-to.ensures c.without_square-left.ensures
 
 pub gather_at-requires-clause-calm : goal.gather_at-requires-clause-calm
 gather_at-requires-clause-calm c =
     let w = c.requires in
     calm_end c.args.after.now c.args.ways.now.threat w.ways_are.stays c.lowest_square-to.result
-    (passes_lowest (IsFirstIn c.args.classes.now.set) c.args.after.now (may_end c.args.after.now c.args.ways.now.threat w.ways_are.stays) (undoes_at c.args.after.now)
+    (passes_lowest (IsFirstIn c.args.classes.now.set) c.args.after.now (may_end c.args.after.now c.args.ways.now.threat w.ways_are.stays)
+    (undoes_at c.args.after.now)
     c.loop-left.left c.lowest_square-to.result _ _ (c.loop-left.invariant w) (omega arith) c.lowest_square-to.ensures)
 
 pub loop-left-preserved : goal.loop-left-preserved
 loop-left-preserved c = λ w.
-    gathered_next (IsFirstIn c.args.classes.now.set) c.args.after.now (may_end c.args.after.now c.args.ways.now.threat w.ways_are.stays) (undoes_at c.args.after.now)
+    gathered_next (IsFirstIn c.args.classes.now.set) c.args.after.now (may_end c.args.after.now c.args.ways.now.threat w.ways_are.stays)
+    (undoes_at c.args.after.now)
     (ends_dead c.args.classes.now.set c.args.after.now c.args.ways.now w)
-    c.loop-left.left c.lowest_square-to.result c.without_square-left.result _ _ _ (c.loop-left.invariant w) (omega arith) c.lowest_square-to.ensures c.without_square-left.ensures
+    c.loop-left.left c.lowest_square-to.result c.without_square-left.result _ _ _ (c.loop-left.invariant w)
+    (omega arith) c.lowest_square-to.ensures c.without_square-left.ensures
     c.in_ok-gather_at.ensures
 
 pub returns : goal.returns
 unfolding undoes
 returns c =
     let w = c.requires in
-    gathered_end (IsFirstIn c.args.classes.now.set) c.args.after.now (may_end c.args.after.now c.args.ways.now.threat w.ways_are.stays) (undoes_at c.args.after.now)
+    gathered_end (IsFirstIn c.args.classes.now.set) c.args.after.now (may_end c.args.after.now c.args.ways.now.threat w.ways_are.stays)
+    (undoes_at c.args.after.now)
     (ends_dead c.args.classes.now.set c.args.after.now c.args.ways.now w) c.loop-left.left _ _ (c.loop-left.invariant w) (omega arith)
 
 pub lowest_square-to-requires-clause-within : goal.lowest_square-to-requires-clause-within

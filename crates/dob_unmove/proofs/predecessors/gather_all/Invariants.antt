@@ -7,7 +7,8 @@ use Rattle.dob_unmove.proofs.predecessors.gather_all.Given as goal
 
 abbrev pub invariant-loop-left : goal.invariant-loop-left
 invariant-loop-left l =
-    (w : CanWalk l.classes.set l.after l.ways) → IsGathered (IsFirstIn l.classes.set) l.after (may_end l.after l.ways.threat w.ways_are.stays) (undoes_at l.after)
+    (w : CanWalk l.classes.set l.after l.ways)
+    → IsGathered (IsFirstIn l.classes.set) l.after (may_end l.after l.ways.threat w.ways_are.stays) (undoes_at l.after)
     l.left l.initial.found.items l.found.items
 
 abbrev pub decreases-loop-left : goal.decreases-loop-left

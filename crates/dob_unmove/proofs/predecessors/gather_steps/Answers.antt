@@ -17,35 +17,42 @@ returns-then-not-stands c =
 pub loop-left-init : goal.loop-left-init
 loop-left-init c =
     gathered_start (IsFirstIn c.args.classes.now.set) c.args.after.now (may_come c.args.after.now c.args.ways.now.threat.lion c.args.kind c.args.to)
-    (unsteps_from c.args.after.now c.args.kind c.args.to) c.sources-left.result c.args.found.now.items (c.sources-left.ensures c.args.after.now c.requires.walk.ways_are)
+    (unsteps_from c.args.after.now c.args.kind c.args.to) c.sources-left.result c.args.found.now.items
+    (c.sources-left.ensures c.args.after.now c.requires.walk.ways_are)
 
 pub gather_steps_from-requires-clause-comes : goal.gather_steps_from-requires-clause-comes
 gather_steps_from-requires-clause-comes c =
     passes_lowest (IsFirstIn c.args.classes.now.set) c.args.after.now (may_come c.args.after.now c.args.ways.now.threat.lion c.args.kind c.args.to)
-    (unsteps_from c.args.after.now c.args.kind c.args.to) c.loop-left.left c.lowest_square-from.result _ _ c.loop-left.invariant (omega arith) c.lowest_square-from.ensures
+    (unsteps_from c.args.after.now c.args.kind c.args.to) c.loop-left.left c.lowest_square-from.result _ _ c.loop-left.invariant
+    (omega arith) c.lowest_square-from.ensures
 
 pub loop-left-smaller : goal.loop-left-smaller
 loop-left-smaller c =
     gathered_less (IsFirstIn c.args.classes.now.set) c.args.after.now (may_come c.args.after.now c.args.ways.now.threat.lion c.args.kind c.args.to)
-    (unsteps_from c.args.after.now c.args.kind c.args.to) c.loop-left.left c.lowest_square-from.result c.without_square-left.result _ _ c.loop-left.invariant (omega arith)
+    (unsteps_from c.args.after.now c.args.kind c.args.to) c.loop-left.left c.lowest_square-from.result c.without_square-left.result _ _ c.loop-left.invariant
+    (omega arith)
     c.lowest_square-from.ensures c.without_square-left.ensures
 
 pub gather_steps_from-requires-clause-stands : goal.gather_steps_from-requires-clause-stands
 gather_steps_from-requires-clause-stands c =
-    ap (stands (at c.args.after.now c.args.to)) (sym c.arrives_at.ensures) ∙ sym (c.stands.ensures c.args.after.now c.requires.walk.ways_are) ∙ c.if-not-stands.false
+    ap (stands (at c.args.after.now c.args.to)) (sym c.arrives_at.ensures) ∙ sym (c.stands.ensures c.args.after.now c.requires.walk.ways_are)
+    ∙ c.if-not-stands.false
 
 pub loop-left-preserved : goal.loop-left-preserved
 loop-left-preserved c =
     gathered_next (IsFirstIn c.args.classes.now.set) c.args.after.now (may_come c.args.after.now c.args.ways.now.threat.lion c.args.kind c.args.to)
     (unsteps_from c.args.after.now c.args.kind c.args.to)
     (comes_dead c.args.classes.now.set c.args.after.now c.args.ways.now c.requires.walk c.args.kind c.args.to
-    (ap (stands (at c.args.after.now c.args.to)) (sym c.arrives_at.ensures) ∙ sym (c.stands.ensures c.args.after.now c.requires.walk.ways_are) ∙ c.if-not-stands.false))
+    (ap (stands (at c.args.after.now c.args.to)) (sym c.arrives_at.ensures) ∙ sym (c.stands.ensures c.args.after.now c.requires.walk.ways_are)
+    ∙ c.if-not-stands.false))
     c.loop-left.left c.lowest_square-from.result c.without_square-left.result _ _ _ c.loop-left.invariant (omega arith)
     c.lowest_square-from.ensures c.without_square-left.ensures c.in_ok-gather_steps_from.ensures
 
 pub returns : goal.returns
 returns c =
-    let there = ap (stands (at c.args.after.now c.args.to)) (sym c.arrives_at.ensures) ∙ sym (c.stands.ensures c.args.after.now c.requires.walk.ways_are) ∙ c.if-not-stands.false in
+    let there =
+    ap (stands (at c.args.after.now c.args.to)) (sym c.arrives_at.ensures) ∙ sym (c.stands.ensures c.args.after.now c.requires.walk.ways_are)
+    ∙ c.if-not-stands.false in
     all_steps (IsFirstIn c.args.classes.now.set) c.args.after.now c.args.kind c.args.to c.args.found.now.items c.loop-left.found.items there
     (gathered_end (IsFirstIn c.args.classes.now.set) c.args.after.now (may_come c.args.after.now c.args.ways.now.threat.lion c.args.kind c.args.to)
     (unsteps_from c.args.after.now c.args.kind c.args.to)

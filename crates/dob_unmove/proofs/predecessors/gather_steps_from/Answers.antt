@@ -8,7 +8,8 @@ pub returns : goal.returns
 returns c =
     on_ok_weaker c.gather_catch-4.result
     (λ last.
-    steps_from (IsFirstIn c.args.classes.now.set) c.args.after.now c.args.kind c.args.from c.args.to c.args.found.now.items c.gather_one.new.found.items c.gather_catch.new.found.items
+    steps_from (IsFirstIn c.args.classes.now.set) c.args.after.now c.args.kind c.args.from c.args.to c.args.found.now.items c.gather_one.new.found.items
+    c.gather_catch.new.found.items
     c.gather_catch-2.new.found.items c.gather_catch-3.new.found.items c.gather_catch-4.new.found.items
     (comes_between c.args.after.now c.args.ways.now.threat c.args.kind c.args.from c.args.to c.requires.stands c.requires.comes)
     c.in_ok-gather_one.ensures c.in_ok-gather_catch.ensures c.in_ok-gather_catch-2.ensures c.in_ok-gather_catch-3.ensures last)

@@ -16,10 +16,14 @@ pub returns-then-column-eq1 : goal.returns-then-column-eq1
 returns-then-column-eq1 c =
     let set = c.args.classes.now.set in
     let q = c.args.first.now.setup in (
-      λ some. own_image (IsFirstIn set) q c.mirrored.result.setup c.class_of_first.result (IsNumbering-classes set) c.requires.first c.mirrored.ensures c.class_of_first.ensures (sym c.is_some.ensures ∙ some),
+      λ some. own_image (IsFirstIn set) q c.mirrored.result.setup c.class_of_first.result
+          (IsNumbering-classes set) c.requires.first c.mirrored.ensures c.class_of_first.ensures (sym c.is_some.ensures ∙ some),
       λ own. elim (cases_Bool (is_some c.class_of_first.result)) [
         | inl some ↦ c.is_some.ensures ∙ some
-        | inr none ↦ absurd (other_image (IsFirstIn set) q c.mirrored.result.setup c.class_of_first.result c.requires.first c.mirrored.ensures c.class_of_first.ensures none own)
+        | inr none ↦
+            absurd
+            (other_image (IsFirstIn set) q c.mirrored.result.setup c.class_of_first.result c.requires.first c.mirrored.ensures c.class_of_first.ensures
+            none own)
       ],
     )
 

@@ -9,4 +9,5 @@ pub returns : goal.returns
 returns c =
     let board = c.args.self in
     are_words board.rest.table_id board.nodes c.args.seats.items _ c.requires
-    (subst (λ (stands : List Stand). AreRead board.nodes stands c.read_all-words.result.items) (ap (λ (me : Seated). me.0.stands) c.join_all.ensures.rest) c.read_all-words.ensures)
+    (subst (λ (stands : List Stand). AreRead board.nodes stands c.read_all-words.result.items)
+    (ap (λ (me : Seated). me.0.stands) c.join_all.ensures.rest) c.read_all-words.ensures)

@@ -10,7 +10,8 @@ fetch_add-requires c =
     let seat = c.args.self.now in (
       search rules,
       rw (c.deref.ensures, seat.words, c.taken_index-word.ensures) (taken_within seat.nodes c.args.from seat.node c.requires.node seat.within),
-      takes_call _ seat.nodes seat.node c.args.from _ _ _ _ (stand_from seat.posted.items seat.taken.items seat.seen.items seat.black seat.token seat.halt) seat.seat.me.0.told
+      takes_call _ seat.nodes seat.node c.args.from _ _ _ _
+          (stand_from seat.posted.items seat.taken.items seat.seen.items seat.black seat.token seat.halt) seat.seat.me.0.told
           (search rules) seat.view_is c.taken_index-word.ensures seat.within c.requires.node c.requires.waiting,
     )
 
@@ -27,7 +28,8 @@ overflow_add-index_mut c =
 pub invariant_of-self : goal.invariant_of-self
 invariant_of-self c =
     let seat = c.args.self.now in
-    let done = takes_done seat.nodes seat.node c.args.from c.taken_index-word.result c.fetch_add.result c.index_mut.result.now seat.seat.me c.fetch_add.new.seat.me
+    let done =
+    takes_done seat.nodes seat.node c.args.from c.taken_index-word.result c.fetch_add.result c.index_mut.result.now seat.seat.me c.fetch_add.new.seat.me
     seat.posted.items seat.taken.items seat.seen.items seat.black seat.token seat.halt seat.seat.me.0.told
     seat.view_is c.taken_index-word.ensures seat.within c.requires.node (search rules) c.index_mut.ensures.value c.fetch_add.ensures.2 in
     record {
@@ -49,7 +51,8 @@ invariant_of-self c =
 pub returns-clause-event : goal.returns-clause-event
 returns-clause-event c =
     let seat = c.args.self.now in
-    let done = takes_done seat.nodes seat.node c.args.from c.taken_index-word.result c.fetch_add.result c.index_mut.result.now seat.seat.me c.fetch_add.new.seat.me
+    let done =
+    takes_done seat.nodes seat.node c.args.from c.taken_index-word.result c.fetch_add.result c.index_mut.result.now seat.seat.me c.fetch_add.new.seat.me
     seat.posted.items seat.taken.items seat.seen.items seat.black seat.token seat.halt seat.seat.me.0.told
     seat.view_is c.taken_index-word.ensures seat.within c.requires.node (search rules) c.index_mut.ensures.value c.fetch_add.ensures.2 in
     done.made

@@ -8,7 +8,8 @@ compare_exchange-found-requires c =
     let seat = c.args.self.now in (
       search rules,
       rw (c.deref.ensures, seat.words) (omega arith),
-      fails_call _ seat.nodes seat.node _ _ _ _ (stand_from seat.posted.items seat.taken.items seat.seen.items seat.black seat.token seat.halt) seat.seat.me.0.told
+      fails_call _ seat.nodes seat.node _ _ _ _ (stand_from seat.posted.items seat.taken.items seat.seen.items seat.black seat.token seat.halt)
+          seat.seat.me.0.told
           (search rules) seat.view_is (omega arith),
     )
 
@@ -16,7 +17,8 @@ pub invariant_of-self : goal.invariant_of-self
 invariant_of-self c =
     let seat = c.args.self.now in
     let told = fails_tell seat.nodes seat.node c.compare_exchange-found.result _ seat.seat.me c.compare_exchange-found.new.seat.me
-    (stand_from seat.posted.items seat.taken.items seat.seen.items seat.black seat.token seat.halt) seat.seat.me.0.told seat.view_is (omega arith) c.compare_exchange-found.ensures.2 in
+    (stand_from seat.posted.items seat.taken.items seat.seen.items seat.black seat.token seat.halt) seat.seat.me.0.told seat.view_is
+    (omega arith) c.compare_exchange-found.ensures.2 in
     let done = found_done seat.nodes seat.node _ seat.posted.items seat.taken.items seat.seen.items seat.black seat.token seat.halt c.halt_of-self.result
     seat.seat.me.0.told c.compare_exchange-found.new.seat.me told.0 (c.halt_of-self.ensures ∙ c.halt_after.ensures) in
     record {
@@ -39,7 +41,8 @@ pub returns-clause-found : goal.returns-clause-found
 returns-clause-found c =
     let seat = c.args.self.now in
     let told = fails_tell seat.nodes seat.node c.compare_exchange-found.result _ seat.seat.me c.compare_exchange-found.new.seat.me
-    (stand_from seat.posted.items seat.taken.items seat.seen.items seat.black seat.token seat.halt) seat.seat.me.0.told seat.view_is (omega arith) c.compare_exchange-found.ensures.2 in
+    (stand_from seat.posted.items seat.taken.items seat.seen.items seat.black seat.token seat.halt) seat.seat.me.0.told seat.view_is
+    (omega arith) c.compare_exchange-found.ensures.2 in
     let done = found_done seat.nodes seat.node _ seat.posted.items seat.taken.items seat.seen.items seat.black seat.token seat.halt c.halt_of-self.result
     seat.seat.me.0.told c.compare_exchange-found.new.seat.me told.0 (c.halt_of-self.ensures ∙ c.halt_after.ensures) in
     record { noted = refl; halt_is = refl; within = done.within; stays = done.stays }
@@ -48,6 +51,7 @@ pub returns-clause-heard : goal.returns-clause-heard
 returns-clause-heard c =
     let seat = c.args.self.now in
     let told = fails_tell seat.nodes seat.node c.compare_exchange-found.result _ seat.seat.me c.compare_exchange-found.new.seat.me
-    (stand_from seat.posted.items seat.taken.items seat.seen.items seat.black seat.token seat.halt) seat.seat.me.0.told seat.view_is (omega arith) c.compare_exchange-found.ensures.2 in
+    (stand_from seat.posted.items seat.taken.items seat.seen.items seat.black seat.token seat.halt) seat.seat.me.0.told seat.view_is
+    (omega arith) c.compare_exchange-found.ensures.2 in
     heard_halt seat.nodes seat.node _ seat.posted.items seat.taken.items seat.seen.items seat.black seat.token seat.halt c.halt_of-self.result
     seat.seat.me.0.told c.compare_exchange-found.new.seat.me.0.told told.1 (c.halt_of-self.ensures ∙ c.halt_after.ensures)

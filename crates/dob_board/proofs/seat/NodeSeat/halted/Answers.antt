@@ -8,7 +8,8 @@ load-word-requires c =
     let seat = c.args.self.now in (
       search rules,
       rw (c.deref.ensures, seat.words) (omega arith),
-      halts_call _ seat.nodes seat.node _ _ _ (stand_from seat.posted.items seat.taken.items seat.seen.items seat.black seat.token seat.halt) seat.seat.me.0.told
+      halts_call _ seat.nodes seat.node _ _ _ (stand_from seat.posted.items seat.taken.items seat.seen.items seat.black seat.token seat.halt)
+          seat.seat.me.0.told
           (search rules) seat.view_is,
     )
 
@@ -17,7 +18,9 @@ invariant_of-self c =
     let seat = c.args.self.now in
     let told = halts_tell seat.nodes seat.node c.load-word.result seat.seat.me c.load-word.new.seat.me
     (stand_from seat.posted.items seat.taken.items seat.seen.items seat.black seat.token seat.halt) seat.seat.me.0.told seat.view_is c.load-word.ensures.2 in
-    let done = found_done seat.nodes seat.node c.load-word.result seat.posted.items seat.taken.items seat.seen.items seat.black seat.token seat.halt c.halt_of-self.result
+    let done =
+    found_done seat.nodes seat.node c.load-word.result seat.posted.items seat.taken.items seat.seen.items seat.black seat.token seat.halt
+    c.halt_of-self.result
     seat.seat.me.0.told c.load-word.new.seat.me told.0 c.halt_of-self.ensures in
     record {
       size = seat.size;
@@ -40,7 +43,9 @@ returns-clause-found c =
     let seat = c.args.self.now in
     let told = halts_tell seat.nodes seat.node c.load-word.result seat.seat.me c.load-word.new.seat.me
     (stand_from seat.posted.items seat.taken.items seat.seen.items seat.black seat.token seat.halt) seat.seat.me.0.told seat.view_is c.load-word.ensures.2 in
-    let done = found_done seat.nodes seat.node c.load-word.result seat.posted.items seat.taken.items seat.seen.items seat.black seat.token seat.halt c.halt_of-self.result
+    let done =
+    found_done seat.nodes seat.node c.load-word.result seat.posted.items seat.taken.items seat.seen.items seat.black seat.token seat.halt
+    c.halt_of-self.result
     seat.seat.me.0.told c.load-word.new.seat.me told.0 c.halt_of-self.ensures in
     record { noted = refl; halt_is = refl; within = done.within; stays = done.stays }
 

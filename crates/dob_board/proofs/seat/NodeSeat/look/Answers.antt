@@ -9,7 +9,8 @@ load-number-requires c =
     let seat = c.args.self.now in (
       search rules,
       rw (c.deref.ensures, seat.words, c.posted_index-word.ensures) (posted_within seat.nodes c.args.from seat.node c.requires seat.within),
-      looks_call _ seat.nodes seat.node c.args.from _ _ _ _ (stand_from seat.posted.items seat.taken.items seat.seen.items seat.black seat.token seat.halt) seat.seat.me.0.told
+      looks_call _ seat.nodes seat.node c.args.from _ _ _ _
+          (stand_from seat.posted.items seat.taken.items seat.seen.items seat.black seat.token seat.halt) seat.seat.me.0.told
           (search rules) seat.view_is c.posted_index-word.ensures seat.within c.requires,
     )
 

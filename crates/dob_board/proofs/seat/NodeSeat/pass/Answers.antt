@@ -44,7 +44,8 @@ store-requires c =
     passed_is ∙ ap (λ (z : ℤ). passed_on seat.nodes c.in-Some.token z seat.black) c.counter.ensures.counter in (
       search rules,
       rw (c.deref.ensures, seat.words) (omega arith),
-      passes_call _ seat.nodes seat.node _ _ c.pack.result _ (stand_from seat.posted.items seat.taken.items seat.seen.items seat.black seat.token seat.halt) c.in-Some.token seat.seat.me.0.told
+      passes_call _ seat.nodes seat.node _ _ c.pack.result _
+          (stand_from seat.posted.items seat.taken.items seat.seen.items seat.black seat.token seat.halt) c.in-Some.token seat.seat.me.0.told
           (search rules) seat.view_is c.in-Some.is (subst (λ (t : Token). IsPacked t c.pack.result) passed_by_it c.pack.ensures),
     )
 
@@ -74,7 +75,10 @@ invariant_of-self c =
       in_bounds = λ known e. passed_bounds seat.nodes seat.node c.in-Some.token known (counter_of (stand_of seat)) seat.black seat.within
           (seat.in_bounds c.in-Some.token c.in-Some.is) (sym token_is ∙ e);
       halt_within = seat.halt_within;
-      view_is = told.0 ∙ ap (λ (t : Option Token). seated seat.nodes seat.node (stand_from seat.posted.items seat.taken.items seat.seen.items false t seat.halt) c.store.new.seat.me.0.told) (sym token_is);
+      view_is =
+          told.0
+          ∙ ap (λ (t : Option Token). seated seat.nodes seat.node
+          (stand_from seat.posted.items seat.taken.items seat.seen.items false t seat.halt) c.store.new.seat.me.0.told) (sym token_is);
     }
 
 pub returns-clause-event : goal.returns-clause-event

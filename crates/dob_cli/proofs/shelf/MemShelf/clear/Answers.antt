@@ -8,7 +8,8 @@ use Rattle.dob_cli.proofs.shelf.MemShelf.clear.Goals as goal
 pub returns-in_err-insert-clause-refused : goal.returns-in_err-insert-clause-refused
 returns-in_err-insert-clause-refused c =
     on_error c.from_residual-in_err-insert.result _
-    (same_files (bytes_in c.args.self.now.files) (bytes_in c.insert.new.self) (same_entries c.args.self.now.files c.insert.new.self c.in_err-insert.ensures.err))
+    (same_files (bytes_in c.args.self.now.files) (bytes_in c.insert.new.self)
+    (same_entries c.args.self.now.files c.insert.new.self c.in_err-insert.ensures.err))
 
 pub returns-clause-cleared : goal.returns-clause-cleared
 returns-clause-cleared c =

@@ -1,24 +1,19 @@
--- What is stored is seen as the settlement at the end.
-use Rattle.std.proofs.Common.{◌≡◌, ◌/◌, ◌%◌, ◌<◌, [], ◌∷◌, ◌++◌, length, ap, ◌∙◌, sym, arith}
-use Rattle.std.proofs.lemmas.Result.{on_ok_weaker}
-use Rattle.dob_node.specs.declared.history.Stored.{Stored}
+-- What is stored behind the others is seen as the settlement at the end.
+use Rattle.std.proofs.Common.{◌≡◌, ◌/◌, ◌%◌, ◌<◌, ◌^◌, ◌∙◌, sym, subst}
 use Rattle.dob_node.specs.Stores.{HistoryView}
-use Rattle.dob_node.proofs.Stored.{seen_length, seen_more, stored_again}
+use Rattle.dob_node.proofs.Stored.{count_is, next_seen}
 use Rattle.dob_node.proofs.history.History.push.Goals as goal
+
+pub store-requires-clause-number : goal.store-requires-clause-number
+store-requires-clause-number c = c.requires.number
+    ∙ sym (count_is c.self.inside.n c.self.inside.id c.self.inside.count c.self.inside.stored c.args.self.now c.self.invariant.2 c.self.view_is)
+
+pub store-requires-clause-place : goal.store-requires-clause-place
+store-requires-clause-place c = subst (λ (v : HistoryView). c.args.settlement.class / v.n < 2 ^ 32) (sym c.self.view_is) c.requires.place
 
 pub returns-clause-ok : goal.returns-clause-ok
 returns-clause-ok c =
-    let n = c.self.inside.n in
-    let id = c.self.inside.id in
-    let stored = c.self.inside.stored in
-    let view = c.args.self.now in
-    let given = c.args.settlement in
-    let owner : id < n = c.self.invariant.0 in
-    let x : Stored = record { place = given.class / n; was = c.code_of_value.result; now = c.code_of_value-2.result } in
-    let own : given.class % n ≡ id =
-    ap (λ (v : HistoryView). given.class % v.n) c.self.view_is ∙ c.requires.own ∙ sym (ap (λ (v : HistoryView). v.id) c.self.view_is) in
-    on_ok_weaker {P = c.push.new.self ≡ stored ++ x ∷ []} c.push.result
-    (λ more. seen_more n id stored c.push.new.self view x given c.self.view_is
-    (stored_again n id (length stored) given c.code_of_value.result c.code_of_value-2.result (omega arith) own
-    (seen_length n id stored view c.self.view_is ∙ sym c.requires.number) c.code_of_value.ensures.back c.code_of_value-2.ensures.back) more)
-    c.push.ensures.appended
+    let own : c.args.settlement.class % c.self.inside.n ≡ c.self.inside.id
+    = subst (λ (v : HistoryView). c.args.settlement.class % v.n ≡ v.id) (sym c.self.view_is) c.requires.own in
+    next_seen c.self.inside.n c.self.inside.id c.self.inside.count c.self.inside.stored c.make_room.new.stored c.store.new.stored c.args.self.now
+    c.args.settlement c.self.view_is c.make_room.ensures.same (c.store.ensures.one_more c.self.inside.id own)

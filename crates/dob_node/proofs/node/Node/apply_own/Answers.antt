@@ -16,8 +16,8 @@ returns-clause-sound c =
     let node = c.args.self.now in
     let out = c.in_ok-take_item.ensures in
     record {
-      kept = kept_back node.set node.n node.id node.share c.take_item.new.share node.history c.take_item.new.history c.requires.kept out.kept;
-      told = told_still c.index-item.result.now node.share c.take_item.new.share node.history c.take_item.new.history node.expanded out.taken c.requires.told;
+      kept = kept_back node.set node.n node.id node.share c.take_item.new.share node.history c.take_item.new.self c.requires.kept out.kept;
+      told = told_still c.index-item.result.now node.share c.take_item.new.share node.history c.take_item.new.self node.expanded out.taken c.requires.told;
       entries = subst (λ xs. All HasEntries xs) (sym c.pop_front.ensures.rest) (All-drop HasEntries 1 node.own.items c.requires.entries);
       receivers = c.requires.receivers;
       addressed = c.requires.addressed;

@@ -37,6 +37,7 @@ invariant_of-self-2 c =
       some = r.some;
       at_most = r.at_most;
       going = λ _. c.requires.unfailed;
-      lawful = λ none. cut_one r.set r.size c.args.to c.in-Some.batch r.node c.cut_for.new.self r.mail c.post.new.self law cut c.in-Ok.ensures.sound
-          c.post.ensures.same.node c.post.ensures.same.nodes (ap (λ (s : Stand). s.black) c.post.ensures.counted ∙ was_black) c.post.ensures.offered;
+      lawful = λ none. cut_one r.set r.size c.args.to c.in-Some.batch r.node c.cut_for.new.self r.mail c.post.new.self law c.requires.other cut c.in-Ok.ensures.sound
+          c.post.ensures.same.node c.post.ensures.same.nodes (ap (λ (s : Stand). s.black) c.post.ensures.counted ∙ was_black) c.post.ensures.offered
+          c.post.ensures.inlets;
     }

@@ -1,5 +1,5 @@
 use Rattle.std.proofs.Common.{sym, ap, ◌∙◌}
-use Rattle.dob_run.proofs.Lawfuls.{recoloured}
+use Rattle.dob_run.proofs.Lawfuls.{recoloured, same_inlets}
 use Rattle.dob_run.proofs.runner.Runner.looks.Goals as goal
 
 pub invariant_of-self : goal.invariant_of-self
@@ -11,5 +11,6 @@ invariant_of-self c =
       going = λ _. c.requires;
       lawful = λ none. recoloured r.set r.size r.node r.mail c.halted.new.self (r.lawful none)
           c.halted.ensures.links.seat.node c.halted.ensures.links.seat.nodes (ap (λ v. v.items) c.halted.ensures.links.outlets)
+          (same_inlets r.mail c.halted.new.self c.halted.ensures.links.inlets)
           (λ is. (r.lawful none).white (sym c.halted.ensures.colour ∙ is));
     }

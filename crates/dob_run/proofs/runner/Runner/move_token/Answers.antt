@@ -1,5 +1,5 @@
 use Rattle.std.proofs.Common.{sym, ap, ◌∙◌}
-use Rattle.dob_run.proofs.Lawfuls.{recoloured}
+use Rattle.dob_run.proofs.Lawfuls.{recoloured, same_inlets}
 use Rattle.dob_run.proofs.runner.Runner.move_token.Goals as goal
 
 pub invariant_of-self : goal.invariant_of-self
@@ -11,6 +11,7 @@ invariant_of-self c =
       going = λ _. c.requires.unfailed;
       lawful = λ none. recoloured r.set r.size r.node r.mail c.finds_token.new.self (r.lawful none)
           c.finds_token.ensures.links.seat.node c.finds_token.ensures.links.seat.nodes (ap (λ v. v.items) c.finds_token.ensures.links.outlets)
+          (same_inlets r.mail c.finds_token.new.self c.finds_token.ensures.links.inlets)
           (λ is. (r.lawful none).white (sym c.finds_token.ensures.colour ∙ is));
     }
 
@@ -25,6 +26,7 @@ invariant_of-self-then-may_announce c =
           (c.announce.ensures.links.seat.node ∙ c.finds_token.ensures.links.seat.node)
           (c.announce.ensures.links.seat.nodes ∙ c.finds_token.ensures.links.seat.nodes)
           (ap (λ v. v.items) (c.announce.ensures.links.outlets ∙ c.finds_token.ensures.links.outlets))
+          (same_inlets r.mail c.announce.new.self (c.announce.ensures.links.inlets ∙ c.finds_token.ensures.links.inlets))
           (λ is. (r.lawful none).white (sym (c.announce.ensures.colour ∙ c.finds_token.ensures.colour) ∙ is));
     }
 
@@ -39,5 +41,6 @@ invariant_of-self-else-may_announce c =
           (c.pass.ensures.links.seat.node ∙ c.finds_token.ensures.links.seat.node)
           (c.pass.ensures.links.seat.nodes ∙ c.finds_token.ensures.links.seat.nodes)
           (ap (λ v. v.items) (c.pass.ensures.links.outlets ∙ c.finds_token.ensures.links.outlets))
+          (same_inlets r.mail c.pass.new.self (c.pass.ensures.links.inlets ∙ c.finds_token.ensures.links.inlets))
           (λ is. (c.requires.idle.idle, c.requires.idle.sent));
     }

@@ -12,7 +12,7 @@ invariant_of-self g c =
       some = f.some;
       at_most = f.at_most;
       going = λ _. went.unfailed;
-      lawful = λ none. offered_again f.set f.size c.args.to f.node f.mail c.offer.new.self (f.lawful none) c.offer.ensures.seat c.offer.ensures.offered
+      lawful = λ none. offered_again f.set f.size c.args.to f.node f.mail c.offer.new.self (f.lawful none) c.offer.ensures.seat c.offer.ensures.offered c.offer.ensures.inlets
           (out_still f.mail c.offer.new.self (ap (λ s. s.nodes) c.offer.ensures.seat) c.offer.ensures.hands);
     }
 

@@ -1,10 +1,21 @@
-use Rattle.std.proofs.Common.{◌≡◌, true, refl, sym, ap, ◌∙◌}
+use Rattle.std.proofs.Common.{◌≡◌, ℕ, true, refl, sym, ap, ◌∙◌, ◌++◌}
+use Rattle.std.specs.Prelude.{slice_get}
 use Rattle.dob_board.specs.declared.view.Stand.{Stand}
 use Rattle.dob_board.specs.Seats.{TakesOne}
-use Rattle.dob_run.specs.Workers.{IsLawful}
+use Rattle.dob_run.specs.declared.hands.Inlet.{Inlet}
+use Rattle.dob_run.specs.declared.mail.Mail.{Mail}
+use Rattle.dob_run.specs.Links.{worked, KeepsInlet}
+use Rattle.dob_run.specs.Mails.{HasChangedOne}
+use Rattle.dob_run.specs.Workers.{items_worked}
 use Rattle.dob_run.proofs.Keeping.{mail_trans, links_kept}
-use Rattle.dob_run.proofs.Lawfuls.{recoloured, applied_batch, no_colour}
+use Rattle.dob_run.proofs.Applied.{worked_again, worked_else, worked_more}
+use Rattle.dob_run.proofs.Lawfuls.{recoloured, same_inlets, applied_batch}
 use Rattle.dob_run.proofs.runner.Runner.take_from.Goals as goal
+
+-- what was worked in, after the next batch came into the hand
+received : (old new : Mail) (from : ℕ) → HasChangedOne (λ (before after : Inlet). KeepsInlet before after × (worked after ≡ worked before)) from old.inlets.items new.inlets.items →
+    (k : ℕ) → items_worked (slice_get new.inlets.items k) ≡ items_worked (slice_get old.inlets.items k)
+received old new from one = worked_again old.inlets.items new.inlets.items from one.0 one.1 one.2 one.4 one.3.1
 
 pub invariant_of-self : goal.invariant_of-self
 invariant_of-self g c =
@@ -16,6 +27,7 @@ invariant_of-self g c =
       lawful = λ none. recoloured r.set r.size r.node r.mail c.accept.new.self (r.lawful none)
           (c.accept.ensures.same.node ∙ ap (λ s. s.node) c.receive.ensures.seat) (c.accept.ensures.same.nodes ∙ ap (λ s. s.nodes) c.receive.ensures.seat)
           (ap (λ v. v.items) (c.accept.ensures.outlets ∙ c.receive.ensures.outlets))
+          (λ k. same_inlets c.receive.new.self c.accept.new.self c.in_default.ensures.kept k ∙ received r.mail c.receive.new.self c.args.from c.receive.ensures.worked k)
           (λ is. (r.lawful none).white (sym (c.in_default.ensures.uncounted.1 ∙ ap (λ s. s.black) c.receive.ensures.seat) ∙ is));
     }
 
@@ -28,11 +40,15 @@ invariant_of-self-in-Ok g c =
       some = r.some;
       at_most = r.at_most;
       going = λ _. c.requires.unfailed;
-      lawful = λ none. (let law : IsLawful r.set r.size r.node c.accept.new.self = recoloured r.set r.size r.node r.mail c.accept.new.self (r.lawful none)
+      lawful = λ none. (let again = received r.mail c.receive.new.self c.args.from c.receive.ensures.worked in
+          let one = c.in-Some.ensures.worked in
+          applied_batch r.set r.size c.args.from c.in-Some.batch r.node c.apply_batch.new.self r.mail c.accept.new.self (r.lawful none)
+          c.requires.node c.if-from-self.false c.in-Some.ensures.fit.entries c.in-Ok.ensures.taken c.in-Ok.ensures.sound
           (c.accept.ensures.same.node ∙ ap (λ s. s.node) c.receive.ensures.seat) (c.accept.ensures.same.nodes ∙ ap (λ s. s.nodes) c.receive.ensures.seat)
-          (ap (λ v. v.items) (c.accept.ensures.outlets ∙ c.receive.ensures.outlets))
-          (λ is. absurd (no_colour c.accept.new.self.seat.black black is)) in
-          applied_batch r.set r.size c.in-Some.batch.items r.node c.apply_batch.new.self c.accept.new.self law black c.in-Ok.ensures.taken c.in-Ok.ensures.sound);
+          black (ap (λ v. v.items) (c.accept.ensures.outlets ∙ c.receive.ensures.outlets))
+          (λ k other. worked_else c.receive.new.self.inlets.items c.accept.new.self.inlets.items c.args.from one.1 one.4 k other ∙ again k)
+          (worked_more c.receive.new.self.inlets.items c.accept.new.self.inlets.items c.args.from one.0 one.1 c.in-Some.batch one.2 one.4 one.3.1
+          ∙ ap (λ xs. xs ++ c.in-Some.batch.items) (again c.args.from)));
     }
 
 pub returns-in-Ok : goal.returns-in-Ok

@@ -6,7 +6,8 @@ use Rattle.dob_unmove.proofs.attackers.Threat.by.Goals as goal
 
 pub lowest_square-lion-requires-clause-some : goal.lowest_square-lion-requires-clause-some
 lowest_square-lion-requires-clause-some c =
-    lion_mask c.args.after.now Enemy c.args.masks.now.enemy_lion (turned_squares c.args.after.now c.requires.legal) (turned_lions c.args.after.now c.requires.legal)
+    lion_mask c.args.after.now Enemy c.args.masks.now.enemy_lion (turned_squares c.args.after.now c.requires.legal)
+    (turned_lions c.args.after.now c.requires.legal)
     c.requires.masks.enemy_lion_is
 
 pub attackers_in-requires : goal.attackers_in-requires

@@ -34,16 +34,19 @@ returns c =
         home_is = away after threat lions masks.lion c.homes_of-homes.result c.calm_ends.result masks.own place are.lion_is c.homes_of-homes.ensures are.own_are
             c.calm_ends.ensures there low w.if-masks-homes-eq0.true;
         ends_are = subst (IsMask (may_end after threat false)) (sym w.ends-is)
-            (lion_ends after threat lions masks.lion c.homes_of-homes.result c.calm_ends.result masks.own place are.lion_is c.homes_of-homes.ensures are.own_are c.calm_ends.ensures there low);
+            (lion_ends after threat lions masks.lion c.homes_of-homes.result c.calm_ends.result masks.own place are.lion_is c.homes_of-homes.ensures are.own_are
+            c.calm_ends.ensures there low);
       }
       | else-masks-homes-eq0 w ↦ record {
         masks_are = are;
         threat_is = c.by-threat.ensures;
         homes_are = c.homes_of-homes.ensures;
         stays = true;
-        home_is = at_home after threat lions masks.lion c.homes_of-homes.result c.calm_ends.result masks.own place are.lion_is c.homes_of-homes.ensures are.own_are
+        home_is =
+            at_home after threat lions masks.lion c.homes_of-homes.result c.calm_ends.result masks.own place are.lion_is c.homes_of-homes.ensures are.own_are
             c.calm_ends.ensures there low w.if-masks-homes-eq0.false;
         ends_are = subst (IsMask (may_end after threat true)) (sym w.ends-is)
-            (calm_ends after threat lions masks.lion c.homes_of-homes.result c.calm_ends.result masks.own place are.lion_is c.homes_of-homes.ensures are.own_are c.calm_ends.ensures there low);
+            (calm_ends after threat lions masks.lion c.homes_of-homes.result c.calm_ends.result masks.own place are.lion_is c.homes_of-homes.ensures are.own_are
+            c.calm_ends.ensures there low);
       }
     ]

@@ -3,7 +3,7 @@ use Rattle.std.proofs.Common.{◌≡◌, ◌≢◌, ℕ, zero, suc, ◌+◌, ◌
 use Rattle.std.specs.List.{All}
 use Rattle.std.proofs.Math.Nat.{mul-add-mod_self_right, mod-eq_of_lt}
 use Rattle.std.proofs.lemmas.Nat.{same_from_place}
-use Rattle.std.proofs.lemmas.Bool.{cases_order}
+use Rattle.std.proofs.lemmas.Bool.{cases_order, eq-eqb, ne_eqb}
 use Rattle.std.proofs.lemmas.List.{append-nil}
 use Rattle.std.proofs.lemmas.List.Elements.{All-append, All-nil, All-cons}
 use Rattle.dob_moves.specs.declared.position_status.Status.{Status}
@@ -17,7 +17,6 @@ use Rattle.dob_node.specs.Histories.{value_of, IsChained}
 use Rattle.dob_node.specs.Quiet.{FollowsAtStatus}
 use Rattle.dob_node.specs.OpeningLists.{opening_value, opening_settlement, opening_settlements}
 use Rattle.dob_node.proofs.Settles.{chained_more, chained_none, value_of-more}
-use Rattle.dob_world.proofs.Taken.{alike, unlike}
 
 -- the value, where there is one, or else another
 abbrev pub or_else : Option Value → Value → Value
@@ -71,7 +70,7 @@ module _ (n id : ℕ) (one_of_n : id < n) (status : ℕ → Status) where
   later_draw (suc k) q later =
       one_more (settled k) (length (settled k)) (class k) (class q) (opening_value (status (class k)))
       ∙ ap (λ b. cond b (or_else (opening_value (status (class k))) (value_of (settled k) (class q))) (value_of (settled k) (class q)))
-      (unlike (class k) (class q) (apart k q (λ same. omega arith)))
+      (ne_eqb (class k) (class q) (apart k q (λ same. omega arith)))
       ∙ later_draw k q (omega arith)
 
   abbrev chosen : ℕ → ℕ → Bool → Value
@@ -87,11 +86,11 @@ module _ (n id : ℕ) (one_of_n : id < n) (status : ℕ → Status) where
       at : (q < k → value_of (settled k) (class q) ≡ or_else (opening_value (status (class q))) Draw) →
           chosen k q (eqb (class k) (class q)) ≡ or_else (opening_value (status (class q))) Draw
       at earlier = elim (cases_order q k) [
-        | inl same ↦ ap (λ b. chosen k q b) (alike (class k) (class q) (ap class (sym same)))
+        | inl same ↦ ap (λ b. chosen k q b) (eq-eqb (class k) (class q) (ap class (sym same)))
             ∙ ap (λ p. or_else (opening_value (status (class p))) (value_of (settled k) (class q))) (sym same)
             ∙ ap (λ v. or_else (opening_value (status (class q))) v) (later_draw k q (omega arith))
         | inr order ↦ elim order [
-          | inl less ↦ ap (λ b. chosen k q b) (unlike (class k) (class q) (apart k q (λ same. omega arith))) ∙ earlier less
+          | inl less ↦ ap (λ b. chosen k q b) (ne_eqb (class k) (class q) (apart k q (λ same. omega arith))) ∙ earlier less
           | inr more ↦ absurd (omega arith)
         ]
       ]

@@ -1,0 +1,100 @@
+-- What a node has applied from each node, after each step of its worker.
+use Rattle.std.proofs.Common.{◌≡◌, ◌≢◌, ℕ, zero, suc, ◌-◌, eqb, cond, refl, sym, ap, ◌∙◌, subst, arith, List, [], ◌∷◌, ◌++◌, length, length-append, length-drop, take, drop, set, Some, inl, inr}
+use Rattle.std.proofs.lemmas.Bool.{eq-eqb, ne_eqb, cases_eq}
+use Rattle.std.proofs.lemmas.List.{take-append-le}
+use Rattle.std.specs.Prelude.{slice_get, slice_set}
+use Rattle.dob_pieces.specs.declared.piece_set.PieceSet.{PieceSet}
+use Rattle.dob_share.specs.declared.news.Item.{Item}
+use Rattle.dob_update.specs.Batches.{BatchView}
+use Rattle.dob_node.specs.declared.node.Node.{Node}
+use Rattle.dob_run.specs.declared.hands.Inlet.{Inlet}
+use Rattle.dob_run.specs.Links.{worked}
+use Rattle.dob_run.specs.Knows.{KnowsRight}
+use Rattle.dob_run.specs.Workers.{planned, items_in, items_worked, own_applied, applied_from, AreLast}
+use Rattle.dob_run.proofs.Counted.{else_set}
+use Rattle.dob_run.proofs.Planned.{items_in_more}
+
+-- ---- own items
+
+take_next : (k : ℕ) (xs : List Item) (x : Item) (rest : List Item) → drop k xs ≡ x ∷ rest → take (suc k) xs ≡ take k xs ++ x ∷ []
+take_next zero [] x rest e = absurd (cc)
+take_next zero (y ∷ xs) x rest e = let same : y ≡ x = cc in ap (λ z. z ∷ []) same
+take_next (suc k) [] x rest e = absurd (cc)
+take_next (suc k) (y ∷ xs) x rest e = ap (λ zs. y ∷ zs) (take_next k xs x rest e)
+
+-- one gone more
+pub own_less : (whole own : List Item) (item : Item) (rest : List Item) → AreLast whole own → own ≡ item ∷ rest →
+    take (length whole - length rest) whole ≡ take (length whole - length own) whole ++ item ∷ []
+own_less whole own item rest are is =
+    let k : ℕ = length whole - length own in
+    let left : length whole - k ≡ suc (length rest) = sym (length-drop k whole) ∙ ap length (are ∙ is) in
+    let one : length own ≡ suc (length rest) = ap length is in
+    let next : length whole - length rest ≡ suc k = omega (arith, left, one) in
+    ap (λ m. take m whole) next ∙ take_next k whole item rest (are ∙ is)
+
+-- more planned, and as many left
+pub own_more : (whole own more : List Item) → take (length (whole ++ more) - length (own ++ more)) (whole ++ more) ≡ take (length whole - length own) whole
+own_more whole own more =
+    let same : length (whole ++ more) - length (own ++ more) ≡ length whole - length own =
+    omega (arith, length-append whole more, length-append own more) in
+    ap (λ k. take k (whole ++ more)) same ∙ take-append-le (length whole - length own) whole more (omega arith)
+
+pub own_still : (old new : Node) → planned new new.id ≡ planned old old.id → new.own.items ≡ old.own.items → own_applied new ≡ own_applied old
+own_still old new plan own =
+    ap (λ (xs : List Item). take (length (planned new new.id) - length xs) (planned new new.id)) own
+    ∙ ap (λ (xs : List Item). take (length xs - length old.own.items) xs) plan
+
+-- ---- each node's
+
+pub applied_here : (node : Node) (inlets : List Inlet) (k : ℕ) → k ≡ node.id → applied_from node inlets k ≡ own_applied node
+applied_here node inlets k is = ap (λ b. cond b (own_applied node) (items_worked (slice_get inlets k))) (eq-eqb k node.id is)
+
+pub applied_else : (node : Node) (inlets : List Inlet) (k : ℕ) → k ≢ node.id → applied_from node inlets k ≡ items_worked (slice_get inlets k)
+applied_else node inlets k other = ap (λ b. cond b (own_applied node) (items_worked (slice_get inlets k))) (ne_eqb k node.id other)
+
+pub applied_still : (old new : Node) (before after : List Inlet) → new.id ≡ old.id → own_applied new ≡ own_applied old →
+    ((k : ℕ) → items_worked (slice_get after k) ≡ items_worked (slice_get before k)) → (k : ℕ) → applied_from new after k ≡ applied_from old before k
+applied_still old new before after id own same k =
+    ap (λ i. cond (eqb k i) (own_applied new) (items_worked (slice_get after k))) id
+    ∙ ap (λ xs. cond (eqb k old.id) xs (items_worked (slice_get after k))) own
+    ∙ ap (λ xs. cond (eqb k old.id) (own_applied old) xs) (same k)
+
+-- ---- inlets
+
+set_here : (xs : List Inlet) (k : ℕ) (x y : Inlet) → slice_get xs k ≡ Some x → slice_get (set xs k y) k ≡ Some y
+set_here [] k x y there = absurd (cc)
+set_here (z ∷ xs) zero x y there = refl
+set_here (z ∷ xs) (suc k) x y there = set_here xs k x y there
+
+-- one inlet changed: what was worked in of it is what follows from it, and of the others what it was
+pub worked_here : (old new : List Inlet) (from : ℕ) (before after : Inlet) → slice_get old from ≡ Some before → new ≡ slice_set old from after →
+    items_worked (slice_get new from) ≡ items_in (worked after)
+worked_here old new from before after there is = ap (λ xs. items_worked (slice_get xs from)) is ∙ ap items_worked (set_here old from before after there)
+
+pub worked_else : (old new : List Inlet) (from : ℕ) (after : Inlet) → new ≡ slice_set old from after → (k : ℕ) → k ≢ from →
+    items_worked (slice_get new k) ≡ items_worked (slice_get old k)
+worked_else old new from after is k other = ap (λ xs. items_worked (slice_get xs k)) is ∙ ap items_worked (else_set old from k after other)
+
+pub worked_again : (old new : List Inlet) (from : ℕ) (before after : Inlet) → slice_get old from ≡ Some before → new ≡ slice_set old from after →
+    worked after ≡ worked before → (k : ℕ) → items_worked (slice_get new k) ≡ items_worked (slice_get old k)
+worked_again old new from before after there is same k = elim (cases_eq k from) [
+  | inl here ↦ subst (λ m. items_worked (slice_get new m) ≡ items_worked (slice_get old m)) (sym here)
+      (worked_here old new from before after there is ∙ ap items_in same ∙ sym (ap items_worked there))
+  | inr other ↦ worked_else old new from after is k other
+]
+
+pub worked_more : (old new : List Inlet) (from : ℕ) (before after : Inlet) (batch : BatchView) → slice_get old from ≡ Some before →
+    new ≡ slice_set old from after → worked after ≡ worked before ++ batch ∷ [] →
+    items_worked (slice_get new from) ≡ items_worked (slice_get old from) ++ batch.items
+worked_more old new from before after batch there is more =
+    worked_here old new from before after there is ∙ ap items_in more ∙ items_in_more (worked before) batch
+    ∙ ap (λ xs. xs ++ batch.items) (sym (ap items_worked there))
+
+-- ---- what is known, told of the node after a step
+
+pub knows_after : (old new : Node) (applied : ℕ → List Item) → new.set ≡ old.set → new.id ≡ old.id → new.n ≡ old.n →
+    KnowsRight old.set old.n old.id new.share new.history.settlements applied → KnowsRight new.set new.n new.id new.share new.history.settlements applied
+knows_after old new applied set_is id_is n_is knows =
+    subst (λ (s : PieceSet). KnowsRight s new.n new.id new.share new.history.settlements applied) (sym set_is)
+    (subst (λ (m : ℕ). KnowsRight old.set m new.id new.share new.history.settlements applied) (sym n_is)
+    (subst (λ (i : ℕ). KnowsRight old.set old.n i new.share new.history.settlements applied) (sym id_is) knows))

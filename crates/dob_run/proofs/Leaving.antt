@@ -1,0 +1,275 @@
+-- What a crew's runners leave when they are closed, put together from their parts.
+use Rattle.std.proofs.Common.{◌≡◌, ◌≢◌, ℕ, ◌+◌, ◌*◌, ◌<◌, ◌≤◌, inl, inr, List, [], ◌∷◌, ◌++◌, Option, Some, None, length, map, drop, sym, ap, ◌∙◌, subst, arith, length-append}
+use Rattle.std.proofs.Common.{Global}
+use Rattle.std.specs.Prelude.{slice_get, Result, Ok, Err, IfErr}
+use Rattle.std.specs.Result.{IsErrAnd}
+use Rattle.std.proofs.lemmas.Result.{err_from_is_err_and}
+use Rattle.std.proofs.lemmas.List.{length-map}
+use Rattle.std.specs.declared.vec.Vec.{Vec}
+use Rattle.std.specs.List.{AllZip}
+use Rattle.dob_safra.proofs.Kept.{same_or_not}
+use Rattle.dob_pieces.specs.declared.piece_set.PieceSet.{PieceSet}
+use Rattle.dob_safra.specs.Laws.{IsSize}
+use Rattle.dob_update.specs.Batches.{BatchView}
+use Rattle.dob_board.specs.declared.board.Board.{Board}
+use Rattle.dob_board.specs.declared.board.Closed.{Closed}
+use Rattle.dob_board.specs.Seats.{AreWords, IsSeatOf}
+use Rattle.dob_chan.specs.declared.calls.Rejoined.{Rejoined}
+use Rattle.dob_chan.specs.Ends.{sent_by, taken_by}
+use Rattle.dob_node.specs.declared.node.Node.{Node}
+use Rattle.dob_node.specs.Nodes.{outbox_to}
+use Rattle.dob_run.specs.declared.fault.Fault.{Fault}
+use Rattle.dob_run.specs.declared.fault.Fault.TheVariants.{SetTooLarge, Nodes, Sizes, Stopped, Memory}
+use Rattle.dob_run.specs.declared.hands.Outlet.{Outlet}
+use Rattle.dob_run.specs.declared.hands.Inlet.{Inlet}
+use Rattle.dob_run.specs.declared.mail.Mail.{Mail}
+use Rattle.dob_run.specs.declared.runner.Runner.{Runner}
+use Rattle.dob_run.specs.declared.closing.Ended.{Ended}
+use Rattle.dob_run.specs.declared.runs.Worker.{Worker}
+use Rattle.dob_run.specs.declared.runs.Turned.{Turned}
+use Rattle.dob_run.specs.Closing.{AreLinked, seat_in, IsCrew, row_of, hands_out, hands_in, HasEnded}
+use Rattle.dob_run.specs.Ending.{outlet_hand, inlet_hand, IsJoined}
+use Rattle.dob_run.specs.Hands.{in_hand, worked_of}
+use Rattle.dob_run.specs.Links.{offered}
+use Rattle.dob_run.specs.Manned.{mail_of, node_of, AreRunnersFor}
+use Rattle.dob_run.specs.Runners.{KeepsRunner}
+use Rattle.dob_run.specs.Turned.{IsLink, IsTurned, AreSizes, IsSmall, IsStop, IsRefused, AreUnfailed, IsFirstFailed, AreWorkers, HasLeft}
+use Rattle.dob_run.specs.Workers.{planned, items_in, SendsRight, IsLawful}
+use Rattle.dob_run.proofs.Manned.{zip_at, zip_long}
+use Rattle.dob_run.proofs.Places.{at_end, inside, one_thing, next_is, then_left, all_gone}
+use Rattle.dob_run.proofs.Parting.{get_map, map_got, some_at, count_is}
+
+-- ---- workers, one by one
+
+-- So many nodes have their hands, and these nodes and rows of hands are left.
+pub record IsManning {Y Z : Type 0} (nodes : List Node) (sending : List (Vec (Option BatchView) Y)) (taking : List (Vec (Option BatchView) Z)) (nodes_left : List Node)
+    (sending_left : List (Vec (Option BatchView) Y)) (taking_left : List (Vec (Option BatchView) Z)) (workers : List Worker) : Type 0 where
+  pub done : ℕ
+  pub within : done ≤ length nodes
+  pub nodes_are : nodes_left ≡ drop done nodes
+  pub sending_are : sending_left ≡ drop done sending
+  pub taking_are : taking_left ≡ drop done taking
+  pub so_far : AreWorkers done nodes (map row_of sending) (map row_of taking) workers
+
+-- while a thing is left in one list, one is left in another that is as long
+pub thing_left : {X Y : Type 0} → (xs left after : List X) (x : X) (ys ys_left : List Y) (done : ℕ) → left ≡ drop done xs → left ≡ x ∷ after → ys_left ≡ drop done ys →
+    length ys ≡ length xs → length ys_left ≢ 0
+thing_left xs left after x ys ys_left done is next ys_are long none =
+    omega (arith, all_gone ys done (ap length (sym ys_are) ∙ none), inside xs x done (next_is xs after x done (sym is ∙ next)), long)
+
+module _ {Y Z : Type 0} (nodes : List Node) (sending : List (Vec (Option BatchView) Y)) (taking : List (Vec (Option BatchView) Z)) where
+  pub manning_begins : (nodes_left : List Node) (sending_left : List (Vec (Option BatchView) Y)) (taking_left : List (Vec (Option BatchView) Z)) (workers : List Worker) →
+      nodes_left ≡ nodes → sending_left ≡ sending → taking_left ≡ taking → workers ≡ [] → IsManning nodes sending taking nodes_left sending_left taking_left workers
+  manning_begins nodes_left sending_left taking_left workers n s t none = record {
+    done = 0;
+    within = omega arith;
+    nodes_are = n;
+    sending_are = s;
+    taking_are = t;
+    so_far = record {
+      count = ap length none;
+      each = λ k worker e. absurd (let nothing : slice_get [] k ≡ Some worker = ap (λ (l : List Worker). slice_get l k) (sym none) ∙ e in cc);
+    };
+  }
+
+module _ {A : Type 0} (nodes : List Node) (sending taking : List (Vec (Option BatchView) A)) where
+  pub manning_goes_on : (nodes_left after : List Node) (sending_left sending_after taking_left taking_after : List (Vec (Option BatchView) A)) (workers more : List Worker)
+      (node : Node) (out into : Vec (Option BatchView) A) (worker : Worker) → IsManning nodes sending taking nodes_left sending_left taking_left workers →
+      nodes_left ≡ node ∷ after → sending_left ≡ out ∷ sending_after → taking_left ≡ into ∷ taking_after →
+      worker.node ≡ node → worker.sending.items ≡ out.items → worker.taking.items ≡ into.items → more ≡ workers ++ worker ∷ [] →
+      IsManning nodes sending taking after sending_after taking_after more
+  manning_goes_on nodes_left after sending_left sending_after taking_left taking_after workers more node out into worker on n s t node_is out_is into_is more_is =
+      let at = next_is nodes after node on.done (sym on.nodes_are ∙ n) in
+      let at_out = get_map row_of sending on.done out (next_is sending sending_after out on.done (sym on.sending_are ∙ s)) in
+      let at_into = get_map row_of taking on.done into (next_is taking taking_after into on.done (sym on.taking_are ∙ t)) in
+      record {
+        done = on.done + 1;
+        within = omega (arith, inside nodes node on.done at);
+        nodes_are = then_left nodes after node on.done (sym on.nodes_are ∙ n);
+        sending_are = then_left sending sending_after out on.done (sym on.sending_are ∙ s);
+        taking_are = then_left taking taking_after into on.done (sym on.taking_are ∙ t);
+        so_far = record {
+          count = omega (arith, ap length more_is, length-append workers (worker ∷ []), on.so_far.count);
+          each = λ k other e. elim (at_end workers worker other k (ap (λ (l : List Worker). slice_get l k) (sym more_is) ∙ e)) [
+            | inl before ↦ on.so_far.each k other before
+            | inr last ↦ let place : on.done ≡ k = sym on.so_far.count ∙ sym last.0 in
+                subst (λ (w : Worker). (slice_get nodes k ≡ Some w.node) × (slice_get (map row_of sending) k ≡ Some w.sending.items) × (slice_get (map row_of taking) k ≡ Some w.taking.items))
+                last.1 (
+                  subst (λ (m : ℕ). slice_get nodes m ≡ Some worker.node) place (at ∙ ap Some (sym node_is)),
+                  subst (λ (m : ℕ). slice_get (map row_of sending) m ≡ Some worker.sending.items) place (at_out ∙ ap Some (sym out_is)),
+                  subst (λ (m : ℕ). slice_get (map row_of taking) m ≡ Some worker.taking.items) place (at_into ∙ ap Some (sym into_is)),
+                )
+          ];
+        };
+      }
+
+  pub all_manned : (nodes_left : List Node) (sending_left taking_left : List (Vec (Option BatchView) A)) (workers : List Worker) →
+      IsManning nodes sending taking nodes_left sending_left taking_left workers → length nodes_left ≡ 0 → AreWorkers (length nodes) nodes (map row_of sending) (map row_of taking) workers
+  all_manned nodes_left sending_left taking_left workers on none =
+      let all : length nodes ≤ on.done = all_gone nodes on.done (ap length (sym on.nodes_are) ∙ none) in
+      subst (λ (k : ℕ). AreWorkers k nodes (map row_of sending) (map row_of taking) workers) (omega (arith, all, on.within)) on.so_far
+
+-- ---- what the runners leave
+
+pub left_by : (n : ℕ) (runners : List Runner) (nodes : List Node) (mails : List Mail) (ended : Ended) (turned : Turned) → nodes ≡ map node_of runners →
+    mails ≡ map mail_of runners → HasEnded n mails ended → AreWorkers (length nodes) nodes (map row_of ended.sending.items) (map row_of ended.taking.items) turned.workers.items →
+    turned.closed ≡ ended.closed → turned.links ≡ ended.links → HasLeft n runners turned
+left_by n runners nodes mails ended turned nodes_is mails_is ended_is workers closed links = record {
+  count = workers.count ∙ ap length nodes_is ∙ length-map runners node_of;
+  workers = λ k worker at.
+      let got = workers.each k worker at in
+      let runner = map_got node_of runners k worker.node (ap (λ (l : List Node). slice_get l k) (sym nodes_is) ∙ got.0) in
+      let mail_at : slice_get mails k ≡ Some runner.0.mail = ap (λ (l : List Mail). slice_get l k) mails_is ∙ get_map mail_of runners k runner.0 runner.1 in
+      let out : slice_get (map row_of ended.sending.items) k ≡ Some (hands_out runner.0.mail) =
+      ap (λ (l : List (List (Option BatchView))). slice_get l k) ended_is.sending ∙ get_map hands_out mails k runner.0.mail mail_at in
+      let into : slice_get (map row_of ended.taking.items) k ≡ Some (hands_in runner.0.mail) =
+      ap (λ (l : List (List (Option BatchView))). slice_get l k) ended_is.taking ∙ get_map hands_in mails k runner.0.mail mail_at in (
+        runner.0,
+        runner.1,
+        sym runner.2,
+        one_thing worker.sending.items (hands_out runner.0.mail) (sym got.1 ∙ out),
+        one_thing worker.taking.items (hands_in runner.0.mail) (sym got.2 ∙ into),
+      );
+  words = subst (λ (p : List Mail × Closed). AreWords n (map seat_in p.0) p.1.words.items) (λ q. (mails_is q, (sym closed) q)) ended_is.words;
+  links_count = ap (λ (v : Vec Rejoined Global). length v.items) links ∙ ended_is.count;
+  links = λ i j outlet inlet linked.
+      let found = ended_is.links i j outlet inlet (subst (λ (l : List Mail). AreLinked l i j outlet inlet) (sym mails_is) linked) in
+      (found.0, ap (λ (v : Vec Rejoined Global). slice_get v.items (i * n + j)) links ∙ found.1, found.2);
+}
+
+-- as many rows as nodes
+pub rows_long : {X Z : Type 0} (f : Mail → List X) (rows : List (Vec X Z)) (mails : List Mail) (nodes : List Node) (runners : List Runner) → map row_of rows ≡ map f mails →
+    mails ≡ map mail_of runners → nodes ≡ map node_of runners → length rows ≡ length nodes
+rows_long f rows mails nodes runners same mails_is nodes_is =
+    omega (arith, length-map rows row_of, ap length same, length-map mails f, ap length mails_is, length-map runners mail_of, length-map runners node_of, ap length nodes_is)
+
+-- the runners before that one, and that one
+pub unfailed_more : (runners : List Runner) (node : ℕ) → ((k : ℕ) (runner : Runner) → k < node → slice_get runners k ≡ Some runner → runner.failed ≡ None) →
+    ((runner : Runner) → slice_get runners node ≡ Some runner → None ≡ runner.failed) →
+    (k : ℕ) (runner : Runner) → k < node + 1 → slice_get runners k ≡ Some runner → runner.failed ≡ None
+unfailed_more runners node before last k runner low at = elim (same_or_not k node) [
+  | inl same ↦ sym (last runner (subst (λ (m : ℕ). slice_get runners m ≡ Some runner) same at))
+  | inr other ↦ before k runner (omega (arith, low, other)) at
+]
+
+-- what is so of a failure is so of an answer that hands it on
+pub handed_on : {A : Type 0} (P : Fault → Type 0) (result : Result A Fault) (why : Fault) → IsErrAnd result (λ given. given ≡ why) → P why → IfErr result P
+handed_on P result why is has =
+    let given = err_from_is_err_and result is in
+    subst (λ s. IfErr s P) (sym given.1) (subst P (sym given.2) has)
+
+-- the runners are still for that piece set and that size
+pub for_kept : (set : PieceSet) (size : ℕ) (old new : List Runner) → AreRunnersFor set size old → AllZip KeepsRunner old new → AreUnfailed new → AreRunnersFor set size new
+for_kept set size old new are kept unfailed k runner at =
+    let was = zip_at KeepsRunner old new k runner kept at in
+    let is = are k was.0 was.1 in
+    record { set_is = was.2.set ∙ is.set_is; size_is = was.2.size ∙ is.size_is; unfailed = unfailed k runner at }
+
+module _ (board : Board) (set : PieceSet) (size : ℕ) (runners : List Runner) (turned : Turned) (crew : IsCrew board (map mail_of runners)) (left : HasLeft board.nodes runners turned)
+    (are : AreRunnersFor set size runners) where
+  seat_there : (k : ℕ) (runner : Runner) → slice_get runners k ≡ Some runner → slice_get (map seat_in (map mail_of runners)) k ≡ Some runner.mail.seat
+  seat_there k runner at = get_map seat_in (map mail_of runners) k runner.mail (get_map mail_of runners k runner at)
+
+  seat_at : (k : ℕ) (runner : Runner) → slice_get runners k ≡ Some runner → IsSeatOf board.rest.table_id board.nodes k runner.mail.seat
+  seat_at k runner at = crew.seats.seats_are k runner.mail.seat (seat_there k runner at)
+
+  lawful_at : (k : ℕ) (runner : Runner) → slice_get runners k ≡ Some runner → IsLawful set size runner.node runner.mail
+  lawful_at k runner at =
+      let is = are k runner at in
+      subst (λ (p : PieceSet × ℕ). IsLawful p.0 p.1 runner.node runner.mail) (λ q. (is.set_is q, is.size_is q)) (runner.lawful is.unfailed)
+
+  many : length runners ≡ board.nodes
+  many = sym (length-map runners mail_of) ∙ count_is board (map mail_of runners) crew
+
+  low : (k : ℕ) (runner : Runner) → slice_get runners k ≡ Some runner → k < board.nodes
+  low k runner at = omega (arith, inside runners runner k at, many)
+
+  sends_at : (i j : ℕ) (from : Runner) (outlet : Outlet) → slice_get runners i ≡ Some from → slice_get from.mail.outlets.items j ≡ Some outlet → i ≢ j →
+      SendsRight from.node size j (offered outlet)
+  sends_at i j from outlet at out apart =
+      (lawful_at i from at).sends j outlet (λ same. apart (sym (same ∙ (seat_at i from at).node))) out
+
+  link_is : (i j : ℕ) (sender taker : Worker) (from to : Runner) (outlet : Outlet) (inlet : Inlet) (link : Rejoined) → slice_get runners i ≡ Some from →
+      slice_get runners j ≡ Some to → sender.node ≡ from.node → sender.sending.items ≡ hands_out from.mail → taker.taking.items ≡ hands_in to.mail →
+      slice_get from.mail.outlets.items j ≡ Some outlet → slice_get to.mail.inlets.items i ≡ Some inlet → IsJoined outlet.end inlet.end link →
+      IsLink board.nodes size turned.closed.words.items i j sender taker link
+  link_is i j sender taker from to outlet inlet link at_i at_j node_is out_is into_is out into joined =
+      let low_i = low i from at_i in
+      let low_j = low j to at_j in
+      record {
+        sent = sent_by outlet.end;
+        received = taken_by inlet.end;
+        sending = outlet.hand;
+        taking = inlet.hand;
+        sending_is = ap (λ (l : List (Option BatchView)). slice_get l j) out_is ∙ get_map outlet_hand from.mail.outlets.items j outlet out;
+        taking_is = ap (λ (l : List (Option BatchView)). slice_get l i) into_is ∙ get_map inlet_hand to.mail.inlets.items i inlet into;
+        sent_count = joined.sent;
+        received_count = joined.received;
+        lawful = joined.lawful;
+        posted = omega (
+          arith,
+          left.words.posted i j from.mail.seat (seat_there i from at_i) low_j,
+          from.mail.posted j outlet out,
+          length-append (sent_by outlet.end) (in_hand outlet.hand),
+          joined.sent,
+        );
+        taken = omega (
+          arith,
+          left.words.taken j i to.mail.seat (seat_there j to at_j) low_i,
+          to.mail.taken i inlet into,
+          ap length inlet.last,
+          length-append (worked_of inlet.end inlet.hand) (in_hand inlet.hand),
+          joined.received,
+        );
+        planned_is = λ apart. subst (λ (node : Node). planned node j ≡ items_in (sent_by outlet.end ++ in_hand outlet.hand) ++ (outbox_to node j).items) (sym node_is)
+            (sends_at i j from outlet at_i out apart).items;
+        small = λ apart k batch at. (sends_at i j from outlet at_i out apart).small k batch at;
+      }
+
+  pub turned_is : IsTurned set board.nodes size turned
+  turned_is = record {
+    count = left.count ∙ many;
+    words = left.words.count;
+    links_count = left.links_count;
+    nodes = λ i worker at.
+        let got = left.workers i worker at in
+        let law = lawful_at i got.0 got.1 in
+        let seat = seat_at i got.0 got.1 in
+        (ap (λ (n : Node). n.set) got.2 ∙ law.of.0, ap (λ (n : Node). n.id) got.2 ∙ law.of.1 ∙ seat.node, ap (λ (n : Node). n.n) got.2 ∙ law.of.2 ∙ seat.nodes);
+    links = λ i j sender taker at_i at_j.
+        let from = left.workers i sender at_i in
+        let to = left.workers j taker at_j in
+        let outlet = some_at from.0.mail.outlets.items j (omega (arith, from.0.mail.outlets_len, (seat_at i from.0 from.1).nodes, low j to.0 to.1)) in
+        let inlet = some_at to.0.mail.inlets.items i (omega (arith, to.0.mail.inlets_len, (seat_at j to.0 to.1).nodes, low i from.0 from.1)) in
+        let link = left.links i j outlet.0 inlet.0 (record {
+          sender = from.0.mail;
+          taker = to.0.mail;
+          sends = get_map mail_of runners i from.0 from.1;
+          takes = get_map mail_of runners j to.0 to.1;
+          out = outlet.1;
+          into = inlet.1;
+        }) in
+        (link.0, link.1, link_is i j sender taker from.0 to.0 outlet.0 inlet.0 link.0 from.1 to.1 from.2 from.3 to.4 outlet.1 inlet.1 link.2);
+  }
+
+-- ---- refusals
+
+-- the node that has failed is one of the crew
+pub stop_of : (board : Board) (n : ℕ) (old new : List Runner) (fault : Fault) → IsCrew board (map mail_of old) → AllZip KeepsRunner old new → board.nodes ≡ n →
+    IsFirstFailed new fault → IsStop n fault
+stop_of board n old new (Stopped node why) crew kept many first =
+    omega (arith, inside new first.0 node first.1, zip_long KeepsRunner old new kept, length-map old mail_of, count_is board (map mail_of old) crew, many)
+stop_of board n old new SetTooLarge crew kept many first = absurd first
+stop_of board n old new Nodes crew kept many first = absurd first
+stop_of board n old new Sizes crew kept many first = absurd first
+stop_of board n old new Memory crew kept many first = absurd first
+
+-- a crew that stops is one of sizes within their limits
+pub refused_so : {A : Type 0} (set : PieceSet) (n batch capacity : ℕ) (result : Result A Fault) → IsSmall set → IsSize n → AreSizes batch capacity → IfErr result (IsStop n) →
+    IfErr result (IsRefused set n batch capacity)
+refused_so set n batch capacity (Ok x) small size sizes stop = tt
+refused_so set n batch capacity (Err (Stopped node why)) small size sizes stop = (small, size, sizes, stop)
+refused_so set n batch capacity (Err Memory) small size sizes stop = (small, size, sizes)
+refused_so set n batch capacity (Err SetTooLarge) small size sizes stop = absurd stop
+refused_so set n batch capacity (Err Nodes) small size sizes stop = absurd stop
+refused_so set n batch capacity (Err Sizes) small size sizes stop = absurd stop

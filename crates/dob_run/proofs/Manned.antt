@@ -1,0 +1,91 @@
+-- The runners of a crew's mails, before and after their turns.
+use Rattle.std.proofs.Common.{◌≡◌, ℕ, zero, suc, List, [], ◌∷◌, length, map, Some, refl, sym, ap, ◌∙◌, subst, arith}
+use Rattle.std.specs.Prelude.{slice_get}
+use Rattle.std.proofs.lemmas.List.{length-map}
+use Rattle.std.specs.List.{AllZip}
+use Rattle.dob_pieces.specs.declared.piece_set.PieceSet.{PieceSet}
+use Rattle.dob_board.specs.declared.board.Board.{Board}
+use Rattle.dob_board.specs.Seats.{IsSeatOf}
+use Rattle.dob_chan.specs.Ends.{ArePaired}
+use Rattle.dob_run.specs.declared.mail.Mail.{Mail}
+use Rattle.dob_run.specs.declared.runner.Runner.{Runner}
+use Rattle.dob_run.specs.Closing.{seat_in, IsCrew}
+use Rattle.dob_run.specs.Runners.{KeepsRunner}
+use Rattle.dob_run.specs.Turns.{AllSuit}
+use Rattle.dob_run.specs.Manned.{mail_of, AreRunnersFor, IsRunnerOf}
+use Rattle.dob_run.proofs.Places.{inside, one_thing}
+use Rattle.dob_run.proofs.Parting.{get_map, map_got, some_at}
+
+-- what stands at a place has its other at that place
+pub zip_at : {X Y : Type 0} → (R : X → Y → Type 0) (xs : List X) (ys : List Y) (k : ℕ) (y : Y) → AllZip R xs ys → slice_get ys k ≡ Some y →
+    (x : X) × (slice_get xs k ≡ Some x) × R x y
+zip_at R [] [] k y are at = absurd (cc)
+zip_at R [] (b ∷ ys) k y are at = absurd are
+zip_at R (a ∷ xs) [] k y are at = absurd are
+zip_at R (a ∷ xs) (b ∷ ys) zero y are at = (a, refl, subst (R a) (one_thing b y at) are.0)
+zip_at R (a ∷ xs) (b ∷ ys) (suc k) y are at = zip_at R xs ys k y are.1 at
+
+pub zip_long : {X Y : Type 0} → (R : X → Y → Type 0) (xs : List X) (ys : List Y) → AllZip R xs ys → length ys ≡ length xs
+zip_long R [] [] are = refl
+zip_long R [] (b ∷ ys) are = absurd are
+zip_long R (a ∷ xs) [] are = absurd are
+zip_long R (a ∷ xs) (b ∷ ys) are = let h = zip_long R xs ys are.1 in omega (arith, h)
+
+pub mails_are : (set : PieceSet) (size : ℕ) (mails : List Mail) (runners : List Runner) → AllZip (IsRunnerOf set size) mails runners → map mail_of runners ≡ mails
+mails_are set size [] [] are = refl
+mails_are set size [] (r ∷ runners) are = absurd are
+mails_are set size (m ∷ mails) [] are = absurd are
+mails_are set size (m ∷ mails) (r ∷ runners) are = λ i. are.0.0 i ∷ mails_are set size mails runners are.1 i
+
+pub runners_are : (set : PieceSet) (size : ℕ) (mails : List Mail) (runners : List Runner) → AllZip (IsRunnerOf set size) mails runners → AreRunnersFor set size runners
+runners_are set size mails runners are k runner at = (zip_at (IsRunnerOf set size) mails runners k runner are at).2.1
+
+pub all_suit : (set : PieceSet) (size : ℕ) (runners : List Runner) → AreRunnersFor set size runners → AllSuit set runners
+all_suit set size runners are k runner at = let is = are k runner at in record { set_is = sym is.set_is; unfailed = is.unfailed }
+
+-- a runner of which it is known where it was before its turns
+was_at : (old new : List Runner) (k : ℕ) (mail : Mail) → AllZip KeepsRunner old new → slice_get (map mail_of new) k ≡ Some mail →
+    (before : Runner) × (after : Runner) × (slice_get old k ≡ Some before) × KeepsRunner before after × (after.mail ≡ mail)
+was_at old new k mail kept at =
+    let after = map_got mail_of new k mail at in
+    let before = zip_at KeepsRunner old new k after.0 kept after.1 in
+    (before.0, after.0, before.1, before.2, after.2)
+
+-- the runners of a crew are one after their turns
+pub crew_kept : (board : Board) (old new : List Runner) → IsCrew board (map mail_of old) → AllZip KeepsRunner old new → IsCrew board (map mail_of new)
+crew_kept board old new crew kept = record {
+  seats = record {
+    count = length-map (map mail_of new) seat_in ∙ length-map new mail_of ∙ zip_long KeepsRunner old new kept ∙ sym (length-map old mail_of)
+        ∙ sym (length-map (map mail_of old) seat_in) ∙ crew.seats.count;
+    seats_are = λ k seat at.
+        let mail = map_got seat_in (map mail_of new) k seat at in
+        let was = was_at old new k mail.0 kept mail.1 in
+        let before = crew.seats.seats_are k was.0.mail.seat (get_map seat_in (map mail_of old) k was.0.mail (get_map mail_of old k was.0 was.2)) in
+        let same = was.3.mail.seat in
+        subst (IsSeatOf board.rest.table_id board.nodes k) (ap (λ (m : Mail). m.seat) was.4 ∙ mail.2) (record {
+          node = same.node ∙ before.node;
+          nodes = same.nodes ∙ before.nodes;
+          board_is = same.board ∙ before.board_is;
+        });
+  };
+  paired = λ i j outlet inlet linked.
+      let from = was_at old new i linked.sender kept linked.sends in
+      let to = was_at old new j linked.taker kept linked.takes in
+      let out : slice_get from.1.mail.outlets.items j ≡ Some outlet = ap (λ (m : Mail). slice_get m.outlets.items j) from.4 ∙ linked.out in
+      let into : slice_get to.1.mail.inlets.items i ≡ Some inlet = ap (λ (m : Mail). slice_get m.inlets.items i) to.4 ∙ linked.into in
+      let outlet_before = some_at from.0.mail.outlets.items j
+      (omega (arith, inside from.1.mail.outlets.items outlet j out, from.1.mail.outlets_len, from.0.mail.outlets_len, from.3.mail.seat.nodes)) in
+      let inlet_before = some_at to.0.mail.inlets.items i
+      (omega (arith, inside to.1.mail.inlets.items inlet i into, to.1.mail.inlets_len, to.0.mail.inlets_len, to.3.mail.seat.nodes)) in
+      let sends = from.3.mail.outlets j outlet_before.0 outlet outlet_before.1 out in
+      let takes = to.3.mail.inlets i inlet_before.0 inlet inlet_before.1 into in
+      let were : ArePaired outlet_before.0.end inlet_before.0.end = crew.paired i j outlet_before.0 inlet_before.0 (record {
+        sender = from.0.mail;
+        taker = to.0.mail;
+        sends = get_map mail_of old i from.0 from.2;
+        takes = get_map mail_of old j to.0 to.2;
+        out = outlet_before.1;
+        into = inlet_before.1;
+      }) in
+      takes.0 ∙ were ∙ sym sends.0;
+}

@@ -1,0 +1,74 @@
+-- Things that go one by one, each with its answer, and runners whose threads are started and ended so.
+use Rattle.std.proofs.Common.{◌≡◌, ℕ, List, [], ◌∷◌, ◌++◌, length, Some, refl, sym, ap, ◌∙◌, subst, append_assoc, arith}
+use Rattle.std.specs.Prelude.{slice_get, IfOk, Result, Ok, Err}
+use Rattle.std.proofs.lemmas.List.{append-nil}
+use Rattle.std.specs.List.{AllZip}
+use Rattle.std.specs.declared.vec.Vec.{Vec}
+use Rattle.dob_node.specs.declared.cause.Cause.{Cause}
+use Rattle.dob_run.specs.declared.runner.Runner.{Runner}
+use Rattle.dob_run.specs.declared.threads.Started.{Started}
+use Rattle.dob_run.specs.declared.threads.Started.TheVariants.{Runs, GaveUp}
+use Rattle.dob_run.specs.Runners.{KeepsRunner, Steps}
+use Rattle.dob_run.specs.Started.{IsStartOf, IsEndOf}
+
+zip_one : {X Y : Type 0} → (R : X → Y → Type 0) (xs : List X) (ys : List Y) (x : X) (y : Y) → AllZip R xs ys → R x y → AllZip R (xs ++ x ∷ []) (ys ++ y ∷ [])
+zip_one R [] [] x y are is = (is, tt)
+zip_one R [] (b ∷ ys) x y are is = absurd are
+zip_one R (a ∷ xs) [] x y are is = absurd are
+zip_one R (a ∷ xs) (b ∷ ys) x y are is = (are.0, zip_one R xs ys x y are.1 is)
+
+middle : {X : Type 0} → (gone after : List X) (x : X) → slice_get (gone ++ x ∷ after) (length gone) ≡ Some x
+middle [] after x = refl
+middle (y ∷ gone) after x = middle gone after x
+
+-- Of all things some went, each with its answer, and these are left.
+pub record AreGoing {X Y : Type 0} (R : X → Y → Type 0) (all left : List X) (answers : List Y) : Type 0 where
+  pub gone : List X
+  pub split : all ≡ gone ++ left
+  pub related : AllZip R gone answers
+
+module _ {X Y : Type 0} (R : X → Y → Type 0) where
+  pub going_begins : (all left : List X) (answers : List Y) → left ≡ all → answers ≡ [] → AreGoing R all left answers
+  going_begins all left answers same none = record { gone = []; split = sym same; related = subst (AllZip R []) (sym none) tt }
+
+  pub goes_on : (all left after : List X) (answers more : List Y) (x : X) (y : Y) → AreGoing R all left answers → left ≡ x ∷ after → R x y →
+      more ≡ answers ++ y ∷ [] → AreGoing R all after more
+  goes_on all left after answers more x y on is related more_is = record {
+    gone = on.gone ++ x ∷ [];
+    split = on.split ∙ ap (λ (l : List X). on.gone ++ l) is ∙ sym (append_assoc on.gone (x ∷ []) after);
+    related = subst (AllZip R (on.gone ++ x ∷ [])) (sym more_is) (zip_one R on.gone answers x y on.related related);
+  }
+
+  pub all_went : (all left : List X) (answers : List Y) → AreGoing R all left answers → length left ≡ 0 → AllZip R all answers
+  all_went all [] answers on none = subst (λ (xs : List X). AllZip R xs answers) (sym (on.split ∙ append-nil on.gone)) on.related
+  all_went all (x ∷ xs) answers on none = absurd (omega (arith, none))
+
+  -- the next is one of all
+  pub next_one : (all left after : List X) (answers : List Y) (x : X) → AreGoing R all left answers → left ≡ x ∷ after →
+      (k : ℕ) × (slice_get all k ≡ Some x)
+  next_one all left after answers x on is =
+      (length on.gone, ap (λ (l : List X). slice_get l (length on.gone)) (on.split ∙ ap (λ (l : List X). on.gone ++ l) is) ∙ middle on.gone after x)
+
+kept : (runner now : Runner) (started : Started) → IsStartOf runner started → IsEndOf started now → KeepsRunner runner now
+kept runner now (Runs handle) start end = subst (λ (r : Runner). KeepsRunner r now) start end
+kept runner now (GaveUp was) start end = subst (KeepsRunner runner) (sym end) start.keeps
+
+-- each runner that was started and ended is where it was in its crew
+pub all_kept : (runners : List Runner) (started : List Started) (ended : List Runner) → AllZip IsStartOf runners started → AllZip IsEndOf started ended →
+    AllZip KeepsRunner runners ended
+all_kept [] [] [] starts ends = tt
+all_kept [] [] (e ∷ ended) starts ends = absurd ends
+all_kept [] (s ∷ started) ended starts ends = absurd starts
+all_kept (r ∷ runners) [] ended starts ends = absurd starts
+all_kept (r ∷ runners) (s ∷ started) [] starts ends = absurd ends
+all_kept (r ∷ runners) (s ∷ started) (e ∷ ended) starts ends = (kept r e s starts.0 ends.0, all_kept runners started ended starts.1 ends.1)
+
+pub if_all_kept : {E Z : Type 0} (runners : List Runner) (started : List Started) (result : Result (Vec Runner Z) E) → AllZip IsStartOf runners started →
+    IfOk result (λ ended. AllZip IsEndOf started ended.items) → IfOk result (λ ended. AllZip KeepsRunner runners ended.items)
+if_all_kept runners started (Ok ended) starts ends = all_kept runners started ended.items starts ends
+if_all_kept runners started (Err why) starts ends = tt
+
+-- a step of a runner, whether it fails or not, keeps the runner where it was
+pub steps_keep : {A : Type 0} (a b : Runner) (r : Result A Cause) → Steps a b r → KeepsRunner a b
+steps_keep a b (Ok x) goes = goes.keeps
+steps_keep a b (Err why) failed = failed.keeps

@@ -1,0 +1,5 @@
+use Rattle.dob_run.proofs.Finished.{finished_right}
+use Rattle.dob_run.proofs.laws.finished_is_right.Goals as goal
+
+pub returns : goal.returns
+returns c = λ set n runners openings values some openings_are finished shown. finished_right set n some runners finished openings values openings_are shown

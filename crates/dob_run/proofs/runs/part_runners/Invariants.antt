@@ -1,0 +1,10 @@
+use Rattle.std.proofs.Common.{◌≡◌, ◌++◌, map}
+use Rattle.std.specs.Vec.Iter.{into_iter_items}
+use Rattle.dob_run.specs.Manned.{mail_of, node_of}
+use Rattle.dob_run.proofs.runs.part_runners.Given as goal
+
+abbrev pub invariant-loop-runner : goal.invariant-loop-runner
+invariant-loop-runner l = record {
+  nodes_are : map node_of l.fn.runners.items ≡ l.nodes.items ++ map node_of (into_iter_items l.runner-iterator);
+  mails_are : map mail_of l.fn.runners.items ≡ l.mails.items ++ map mail_of (into_iter_items l.runner-iterator);
+}

@@ -1,0 +1,7 @@
+use Rattle.std.specs.Vec.Iter.{into_iter_items}
+use Rattle.dob_run.specs.Started.{IsEndOf}
+use Rattle.dob_run.proofs.Threaded.{AreGoing}
+use Rattle.dob_run.proofs.threads.end_all.Given as goal
+
+abbrev pub invariant-loop-one : goal.invariant-loop-one
+invariant-loop-one g l = AreGoing IsEndOf l.fn.started.items (into_iter_items l.one-iterator) l.ended.items

@@ -1,0 +1,12 @@
+use Rattle.std.proofs.Common.{◌≡◌, subst}
+use Rattle.dob_node.specs.declared.cause.Cause.TheVariants.{Memory}
+use Rattle.dob_run.specs.declared.runner.Runner.{Runner}
+use Rattle.dob_run.specs.Runners.{KeepsRunner}
+use Rattle.dob_run.proofs.Keeping.{failed_after}
+use Rattle.dob_run.proofs.threads.start.Goals as goal
+
+pub returns-in-Err : goal.returns-in-Err
+returns-in-Err g c =
+    let was : c.in-Err.refused.value.2 ≡ c.args.runner = λ i. (c.in-Err.ensures.err i).2 in
+    failed_after c.args.runner c.run-back.result c.give_up.new.self Memory (subst (λ (r : Runner). KeepsRunner r c.run-back.result) was c.run-back.ensures)
+    c.give_up.ensures

@@ -1,0 +1,50 @@
+-- A crew that has come to its end: nothing is left to do anywhere.
+use Rattle.std.specs.Prelude.{◌≡◌, ℕ, ◌<◌, ◌++◌, List, Some, None, false, length, slice_get, slice_index}
+use Rattle.dob_pieces.specs.declared.piece_set.PieceSet.{PieceSet}
+use Rattle.dob_rank.specs.Marks.{classes_of}
+use Rattle.dob_value.specs.declared.value.Value.{Value}
+use Rattle.dob_value.specs.Follows.{IsValueTable}
+use Rattle.dob_share.specs.declared.opening.Opening.{Opening}
+use Rattle.dob_share.specs.Owners.{owner_of}
+use Rattle.dob_share.specs.Shares.{HasValueNow}
+use Rattle.dob_update.specs.Batches.{BatchView}
+use Rattle.dob_node.specs.Openings.{AreOpenings}
+use Rattle.dob_chan.specs.Ends.{sent_by, taken_by}
+use Rattle.dob_run.specs.declared.hands.Outlet.{Outlet}
+use Rattle.dob_run.specs.declared.hands.Inlet.{Inlet}
+use Rattle.dob_run.specs.declared.runner.Runner.{Runner}
+
+-- the runner has not failed, and stands at that place of a crew of n for the piece set
+pub record IsRunnerOf (set : PieceSet) (n place : ℕ) (runner : Runner) : Type 0 where
+  pub seat : (runner.mail.seat.node ≡ place) × (runner.mail.seat.nodes ≡ n)
+  pub set_is : runner.set ≡ set
+  pub unfailed : runner.failed ≡ None
+
+-- the outlet of runner i for j and the inlet of j for i
+pub record AreJoinedBy (runners : List Runner) (i j : ℕ) (sender taker : Runner) (outlet : Outlet) (inlet : Inlet) : Type 0 where
+  pub sends : slice_get runners i ≡ Some sender
+  pub takes : slice_get runners j ≡ Some taker
+  pub out : slice_get sender.mail.outlets.items j ≡ Some outlet
+  pub into : slice_get taker.mail.inlets.items i ≡ Some inlet
+
+-- The crew of n has ended: no runner has failed, and each is white; on each link as many batches were posted as were taken,
+-- and what came out of its channel is the first of what went into it.
+pub record AreFinished (set : PieceSet) (n : ℕ) (runners : List Runner) : Type 0 where
+  pub count : length runners ≡ n
+  pub each : (i : ℕ) (runner : Runner) → slice_get runners i ≡ Some runner → IsRunnerOf set n i runner
+  pub white : (i : ℕ) (runner : Runner) → slice_get runners i ≡ Some runner → runner.mail.seat.black ≡ false
+  pub counts : (i j : ℕ) (sender taker : Runner) (outlet : Outlet) (inlet : Inlet) → AreJoinedBy runners i j sender taker outlet inlet →
+      slice_index sender.mail.seat.posted.items j ≡ slice_index taker.mail.seat.taken.items i
+  pub channels : (i j : ℕ) (sender taker : Runner) (outlet : Outlet) (inlet : Inlet) → AreJoinedBy runners i j sender taker outlet inlet →
+      (waiting : List BatchView) × (sent_by outlet.end ≡ taken_by inlet.end ++ waiting)
+
+-- each value is what the owner of its class shows
+pub record AreShown (set : PieceSet) (n : ℕ) (runners : List Runner) (values : List Value) : Type 0 where
+  pub whole : length values ≡ classes_of set
+  pub each : (class : ℕ) (value : Value) (runner : Runner) → slice_get values class ≡ Some value → slice_get runners (owner_of n class) ≡ Some runner →
+      HasValueNow runner.node.share class value
+
+-- what such a crew shows is the value table
+abbrev pub FinishedIsRight : Type 0
+FinishedIsRight = (set : PieceSet) (n : ℕ) (runners : List Runner) (openings : List Opening) (values : List Value) → 0 < n →
+    AreOpenings set openings → AreFinished set n runners → AreShown set n runners values → IsValueTable set values

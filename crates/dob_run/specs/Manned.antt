@@ -1,0 +1,26 @@
+-- The runners of a crew's mails.
+use Rattle.std.specs.Prelude.{◌≡◌, ℕ, List, None, Some, slice_get}
+use Rattle.dob_pieces.specs.declared.piece_set.PieceSet.{PieceSet}
+use Rattle.dob_node.specs.declared.node.Node.{Node}
+use Rattle.dob_run.specs.declared.mail.Mail.{Mail}
+use Rattle.dob_run.specs.declared.runner.Runner.{Runner}
+
+abbrev pub mail_of : Runner → Mail
+mail_of runner = runner.mail
+
+abbrev pub node_of : Runner → Node
+node_of runner = runner.node
+
+-- the runner works for that piece set, with batches of at most that size, and hasn't failed
+pub record IsRunnerFor (set : PieceSet) (size : ℕ) (runner : Runner) : Type 0 where
+  pub set_is : runner.set ≡ set
+  pub size_is : runner.size ≡ size
+  pub unfailed : runner.failed ≡ None
+
+-- so does each of them
+abbrev pub AreRunnersFor : PieceSet → ℕ → List Runner → Type 0
+AreRunnersFor set size runners = (k : ℕ) (runner : Runner) → slice_get runners k ≡ Some runner → IsRunnerFor set size runner
+
+-- it does, and has that mail
+abbrev pub IsRunnerOf : PieceSet → ℕ → Mail → Runner → Type 0
+IsRunnerOf set size mail runner = (runner.mail ≡ mail) × IsRunnerFor set size runner

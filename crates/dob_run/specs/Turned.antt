@@ -1,0 +1,105 @@
+-- What a crew leaves whose runners made some turns without the token.
+use Rattle.std.specs.Prelude.{◌≡◌, ◌≢◌, ⊤, ℕ, ◌+◌, ◌*◌, ◌<◌, ◌≤◌, List, ◌++◌, Option, Some, None, length, map, slice_get, slice_index}
+use Rattle.dob_pieces.specs.declared.piece_set.PieceSet.{PieceSet}
+use Rattle.dob_safra.specs.Laws.{IsSize}
+use Rattle.dob_update.specs.Batches.{BatchView}
+use Rattle.dob_board.specs.Words.{posted_word, taken_word, word_count}
+use Rattle.dob_board.specs.Seats.{AreWords}
+use Rattle.dob_chan.specs.declared.calls.Rejoined.{Rejoined}
+use Rattle.dob_chan.specs.Channels.{IsLawful}
+use Rattle.dob_node.specs.declared.node.Node.{Node}
+use Rattle.dob_node.specs.Nodes.{outbox_to}
+use Rattle.dob_run.specs.declared.fault.Fault.{Fault}
+use Rattle.dob_run.specs.declared.fault.Fault.TheVariants.{SetTooLarge, Nodes, Sizes, Stopped, Memory}
+use Rattle.dob_run.specs.declared.hands.Outlet.{Outlet}
+use Rattle.dob_run.specs.declared.hands.Inlet.{Inlet}
+use Rattle.dob_run.specs.declared.runner.Runner.{Runner}
+use Rattle.dob_run.specs.declared.runs.Worker.{Worker}
+use Rattle.dob_run.specs.declared.runs.Turned.{Turned}
+use Rattle.dob_run.specs.Closing.{AreLinked, seat_in, hands_out, hands_in}
+use Rattle.dob_run.specs.Ending.{IsJoined}
+use Rattle.dob_run.specs.Hands.{in_hand}
+use Rattle.dob_run.specs.Manned.{mail_of}
+use Rattle.dob_run.specs.Workers.{planned, items_in}
+
+-- The link from one worker's node to another's: what was sent is what was received and then what waits; the counts are those
+-- of the lists; the posted word counts what was sent and what lies in the sending hand, and the taken word what was received
+-- without what lies in the taking hand; and what the sender's node planned is, in order, what was sent, what lies in the
+-- hand, and what is left in the outbox, in batches of at most that size.
+pub record IsLink (n size : ℕ) (words : List ℕ) (i j : ℕ) (sender taker : Worker) (link : Rejoined) : Type 0 where
+  pub sent : List BatchView
+  pub received : List BatchView
+  pub sending : Option BatchView
+  pub taking : Option BatchView
+  pub sending_is : slice_get sender.sending.items j ≡ Some sending
+  pub taking_is : slice_get taker.taking.items i ≡ Some taking
+  pub sent_count : link.sent ≡ length sent
+  pub received_count : link.received ≡ length received
+  pub lawful : IsLawful sent received link.waiting.items
+  pub posted : slice_index words (posted_word n i j) ≡ link.sent + length (in_hand sending)
+  pub taken : slice_index words (taken_word n i j) + length (in_hand taking) ≡ link.received
+  pub planned_is : i ≢ j → planned sender.node j ≡ items_in (sent ++ in_hand sending) ++ (outbox_to sender.node j).items
+  pub small : i ≢ j → (k : ℕ) (batch : BatchView) → slice_get (sent ++ in_hand sending) k ≡ Some batch → length batch.items ≤ size
+
+-- n workers of the piece set, and a link from each to each
+pub record IsTurned (set : PieceSet) (n size : ℕ) (turned : Turned) : Type 0 where
+  pub count : length turned.workers.items ≡ n
+  pub words : length turned.closed.words.items ≡ word_count n
+  pub links_count : length turned.links.items ≡ n * n
+  pub nodes : (i : ℕ) (worker : Worker) → slice_get turned.workers.items i ≡ Some worker →
+      (worker.node.set ≡ set) × (worker.node.id ≡ i) × (worker.node.n ≡ n)
+  pub links : (i j : ℕ) (sender taker : Worker) → slice_get turned.workers.items i ≡ Some sender → slice_get turned.workers.items j ≡ Some taker →
+      (link : Rejoined) × (slice_get turned.links.items (i * n + j) ≡ Some link) × IsLink n size turned.closed.words.items i j sender taker link
+
+-- such a batch is one that nodes cut, and so many may wait in a channel
+abbrev pub AreSizes : ℕ → ℕ → Type 0
+AreSizes batch capacity = (0 < batch) × (batch ≤ 4096) × (0 < capacity) × (capacity ≤ 1024)
+
+-- the set has classes
+abbrev pub IsSmall : PieceSet → Type 0
+IsSmall set = set.chicks + set.elephants + set.giraffes ≤ 3
+
+-- a node has stopped, or memory is refused
+abbrev pub IsStop : ℕ → Fault → Type 0
+IsStop n (Stopped node why) = node < n
+IsStop n Memory = ⊤
+IsStop n SetTooLarge = ⊥
+IsStop n Nodes = ⊥
+IsStop n Sizes = ⊥
+
+-- Why a crew leaves nothing: the first of these that isn't so, or where all are a node has stopped or memory is refused.
+abbrev pub IsRefused : PieceSet → ℕ → ℕ → ℕ → Fault → Type 0
+IsRefused set n batch capacity SetTooLarge = ¬ IsSmall set
+IsRefused set n batch capacity Nodes = IsSmall set × (¬ IsSize n)
+IsRefused set n batch capacity Sizes = IsSmall set × IsSize n × (¬ AreSizes batch capacity)
+IsRefused set n batch capacity (Stopped node why) = IsSmall set × IsSize n × AreSizes batch capacity × (node < n)
+IsRefused set n batch capacity Memory = IsSmall set × IsSize n × AreSizes batch capacity
+
+-- no runner has failed
+abbrev pub AreUnfailed : List Runner → Type 0
+AreUnfailed runners = (k : ℕ) (runner : Runner) → slice_get runners k ≡ Some runner → runner.failed ≡ None
+
+-- the least node that has failed, and why
+abbrev pub IsFirstFailed : List Runner → Fault → Type 0
+IsFirstFailed runners (Stopped node why) = (runner : Runner) × (slice_get runners node ≡ Some runner) × (runner.failed ≡ Some why)
+    × ((k : ℕ) (other : Runner) → k < node → slice_get runners k ≡ Some other → other.failed ≡ None)
+IsFirstFailed runners SetTooLarge = ⊥
+IsFirstFailed runners Nodes = ⊥
+IsFirstFailed runners Sizes = ⊥
+IsFirstFailed runners Memory = ⊥
+
+-- The first workers have the nodes and the rows of hands that stand at their places.
+pub record AreWorkers (upto : ℕ) (nodes : List Node) (sending taking : List (List (Option BatchView))) (workers : List Worker) : Type 0 where
+  pub count : length workers ≡ upto
+  pub each : (k : ℕ) (worker : Worker) → slice_get workers k ≡ Some worker →
+      (slice_get nodes k ≡ Some worker.node) × (slice_get sending k ≡ Some worker.sending.items) × (slice_get taking k ≡ Some worker.taking.items)
+
+-- The workers of a crew's runners: each has its runner's node and hands; and the rest is what their mails leave.
+pub record HasLeft (n : ℕ) (runners : List Runner) (turned : Turned) : Type 0 where
+  pub count : length turned.workers.items ≡ length runners
+  pub workers : (k : ℕ) (worker : Worker) → slice_get turned.workers.items k ≡ Some worker → (runner : Runner) × (slice_get runners k ≡ Some runner)
+      × (worker.node ≡ runner.node) × (worker.sending.items ≡ hands_out runner.mail) × (worker.taking.items ≡ hands_in runner.mail)
+  pub words : AreWords n (map seat_in (map mail_of runners)) turned.closed.words.items
+  pub links_count : length turned.links.items ≡ n * n
+  pub links : (i j : ℕ) (outlet : Outlet) (inlet : Inlet) → AreLinked (map mail_of runners) i j outlet inlet →
+      (link : Rejoined) × (slice_get turned.links.items (i * n + j) ≡ Some link) × IsJoined outlet.end inlet.end link

@@ -1,0 +1,209 @@
+// A crew whose runners make a number of turns each, and what they leave.
+ghost use Rattle.std.specs.Prelude.{◌≡◌, ◌<◌, ◌≤◌, IfOk, IfErr, OnOk, map, length, Some, slice_get};
+ghost use Rattle.dob_safra.specs.Laws.{IsSize};
+ghost use Rattle.dob_run.specs.Closing.{IsCrew, row_of};
+ghost use Rattle.dob_run.specs.Manned.{mail_of, node_of};
+ghost use Rattle.dob_run.specs.Turned.{IsTurned, IsRefused, IsStop, AreUnfailed, IsFirstFailed, AreWorkers, HasLeft};
+
+use crate::closing::{Ended, close_mails};
+use crate::crew::crew;
+use crate::fault::Fault;
+use crate::gate::Gate;
+use crate::mail::Mail;
+use crate::runner::Runner;
+use crate::threads::run_each;
+use dob_board::{Board, Closed};
+use dob_chan::Rejoined;
+use dob_node::{Cause, Node};
+use dob_pieces::{Memory, PieceSet};
+use dob_rank::Classes;
+use dob_update::Batch;
+use std::alloc::Global;
+use std::sync::Wait;
+use std::thread::Threads;
+
+/// What a node's worker leaves: the node, and what lies in its hands, one place a node.
+#[derive(Drop)]
+pub struct Worker {
+    pub node: Node,
+    pub sending: Vec<Option<Batch>>,
+    pub taking: Vec<Option<Batch>>,
+}
+
+/// What a crew leaves: the worker of each node, the words of the board, and what went over each link, by sender and then by
+/// receiver.
+#[derive(Drop)]
+pub struct Turned {
+    pub workers: Vec<Worker>,
+    pub closed: Closed,
+    pub links: Vec<Rejoined>,
+}
+
+/// Lets each of `n` nodes of the piece set make `turns` turns, in a thread of its own, with batches of at most `batch` items
+/// and channels that hold at most `capacity` batches, and without the halt word and the token: each asks the gate at the
+/// start of each turn. One that fails ends, and the others make their turns. Its promises hold if it returns.
+///
+/// Errors, tested in this order: `SetTooLarge` where the set has more than three pieces besides the lions; `Nodes` where `n`
+/// isn't 1 to 16; `Sizes` where `batch` isn't 1 to 4096 or `capacity` not 1 to 1024; `Stopped` with the least node that
+/// failed and its cause, which is `Memory` where no thread could be made for it; `Memory`.
+pub fn run_turns<R: Threads + Wait + Sync, G: Gate + Sync>(
+    rt: &R,
+    alloc: Global,
+    set: PieceSet,
+    n: usize,
+    batch: usize,
+    capacity: usize,
+    turns: u64,
+    gate: &G,
+) -> Result<Turned, Fault>
+    ensures turned { IfOk result (IsTurned set n batch) }
+    ensures refused { IfErr result (IsRefused set n batch capacity) }
+{
+    if set.chicks + set.elephants + set.giraffes > 3 {
+        return Err(Fault::SetTooLarge);
+    }
+    if n < 1 || n > 16 {
+        return Err(Fault::Nodes);
+    }
+    if batch < 1 || batch > 4096 || capacity < 1 || capacity > 1024 {
+        return Err(Fault::Sizes);
+    }
+    let Ok(classes) = Classes::open(alloc, set) else {
+        return Err(Fault::Memory);
+    };
+    turn_crew(rt, alloc, &classes, n, batch, capacity, turns, gate)
+}
+
+// A crew's turns, from its beginning to its end.
+fn turn_crew<R: Threads + Wait + Sync, G: Gate + Sync>(
+    rt: &R,
+    alloc: Global,
+    classes: &Classes,
+    n: usize,
+    batch: usize,
+    capacity: usize,
+    turns: u64,
+    gate: &G,
+) -> Result<Turned, Fault>
+    requires size { IsSize n }
+    requires some { 0 < batch }
+    requires at_most { batch ≤ 4096 }
+    requires room { 0 < capacity }
+    ensures turned { IfOk result (IsTurned classes.now.set n batch) }
+    ensures stopped { IfErr result (IsStop n) }
+{
+    let (board, runners) = crew(alloc, classes, n, batch, capacity)?;
+    let ended = run_each(rt, alloc, runners, classes, gate, turns)?;
+    find_failed(&ended)?;
+    let turned = close_crew(rt, alloc, board, ended)?;
+    Ok(turned)
+}
+
+// Refuses runners of which one has failed, with the least of them.
+fn find_failed(runners: &[Runner]) -> Result<(), Fault>
+    ensures going { OnOk result (AreUnfailed runners.now) }
+    ensures first { IfErr result (IsFirstFailed runners.now) }
+{
+    for node in 0..runners.len() {
+        if let Some(cause) = failure_at(runners, node) {
+            return Err(Fault::Stopped { node, cause });
+        }
+    }
+    Ok(())
+}
+
+// Why the runner at that place has failed, if it has.
+fn failure_at(runners: &[Runner], place: usize) -> Option<Cause>
+    requires { place < length runners.now }
+    ensures { (runner : Runner) → slice_get runners.now place ≡ Some runner → result ≡ runner.failed }
+{
+    runners[place].failure()
+}
+
+// Closes the crew of these runners.
+fn close_crew<R: Wait>(
+    rt: &R,
+    alloc: Global,
+    board: Board,
+    runners: Vec<Runner>,
+) -> Result<Turned, Memory>
+    requires { IsCrew board (map mail_of runners.items) }
+    ensures { IfOk result (HasLeft board.nodes runners.items) }
+{
+    let (nodes, mails) = part_runners(alloc, runners)?;
+    let Ended {
+        closed,
+        links,
+        sending,
+        taking,
+    } = close_mails(rt, alloc, board, mails)?;
+    let workers = workers_of(alloc, nodes, sending, taking)?;
+    Ok(Turned {
+        workers,
+        closed,
+        links,
+    })
+}
+
+// The node and the mail of each runner.
+fn part_runners(alloc: Global, runners: Vec<Runner>) -> Result<(Vec<Node>, Vec<Mail>), Memory>
+    ensures nodes { IfOk result (λ parts. parts.0.items ≡ map node_of runners.items) }
+    ensures mails { IfOk result (λ parts. parts.1.items ≡ map mail_of runners.items) }
+{
+    let mut nodes = Vec::with_capacity(alloc, runners.len())?;
+    let mut mails = Vec::with_capacity(alloc, runners.len())?;
+    for runner in runners {
+        let (node, mail) = runner.parts();
+        nodes.push(node)?;
+        mails.push(mail)?;
+    }
+    Ok((nodes, mails))
+}
+
+// Each node with its hands.
+fn workers_of(
+    alloc: Global,
+    nodes: Vec<Node>,
+    sending: Vec<Vec<Option<Batch>>>,
+    taking: Vec<Vec<Option<Batch>>>,
+) -> Result<Vec<Worker>, Memory>
+    requires sending { length sending.items ≡ length nodes.items }
+    requires taking { length taking.items ≡ length nodes.items }
+    ensures { IfOk result (λ workers. AreWorkers (length nodes.items) nodes.items (map row_of sending.items) (map row_of taking.items) workers.items) }
+{
+    let mut workers = Vec::with_capacity(alloc, nodes.len())?;
+    let mut sending_left = sending.into_iter();
+    let mut taking_left = taking.into_iter();
+    for node in nodes {
+        let Some(out) = sending_left.next() else {
+            unreachable!()
+        };
+        let Some(into) = taking_left.next() else {
+            unreachable!()
+        };
+        workers.push(Worker {
+            node,
+            sending: out,
+            taking: into,
+        })?;
+    }
+    Ok(workers)
+}
+
+impl Runner {
+    // Why it has failed, if it has.
+    fn failure(&self) -> Option<Cause>
+        ensures { result ≡ self.now.failed }
+    {
+        self.failed
+    }
+
+    // The node and the mail.
+    fn parts(self) -> (Node, Mail)
+        ensures node { result.0 ≡ self.node }
+        ensures mail { result.1 ≡ self.mail }
+    {
+        let Runner { node, mail, .. } = self;
+        (node, mail)
+    }
+}

@@ -1,0 +1,159 @@
+// A thread for each runner of a crew.
+ghost use Rattle.std.specs.Prelude.{◌≡◌, IfOk};
+ghost use Rattle.std.specs.List.{AllZip};
+ghost use Rattle.dob_run.specs.Runners.{KeepsRunner};
+ghost use Rattle.dob_run.specs.Turns.{Suits, AllSuit};
+ghost use Rattle.dob_run.specs.Started.{IsStartOf, IsEndOf};
+
+use crate::gate::Gate;
+use crate::runner::Runner;
+use dob_node::Cause;
+use dob_pieces::Memory;
+use dob_rank::Classes;
+use std::alloc::Global;
+use std::snapshot::Snapshot;
+use std::sync::Wait;
+use std::sync::atomic::{AtomicUsize, Ordering};
+use std::thread;
+use std::thread::{Promise, PromisedHandle, Scope, Threads};
+
+// What the thread of a runner promises.
+#[derive(Drop)]
+pub(crate) struct Kept {
+    was: Snapshot<Runner>,
+}
+
+impl Promise<Runner> for Kept {
+    ghost kept_by = { λ p r. KeepsRunner p.was.value r };
+}
+
+// A runner whose thread runs, or one that gave up.
+#[derive(Drop)]
+pub(crate) enum Started {
+    Runs(PromisedHandle<Runner, Kept>),
+    GaveUp(Runner),
+}
+
+/// Lets each runner make so many turns, in a thread of its own, and waits for all of them. What became of each, in order.
+/// One for which no thread can be made makes no turn and fails for want of memory; the others make theirs. Its promises
+/// hold if it returns.
+///
+/// Error: `Memory`, which gives the runners up.
+pub(crate) fn run_each<R: Threads + Wait + Sync, G: Gate + Sync>(
+    rt: &R,
+    alloc: Global,
+    runners: Vec<Runner>,
+    classes: &Classes,
+    gate: &G,
+    turns: u64,
+) -> Result<Vec<Runner>, Memory>
+    requires { AllSuit classes.now.set runners.items }
+    ensures { IfOk result (λ ended. AllZip KeepsRunner runners.items ended.items) }
+{
+    let unstarted = AtomicUsize::new(usize::MAX);
+    let unstarted = &unstarted;
+    thread::scope(
+        thread::scope_env(),
+        rt,
+        |scope| -> Result<Vec<Runner>, Memory>
+            requires { AllSuit classes.now.set runners.items }
+            ensures { IfOk result (λ ended. AllZip KeepsRunner runners.items ended.items) }
+        {
+            let started = start_all(rt, alloc, scope, runners, classes, gate, turns, unstarted)?;
+            end_all(rt, alloc, started)
+        },
+    )
+}
+
+// Starts the thread of each runner.
+fn start_all<'s, E, R: Threads + Wait + Sync, G: Gate + Sync>(
+    rt: &'s R,
+    alloc: Global,
+    scope: &Scope<'s, E>,
+    runners: Vec<Runner>,
+    classes: &'s Classes,
+    gate: &'s G,
+    turns: u64,
+    unstarted: &'s AtomicUsize,
+) -> Result<Vec<Started>, Memory>
+    requires { AllSuit classes.now.set runners.items }
+    ensures { IfOk result (λ started. AllZip IsStartOf runners.items started.items) }
+{
+    let mut started = Vec::with_capacity(alloc, runners.len())?;
+    for runner in runners {
+        started.push(start(rt, scope, runner, classes, gate, turns, unstarted))?;
+    }
+    Ok(started)
+}
+
+// Starts the thread of a runner. Where none can be made its node is noted first, so that it makes no turn here; and it fails.
+fn start<'s, E, R: Threads + Wait + Sync, G: Gate + Sync>(
+    rt: &'s R,
+    scope: &Scope<'s, E>,
+    runner: Runner,
+    classes: &'s Classes,
+    gate: &'s G,
+    turns: u64,
+    unstarted: &'s AtomicUsize,
+) -> Started
+    requires { Suits classes.now.set runner }
+    ensures { IsStartOf runner result }
+{
+    let node = runner.mail.seat.node;
+    let promise = Kept {
+        was: Snapshot::of(&runner),
+    };
+    let run = move || -> Runner
+        requires { Suits classes.now.set runner }
+        ensures { KeepsRunner runner result }
+    { go_unless(unstarted, rt, runner, classes, gate, turns) };
+    match scope.spawn_with(promise, run) {
+        Ok(handle) => Started::Runs(handle),
+        Err(refused) => {
+            unstarted.store(node, Ordering::SeqCst);
+            let mut back = (refused.value)();
+            back.give_up(Cause::Memory);
+            Started::GaveUp(back)
+        }
+    }
+}
+
+// Makes the turns, unless it is the runner's node that was noted.
+fn go_unless<R: Wait, G: Gate>(
+    unstarted: &AtomicUsize,
+    rt: &R,
+    mut runner: Runner,
+    classes: &Classes,
+    gate: &G,
+    turns: u64,
+) -> Runner
+    requires { Suits classes.now.set runner }
+    ensures { KeepsRunner runner result }
+{
+    if unstarted.load(Ordering::SeqCst) == runner.mail.seat.node {
+        return runner;
+    }
+    runner.go(rt, classes, gate, turns);
+    runner
+}
+
+// Waits for the thread of each runner.
+fn end_all<R: Threads>(rt: &R, alloc: Global, started: Vec<Started>) -> Result<Vec<Runner>, Memory>
+    ensures { IfOk result (λ ended. AllZip IsEndOf started.items ended.items) }
+{
+    let mut ended = Vec::with_capacity(alloc, started.len())?;
+    for one in started {
+        ended.push(end(rt, one))?;
+    }
+    Ok(ended)
+}
+
+// Waits for the thread of a runner.
+fn end<R: Threads>(rt: &R, started: Started) -> Runner
+    ensures { IsEndOf started result }
+{
+    match started {
+        Started::Runs(handle) => handle.join(rt),
+        Started::GaveUp(runner) => runner,
+    }
+}
