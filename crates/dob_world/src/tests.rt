@@ -2,6 +2,7 @@
 ghost use Rattle.std.specs.Prelude.{◌≡◌, None};
 ghost use Rattle.dob_world.specs.Shown.{IsStanding, IsKept};
 
+mod ring;
 mod schedules;
 
 use crate::{Event, Fault, Step, World, run};
