@@ -33,7 +33,8 @@ use Rattle.dob_run.specs.Hands.{in_hand, worked_of}
 use Rattle.dob_run.specs.Links.{offered}
 use Rattle.dob_run.specs.Manned.{mail_of, node_of, AreRunnersFor}
 use Rattle.dob_run.specs.Runners.{KeepsRunner}
-use Rattle.dob_run.specs.Turned.{IsLink, IsTurned, AreSizes, IsSmall, IsStop, IsRefused, AreUnfailed, IsFirstFailed, AreWorkers, HasLeft}
+use Rattle.dob_rank.specs.Limits.{IsSmall}
+use Rattle.dob_run.specs.Turned.{IsLink, IsTurned, AreSizes, IsStop, IsRefused, AreUnfailed, IsFirstFailed, AreWorkers, HasLeft}
 use Rattle.dob_run.specs.Workers.{planned, items_in, SendsRight, IsLawful}
 use Rattle.dob_run.proofs.Manned.{zip_at, zip_long}
 use Rattle.dob_run.proofs.Places.{at_end, inside, one_thing, next_is, then_left, all_gone}

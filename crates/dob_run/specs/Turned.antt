@@ -1,6 +1,7 @@
 -- What a crew leaves whose runners made some turns without the token.
 use Rattle.std.specs.Prelude.{◌≡◌, ◌≢◌, ⊤, ℕ, ◌+◌, ◌*◌, ◌<◌, ◌≤◌, List, ◌++◌, Option, Some, None, length, map, slice_get, slice_index}
 use Rattle.dob_pieces.specs.declared.piece_set.PieceSet.{PieceSet}
+use Rattle.dob_rank.specs.Limits.{IsSmall}
 use Rattle.dob_safra.specs.Laws.{IsSize}
 use Rattle.dob_update.specs.Batches.{BatchView}
 use Rattle.dob_board.specs.Words.{posted_word, taken_word, word_count}
@@ -54,10 +55,6 @@ pub record IsTurned (set : PieceSet) (n size : ℕ) (turned : Turned) : Type 0 w
 -- such a batch is one that nodes cut, and so many may wait in a channel
 abbrev pub AreSizes : ℕ → ℕ → Type 0
 AreSizes batch capacity = (0 < batch) × (batch ≤ 4096) × (0 < capacity) × (capacity ≤ 1024)
-
--- the set has classes
-abbrev pub IsSmall : PieceSet → Type 0
-IsSmall set = set.chicks + set.elephants + set.giraffes ≤ 3
 
 -- a node has stopped, or memory is refused
 abbrev pub IsStop : ℕ → Fault → Type 0

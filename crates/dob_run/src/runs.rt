@@ -16,7 +16,7 @@ use dob_board::{Board, Closed};
 use dob_chan::Rejoined;
 use dob_node::{Cause, Node};
 use dob_pieces::{Memory, PieceSet};
-use dob_rank::Classes;
+use dob_rank::{Classes, MOST_PIECES};
 use dob_update::Batch;
 use std::alloc::Global;
 use std::sync::Wait;
@@ -43,7 +43,7 @@ pub struct Turned {
 /// and channels that hold at most `capacity` batches, and without the halt word and the token: each asks the gate at the
 /// start of each turn. One that fails ends, and the others make their turns. Its promises hold if it returns.
 ///
-/// Errors, tested in this order: `SetTooLarge` where the set has more than three pieces besides the lions; `Nodes` where `n`
+/// Errors, tested in this order: `SetTooLarge` where the set has more than `MOST_PIECES` besides the lions; `Nodes` where `n`
 /// isn't 1 to 16; `Sizes` where `batch` isn't 1 to 4096 or `capacity` not 1 to 1024; `Stopped` with the least node that
 /// failed and its cause, which is `Memory` where no thread could be made for it; `Memory`.
 pub fn run_turns<R: Threads + Wait + Sync, G: Gate + Sync>(
@@ -59,7 +59,7 @@ pub fn run_turns<R: Threads + Wait + Sync, G: Gate + Sync>(
     ensures turned { IfOk result (IsTurned set n batch) }
     ensures refused { IfErr result (IsRefused set n batch capacity) }
 {
-    if set.chicks + set.elephants + set.giraffes > 3 {
+    if set.chicks + set.elephants + set.giraffes > MOST_PIECES {
         return Err(Fault::SetTooLarge);
     }
     if n < 1 || n > 16 {

@@ -245,7 +245,7 @@ fn sixteen_nodes_improve_values(rt: HostRuntime) -> Result<(), Fail> {
 fn schedules_of_lions_alone(rt: HostRuntime) -> Result<(), Fail> {
     let set = PieceSet::read("000").expect(&rt, "a set");
     let improved = try_schedules(&rt, rt.alloc(), set, 900, 400)?;
-    println!(rt; "improved {improved}")?;
+    assert_eq!(rt; improved, 0);
     Ok(())
 }
 
@@ -254,7 +254,6 @@ fn schedules_with_a_chick(rt: HostRuntime) -> Result<(), Fail> {
     let set = PieceSet::read("100").expect(&rt, "a set");
     let improved = try_schedules(&rt, rt.alloc(), set, 60, 20_000)?;
     assert!(rt; improved > 0);
-    println!(rt; "improved {improved}")?;
     Ok(())
 }
 
@@ -262,6 +261,6 @@ fn schedules_with_a_chick(rt: HostRuntime) -> Result<(), Fail> {
 fn schedules_with_a_giraffe(rt: HostRuntime) -> Result<(), Fail> {
     let set = PieceSet::read("001").expect(&rt, "a set");
     let improved = try_schedules(&rt, rt.alloc(), set, 60, 10_000)?;
-    println!(rt; "improved {improved}")?;
+    assert!(rt; improved > 0);
     Ok(())
 }
