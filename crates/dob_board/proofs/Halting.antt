@@ -79,6 +79,14 @@ pub record Finding (n i id : ℕ) (words : List ℕ) (views : List View) (log : 
   pub stays : stand.halt ≢ 0 → word ≡ stand.halt
   pub heard : Hears n i (finds stand word) told log (HasHalt word)
 
+-- the halt word is this node's failure only where it knew that
+abbrev pub IsKnown : ℕ → Stand → ℕ → Type 0
+IsKnown i stand word = word ≡ 2 + i → stand.halt ≡ 2 + i
+
+pub knew_own : (n i id : ℕ) (words : List ℕ) (views : List View) (stand : Stand) (told : List RingEvent) (held : IsHeld n words views) →
+    get_elem? views id ≡ some (one n i stand told) → IsKnown i stand (slice_index words 2)
+knew_own n i id words views stand told held at = (own_node n i id words views stand told held at).is_stand.failed
+
 -- a look
 pub looks_at_halt : (n i id : ℕ) (words : List ℕ) (views : List View) (stand : Stand) (told : List RingEvent) (held : IsHeld n words views) →
     get_elem? views id ≡ some (one n i stand told) → Finding n i id words views held.log stand told words (slice_index words 2)
@@ -284,8 +292,8 @@ halts_allows n i id slots stand told s held len at small =
       subst (λ (ws : List ℕ). IsHeld n ws (slice_set s.views id (one n i (finds stand found) log))) (sym (set_same s.words 2)) made.held,
       λ stand' place stands.
           subst (λ (p : Stand). ((seated n i (finds stand found) log ≡ seated n i (finds p found) log) × (found < 2 + n) × (p.halt ≢ 0 → found ≡ p.halt))
-          × Hears n i (finds p found) told log (HasHalt found))
-          (same_stand stand stand' stands) ((refl, made.within, made.stays), made.heard),
+          × IsKnown i p found × Hears n i (finds p found) told log (HasHalt found))
+          (same_stand stand stand' stands) ((refl, made.within, made.stays), knew_own n i id s.words s.views stand told held at, made.heard),
     )
 
 pub halts_call : (key n i id slots : ℕ) (me : Seated) (stand : Stand) (told : List RingEvent) → key ≡ n → me ≡ seated n i stand told →
@@ -296,7 +304,7 @@ halts_call key n i id slots me stand told key_is me_is =
 
 pub halts_tell : (n i found : ℕ) (me after : Seated) (stand : Stand) (told : List RingEvent) → me ≡ seated n i stand told →
     Halted (step 0 2 0 0 none) me found after →
-    Found (seated n i stand told) stand found after × Hears n i (finds stand found) told after.0.told (HasHalt found)
+    Found (seated n i stand told) stand found after × IsKnown i stand found × Hears n i (finds stand found) told after.0.told (HasHalt found)
 halts_tell n i found me after stand told me_is tells =
     (subst (λ (p : Seated). Halted (step 0 2 0 0 none) p found after) me_is tells) stand refl refl
 
@@ -362,9 +370,10 @@ announces_allows n i id slots stand told may s held len at small =
             subst (λ (w : ℕ). IsHeld n (set s.words 2 w) (slice_set s.views id (one n i (finds stand 1) log))) (sym (exchanged found 1 ∙ word_is)) made.0,
             λ stand' place stands.
                 subst (λ (p : Stand). ((seated n i (finds stand 1) log ≡ seated n i (finds p word) log) × (word < 2 + n) × (p.halt ≢ 0 → word ≡ p.halt))
-                × (found ≡ 0 → Makes n i Announce p (finds p 1) told log) × (found ≢ 0 → Hears n i (finds p found) told log (HasHalt found)))
+                × IsKnown i p word × (found ≡ 0 → Makes n i Announce p (finds p 1) told log) × (found ≢ 0 → Hears n i (finds p found) told log (HasHalt found)))
                 (same_stand stand stand' stands) (
                   (ap (λ (v : View). (v, [])) view_is, omega (arith, word_is, held.size.0), (λ ne. word_is ∙ made.1 ne)),
+                  (λ e. absurd (omega (arith, e, word_is))),
                   (λ e. made.2),
                   (λ ne. absurd (ne running)),
                 ),
@@ -380,9 +389,10 @@ announces_allows n i id slots stand told may s held len at small =
                 (sym (ap (set s.words 2) (exchanged found 1 ∙ word_is) ∙ set_same s.words 2)) made.held,
             λ stand' place stands.
                 subst (λ (p : Stand). ((seated n i (finds stand found) log ≡ seated n i (finds p word) log) × (word < 2 + n) × (p.halt ≢ 0 → word ≡ p.halt))
-                × (found ≡ 0 → Makes n i Announce p (finds p 1) told log) × (found ≢ 0 → Hears n i (finds p found) told log (HasHalt found)))
+                × IsKnown i p word × (found ≡ 0 → Makes n i Announce p (finds p 1) told log) × (found ≢ 0 → Hears n i (finds p found) told log (HasHalt found)))
                 (same_stand stand stand' stands) (
                   (ap (λ (v : View). (v, [])) view_is, omega (arith, word_is, made.within), (λ ne. word_is ∙ made.stays ne)),
+                  (λ e. knew_own n i id s.words s.views stand told held at (sym word_is ∙ e)),
                   (λ e. absurd (stopped e)),
                   (λ ne. made.heard),
                 ),
@@ -397,7 +407,7 @@ announces_call key n i id slots me stand told key_is me_is may =
 
 pub announces_tell : (n i found : ℕ) (me after : Seated) (stand : Stand) (told : List RingEvent) → me ≡ seated n i stand told →
     Announced (step 0 2 0 1 none) me found after →
-    Found (seated n i stand told) stand (halt_after found 1) after × (found ≡ 0 → Makes n i Announce stand (finds stand 1) told after.0.told)
+    Found (seated n i stand told) stand (halt_after found 1) after × IsKnown i stand (halt_after found 1) × (found ≡ 0 → Makes n i Announce stand (finds stand 1) told after.0.told)
     × (found ≢ 0 → Hears n i (finds stand found) told after.0.told (HasHalt found))
 announces_tell n i found me after stand told me_is tells =
     (subst (λ (p : Seated). Announced (step 0 2 0 1 none) p found after) me_is tells) stand refl refl
@@ -418,6 +428,21 @@ found_done n i word posted taken seen black token old new told after found new_i
   within = omega (arith, found.1, new_is);
   stays = λ stopped. same_halt new old (new_is ∙ found.2 (runs_on old stopped));
 }
+
+-- what the seat knew of its own failure
+pub knew_done : (i word : ℕ) (posted taken seen : List ℕ) (black : Bool) (token : Option Token) (old new : Halt) →
+    IsKnown i (stand_from posted taken seen black token old) word → halt_word new ≡ word → new ≡ Failed i → old ≡ new
+knew_done i word posted taken seen black token old new knew new_is own =
+    let mark : halt_word new ≡ 2 + i = ap halt_word own in
+    same_halt old new (knew (sym new_is ∙ mark) ∙ sym mark)
+
+-- what a black node hears isn't that the end was announced
+pub black_hears : (n i : ℕ) (stand : Stand) (told now : List RingEvent) (halt : Halt) → i < n → Hears n i stand told now (HasHalt (halt_word halt)) →
+    stand.black ≡ true → halt ≢ Ended
+black_hears n i stand told now halt within heard black ended =
+    let announced : heard.ring.announced ≡ true = heard.is_so ∙ ap (λ (h : Halt). eqb (halt_word h) 1) ended in
+    let white : heard.ring.black i ≡ false = heard.is_lawful.all_white announced i within in
+    let is : heard.ring.black i ≡ true = sym heard.shows.colour ∙ black in cc
 
 -- what was heard with the word was heard with its halt
 pub heard_halt : (n i word : ℕ) (posted taken seen : List ℕ) (black : Bool) (token : Option Token) (old new : Halt) (told now : List RingEvent) →

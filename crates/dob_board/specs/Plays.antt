@@ -49,10 +49,14 @@ module _ {S : Type 0} where
   Found me stand word after = (after ≡ (one me.0.size me.0.from (finds stand word) after.0.told, me.1))
       × (word < 2 + me.0.size) × (stand.halt ≢ 0 → word ≡ stand.halt)
 
+  -- the halt word is that of this node's failure only where the node knew that
+  abbrev pub Knew : Me S View → Stand → ℕ → Type 0
+  Knew me stand word = word ≡ 2 + me.0.from → stand.halt ≡ 2 + me.0.from
+
   -- a load of the halt word
   abbrev pub Halted : Step S → Me S View → ℕ → Me S View → Type 0
   Halted st me found after = (stand : Stand) → st.word ≡ 2 → me.0.stands ≡ stand ∷ [] →
-      Found me stand found after × Hears me.0.size me.0.from (finds stand found) me.0.told after.0.told (HasHalt found)
+      Found me stand found after × Knew me stand found × Hears me.0.size me.0.from (finds stand found) me.0.told after.0.told (HasHalt found)
 
   -- an exchange of the halt word from 0 to that of this node's failure
   abbrev pub FailedRun : Step S → Me S View → ℕ → Me S View → Type 0
@@ -63,7 +67,7 @@ module _ {S : Type 0} where
   -- an exchange of the halt word from 0 to 1
   abbrev pub Announced : Step S → Me S View → ℕ → Me S View → Type 0
   Announced st me found after = (stand : Stand) → st.word ≡ 2 → me.0.stands ≡ stand ∷ [] →
-      Found me stand (halt_after found 1) after
+      Found me stand (halt_after found 1) after × Knew me stand (halt_after found 1)
       × (found ≡ 0 → Makes me.0.size me.0.from Announce stand (finds stand 1) me.0.told after.0.told)
       × (found ≢ 0 → Hears me.0.size me.0.from (finds stand found) me.0.told after.0.told (HasHalt found))
 

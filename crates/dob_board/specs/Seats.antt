@@ -68,6 +68,10 @@ pub record Finds (old new : NodeSeat) (halt : Halt) : Type 0 where
   pub within : halt_word halt < 2 + old.nodes
   pub stays : old.halt ≢ Running → halt ≡ old.halt
 
+-- The seat finds that its own node failed only where it knew that.
+abbrev pub KnewOwn : NodeSeat → Halt → Type 0
+KnewOwn old halt = halt ≡ Failed old.node → old.halt ≡ halt
+
 -- The seat was told of all events so far, and whether they announced the end.
 abbrev pub HearsHalt : NodeSeat → NodeSeat → Halt → Type 0
 HearsHalt old new halt = Hears old.nodes old.node (stand_of new) (told_of old) (told_of new) (HasHalt (halt_word halt))

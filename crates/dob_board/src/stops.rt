@@ -1,8 +1,8 @@
 // How a seat finds out that the run ended or failed, and says so.
-ghost use Rattle.std.specs.Prelude.{◌≡◌, ◌≢◌};
-ghost use Rattle.dob_board.specs.declared.halt.Halt.TheVariants.{Running};
+ghost use Rattle.std.specs.Prelude.{◌≡◌, ◌≢◌, true};
+ghost use Rattle.dob_board.specs.declared.halt.Halt.TheVariants.{Running, Ended};
 ghost use Rattle.dob_board.specs.Words.{halt_word, halt_after};
-ghost use Rattle.dob_board.specs.Seats.{stand_of, IsSameSeat, MayEnd, Finds, HearsHalt, HasAnnounced};
+ghost use Rattle.dob_board.specs.Seats.{stand_of, IsSameSeat, MayEnd, Finds, KnewOwn, HearsHalt, HasAnnounced};
 
 use crate::rule::{Announces, Fails, Halts};
 use crate::{Halt, NodeSeat};
@@ -35,11 +35,14 @@ fn halt_after(found: u64, mark: u64) -> u64
 }
 
 impl NodeSeat {
-    /// Whether the run goes on. Once a seat found that it doesn't, it finds the same for ever.
+    /// Whether the run goes on. Once a seat found that it doesn't, it finds the same for ever. It finds a failure of its own
+    /// node only after it said so itself, and an end only while it is white.
     pub fn halted(&mut self) -> Halt
         ensures found { Finds self.old self.new result }
         ensures same { IsSameSeat self.old self.new }
         ensures heard { HearsHalt self.old self.new result }
+        ensures own { KnewOwn self.old result }
+        ensures black { self.old.black ≡ true → result ≢ Ended }
     {
         let word = self.board.shared.load::<Halts>(&mut self.seat, HALT);
         self.halt = halt_of(word);
@@ -47,13 +50,14 @@ impl NodeSeat {
     }
 
     /// Announces the end, which the node may do by the token that it saw, its counter and its colour. The answer is Ended, or
-    /// the failure of a node that came before.
+    /// the failure of a node that came before, of its own only where it said so itself.
     pub fn announce(&mut self) -> Halt
         requires { MayEnd (stand_of self.old) }
         ensures found { Finds self.old self.new result }
         ensures stopped { result ≢ Running }
         ensures same { IsSameSeat self.old self.new }
         ensures event { HasAnnounced self.old self.new result }
+        ensures own { KnewOwn self.old result }
     {
         let found = self
             .board
@@ -63,13 +67,14 @@ impl NodeSeat {
         self.halt
     }
 
-    /// Says that this node failed the run. The answer is its failure, or the end or the failure of another node that came
-    /// before.
+    /// Says that this node failed the run. The answer is its failure, or the failure of another node that came before, or, if
+    /// the node is white, the end.
     pub fn fail(&mut self) -> Halt
         ensures found { Finds self.old self.new result }
         ensures stopped { result ≢ Running }
         ensures same { IsSameSeat self.old self.new }
         ensures heard { HearsHalt self.old self.new result }
+        ensures black { self.old.black ≡ true → result ≢ Ended }
     {
         let mark = FAILED + self.node as u64;
         let found = self

@@ -1,6 +1,6 @@
 use Rattle.std.proofs.Common.{rules, refl, arith, ◌∙◌}
 use Rattle.dob_board.specs.Views.{stand_from}
-use Rattle.dob_board.proofs.Halting.{announces_call, announces_tell, found_done, announced_done}
+use Rattle.dob_board.proofs.Halting.{announces_call, announces_tell, found_done, knew_done, announced_done}
 use Rattle.dob_board.proofs.seat.NodeSeat.announce.Goals as goal
 
 pub compare_exchange-found-requires : goal.compare_exchange-found-requires
@@ -55,4 +55,13 @@ returns-clause-event c =
     c.compare_exchange-found.ensures.2 in
     announced_done seat.nodes seat.node c.compare_exchange-found.result seat.posted.items seat.taken.items seat.seen.items seat.black seat.token seat.halt
     c.halt_of-self.result
-    seat.seat.me.0.told c.compare_exchange-found.new.seat.me.0.told told.1 told.2 (c.halt_of-self.ensures ∙ c.halt_after.ensures)
+    seat.seat.me.0.told c.compare_exchange-found.new.seat.me.0.told told.2 told.3 (c.halt_of-self.ensures ∙ c.halt_after.ensures)
+
+pub returns-clause-own : goal.returns-clause-own
+returns-clause-own c =
+    let seat = c.args.self.now in
+    let told = announces_tell seat.nodes seat.node c.compare_exchange-found.result seat.seat.me c.compare_exchange-found.new.seat.me
+    (stand_from seat.posted.items seat.taken.items seat.seen.items seat.black seat.token seat.halt) seat.seat.me.0.told seat.view_is
+    c.compare_exchange-found.ensures.2 in
+    knew_done seat.node _ seat.posted.items seat.taken.items seat.seen.items seat.black seat.token seat.halt c.halt_of-self.result
+    told.1 (c.halt_of-self.ensures ∙ c.halt_after.ensures)

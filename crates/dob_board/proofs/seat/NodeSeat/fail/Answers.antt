@@ -1,6 +1,6 @@
 use Rattle.std.proofs.Common.{rules, refl, arith, ◌∙◌}
 use Rattle.dob_board.specs.Views.{stand_from}
-use Rattle.dob_board.proofs.Halting.{fails_call, fails_tell, found_done, heard_halt}
+use Rattle.dob_board.proofs.Halting.{fails_call, fails_tell, found_done, black_hears, heard_halt}
 use Rattle.dob_board.proofs.seat.NodeSeat.fail.Goals as goal
 
 pub compare_exchange-found-requires : goal.compare_exchange-found-requires
@@ -55,3 +55,15 @@ returns-clause-heard c =
     (omega arith) c.compare_exchange-found.ensures.2 in
     heard_halt seat.nodes seat.node _ seat.posted.items seat.taken.items seat.seen.items seat.black seat.token seat.halt c.halt_of-self.result
     seat.seat.me.0.told c.compare_exchange-found.new.seat.me.0.told told.1 (c.halt_of-self.ensures ∙ c.halt_after.ensures)
+
+pub returns-clause-black : goal.returns-clause-black
+returns-clause-black c =
+    let seat = c.args.self.now in
+    let told = fails_tell seat.nodes seat.node c.compare_exchange-found.result _ seat.seat.me c.compare_exchange-found.new.seat.me
+    (stand_from seat.posted.items seat.taken.items seat.seen.items seat.black seat.token seat.halt) seat.seat.me.0.told seat.view_is
+    (omega arith) c.compare_exchange-found.ensures.2 in
+    black_hears seat.nodes seat.node
+    (stand_from seat.posted.items seat.taken.items seat.seen.items seat.black seat.token c.halt_of-self.result)
+    seat.seat.me.0.told c.compare_exchange-found.new.seat.me.0.told c.halt_of-self.result seat.within
+    (heard_halt seat.nodes seat.node _ seat.posted.items seat.taken.items seat.seen.items seat.black seat.token seat.halt c.halt_of-self.result
+    seat.seat.me.0.told c.compare_exchange-found.new.seat.me.0.told told.1 (c.halt_of-self.ensures ∙ c.halt_after.ensures))

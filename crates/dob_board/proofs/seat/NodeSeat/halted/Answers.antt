@@ -1,6 +1,6 @@
 use Rattle.std.proofs.Common.{rules, refl, arith}
 use Rattle.dob_board.specs.Views.{stand_from}
-use Rattle.dob_board.proofs.Halting.{halts_call, halts_tell, found_done, heard_halt}
+use Rattle.dob_board.proofs.Halting.{halts_call, halts_tell, found_done, knew_done, black_hears, heard_halt}
 use Rattle.dob_board.proofs.seat.NodeSeat.halted.Goals as goal
 
 pub load-word-requires : goal.load-word-requires
@@ -55,4 +55,23 @@ returns-clause-heard c =
     let told = halts_tell seat.nodes seat.node c.load-word.result seat.seat.me c.load-word.new.seat.me
     (stand_from seat.posted.items seat.taken.items seat.seen.items seat.black seat.token seat.halt) seat.seat.me.0.told seat.view_is c.load-word.ensures.2 in
     heard_halt seat.nodes seat.node c.load-word.result seat.posted.items seat.taken.items seat.seen.items seat.black seat.token seat.halt c.halt_of-self.result
-    seat.seat.me.0.told c.load-word.new.seat.me.0.told told.1 c.halt_of-self.ensures
+    seat.seat.me.0.told c.load-word.new.seat.me.0.told told.2 c.halt_of-self.ensures
+
+pub returns-clause-own : goal.returns-clause-own
+returns-clause-own c =
+    let seat = c.args.self.now in
+    let told = halts_tell seat.nodes seat.node c.load-word.result seat.seat.me c.load-word.new.seat.me
+    (stand_from seat.posted.items seat.taken.items seat.seen.items seat.black seat.token seat.halt) seat.seat.me.0.told seat.view_is c.load-word.ensures.2 in
+    knew_done seat.node c.load-word.result seat.posted.items seat.taken.items seat.seen.items seat.black seat.token seat.halt c.halt_of-self.result
+    told.1 c.halt_of-self.ensures
+
+pub returns-clause-black : goal.returns-clause-black
+returns-clause-black c =
+    let seat = c.args.self.now in
+    let told = halts_tell seat.nodes seat.node c.load-word.result seat.seat.me c.load-word.new.seat.me
+    (stand_from seat.posted.items seat.taken.items seat.seen.items seat.black seat.token seat.halt) seat.seat.me.0.told seat.view_is c.load-word.ensures.2 in
+    black_hears seat.nodes seat.node
+    (stand_from seat.posted.items seat.taken.items seat.seen.items seat.black seat.token c.halt_of-self.result)
+    seat.seat.me.0.told c.load-word.new.seat.me.0.told c.halt_of-self.result seat.within
+    (heard_halt seat.nodes seat.node _ seat.posted.items seat.taken.items seat.seen.items seat.black seat.token seat.halt c.halt_of-self.result
+    seat.seat.me.0.told c.load-word.new.seat.me.0.told told.2 c.halt_of-self.ensures)
