@@ -98,12 +98,12 @@ module _ (set : PieceSet) (n : ℕ) (some : 0 < n) (histories : ℕ → List Set
 
 -- ---- links
 
-nothing_of : (xs : List BatchView) → length xs ≡ 0 → xs ≡ []
+pub nothing_of : (xs : List BatchView) → length xs ≡ 0 → xs ≡ []
 nothing_of [] none = refl
 nothing_of (x ∷ xs) none = absurd (omega (arith, none))
 
 -- as much was worked in as was offered, so that it is the same
-link_done : (outlet : Outlet) (inlet : Inlet) (waiting : List BatchView) → outlet.hand ≡ None → sent_by outlet.end ≡ taken_by inlet.end ++ waiting →
+pub link_done : (outlet : Outlet) (inlet : Inlet) (waiting : List BatchView) → outlet.hand ≡ None → sent_by outlet.end ≡ taken_by inlet.end ++ waiting →
     length (worked inlet) ≡ length (offered outlet) → worked inlet ≡ offered outlet
 link_done outlet inlet waiting empty sent long =
     let taken : List BatchView = taken_by inlet.end in
@@ -115,10 +115,10 @@ link_done outlet inlet waiting empty sent long =
     let none : waiting ≡ [] = nothing_of waiting (omega (arith, count, front, same)) in
     take_all k taken (omega (arith, count, front, same)) ∙ sym (is ∙ ap (λ xs. taken ++ xs) none ∙ append-nil taken)
 
-inlets_long : (mail : Mail) → length mail.inlets.items ≡ mail.seat.nodes
+pub inlets_long : (mail : Mail) → length mail.inlets.items ≡ mail.seat.nodes
 inlets_long mail = omega (arith, mail.inlets_len)
 
-outlets_long : (mail : Mail) → length mail.outlets.items ≡ mail.seat.nodes
+pub outlets_long : (mail : Mail) → length mail.outlets.items ≡ mail.seat.nodes
 outlets_long mail = omega (arith, mail.outlets_len)
 
 -- ---- runners
@@ -137,7 +137,7 @@ module _ (set : PieceSet) (n : ℕ) (some : 0 < n) (runners : List Runner) (are 
   place i low = are.each i (at i) (there i low)
 
   law : (i : ℕ) → i < n → IsLawful (at i).set (at i).size (at i).node (at i).mail
-  law i low = (at i).lawful (place i low).unfailed
+  law i low = (place i low).lawful
 
   rest : (i : ℕ) → i < n → IsIdle (at i).node × AreOut (at i).mail.outlets.items
   rest i low = (law i low).white (are.white i (at i) (there i low))

@@ -1,17 +1,21 @@
 -- What links, mails and runners keep, through one step and the next.
-use Rattle.std.proofs.Common.{◌≡◌, ◌≢◌, ℕ, zero, suc, ◌<◌, List, [], ◌∷◌, ◌++◌, length, set, Some, None, refl, sym, ap, ◌∙◌, subst, inl, inr, arith, append_assoc}
+use Rattle.std.proofs.Common.{◌≡◌, ◌≢◌, ℕ, zero, suc, ◌<◌, List, [], ◌∷◌, ◌++◌, ◌⊎◌, length, set, Option, Some, None, refl, sym, ap, ◌∙◌, subst, inl, inr, arith, append_assoc}
 use Rattle.std.proofs.lemmas.List.{append-nil}
-use Rattle.std.specs.Prelude.{slice_get, Result, MatchResult}
+use Rattle.std.specs.Prelude.{slice_get, Result, Ok, Err, MatchResult}
 use Rattle.std.specs.Result.{IsErrAnd}
 use Rattle.std.proofs.lemmas.Result.{err_from_is_err_and}
+use Rattle.dob_share.specs.declared.news.Item.{Item}
+use Rattle.dob_share.specs.declared.share.Share.{Share}
 use Rattle.dob_update.specs.Batches.{BatchView}
 use Rattle.dob_safra.proofs.Kept.{same_or_not}
 use Rattle.dob_board.specs.declared.seat.NodeSeat.{NodeSeat}
 use Rattle.dob_board.specs.declared.halt.Halt.{Halt}
 use Rattle.dob_board.specs.declared.halt.Halt.TheVariants.{Running, Ended, Failed}
 use Rattle.dob_board.specs.Words.{halt_word}
-use Rattle.dob_board.specs.Seats.{IsSameSeat}
+use Rattle.dob_board.specs.Seats.{IsSameSeat, KnewOwn}
 use Rattle.dob_node.specs.declared.cause.Cause.{Cause}
+use Rattle.dob_node.specs.declared.cause.Cause.TheVariants.{Held}
+use Rattle.dob_node.specs.Takes.{IsReason}
 use Rattle.dob_chan.specs.declared.ends.SendEnd.{SendEnd}
 use Rattle.dob_chan.specs.declared.ends.TakeEnd.{TakeEnd}
 use Rattle.dob_chan.specs.Ends.{sent_by, taken_by, SendsOnSame, TakesOnSame}
@@ -22,7 +26,7 @@ use Rattle.dob_run.specs.declared.runner.Runner.{Runner}
 use Rattle.dob_run.specs.Links.{GoesOn, KeepsOutlet, KeepsInlet}
 use Rattle.dob_run.specs.Mails.{KeepsEach, AreOut}
 use Rattle.dob_run.specs.Keeps.{KeepsMail, HasSameLinks}
-use Rattle.dob_run.specs.Runners.{KeepsRunner, GoesOn as Goes, HasFailed, HasTurned, Steps}
+use Rattle.dob_run.specs.Runners.{KeepsRunner, GoesOn as Goes, HasFailed, HasBroken, HasTurned, Steps}
 use Rattle.dob_run.proofs.Counted.{there_set, else_set}
 
 -- ---- lists of batches
@@ -137,6 +141,32 @@ same_halt (Failed i) Running e = absurd (omega (arith, e))
 same_halt (Failed i) Ended e = absurd (omega (arith, e))
 same_halt (Failed i) (Failed j) e = ap Failed (omega (arith, e))
 
+-- a seat that knew a halt knew the end, where it finds the end
+pub ended_before : (old new : Halt) → (old ≢ Running → new ≡ old) → new ≡ Ended → (old ≡ Running) ⊎ (old ≡ Ended)
+ended_before Running new stays ended = inl refl
+ended_before Ended new stays ended = inr refl
+ended_before (Failed node) new stays ended = inr (sym (stays (λ running. absurd (omega (arith, ap halt_word running)))) ∙ ended)
+
+-- a seat that finds its own failure knew it
+pub own_before : (old new : NodeSeat) → KnewOwn old new.halt → new.node ≡ old.node → new.halt ≡ Failed new.node → old.halt ≡ Failed old.node
+own_before old new knew node own = (let found : new.halt ≡ Failed old.node = own ∙ ap Failed node in knew found ∙ found)
+
+-- and it knows it still
+pub own_still : (old new : NodeSeat) → new.halt ≡ old.halt → new.node ≡ old.node → new.halt ≡ Failed new.node → old.halt ≡ Failed old.node
+own_still old new halt node own = sym halt ∙ own ∙ ap Failed node
+
+-- one that has failed has a cause
+pub some_cause : (why : Cause) → (let failed : Option Cause = Some why in failed ≡ None) → ⊥
+some_cause why none = absurd (cc)
+
+-- and where its seat didn't find the end, nothing is asked of it
+pub failed_first : {L : Type 0} (why : Cause) (halt : Halt) → halt ≢ Ended → (let failed : Option Cause = Some why in failed ≡ None) ⊎ (halt ≡ Ended) → L
+failed_first why halt unended still = elim still [ inl none ↦ absurd (some_cause why none) | inr ended ↦ absurd (unended ended) ]
+
+-- an item is refused for no gate
+pub reason_unheld : (item : Item) (share : Share) (why : Cause) → IsReason item share why → why ≢ Held
+reason_unheld item share why refused held = subst (IsReason item share) held refused
+
 -- ---- runners
 
 pub runner_same : (r : Runner) → KeepsRunner r r
@@ -165,14 +195,26 @@ out_still old new nodes each out j after at =
     each j before.0 after before.1 at (out j before.0 before.1)
 
 -- a failure that is handed on
-pub carried_on : {A : Type 0} (a b c : Runner) (r : Result A Cause) (why : Cause) → IsErrAnd r (λ given. given ≡ why) → KeepsRunner a b → HasFailed b c why →
+pub carried_on : {A : Type 0} (a b c : Runner) (r : Result A Cause) (why : Cause) → IsErrAnd r (λ given. given ≡ why) → KeepsRunner a b → HasBroken b c why →
     Steps a c r
-carried_on a b c r why is kept failed =
+carried_on a b c r why is kept broken =
     let given = err_from_is_err_and r is in
-    subst (λ s. Steps a c s) (sym given.1) (subst (HasFailed a c) (sym given.2) (failed_after a b c why kept failed))
+    let now : HasBroken a c why = record { failed = failed_after a b c why kept broken.failed; unheld = broken.unheld } in
+    subst (λ s. Steps a c s) (sym given.1) (subst (HasBroken a c) (sym given.2) now)
+
+-- and it isn't that a gate held the runner back
+pub unheld_on : {A L : Type 0} (r : Result A Cause) (why : Cause) → IsErrAnd r (λ given. given ≡ why) → why ≢ Held → r ≡ Err Held → L
+unheld_on r why is unheld held =
+    let given = err_from_is_err_and r is in
+    let same : given.0 ≡ Held = (let both = sym given.1 ∙ held in cc) in absurd (unheld (sym given.2 ∙ same))
 
 pub turn_failed : (a b c : Runner) (r : Result Halt Cause) (why : Cause) → IsErrAnd r (λ given. given ≡ why) → KeepsRunner a b → HasFailed b c why →
     MatchResult r (HasTurned a c) (HasFailed a c)
 turn_failed a b c r why is kept failed =
     let given = err_from_is_err_and r is in
     subst (λ s. MatchResult s (HasTurned a c) (HasFailed a c)) (sym given.1) (subst (HasFailed a c) (sym given.2) (failed_after a b c why kept failed))
+
+-- a turn keeps the runner's place, whatever its answer
+pub turn_keeps : (a b : Runner) (r : Result Halt Cause) → MatchResult r (HasTurned a b) (HasFailed a b) → KeepsRunner a b
+turn_keeps a b (Ok halt) turned = turned.keeps
+turn_keeps a b (Err why) failed = failed.keeps

@@ -3,7 +3,7 @@ use Rattle.std.proofs.Common.{◌≡◌, ◌≢◌, ℕ, ◌-◌, ◌^◌, ◌<�
 use Rattle.std.specs.Prelude.{slice_get, slice_set}
 use Rattle.std.proofs.lemmas.List.{append-nil, take-append-drop, length-take}
 use Rattle.std.specs.List.{All}
-use Rattle.std.proofs.lemmas.Bool.{cases_lt, cases_eq}
+use Rattle.std.proofs.lemmas.Bool.{cases_Bool, cases_lt, cases_eq}
 use Rattle.std.proofs.lemmas.List.Elements.{All-head}
 use Rattle.std.proofs.lemmas.Option.{slice_get_within}
 use Rattle.dob_pieces.specs.declared.piece_set.PieceSet.{PieceSet}
@@ -57,6 +57,10 @@ recoloured set size node old new law same_node same_nodes same_outlets same_work
   knows = worked_still node old new same_worked law.knows;
   white = λ is. (let rest = white is in (rest.0, subst AreOut (sym same_outlets) rest.1));
 }
+
+-- a worker that has something to do is black
+pub busy_black : (set : PieceSet) (size : ℕ) (node : Node) (mail : Mail) → IsLawful set size node mail → (IsIdle node → ⊥) → mail.seat.black ≡ true
+busy_black set size node mail law busy = elim (cases_Bool mail.seat.black) [ inl black ↦ black | inr white ↦ absurd (busy (law.white white).0) ]
 
 -- one outlet was offered what it was before
 pub offered_again : (set : PieceSet) (size to : ℕ) (node : Node) (old new : Mail) → IsLawful set size node old → new.seat ≡ old.seat →

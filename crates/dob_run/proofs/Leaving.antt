@@ -1,15 +1,15 @@
 -- What a crew's runners leave when they are closed, put together from their parts.
-use Rattle.std.proofs.Common.{◌≡◌, ◌≢◌, ℕ, ◌+◌, ◌*◌, ◌<◌, ◌≤◌, inl, inr, List, [], ◌∷◌, ◌++◌, Option, Some, None, length, map, drop, sym, ap, ◌∙◌, subst, arith, length-append}
+use Rattle.std.proofs.Common.{◌≡◌, ◌≢◌, ℕ, ◌+◌, ◌-◌, ◌*◌, ◌<◌, ◌≤◌, inl, inr, List, [], ◌∷◌, ◌++◌, Option, Some, None, length, map, take, drop, sym, ap, ◌∙◌, subst, arith, length-append}
 use Rattle.std.proofs.Common.{Global}
-use Rattle.std.specs.Prelude.{slice_get, Result, Ok, Err, IfErr}
+use Rattle.std.specs.Prelude.{slice_get, Result, IfErr}
 use Rattle.std.specs.Result.{IsErrAnd}
 use Rattle.std.proofs.lemmas.Result.{err_from_is_err_and}
-use Rattle.std.proofs.lemmas.List.{length-map}
+use Rattle.std.proofs.lemmas.List.{length-map, take-append-drop}
 use Rattle.std.specs.declared.vec.Vec.{Vec}
 use Rattle.std.specs.List.{AllZip}
 use Rattle.dob_safra.proofs.Kept.{same_or_not}
 use Rattle.dob_pieces.specs.declared.piece_set.PieceSet.{PieceSet}
-use Rattle.dob_safra.specs.Laws.{IsSize}
+use Rattle.dob_share.specs.declared.news.Item.{Item}
 use Rattle.dob_update.specs.Batches.{BatchView}
 use Rattle.dob_board.specs.declared.board.Board.{Board}
 use Rattle.dob_board.specs.declared.board.Closed.{Closed}
@@ -30,12 +30,14 @@ use Rattle.dob_run.specs.declared.runs.Turned.{Turned}
 use Rattle.dob_run.specs.Closing.{AreLinked, seat_in, IsCrew, row_of, hands_out, hands_in, HasEnded}
 use Rattle.dob_run.specs.Ending.{outlet_hand, inlet_hand, IsJoined}
 use Rattle.dob_run.specs.Hands.{in_hand, worked_of}
-use Rattle.dob_run.specs.Links.{offered}
+use Rattle.dob_run.specs.Knows.{KnowsRight}
+use Rattle.dob_run.specs.Links.{offered, worked}
 use Rattle.dob_run.specs.Manned.{mail_of, node_of, AreRunnersFor}
 use Rattle.dob_run.specs.Runners.{KeepsRunner}
-use Rattle.dob_rank.specs.Limits.{IsSmall}
-use Rattle.dob_run.specs.Turned.{IsLink, IsTurned, AreSizes, IsStop, IsRefused, AreUnfailed, IsFirstFailed, AreWorkers, HasLeft}
-use Rattle.dob_run.specs.Workers.{planned, items_in, SendsRight, IsLawful}
+use Rattle.dob_run.specs.Refused.{IsStop}
+use Rattle.dob_run.specs.Turned.{IsWorker, IsLink, IsTurned, AreUnfailed, IsFirstFailed, AreWorkers, HasLeft}
+use Rattle.dob_run.specs.Workers.{planned, items_in, items_worked, applied_from, AreLast, SendsRight, IsLawful}
+use Rattle.dob_run.proofs.Applied.{applied_here, applied_else}
 use Rattle.dob_run.proofs.Manned.{zip_at, zip_long}
 use Rattle.dob_run.proofs.Places.{at_end, inside, one_thing, next_is, then_left, all_gone}
 use Rattle.dob_run.proofs.Parting.{get_map, map_got, some_at, count_is}
@@ -166,6 +168,16 @@ for_kept set size old new are kept unfailed k runner at =
     let is = are k was.0 was.1 in
     record { set_is = was.2.set ∙ is.set_is; size_is = was.2.size ∙ is.size_is; unfailed = unfailed k runner at }
 
+-- what isn't left, and what is
+own_split : (whole own : List Item) → AreLast whole own → take (length whole - length own) whole ++ own ≡ whole
+own_split whole own last =
+    ap (λ (items : List Item). take (length whole - length own) whole ++ items) (sym last) ∙ take-append-drop (length whole - length own) whole
+
+-- the items of a node that a runner has applied
+abbrev applied_by : Option Runner → ℕ → List Item
+applied_by None from = []
+applied_by (Some runner) from = applied_from runner.node runner.mail.inlets.items from
+
 module _ (board : Board) (set : PieceSet) (size : ℕ) (runners : List Runner) (turned : Turned) (crew : IsCrew board (map mail_of runners)) (left : HasLeft board.nodes runners turned)
     (are : AreRunnersFor set size runners) where
   seat_there : (k : ℕ) (runner : Runner) → slice_get runners k ≡ Some runner → slice_get (map seat_in (map mail_of runners)) k ≡ Some runner.mail.seat
@@ -177,7 +189,7 @@ module _ (board : Board) (set : PieceSet) (size : ℕ) (runners : List Runner) (
   lawful_at : (k : ℕ) (runner : Runner) → slice_get runners k ≡ Some runner → IsLawful set size runner.node runner.mail
   lawful_at k runner at =
       let is = are k runner at in
-      subst (λ (p : PieceSet × ℕ). IsLawful p.0 p.1 runner.node runner.mail) (λ q. (is.set_is q, is.size_is q)) (runner.lawful is.unfailed)
+      subst (λ (p : PieceSet × ℕ). IsLawful p.0 p.1 runner.node runner.mail) (λ q. (is.set_is q, is.size_is q)) (runner.lawful (inl is.unfailed))
 
   many : length runners ≡ board.nodes
   many = sym (length-map runners mail_of) ∙ count_is board (map mail_of runners) crew
@@ -190,10 +202,36 @@ module _ (board : Board) (set : PieceSet) (size : ℕ) (runners : List Runner) (
   sends_at i j from outlet at out apart =
       (lawful_at i from at).sends j outlet (λ same. apart (sym (same ∙ (seat_at i from at).node))) out
 
+  worker_is : (i : ℕ) (worker : Worker) (runner : Runner) → slice_get runners i ≡ Some runner → worker.node ≡ runner.node →
+      IsWorker set board.nodes i (λ from. applied_by (slice_get runners i) from) worker
+  worker_is i worker runner at node_is =
+      let law = lawful_at i runner at in
+      let id : runner.node.id ≡ i = law.of.1 ∙ (seat_at i runner at).node in
+      let many_nodes : runner.node.n ≡ board.nodes = law.of.2 ∙ (seat_at i runner at).nodes in
+      let own : planned runner.node i ≡ applied_by (Some runner) i ++ runner.node.own.items =
+      ap (λ (k : ℕ). planned runner.node k) (sym id) ∙ sym (own_split (planned runner.node runner.node.id) runner.node.own.items law.own)
+      ∙ ap (λ (items : List Item). items ++ runner.node.own.items) (sym (applied_here runner.node runner.mail.inlets.items i (sym id))) in
+      let knows : KnowsRight set board.nodes i runner.node.share runner.node.history.settlements (λ from. applied_by (Some runner) from) =
+      subst (λ (p : PieceSet × ℕ × ℕ). KnowsRight p.0 p.1 p.2 runner.node.share runner.node.history.settlements (λ from. applied_by (Some runner) from))
+      (λ q. (law.of.0 q, many_nodes q, id q)) law.knows in
+      let here : IsWorker set board.nodes i (λ from. applied_by (Some runner) from) worker = record {
+        of = (ap (λ (n : Node). n.set) node_is ∙ law.of.0, ap (λ (n : Node). n.id) node_is ∙ id, ap (λ (n : Node). n.n) node_is ∙ many_nodes);
+        own = subst (λ (node : Node). planned node i ≡ applied_by (Some runner) i ++ node.own.items) (sym node_is) own;
+        knows = subst (λ (node : Node). KnowsRight set board.nodes i node.share node.history.settlements (λ from. applied_by (Some runner) from)) (sym node_is) knows;
+      } in
+      subst (λ (o : Option Runner). IsWorker set board.nodes i (λ from. applied_by o from) worker) (sym at) here
+
+  applied_of : (i j : ℕ) (to : Runner) (inlet : Inlet) → slice_get runners j ≡ Some to → slice_get to.mail.inlets.items i ≡ Some inlet → i ≢ j →
+      applied_by (slice_get runners j) i ≡ items_in (worked inlet)
+  applied_of i j to inlet at into apart =
+      ap (λ (o : Option Runner). applied_by o i) at
+      ∙ applied_else to.node to.mail.inlets.items i (λ same. apart (same ∙ (lawful_at j to at).of.1 ∙ (seat_at j to at).node))
+      ∙ ap items_worked into
+
   link_is : (i j : ℕ) (sender taker : Worker) (from to : Runner) (outlet : Outlet) (inlet : Inlet) (link : Rejoined) → slice_get runners i ≡ Some from →
       slice_get runners j ≡ Some to → sender.node ≡ from.node → sender.sending.items ≡ hands_out from.mail → taker.taking.items ≡ hands_in to.mail →
       slice_get from.mail.outlets.items j ≡ Some outlet → slice_get to.mail.inlets.items i ≡ Some inlet → IsJoined outlet.end inlet.end link →
-      IsLink board.nodes size turned.closed.words.items i j sender taker link
+      IsLink board.nodes size turned.closed.words.items i j sender taker (applied_by (slice_get runners j) i) link
   link_is i j sender taker from to outlet inlet link at_i at_j node_is out_is into_is out into joined =
       let low_i = low i from at_i in
       let low_j = low j to at_j in
@@ -225,6 +263,7 @@ module _ (board : Board) (set : PieceSet) (size : ℕ) (runners : List Runner) (
         planned_is = λ apart. subst (λ (node : Node). planned node j ≡ items_in (sent_by outlet.end ++ in_hand outlet.hand) ++ (outbox_to node j).items) (sym node_is)
             (sends_at i j from outlet at_i out apart).items;
         small = λ apart k batch at. (sends_at i j from outlet at_i out apart).small k batch at;
+        applied_is = λ apart. applied_of i j to inlet at_j into apart;
       }
 
   pub turned_is : IsTurned set board.nodes size turned
@@ -232,11 +271,8 @@ module _ (board : Board) (set : PieceSet) (size : ℕ) (runners : List Runner) (
     count = left.count ∙ many;
     words = left.words.count;
     links_count = left.links_count;
-    nodes = λ i worker at.
-        let got = left.workers i worker at in
-        let law = lawful_at i got.0 got.1 in
-        let seat = seat_at i got.0 got.1 in
-        (ap (λ (n : Node). n.set) got.2 ∙ law.of.0, ap (λ (n : Node). n.id) got.2 ∙ law.of.1 ∙ seat.node, ap (λ (n : Node). n.n) got.2 ∙ law.of.2 ∙ seat.nodes);
+    applied = λ i j. applied_by (slice_get runners j) i;
+    nodes = λ i worker at. let got = left.workers i worker at in worker_is i worker got.0 got.1 got.2;
     links = λ i j sender taker at_i at_j.
         let from = left.workers i sender at_i in
         let to = left.workers j taker at_j in
@@ -264,13 +300,3 @@ stop_of board n old new SetTooLarge crew kept many first = absurd first
 stop_of board n old new Nodes crew kept many first = absurd first
 stop_of board n old new Sizes crew kept many first = absurd first
 stop_of board n old new Memory crew kept many first = absurd first
-
--- a crew that stops is one of sizes within their limits
-pub refused_so : {A : Type 0} (set : PieceSet) (n batch capacity : ℕ) (result : Result A Fault) → IsSmall set → IsSize n → AreSizes batch capacity → IfErr result (IsStop n) →
-    IfErr result (IsRefused set n batch capacity)
-refused_so set n batch capacity (Ok x) small size sizes stop = tt
-refused_so set n batch capacity (Err (Stopped node why)) small size sizes stop = (small, size, sizes, stop)
-refused_so set n batch capacity (Err Memory) small size sizes stop = (small, size, sizes)
-refused_so set n batch capacity (Err SetTooLarge) small size sizes stop = absurd stop
-refused_so set n batch capacity (Err Nodes) small size sizes stop = absurd stop
-refused_so set n batch capacity (Err Sizes) small size sizes stop = absurd stop

@@ -1,4 +1,5 @@
 pub mod Applied
+pub mod ByThreads
 pub mod Counted
 pub mod Finished
 pub mod Keeping
@@ -7,12 +8,17 @@ pub mod Lawfuls
 pub mod Laying
 pub mod Leaving
 pub mod Manned
+pub mod Needed
 pub mod Opened
+pub mod Openings
 pub mod Parting
 pub mod Places
 pub mod Planned
+pub mod Refusals
 pub mod Rejoining
 pub mod Scanned
 pub mod Seated
+pub mod Shown
+pub mod Stopping
 pub mod Summing
 pub mod Threaded

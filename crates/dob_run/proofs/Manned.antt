@@ -10,7 +10,8 @@ use Rattle.dob_chan.specs.Ends.{ArePaired}
 use Rattle.dob_run.specs.declared.mail.Mail.{Mail}
 use Rattle.dob_run.specs.declared.runner.Runner.{Runner}
 use Rattle.dob_run.specs.Closing.{seat_in, IsCrew}
-use Rattle.dob_run.specs.Runners.{KeepsRunner}
+use Rattle.dob_run.specs.Opening.{IsNewMail, AreNewMails}
+use Rattle.dob_run.specs.Runners.{KeepsRunner, IsNew}
 use Rattle.dob_run.specs.Turns.{AllSuit}
 use Rattle.dob_run.specs.Manned.{mail_of, AreRunnersFor, IsRunnerOf}
 use Rattle.dob_run.proofs.Places.{inside, one_thing}
@@ -39,6 +40,12 @@ mails_are set size (m ∷ mails) (r ∷ runners) are = λ i. are.0.0 i ∷ mails
 
 pub runners_are : (set : PieceSet) (size : ℕ) (mails : List Mail) (runners : List Runner) → AllZip (IsRunnerOf set size) mails runners → AreRunnersFor set size runners
 runners_are set size mails runners are k runner at = (zip_at (IsRunnerOf set size) mails runners k runner are at).2.1
+
+pub runners_new : (set : PieceSet) (size capacity : ℕ) (mails : List Mail) (runners : List Runner) → AllZip (IsRunnerOf set size) mails runners → AreNewMails capacity mails →
+    (k : ℕ) (runner : Runner) → slice_get runners k ≡ Some runner → IsNew set runner.node runner.mail × IsNewMail capacity runner.mail
+runners_new set size capacity mails runners are new k runner at =
+    let of = zip_at (IsRunnerOf set size) mails runners k runner are at in
+    (of.2.2, subst (λ (m : Mail). IsNewMail capacity m) (sym of.2.0) (new k of.0 of.1))
 
 pub all_suit : (set : PieceSet) (size : ℕ) (runners : List Runner) → AreRunnersFor set size runners → AllSuit set runners
 all_suit set size runners are k runner at = let is = are k runner at in record { set_is = sym is.set_is; unfailed = is.unfailed }

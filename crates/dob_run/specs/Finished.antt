@@ -1,5 +1,5 @@
 -- A crew that has come to its end: nothing is left to do anywhere.
-use Rattle.std.specs.Prelude.{◌≡◌, ℕ, ◌<◌, ◌++◌, List, Some, None, false, length, slice_get, slice_index}
+use Rattle.std.specs.Prelude.{◌≡◌, ℕ, ◌<◌, ◌++◌, List, Some, false, length, slice_get, slice_index}
 use Rattle.dob_pieces.specs.declared.piece_set.PieceSet.{PieceSet}
 use Rattle.dob_rank.specs.Marks.{classes_of}
 use Rattle.dob_value.specs.declared.value.Value.{Value}
@@ -13,12 +13,13 @@ use Rattle.dob_chan.specs.Ends.{sent_by, taken_by}
 use Rattle.dob_run.specs.declared.hands.Outlet.{Outlet}
 use Rattle.dob_run.specs.declared.hands.Inlet.{Inlet}
 use Rattle.dob_run.specs.declared.runner.Runner.{Runner}
+use Rattle.dob_run.specs.Workers.{IsLawful}
 
--- the runner has not failed, and stands at that place of a crew of n for the piece set
+-- the runner is lawful, and stands at that place of a crew of n for the piece set
 pub record IsRunnerOf (set : PieceSet) (n place : ℕ) (runner : Runner) : Type 0 where
   pub seat : (runner.mail.seat.node ≡ place) × (runner.mail.seat.nodes ≡ n)
   pub set_is : runner.set ≡ set
-  pub unfailed : runner.failed ≡ None
+  pub lawful : IsLawful runner.set runner.size runner.node runner.mail
 
 -- the outlet of runner i for j and the inlet of j for i
 pub record AreJoinedBy (runners : List Runner) (i j : ℕ) (sender taker : Runner) (outlet : Outlet) (inlet : Inlet) : Type 0 where
@@ -27,8 +28,8 @@ pub record AreJoinedBy (runners : List Runner) (i j : ℕ) (sender taker : Runne
   pub out : slice_get sender.mail.outlets.items j ≡ Some outlet
   pub into : slice_get taker.mail.inlets.items i ≡ Some inlet
 
--- The crew of n has ended: no runner has failed, and each is white; on each link as many batches were posted as were taken,
--- and what came out of its channel is the first of what went into it.
+-- The crew of n has ended: each runner is lawful and white; on each link as many batches were posted as were taken, and what
+-- came out of its channel is the first of what went into it.
 pub record AreFinished (set : PieceSet) (n : ℕ) (runners : List Runner) : Type 0 where
   pub count : length runners ≡ n
   pub each : (i : ℕ) (runner : Runner) → slice_get runners i ≡ Some runner → IsRunnerOf set n i runner

@@ -1,8 +1,10 @@
 pub mod Batches
+pub mod Built
 pub mod Closing
 pub mod Ending
 pub mod Faults
 pub mod Finished
+pub mod Finishing
 pub mod Hands
 pub mod Keeps
 pub mod Knows
@@ -12,6 +14,7 @@ pub mod Mails
 pub mod Manned
 pub mod Opening
 pub mod Props
+pub mod Refused
 pub mod Rows
 pub mod Runners
 pub mod Seating

@@ -1,9 +1,13 @@
 -- The runners of a crew's mails.
-use Rattle.std.specs.Prelude.{◌≡◌, ℕ, List, None, Some, slice_get}
+use Rattle.std.specs.Prelude.{◌≡◌, ℕ, List, None, Some, map, slice_get}
 use Rattle.dob_pieces.specs.declared.piece_set.PieceSet.{PieceSet}
+use Rattle.dob_board.specs.declared.board.Board.{Board}
 use Rattle.dob_node.specs.declared.node.Node.{Node}
 use Rattle.dob_run.specs.declared.mail.Mail.{Mail}
 use Rattle.dob_run.specs.declared.runner.Runner.{Runner}
+use Rattle.dob_run.specs.Closing.{IsCrew}
+use Rattle.dob_run.specs.Opening.{IsNewMail}
+use Rattle.dob_run.specs.Runners.{IsNew}
 
 abbrev pub mail_of : Runner → Mail
 mail_of runner = runner.mail
@@ -21,6 +25,14 @@ pub record IsRunnerFor (set : PieceSet) (size : ℕ) (runner : Runner) : Type 0 
 abbrev pub AreRunnersFor : PieceSet → ℕ → List Runner → Type 0
 AreRunnersFor set size runners = (k : ℕ) (runner : Runner) → slice_get runners k ≡ Some runner → IsRunnerFor set size runner
 
--- it does, and has that mail
+-- it does, and has that mail; its node was opened and has made no step
 abbrev pub IsRunnerOf : PieceSet → ℕ → Mail → Runner → Type 0
-IsRunnerOf set size mail runner = (runner.mail ≡ mail) × IsRunnerFor set size runner
+IsRunnerOf set size mail runner = (runner.mail ≡ mail) × IsRunnerFor set size runner × IsNew set runner.node runner.mail
+
+-- The board and the runners of n nodes of the piece set, in order, before their first turn. They cut batches of at most that
+-- size, and nothing has gone over their channels, which have that capacity.
+pub record IsNewCrew (set : PieceSet) (n size capacity : ℕ) (board : Board) (runners : List Runner) : Type 0 where
+  pub nodes : board.nodes ≡ n
+  pub crew : IsCrew board (map mail_of runners)
+  pub each : AreRunnersFor set size runners
+  pub new : (k : ℕ) (runner : Runner) → slice_get runners k ≡ Some runner → IsNew set runner.node runner.mail × IsNewMail capacity runner.mail

@@ -5,6 +5,7 @@ use Rattle.dob_share.specs.declared.opening.Opening.{Opening}
 use Rattle.dob_board.specs.declared.halt.Halt.{Halt}
 use Rattle.dob_board.specs.declared.halt.Halt.TheVariants.{Running}
 use Rattle.dob_node.specs.declared.cause.Cause.{Cause}
+use Rattle.dob_node.specs.declared.cause.Cause.TheVariants.{Held}
 use Rattle.dob_node.specs.declared.node.Node.{Node}
 use Rattle.dob_node.specs.Openings.{AreOpenings}
 use Rattle.dob_node.specs.Nodes.{IsIdle, IsSound, IsOpened}
@@ -14,7 +15,7 @@ use Rattle.dob_run.specs.declared.mail.Mail.{Mail}
 use Rattle.dob_run.specs.Links.{offered, worked}
 use Rattle.dob_run.specs.declared.runner.Runner.{Runner}
 use Rattle.dob_run.specs.Mails.{AreOut, AreIn}
-use Rattle.dob_run.specs.Keeps.{KeepsMail}
+use Rattle.dob_run.specs.Keeps.{KeepsMail, HasSameLinks}
 
 -- The runner keeps its place in its crew, and nothing that went over its links is taken back.
 pub record KeepsRunner (old new : Runner) : Type 0 where
@@ -39,15 +40,26 @@ pub record HasFailed (old new : Runner) (why : Cause) : Type 0 where
   pub cause : new.failed ≡ Some why
   pub stopped : new.mail.seat.halt ≢ Running
 
+-- its node has failed for that cause, and no gate held it back
+pub record HasBroken (old new : Runner) (why : Cause) : Type 0 where
+  pub failed : HasFailed old new why
+  pub unheld : why ≢ Held
+
+-- it was held back: its node, its links and its colour are as they were
+pub record IsHeldBack (old new : Runner) : Type 0 where
+  pub node : new.node ≡ old.node
+  pub links : HasSameLinks old.mail new.mail
+  pub colour : new.mail.seat.black ≡ old.mail.seat.black
+
 -- it has made a turn, and the halt is the one that its seat knows
 pub record HasTurned (old new : Runner) (halt : Halt) : Type 0 where
   pub keeps : KeepsRunner old new
   pub unfailed : new.failed ≡ None
   pub halt_is : halt ≡ new.mail.seat.halt
 
--- a step of a runner: it goes on or it has failed
+-- a step of a runner: it goes on or its node has failed
 abbrev pub Steps : {A : Type 0} → Runner → Runner → Result A Cause → Type 0
-Steps {A} old new result = MatchResult result (λ _. GoesOn old new) (λ why. HasFailed old new why)
+Steps {A} old new result = MatchResult result (λ _. GoesOn old new) (λ why. HasBroken old new why)
 
 -- The runner has nothing to expand, to apply or to send, and no batch in a hand.
 pub record IsAtRest (runner : Runner) : Type 0 where
@@ -62,5 +74,6 @@ pub record IsNew (set : PieceSet) (node : Node) (mail : Mail) : Type 0 where
   pub opened : IsOpened openings set mail.seat.node mail.seat.nodes node
   pub sound : IsSound node
   pub black : mail.seat.black ≡ true
+  pub running : mail.seat.halt ≡ Running
   pub unsent : (to : ℕ) (outlet : Outlet) → slice_get mail.outlets.items to ≡ Some outlet → offered outlet ≡ []
   pub untaken : (from : ℕ) (inlet : Inlet) → slice_get mail.inlets.items from ≡ Some inlet → worked inlet ≡ []

@@ -1,9 +1,10 @@
 -- What a crew leaves whose runners made some turns without the token.
-use Rattle.std.specs.Prelude.{◌≡◌, ◌≢◌, ⊤, ℕ, ◌+◌, ◌*◌, ◌<◌, ◌≤◌, List, ◌++◌, Option, Some, None, length, map, slice_get, slice_index}
+use Rattle.std.specs.Prelude.{◌≡◌, ◌≢◌, ⊤, ℕ, ◌+◌, ◌-◌, ◌*◌, ◌<◌, ◌≤◌, List, ◌++◌, Option, Some, None, length, map, take, slice_get, slice_index}
+use Rattle.std.specs.List.{AllZip}
 use Rattle.dob_pieces.specs.declared.piece_set.PieceSet.{PieceSet}
-use Rattle.dob_rank.specs.Limits.{IsSmall}
-use Rattle.dob_safra.specs.Laws.{IsSize}
+use Rattle.dob_share.specs.declared.news.Item.{Item}
 use Rattle.dob_update.specs.Batches.{BatchView}
+use Rattle.dob_board.specs.declared.board.Board.{Board}
 use Rattle.dob_board.specs.Words.{posted_word, taken_word, word_count}
 use Rattle.dob_board.specs.Seats.{AreWords}
 use Rattle.dob_chan.specs.declared.calls.Rejoined.{Rejoined}
@@ -20,14 +21,24 @@ use Rattle.dob_run.specs.declared.runs.Turned.{Turned}
 use Rattle.dob_run.specs.Closing.{AreLinked, seat_in, hands_out, hands_in}
 use Rattle.dob_run.specs.Ending.{IsJoined}
 use Rattle.dob_run.specs.Hands.{in_hand}
-use Rattle.dob_run.specs.Manned.{mail_of}
+use Rattle.dob_run.specs.Knows.{KnowsRight}
+use Rattle.dob_run.specs.Manned.{mail_of, IsNewCrew}
+use Rattle.dob_run.specs.Runners.{KeepsRunner}
 use Rattle.dob_run.specs.Workers.{planned, items_in}
+
+-- The worker is that of node i. It has applied what its node planned for itself and isn't left in its own list, and knows just
+-- what the items applied say: its cells are what these make of them.
+pub record IsWorker (set : PieceSet) (n i : ℕ) (applied : ℕ → List Item) (worker : Worker) : Type 0 where
+  pub of : (worker.node.set ≡ set) × (worker.node.id ≡ i) × (worker.node.n ≡ n)
+  pub own : planned worker.node i ≡ applied i ++ worker.node.own.items
+  pub knows : KnowsRight set n i worker.node.share worker.node.history.settlements applied
 
 -- The link from one worker's node to another's: what was sent is what was received and then what waits; the counts are those
 -- of the lists; the posted word counts what was sent and what lies in the sending hand, and the taken word what was received
--- without what lies in the taking hand; and what the sender's node planned is, in order, what was sent, what lies in the
--- hand, and what is left in the outbox, in batches of at most that size.
-pub record IsLink (n size : ℕ) (words : List ℕ) (i j : ℕ) (sender taker : Worker) (link : Rejoined) : Type 0 where
+-- without what lies in the taking hand; what the sender's node planned is, in order, what was sent, what lies in the hand, and
+-- what is left in the outbox, in batches of at most that size; and the taker's node has applied the items of the batches
+-- received, without what lies in the taking hand.
+pub record IsLink (n size : ℕ) (words : List ℕ) (i j : ℕ) (sender taker : Worker) (applied : List Item) (link : Rejoined) : Type 0 where
   pub sent : List BatchView
   pub received : List BatchView
   pub sending : Option BatchView
@@ -41,36 +52,18 @@ pub record IsLink (n size : ℕ) (words : List ℕ) (i j : ℕ) (sender taker : 
   pub taken : slice_index words (taken_word n i j) + length (in_hand taking) ≡ link.received
   pub planned_is : i ≢ j → planned sender.node j ≡ items_in (sent ++ in_hand sending) ++ (outbox_to sender.node j).items
   pub small : i ≢ j → (k : ℕ) (batch : BatchView) → slice_get (sent ++ in_hand sending) k ≡ Some batch → length batch.items ≤ size
+  pub applied_is : i ≢ j → applied ≡ items_in (take (length received - length (in_hand taking)) received)
 
--- n workers of the piece set, and a link from each to each
+-- n workers of the piece set, and a link from each to each, by the items of each that each has applied
 pub record IsTurned (set : PieceSet) (n size : ℕ) (turned : Turned) : Type 0 where
+  pub applied : ℕ → ℕ → List Item
   pub count : length turned.workers.items ≡ n
   pub words : length turned.closed.words.items ≡ word_count n
   pub links_count : length turned.links.items ≡ n * n
-  pub nodes : (i : ℕ) (worker : Worker) → slice_get turned.workers.items i ≡ Some worker →
-      (worker.node.set ≡ set) × (worker.node.id ≡ i) × (worker.node.n ≡ n)
+  pub nodes : (i : ℕ) (worker : Worker) → slice_get turned.workers.items i ≡ Some worker → IsWorker set n i (λ from. applied from i) worker
   pub links : (i j : ℕ) (sender taker : Worker) → slice_get turned.workers.items i ≡ Some sender → slice_get turned.workers.items j ≡ Some taker →
-      (link : Rejoined) × (slice_get turned.links.items (i * n + j) ≡ Some link) × IsLink n size turned.closed.words.items i j sender taker link
-
--- such a batch is one that nodes cut, and so many may wait in a channel
-abbrev pub AreSizes : ℕ → ℕ → Type 0
-AreSizes batch capacity = (0 < batch) × (batch ≤ 4096) × (0 < capacity) × (capacity ≤ 1024)
-
--- a node has stopped, or memory is refused
-abbrev pub IsStop : ℕ → Fault → Type 0
-IsStop n (Stopped node why) = node < n
-IsStop n Memory = ⊤
-IsStop n SetTooLarge = ⊥
-IsStop n Nodes = ⊥
-IsStop n Sizes = ⊥
-
--- Why a crew leaves nothing: the first of these that isn't so, or where all are a node has stopped or memory is refused.
-abbrev pub IsRefused : PieceSet → ℕ → ℕ → ℕ → Fault → Type 0
-IsRefused set n batch capacity SetTooLarge = ¬ IsSmall set
-IsRefused set n batch capacity Nodes = IsSmall set × (¬ IsSize n)
-IsRefused set n batch capacity Sizes = IsSmall set × IsSize n × (¬ AreSizes batch capacity)
-IsRefused set n batch capacity (Stopped node why) = IsSmall set × IsSize n × AreSizes batch capacity × (node < n)
-IsRefused set n batch capacity Memory = IsSmall set × IsSize n × AreSizes batch capacity
+      (link : Rejoined) × (slice_get turned.links.items (i * n + j) ≡ Some link)
+      × IsLink n size turned.closed.words.items i j sender taker (applied i j) link
 
 -- no runner has failed
 abbrev pub AreUnfailed : List Runner → Type 0
@@ -84,6 +77,23 @@ IsFirstFailed runners SetTooLarge = ⊥
 IsFirstFailed runners Nodes = ⊥
 IsFirstFailed runners Sizes = ⊥
 IsFirstFailed runners Memory = ⊥
+
+-- A new crew's runners made turns, and the refusal names what stopped them.
+pub record HasStopped (Names : List Runner → Fault → Type 0) (set : PieceSet) (n size capacity : ℕ) (fault : Fault) : Type 0 where
+  pub board : Board
+  pub old : List Runner
+  pub ended : List Runner
+  pub opened : IsNewCrew set n size capacity board old
+  pub kept : AllZip KeepsRunner old ended
+  pub names : Names ended fault
+
+-- where a node is named a crew has stopped so
+abbrev pub StopsSo : (List Runner → Fault → Type 0) → PieceSet → ℕ → ℕ → ℕ → Fault → Type 0
+StopsSo Names set n size capacity (Stopped node why) = HasStopped Names set n size capacity (Stopped node why)
+StopsSo Names set n size capacity SetTooLarge = ⊤
+StopsSo Names set n size capacity Nodes = ⊤
+StopsSo Names set n size capacity Sizes = ⊤
+StopsSo Names set n size capacity Memory = ⊤
 
 -- The first workers have the nodes and the rows of hands that stand at their places.
 pub record AreWorkers (upto : ℕ) (nodes : List Node) (sending taking : List (List (Option BatchView))) (workers : List Worker) : Type 0 where

@@ -1,7 +1,11 @@
--- What runners need to make turns.
-use Rattle.std.specs.Prelude.{◌≡◌, ℕ, List, None, Some, slice_get}
+-- What runners need to make turns, and what they are afterwards.
+use Rattle.std.specs.Prelude.{◌≡◌, ◌≢◌, ⊤, ℕ, List, None, Some, slice_get}
 use Rattle.dob_pieces.specs.declared.piece_set.PieceSet.{PieceSet}
+use Rattle.dob_board.specs.declared.halt.Halt.TheVariants.{Running}
 use Rattle.dob_run.specs.declared.runner.Runner.{Runner}
+use Rattle.dob_run.specs.declared.turns.Until.{Until}
+use Rattle.dob_run.specs.declared.turns.Until.TheVariants.{Turns, Stopped}
+use Rattle.dob_run.specs.Runners.{KeepsRunner}
 
 -- the runner can work with the classes of that piece set
 pub record Suits (set : PieceSet) (runner : Runner) : Type 0 where
@@ -11,3 +15,12 @@ pub record Suits (set : PieceSet) (runner : Runner) : Type 0 where
 -- so can each of them
 abbrev pub AllSuit : PieceSet → List Runner → Type 0
 AllSuit set runners = (k : ℕ) (runner : Runner) → slice_get runners k ≡ Some runner → Suits set runner
+
+-- the runner was to make turns for so long, and has
+abbrev pub IsThrough : Until → Runner → Type 0
+IsThrough (Turns count) runner = ⊤
+IsThrough Stopped runner = runner.mail.seat.halt ≢ Running
+
+-- it keeps its place in its crew, and has
+abbrev pub Ends : Until → Runner → Runner → Type 0
+Ends until old new = KeepsRunner old new × IsThrough until new

@@ -2,13 +2,16 @@
 #![tactic(auto)]
 
 mod batches;
+mod build;
 mod closing;
-mod crew;
+mod crews;
 mod fault;
+mod finishing;
 mod gate;
 mod hands;
 mod laws;
 mod lay;
+mod limits;
 mod links;
 mod mail;
 mod rejoin;
@@ -23,7 +26,10 @@ mod turns;
 mod words;
 mod works;
 
+pub use build::run_nodes;
+pub use crews::crew;
 pub use fault::Fault;
+pub use finishing::{Built, finish};
 pub use gate::{Free, Gate};
 pub use hands::{Inlet, Outlet};
 pub use laws::finished_is_right;
@@ -34,3 +40,7 @@ pub use scans::scan;
 
 #[cfg(test)]
 mod tests;
+#[cfg(test)]
+mod tests_builds;
+#[cfg(test)]
+mod tests_turns;

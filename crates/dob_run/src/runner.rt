@@ -1,7 +1,7 @@
 // A worker of a build: a node, and its mail.
-ghost use Rattle.std.specs.Prelude.{◌≡◌, ◌<◌, ◌≤◌, None};
+ghost use Rattle.std.specs.Prelude.{◌≡◌, ◌≢◌, ◌⊎◌, ◌<◌, ◌≤◌, None};
 ghost use Rattle.std.specs.Coded.{Π_prop};
-ghost use Rattle.dob_board.specs.declared.halt.Halt.TheVariants.{Running};
+ghost use Rattle.dob_board.specs.declared.halt.Halt.TheVariants.{Running, Ended, Failed};
 ghost use Rattle.dob_run.specs.Workers.{IsLawful};
 ghost use Rattle.dob_run.specs.Props.{IsLawful-prop};
 
@@ -11,7 +11,8 @@ use dob_node::{Cause, Node};
 use dob_pieces::PieceSet;
 
 /// A worker of a build by nodes that own the classes of a piece set: its node, its seat with the ends of its channels, and
-/// the greatest size of a batch. Unless it has failed it is lawful at every moment.
+/// the greatest size of a batch. It is lawful at every moment, unless it has failed before the end was announced: one that
+/// gives up after that has changed nothing. The board says that its node failed only where it has.
 #[derive(Drop)]
 pub struct Runner {
     pub(crate) node: Node,
@@ -23,5 +24,6 @@ pub struct Runner {
     ghost some: { 0 < size },
     ghost at_most: { size ≤ 4096 },
     ghost going: { mail.seat.halt ≡ Running → failed ≡ None },
-    ghost lawful: { failed ≡ None → IsLawful set size node mail } by { Π_prop (λ _. IsLawful-prop set size node mail) },
+    ghost own: { mail.seat.halt ≡ Failed mail.seat.node → failed ≢ None },
+    ghost lawful: { (failed ≡ None) ⊎ (mail.seat.halt ≡ Ended) → IsLawful set size node mail } by { Π_prop (λ _. IsLawful-prop set size node mail) },
 }

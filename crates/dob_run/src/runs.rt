@@ -1,22 +1,24 @@
 // A crew whose runners make a number of turns each, and what they leave.
 ghost use Rattle.std.specs.Prelude.{◌≡◌, ◌<◌, ◌≤◌, IfOk, IfErr, OnOk, map, length, Some, slice_get};
-ghost use Rattle.dob_safra.specs.Laws.{IsSize};
 ghost use Rattle.dob_run.specs.Closing.{IsCrew, row_of};
 ghost use Rattle.dob_run.specs.Manned.{mail_of, node_of};
-ghost use Rattle.dob_run.specs.Turned.{IsTurned, IsRefused, IsStop, AreUnfailed, IsFirstFailed, AreWorkers, HasLeft};
+ghost use Rattle.dob_run.specs.Refused.{AreWithin, IsRefused, IsStop};
+ghost use Rattle.dob_run.specs.Turned.{IsTurned, AreUnfailed, IsFirstFailed, StopsSo, AreWorkers, HasLeft};
 
 use crate::closing::{Ended, close_mails};
-use crate::crew::crew;
+use crate::crews::open_crew;
 use crate::fault::Fault;
 use crate::gate::Gate;
+use crate::limits::limit_passed;
 use crate::mail::Mail;
 use crate::runner::Runner;
 use crate::threads::run_each;
+use crate::turns::Until;
 use dob_board::{Board, Closed};
 use dob_chan::Rejoined;
 use dob_node::{Cause, Node};
 use dob_pieces::{Memory, PieceSet};
-use dob_rank::{Classes, MOST_PIECES};
+use dob_rank::Classes;
 use dob_update::Batch;
 use std::alloc::Global;
 use std::sync::Wait;
@@ -58,15 +60,10 @@ pub fn run_turns<R: Threads + Wait + Sync, G: Gate + Sync>(
 ) -> Result<Turned, Fault>
     ensures turned { IfOk result (IsTurned set n batch) }
     ensures refused { IfErr result (IsRefused set n batch capacity) }
+    ensures stopped { IfErr result (StopsSo IsFirstFailed set n batch capacity) }
 {
-    if set.chicks + set.elephants + set.giraffes > MOST_PIECES {
-        return Err(Fault::SetTooLarge);
-    }
-    if n < 1 || n > 16 {
-        return Err(Fault::Nodes);
-    }
-    if batch < 1 || batch > 4096 || capacity < 1 || capacity > 1024 {
-        return Err(Fault::Sizes);
+    if let Some(fault) = limit_passed(set, n, batch, capacity) {
+        return Err(fault);
     }
     let Ok(classes) = Classes::open(alloc, set) else {
         return Err(Fault::Memory);
@@ -85,22 +82,20 @@ fn turn_crew<R: Threads + Wait + Sync, G: Gate + Sync>(
     turns: u64,
     gate: &G,
 ) -> Result<Turned, Fault>
-    requires size { IsSize n }
-    requires some { 0 < batch }
-    requires at_most { batch ≤ 4096 }
-    requires room { 0 < capacity }
+    requires { AreWithin n batch capacity }
     ensures turned { IfOk result (IsTurned classes.now.set n batch) }
-    ensures stopped { IfErr result (IsStop n) }
+    ensures node { IfErr result (IsStop n) }
+    ensures stopped { IfErr result (StopsSo IsFirstFailed classes.now.set n batch capacity) }
 {
-    let (board, runners) = crew(alloc, classes, n, batch, capacity)?;
-    let ended = run_each(rt, alloc, runners, classes, gate, turns)?;
+    let (board, runners) = open_crew(alloc, classes, n, batch, capacity)?;
+    let ended = run_each(rt, alloc, runners, classes, gate, &Until::Turns(turns))?;
     find_failed(&ended)?;
     let turned = close_crew(rt, alloc, board, ended)?;
     Ok(turned)
 }
 
-// Refuses runners of which one has failed, with the least of them.
-fn find_failed(runners: &[Runner]) -> Result<(), Fault>
+/// Refuses runners of which one has failed, with the least of them.
+pub(crate) fn find_failed(runners: &[Runner]) -> Result<(), Fault>
     ensures going { OnOk result (AreUnfailed runners.now) }
     ensures first { IfErr result (IsFirstFailed runners.now) }
 {
@@ -145,8 +140,13 @@ fn close_crew<R: Wait>(
     })
 }
 
-// The node and the mail of each runner.
-fn part_runners(alloc: Global, runners: Vec<Runner>) -> Result<(Vec<Node>, Vec<Mail>), Memory>
+/// The node and the mail of each runner.
+///
+/// Error: `Memory`, which gives the runners up.
+pub(crate) fn part_runners(
+    alloc: Global,
+    runners: Vec<Runner>,
+) -> Result<(Vec<Node>, Vec<Mail>), Memory>
     ensures nodes { IfOk result (λ parts. parts.0.items ≡ map node_of runners.items) }
     ensures mails { IfOk result (λ parts. parts.1.items ≡ map mail_of runners.items) }
 {

@@ -2,7 +2,7 @@
 ghost use Rattle.dob_safra.specs.Laws.{IsSize};
 
 use crate::closing::{Ended, close_mails};
-use crate::crew::open_mails;
+use crate::crews::open_mails;
 use crate::{Fault, Gate, run_turns, scan};
 use dob_node::{Cause, opening};
 use dob_pieces::{Memory, PieceSet};

@@ -1,12 +1,12 @@
 // A thread for each runner of a crew.
 ghost use Rattle.std.specs.Prelude.{◌≡◌, IfOk};
 ghost use Rattle.std.specs.List.{AllZip};
-ghost use Rattle.dob_run.specs.Runners.{KeepsRunner};
-ghost use Rattle.dob_run.specs.Turns.{Suits, AllSuit};
+ghost use Rattle.dob_run.specs.Turns.{Suits, AllSuit, Ends};
 ghost use Rattle.dob_run.specs.Started.{IsStartOf, IsEndOf};
 
 use crate::gate::Gate;
 use crate::runner::Runner;
+use crate::turns::Until;
 use dob_node::Cause;
 use dob_pieces::Memory;
 use dob_rank::Classes;
@@ -21,10 +21,11 @@ use std::thread::{Promise, PromisedHandle, Scope, Threads};
 #[derive(Drop)]
 pub(crate) struct Kept {
     was: Snapshot<Runner>,
+    until: Snapshot<Until>,
 }
 
 impl Promise<Runner> for Kept {
-    ghost kept_by = { λ p r. KeepsRunner p.was.value r };
+    ghost kept_by = { λ p r. Ends p.until.value p.was.value r };
 }
 
 // A runner whose thread runs, or one that gave up.
@@ -34,7 +35,7 @@ pub(crate) enum Started {
     GaveUp(Runner),
 }
 
-/// Lets each runner make so many turns, in a thread of its own, and waits for all of them. What became of each, in order.
+/// Lets each runner make turns for so long, in a thread of its own, and waits for all of them. What became of each, in order.
 /// One for which no thread can be made makes no turn and fails for want of memory; the others make theirs. Its promises
 /// hold if it returns.
 ///
@@ -45,10 +46,10 @@ pub(crate) fn run_each<R: Threads + Wait + Sync, G: Gate + Sync>(
     runners: Vec<Runner>,
     classes: &Classes,
     gate: &G,
-    turns: u64,
+    until: &Until,
 ) -> Result<Vec<Runner>, Memory>
     requires { AllSuit classes.now.set runners.items }
-    ensures { IfOk result (λ ended. AllZip KeepsRunner runners.items ended.items) }
+    ensures { IfOk result (λ ended. AllZip (Ends until.now) runners.items ended.items) }
 {
     let unstarted = AtomicUsize::new(usize::MAX);
     let unstarted = &unstarted;
@@ -57,9 +58,9 @@ pub(crate) fn run_each<R: Threads + Wait + Sync, G: Gate + Sync>(
         rt,
         |scope| -> Result<Vec<Runner>, Memory>
             requires { AllSuit classes.now.set runners.items }
-            ensures { IfOk result (λ ended. AllZip KeepsRunner runners.items ended.items) }
+            ensures { IfOk result (λ ended. AllZip (Ends until.entry.now) runners.items ended.items) }
         {
-            let started = start_all(rt, alloc, scope, runners, classes, gate, turns, unstarted)?;
+            let started = start_all(rt, alloc, scope, runners, classes, gate, until, unstarted)?;
             end_all(rt, alloc, started)
         },
     )
@@ -73,15 +74,15 @@ fn start_all<'s, E, R: Threads + Wait + Sync, G: Gate + Sync>(
     runners: Vec<Runner>,
     classes: &'s Classes,
     gate: &'s G,
-    turns: u64,
+    until: &'s Until,
     unstarted: &'s AtomicUsize,
 ) -> Result<Vec<Started>, Memory>
     requires { AllSuit classes.now.set runners.items }
-    ensures { IfOk result (λ started. AllZip IsStartOf runners.items started.items) }
+    ensures { IfOk result (λ started. AllZip (IsStartOf until.now) runners.items started.items) }
 {
     let mut started = Vec::with_capacity(alloc, runners.len())?;
     for runner in runners {
-        started.push(start(rt, scope, runner, classes, gate, turns, unstarted))?;
+        started.push(start(rt, scope, runner, classes, gate, until, unstarted))?;
     }
     Ok(started)
 }
@@ -93,20 +94,21 @@ fn start<'s, E, R: Threads + Wait + Sync, G: Gate + Sync>(
     runner: Runner,
     classes: &'s Classes,
     gate: &'s G,
-    turns: u64,
+    until: &'s Until,
     unstarted: &'s AtomicUsize,
 ) -> Started
     requires { Suits classes.now.set runner }
-    ensures { IsStartOf runner result }
+    ensures { IsStartOf until.now runner result }
 {
     let node = runner.mail.seat.node;
     let promise = Kept {
         was: Snapshot::of(&runner),
+        until: Snapshot::of(until),
     };
     let run = move || -> Runner
         requires { Suits classes.now.set runner }
-        ensures { KeepsRunner runner result }
-    { go_unless(unstarted, rt, runner, classes, gate, turns) };
+        ensures { Ends until.entry.now runner result }
+    { go_unless(unstarted, rt, runner, classes, gate, until) };
     match scope.spawn_with(promise, run) {
         Ok(handle) => Started::Runs(handle),
         Err(refused) => {
@@ -118,22 +120,23 @@ fn start<'s, E, R: Threads + Wait + Sync, G: Gate + Sync>(
     }
 }
 
-// Makes the turns, unless it is the runner's node that was noted.
+// Makes the turns, unless it is the runner's node that was noted: then it gives up.
 fn go_unless<R: Wait, G: Gate>(
     unstarted: &AtomicUsize,
     rt: &R,
     mut runner: Runner,
     classes: &Classes,
     gate: &G,
-    turns: u64,
+    until: &Until,
 ) -> Runner
     requires { Suits classes.now.set runner }
-    ensures { KeepsRunner runner result }
+    ensures { Ends until.now runner result }
 {
     if unstarted.load(Ordering::SeqCst) == runner.mail.seat.node {
+        runner.give_up(Cause::Memory);
         return runner;
     }
-    runner.go(rt, classes, gate, turns);
+    runner.go_until(rt, classes, gate, until);
     runner
 }
 

@@ -1,7 +1,8 @@
 // A turn of a runner.
-ghost use Rattle.std.specs.Prelude.{◌≡◌, ◌≢◌, ◌↔◌, ◌<◌, ◌≤◌, IsTrue, None, MatchResult};
+ghost use Rattle.std.specs.Prelude.{◌≡◌, ◌≢◌, ◌↔◌, ◌<◌, ◌≤◌, IsTrue, Err, None, MatchResult};
 ghost use Rattle.dob_board.specs.declared.halt.Halt.TheVariants.{Running};
-ghost use Rattle.dob_run.specs.Runners.{Steps, GoesRound, HasFailed, HasTurned, IsNew};
+ghost use Rattle.dob_node.specs.declared.cause.Cause.TheVariants.{Held};
+ghost use Rattle.dob_run.specs.Runners.{Steps, GoesRound, HasFailed, HasTurned, IsHeldBack, IsNew};
 
 use crate::gate::Gate;
 use crate::mail::Mail;
@@ -43,9 +44,11 @@ impl Runner {
         self.mail.seat.halt != Halt::Running
     }
 
-    /// Gives up for a cause that isn't the node's own: the board is told, and the runner keeps the cause.
+    /// Gives up for a cause that isn't the node's own: the board is told, and the runner keeps the cause. Its node is as it
+    /// was.
     pub(crate) fn give_up(&mut self, why: Cause)
-        ensures { HasFailed self.old self.new why }
+        ensures failed { HasFailed self.old self.new why }
+        ensures same { IsHeldBack self.old self.new }
     {
         self.failed = Some(why);
         self.mail.fail();
@@ -54,7 +57,9 @@ impl Runner {
     /// One turn: a runner that the gate lets pass and whose run goes on does a turn's work for its node, and if there was
     /// none it looks for the token, or pauses. The answer is the halt that its seat knows.
     ///
-    /// Errors, after which the run has failed: `Held` where the gate says no; else the cause of the node.
+    /// Errors, after which the run has failed, if it hadn't ended or failed before: `Held` where the gate says no, and then the
+    /// runner has done nothing: its node and what went over its links are as they were; else the cause of the node, which
+    /// is never `Held`.
     pub fn turn<R: Wait, G: Gate>(
         &mut self,
         rt: &R,
@@ -63,7 +68,8 @@ impl Runner {
     ) -> Result<Halt, Cause>
         requires running { self.old.mail.seat.halt ≡ Running }
         requires set { classes.now.set ≡ self.old.set }
-        ensures { MatchResult result (HasTurned self.old self.new) (HasFailed self.old self.new) }
+        ensures turned { MatchResult result (HasTurned self.old self.new) (HasFailed self.old self.new) }
+        ensures held { result ≡ Err Held → IsHeldBack self.old self.new }
     {
         if !gate.enter(self.mail.seat.node) {
             self.give_up(Cause::Held);

@@ -1,6 +1,7 @@
-// Turns of a runner without the token.
-ghost use Rattle.std.specs.Prelude.{◌≡◌, None};
-ghost use Rattle.dob_run.specs.Runners.{Steps, KeepsRunner};
+// Turns of a runner, one after another.
+ghost use Rattle.std.specs.Prelude.{◌≡◌, ◌≢◌, None, MatchResult};
+ghost use Rattle.dob_board.specs.declared.halt.Halt.TheVariants.{Running};
+ghost use Rattle.dob_run.specs.Runners.{GoesOn, HasFailed, KeepsRunner};
 
 use crate::gate::Gate;
 use crate::runner::Runner;
@@ -8,9 +9,51 @@ use dob_node::Cause;
 use dob_rank::Classes;
 use std::sync::Wait;
 
+/// How long a runner makes turns: so many, without the halt word and the token, or until its seat has seen that the run ended
+/// or failed.
+#[derive(Drop)]
+pub(crate) enum Until {
+    Turns(u64),
+    Stopped,
+}
+
 impl Runner {
-    /// Makes so many turns of work for its node, or ends at the first that fails. Its promises hold if it returns.
-    pub(crate) fn go<R: Wait, G: Gate>(&mut self, rt: &R, classes: &Classes, gate: &G, turns: u64)
+    ghost use Rattle.dob_run.specs.Turns.{Suits, Ends};
+
+    /// Makes turns for so long, or ends at the first that fails. Its promises hold if it returns.
+    pub(crate) fn go_until<R: Wait, G: Gate>(
+        &mut self,
+        rt: &R,
+        classes: &Classes,
+        gate: &G,
+        until: &Until,
+    )
+        requires { Suits classes.now.set self.old }
+        ensures { Ends until.now self.old self.new }
+    {
+        match until {
+            Until::Turns(turns) => self.go(rt, classes, gate, *turns),
+            Until::Stopped => self.run(rt, classes, gate),
+        }
+    }
+
+    // Makes whole turns until its seat has seen that the run ended or failed. Its promises hold if it returns.
+    fn run<R: Wait, G: Gate>(&mut self, rt: &R, classes: &Classes, gate: &G)
+        requires { classes.now.set ≡ self.old.set }
+        ensures keeps { KeepsRunner self.old self.new }
+        ensures stopped { self.new.mail.seat.halt ≢ Running }
+    {
+        for _ in rt.forever() {
+            if self.stopped() {
+                return;
+            }
+            let _ = self.turn(rt, classes, gate);
+        }
+        unreachable!()
+    }
+
+    // Makes so many turns of work for its node, or ends at the first that fails. Its promises hold if it returns.
+    fn go<R: Wait, G: Gate>(&mut self, rt: &R, classes: &Classes, gate: &G, turns: u64)
         requires unfailed { self.old.failed ≡ None }
         requires set { classes.now.set ≡ self.old.set }
         ensures { KeepsRunner self.old self.new }
@@ -32,7 +75,7 @@ impl Runner {
     ) -> Result<bool, Cause>
         requires unfailed { self.old.failed ≡ None }
         requires set { classes.now.set ≡ self.old.set }
-        ensures { Steps self.old self.new result }
+        ensures { MatchResult result (λ _. GoesOn self.old self.new) (HasFailed self.old self.new) }
     {
         if !gate.enter(self.mail.seat.node) {
             self.give_up(Cause::Held);

@@ -1,7 +1,7 @@
 // What a worker does with the words of the board besides its counts: the token and the halt.
 ghost use Rattle.std.specs.Prelude.{◌≡◌, ◌≢◌, ◌↔◌, ℕ, IsTrue, Some, None, true, false};
-ghost use Rattle.dob_board.specs.declared.halt.Halt.TheVariants.{Running};
-ghost use Rattle.dob_board.specs.Seats.{stand_of, MayEnd};
+ghost use Rattle.dob_board.specs.declared.halt.Halt.TheVariants.{Running, Ended};
+ghost use Rattle.dob_board.specs.Seats.{stand_of, MayEnd, KnewOwn};
 ghost use Rattle.dob_run.specs.Mails.{AreOut, AreIn};
 ghost use Rattle.dob_run.specs.Keeps.{HasSameLinks};
 
@@ -38,31 +38,37 @@ impl Mail {
         self.seat.may_announce()
     }
 
-    /// Announces the end, which the node may do. The halt that its seat finds isn't `Running`.
+    /// Announces the end, which the node may do. The halt that its seat finds isn't `Running`, and the node's own failure only
+    /// where the seat knew that.
     pub fn announce(&mut self)
         requires { MayEnd (stand_of self.old.seat) }
         ensures links { HasSameLinks self.old self.new }
         ensures colour { self.new.seat.black ≡ self.old.seat.black }
         ensures stopped { self.new.seat.halt ≢ Running }
+        ensures own { KnewOwn self.old.seat self.new.seat.halt }
     {
         let _ = self.seat.announce();
     }
 
-    /// Says that the node failed the run. The halt that its seat finds isn't `Running`.
+    /// Says that the node failed the run. The halt that its seat finds isn't `Running`; it is the one that it knew, if it knew
+    /// one; and `Ended` only where the node is white.
     pub fn fail(&mut self)
         ensures links { HasSameLinks self.old self.new }
         ensures colour { self.new.seat.black ≡ self.old.seat.black }
         ensures stopped { self.new.seat.halt ≢ Running }
+        ensures stays { self.old.seat.halt ≢ Running → self.new.seat.halt ≡ self.old.seat.halt }
+        ensures black { self.old.seat.black ≡ true → self.new.seat.halt ≢ Ended }
     {
         let _ = self.seat.fail();
     }
 
-    /// Whether the run goes on, as the board says now.
+    /// Whether the run goes on, as the board says now. It says that the node itself failed only where the seat knew that.
     pub fn halted(&mut self) -> Halt
         ensures halt { result ≡ self.new.seat.halt }
         ensures links { HasSameLinks self.old self.new }
         ensures colour { self.new.seat.black ≡ self.old.seat.black }
         ensures stays { self.old.seat.halt ≢ Running → self.new.seat.halt ≡ self.old.seat.halt }
+        ensures own { KnewOwn self.old.seat self.new.seat.halt }
     {
         self.seat.halted()
     }

@@ -12,7 +12,8 @@ invariant_of-self c =
       some = r.some;
       at_most = r.at_most;
       going = r.going;
-      lawful = λ none. (let law = r.lawful none in elim (cases_Bool c.in-Ok.applied) [
+      own = r.own;
+      lawful = λ _. (let law = r.lawful (inl c.requires) in elim (cases_Bool c.in-Ok.applied) [
         | inl did ↦ applied_own r.set r.size r.node c.apply_own.new.self r.mail law (c.in-Ok.ensures.applied (ap Ok did)) c.in-Ok.ensures.sound
         | inr none_left ↦ subst (λ (n : Node). IsLawful r.set r.size n r.mail) (sym (c.in-Ok.ensures.nothing (ap Ok none_left))) law
       ]);

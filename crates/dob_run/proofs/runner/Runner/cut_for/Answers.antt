@@ -4,7 +4,7 @@ use Rattle.dob_update.specs.Batches.{BatchView}
 use Rattle.dob_board.specs.declared.view.Stand.{Stand}
 use Rattle.dob_node.specs.declared.cause.Cause.{Cause}
 use Rattle.dob_node.specs.Nodes.{outbox_to, HasCut}
-use Rattle.dob_run.proofs.Keeping.{some_at}
+use Rattle.dob_run.proofs.Keeping.{same_halt, own_still, some_at}
 use Rattle.dob_run.proofs.Lawfuls.{cut_one, few_cut}
 use Rattle.dob_run.proofs.runner.Runner.cut_for.Goals as goal
 
@@ -17,7 +17,7 @@ cut_counts cut why is = absurd (cc)
 pub post-requires-clause-few : goal.post-requires-clause-few
 post-requires-clause-few c =
     let r = c.args.self.now in
-    let law = r.lawful c.requires.unfailed in
+    let law = r.lawful (inl c.requires.unfailed) in
     let spot = some_at r.mail.outlets.items c.args.to (omega (arith, r.mail.outlets_len, c.requires.node)) in
     let few : (outbox_to r.node c.args.to).next < 2 ^ 40 = few_cut (outbox_to r.node c.args.to).next
     (λ many. cut_counts c.in-Ok.cut _ (c.in-Ok.ensures.counts.1 (λ empty. cut_none c.in-Ok.cut c.in-Some.batch c.in-Some.is (c.in-Ok.ensures.none.1 empty), many))) in
@@ -26,7 +26,7 @@ post-requires-clause-few c =
 pub invariant_of-self-2 : goal.invariant_of-self-2
 invariant_of-self-2 c =
     let r = c.args.self.now in
-    let law = r.lawful c.requires.unfailed in
+    let law = r.lawful (inl c.requires.unfailed) in
     let cut : HasCut c.args.to r.size c.in-Some.batch r.node c.cut_for.new.self =
     subst (λ given. IfSome given (λ (b : BatchView). HasCut c.args.to r.size b r.node c.cut_for.new.self)) c.in-Some.is c.in-Ok.ensures.cut in
     let was_black : r.mail.seat.black ≡ true = elim (cases_Bool r.mail.seat.black) [
@@ -37,7 +37,9 @@ invariant_of-self-2 c =
       some = r.some;
       at_most = r.at_most;
       going = λ _. c.requires.unfailed;
-      lawful = λ none. cut_one r.set r.size c.args.to c.in-Some.batch r.node c.cut_for.new.self r.mail c.post.new.self law c.requires.other cut c.in-Ok.ensures.sound
+      own = λ found. r.own (own_still r.mail.seat c.post.new.self.seat
+          (same_halt c.post.new.self.seat.halt r.mail.seat.halt (ap (λ (s : Stand). s.halt) c.post.ensures.counted)) c.post.ensures.same.node found);
+      lawful = λ _. cut_one r.set r.size c.args.to c.in-Some.batch r.node c.cut_for.new.self r.mail c.post.new.self law c.requires.other cut c.in-Ok.ensures.sound
           c.post.ensures.same.node c.post.ensures.same.nodes (ap (λ (s : Stand). s.black) c.post.ensures.counted ∙ was_black) c.post.ensures.offered
           c.post.ensures.inlets;
     }

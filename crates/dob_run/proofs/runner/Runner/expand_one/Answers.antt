@@ -1,9 +1,26 @@
-use Rattle.std.proofs.Common.{Ok, ap, sym, subst, inl, inr}
+use Rattle.std.proofs.Common.{◌≡◌, Bool, false, Result, Ok, Err, ap, sym, subst, inl, inr}
 use Rattle.std.proofs.lemmas.Bool.{cases_Bool}
+use Rattle.dob_node.specs.declared.cause.Cause.{Cause}
 use Rattle.dob_node.specs.declared.node.Node.{Node}
 use Rattle.dob_run.specs.Workers.{IsLawful}
-use Rattle.dob_run.proofs.Lawfuls.{expanded_one}
+use Rattle.dob_run.proofs.Keeping.{some_cause, failed_first}
+use Rattle.dob_run.proofs.Lawfuls.{expanded_one, busy_black}
 use Rattle.dob_run.proofs.runner.Runner.expand_one.Goals as goal
+
+refused : (why : Cause) → (let given : Result Bool Cause = Err why in given ≡ Ok false) → ⊥
+refused why is = absurd (cc)
+
+pub invariant_of-self-in-Err : goal.invariant_of-self-in-Err
+invariant_of-self-in-Err c =
+    let r = c.args.self.now in
+    let black = busy_black r.set r.size r.node r.mail (r.lawful (inl c.requires.unfailed)) (λ idle. refused c.in-Err.why (c.in-Err.ensures.done.1 idle.expanded)) in
+    record {
+      some = r.some;
+      at_most = r.at_most;
+      going = λ running. absurd (c.fail.ensures.stopped running);
+      own = λ _ none. some_cause c.in-Err.why none;
+      lawful = failed_first c.in-Err.why c.fail.new.self.seat.halt (c.fail.ensures.black black);
+    }
 
 pub invariant_of-self : goal.invariant_of-self
 invariant_of-self c =
@@ -12,7 +29,8 @@ invariant_of-self c =
       some = r.some;
       at_most = r.at_most;
       going = r.going;
-      lawful = λ none. (let law = r.lawful none in elim (cases_Bool c.in-Ok.expanded) [
+      own = r.own;
+      lawful = λ _. (let law = r.lawful (inl c.requires.unfailed) in elim (cases_Bool c.in-Ok.expanded) [
         | inl did ↦ expanded_one r.set r.size r.node c.expand.new.self r.mail law (c.in-Ok.ensures.expanded (ap Ok did)) c.in-Ok.ensures.sound
         | inr none_left ↦ subst (λ (n : Node). IsLawful r.set r.size n r.mail) (sym (c.in-Ok.ensures.nothing (ap Ok none_left))) law
       ]);

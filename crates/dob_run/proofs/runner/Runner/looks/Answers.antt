@@ -1,4 +1,5 @@
-use Rattle.std.proofs.Common.{sym, ap, ◌∙◌}
+use Rattle.std.proofs.Common.{sym, ap, ◌∙◌, inl}
+use Rattle.dob_run.proofs.Keeping.{own_before}
 use Rattle.dob_run.proofs.Lawfuls.{recoloured, same_inlets}
 use Rattle.dob_run.proofs.runner.Runner.looks.Goals as goal
 
@@ -9,8 +10,9 @@ invariant_of-self c =
       some = r.some;
       at_most = r.at_most;
       going = λ _. c.requires;
-      lawful = λ none. recoloured r.set r.size r.node r.mail c.halted.new.self (r.lawful none)
+      own = λ found. r.own (own_before r.mail.seat c.halted.new.self.seat c.halted.ensures.own c.halted.ensures.links.seat.node found);
+      lawful = λ _. recoloured r.set r.size r.node r.mail c.halted.new.self (r.lawful (inl c.requires))
           c.halted.ensures.links.seat.node c.halted.ensures.links.seat.nodes (ap (λ v. v.items) c.halted.ensures.links.outlets)
           (same_inlets r.mail c.halted.new.self c.halted.ensures.links.inlets)
-          (λ is. (r.lawful none).white (sym c.halted.ensures.colour ∙ is));
+          (λ is. (r.lawful (inl c.requires)).white (sym c.halted.ensures.colour ∙ is));
     }

@@ -1,4 +1,5 @@
-use Rattle.std.proofs.Common.{sym, ap, ◌∙◌}
+use Rattle.std.proofs.Common.{sym, ap, ◌∙◌, inl}
+use Rattle.dob_run.proofs.Keeping.{own_before, own_still}
 use Rattle.dob_run.proofs.Lawfuls.{recoloured, same_inlets}
 use Rattle.dob_run.proofs.runner.Runner.move_token.Goals as goal
 
@@ -9,10 +10,11 @@ invariant_of-self c =
       some = r.some;
       at_most = r.at_most;
       going = λ _. c.requires.unfailed;
-      lawful = λ none. recoloured r.set r.size r.node r.mail c.finds_token.new.self (r.lawful none)
+      own = λ found. r.own (own_still r.mail.seat c.finds_token.new.self.seat c.finds_token.ensures.halt c.finds_token.ensures.links.seat.node found);
+      lawful = λ _. recoloured r.set r.size r.node r.mail c.finds_token.new.self (r.lawful (inl c.requires.unfailed))
           c.finds_token.ensures.links.seat.node c.finds_token.ensures.links.seat.nodes (ap (λ v. v.items) c.finds_token.ensures.links.outlets)
           (same_inlets r.mail c.finds_token.new.self c.finds_token.ensures.links.inlets)
-          (λ is. (r.lawful none).white (sym c.finds_token.ensures.colour ∙ is));
+          (λ is. (r.lawful (inl c.requires.unfailed)).white (sym c.finds_token.ensures.colour ∙ is));
     }
 
 pub invariant_of-self-then-may_announce : goal.invariant_of-self-then-may_announce
@@ -22,12 +24,14 @@ invariant_of-self-then-may_announce c =
       some = r.some;
       at_most = r.at_most;
       going = λ _. c.requires.unfailed;
-      lawful = λ none. recoloured r.set r.size r.node r.mail c.announce.new.self (r.lawful none)
+      own = λ found. r.own (own_still r.mail.seat c.finds_token.new.self.seat c.finds_token.ensures.halt c.finds_token.ensures.links.seat.node
+          (own_before c.finds_token.new.self.seat c.announce.new.self.seat c.announce.ensures.own c.announce.ensures.links.seat.node found));
+      lawful = λ _. recoloured r.set r.size r.node r.mail c.announce.new.self (r.lawful (inl c.requires.unfailed))
           (c.announce.ensures.links.seat.node ∙ c.finds_token.ensures.links.seat.node)
           (c.announce.ensures.links.seat.nodes ∙ c.finds_token.ensures.links.seat.nodes)
           (ap (λ v. v.items) (c.announce.ensures.links.outlets ∙ c.finds_token.ensures.links.outlets))
           (same_inlets r.mail c.announce.new.self (c.announce.ensures.links.inlets ∙ c.finds_token.ensures.links.inlets))
-          (λ is. (r.lawful none).white (sym (c.announce.ensures.colour ∙ c.finds_token.ensures.colour) ∙ is));
+          (λ is. (r.lawful (inl c.requires.unfailed)).white (sym (c.announce.ensures.colour ∙ c.finds_token.ensures.colour) ∙ is));
     }
 
 pub invariant_of-self-else-may_announce : goal.invariant_of-self-else-may_announce
@@ -37,7 +41,9 @@ invariant_of-self-else-may_announce c =
       some = r.some;
       at_most = r.at_most;
       going = λ _. c.requires.unfailed;
-      lawful = λ none. recoloured r.set r.size r.node r.mail c.pass.new.self (r.lawful none)
+      own = λ found. r.own (own_still r.mail.seat c.pass.new.self.seat (c.pass.ensures.halt ∙ c.finds_token.ensures.halt)
+          (c.pass.ensures.links.seat.node ∙ c.finds_token.ensures.links.seat.node) found);
+      lawful = λ _. recoloured r.set r.size r.node r.mail c.pass.new.self (r.lawful (inl c.requires.unfailed))
           (c.pass.ensures.links.seat.node ∙ c.finds_token.ensures.links.seat.node)
           (c.pass.ensures.links.seat.nodes ∙ c.finds_token.ensures.links.seat.nodes)
           (ap (λ v. v.items) (c.pass.ensures.links.outlets ∙ c.finds_token.ensures.links.outlets))

@@ -7,5 +7,6 @@ invariant_of-result c = record {
   some = c.requires.some;
   at_most = c.requires.at_most;
   going = λ _. refl;
+  own = λ found. absurd (let was = c.requires.fresh.running in cc);
   lawful = λ _. begun c.args.set c.args.size c.args.node c.args.mail c.requires.fresh;
 }

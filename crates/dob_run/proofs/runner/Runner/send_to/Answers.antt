@@ -1,6 +1,6 @@
-use Rattle.std.proofs.Common.{ap, ◌∙◌}
+use Rattle.std.proofs.Common.{ap, ◌∙◌, inl}
 use Rattle.dob_run.specs.Runners.{GoesOn}
-use Rattle.dob_run.proofs.Keeping.{mail_trans, out_still}
+use Rattle.dob_run.proofs.Keeping.{mail_trans, own_still, out_still}
 use Rattle.dob_run.proofs.Lawfuls.{offered_again}
 use Rattle.dob_run.proofs.runner.Runner.send_to.Goals as goal
 
@@ -12,7 +12,8 @@ invariant_of-self g c =
       some = f.some;
       at_most = f.at_most;
       going = λ _. went.unfailed;
-      lawful = λ none. offered_again f.set f.size c.args.to f.node f.mail c.offer.new.self (f.lawful none) c.offer.ensures.seat c.offer.ensures.offered c.offer.ensures.inlets
+      own = λ found. f.own (own_still f.mail.seat c.offer.new.self.seat (ap (λ s. s.halt) c.offer.ensures.seat) (ap (λ s. s.node) c.offer.ensures.seat) found);
+      lawful = λ _. offered_again f.set f.size c.args.to f.node f.mail c.offer.new.self (f.lawful (inl went.unfailed)) c.offer.ensures.seat c.offer.ensures.offered c.offer.ensures.inlets
           (out_still f.mail c.offer.new.self (ap (λ s. s.nodes) c.offer.ensures.seat) c.offer.ensures.hands);
     }
 

@@ -1,4 +1,4 @@
-use Rattle.std.proofs.Common.{◌≡◌, ℕ, true, refl, sym, ap, ◌∙◌, ◌++◌}
+use Rattle.std.proofs.Common.{◌≡◌, ℕ, true, refl, sym, ap, ◌∙◌, ◌++◌, inl}
 use Rattle.std.specs.Prelude.{slice_get}
 use Rattle.dob_board.specs.declared.view.Stand.{Stand}
 use Rattle.dob_board.specs.Seats.{TakesOne}
@@ -7,7 +7,7 @@ use Rattle.dob_run.specs.declared.mail.Mail.{Mail}
 use Rattle.dob_run.specs.Links.{worked, KeepsInlet}
 use Rattle.dob_run.specs.Mails.{HasChangedOne}
 use Rattle.dob_run.specs.Workers.{items_worked}
-use Rattle.dob_run.proofs.Keeping.{mail_trans, links_kept}
+use Rattle.dob_run.proofs.Keeping.{mail_trans, links_kept, own_still, some_cause, failed_first, reason_unheld}
 use Rattle.dob_run.proofs.Applied.{worked_again, worked_else, worked_more}
 use Rattle.dob_run.proofs.Lawfuls.{recoloured, same_inlets, applied_batch}
 use Rattle.dob_run.proofs.runner.Runner.take_from.Goals as goal
@@ -24,11 +24,25 @@ invariant_of-self g c =
       some = r.some;
       at_most = r.at_most;
       going = λ _. c.requires.unfailed;
-      lawful = λ none. recoloured r.set r.size r.node r.mail c.accept.new.self (r.lawful none)
+      own = λ found. r.own (own_still r.mail.seat c.accept.new.self.seat (c.accept.ensures.halt ∙ ap (λ s. s.halt) c.receive.ensures.seat)
+          (c.accept.ensures.same.node ∙ ap (λ s. s.node) c.receive.ensures.seat) found);
+      lawful = λ _. recoloured r.set r.size r.node r.mail c.accept.new.self (r.lawful (inl c.requires.unfailed))
           (c.accept.ensures.same.node ∙ ap (λ s. s.node) c.receive.ensures.seat) (c.accept.ensures.same.nodes ∙ ap (λ s. s.nodes) c.receive.ensures.seat)
           (ap (λ v. v.items) (c.accept.ensures.outlets ∙ c.receive.ensures.outlets))
           (λ k. same_inlets c.receive.new.self c.accept.new.self c.in_default.ensures.kept k ∙ received r.mail c.receive.new.self c.args.from c.receive.ensures.worked k)
-          (λ is. (r.lawful none).white (sym (c.in_default.ensures.uncounted.1 ∙ ap (λ s. s.black) c.receive.ensures.seat) ∙ is));
+          (λ is. (r.lawful (inl c.requires.unfailed)).white (sym (c.in_default.ensures.uncounted.1 ∙ ap (λ s. s.black) c.receive.ensures.seat) ∙ is));
+    }
+
+pub invariant_of-self-in-Err : goal.invariant_of-self-in-Err
+invariant_of-self-in-Err g c =
+    let r = c.args.self.now in
+    let taken : TakesOne c.receive.new.self.seat c.accept.new.self.seat c.args.from = c.in-Some.ensures.taken in
+    record {
+      some = r.some;
+      at_most = r.at_most;
+      going = λ running. absurd (c.fail.ensures.stopped running);
+      own = λ _ none. some_cause c.in-Err.why none;
+      lawful = failed_first c.in-Err.why c.fail.new.self.seat.halt (c.fail.ensures.black (ap (λ (s : Stand). s.black) taken.counted));
     }
 
 pub invariant_of-self-in-Ok : goal.invariant_of-self-in-Ok
@@ -40,9 +54,11 @@ invariant_of-self-in-Ok g c =
       some = r.some;
       at_most = r.at_most;
       going = λ _. c.requires.unfailed;
-      lawful = λ none. (let again = received r.mail c.receive.new.self c.args.from c.receive.ensures.worked in
+      own = λ found. r.own (own_still r.mail.seat c.accept.new.self.seat (c.accept.ensures.halt ∙ ap (λ s. s.halt) c.receive.ensures.seat)
+          (c.accept.ensures.same.node ∙ ap (λ s. s.node) c.receive.ensures.seat) found);
+      lawful = λ _. (let again = received r.mail c.receive.new.self c.args.from c.receive.ensures.worked in
           let one = c.in-Some.ensures.worked in
-          applied_batch r.set r.size c.args.from c.in-Some.batch r.node c.apply_batch.new.self r.mail c.accept.new.self (r.lawful none)
+          applied_batch r.set r.size c.args.from c.in-Some.batch r.node c.apply_batch.new.self r.mail c.accept.new.self (r.lawful (inl c.requires.unfailed))
           c.requires.node c.if-from-self.false c.in-Some.ensures.fit.entries c.in-Ok.ensures.taken c.in-Ok.ensures.sound
           (c.accept.ensures.same.node ∙ ap (λ s. s.node) c.receive.ensures.seat) (c.accept.ensures.same.nodes ∙ ap (λ s. s.nodes) c.receive.ensures.seat)
           black (ap (λ v. v.items) (c.accept.ensures.outlets ∙ c.receive.ensures.outlets))
@@ -64,12 +80,15 @@ pub returns : goal.returns
 returns g c =
     let r = c.args.self.now in
     record {
-      keeps = record {
-        mail = mail_trans r.mail c.accept.new.self c.fail.new.self (mail_trans r.mail c.receive.new.self c.accept.new.self c.receive.ensures.keeps c.accept.ensures.keeps)
-            (links_kept c.accept.new.self c.fail.new.self c.fail.ensures.links);
-        set = refl;
-        size = refl;
+      failed = record {
+        keeps = record {
+          mail = mail_trans r.mail c.accept.new.self c.fail.new.self (mail_trans r.mail c.receive.new.self c.accept.new.self c.receive.ensures.keeps c.accept.ensures.keeps)
+              (links_kept c.accept.new.self c.fail.new.self c.fail.ensures.links);
+          set = refl;
+          size = refl;
+        };
+        cause = refl;
+        stopped = c.fail.ensures.stopped;
       };
-      cause = refl;
-      stopped = c.fail.ensures.stopped;
+      unheld = reason_unheld c.in-Err.ensures.stopped.item c.in-Err.ensures.stopped.after c.in-Err.why c.in-Err.ensures.stopped.refused;
     }

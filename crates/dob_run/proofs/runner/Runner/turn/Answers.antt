@@ -1,14 +1,17 @@
 use Rattle.std.proofs.Common.{refl}
 use Rattle.dob_run.specs.Runners.{GoesOn, GoesRound}
-use Rattle.dob_run.proofs.Keeping.{runner_trans, turn_failed}
+use Rattle.dob_run.proofs.Keeping.{runner_trans, turn_failed, unheld_on}
 use Rattle.dob_run.proofs.runner.Runner.turn.Goals as goal
 
-pub returns-in_err-did : goal.returns-in_err-did
-returns-in_err-did g c = turn_failed c.args.self.now c.looks-halt.new.self c.work.new.self c.from_residual.result c.in_err-did.field-0.0 c.from_residual.ensures.1
-    c.looks-halt.ensures.goes.keeps c.in_err-did.ensures
+pub returns-in_err-did-clause-turned : goal.returns-in_err-did-clause-turned
+returns-in_err-did-clause-turned g c = turn_failed c.args.self.now c.looks-halt.new.self c.work.new.self c.from_residual.result c.in_err-did.field-0.0 c.from_residual.ensures.1
+    c.looks-halt.ensures.goes.keeps c.in_err-did.ensures.failed
 
-pub returns : goal.returns
-returns g c =
+pub returns-in_err-did-clause-held : goal.returns-in_err-did-clause-held
+returns-in_err-did-clause-held g c = unheld_on c.from_residual.result c.in_err-did.field-0.0 c.from_residual.ensures.1 c.in_err-did.ensures.unheld
+
+pub returns-clause-turned : goal.returns-clause-turned
+returns-clause-turned g c =
     let worked : GoesOn c.looks-halt.new.self c.work.new.self = c.in_ok-did.ensures in
     let ended : GoesRound c.work.new.self c.ends_turn.new.self = c.ends_turn.ensures in
     record {

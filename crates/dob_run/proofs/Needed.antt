@@ -1,0 +1,246 @@
+-- A worker that has nothing left to do cut enough batches for what its classes have to tell another node.
+use Rattle.std.proofs.Common.{◌≡◌, ◌≢◌, ℕ, zero, suc, ◌+◌, ◌*◌, ◌<◌, ◌≤◌, inl, inr, eqb, Bool, true, false, cond, refl, sym, ap, ◌∙◌, subst, arith, List, [], ◌∷◌, ◌++◌, length, length-append, get_or, Some}
+use Rattle.std.specs.Prelude.{slice_get}
+use Rattle.std.specs.List.{All, sum_by, count_by, filter, range_with_len}
+use Rattle.std.proofs.lemmas.Bool.{cases_Bool, cases_eq, eq-eqb, ne_eqb, eqb-true}
+use Rattle.std.proofs.lemmas.List.{append-nil, length-map, take_all}
+use Rattle.std.proofs.lemmas.List.Concat.{length-flat_map}
+use Rattle.std.proofs.lemmas.List.Sums.{sum_by-cons, sum_by-le, length-filter}
+use Rattle.std.proofs.lemmas.Option.{slice_get-get_or}
+use Rattle.dob_pieces.specs.declared.piece_set.PieceSet.{PieceSet}
+use Rattle.dob_rank.specs.Marks.{classes_of}
+use Rattle.dob_value.specs.declared.value.Value.{Value}
+use Rattle.dob_value.specs.declared.value.Value.TheVariants.{Draw}
+use Rattle.dob_value.specs.Entries.{is_draw}
+use Rattle.dob_unmove.specs.Edges.{predecessors}
+use Rattle.dob_share.specs.declared.news.Settlement.{Settlement}
+use Rattle.dob_share.specs.declared.news.Item.{Item}
+use Rattle.dob_share.specs.Owners.{owner_of}
+use Rattle.dob_share.specs.Shares.{HasValueNow}
+use Rattle.dob_update.specs.Items.{item_for, items_of, items_from}
+use Rattle.dob_update.specs.Batches.{BatchView}
+use Rattle.dob_node.specs.declared.node.Node.{Node}
+use Rattle.dob_node.specs.Histories.{last_now, value_of}
+use Rattle.dob_node.specs.Nodes.{IsIdle}
+use Rattle.dob_run.specs.declared.hands.Outlet.{Outlet}
+use Rattle.dob_run.specs.declared.mail.Mail.{Mail}
+use Rattle.dob_run.specs.Links.{offered}
+use Rattle.dob_run.specs.Workers.{items_in, SendsRight, IsLawful}
+use Rattle.dob_run.specs.Built.{told_to, needed}
+
+-- ---- sums over numbers that follow one another
+
+sum_no_more : (f g : ℕ → ℕ) (a n : ℕ) → ((k : ℕ) → k < a + n → f k ≤ g k) → sum_by f (range_with_len a n) ≤ sum_by g (range_with_len a n)
+sum_no_more f g a zero less = omega arith
+sum_no_more f g a (suc n) less =
+    let here = less a (omega arith) in
+    let rest = sum_no_more f g (a + 1) n (λ k low. less k (omega arith)) in
+    let one = sum_by-cons f a (range_with_len (a + 1) n) in
+    let other = sum_by-cons g a (range_with_len (a + 1) n) in
+    omega (arith, here, rest, one, other)
+
+sum_none : (a n : ℕ) → sum_by (λ (k : ℕ). 0) (range_with_len a n) ≡ 0
+sum_none a zero = refl
+sum_none a (suc n) =
+    let rest = sum_none (a + 1) n in
+    let one = sum_by-cons (λ (k : ℕ). 0) a (range_with_len (a + 1) n) in
+    omega (arith, rest, one)
+
+sum_both : (f g : ℕ → ℕ) (a n : ℕ) →
+    sum_by (λ k. f k + g k) (range_with_len a n) ≡ sum_by f (range_with_len a n) + sum_by g (range_with_len a n)
+sum_both f g a zero = refl
+sum_both f g a (suc n) =
+    let rest = sum_both f g (a + 1) n in
+    let both = sum_by-cons (λ k. f k + g k) a (range_with_len (a + 1) n) in
+    let one = sum_by-cons f a (range_with_len (a + 1) n) in
+    let other = sum_by-cons g a (range_with_len (a + 1) n) in
+    omega (arith, rest, both, one, other)
+
+-- what is counted of one number alone
+abbrev only : (ℕ → ℕ) → ℕ → ℕ → ℕ
+only f c k = cond {A = ℕ} (eqb c k) (f k) 0
+
+none_before : (f : ℕ → ℕ) (c a n : ℕ) → c < a → sum_by (only f c) (range_with_len a n) ≡ 0
+none_before f c a zero low = refl
+none_before f c a (suc n) low =
+    let here : only f c a ≡ 0 = ap (λ b. cond {A = ℕ} b (f a) 0) (ne_eqb c a (λ e. absurd (omega (arith, e)))) in
+    let rest = none_before f c (a + 1) n (omega arith) in
+    let one = sum_by-cons (only f c) a (range_with_len (a + 1) n) in
+    omega (arith, here, rest, one)
+
+-- is no more than what it has
+only_once : (f : ℕ → ℕ) (c a n : ℕ) → sum_by (only f c) (range_with_len a n) ≤ f c
+only_once f c a zero = omega arith
+only_once f c a (suc n) =
+    let one = sum_by-cons (only f c) a (range_with_len (a + 1) n) in
+    elim (cases_eq c a) [
+      | inl same ↦
+          let here : only f c a ≡ f c = ap (λ b. cond {A = ℕ} b (f a) 0) (eq-eqb c a same) ∙ ap f (sym same) in
+          let rest = none_before f c (a + 1) n (omega (arith, same)) in
+          omega (arith, here, rest, one)
+      | inr apart ↦
+          let here : only f c a ≡ 0 = ap (λ b. cond {A = ℕ} b (f a) 0) (ne_eqb c a apart) in
+          let rest = only_once f c (a + 1) n in
+          omega (arith, here, rest, one)
+    ]
+
+-- ---- the classes of which a history tells
+
+-- whether it tells of the class
+abbrev tells : List Settlement → ℕ → Bool
+tells [] class = false
+tells (s ∷ history) class = cond (eqb s.class class) true (tells history class)
+
+-- what is counted of the classes of which it tells
+abbrev of_told : (ℕ → ℕ) → List Settlement → ℕ → ℕ
+of_told f history class = cond {A = ℕ} (tells history class) (f class) 0
+
+of_first : (f : ℕ → ℕ) (s : Settlement) (history : List Settlement) (class : ℕ) →
+    of_told f (s ∷ history) class ≤ only f s.class class + of_told f history class
+of_first f s history class = elim (cases_Bool (eqb s.class class)) [
+  | inl is ↦
+      let whole : of_told f (s ∷ history) class ≡ f class = ap (λ b. cond {A = ℕ} (cond b true (tells history class)) (f class) 0) is in
+      let here : only f s.class class ≡ f class = ap (λ b. cond {A = ℕ} b (f class) 0) is in
+      omega (arith, whole, here)
+  | inr isnt ↦
+      let whole : of_told f (s ∷ history) class ≡ of_told f history class =
+      ap (λ b. cond {A = ℕ} (cond b true (tells history class)) (f class) 0) isnt in
+      omega (arith, whole)
+]
+
+-- A sum over the classes of which a history tells is no more than that over its settlements.
+told_once : (f : ℕ → ℕ) (history : List Settlement) (a n : ℕ) →
+    sum_by (of_told f history) (range_with_len a n) ≤ sum_by (λ (s : Settlement). f s.class) history
+told_once f [] a n = let none = sum_none a n in omega (arith, none)
+told_once f (s ∷ history) a n =
+    let rest = told_once f history a n in
+    let first = only_once f s.class a n in
+    let parts = sum_no_more (of_told f (s ∷ history)) (λ class. only f s.class class + of_told f history class) a n
+    (λ class low. of_first f s history class) in
+    let both = sum_both (only f s.class) (of_told f history) a n in
+    let whole = sum_by-cons (λ (r : Settlement). f r.class) s history in
+    omega (arith, rest, first, parts, both, whole)
+
+-- a class of which it doesn't tell keeps its value
+untold_still : (history : List Settlement) (class : ℕ) (before : Value) → tells history class ≡ false →
+    last_now (λ s. eqb s.class class) before history ≡ before
+untold_still [] class before none = refl
+untold_still (s ∷ history) class before none = elim (cases_Bool (eqb s.class class)) [
+  | inl is ↦ absurd (true_not_false (sym (ap (λ b. cond b true (tells history class)) is) ∙ none))
+  | inr isnt ↦ ap (λ b. last_now (λ r. eqb r.class class) (cond b s.now before) history) isnt
+      ∙ untold_still history class before (sym (ap (λ b. cond b true (tells history class)) isnt) ∙ none)
+]
+  where
+    true_not_false : true ≡ false → ⊥
+    true_not_false e = cc
+
+-- ---- the items that a history makes
+
+length-items_of : (targets : ℕ → List ℕ) (n to : ℕ) (s : Settlement) →
+    length (items_of targets n to s) ≡ count_by (λ from. eqb (owner_of n from) to) (targets s.class)
+length-items_of targets n to s =
+    length-map (filter (λ from. eqb (owner_of n from) to) (targets s.class)) (item_for s)
+    ∙ length-filter (λ from. eqb (owner_of n from) to) (targets s.class)
+
+length-items_from : (targets : ℕ → List ℕ) (n to : ℕ) (history : List Settlement) →
+    length (items_from targets n to history)
+    ≡ sum_by (λ (s : Settlement). count_by (λ from. eqb (owner_of n from) to) (targets s.class)) history
+length-items_from targets n to [] = refl
+length-items_from targets n to (s ∷ history) =
+    let here = length-items_of targets n to s in
+    let rest = length-items_from targets n to history in
+    let sum = length-append (items_of targets n to s) (items_from targets n to history) in
+    let whole = sum_by-cons (λ (r : Settlement). count_by (λ from. eqb (owner_of n from) to) (targets r.class)) s history in
+    omega (arith, here, rest, sum, whole)
+
+-- batches of a size have no more items than so many of the size
+few_items : (size : ℕ) (batches : List BatchView) →
+    ((k : ℕ) (batch : BatchView) → slice_get batches k ≡ Some batch → length batch.items ≤ size) →
+    length (items_in batches) ≤ length batches * size
+few_items size batches small =
+    let sum = length-flat_map (λ (b : BatchView). b.items) batches in
+    let each : All (λ (b : BatchView). length b.items ≤ size) batches =
+    λ k d low. small k (get_or batches k d) (slice_get-get_or batches k d low) in
+    let all = sum_by-le (λ (b : BatchView). length b.items) size batches each in
+    omega (arith, sum, all)
+
+-- ---- what is needed
+
+module _ (set : PieceSet) (n i j : ℕ) (history : List Settlement) (values : List Value) (whole : length values ≡ classes_of set)
+    (is : (class : ℕ) (value : Value) → class < classes_of set → owner_of n class ≡ i → slice_get values class ≡ Some value →
+    value ≡ value_of history class) where
+  -- what a class has to tell, and what it adds
+  abbrev has : ℕ → ℕ
+  has class = cond {A = ℕ} (is_draw (get_or values class Draw)) 0 (told_to set n j class)
+
+  abbrev adds : ℕ → ℕ
+  adds class = cond {A = ℕ} (eqb (owner_of n class) i) (has class) 0
+
+  own_told : (class : ℕ) → class < classes_of set → owner_of n class ≡ i → has class ≤ of_told (told_to set n j) history class
+  own_told class low own = elim (cases_Bool (tells history class)) [
+    | inl told ↦
+        let right : of_told (told_to set n j) history class ≡ told_to set n j class =
+        ap (λ b. cond {A = ℕ} b (told_to set n j class) 0) told in
+        let left = no_more (is_draw (get_or values class Draw)) (told_to set n j class) in
+        omega (arith, right, left)
+    | inr untold ↦
+        let there = slice_get-get_or values class Draw (subst (λ m. class < m) (sym whole) low) in
+        let drawn : get_or values class Draw ≡ Draw =
+        is class (get_or values class Draw) low own there ∙ untold_still history class Draw untold in
+        let left : has class ≡ 0 = ap (λ v. cond {A = ℕ} (is_draw v) 0 (told_to set n j class)) drawn in
+        omega (arith, left)
+  ]
+    where
+      no_more : (b : Bool) (m : ℕ) → cond {A = ℕ} b 0 m ≤ m
+      no_more true m = omega arith
+      no_more false m = omega arith
+
+  each_told : (class : ℕ) → class < classes_of set → adds class ≤ of_told (told_to set n j) history class
+  each_told class low = elim (cases_Bool (eqb (owner_of n class) i)) [
+    | inl own ↦
+        let here : adds class ≡ has class = ap (λ b. cond {A = ℕ} b (has class) 0) own in
+        let less = own_told class low (eqb-true (owner_of n class) i own) in
+        omega (arith, here, less)
+    | inr other ↦
+        let here : adds class ≡ 0 = ap (λ b. cond {A = ℕ} b (has class) 0) other in
+        omega (arith, here)
+  ]
+
+  -- the items that the history makes are as many at least
+  needed_made : needed set n values i j ≤ length (items_from (predecessors set) n j history)
+  needed_made =
+      let less = sum_no_more adds (of_told (told_to set n j) history) 0 (classes_of set) (λ class low. each_told class (omega arith)) in
+      let once = told_once (told_to set n j) history 0 (classes_of set) in
+      let made = length-items_from (predecessors set) n j history in
+      omega (arith, less, once, made)
+
+-- A worker's node that has nothing left to expand or to send has offered room for all that its classes have to tell.
+pub needed_fits : (set : PieceSet) (n size i j : ℕ) (node : Node) (mail : Mail) (outlet : Outlet) (values : List Value) →
+    IsLawful set size node mail → IsIdle node → node.id ≡ i → node.n ≡ n → i ≢ j → slice_get mail.outlets.items j ≡ Some outlet →
+    length values ≡ classes_of set →
+    ((class : ℕ) (value : Value) → class < classes_of set → owner_of n class ≡ i → slice_get values class ≡ Some value →
+    HasValueNow node.share class value) →
+    needed set n values i j ≤ length (offered outlet) * size
+needed_fits set n size i j node mail outlet values law idle id_is n_is apart there whole shown =
+    let made = needed_made set n i j node.history.settlements values whole values_are in
+    let many = ap length all_items in
+    let few = few_items size (offered outlet) sends.small in
+    omega (arith, made, many, few)
+  where
+    sends : SendsRight node size j (offered outlet)
+    sends = law.sends j outlet (λ e. apart (sym (e ∙ sym law.of.1 ∙ id_is))) there
+
+    values_are : (class : ℕ) (value : Value) → class < classes_of set → owner_of n class ≡ i → slice_get values class ≡ Some value →
+        value ≡ value_of node.history.settlements class
+    values_are class value low own at = law.knows.values class value (subst (λ (s : PieceSet). class < classes_of s) (sym law.of.0) low)
+        (ap (λ m. owner_of m class) n_is ∙ own ∙ sym id_is) (shown class value low own at)
+
+    all_items : items_from (predecessors set) n j node.history.settlements ≡ items_in (offered outlet)
+    all_items =
+        ap (λ (s : PieceSet). items_from (predecessors s) n j node.history.settlements) (sym law.of.0)
+        ∙ ap (λ m. items_from (predecessors node.set) m j node.history.settlements) (sym n_is)
+        ∙ ap (λ (xs : List Settlement). items_from (predecessors node.set) node.n j xs)
+        (sym (take_all node.expanded node.history.settlements (let told = idle.expanded in omega (arith, told))))
+        ∙ sends.items
+        ∙ ap (λ (xs : List Item). items_in (offered outlet) ++ xs) (idle.sent j)
+        ∙ append-nil (items_in (offered outlet))

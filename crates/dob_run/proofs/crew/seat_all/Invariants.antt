@@ -1,7 +1,0 @@
-use Rattle.std.specs.Vec.Iter.{into_iter_items}
-use Rattle.dob_run.proofs.Seated.{IsSeating}
-use Rattle.dob_run.proofs.crew.seat_all.Given as goal
-
-abbrev pub invariant-loop-seat : goal.invariant-loop-seat
-invariant-loop-seat l =
-    IsSeating l.fn.seats.items l.fn.rows.items l.fn.columns.items (into_iter_items l.seat-iterator) (into_iter_items l.rows_left) (into_iter_items l.columns_left) l.mails.items

@@ -1,0 +1,55 @@
+use Rattle.std.proofs.Common.{◌≡◌, ℕ, rules, arith, ap, subst, length, Vec, Global, vec_len}
+use Rattle.dob_run.specs.declared.hands.Outlet.{Outlet}
+use Rattle.dob_run.specs.declared.hands.Inlet.{Inlet}
+use Rattle.dob_run.specs.declared.mail.Mail.{Mail}
+use Rattle.dob_run.specs.Seating.{CanSeat, IsSeated, AreSeated}
+use Rattle.dob_run.proofs.Seated.{seating_begins, next_can, row_left, column_left, seating_goes_on, all_seated}
+use Rattle.dob_run.proofs.crews.seat_all.Goals as goal
+use Rattle.dob_run.proofs.crews.seat_all.Goals.{In-Some-next-2}
+
+pub loop-seat-init : goal.loop-seat-init
+loop-seat-init c = seating_begins c.args.seats.items c.args.rows.items c.args.columns.items _ _ _ _
+    c.into_iter-seat-iterator.ensures.into_iter_gives.0 c.into_iter-rows_left.ensures.rest c.into_iter-columns_left.ensures.rest (search rules)
+
+pub unreachable-requires : goal.unreachable-requires
+unreachable-requires c = row_left c.args.seats.items c.args.rows.items c.args.columns.items _ _ _ _ _ c.in-Some.seat c.loop-seat.invariant c.in-Some.ensures.steps.0 c.requires (search rules)
+
+pub unreachable-requires-in_default-next : goal.unreachable-requires-in_default-next
+unreachable-requires-in_default-next c = column_left c.args.seats.items c.args.rows.items c.args.columns.items _ _ _ _ _ c.in-Some.seat c.loop-seat.invariant c.in-Some.ensures.steps.0 c.requires (search rules)
+
+can : (c : In-Some-next-2) → CanSeat c.in-Some.seat c.in-Some-next.outlets.items c.in-Some-next-2.inlets.items
+can c = next_can c.args.seats.items c.args.rows.items c.args.columns.items _ _ _ _ _ _ _ c.in-Some.seat c.in-Some-next.outlets c.in-Some-next-2.inlets
+    c.loop-seat.invariant c.in-Some.ensures.steps.0 c.in-Some-next.ensures.cases.0 c.in-Some-next-2.ensures.cases.0 c.requires
+
+pub new-requires-clause-outlets : goal.new-requires-clause-outlets
+new-requires-clause-outlets c = let h = (can (goal.at.new-requires-clause-outlets c).In-Some-next-2).row in omega (arith, h)
+
+pub new-requires-clause-inlets : goal.new-requires-clause-inlets
+new-requires-clause-inlets c = let h = (can (goal.at.new-requires-clause-inlets c).In-Some-next-2).column in omega (arith, h)
+
+pub new-requires-clause-posted : goal.new-requires-clause-posted
+new-requires-clause-posted c = (can (goal.at.new-requires-clause-posted c).In-Some-next-2).posted
+
+pub new-requires-clause-taken : goal.new-requires-clause-taken
+new-requires-clause-taken c = (can (goal.at.new-requires-clause-taken c).In-Some-next-2).taken
+
+seated : (c : In-Some-next-2) (mail : Mail) → mail.seat ≡ c.in-Some.seat → mail.outlets ≡ c.in-Some-next.outlets → mail.inlets ≡ c.in-Some-next-2.inlets →
+    IsSeated c.in-Some.seat c.in-Some-next.outlets c.in-Some-next-2.inlets mail
+seated c mail seat outlets inlets = record {
+  seat_is = seat;
+  outlets = ap (λ (v : Vec Outlet Global). v.items) outlets;
+  inlets = ap (λ (v : Vec Inlet Global). v.items) inlets;
+}
+
+pub loop-seat-preserved : goal.loop-seat-preserved
+loop-seat-preserved c =
+    let made = c.new.ensures in
+    seating_goes_on c.args.seats.items c.args.rows.items c.args.columns.items _ _ _ _ _ _ _ _ c.in-Some.seat c.in-Some-next.outlets c.in-Some-next-2.inlets c.new.result
+    c.loop-seat.invariant c.in-Some.ensures.steps.0 c.in-Some-next.ensures.cases.0 c.in-Some-next-2.ensures.cases.0
+    (seated (goal.at.loop-seat-preserved c).In-Some-next-2 c.new.result made.seat made.outlets made.inlets) c.in_ok-push.ensures.items
+
+pub returns : goal.returns
+returns c =
+    let long : length c.args.seats.items ≡ vec_len c.args.seats = search rules in
+    subst (λ (k : ℕ). AreSeated k c.args.seats.items c.args.rows.items c.args.columns.items c.loop-seat.mails.items) long
+    (all_seated c.args.seats.items c.args.rows.items c.args.columns.items _ _ _ _ c.loop-seat.invariant (search rules))

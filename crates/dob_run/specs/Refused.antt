@@ -1,0 +1,55 @@
+-- Why no crew is opened, and why one leaves nothing.
+use Rattle.std.specs.Prelude.{⊤, ℕ, ◌<◌, ◌≤◌}
+use Rattle.dob_pieces.specs.declared.piece_set.PieceSet.{PieceSet}
+use Rattle.dob_rank.specs.Limits.{IsSmall}
+use Rattle.dob_safra.specs.Laws.{IsSize}
+use Rattle.dob_run.specs.declared.fault.Fault.{Fault}
+use Rattle.dob_run.specs.declared.fault.Fault.TheVariants.{SetTooLarge, Nodes, Sizes, Stopped, Memory}
+
+-- such a batch is one that nodes cut, and so many may wait in a channel
+abbrev pub AreSizes : ℕ → ℕ → Type 0
+AreSizes batch capacity = (0 < batch) × (batch ≤ 4096) × (0 < capacity) × (capacity ≤ 1024)
+
+-- a crew may have so many nodes, such batches and such channels
+abbrev pub AreWithin : ℕ → ℕ → ℕ → Type 0
+AreWithin n batch capacity = IsSize n × AreSizes batch capacity
+
+-- the first of these sizes that is outside its limits
+abbrev pub IsOutside : ℕ → ℕ → ℕ → Fault → Type 0
+IsOutside n batch capacity Nodes = ¬ IsSize n
+IsOutside n batch capacity Sizes = IsSize n × (¬ AreSizes batch capacity)
+IsOutside n batch capacity SetTooLarge = ⊥
+IsOutside n batch capacity (Stopped node why) = ⊥
+IsOutside n batch capacity Memory = ⊥
+
+-- why no crew of these sizes is opened: one is outside its limits, or where all are within them memory is refused
+abbrev pub IsNoCrew : ℕ → ℕ → ℕ → Fault → Type 0
+IsNoCrew n batch capacity Nodes = IsOutside n batch capacity Nodes
+IsNoCrew n batch capacity Sizes = IsOutside n batch capacity Sizes
+IsNoCrew n batch capacity SetTooLarge = ⊥
+IsNoCrew n batch capacity (Stopped node why) = ⊥
+IsNoCrew n batch capacity Memory = AreWithin n batch capacity
+
+-- the set is too large, or else the first of the sizes that is outside its limits
+abbrev pub IsOverLimit : PieceSet → ℕ → ℕ → ℕ → Fault → Type 0
+IsOverLimit set n batch capacity SetTooLarge = ¬ IsSmall set
+IsOverLimit set n batch capacity Nodes = IsSmall set × IsOutside n batch capacity Nodes
+IsOverLimit set n batch capacity Sizes = IsSmall set × IsOutside n batch capacity Sizes
+IsOverLimit set n batch capacity (Stopped node why) = ⊥
+IsOverLimit set n batch capacity Memory = ⊥
+
+-- a node has stopped, or memory is refused
+abbrev pub IsStop : ℕ → Fault → Type 0
+IsStop n (Stopped node why) = node < n
+IsStop n Memory = ⊤
+IsStop n SetTooLarge = ⊥
+IsStop n Nodes = ⊥
+IsStop n Sizes = ⊥
+
+-- why a crew leaves nothing: a limit is passed, or where none is a node has stopped or memory is refused
+abbrev pub IsRefused : PieceSet → ℕ → ℕ → ℕ → Fault → Type 0
+IsRefused set n batch capacity SetTooLarge = IsOverLimit set n batch capacity SetTooLarge
+IsRefused set n batch capacity Nodes = IsOverLimit set n batch capacity Nodes
+IsRefused set n batch capacity Sizes = IsOverLimit set n batch capacity Sizes
+IsRefused set n batch capacity (Stopped node why) = IsSmall set × AreWithin n batch capacity × (node < n)
+IsRefused set n batch capacity Memory = IsSmall set × AreWithin n batch capacity

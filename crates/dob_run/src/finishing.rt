@@ -1,0 +1,180 @@
+// What a build by threads leaves, when its crew has come to its end.
+ghost use Rattle.std.specs.Prelude.{◌≡◌, ◌≢◌, ◌+◌, ◌<◌, ℕ, All, Some, IfOk, IfErr, OnOk, MatchOption, map, length, slice_get, slice_index};
+ghost use Rattle.dob_pieces.specs.declared.piece_set.PieceSet.{PieceSet};
+ghost use Rattle.dob_rank.specs.Limits.{IsSmall};
+ghost use Rattle.dob_rank.specs.Marks.{classes_of};
+ghost use Rattle.dob_value.specs.declared.value.Value.{Value};
+ghost use Rattle.dob_value.specs.Codes.{value_of_code, values_of_codes};
+ghost use Rattle.dob_value.specs.Follows.{IsEntry};
+ghost use Rattle.dob_share.specs.Shares.{IsOwn, HasValueNow};
+ghost use Rattle.dob_node.specs.declared.cause.Cause.{Cause};
+ghost use Rattle.dob_run.specs.declared.runner.Runner.{Runner};
+ghost use Rattle.dob_run.specs.Manned.{mail_of, node_of};
+ghost use Rattle.dob_run.specs.Closing.{IsCrew, HasEnded};
+ghost use Rattle.dob_run.specs.Built.{IsBuilt};
+ghost use Rattle.dob_run.specs.Turned.{AreUnfailed};
+ghost use Rattle.dob_run.specs.Finishing.{HaveStopped, IsFailureOf, AreOwners, AreShownBelow, failed_of};
+
+use crate::closing::{Ended, close_mails};
+use crate::fault::Fault;
+use crate::runner::Runner;
+use crate::runs::{find_failed, part_runners};
+use dob_board::{Board, Closed};
+use dob_chan::Rejoined;
+use dob_node::{Cause, Node};
+use dob_pieces::{Memory, PieceSet};
+use dob_rank::Classes;
+use dob_share::owner;
+use dob_value::{Table, code_of_value};
+use std::alloc::Global;
+use std::sync::Wait;
+
+/// What a build by threads leaves: the table of the values, the words of its board, and what went over each link, by sender
+/// and then by receiver.
+#[derive(Drop)]
+pub struct Built {
+    pub table: Table,
+    pub closed: Closed,
+    pub links: Vec<Rejoined>,
+}
+
+/// Closes a whole crew of which each runner has stopped: where the end was announced, the table of the values that its
+/// nodes show, which is the value table, with the words of the board and what went over the links. Its promises hold if it
+/// returns.
+///
+/// Errors: `Stopped` where the run failed, with the node that failed it and that node's cause, and where a runner failed only
+/// after the end was announced, with the least such node and its cause; `Memory`, which gives the crew up.
+pub fn finish<R: Wait>(
+    rt: &R,
+    alloc: Global,
+    board: Board,
+    runners: Vec<Runner>,
+) -> Result<Built, Fault>
+    requires crew { IsCrew board (map mail_of runners.items) }
+    requires stopped { (set : PieceSet) × (size : ℕ) × HaveStopped set size runners.items }
+    ensures built { IfOk result (λ built. (set : PieceSet) (size : ℕ) → HaveStopped set size runners.items →
+        IsBuilt set board.nodes size built) }
+    ensures unfailed { OnOk result (AreUnfailed runners.items) }
+    ensures failed { IfErr result (IsFailureOf runners.items) }
+{
+    let set = set_of(&runners);
+    let causes = causes_of(alloc, &runners)?;
+    let late = find_failed(&runners);
+    let (nodes, ended) = close_all(rt, alloc, board, runners)?;
+    if let Some(node) = failed_in(&ended.closed.words) {
+        let cause = cause_at(&causes, node);
+        return Err(Fault::Stopped { node, cause });
+    }
+    if let Err(fault) = late {
+        return Err(fault);
+    }
+    let table = table_of(alloc, set, &nodes)?;
+    let Ended { closed, links, .. } = ended;
+    Ok(Built {
+        table,
+        closed,
+        links,
+    })
+}
+
+// The piece set of the first runner.
+fn set_of(runners: &[Runner]) -> PieceSet
+    requires { 0 < length runners.now }
+    ensures { (runner : Runner) → slice_get runners.now 0 ≡ Some runner → result ≡ runner.set }
+{
+    runners[0].set
+}
+
+// Why each runner has failed, if it has.
+fn causes_of(alloc: Global, runners: &[Runner]) -> Result<Vec<Option<Cause>>, Memory>
+    ensures { IfOk result (λ causes. causes.items ≡ map failed_of runners.now) }
+{
+    let mut causes = Vec::with_capacity(alloc, runners.len())?;
+    for runner in runners {
+        causes.push(runner.failed)?;
+    }
+    Ok(causes)
+}
+
+// Closes the crew of these runners: their nodes, and what their mails leave.
+fn close_all<R: Wait>(
+    rt: &R,
+    alloc: Global,
+    board: Board,
+    runners: Vec<Runner>,
+) -> Result<(Vec<Node>, Ended), Memory>
+    requires { IsCrew board (map mail_of runners.items) }
+    ensures nodes { IfOk result (λ closed. closed.0.items ≡ map node_of runners.items) }
+    ensures ended { IfOk result (λ closed. HasEnded board.nodes (map mail_of runners.items) closed.1) }
+{
+    let (nodes, mails) = part_runners(alloc, runners)?;
+    let ended = close_mails(rt, alloc, board, mails)?;
+    Ok((nodes, ended))
+}
+
+// The node that failed the run, as the words of the board say; none where the end was announced.
+fn failed_in(words: &[u64]) -> Option<usize>
+    requires whole { 2 < length words.now }
+    requires stopped { slice_index words.now 2 ≢ 0 }
+    ensures { MatchOption result (slice_index words.now 2 ≡ 1) (λ node. slice_index words.now 2 ≡ 2 + node) }
+{
+    let halt = words[2];
+    if halt == 1 {
+        return None;
+    }
+    Some((halt - 2) as usize)
+}
+
+// The cause that stands at that place.
+fn cause_at(causes: &[Option<Cause>], place: usize) -> Cause
+    requires { (why : Cause) × (slice_get causes.now place ≡ Some (Some why)) }
+    ensures { slice_get causes.now place ≡ Some (Some result) }
+{
+    let Some(cause) = causes[place] else {
+        unreachable!()
+    };
+    cause
+}
+
+// The table of the values that the nodes show.
+fn table_of(alloc: Global, set: PieceSet, nodes: &[Node]) -> Result<Table, Memory>
+    requires small { IsSmall set }
+    requires some { 0 < length nodes.now }
+    requires owners { AreOwners set (length nodes.now) nodes.now }
+    ensures set { IfOk result (λ table. table.set ≡ set) }
+    ensures values { IfOk result (λ table. AreShownBelow (length nodes.now) (classes_of set) nodes.now table.values) }
+{
+    let classes = match Classes::open(alloc, set) {
+        Ok(classes) => classes,
+        Err(dob_rank::Fault::Memory) => return Err(Memory),
+        Err(dob_rank::Fault::SetTooLarge) => unreachable!(),
+    };
+    let codes = codes_of(alloc, &classes, nodes)?;
+    Ok(Table::new(classes, codes))
+}
+
+// The codes of the values that the nodes show.
+fn codes_of(alloc: Global, classes: &Classes, nodes: &[Node]) -> Result<Vec<u16>, Memory>
+    requires some { 0 < length nodes.now }
+    requires owners { AreOwners classes.now.set (length nodes.now) nodes.now }
+    ensures codes { IfOk result (λ codes. All (λ code. code < 65536) codes.items) }
+    ensures values { IfOk result (λ codes.
+        AreShownBelow (length nodes.now) (classes_of classes.now.set) nodes.now (values_of_codes codes.items)) }
+{
+    let count = classes.class_count();
+    let mut codes = Vec::with_capacity(alloc, count as usize)?;
+    for class in 0..count {
+        let node = owner(class, nodes.len());
+        codes.push(code_of(&nodes[node], class))?;
+    }
+    Ok(codes)
+}
+
+// The code of the value that the node shows of an own class, which is such as a table can have.
+fn code_of(node: &Node, class: u64) -> u16
+    requires own { IsOwn node.now.share class }
+    requires entry { (value : Value) → HasValueNow node.now.share class value → IsEntry value }
+    ensures { HasValueNow node.now.share class (value_of_code result) }
+{
+    code_of_value(node.value(class))
+}
