@@ -13,7 +13,7 @@ use Rattle.clap.specs.Faults.{check_fault, defaults_fault, entered_fault, level_
 use Rattle.clap.specs.declared.error.kind.ErrorKind.TheVariants as kind
 use Rattle.clap.proofs.FaultLemmas.{stopped_fault}
 use Rattle.clap.proofs.WalkLemmas.{walk_stopped}
-use Rattle.dob_cli.specs.Forms.{Form, Text, check_form, count_form, forms, line_form, probe_form, value_form}
+use Rattle.dob_cli.specs.Forms.{Form, Text, build_form, check_form, count_form, forms, line_form, probe_form, value_form}
 use Rattle.dob_cli.specs.Words.{Meaning, asks, help, is_dashes, is_help_flag, is_text, meaning_of_command, meaning_of_form, meaning_of_other, topic, usage}
 use Rattle.dob_cli.specs.Words.{version}
 use Rattle.dob_cli.specs.Shapes.{Finds, dobutsu_app}
@@ -21,7 +21,8 @@ use Rattle.dob_cli.proofs.Lexing.{flip_bytes, or_false}
 use Rattle.dob_cli.proofs.Turns.{KnowsHelp, help_flag, is_usage, none, or_else_usage}
 use Rattle.dob_cli.proofs.Steps.{help_turn, open_at, other_turn, text_turn}
 use Rattle.dob_cli.proofs.FormWords.{Comes, IsTaken, form_comes, shape_of}
-use Rattle.dob_cli.proofs.Taken.{check_taken, count_taken, line_taken, probe_taken, value_taken}
+use Rattle.dob_cli.proofs.Lines.{IsSpelled, build_spelled, check_spelled, count_spelled, form_line, line_fits, line_spelled, probe_spelled, value_spelled}
+use Rattle.dob_cli.proofs.Taken.{build_taken, check_taken, count_taken, line_taken, probe_taken, value_taken}
 
 -- the program's command, built
 abbrev program : App
@@ -99,6 +100,10 @@ count_entered : IsEntered count_form
 unfolding walked defaults_fault
 count_entered = record { walks = refl; turns = refl; ends = λ rest. refl; enters = λ rest. refl }
 
+build_entered : IsEntered build_form
+unfolding walked defaults_fault
+build_entered = record { walks = refl; turns = refl; ends = λ rest. refl; enters = λ rest. refl }
+
 probe_entered : IsEntered probe_form
 unfolding walked defaults_fault
 probe_entered = record { walks = refl; turns = refl; ends = λ rest. refl; enters = λ rest. refl }
@@ -127,7 +132,7 @@ Fits version kinds met = ⊥
 abbrev FitsAt : Meaning → List Text → Type 0
 FitsAt m words = Fits m (kinds_at start words) (subcommand_of dobutsu_app words)
 
-module _ (f : Form) (is : IsTaken f) (enters : IsEntered f)
+module _ (f : Form) (is : IsTaken f) (enters : IsEntered f) (spelled : IsSpelled f)
     (among : (name : Text) (texts : List Text) (met : Option (Text × List Row)) → (f.name ≡ name) × Finds f texts met → IsMet forms name texts met) where
   steps : (rest : List Text) → fold (walked top.rules names) start (f.name ∷ rest) ≡ entered_at f.name rest
   steps rest = ap (λ w. fold (walked top.rules names) w rest) enters.walks ∙ sym (walk_stopped top.rules names start f.name [] rest)
@@ -144,15 +149,18 @@ module _ (f : Form) (is : IsTaken f) (enters : IsEntered f)
   met_is : (rest : List Text) → subcommand_of dobutsu_app (f.name ∷ rest) ≡ Some (f.name, rows_after (shape_of f).rules [] rest)
   met_is rest = ap (λ (w : Walk). entered program w.stopped) (steps rest) ∙ enters.enters rest
 
-  comes_fit : (m : Meaning) (rest : List Text) → Comes f is m (below f rest) (rows_after (shape_of f).rules [] rest) → FitsAt m (f.name ∷ rest)
-  comes_fit (asks name texts) rest c = (kinds_below rest ∙ c.1, among name texts _ (c.0, (_, met_is rest, c.2)))
-  comes_fit help rest c = kinds_below rest ∙ c
-  comes_fit topic rest c = kinds_below rest ∙ c
-  comes_fit usage rest c = rw (kinds_below rest) c
-  comes_fit version rest c = absurd c
+  comes_fit : (m : Meaning) (rest : List Text) → meaning_of_form f rest ≡ m → Comes f is m (below f rest) (rows_after (shape_of f).rules [] rest)
+      → FitsAt m (f.name ∷ rest)
+  comes_fit (asks name texts) rest means c =
+      let fit = line_fits f (f.name ∷ rest) texts spelled (form_line f rest name texts means).1 in
+      (kinds_below rest ∙ c.1, among name texts _ (c.0, (_, met_is rest, c.2, fit)))
+  comes_fit help rest means c = kinds_below rest ∙ c
+  comes_fit topic rest means c = kinds_below rest ∙ c
+  comes_fit usage rest means c = rw (kinds_below rest) c
+  comes_fit version rest means c = absurd c
 
   form_fits : (rest : List Text) → FitsAt (meaning_of_form f rest) (f.name ∷ rest)
-  form_fits rest = comes_fit (meaning_of_form f rest) rest (form_comes f is rest)
+  form_fits rest = comes_fit (meaning_of_form f rest) rest refl (form_comes f is rest)
 
 abbrev EachForm : (Form → Type 0) → List Form → Type 0
 EachForm P [] = Unit {0}
@@ -161,14 +169,17 @@ EachForm P (f ∷ fs) = P f × (EachForm P fs)
 -- the words from each subcommand's name on
 all_fit : EachForm (λ f. (rest : List Text) → FitsAt (meaning_of_form f rest) (f.name ∷ rest)) forms
 all_fit = (
-  form_fits value_form value_taken value_entered (λ name texts met h. inl h),
+  form_fits value_form value_taken value_entered value_spelled (λ name texts met h. inl h),
   (
-    form_fits count_form count_taken count_entered (λ name texts met h. inr (inl h)),
+    form_fits count_form count_taken count_entered count_spelled (λ name texts met h. inr (inl h)),
     (
-      form_fits probe_form probe_taken probe_entered (λ name texts met h. inr (inr (inl h))),
+      form_fits build_form build_taken build_entered build_spelled (λ name texts met h. inr (inr (inl h))),
       (
-        form_fits line_form line_taken line_entered (λ name texts met h. inr (inr (inr (inl h)))),
-        (form_fits check_form check_taken check_entered (λ name texts met h. inr (inr (inr (inr (inl h))))), tt),
+        form_fits probe_form probe_taken probe_entered probe_spelled (λ name texts met h. inr (inr (inr (inl h)))),
+        (
+          form_fits line_form line_taken line_entered line_spelled (λ name texts met h. inr (inr (inr (inr (inl h))))),
+          (form_fits check_form check_taken check_entered check_spelled (λ name texts met h. inr (inr (inr (inr (inr (inl h)))))), tt),
+        ),
       ),
     ),
   ),

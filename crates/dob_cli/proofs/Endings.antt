@@ -10,7 +10,7 @@ use Rattle.dob_value.specs.declared.fault.Fault as value
 use Rattle.dob_value.specs.declared.fault.Fault.TheVariants as value_fault
 use Rattle.dob_dbfile.specs.Sinks.{Change, State, change}
 use Rattle.dob_cli.specs.declared.fault.Fault.{Fault}
-use Rattle.dob_cli.specs.declared.fault.Fault.TheVariants.{Text, SetText, SetTooLarge, TooDeep, File, Table, Memory, Io}
+use Rattle.dob_cli.specs.declared.fault.Fault.TheVariants.{Text, SetText, SetTooLarge, TooDeep, Run, File, Table, Memory, Io}
 use Rattle.dob_cli.specs.Faults.{fault_of_value}
 use Rattle.dob_cli.specs.Endings.{Answers, Ending, Tells, TellsMemory, TellsOneFault, ended}
 use Rattle.dob_rank.specs.Limits.{HasManyPieces}
@@ -31,6 +31,7 @@ set_fault_holds text set (Text f) named holds = absurd holds
 set_fault_holds text set SetText named holds = absurd holds
 set_fault_holds text set SetTooLarge named holds = (set, named, holds)
 set_fault_holds text set TooDeep named holds = absurd holds
+set_fault_holds text set (Run f) named holds = absurd holds
 set_fault_holds text set (File f) named holds = absurd holds
 set_fault_holds text set (Table f) named holds = absurd holds
 set_fault_holds text set Memory named holds = tt

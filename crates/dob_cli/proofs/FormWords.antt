@@ -19,42 +19,42 @@ use Rattle.clap.specs.Faults.{check_fault, defaults_fault, level_fault, settle_f
 use Rattle.clap.specs.declared.error.kind.ErrorKind.TheVariants as kind
 use Rattle.dob_cli.specs.Forms.{Form, labels}
 use Rattle.dob_cli.specs.Words.{Given, Meaning, Stand, Text, after_dashes, after_part, after_word, asked, asks, at_end, behind, between, call, dashes, ended}
-use Rattle.dob_cli.specs.Words.{help, is_dashes, is_help_flag, is_text, label_of, meaning_of_form, name_in, once, option, option_part, placed, text, text_of}
-use Rattle.dob_cli.specs.Words.{texts_of, topic, unknown, usage, valued, version, wants}
+use Rattle.dob_cli.specs.Words.{fits, help, is_dashes, is_help_flag, is_text, kept, label_of, meaning_of_form, name_in, once, option, option_part, placed, text}
+use Rattle.dob_cli.specs.Words.{text_of, texts_of, topic, unknown, usage, valued, version, wanted, wants}
 use Rattle.dob_cli.specs.Shapes.{bare_app, form_app}
 use Rattle.dob_cli.proofs.Lexing.{View, empty as no_byte, letter as a_letter, hyphen as one_hyphen, dashes as two_hyphens, long as a_long, short as a_short}
 use Rattle.dob_cli.proofs.Lexing.{flip_bytes, long_name, long_short, no_first, flag_letter, or_false, view}
 use Rattle.dob_cli.proofs.Turns.{KnowsHelp, help_flag, held, is_usage, or_else_usage}
 use Rattle.dob_cli.proofs.Steps.{closed_at, failing_turn, help_turn, open_at, other_turn, text_taken, text_turn, text_turn_at, text_walked, waiting_at}
-use Rattle.dob_cli.proofs.Texts.{Each, Looked, defaults_none, looked, no_faults, rows_of, text_arg, use_passes, use_twice, used_fresh}
+use Rattle.dob_cli.proofs.Texts.{Each, Looked, defaults_none, looked, no_faults, kept_both, rows_of, text_arg, use_misfit, use_passes, use_twice, used_fresh}
 
 -- ---- the subcommand's arguments, built
 
-abbrev pub option_arg : Text × Text → Rule
-option_arg o = text_arg (Some o.0) None o.1
+abbrev pub option_arg : List Text → Text × Text → Rule
+option_arg numbers o = text_arg numbers (Some o.0) None o.1
 
-abbrev pub placed_args : ℕ → List Text → List Rule
-placed_args i [] = []
-placed_args i (label ∷ more) = text_arg None (Some i) label ∷ placed_args (min (i + 1) usize_max) more
+abbrev pub placed_args : List Text → ℕ → List Text → List Rule
+placed_args numbers i [] = []
+placed_args numbers i (label ∷ more) = text_arg numbers None (Some i) label ∷ placed_args numbers (min (i + 1) usize_max) more
 
 abbrev pub args_of : Form → List Rule
-args_of f = map option_arg f.options ++ (placed_args 1 f.positions ++ help_flag ∷ [])
+args_of f = map (option_arg f.numbers) f.options ++ (placed_args f.numbers 1 f.positions ++ help_flag ∷ [])
 
 -- the subcommand, built
 abbrev pub shape_of : Form → Shape
 shape_of f = record (built_leaf (inherited (with_leaf_noted (marked_built bare_app.top)) (form_app f).top)) { rules = args_of f }
 
 -- the places from this one on
-abbrev pub ArePlaced : List Rule → ℕ → List Text → Type 0
-ArePlaced rules p [] = arg_by_index rules p ≡ None
-ArePlaced rules p (label ∷ left) =
-    (arg_by_index rules p ≡ Some (text_arg None (Some p) label)) × (arg_by_id rules label ≡ Some (text_arg None (Some p) label))
-    × ArePlaced rules (next_position (text_arg None (Some p) label) p) left
+abbrev pub ArePlaced : List Text → List Rule → ℕ → List Text → Type 0
+ArePlaced numbers rules p [] = arg_by_index rules p ≡ None
+ArePlaced numbers rules p (label ∷ left) =
+    (arg_by_index rules p ≡ Some (text_arg numbers None (Some p) label)) × (arg_by_id rules label ≡ Some (text_arg numbers None (Some p) label))
+    × ArePlaced numbers rules (next_position (text_arg numbers None (Some p) label) p) left
 
 -- what has to hold of a form: its labels and its options' names differ
 pub record IsTaken (f : Form) : Type 0 where
-  pub options : Each (λ o. arg_by_id (args_of f) o.1 ≡ Some (option_arg o)) f.options
-  pub positions : ArePlaced (args_of f) 1 f.positions
+  pub options : Each (λ o. arg_by_id (args_of f) o.1 ≡ Some (option_arg f.numbers o)) f.options
+  pub positions : ArePlaced f.numbers (args_of f) 1 f.positions
   pub no_help : label_of f.options (codes "help") ≡ None
   pub no_empty : label_of f.options [] ≡ None
   pub defaults : Each (λ a. a.defaults ≡ []) (args_of f)
@@ -62,29 +62,34 @@ pub record IsTaken (f : Form) : Type 0 where
 
 -- ---- the arguments by their names
 
-long_options : (os : List (Text × Text)) (more : List Rule) (name : Text)
-    → arg_by_long (map option_arg os ++ more) name ≡ option_map_or (λ o. Some (option_arg o)) (find (λ o. bytes_eq o.0 name) os) (arg_by_long more name)
-long_options [] more name = refl
-long_options (o ∷ os) more name = go (bytes_eq o.0 name) (long_options os more name)
+long_options : (numbers : List Text) (os : List (Text × Text)) (more : List Rule) (name : Text)
+    → arg_by_long (map (option_arg numbers) os ++ more) name
+    ≡ option_map_or (λ o. Some (option_arg numbers o)) (find (λ o. bytes_eq o.0 name) os) (arg_by_long more name)
+long_options numbers [] more name = refl
+long_options numbers (o ∷ os) more name = go (bytes_eq o.0 name) (long_options numbers os more name)
   where
     go : (b : Bool)
-        → arg_by_long (map option_arg os ++ more) name ≡ option_map_or (λ x. Some (option_arg x)) (find (λ x. bytes_eq x.0 name) os) (arg_by_long more name)
-        → cond (b || false) (Some (option_arg o)) (arg_by_long (map option_arg os ++ more) name)
-        ≡ option_map_or (λ x. Some (option_arg x)) (cond b (Some o) (find (λ x. bytes_eq x.0 name) os)) (arg_by_long more name)
+        → arg_by_long (map (option_arg numbers) os ++ more) name
+        ≡ option_map_or (λ x. Some (option_arg numbers x)) (find (λ x. bytes_eq x.0 name) os) (arg_by_long more name)
+        → cond (b || false) (Some (option_arg numbers o)) (arg_by_long (map (option_arg numbers) os ++ more) name)
+        ≡ option_map_or (λ x. Some (option_arg numbers x)) (cond b (Some o) (find (λ x. bytes_eq x.0 name) os)) (arg_by_long more name)
     go true rec = refl
     go false rec = rec
 
-long_placed : (i : ℕ) (labels : List Text) (more : List Rule) (name : Text) → arg_by_long (placed_args i labels ++ more) name ≡ arg_by_long more name
-long_placed i [] more name = refl
-long_placed i (label ∷ labels) more name = long_placed (min (i + 1) usize_max) labels more name
+long_placed : (numbers : List Text) (i : ℕ) (labels : List Text) (more : List Rule) (name : Text)
+    → arg_by_long (placed_args numbers i labels ++ more) name ≡ arg_by_long more name
+long_placed numbers i [] more name = refl
+long_placed numbers i (label ∷ labels) more name = long_placed numbers (min (i + 1) usize_max) labels more name
 
-short_options : (os : List (Text × Text)) (more : List Rule) (x : ℕ) → arg_by_short (map option_arg os ++ more) x ≡ arg_by_short more x
-short_options [] more x = refl
-short_options (o ∷ os) more x = short_options os more x
+short_options : (numbers : List Text) (os : List (Text × Text)) (more : List Rule) (x : ℕ) → arg_by_short (map (option_arg numbers) os ++ more) x
+    ≡ arg_by_short more x
+short_options numbers [] more x = refl
+short_options numbers (o ∷ os) more x = short_options numbers os more x
 
-short_placed : (i : ℕ) (labels : List Text) (more : List Rule) (x : ℕ) → arg_by_short (placed_args i labels ++ more) x ≡ arg_by_short more x
-short_placed i [] more x = refl
-short_placed i (label ∷ labels) more x = short_placed (min (i + 1) usize_max) labels more x
+short_placed : (numbers : List Text) (i : ℕ) (labels : List Text) (more : List Rule) (x : ℕ)
+    → arg_by_short (placed_args numbers i labels ++ more) x ≡ arg_by_short more x
+short_placed numbers i [] more x = refl
+short_placed numbers i (label ∷ labels) more x = short_placed numbers (min (i + 1) usize_max) labels more x
 
 abbrev pub ForFound : (Text × Text → Type 0) → Option (Text × Text) → Type 0
 ForFound P None = Unit {0}
@@ -106,20 +111,22 @@ module _ (f : Form) (is : IsTaken f) where
   s = shape_of f
 
   abbrev places : List Rule
-  places = placed_args 1 f.positions ++ help_flag ∷ []
+  places = placed_args f.numbers 1 f.positions ++ help_flag ∷ []
 
   abbrev found : Text → Option (Text × Text)
   found name = find (λ o. bytes_eq o.0 name) f.options
 
   help_by_long : (name : Text) → arg_by_long places name ≡ cond (bytes_eq (codes "help") name) (Some help_flag) None
-  help_by_long name = long_placed 1 f.positions (help_flag ∷ []) name ∙ ap (λ b. cond b (Some help_flag) None) (or_false (bytes_eq (codes "help") name))
+  help_by_long name = long_placed f.numbers 1 f.positions (help_flag ∷ []) name
+      ∙ ap (λ b. cond b (Some help_flag) None) (or_false (bytes_eq (codes "help") name))
 
   by_long : (name : Text)
-      → arg_by_long rules name ≡ option_map_or (λ o. Some (option_arg o)) (found name) (cond (bytes_eq (codes "help") name) (Some help_flag) None)
-  by_long name = long_options f.options places name ∙ ap (option_map_or (λ o. Some (option_arg o)) (found name)) (help_by_long name)
+      → arg_by_long rules name ≡ option_map_or (λ o. Some (option_arg f.numbers o)) (found name) (cond (bytes_eq (codes "help") name) (Some help_flag) None)
+  by_long name = long_options f.numbers f.options places name ∙ ap (option_map_or (λ o. Some (option_arg f.numbers o)) (found name)) (help_by_long name)
 
   by_short : (x : ℕ) → arg_by_short rules x ≡ cond (104 == x) (Some help_flag) None
-  by_short x = short_options f.options places x ∙ (short_placed 1 f.positions (help_flag ∷ []) x ∙ ap (λ b. cond b (Some help_flag) None) (or_false (104 == x)))
+  by_short x = short_options f.numbers f.options places x ∙ (short_placed f.numbers 1 f.positions (help_flag ∷ []) x
+      ∙ ap (λ b. cond b (Some help_flag) None) (or_false (104 == x)))
 
   -- the name is one of its options'
   abbrev is_option : Text → Bool
@@ -129,7 +136,7 @@ module _ (f : Form) (is : IsTaken f) where
   other_by_long name e = by_long name ∙ go (found name) e
     where
       go : (o : Option (Text × Text)) → is_some (option_map (λ x. x.1) o) ≡ false
-          → option_map_or (λ x. Some (option_arg x)) o (cond (bytes_eq (codes "help") name) (Some help_flag) None)
+          → option_map_or (λ x. Some (option_arg f.numbers x)) o (cond (bytes_eq (codes "help") name) (Some help_flag) None)
           ≡ cond (bytes_eq (codes "help") name) (Some help_flag) None
       go None e = refl
       go (Some o) e = absurd (true≢false e)
@@ -139,22 +146,39 @@ module _ (f : Form) (is : IsTaken f) where
   -- these texts were given: rows are kept of them, but for one that waits
   record Good (rows : List Row) (pending : Option (Text × List Text)) (given : Given) : Type 0 where
     settles : settle_fault rules false (held rows pending) ≡ []
-    kept : settled_rows rules pending rows ≡ rows_of given
+    rows_are : settled_rows rules pending rows ≡ rows_of given
 
   good_rows : (given : Given) → Good (rows_of given) None given
-  good_rows given = record { settles = refl; kept = refl }
+  good_rows given = record { settles = refl; rows_are = refl }
 
-  module _ (long : Option Text) (index : Option ℕ) (label : Text) (known : arg_by_id rules label ≡ Some (text_arg long index label)) where
-    good_pending : (given : Given) (t : Text) → text_of label given ≡ None → Good (rows_of given) (Some (label, t ∷ [])) (given ++ (label, t) ∷ [])
-    good_pending given t fresh = record {
-      settles = rw known (use_passes long index label t given fresh);
-      kept = rw known (used_fresh long index label t given fresh);
+  module _ (long : Option Text) (index : Option ℕ) (label : Text) (known : arg_by_id rules label ≡ Some (text_arg f.numbers long index label)) where
+    good_pending : (given : Given) (t : Text) → text_of label given ≡ None → fits f.numbers label t ≡ true
+        → Good (rows_of given) (Some (label, t ∷ [])) (given ++ (label, t) ∷ [])
+    good_pending given t fresh fit = record {
+      settles = rw known (use_passes f.numbers long index label t given fresh fit);
+      rows_are = rw known (used_fresh f.numbers long index label t given fresh);
     }
 
-    -- a second text of one label
-    twice_fails : (given : Given) (t u : Text) → text_of label given ≡ Some u
+    -- the text is kept
+    good_kept : (given : Given) (t : Text) → (is_some (text_of label given) || not (fits f.numbers label t)) ≡ false
+        → Good (rows_of given) (Some (label, t ∷ [])) (given ++ (label, t) ∷ [])
+    good_kept given t e = let both = kept_both (text_of label given) (fits f.numbers label t) e in good_pending given t both.0 both.1
+
+    -- a text that isn't what it has to be
+    misfit_fails : (given : Given) (t : Text) → text_of label given ≡ None → fits f.numbers label t ≡ false
         → is_usage (settle_fault rules false (held (rows_of given) (Some (label, t ∷ [])))) ≡ true
-    twice_fails given t u there = rw (known, use_twice long index label t u given there) refl
+    misfit_fails given t fresh misfit = rw (known, use_misfit f.numbers long index label t given fresh misfit) refl
+
+    -- that, or a second text of one label
+    refused_fails : (given : Given) (t : Text) → (is_some (text_of label given) || not (fits f.numbers label t)) ≡ true
+        → is_usage (settle_fault rules false (held (rows_of given) (Some (label, t ∷ [])))) ≡ true
+    refused_fails given t e = go (text_of label given) (fits f.numbers label t) refl refl e
+      where
+        go : (o : Option Text) (b : Bool) → text_of label given ≡ o → fits f.numbers label t ≡ b → (is_some o || not b) ≡ true
+            → is_usage (settle_fault rules false (held (rows_of given) (Some (label, t ∷ [])))) ≡ true
+        go (Some u) b there fit e = rw (known, use_twice f.numbers long index label t u given there) refl
+        go None false fresh fit e = misfit_fails given t fresh fit
+        go None true fresh fit e = absurd (true≢false (sym e))
 
     -- an option without its text
     wanted_fails : (rows : List Row) → is_usage (settle_fault rules false (held rows (Some (label, [])))) ≡ true
@@ -241,16 +265,16 @@ module _ (f : Form) (is : IsTaken f) where
   and_false false = refl
 
   module _ (rows : List Row) (pending : Option (Text × List Text)) (fails : is_usage (settle_fault rules false (held rows pending)) ≡ true)
-      (p : ℕ) (left : List Text) (at : ArePlaced rules p left) where
+      (p : ℕ) (left : List Text) (at : ArePlaced f.numbers rules p left) where
     abbrev stray : Kinds
     stray = step_fault s p (held rows pending) a_value
 
     stray_fails : is_usage stray ≡ true
     stray_fails = go left at
       where
-        go : (ls : List Text) → ArePlaced rules p ls → is_usage stray ≡ true
+        go : (ls : List Text) → ArePlaced f.numbers rules p ls → is_usage stray ≡ true
         go [] e = rw e refl
-        go (l ∷ ls) e = rw (e.0, and_false (is_pending (text_arg None (Some p) l) pending)) fails
+        go (l ∷ ls) e = rw (e.0, and_false (is_pending (text_arg f.numbers None (Some p) l) pending)) fails
 
     closed_fails : (waiting : Waiting) (words : List Text) → is_usage (kinds_at (behind_at waiting rows pending p) words) ≡ true
     closed_fails waiting [] = ends_failing (behind_at waiting rows pending p) fails
@@ -293,7 +317,7 @@ module _ (f : Form) (is : IsTaken f) where
   good_end rows pending given good = go (texts_of (labels f) given) (looked (labels f) given)
     where
       last : finished rules (held rows pending) ≡ rows_of given
-      last = ap (λ r. fold with_default r rules) good.kept ∙ defaults_none rules (rows_of given) is.defaults
+      last = ap (λ r. fold with_default r rules) good.rows_are ∙ defaults_none rules (rows_of given) is.defaults
 
       go : (o : Option (List Text)) → Looked (labels f) given o
           → Comes (option_map_or (asks f.name) o usage) (ending_of (held rows pending)) (finished rules (held rows pending))
@@ -314,7 +338,7 @@ module _ (f : Form) (is : IsTaken f) where
   -- ---- one word
 
   abbrev next_stand : Stand → Text → Stand
-  next_stand = after_word f.options
+  next_stand = after_word f
 
   abbrev Going : Stand → Walk → List Text → Type 0
   Going stand w rest = Reached (at_end f (fold next_stand stand rest)) w rest
@@ -330,13 +354,14 @@ module _ (f : Form) (is : IsTaken f) where
   -- where `clap`'s walk stands, by what the words so far come to
   data Rel : Stand → Walk → Type 0 where
     rel_between : (rows : List Row) (pending : Option (Text × List Text)) (p : ℕ) (given : Given) (left : List Text) → Good rows pending given
-        → ArePlaced rules p left
+        → ArePlaced f.numbers rules p left
         → Rel (between given left) (open_at rows pending p)
     rel_wants : (long : Option Text) (index : Option ℕ) (label : Text) (p : ℕ) (given : Given) (left : List Text)
-        → arg_by_id rules label ≡ Some (text_arg long index label)
-        → text_of label given ≡ None → ArePlaced rules p left → Rel (wants label given left) (waiting_at (waits_for label) (rows_of given) (Some (label, [])) p)
+        → arg_by_id rules label ≡ Some (text_arg f.numbers long index label)
+        → text_of label given ≡ None → ArePlaced f.numbers rules p left
+        → Rel (wants label given left) (waiting_at (waits_for label) (rows_of given) (Some (label, [])) p)
     rel_behind : (rows : List Row) (pending : Option (Text × List Text)) (p : ℕ) (given : Given) (left : List Text) → Good rows pending given
-        → ArePlaced rules p left
+        → ArePlaced f.numbers rules p left
         → Rel (behind given left) (closed_at rows pending p)
 
   -- the rest goes on so
@@ -350,8 +375,8 @@ module _ (f : Form) (is : IsTaken f) where
 
     -- a text that an option wants
     wanted_step : (name : Option Text) (index : Option ℕ) (label : Text) (p : ℕ) (given : Given) (left : List Text)
-        → arg_by_id rules label ≡ Some (text_arg name index label)
-        → text_of label given ≡ None → ArePlaced rules p left
+        → arg_by_id rules label ≡ Some (text_arg f.numbers name index label)
+        → text_of label given ≡ None → ArePlaced f.numbers rules p left
         → Stepped (next_stand (wants label given left) word) (waiting_at (waits_for label) (rows_of given) (Some (label, [])) p)
     wanted_step name index label p given left known fresh at = go (is_text word) refl
       where
@@ -361,72 +386,85 @@ module _ (f : Form) (is : IsTaken f) where
         same : bytes_eq label label ≡ true
         same = (bytes_eq-Decides label label).1 refl
 
-        go : (b : Bool) → is_text word ≡ b
-            → Reached (at_end f (fold next_stand (cond b (between (given ++ (label, word) ∷ []) left) (ended usage)) rest)) w (word ∷ rest)
-        go true e = passes _ w (open_at (rows_of given) (Some (label, word ∷ [])) p) word rest
+        taken : (m : Meaning) → is_text word ≡ true → Reached m (open_at (rows_of given) (Some (label, word ∷ [])) p) rest → Reached m w (word ∷ rest)
+        taken m e r = passes m w (open_at (rows_of given) (Some (label, word ∷ [])) p) word rest
             (text_turn_at s [] (rows_of given) (Some (label, [])) p (waits_for label) word refl refl e)
             (text_taken s [] (rows_of given) (Some (label, [])) p (waits_for label) word refl e ∙ rw (known, same) refl)
+            r
+
+        by_fit : (b : Bool) → fits f.numbers label word ≡ b → is_text word ≡ true
+            → Reached (at_end f (fold next_stand (cond b (between (given ++ (label, word) ∷ []) left) (ended usage)) rest)) w (word ∷ rest)
+        by_fit true fit e = taken _ e
             (goes _ _
             (rel_between (rows_of given) (Some (label, word ∷ [])) p (given ++ (label, word) ∷ []) left
-            (good_pending name index label known given word fresh) at))
+            (good_pending name index label known given word fresh fit) at))
+        by_fit false misfit e = ends_so usage w (word ∷ rest) rest (taken usage e
+            (failing (rows_of given) (Some (label, word ∷ [])) (misfit_fails name index label known given word fresh misfit) p left at rest))
+
+        go : (b : Bool) → is_text word ≡ b
+            → Reached (at_end f (fold next_stand (cond b (wanted f label given left word) (ended usage)) rest)) w (word ∷ rest)
+        go true e = by_fit (fits f.numbers label word) refl e
         go false e = ends_so usage w (word ∷ rest) rest
             (no_text (rows_of given) (Some (label, [])) (wanted_fails name index label known (rows_of given)) p left at (waits_for label) word rest e)
 
     -- a text for the next place, or one too many; `stand` and `at` tell whether it comes behind `--`
     place_step : (stand : Given → List Text → Stand) (at_walk : List Row → Option (Text × List Text) → ℕ → Walk)
-        → ((rows : List Row) (pending : Option (Text × List Text)) (p : ℕ) (given : Given) (left : List Text) → Good rows pending given → ArePlaced rules p left
+        → ((rows : List Row) (pending : Option (Text × List Text)) (p : ℕ) (given : Given) (left : List Text) → Good rows pending given
+        → ArePlaced f.numbers rules p left
         → Rel (stand given left) (at_walk rows pending p))
         → ((rows : List Row) (pending : Option (Text × List Text)) (p : ℕ) (left : List Text) → is_usage (settle_fault rules false (held rows pending)) ≡ true
-        → ArePlaced rules p left
+        → ArePlaced f.numbers rules p left
         → is_usage (kinds_at (at_walk rows pending p) rest) ≡ true)
-        → (rows : List Row) (pending : Option (Text × List Text)) (p : ℕ) (given : Given) (left : List Text) → Good rows pending given → ArePlaced rules p left
+        → (rows : List Row) (pending : Option (Text × List Text)) (p : ℕ) (given : Given) (left : List Text) → Good rows pending given
+        → ArePlaced f.numbers rules p left
         → turn_fault s [] (at_walk rows pending p) word ≡ step_fault s p (held rows pending) a_value
-        → ((label : Text) → arg_by_index rules p ≡ Some (text_arg None (Some p) label)
+        → ((label : Text) → arg_by_index rules p ≡ Some (text_arg f.numbers None (Some p) label)
         → walked rules [] (at_walk rows pending p) word
-        ≡ at_walk (settled_rows rules pending rows) (Some (label, word ∷ [])) (next_position (text_arg None (Some p) label) p))
-        → Stepped (placed stand given left word) (at_walk rows pending p)
+        ≡ at_walk (settled_rows rules pending rows) (Some (label, word ∷ [])) (next_position (text_arg f.numbers None (Some p) label) p))
+        → Stepped (placed f stand given left word) (at_walk rows pending p)
     place_step stand at_walk related failing_on rows pending p given [] good at turn walks =
         ends_so usage (at_walk rows pending p) (word ∷ rest) rest (refuses (at_walk rows pending p) word rest (rw (turn, at) refl))
-    place_step stand at_walk related failing_on rows pending p given (label ∷ left) good at turn walks = go (text_of label given) refl
+    place_step stand at_walk related failing_on rows pending p given (label ∷ left) good at turn walks =
+        go (is_some (text_of label given) || not (fits f.numbers label word)) refl
       where
         next : ℕ
-        next = next_position (text_arg None (Some p) label) p
+        next = next_position (text_arg f.numbers None (Some p) label) p
 
-        fits : turn_fault s [] (at_walk rows pending p) word ≡ []
-        fits = turn ∙ rw (at.0, and_false (is_pending (text_arg None (Some p) label) pending), good.settles) refl
+        passing_on : turn_fault s [] (at_walk rows pending p) word ≡ []
+        passing_on = turn ∙ rw (at.0, and_false (is_pending (text_arg f.numbers None (Some p) label) pending), good.settles) refl
 
         there : walked rules [] (at_walk rows pending p) word ≡ at_walk (rows_of given) (Some (label, word ∷ [])) next
-        there = walks label at.0 ∙ ap (λ r. at_walk r (Some (label, word ∷ [])) next) good.kept
+        there = walks label at.0 ∙ ap (λ r. at_walk r (Some (label, word ∷ [])) next) good.rows_are
 
-        go : (o : Option Text) → text_of label given ≡ o
-            → Reached (at_end f (fold next_stand (cond (is_some o) (ended usage) (stand (given ++ (label, word) ∷ []) left)) rest)) (at_walk rows pending p)
+        go : (b : Bool) → (is_some (text_of label given) || not (fits f.numbers label word)) ≡ b
+            → Reached (at_end f (fold next_stand (cond b (ended usage) (stand (given ++ (label, word) ∷ []) left)) rest)) (at_walk rows pending p)
             (word ∷ rest)
-        go None e = passes _ (at_walk rows pending p) (at_walk (rows_of given) (Some (label, word ∷ [])) next) word rest fits there
+        go false e = passes _ (at_walk rows pending p) (at_walk (rows_of given) (Some (label, word ∷ [])) next) word rest passing_on there
             (goes _ _
             (related (rows_of given) (Some (label, word ∷ [])) next (given ++ (label, word) ∷ []) left
-            (good_pending None (Some p) label at.1 given word e) at.2))
-        go (Some u) e = ends_so usage (at_walk rows pending p) (word ∷ rest) rest
-            (passes usage (at_walk rows pending p) (at_walk (rows_of given) (Some (label, word ∷ [])) next) word rest fits there
-            (failing_on (rows_of given) (Some (label, word ∷ [])) next left (twice_fails None (Some p) label at.1 given word u e) at.2))
+            (good_kept None (Some p) label at.1 given word e) at.2))
+        go true e = ends_so usage (at_walk rows pending p) (word ∷ rest) rest
+            (passes usage (at_walk rows pending p) (at_walk (rows_of given) (Some (label, word ∷ [])) next) word rest passing_on there
+            (failing_on (rows_of given) (Some (label, word ∷ [])) next left (refused_fails None (Some p) label at.1 given word e) at.2))
 
     behind_step : (rows : List Row) (pending : Option (Text × List Text)) (p : ℕ) (given : Given) (left : List Text) → Good rows pending given
-        → ArePlaced rules p left
-        → Stepped (placed behind given left word) (closed_at rows pending p)
+        → ArePlaced f.numbers rules p left
+        → Stepped (placed f behind given left word) (closed_at rows pending p)
     unfolding walked
     behind_step rows pending p given left good at =
         place_step behind closed_at rel_behind (λ r q i ls fails places. closed_fails r q fails i ls places idle rest) rows pending p given left good at refl
-        (λ label known. rw (known, and_false (is_pending (text_arg None (Some p) label) pending)) refl)
+        (λ label known. rw (known, and_false (is_pending (text_arg f.numbers None (Some p) label) pending)) refl)
 
     text_step : (rows : List Row) (pending : Option (Text × List Text)) (p : ℕ) (given : Given) (left : List Text) → Good rows pending given
-        → ArePlaced rules p left → is_text word ≡ true
-        → Stepped (placed between given left word) (open_at rows pending p)
+        → ArePlaced f.numbers rules p left → is_text word ≡ true
+        → Stepped (placed f between given left word) (open_at rows pending p)
     text_step rows pending p given left good at e =
         place_step between open_at rel_between (λ r q i ls fails places. failing r q fails i ls places rest) rows pending p given left good at
         (text_turn s [] rows pending p word refl refl e)
-        (λ label known. text_walked s [] rows pending p word refl e ∙ rw (known, and_false (is_pending (text_arg None (Some p) label) pending)) refl)
+        (λ label known. text_walked s [] rows pending p word refl e ∙ rw (known, and_false (is_pending (text_arg f.numbers None (Some p) label) pending)) refl)
 
     module _ (rows : List Row) (pending : Option (Text × List Text)) (p : ℕ) (given : Given) (left : List Text) (good : Good rows pending given)
-        (at : ArePlaced rules p left) where
+        (at : ArePlaced f.numbers rules p left) where
       abbrev here : Walk
       here = open_at rows pending p
 
@@ -447,9 +485,10 @@ module _ (f : Form) (is : IsTaken f) where
           (flip_bytes (codes "--") word false no_dashes)))
 
   -- what follows a second option of one label
-  again_fails : (name : Option Text) (index : Option ℕ) (label : Text) → arg_by_id rules label ≡ Some (text_arg name index label) → (given : Given) (u : Text)
+  again_fails : (name : Option Text) (index : Option ℕ) (label : Text) → arg_by_id rules label ≡ Some (text_arg f.numbers name index label)
+      → (given : Given) (u : Text)
       → text_of label given ≡ Some u
-      → (p : ℕ) (left : List Text) → ArePlaced rules p left → (words : List Text)
+      → (p : ℕ) (left : List Text) → ArePlaced f.numbers rules p left → (words : List Text)
       → is_usage (kinds_at (waiting_at (waits_for label) (rows_of given) (Some (label, [])) p) words) ≡ true
   again_fails name index label known given u there p left at [] =
       ends_failing (waiting_at (waits_for label) (rows_of given) (Some (label, [])) p) (wanted_fails name index label known (rows_of given))
@@ -465,12 +504,13 @@ module _ (f : Form) (is : IsTaken f) where
       go true e = passes usage w (open_at (rows_of given) (Some (label, v ∷ [])) p) v more
           (text_turn_at s [] (rows_of given) (Some (label, [])) p (waits_for label) v refl refl e)
           (text_taken s [] (rows_of given) (Some (label, [])) p (waits_for label) v refl e ∙ rw (known, same) refl)
-          (failing (rows_of given) (Some (label, v ∷ [])) (twice_fails name index label known given v u there) p left at more)
+          (failing (rows_of given) (Some (label, v ∷ []))
+          (refused_fails name index label known given v (ap (λ (o : Option Text). is_some o || not (fits f.numbers label v)) there)) p left at more)
       go false e = no_text (rows_of given) (Some (label, [])) (wanted_fails name index label known (rows_of given)) p left at (waits_for label) v more e
 
   module _ (rest : List Text) (goes : Goes rest) (c : ℕ) (cs : Text) (rows : List Row) (pending : Option (Text × List Text)) (p : ℕ) (given : Given)
       (left : List Text)
-      (good : Good rows pending given) (at : ArePlaced rules p left) where
+      (good : Good rows pending given) (at : ArePlaced f.numbers rules p left) where
     abbrev word : Text
     word = 45 ∷ 45 ∷ c ∷ cs
 
@@ -487,20 +527,20 @@ module _ (f : Form) (is : IsTaken f) where
     Led stand = Reached (at_end f (fold next_stand stand rest)) from (word ∷ rest)
 
     module _ (o : Text × Text) (is_found : found (name_in (c ∷ cs)) ≡ Some o) where
-      named : arg_by_long rules (name_in (c ∷ cs)) ≡ Some (option_arg o)
+      named : arg_by_long rules (name_in (c ∷ cs)) ≡ Some (option_arg f.numbers o)
       named =
           by_long (name_in (c ∷ cs))
-          ∙ ap (λ m. option_map_or (λ x. Some (option_arg x)) m (cond (bytes_eq (codes "help") (name_in (c ∷ cs))) (Some help_flag) None)) is_found
+          ∙ ap (λ m. option_map_or (λ x. Some (option_arg f.numbers x)) m (cond (bytes_eq (codes "help") (name_in (c ∷ cs))) (Some help_flag) None)) is_found
 
-      labelled : arg_by_id rules o.1 ≡ Some (option_arg o)
-      labelled = each_found (λ x. arg_by_id rules x.1 ≡ Some (option_arg x)) (λ x. bytes_eq x.0 (name_in (c ∷ cs))) f.options o is.options is_found
+      labelled : arg_by_id rules o.1 ≡ Some (option_arg f.numbers o)
+      labelled = each_found (λ x. arg_by_id rules x.1 ≡ Some (option_arg f.numbers x)) (λ x. bytes_eq x.0 (name_in (c ∷ cs))) f.options o is.options is_found
 
       option_fits : has_equals ≡ false → turn_fault s [] from word ≡ []
       option_fits e = rw (e, named, good.settles) refl
 
       option_goes : has_equals ≡ false → walked rules [] from word ≡ waiting_at (waits_for o.1) (rows_of given) (Some (o.1, [])) p
       unfolding walked
-      option_goes e = rw (e, named, good.kept) refl
+      option_goes e = rw (e, named, good.rows_are) refl
 
       option_step : has_equals ≡ false → Led (once o.1 given (wants o.1 given left))
       option_step e = go (text_of o.1 given) refl
@@ -512,23 +552,33 @@ module _ (f : Form) (is : IsTaken f) where
               (passes usage from (waiting_at (waits_for o.1) (rows_of given) (Some (o.1, [])) p) word rest (option_fits e) (option_goes e)
               (again_fails (Some o.0) None o.1 labelled given u there p left at rest))
 
-      valued_step : has_equals ≡ true → Led (once o.1 given (between (given ++ (o.1, after_equals) ∷ []) left))
+      valued_step : has_equals ≡ true → Led (kept f o.1 after_equals given (between (given ++ (o.1, after_equals) ∷ []) left))
       unfolding walked
-      valued_step e = go (text_of o.1 given) refl
+      valued_step e = go (text_of o.1 given) (fits f.numbers o.1 after_equals) refl refl
         where
-          go : (m : Option Text) → text_of o.1 given ≡ m → Led (cond (is_some m) (ended usage) (between (given ++ (o.1, after_equals) ∷ []) left))
-          go None fresh = passes _ from (open_at (rows_of (given ++ (o.1, after_equals) ∷ [])) None p) word rest
-              (rw (e, named, good.settles, good.kept, use_passes (Some o.0) None o.1 after_equals given fresh) refl)
-              (rw (e, named, good.kept, used_fresh (Some o.0) None o.1 after_equals given fresh) refl)
+          go : (m : Option Text) (b : Bool) → text_of o.1 given ≡ m → fits f.numbers o.1 after_equals ≡ b
+              → Led (cond (is_some m || not b) (ended usage) (between (given ++ (o.1, after_equals) ∷ []) left))
+          go None true fresh fit = passes _ from (open_at (rows_of (given ++ (o.1, after_equals) ∷ [])) None p) word rest
+              (rw (e, named, good.settles, good.rows_are, use_passes f.numbers (Some o.0) None o.1 after_equals given fresh fit) refl)
+              (rw (e, named, good.rows_are, used_fresh f.numbers (Some o.0) None o.1 after_equals given fresh) refl)
               (goes _ _ (rel_between _ None p (given ++ (o.1, after_equals) ∷ []) left (good_rows (given ++ (o.1, after_equals) ∷ [])) at))
-          go (Some u) there = ends_so usage from (word ∷ rest) rest
-              (refuses from word rest (rw (e, named, good.settles, good.kept, use_twice (Some o.0) None o.1 after_equals u given there) refl))
+          go None false fresh misfit = ends_so usage from (word ∷ rest) rest
+              (refuses from word rest (rw (
+                e,
+                named,
+                good.settles,
+                good.rows_are,
+                use_misfit f.numbers
+                    (Some o.0) None o.1 after_equals given fresh misfit,
+              ) refl))
+          go (Some u) b there fit = ends_so usage from (word ∷ rest) rest
+              (refuses from word rest (rw (e, named, good.settles, good.rows_are, use_twice f.numbers (Some o.0) None o.1 after_equals u given there) refl))
 
-    long_step : is_text word ≡ false → is_dashes word ≡ false → is_help_flag word ≡ false → Led (after_part given left word (option_part f.options (c ∷ cs)))
+    long_step : is_text word ≡ false → is_dashes word ≡ false → is_help_flag word ≡ false → Led (after_part f given left word (option_part f.options (c ∷ cs)))
     long_step no_text no_dashes no_call = go (found (name_in (c ∷ cs))) has_equals refl refl
       where
         go : (m : Option (Text × Text)) (b : Bool) → found (name_in (c ∷ cs)) ≡ m → has_equals ≡ b
-            → Led (after_part given left word
+            → Led (after_part f given left word
             (option_map_or (λ label. option_map_or (valued label) (cond b (Some after_equals) None) (option label)) (option_map (λ x. x.1) m) unknown))
         go None b e eq =
             unknown_step rest goes word rows pending p given left good at
@@ -539,8 +589,8 @@ module _ (f : Form) (is : IsTaken f) where
   -- a word that begins with a hyphen, is not `--` and asks for no help
   hyphen_step : (rest : List Text) → Goes rest → (word : Text) → View word
       → (rows : List Row) (pending : Option (Text × List Text)) (p : ℕ) (given : Given) (left : List Text)
-      → Good rows pending given → ArePlaced rules p left → is_text word ≡ false → is_dashes word ≡ false → is_help_flag word ≡ false
-      → Reached (at_end f (fold next_stand (after_part given left word (option_map_or (option_part f.options) (after_dashes word) unknown)) rest))
+      → Good rows pending given → ArePlaced f.numbers rules p left → is_text word ≡ false → is_dashes word ≡ false → is_help_flag word ≡ false
+      → Reached (at_end f (fold next_stand (after_part f given left word (option_map_or (option_part f.options) (after_dashes word) unknown)) rest))
       (open_at rows pending p) (word ∷ rest)
   hyphen_step rest goes _ no_byte rows pending p given left good at t d c = absurd (true≢false t)
   hyphen_step rest goes _ (a_letter x more e) rows pending p given left good at t d c =
@@ -562,14 +612,15 @@ module _ (f : Form) (is : IsTaken f) where
       go : (a b c : Bool) → is_text word ≡ a → is_dashes word ≡ b → is_help_flag word ≡ c
           → Reached (at_end f
           (fold next_stand
-          (after_part given left word (cond a text (cond b dashes (cond c call (option_map_or (option_part f.options) (after_dashes word) unknown))))) rest))
+          (after_part f given left word (cond a text (cond b dashes (cond c call (option_map_or (option_part f.options) (after_dashes word) unknown))))) rest))
           (open_at rows pending p) (word ∷ rest)
       go true b c t d h = text_step rest goes word rows pending p given left good at t
       go false true c t d h = dashes_step rest goes word rows pending p given left good at d
       go false false true t d h = call_step rest goes word rows pending p given left good at h
       go false false false t d h = hyphen_step rest goes word (view word) rows pending p given left good at t d h
 
-  ends_wanting : (label : Text) (p : ℕ) (given : Given) (name : Option Text) (index : Option ℕ) → arg_by_id rules label ≡ Some (text_arg name index label)
+  ends_wanting : (label : Text) (p : ℕ) (given : Given) (name : Option Text) (index : Option ℕ) → arg_by_id rules label
+      ≡ Some (text_arg f.numbers name index label)
       → Reached usage (waiting_at (waits_for label) (rows_of given) (Some (label, [])) p) []
   ends_wanting label p given name index known =
       ends_failing (waiting_at (waits_for label) (rows_of given) (Some (label, [])) p) (wanted_fails name index label known (rows_of given))

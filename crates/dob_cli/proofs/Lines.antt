@@ -1,23 +1,25 @@
 -- The lines that ask for something are just those that the words' meaning says.
 use Rattle.std.proofs.Common.{◌≡◌, ◌∙◌, ◌+◌, ℕ, Bool, arith, suc, drop, refl, sym, ap, subst, cond, codes, inl, inr, true, false, [], ◌∷◌, ◌++◌, List, Option}
 use Rattle.std.proofs.Common.{Some, None, append_assoc, append-nil, true≢false}
-use Rattle.std.specs.Prelude.{find, fold, is_some, option_map, ◌||◌, ◌&&◌, ◌==◌, unwrap_or}
+use Rattle.std.specs.Prelude.{find, fold, is_some, not, option_and_then, option_map, ◌||◌, ◌&&◌, ◌==◌, unwrap_or}
 use Rattle.std.specs.Option.{option_map_or}
 use Rattle.std.specs.List.{after_first, before_first}
 use Rattle.std.specs.Str.{bytes_eq}
 use Rattle.std.proofs.lemmas.Slice.Eq.{bytes_eq-Decides}
 use Rattle.std.proofs.lemmas.Bool.Decides.{Decides-eqb}
 use Rattle.clap.specs.Lexer.{has_byte}
-use Rattle.dob_cli.specs.Forms.{Form, Text, check_form, count_form, forms, labels, line_form, probe_form, value_form}
-use Rattle.dob_cli.specs.Words.{Given, Meaning, Stand, after_dashes, after_part, after_word, asked, asks, at_end, behind, between, call, dashes, ended, help}
+use Rattle.dob_cli.specs.Forms.{Form, Text, build_form, check_form, count_form, forms, labels, line_form, probe_form, value_form}
+use Rattle.dob_cli.specs.Words.{Given, Meaning, Stand, after_dashes, after_part, after_word, asked, asks, at_end, behind, between, call, dashes}
+use Rattle.dob_cli.specs.Words.{ended, fits, help}
 use Rattle.dob_cli.specs.Words.{is_dashes, is_help_flag, is_text, label_of, meaning_of, meaning_of_form, meaning_of_other, name_in, option, option_part}
-use Rattle.dob_cli.specs.Words.{part_of, placed, text, text_of, texts_of, topic, unknown, usage, valued, version, wants}
+use Rattle.dob_cli.specs.Words.{part_of, placed, text, text_of, texts_of, topic, unknown, usage, valued, version, wanted, wants}
 use Rattle.dob_cli.specs.Lines.{AreNew, Behind, Gives, IsAmong, IsLine, by_dashes, by_option, by_place, by_value, next, none, nothing}
-use Rattle.dob_cli.specs.Readings.{ComesFromLine, IsReadingOf, SomeLine, texts_of_order}
+use Rattle.dob_cli.specs.Shapes.{AreFit}
+use Rattle.dob_cli.specs.Readings.{ComesFromLine, IsReadingOf, SomeLine}
 use Rattle.dob_cli.specs.declared.command.Reading.{Reading}
 use Rattle.dob_cli.specs.declared.command.Reading.TheVariants as reading
 use Rattle.dob_cli.proofs.Lexing.{hyphen_first, before_none, take_one}
-use Rattle.dob_cli.proofs.Texts.{Each}
+use Rattle.dob_cli.proofs.Texts.{Each, kept_both}
 use Rattle.dob_cli.proofs.FormWords.{each_found}
 
 -- ---- options' words
@@ -66,17 +68,17 @@ found_passes p (x ∷ xs) o e = go (p x) refl e (found_passes p xs o)
 
 module _ (f : Form) (name : Text) (texts : List Text) where
   abbrev next_stand : Stand → Text → Stand
-  next_stand = after_word f.options
+  next_stand = after_word f
 
   -- these texts came after those before
   abbrev Came : Given → Given → Type 0
-  Came before more = AreNew before more × (asked f (before ++ more) ≡ asks name texts)
+  Came before more = AreNew f before more × (asked f (before ++ more) ≡ asks name texts)
 
   -- the words from here on give what is asked for
   abbrev Told : Stand → List Text → Type 0
   Told (between before left) words = (more : Given) × Gives f left words more × Came before more
   Told (wants label before left) words =
-      (t : Text) × (rest : List Text) × (more : Given) × (words ≡ t ∷ rest) × (is_text t ≡ true) × Gives f left rest more
+      (t : Text) × (rest : List Text) × (more : Given) × (words ≡ t ∷ rest) × (is_text t ≡ true) × (fits f.numbers label t ≡ true) × Gives f left rest more
       × Came (before ++ (label, t) ∷ []) more
   Told (behind before left) words = (more : Given) × Behind left words more × Came before more
   Told (ended m) words = m ≡ asks name texts
@@ -108,48 +110,58 @@ module _ (f : Form) (name : Text) (texts : List Text) where
   unfolding is_asked
   not_help e = absurd (true≢false (sym (ap is_asked e)))
 
-  came_more : (label t : Text) (before more : Given) → text_of label before ≡ None → Came (before ++ (label, t) ∷ []) more → Came before ((label, t) ∷ more)
-  came_more label t before more fresh came = ((fresh, came.0), ap (asked f) (sym (append_assoc before ((label, t) ∷ []) more)) ∙ came.1)
+  came_more : (label t : Text) (before more : Given) → text_of label before ≡ None → fits f.numbers label t ≡ true
+      → Came (before ++ (label, t) ∷ []) more → Came before ((label, t) ∷ more)
+  came_more label t before more fresh fit came = ((fresh, fit, came.0), ap (asked f) (sym (append_assoc before ((label, t) ∷ []) more)) ∙ came.1)
 
   module _ (word : Text) (rest : List Text) (rec : (stand : Stand) → at_end f (fold next_stand stand rest) ≡ asks name texts → Told stand rest) where
     -- what is asked for where this word led to this stand
     abbrev Led : Stand → Type 0
     Led stand = at_end f (fold next_stand stand rest) ≡ asks name texts
 
-    placed_told : (before : Given) (left : List Text) → is_text word ≡ true → Led (placed between before left word) → Told (between before left) (word ∷ rest)
+    placed_told : (before : Given) (left : List Text) → is_text word ≡ true → Led (placed f between before left word) → Told (between before left) (word ∷ rest)
     placed_told before [] t e = not_usage (ended_told usage rest e)
-    placed_told before (label ∷ left) t e = go (text_of label before) refl e
+    placed_told before (label ∷ left) t e = go (is_some (text_of label before) || not (fits f.numbers label word)) refl e
       where
-        go : (o : Option Text) → text_of label before ≡ o → Led (cond (is_some o) (ended usage) (between (before ++ (label, word) ∷ []) left))
+        go : (b : Bool) → (is_some (text_of label before) || not (fits f.numbers label word)) ≡ b
+            → Led (cond b (ended usage) (between (before ++ (label, word) ∷ []) left))
             → Told (between before (label ∷ left)) (word ∷ rest)
-        go (Some u) fresh e = not_usage (ended_told usage rest e)
-        go None fresh e =
+        go true h e = not_usage (ended_told usage rest e)
+        go false h e =
+            let both = kept_both (text_of label before) (fits f.numbers label word) h in
             let r : Told (between (before ++ (label, word) ∷ []) left) rest = rec (between (before ++ (label, word) ∷ []) left) e in
-            ((label, word) ∷ r.0, by_place label word left rest r.0 t r.1, came_more label word before r.0 fresh r.2)
+            ((label, word) ∷ r.0, by_place label word left rest r.0 t r.1, came_more label word before r.0 both.0 both.1 r.2)
 
-    behind_told : (before : Given) (left : List Text) → Led (placed behind before left word) → Told (behind before left) (word ∷ rest)
+    behind_told : (before : Given) (left : List Text) → Led (placed f behind before left word) → Told (behind before left) (word ∷ rest)
     behind_told before [] e = not_usage (ended_told usage rest e)
-    behind_told before (label ∷ left) e = go (text_of label before) refl e
+    behind_told before (label ∷ left) e = go (is_some (text_of label before) || not (fits f.numbers label word)) refl e
       where
-        go : (o : Option Text) → text_of label before ≡ o → Led (cond (is_some o) (ended usage) (behind (before ++ (label, word) ∷ []) left))
+        go : (b : Bool) → (is_some (text_of label before) || not (fits f.numbers label word)) ≡ b
+            → Led (cond b (ended usage) (behind (before ++ (label, word) ∷ []) left))
             → Told (behind before (label ∷ left)) (word ∷ rest)
-        go (Some u) fresh e = not_usage (ended_told usage rest e)
-        go None fresh e =
+        go true h e = not_usage (ended_told usage rest e)
+        go false h e =
+            let both = kept_both (text_of label before) (fits f.numbers label word) h in
             let r : Told (behind (before ++ (label, word) ∷ []) left) rest = rec (behind (before ++ (label, word) ∷ []) left) e in
-            ((label, word) ∷ r.0, next label word left rest r.0 r.1, came_more label word before r.0 fresh r.2)
+            ((label, word) ∷ r.0, next label word left rest r.0 r.1, came_more label word before r.0 both.0 both.1 r.2)
 
     wanted_told : (label : Text) (before : Given) (left : List Text) → Led (next_stand (wants label before left) word)
         → Told (wants label before left) (word ∷ rest)
     wanted_told label before left e = go (is_text word) refl e
       where
-        go : (b : Bool) → is_text word ≡ b → Led (cond b (between (before ++ (label, word) ∷ []) left) (ended usage))
+        by_fit : (b : Bool) → fits f.numbers label word ≡ b → is_text word ≡ true
+            → Led (cond b (between (before ++ (label, word) ∷ []) left) (ended usage)) → Told (wants label before left) (word ∷ rest)
+        by_fit false fit t e = not_usage (ended_told usage rest e)
+        by_fit true fit t e =
+            let r : Told (between (before ++ (label, word) ∷ []) left) rest = rec (between (before ++ (label, word) ∷ []) left) e in
+            (word, rest, r.0, refl, t, fit, r.1, r.2)
+
+        go : (b : Bool) → is_text word ≡ b → Led (cond b (wanted f label before left word) (ended usage))
             → Told (wants label before left) (word ∷ rest)
         go false t e = not_usage (ended_told usage rest e)
-        go true t e =
-            let r : Told (between (before ++ (label, word) ∷ []) left) rest = rec (between (before ++ (label, word) ∷ []) left) e in
-            (word, rest, r.0, refl, t, r.1, r.2)
+        go true t e = by_fit (fits f.numbers label word) refl t e
 
-    option_told : (before : Given) (left : List Text) (r : Text) → codes "--" ++ r ≡ word → Led (after_part before left word (option_part f.options r))
+    option_told : (before : Given) (left : List Text) (r : Text) → codes "--" ++ r ≡ word → Led (after_part f before left word (option_part f.options r))
         → Told (between before left) (word ∷ rest)
     option_told before left r is e = go (label_of f.options (name_in r)) (has_byte 61 r) refl refl e
       where
@@ -164,32 +176,34 @@ module _ (f : Form) (name : Text) (texts : List Text) where
             let q : Told (wants label before left) rest = rec (wants label before left) e in (
               (label, q.0) ∷ q.2,
               subst (λ ws. Gives f left ws ((label, q.0) ∷ q.2)) (ap (λ ws. (codes "--" ++ r) ∷ ws) (sym q.3) ∙ ap (λ w. w ∷ rest) is)
-                  (by_option r label q.0 left q.1 q.2 known q.4 q.5),
-              came_more label q.0 before q.2 fresh q.6,
+                  (by_option r label q.0 left q.1 q.2 known q.4 q.6),
+              came_more label q.0 before q.2 fresh q.5 q.7,
             )
 
-        with_value : (label : Text) → label_of f.options (name_in r) ≡ Some label → name_in r ++ 61 ∷ behind_equals ≡ r → (o : Option Text)
-            → text_of label before ≡ o
-            → Led (cond (is_some o) (ended usage) (between (before ++ (label, behind_equals) ∷ []) left)) → Told (between before left) (word ∷ rest)
-        with_value label known split (Some u) fresh e = not_usage (ended_told usage rest e)
-        with_value label known split None fresh e =
+        with_value : (label : Text) → label_of f.options (name_in r) ≡ Some label → name_in r ++ 61 ∷ behind_equals ≡ r → (b : Bool)
+            → (is_some (text_of label before) || not (fits f.numbers label behind_equals)) ≡ b
+            → Led (cond b (ended usage) (between (before ++ (label, behind_equals) ∷ []) left)) → Told (between before left) (word ∷ rest)
+        with_value label known split true h e = not_usage (ended_told usage rest e)
+        with_value label known split false h e =
+            let both = kept_both (text_of label before) (fits f.numbers label behind_equals) h in
             let q : Told (between (before ++ (label, behind_equals) ∷ []) left) rest = rec (between (before ++ (label, behind_equals) ∷ []) left) e in (
               (label, behind_equals) ∷ q.0,
               subst (λ w. Gives f left (w ∷ rest) ((label, behind_equals) ∷ q.0)) (ap (λ x. codes "--" ++ x) split ∙ is)
                   (by_value (name_in r) label behind_equals left rest q.0 known q.1),
-              came_more label behind_equals before q.0 fresh q.2,
+              came_more label behind_equals before q.0 both.0 both.1 q.2,
             )
 
         go : (o : Option Text) (b : Bool) → label_of f.options (name_in r) ≡ o → has_byte 61 r ≡ b
-            → Led (after_part before left word
+            → Led (after_part f before left word
             (option_map_or (λ label. option_map_or (valued label) (cond b (Some behind_equals) None) (option label)) o unknown))
             → Told (between before left) (word ∷ rest)
         go None b known h e = not_usage (ended_told usage rest e)
         go (Some label) false known h e = with_option label (ap (label_of f.options) (sym (before_none r h)) ∙ known) (text_of label before) refl e
-        go (Some label) true known h e = with_value label known (equals_split r h) (text_of label before) refl e
+        go (Some label) true known h e = with_value label known (equals_split r h) (is_some (text_of label before) || not
+            (fits f.numbers label behind_equals)) refl e
 
     hyphen_told : (before : Given) (left : List Text) (o : Option Text) → after_dashes word ≡ o
-        → Led (after_part before left word (option_map_or (option_part f.options) o unknown)) → Told (between before left) (word ∷ rest)
+        → Led (after_part f before left word (option_map_or (option_part f.options) o unknown)) → Told (between before left) (word ∷ rest)
     hyphen_told before left None is e = not_usage (ended_told usage rest e)
     hyphen_told before left (Some r) is e = option_told before left r (dashes_of word r is) e
 
@@ -197,7 +211,8 @@ module _ (f : Form) (name : Text) (texts : List Text) where
     between_told before left e = go (is_text word) (is_dashes word) (is_help_flag word) refl refl e
       where
         go : (a b c : Bool) → is_text word ≡ a → is_dashes word ≡ b
-            → Led (after_part before left word (cond a text (cond b dashes (cond c call (option_map_or (option_part f.options) (after_dashes word) unknown)))))
+            → Led (after_part f before left word (cond a text (cond b dashes (cond c call (option_map_or (option_part f.options)
+            (after_dashes word) unknown)))))
             → Told (between before left) (word ∷ rest)
         go true b c t d e = placed_told before left t e
         go false true c t d e =
@@ -236,7 +251,7 @@ dashes_part options = rw (hyphen_first []) refl
 
 module _ (f : Form) (is : IsSpelled f) where
   abbrev after : Stand → Text → Stand
-  after = after_word f.options
+  after = after_word f
 
   -- an option is one of the form's
   known_option : (name label : Text) → label_of f.options name ≡ Some label
@@ -257,30 +272,61 @@ module _ (f : Form) (is : IsSpelled f) where
                 (λ x. bytes_eq x.0 name) f.options o is.by_value found t ∙ ap (λ l. valued l t) label_is),
           )
 
-  behind_asked : (left words : List Text) (given before : Given) → Behind left words given → AreNew before given
+  behind_asked : (left words : List Text) (given before : Given) → Behind left words given → AreNew f before given
       → at_end f (fold after (behind before left) words) ≡ asked f (before ++ given)
   behind_asked _ _ _ before (none left) new = ap (asked f) (sym (append-nil before))
   behind_asked _ _ _ before (next label t left words given more) new =
-      rw new.0 (behind_asked left words given (before ++ (label, t) ∷ []) more new.1 ∙ ap (asked f) (append_assoc before ((label, t) ∷ []) given))
+      rw (new.0, new.1) (behind_asked left words given (before ++ (label, t) ∷ []) more new.2 ∙ ap (asked f) (append_assoc before ((label, t) ∷ []) given))
 
-  given_asked : (left words : List Text) (given before : Given) → Gives f left words given → AreNew before given
+  given_asked : (left words : List Text) (given before : Given) → Gives f left words given → AreNew f before given
       → at_end f (fold after (between before left) words) ≡ asked f (before ++ given)
   given_asked _ _ _ before (nothing left) new = ap (asked f) (sym (append-nil before))
   given_asked _ _ _ before (by_place label t left words given plain more) new =
-      rw (plain, new.0) (given_asked left words given (before ++ (label, t) ∷ []) more new.1 ∙ ap (asked f) (append_assoc before ((label, t) ∷ []) given))
+      rw (plain, new.0, new.1) (given_asked left words given (before ++ (label, t) ∷ []) more new.2
+      ∙ ap (asked f) (append_assoc before ((label, t) ∷ []) given))
   given_asked _ _ _ before (by_option name label t left words given known plain more) new =
-      rw ((known_option name label known).0, new.0, plain)
-      (given_asked left words given (before ++ (label, t) ∷ []) more new.1 ∙ ap (asked f) (append_assoc before ((label, t) ∷ []) given))
+      rw ((known_option name label known).0, new.0, plain, new.1)
+      (given_asked left words given (before ++ (label, t) ∷ []) more new.2 ∙ ap (asked f) (append_assoc before ((label, t) ∷ []) given))
   given_asked _ _ _ before (by_value name label t left words given known more) new =
-      rw ((known_option name label known).1 t, new.0)
-      (given_asked left words given (before ++ (label, t) ∷ []) more new.1 ∙ ap (asked f) (append_assoc before ((label, t) ∷ []) given))
+      rw ((known_option name label known).1 t, new.0, new.1)
+      (given_asked left words given (before ++ (label, t) ∷ []) more new.2 ∙ ap (asked f) (append_assoc before ((label, t) ∷ []) given))
   given_asked _ _ _ before (by_dashes left words given more) new = rw (dashes_part f.options) (behind_asked left words given before more new)
 
   -- the words of a line ask for its texts
-  line_asked : (rest texts : List Text) (given : Given) → Gives f f.positions rest given → AreNew [] given → texts_of (labels f) given ≡ Some texts
+  line_asked : (rest texts : List Text) (given : Given) → Gives f f.positions rest given → AreNew f [] given → texts_of (labels f) given ≡ Some texts
       → meaning_of_form f rest ≡ asks f.name texts
   line_asked rest texts given gives new complete =
       given_asked f.positions rest given [] gives new ∙ ap (λ o. option_map_or (asks f.name) o usage) complete
+
+  -- ---- the texts of a line
+
+  -- a text that was given is what it has to be
+  given_fits : (given before : Given) → AreNew f before given → (label t : Text) → text_of label given ≡ Some t → fits f.numbers label t ≡ true
+  given_fits [] before new label t e = absurd (true≢false (sym (ap is_some e)))
+  given_fits (g ∷ given) before new label t e = go (bytes_eq g.0 label) refl e (given_fits given (before ++ g ∷ []) new.2 label t)
+    where
+      go : (b : Bool) → bytes_eq g.0 label ≡ b → option_map (λ (x : Text × Text). x.1) (cond b (Some g) (find (λ x. bytes_eq x.0 label) given)) ≡ Some t
+          → (text_of label given ≡ Some t → fits f.numbers label t ≡ true) → fits f.numbers label t ≡ true
+      go true same e rec =
+          let is_t : g.1 ≡ t = ap (λ (m : Option Text). unwrap_or m []) e in
+          subst (λ l. fits f.numbers l t ≡ true) ((bytes_eq-Decides g.0 label).0 same) (subst (λ u. fits f.numbers g.0 u ≡ true) is_t new.1)
+      go false same e rec = rec e
+
+  texts_fit : (given : Given) → AreNew f [] given → (ls texts : List Text) → texts_of ls given ≡ Some texts → AreFit f.numbers ls texts
+  texts_fit given new [] texts e = tt
+  texts_fit given new (l ∷ ls) texts e = go (text_of l given) (texts_of ls given) refl refl e (texts_fit given new ls)
+    where
+      go : (o : Option Text) (more : Option (List Text)) → text_of l given ≡ o → texts_of ls given ≡ more
+          → option_and_then (λ t. option_map (λ ts. t ∷ ts) more) o ≡ Some texts
+          → ((ts : List Text) → texts_of ls given ≡ Some ts → AreFit f.numbers ls ts) → AreFit f.numbers (l ∷ ls) texts
+      go None more is are e rec = absurd (true≢false (sym (ap is_some e)))
+      go (Some t) None is are e rec = absurd (true≢false (sym (ap is_some e)))
+      go (Some t) (Some ts) is are e rec =
+          subst (AreFit f.numbers (l ∷ ls)) (ap (λ (m : Option (List Text)). unwrap_or m []) e) (given_fits given [] new l t is, rec ts are)
+
+-- each text of a line is what it has to be
+pub line_fits : (f : Form) (words texts : List Text) → IsSpelled f → IsLine f words texts → AreFit f.numbers (labels f) texts
+line_fits f words texts is line = texts_fit f is line.given line.new (labels f) texts line.complete
 
 -- ---- the program's forms
 
@@ -292,6 +338,19 @@ count_spelled =
     record {
       by_name = (long_part count_form.options 115 (codes "et") refl, tt);
       by_value = (λ t. long_part count_form.options 115 (codes "et=" ++ t) refl, tt);
+    }
+
+pub build_spelled : IsSpelled build_form
+build_spelled =
+    record {
+      by_name = (
+        long_part build_form.options 115 (codes "et") refl,
+        (long_part build_form.options 110 (codes "odes") refl, (long_part build_form.options 111 (codes "ut") refl, tt)),
+      );
+      by_value = (
+        λ t. long_part build_form.options 115 (codes "et=" ++ t) refl,
+        (λ t. long_part build_form.options 110 (codes "odes=" ++ t) refl, (λ t. long_part build_form.options 111 (codes "ut=" ++ t) refl, tt)),
+      );
     }
 
 pub probe_spelled : IsSpelled probe_form
@@ -318,7 +377,10 @@ all_known = (
   (value_spelled, λ rest. refl),
   (
     (count_spelled, λ rest. refl),
-    ((probe_spelled, λ rest. refl), ((line_spelled, λ rest. refl), ((check_spelled, λ rest. refl), tt))),
+    (
+      (build_spelled, λ rest. refl),
+      ((probe_spelled, λ rest. refl), ((line_spelled, λ rest. refl), ((check_spelled, λ rest. refl), tt))),
+    ),
   ),
 )
 
@@ -335,7 +397,7 @@ line_means f words texts among line =
 
 -- and where something is asked for, the words are a line of it
 
-form_line : (f : Form) (rest : List Text) (name : Text) (texts : List Text) → meaning_of_form f rest ≡ asks name texts
+pub form_line : (f : Form) (rest : List Text) (name : Text) (texts : List Text) → meaning_of_form f rest ≡ asks name texts
     → (f.name ≡ name) × IsLine f (f.name ∷ rest) texts
 form_line f rest name texts e =
     let r : Told f name texts (between [] f.positions) rest = told f name texts rest (between [] f.positions) e in
@@ -387,8 +449,7 @@ pub order_from_line : (words : List Text) (r : Reading) → IsReadingOf (meaning
 order_from_line words (reading.Order o) h = go (meaning_of words) refl h
   where
     go : (m : Meaning) → meaning_of words ≡ m → IsReadingOf m (reading.Order o) → ComesFromLine words (reading.Order o)
-    go (asks name texts) e h =
-        subst (λ n. SomeLine words n (texts_of_order o)) (sym h.0) (subst (λ ts. SomeLine words name ts) (sym h.1) (line_of words name texts e))
+    go (asks name texts) e h = (texts, h.1, subst (λ n. SomeLine words n texts) (sym h.0) (line_of words name texts e))
     go help e h = absurd h
     go topic e h = absurd h
     go usage e h = absurd h

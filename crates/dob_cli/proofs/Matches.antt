@@ -1,11 +1,19 @@
--- The texts of a subcommand that takes one or two, from its own matches.
-use Rattle.std.proofs.Common.{◌≡◌, ◌∙◌, ap, sym, refl, map, List, [], ◌∷◌, Option, Some, None}
-use Rattle.std.specs.Prelude.{option_map}
+-- The texts of a subcommand that takes one, two or three, from its own matches.
+use Rattle.std.proofs.Common.{◌≡◌, ◌∙◌, ◌&&◌, ◌++◌, ℕ, Bool, true, false, ap, sym, subst, refl, true≢false, map, List, [], ◌∷◌, Option, Some, None, is_some}
+use Rattle.std.specs.Prelude.{Result, option_map, slice_get, unwrap_or}
+use Rattle.std.specs.Result.{result_ok}
+use Rattle.std.specs.List.{list_all}
+use Rattle.std.specs.Str.Parse.{ParsesUnsigned}
+use Rattle.std.proofs.lemmas.Result.{Ok-from_Ok_iff}
 use Rattle.std.specs.Borrow.{Bor}
 use Rattle.clap.specs.Words.{Row, first_of, first_value, found_of, rows_of}
 use Rattle.clap.specs.declared.parser.ArgMatches.{ArgMatches}
+use Rattle.clap.specs.declared.builder.value_parser.ValueParser.TheVariants.{Unsigned}
+use Rattle.clap.proofs.ValueTestLemmas.{accepts-Accepts}
 use Rattle.dob_cli.specs.Forms.{Form, Text, labels}
-use Rattle.dob_cli.specs.Shapes.{Finds}
+use Rattle.dob_cli.specs.Words.{fits, is_number, number_of}
+use Rattle.dob_cli.specs.Shapes.{AreFit, Finds}
+use Rattle.dob_cli.proofs.Texts.{taken_number}
 use Rattle.dob_cli.proofs.Outcomes.{found_texts, none_missing, text_in_matches}
 
 module _ (f : Form) (texts : List Text) (met : Option (Text × List Row)) (found : Finds f texts met) (inner : ArgMatches)
@@ -48,3 +56,58 @@ module _ (f : Form) (texts : List Text) (met : Option (Text × List Row)) (found
       → (p : Option (Bor Text)) (u : Bor Text) → IsGot b p → p ≡ Some u → t.now ∷ u.now ∷ [] ≡ texts
   two_texts a b both o t got is p u next there =
       found_texts (t.now ∷ u.now ∷ []) texts (sym (pair (in_rows a o (Some t) got is) (in_rows b p (Some u) next there)) ∙ of_labels (a ∷ b ∷ []) both)
+
+  -- ---- of three
+
+  -- one of the labels has none
+  misses : (before after : List Text) (label : Text) → first_of label found.0 ≡ None
+      → list_all is_some (map (λ l. first_of l found.0) (before ++ label ∷ after)) ≡ false
+  misses [] after label none = rw none refl
+  misses (l ∷ ls) after label none = rw (misses ls after label none) (and_false (is_some (first_of l found.0)))
+    where
+      and_false : (b : Bool) → (b && false) ≡ false
+      and_false true = refl
+      and_false false = refl
+
+  pub no_label : (before after : List Text) (label : Text) → labels f ≡ before ++ label ∷ after → (o : Option (Bor Text)) → IsGot label o → o ≡ None → ⊥
+  no_label before after label are o got is =
+      none_missing (map (λ l. first_of l found.0) (before ++ label ∷ after)) texts (of_labels (before ++ label ∷ after) are)
+      (misses before after label (in_rows label o None got is))
+
+  module _ (a b c : Text) (are : labels f ≡ a ∷ b ∷ c ∷ []) where
+    triple : {x y z u v w : Option Text} → x ≡ u → y ≡ v → z ≡ w → x ∷ y ∷ z ∷ [] ≡ u ∷ v ∷ w ∷ []
+    triple e g h = cc
+
+    pub three_texts : (o p q : Option (Bor Text)) (t u v : Bor Text) → IsGot a o → o ≡ Some t → IsGot b p → p ≡ Some u → IsGot c q → q ≡ Some v
+        → t.now ∷ u.now ∷ v.now ∷ [] ≡ texts
+    three_texts o p q t u v first is_first second is_second third is_third =
+        found_texts (t.now ∷ u.now ∷ v.now ∷ []) texts
+        (sym (triple (in_rows a o (Some t) first is_first) (in_rows b p (Some u) second is_second) (in_rows c q (Some v) third is_third))
+        ∙ of_labels (a ∷ b ∷ c ∷ []) are)
+
+    -- the second is what it has to be
+    pub second_fits : (o : Option (Bor Text)) (u : Bor Text) → IsGot b o → o ≡ Some u → fits f.numbers b u.now ≡ true
+    second_fits o u got is = go texts
+        (ap (λ y. first_of a found.0 ∷ y ∷ first_of c found.0 ∷ []) (sym (in_rows b o (Some u) got is)) ∙ of_labels (a ∷ b ∷ c ∷ []) are)
+        (subst (λ ls. AreFit f.numbers ls texts) are found.3)
+      where
+        go : (ts : List Text) → first_of a found.0 ∷ Some u.now ∷ first_of c found.0 ∷ [] ≡ map (λ t. Some t) ts → AreFit f.numbers (a ∷ b ∷ c ∷ []) ts
+            → fits f.numbers b u.now ≡ true
+        go [] e fit = absurd (true≢false (ap (λ (os : List (Option Text)). is_some (slice_get os 1)) e))
+        go (t ∷ []) e fit = absurd (true≢false (ap (λ (os : List (Option Text)). is_some (slice_get os 1)) e))
+        go (t ∷ w ∷ ts) e fit =
+            let same : u.now ≡ w = ap (λ (os : List (Option Text)). unwrap_or (unwrap_or (slice_get os 1) None) []) e in
+            subst (λ x. fits f.numbers b x ≡ true) (sym same) fit.1.0
+
+-- a number is read from its text
+pub number_read : {E : Type 0} (t : Text) (r : Result ℕ E) (o : Option ℕ) → is_number t ≡ true → ParsesUnsigned 64 10 t r → o ≡ result_ok r
+    → o ≡ Some (number_of t)
+number_read t r o is parses reads =
+    let passes = accepts-Accepts false (Unsigned 0 18446744073709551615) t (taken_number t ∙ is) in
+    reads ∙ ap result_ok (Ok-from_Ok_iff r _ (number_of t) parses (passes.0, passes.1))
+
+pub none_read : (n : ℕ) (o : Option ℕ) → o ≡ Some n → o ≡ None → ⊥
+none_read n o some none = true≢false (sym (ap is_some some) ∙ ap is_some none)
+
+pub some_read : (n m : ℕ) (o : Option ℕ) → o ≡ Some n → o ≡ Some m → m ≡ n
+some_read n m o some is = ap (λ (x : Option ℕ). unwrap_or x 0) (sym is ∙ some)

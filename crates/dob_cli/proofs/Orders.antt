@@ -1,25 +1,31 @@
 -- What is owed for an order is owed for the words that ask for it.
-use Rattle.std.proofs.Common.{◌≡◌, ℕ, List, [], ◌∷◌, codes, true, false, refl, subst, sym, true≢false, ◌∙◌}
+use Rattle.std.proofs.Common.{◌≡◌, ℕ, Bool, List, [], ◌∷◌, ap, ap₂, codes, true, false, refl, subst, sym, true≢false, ◌∙◌}
+use Rattle.std.specs.Borrow.{Bor}
 use Rattle.std.specs.Str.{bytes_eq}
 use Rattle.dob_cli.specs.Forms.{Text}
 use Rattle.dob_cli.specs.declared.command.Order.{Order}
-use Rattle.dob_cli.specs.declared.command.Order.TheVariants.{Value, Count, Probe, Line, Check}
+use Rattle.dob_cli.specs.declared.command.Order.TheVariants.{Value, Count, Build, Probe, Line, Check}
 use Rattle.dob_cli.specs.Endings.{Ending}
-use Rattle.dob_cli.specs.Readings.{IsOrder, name_of_order}
+use Rattle.dob_cli.specs.Shelves.{Files, SameFiles, SameOthers}
+use Rattle.dob_cli.specs.Words.{Meaning, asks, build, help, number_of, topic, usage, version}
+use Rattle.dob_cli.specs.declared.command.Reading.TheVariants as reading
+use Rattle.dob_cli.specs.Readings.{IsOrder, IsReadingOf, name_of_order}
 use Rattle.dob_cli.specs.declared.fault.Fault.TheVariants.{Memory}
-use Rattle.dob_cli.specs.Orders.{AnswersOrder, IsFaultFor}
+use Rattle.dob_cli.specs.Orders.{AnswersOrder, IsFaultFor, KeepsFiles}
 use Rattle.dob_cli.specs.Program.{AnswersValue}
 use Rattle.dob_cli.specs.Sizes.{AnswersCount}
+use Rattle.dob_cli.specs.Builds.{AnswersBuild}
 use Rattle.dob_cli.specs.Tables.{AnswersCheck, AnswersLine, AnswersProbe}
 use Rattle.dob_cli.proofs.Outcomes.{first_text}
 
 -- want of memory holds of every order
-pub memory_holds : (Has : Text → List ℕ → Type 0) (o : Order) → IsFaultFor Has o Memory
-memory_holds Has (Value t) = tt
-memory_holds Has (Count t) = tt
-memory_holds Has (Probe f t) = tt
-memory_holds Has (Line f t) = tt
-memory_holds Has (Check f) = tt
+pub memory_holds : (Old New : Files) (o : Order) → IsFaultFor Old New o Memory
+memory_holds Old New (Value t) = tt
+memory_holds Old New (Count t) = tt
+memory_holds Old New (Build s n f) = tt
+memory_holds Old New (Probe f t) = tt
+memory_holds Old New (Line f t) = tt
+memory_holds Old New (Check f) = tt
 
 -- two names that differ aren't one
 differs : (a b : Text) → bytes_eq a a ≡ true → bytes_eq a b ≡ false → a ≡ b → ⊥
@@ -29,27 +35,69 @@ differs a b own other e = true≢false (sym own ∙ subst (λ (x : Text). bytes_
 two_texts : (x y a b : Text) → x ∷ y ∷ [] ≡ a ∷ b ∷ [] → (x ≡ a) × (y ≡ b)
 two_texts x y a b e = (cc, cc)
 
-module _ (Has : Text → List ℕ → Type 0) (e : Ending) where
-  pub done_value : (o : Order) (text : Text) → IsOrder (codes "value") (text ∷ []) o → AnswersOrder Has o e → AnswersValue text e
+-- the three texts of a list
+three_texts : (x y z a b c : Text) → x ∷ y ∷ z ∷ [] ≡ a ∷ b ∷ c ∷ [] → (x ≡ a) × (y ≡ b) × (z ≡ c)
+three_texts x y z a b c e = (cc, cc, cc)
+
+module _ (Old New : Files) (tells : Bool) (e : Ending) where
+  pub done_value : (o : Order) (text : Text) → IsOrder (codes "value") (text ∷ []) o → AnswersOrder Old New tells o e → AnswersValue text e
   done_value (Value t) text is answers = subst (λ (x : Text). AnswersValue x e) (first_text t.now text is.1) answers
   done_value o text is answers = absurd (differs (name_of_order o) (codes "value") refl refl is.0)
 
-  pub done_count : (o : Order) (text : Text) → IsOrder (codes "count") (text ∷ []) o → AnswersOrder Has o e → AnswersCount text e
+  pub done_count : (o : Order) (text : Text) → IsOrder (codes "count") (text ∷ []) o → AnswersOrder Old New tells o e → AnswersCount text e
   done_count (Count t) text is answers = subst (λ (x : Text). AnswersCount x e) (first_text t.now text is.1) answers
   done_count o text is answers = absurd (differs (name_of_order o) (codes "count") refl refl is.0)
 
-  pub done_probe : (o : Order) (file text : Text) → IsOrder (codes "probe") (file ∷ text ∷ []) o → AnswersOrder Has o e → AnswersProbe (Has file) text e
+  pub done_build : (o : Order) (set nodes file : Text) → IsOrder (codes "build") (set ∷ nodes ∷ file ∷ []) o → AnswersOrder Old New tells o e
+      → AnswersBuild Old New tells set (number_of nodes) file e
+  done_build (Build s n f) set nodes file is answers =
+      let same = three_texts s.now is.1.0 f.now set nodes file is.1.1 in
+      subst (λ (x : Text). AnswersBuild Old New tells x (number_of nodes) file e) same.0
+      (subst (λ (x : Text). AnswersBuild Old New tells s.now (number_of nodes) x e) same.2
+      (subst (λ (x : ℕ). AnswersBuild Old New tells s.now x f.now e) (is.1.3 ∙ ap number_of same.1) answers))
+  done_build o set nodes file is answers = absurd (differs (name_of_order o) (codes "build") refl refl is.0)
+
+  pub done_probe : (o : Order) (file text : Text) → IsOrder (codes "probe") (file ∷ text ∷ []) o → AnswersOrder Old New tells o e
+      → AnswersProbe (Old file) text e
   done_probe (Probe f t) file text is answers =
       let same = two_texts f.now t.now file text is.1 in
-      subst (λ (x : Text). AnswersProbe (Has x) text e) same.0 (subst (λ (x : Text). AnswersProbe (Has f.now) x e) same.1 answers)
+      subst (λ (x : Text). AnswersProbe (Old x) text e) same.0 (subst (λ (x : Text). AnswersProbe (Old f.now) x e) same.1 answers)
   done_probe o file text is answers = absurd (differs (name_of_order o) (codes "probe") refl refl is.0)
 
-  pub done_line : (o : Order) (file text : Text) → IsOrder (codes "line") (file ∷ text ∷ []) o → AnswersOrder Has o e → AnswersLine (Has file) text e
+  pub done_line : (o : Order) (file text : Text) → IsOrder (codes "line") (file ∷ text ∷ []) o → AnswersOrder Old New tells o e → AnswersLine (Old file) text e
   done_line (Line f t) file text is answers =
       let same = two_texts f.now t.now file text is.1 in
-      subst (λ (x : Text). AnswersLine (Has x) text e) same.0 (subst (λ (x : Text). AnswersLine (Has f.now) x e) same.1 answers)
+      subst (λ (x : Text). AnswersLine (Old x) text e) same.0 (subst (λ (x : Text). AnswersLine (Old f.now) x e) same.1 answers)
   done_line o file text is answers = absurd (differs (name_of_order o) (codes "line") refl refl is.0)
 
-  pub done_check : (o : Order) (file : Text) → IsOrder (codes "check") (file ∷ []) o → AnswersOrder Has o e → AnswersCheck (Has file) e
-  done_check (Check f) file is answers = subst (λ (x : Text). AnswersCheck (Has x) e) (first_text f.now file is.1) answers
+  pub done_check : (o : Order) (file : Text) → IsOrder (codes "check") (file ∷ []) o → AnswersOrder Old New tells o e → AnswersCheck (Old file) e
+  done_check (Check f) file is answers = subst (λ (x : Text). AnswersCheck (Old x) e) (first_text f.now file is.1) answers
   done_check o file is answers = absurd (differs (name_of_order o) (codes "check") refl refl is.0)
+
+-- ---- files
+
+module _ (Old New : Files) where
+  pub kept_others : (o : Order) (set nodes file : Text) → IsOrder (codes "build") (set ∷ nodes ∷ file ∷ []) o → KeepsFiles Old New o
+      → SameOthers file Old New
+  kept_others (Build s n f) set nodes file is keeps =
+      subst (λ (x : Text). SameOthers x Old New) (three_texts s.now is.1.0 f.now set nodes file is.1.1).2 keeps
+  kept_others o set nodes file is keeps = absurd (differs (name_of_order o) (codes "build") refl refl is.0)
+
+  -- the words that ask for a build say what it is
+  no_build : (m : Meaning) (s f : Bor Text) (n : ℕ) → IsReadingOf m (reading.Order (Build s n f))
+      → ((set nodes file : Text) → m ≡ build set nodes file → ⊥) → ⊥
+  no_build (asks name texts) s f n is none = none s.now is.1.0 f.now (ap₂ (λ (x : Text) (y : List Text). asks x y) (sym is.0) (sym is.1.1))
+  no_build help s f n is none = is
+  no_build topic s f n is none = is
+  no_build usage s f n is none = is
+  no_build version s f n is none = is
+
+  -- where the words ask for no build, all files have what they had
+  pub kept_files : (m : Meaning) (o : Order) → IsReadingOf m (reading.Order o) → ((set nodes file : Text) → m ≡ build set nodes file → ⊥)
+      → KeepsFiles Old New o → SameFiles Old New
+  kept_files m (Build s n f) is none keeps = absurd (no_build m s f n is none)
+  kept_files m (Value t) is none keeps = keeps
+  kept_files m (Count t) is none keeps = keeps
+  kept_files m (Probe f t) is none keeps = keeps
+  kept_files m (Line f t) is none keeps = keeps
+  kept_files m (Check f) is none keeps = keeps

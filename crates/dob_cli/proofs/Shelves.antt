@@ -9,7 +9,18 @@ use Rattle.std.specs.Cmp.Lexicographic.{slice_cmp}
 use Rattle.std.specs.Str.{bytes_eq}
 use Rattle.std.proofs.lemmas.Bool.{false_from_ne_true}
 use Rattle.std.proofs.lemmas.Slice.Eq.{bytes_eq-Decides}
-use Rattle.dob_cli.specs.Shelves.{HasJust, SameFiles, SameOthers, bytes_in}
+use Rattle.dob_cli.specs.Shelves.{Files, HasJust, SameFiles, SameOthers, bytes_in}
+
+-- what a call left is what the next one found
+pub unchanged : (Old : Files) → SameFiles Old Old
+unchanged Old name bytes = (λ h. h, λ h. h)
+
+pub others_kept : (name : List ℕ) (Old New : Files) → SameFiles Old New → SameOthers name Old New
+others_kept name Old New same other bytes differs = same other bytes
+
+pub others_chain : (name : List ℕ) (Old Mid New : Files) → SameOthers name Old Mid → SameOthers name Mid New → SameOthers name Old New
+others_chain name Old Mid New first second other bytes differs =
+    (λ h. (second other bytes differs).0 ((first other bytes differs).0 h), λ h. (first other bytes differs).1 ((second other bytes differs).1 h))
 
 -- where all names have what they had
 pub same_files : (old new : List ℕ → Option (List ℕ)) → ((name : List ℕ) → new name ≡ old name)

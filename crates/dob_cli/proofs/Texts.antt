@@ -1,24 +1,32 @@
 -- The rows that `clap` keeps of given texts.
-use Rattle.std.proofs.Common.{◌≡◌, ◌∙◌, ℕ, Bool, refl, sym, ap, cond, true, false, [], ◌∷◌, ◌++◌, List, Option, Some, None, map, append-nil, true≢false}
-use Rattle.std.specs.Prelude.{is_some, not, find, option_map, option_and_then, slice_get, fold, ◌||◌}
+use Rattle.std.proofs.Common.{◌≡◌, ◌∙◌, ℕ, Bool, arith, refl, sym, ap, cond, true, false, [], ◌∷◌, ◌++◌, List, Option, Some, None, map, append-nil, true≢false}
+use Rattle.std.specs.Prelude.{is_some, not, find, length, nat_le, nat_lt, option_map, option_and_then, slice_get, fold, unwrap_or, ◌&&◌, ◌||◌, ◌^◌}
 use Rattle.std.specs.Option.{option_map_or}
-use Rattle.std.specs.List.{list_any}
+use Rattle.std.specs.List.{list_all, list_any}
+use Rattle.std.specs.Char.{digit_value}
+use Rattle.std.specs.Str.Parse.{without_leading_plus}
 use Rattle.std.specs.Str.{bytes_eq}
+use Rattle.std.proofs.lemmas.Bool.{le-leb, ltb-true}
 use Rattle.std.proofs.lemmas.List.{map-append}
-use Rattle.clap.specs.Facts.{explicit_source}
-use Rattle.clap.specs.Walk.{Row, Rule, at_row, first_of, has_row, more_values, reading_by, used, with_default}
+use Rattle.clap.specs.Facts.{explicit_source, parser_of_value}
+use Rattle.clap.specs.Values.{reading_of}
+use Rattle.clap.specs.ValueTests.{accepts}
+use Rattle.clap.specs.declared.builder.value_parser.Reading.{Reading}
+use Rattle.clap.specs.declared.builder.value_parser.Reading.TheVariants.{AsWritten}
+use Rattle.clap.specs.declared.builder.value_parser.ValueParser.TheVariants.{String, Unsigned}
+use Rattle.clap.specs.Walk.{Row, Rule, at_row, first_of, has_row, more_values, reading_by, used, with_default, with_values, without}
 use Rattle.clap.specs.Simple.{filled}
 use Rattle.clap.specs.Takes.{is_given}
-use Rattle.clap.specs.Kinds.{or_else}
+use Rattle.clap.specs.Kinds.{Kinds, or_else, value_kinds}
 use Rattle.clap.specs.Faults.{default_fault, defaults_fault, use_fault}
 use Rattle.clap.specs.declared.error.kind.ErrorKind.TheVariants as kind
 use Rattle.clap.specs.declared.parser.matches.ValueSource.TheVariants.{CommandLine}
-use Rattle.dob_cli.specs.Words.{Given, Text, text_of, texts_of}
-use Rattle.dob_cli.specs.Shapes.{position_rule}
+use Rattle.dob_cli.specs.Words.{Given, Text, fits, is_number, number_of, text_of, texts_of}
+use Rattle.dob_cli.specs.Shapes.{text_rule}
 
 -- the argument of a text, built: an option's by its name, another by its place
-abbrev pub text_arg : Option Text → Option ℕ → Text → Rule
-text_arg long index label = record (filled (position_rule label)) { long = long; index = index }
+abbrev pub text_arg : List Text → Option Text → Option ℕ → Text → Rule
+text_arg numbers long index label = record (filled (text_rule numbers label)) { long = long; index = index }
 
 -- the row of a given text
 abbrev pub row_of : Text × Text → Row
@@ -27,7 +35,7 @@ row_of g = record {
   values = g.1 ∷ [];
   count = None;
   source = Some CommandLine;
-  reading = reading_by (text_arg None None g.0);
+  reading = AsWritten;
 }
 
 abbrev pub rows_of : Given → List Row
@@ -96,27 +104,71 @@ at_row_fresh id change missing (r ∷ rs) e = go (bytes_eq r.id id) e (at_row_fr
     go true e rec = absurd (true≢false e)
     go false e rec = ap (λ xs. r ∷ xs) (rec e)
 
-pub used_fresh : (long : Option Text) (index : Option ℕ) (label t : Text) (given : Given) → text_of label given ≡ None
-    → used (text_arg long index label) (t ∷ []) (rows_of given) ≡ rows_of (given ++ (label, t) ∷ [])
-used_fresh long index label t given fresh =
+-- a number's text is read as it is written, as any other
+as_written : (is_one : Bool) → reading_of (parser_of_value (Some (unwrap_or (cond is_one (Some (Unsigned 0 18446744073709551615)) None) String))) ≡ AsWritten
+as_written true = refl
+as_written false = refl
+
+pub used_fresh : (numbers : List Text) (long : Option Text) (index : Option ℕ) (label t : Text) (given : Given) → text_of label given ≡ None
+    → used (text_arg numbers long index label) (t ∷ []) (rows_of given) ≡ rows_of (given ++ (label, t) ∷ [])
+used_fresh numbers long index label t given fresh =
     let none : has_row label (rows_of given) ≡ false = has_found label given ∙ ap is_some fresh in
-    ap (at_row label (more_values CommandLine (t ∷ [])) (row_of (label, t) ∷ []))
+    ap (λ (how : Reading). with_values label how CommandLine (t ∷ []) (without label (rows_of given))) (as_written (list_any (λ l. bytes_eq l label) numbers))
+    ∙ ap (at_row label (more_values CommandLine (t ∷ [])) (row_of (label, t) ∷ []))
     (at_row_fresh label (λ _. []) [] (rows_of given) none ∙ append-nil (rows_of given))
     ∙ (at_row_fresh label (more_values CommandLine (t ∷ [])) (row_of (label, t) ∷ []) (rows_of given) none ∙ sym (map-append row_of given ((label, t) ∷ [])))
 
-pub use_passes : (long : Option Text) (index : Option ℕ) (label t : Text) (given : Given) → text_of label given ≡ None
-    → use_fault false (text_arg long index label) (t ∷ []) (rows_of given) ≡ []
-use_passes long index label t given fresh = rw (has_found label given, fresh) refl
+-- `clap` takes just such numbers
+pub taken_number : (t : Text) → accepts false (Unsigned 0 18446744073709551615) t ≡ is_number t
+taken_number t = go (nat_lt 0 (length digits) && list_all (λ d. nat_lt (digit_value d) 10) digits) (nat_lt (number_of t) (2 ^ 64)) refl
+  where
+    digits : Text
+    digits = without_leading_plus t
 
--- a second text of one label is refused
-pub use_twice : (long : Option Text) (index : Option ℕ) (label t u : Text) (given : Given) → text_of label given ≡ Some u
-    → use_fault false (text_arg long index label) (t ∷ []) (rows_of given) ≡ kind.ArgumentConflict ∷ []
-use_twice long index label t u given there = rw (has_found label given, there) refl
+    go : (a b : Bool) → nat_lt (number_of t) (2 ^ 64) ≡ b
+        → (a && (b && (nat_le 0 (number_of t) && nat_le (number_of t) 18446744073709551615))) ≡ (a && b)
+    go false b e = refl
+    go true false e = refl
+    go true true e =
+        let below = ltb-true (number_of t) (2 ^ 64) e in
+        rw (le-leb 0 (number_of t) (omega arith), le-leb (number_of t) 18446744073709551615 (omega (arith, below))) refl
 
--- and so is none
-pub use_none : (long : Option Text) (index : Option ℕ) (label : Text) (rows : List Row)
-    → use_fault false (text_arg long index label) [] rows ≡ kind.InvalidValue ∷ []
-use_none long index label rows = refl
+-- the kinds of error of one text of a label
+abbrev text_kinds : Bool → Text → Kinds
+text_kinds is_one t = value_kinds false (parser_of_value (Some (unwrap_or (cond is_one (Some (Unsigned 0 18446744073709551615)) None) String))) t
+
+fit_kinds : (is_one : Bool) (t : Text) → (not is_one || is_number t) ≡ true → text_kinds is_one t ≡ []
+fit_kinds false t e = refl
+fit_kinds true t e = rw (taken_number t, e) refl
+
+misfit_kinds : (is_one : Bool) (t : Text) → (not is_one || is_number t) ≡ false → text_kinds is_one t ≡ kind.ValueValidation ∷ []
+misfit_kinds false t e = absurd (true≢false e)
+misfit_kinds true t e = rw (taken_number t, e) refl
+
+-- a text that is kept is the first of its label, and what it has to be
+pub kept_both : (before : Option Text) (fit : Bool) → (is_some before || not fit) ≡ false → (before ≡ None) × (fit ≡ true)
+kept_both None true e = (refl, refl)
+kept_both None false e = absurd (true≢false e)
+kept_both (Some t) fit e = absurd (true≢false e)
+
+module _ (numbers : List Text) (long : Option Text) (index : Option ℕ) (label : Text) where
+  pub use_passes : (t : Text) (given : Given) → text_of label given ≡ None → fits numbers label t ≡ true
+      → use_fault false (text_arg numbers long index label) (t ∷ []) (rows_of given) ≡ []
+  use_passes t given fresh fit = rw (has_found label given, fresh, fit_kinds (list_any (λ l. bytes_eq l label) numbers) t fit) refl
+
+  -- a text that isn't a number, and has to be, is refused
+  pub use_misfit : (t : Text) (given : Given) → text_of label given ≡ None → fits numbers label t ≡ false
+      → use_fault false (text_arg numbers long index label) (t ∷ []) (rows_of given) ≡ kind.ValueValidation ∷ []
+  use_misfit t given fresh misfit = rw (has_found label given, fresh, misfit_kinds (list_any (λ l. bytes_eq l label) numbers) t misfit) refl
+
+  -- a second text of one label is refused
+  pub use_twice : (t u : Text) (given : Given) → text_of label given ≡ Some u
+      → use_fault false (text_arg numbers long index label) (t ∷ []) (rows_of given) ≡ kind.ArgumentConflict ∷ []
+  use_twice t u given there = rw (has_found label given, there) refl
+
+  -- and so is none
+  pub use_none : (rows : List Row) → use_fault false (text_arg numbers long index label) [] rows ≡ kind.InvalidValue ∷ []
+  use_none rows = refl
 
 -- ---- no argument has a default
 

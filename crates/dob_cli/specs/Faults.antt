@@ -10,17 +10,20 @@ use Rattle.dob_rank.specs.declared.fault.Fault as rank
 use Rattle.dob_rank.specs.declared.fault.Fault.TheVariants as rank_fault
 use Rattle.dob_dbfile.specs.FaultTexts as file
 use Rattle.dob_dbfile.specs.declared.fault.Fault.TheVariants as file_fault
+use Rattle.dob_run.specs.Faults as run
+use Rattle.dob_run.specs.declared.fault.Fault.TheVariants as run_fault
 use Rattle.dob_probe.specs.Faults as table
 use Rattle.dob_probe.specs.declared.fault.Fault.TheVariants as table_fault
 use Rattle.dob_cli.specs.Signs.{line_feed}
 use Rattle.dob_cli.specs.declared.fault.Fault.{Fault}
-use Rattle.dob_cli.specs.declared.fault.Fault.TheVariants.{Text, SetText, SetTooLarge, TooDeep, File, Table, Memory, Io}
+use Rattle.dob_cli.specs.declared.fault.Fault.TheVariants.{Text, SetText, SetTooLarge, TooDeep, Run, File, Table, Memory, Io}
 
 abbrev pub fault_text : Fault → List ℕ
 fault_text (Text fault) = position.fault_text fault
 fault_text SetText = set_fault_text
 fault_text SetTooLarge = rank_texts.fault_text rank_fault.SetTooLarge
 fault_text TooDeep = value_texts.fault_text value_fault.TooDeep
+fault_text (Run fault) = run.fault_text fault
 fault_text (File fault) = file.fault_text fault
 fault_text (Table fault) = table.fault_text fault
 fault_text Memory = memory_text
@@ -36,6 +39,9 @@ status_of (Text _) = 1
 status_of SetText = 1
 status_of SetTooLarge = 1
 status_of TooDeep = 3
+status_of (Run (run_fault.Stopped node why)) = 3
+status_of (Run run_fault.Memory) = 3
+status_of (Run _) = 1
 status_of (File file_fault.Memory) = 3
 status_of (File (file_fault.Io _)) = 3
 status_of (File _) = 1

@@ -12,6 +12,8 @@ pub record Form : Type 0 where
   pub options : List (Text × Text)
   -- what the texts are called that come with no option, in the order of their places
   pub positions : List Text
+  -- what those of its texts are called that are numbers
+  pub numbers : List Text
 
 -- what all its texts are called
 abbrev pub labels : Form → List Text
@@ -19,11 +21,15 @@ labels form = map (λ o. o.1) form.options ++ form.positions
 
 -- `value POSITION`
 abbrev pub value_form : Form
-value_form = record { name = codes "value"; options = []; positions = codes "POSITION" ∷ [] }
+value_form = record { name = codes "value"; options = []; positions = codes "POSITION" ∷ []; numbers = [] }
+
+-- the option `--set CEG`
+abbrev pub set_option : Text × Text
+set_option = (codes "set", codes "CEG")
 
 -- `count --set CEG`
 abbrev pub count_form : Form
-count_form = record { name = codes "count"; options = (codes "set", codes "CEG") ∷ []; positions = [] }
+count_form = record { name = codes "count"; options = set_option ∷ []; positions = []; numbers = [] }
 
 -- the option `--db FILE`
 abbrev pub file_option : Text × Text
@@ -31,16 +37,25 @@ file_option = (codes "db", codes "FILE")
 
 -- `probe --db FILE POSITION`
 abbrev pub probe_form : Form
-probe_form = record { name = codes "probe"; options = file_option ∷ []; positions = codes "POSITION" ∷ [] }
+probe_form = record { name = codes "probe"; options = file_option ∷ []; positions = codes "POSITION" ∷ []; numbers = [] }
 
 -- `line --db FILE POSITION`
 abbrev pub line_form : Form
-line_form = record { name = codes "line"; options = file_option ∷ []; positions = codes "POSITION" ∷ [] }
+line_form = record { name = codes "line"; options = file_option ∷ []; positions = codes "POSITION" ∷ []; numbers = [] }
 
 -- `check --db FILE`
 abbrev pub check_form : Form
-check_form = record { name = codes "check"; options = file_option ∷ []; positions = [] }
+check_form = record { name = codes "check"; options = file_option ∷ []; positions = []; numbers = [] }
+
+-- `build --set CEG --nodes N --out FILE`
+abbrev pub build_form : Form
+build_form = record {
+  name = codes "build";
+  options = set_option ∷ (codes "nodes", codes "N") ∷ (codes "out", codes "FILE") ∷ [];
+  positions = [];
+  numbers = codes "N" ∷ [];
+}
 
 -- the subcommands, in the order of the help
 abbrev pub forms : List Form
-forms = value_form ∷ count_form ∷ probe_form ∷ line_form ∷ check_form ∷ []
+forms = value_form ∷ count_form ∷ build_form ∷ probe_form ∷ line_form ∷ check_form ∷ []

@@ -10,5 +10,6 @@ pub mod Endings
 pub mod Program
 pub mod Tables
 pub mod Sizes
+pub mod Builds
 pub mod Orders
 pub mod Runs

@@ -1,7 +1,7 @@
 -- The lines that ask for something, as a relation between words and the texts that they give.
 use Rattle.std.specs.Prelude.{◌≡◌, ◌⊎◌, true, List, [], ◌∷◌, ◌++◌, Some, None, codes}
 use Rattle.dob_cli.specs.Forms.{Form, Text, labels}
-use Rattle.dob_cli.specs.Words.{Given, equals_sign, is_text, label_of, text_of, texts_of}
+use Rattle.dob_cli.specs.Words.{Given, equals_sign, fits, is_text, label_of, text_of, texts_of}
 
 -- behind `--` each word is the text of the next place, whatever it begins with
 pub data Behind : List Text → List Text → Given → Type 0 where
@@ -24,10 +24,10 @@ pub data Gives (form : Form) : List Text → List Text → Given → Type 0 wher
   -- `--`
   by_dashes : (left words : List Text) (given : Given) → Behind left words given → Gives form left (codes "--" ∷ words) given
 
--- no label is one of those before, nor of those that stand before it
-abbrev pub AreNew : Given → Given → Type 0
-AreNew before [] = Unit {0}
-AreNew before (g ∷ more) = (text_of g.0 before ≡ None) × AreNew (before ++ g ∷ []) more
+-- no label is one of those before, nor of those that stand before it, and each text that has to be a number is one
+abbrev pub AreNew : Form → Given → Given → Type 0
+AreNew form before [] = Unit {0}
+AreNew form before (g ∷ more) = (text_of g.0 before ≡ None) × (fits form.numbers g.0 g.1 ≡ true) × AreNew form (before ++ g ∷ []) more
 
 -- The words are the subcommand's name, and then each of these texts once, in any order of its options and its places.
 pub record IsLine (form : Form) (words texts : List Text) : Type 0 where
@@ -35,7 +35,7 @@ pub record IsLine (form : Form) (words texts : List Text) : Type 0 where
   pub given : Given
   pub named : words ≡ form.name ∷ rest
   pub gives : Gives form form.positions rest given
-  pub new : AreNew [] given
+  pub new : AreNew form [] given
   pub complete : texts_of (labels form) given ≡ Some texts
 
 -- it is one of these

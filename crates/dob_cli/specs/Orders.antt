@@ -1,30 +1,38 @@
 -- What the program owes for an order.
-use Rattle.std.specs.Prelude.{ℕ, List}
+use Rattle.std.specs.Prelude.{ℕ, Bool, List}
 use Rattle.dob_cli.specs.declared.fault.Fault.{Fault}
 use Rattle.dob_cli.specs.declared.command.Order.{Order}
-use Rattle.dob_cli.specs.declared.command.Order.TheVariants.{Value, Count, Probe, Line, Check}
-use Rattle.dob_cli.specs.Forms.{Text}
+use Rattle.dob_cli.specs.declared.command.Order.TheVariants.{Value, Count, Build, Probe, Line, Check}
 use Rattle.dob_cli.specs.Endings.{Answers, Ending}
+use Rattle.dob_cli.specs.Shelves.{Files, SameFiles, SameOthers}
 use Rattle.dob_cli.specs.Program.{IsFaultOf, IsValueLineOf}
 use Rattle.dob_cli.specs.Sizes.{AreCountLinesOf, IsCountFaultOf}
+use Rattle.dob_cli.specs.Builds.{AreBuildLines, IsBuildFault}
 use Rattle.dob_cli.specs.Tables.{IsCheckFault, IsCheckLine, IsMovesLine, IsPositionFault, IsProbeLine}
 
--- the lines are right for the order; Has says which bytes the file of a name has, where that is known
-abbrev pub AreLinesFor : (Text → List ℕ → Type 0) → Order → List ℕ → Type 0
-AreLinesFor Has (Value position) = IsValueLineOf position.now
-AreLinesFor Has (Count set) = AreCountLinesOf set.now
-AreLinesFor Has (Probe file position) = IsProbeLine (Has file.now) position.now
-AreLinesFor Has (Line file position) = IsMovesLine (Has file.now) position.now
-AreLinesFor Has (Check file) = IsCheckLine (Has file.now)
+-- the lines are right for the order; Old and New say which bytes the file of a name had and has, where a shelf tells that
+abbrev pub AreLinesFor : Files → Files → Bool → Order → List ℕ → Type 0
+AreLinesFor Old New tells (Value position) = IsValueLineOf position.now
+AreLinesFor Old New tells (Count set) = AreCountLinesOf set.now
+AreLinesFor Old New tells (Build set nodes file) = AreBuildLines tells New set.now file.now
+AreLinesFor Old New tells (Probe file position) = IsProbeLine (Old file.now) position.now
+AreLinesFor Old New tells (Line file position) = IsMovesLine (Old file.now) position.now
+AreLinesFor Old New tells (Check file) = IsCheckLine (Old file.now)
 
 -- the fault holds of the order
-abbrev pub IsFaultFor : (Text → List ℕ → Type 0) → Order → Fault → Type 0
-IsFaultFor Has (Value position) = IsFaultOf position.now
-IsFaultFor Has (Count set) = IsCountFaultOf set.now
-IsFaultFor Has (Probe file position) = IsPositionFault (Has file.now) position.now
-IsFaultFor Has (Line file position) = IsPositionFault (Has file.now) position.now
-IsFaultFor Has (Check file) = IsCheckFault (Has file.now)
+abbrev pub IsFaultFor : Files → Files → Order → Fault → Type 0
+IsFaultFor Old New (Value position) = IsFaultOf position.now
+IsFaultFor Old New (Count set) = IsCountFaultOf set.now
+IsFaultFor Old New (Build set nodes file) = IsBuildFault Old New set.now nodes
+IsFaultFor Old New (Probe file position) = IsPositionFault (Old file.now) position.now
+IsFaultFor Old New (Line file position) = IsPositionFault (Old file.now) position.now
+IsFaultFor Old New (Check file) = IsCheckFault (Old file.now)
+
+-- the order leaves each file what it had, but for the one that it names to be made
+abbrev pub KeepsFiles : Files → Files → Order → Type 0
+KeepsFiles Old New (Build set nodes file) = SameOthers file.now Old New
+KeepsFiles Old New _ = SameFiles Old New
 
 -- what the program does with the order
-abbrev pub AnswersOrder : (Text → List ℕ → Type 0) → Order → Ending → Type 0
-AnswersOrder Has order = Answers (AreLinesFor Has order) (IsFaultFor Has order)
+abbrev pub AnswersOrder : Files → Files → Bool → Order → Ending → Type 0
+AnswersOrder Old New tells order = Answers (AreLinesFor Old New tells order) (IsFaultFor Old New order)

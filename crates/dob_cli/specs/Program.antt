@@ -11,7 +11,7 @@ use Rattle.dob_value.specs.declared.value.Value.TheVariants.{Win, Loss, Draw}
 use Rattle.dob_value.specs.Values.{HasValue}
 use Rattle.dob_value.specs.Rosters.{SomeTooDeep, HasSamePieces}
 use Rattle.dob_cli.specs.declared.fault.Fault.{Fault}
-use Rattle.dob_cli.specs.declared.fault.Fault.TheVariants.{Text, SetText, SetTooLarge, TooDeep, File, Table, Memory, Io}
+use Rattle.dob_cli.specs.declared.fault.Fault.TheVariants.{Text, SetText, SetTooLarge, TooDeep, Run, File, Table, Memory, Io}
 use Rattle.dob_cli.specs.Signs.{line_feed}
 use Rattle.dob_cli.specs.Endings.{Answers, Ending}
 
@@ -38,6 +38,7 @@ IsFaultOf text (Text fault) = HasFault text fault
 IsFaultOf text SetText = ⊥
 IsFaultOf text SetTooLarge = (position : Setup) × IsLegal position × Spells text position × HasManyPieces position
 IsFaultOf text TooDeep = (position : Setup) × IsLegal position × Spells text position × SomeTooDeep (HasSamePieces position)
+IsFaultOf text (Run fault) = ⊥
 IsFaultOf text (File fault) = ⊥
 IsFaultOf text (Table fault) = ⊥
 IsFaultOf text Memory = Unit {0}

@@ -1,10 +1,10 @@
 -- How what was read of the words goes with what they ask for.
-use Rattle.std.specs.Prelude.{◌≡◌, List, [], ◌∷◌, codes}
+use Rattle.std.specs.Prelude.{◌≡◌, true, List, [], ◌∷◌, codes}
 use Rattle.clap.specs.declared.error.kind.ErrorKind.{ErrorKind}
 use Rattle.clap.specs.declared.error.kind.ErrorKind.TheVariants as kind
 use Rattle.dob_cli.specs.Forms.{Form, Text, forms}
 use Rattle.dob_cli.specs.Lines.{IsAmong, IsLine}
-use Rattle.dob_cli.specs.Words.{Meaning, asks, help, topic, usage, version}
+use Rattle.dob_cli.specs.Words.{Meaning, asks, help, is_number, number_of, topic, usage, version}
 use Rattle.dob_cli.specs.declared.command.Order.{Order}
 use Rattle.dob_cli.specs.declared.command.Order.TheVariants as order
 use Rattle.dob_cli.specs.declared.command.Reading.{Reading}
@@ -14,21 +14,23 @@ use Rattle.dob_cli.specs.declared.command.Reading.TheVariants as reading
 abbrev pub name_of_order : Order → Text
 name_of_order (order.Value _) = codes "value"
 name_of_order (order.Count _) = codes "count"
+name_of_order (order.Build _ _ _) = codes "build"
 name_of_order (order.Probe _ _) = codes "probe"
 name_of_order (order.Line _ _) = codes "line"
 name_of_order (order.Check _) = codes "check"
 
--- the texts that it has, in the order of the subcommand's form
-abbrev pub texts_of_order : Order → List Text
-texts_of_order (order.Value position) = position.now ∷ []
-texts_of_order (order.Count set) = set.now ∷ []
-texts_of_order (order.Probe file position) = file.now ∷ position.now ∷ []
-texts_of_order (order.Line file position) = file.now ∷ position.now ∷ []
-texts_of_order (order.Check file) = file.now ∷ []
+-- it has these texts, in the order of the subcommand's form; of a number the text may be any that tells it
+abbrev pub HasTexts : List Text → Order → Type 0
+HasTexts texts (order.Value position) = position.now ∷ [] ≡ texts
+HasTexts texts (order.Count set) = set.now ∷ [] ≡ texts
+HasTexts texts (order.Build set nodes file) = (t : Text) × (set.now ∷ t ∷ file.now ∷ [] ≡ texts) × (is_number t ≡ true) × (nodes ≡ number_of t)
+HasTexts texts (order.Probe file position) = file.now ∷ position.now ∷ [] ≡ texts
+HasTexts texts (order.Line file position) = file.now ∷ position.now ∷ [] ≡ texts
+HasTexts texts (order.Check file) = file.now ∷ [] ≡ texts
 
 -- the order is for this subcommand and these texts
 abbrev pub IsOrder : Text → List Text → Order → Type 0
-IsOrder name texts o = (name_of_order o ≡ name) × (texts_of_order o ≡ texts)
+IsOrder name texts o = (name_of_order o ≡ name) × HasTexts texts o
 
 -- what was read is what the words ask for
 abbrev pub IsReadingOf : Meaning → Reading → Type 0
@@ -46,7 +48,7 @@ SomeLine words name texts = (form : Form) × IsAmong form forms × (form.name �
 
 -- an order is read only from a line that asks for it
 abbrev pub ComesFromLine : List Text → Reading → Type 0
-ComesFromLine words (reading.Order o) = SomeLine words (name_of_order o) (texts_of_order o)
+ComesFromLine words (reading.Order o) = (texts : List Text) × HasTexts texts o × SomeLine words (name_of_order o) texts
 ComesFromLine words _ = Unit {0}
 
 -- what a refusal of this kind is read as

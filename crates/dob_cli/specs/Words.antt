@@ -1,10 +1,12 @@
 -- What the words after the program's name ask for, without a word on how they are read. A word is
 -- the list of its bytes, which are UTF-8.
-use Rattle.std.specs.Prelude.{◌==◌, ◌&&◌, ◌||◌, ℕ, Bool, false, not, List, [], ◌∷◌, ◌++◌, Option, None, Some, is_some}
-use Rattle.std.specs.Prelude.{if◌then◌else◌, codes, slice_get, find, fold, option_map, option_and_then}
-use Rattle.std.specs.List.{before_first, after_first, list_any}
+use Rattle.std.specs.Prelude.{◌==◌, ◌&&◌, ◌||◌, ◌^◌, ℕ, Bool, false, not, List, [], ◌∷◌, ◌++◌, Option, None, Some, is_some}
+use Rattle.std.specs.Prelude.{if◌then◌else◌, codes, length, nat_lt, slice_get, find, fold, option_map, option_and_then}
+use Rattle.std.specs.List.{before_first, after_first, list_all, list_any}
+use Rattle.std.specs.Char.{digit_value}
 use Rattle.std.specs.Option.{option_map_or}
 use Rattle.std.specs.Str.{bytes_eq, chars}
+use Rattle.std.specs.Str.Parse.{digits_value, without_leading_plus}
 use Rattle.dob_cli.specs.Forms.{Form, forms, labels}
 pub use Rattle.dob_cli.specs.Forms.{Text}
 
@@ -44,6 +46,19 @@ name_in rest = before_first (λ c. c == equals_sign) rest
 abbrev pub text_in : Text → Option Text
 text_in rest =
     if list_any (λ c. c == equals_sign) rest then Some (after_first (λ c. c == equals_sign) rest) else None
+
+-- the number that a text's digits tell; a plus may stand before them
+abbrev pub number_of : Text → ℕ
+number_of t = digits_value 10 (without_leading_plus t)
+
+-- the text is a number below 2^64
+abbrev pub is_number : Text → Bool
+is_number t =
+    nat_lt 0 (length (without_leading_plus t)) && list_all (λ d. nat_lt (digit_value d) 10) (without_leading_plus t) && nat_lt (number_of t) (2 ^ 64)
+
+-- the text of this label is a number, where it has to be one
+abbrev pub fits : List Text → Text → Text → Bool
+fits numbers label t = not (list_any (λ l. bytes_eq l label) numbers) || is_number t
 
 -- what a word is to a subcommand that takes such options
 pub data Part : Type 0 where
@@ -125,25 +140,33 @@ pub data Stand : Type 0 where
 abbrev pub once : Text → Given → Stand → Stand
 once label given stand = if is_some (text_of label given) then ended usage else stand
 
--- the word is the text of the next place
-abbrev pub placed : (Given → List Text → Stand) → Given → List Text → Text → Stand
-placed stand given [] word = ended usage
-placed stand given (label ∷ left) word = once label given (stand (given ++ (label, word) ∷ []) left)
+-- nor one that isn't a number and has to be
+abbrev pub kept : Form → Text → Text → Given → Stand → Stand
+kept form label t given stand = if is_some (text_of label given) || not (fits form.numbers label t) then ended usage else stand
 
-abbrev pub after_part : Given → List Text → Text → Part → Stand
-after_part given left word text = placed between given left word
-after_part given left word dashes = behind given left
-after_part given left word call = ended help
-after_part given left word (option label) = once label given (wants label given left)
-after_part given left word (valued label t) = once label given (between (given ++ (label, t) ∷ []) left)
-after_part given left word unknown = ended usage
+-- the word is the text of the next place
+abbrev pub placed : Form → (Given → List Text → Stand) → Given → List Text → Text → Stand
+placed form stand given [] word = ended usage
+placed form stand given (label ∷ left) word = kept form label word given (stand (given ++ (label, word) ∷ []) left)
+
+abbrev pub after_part : Form → Given → List Text → Text → Part → Stand
+after_part form given left word text = placed form between given left word
+after_part form given left word dashes = behind given left
+after_part form given left word call = ended help
+after_part form given left word (option label) = once label given (wants label given left)
+after_part form given left word (valued label t) = kept form label t given (between (given ++ (label, t) ∷ []) left)
+after_part form given left word unknown = ended usage
+
+-- the word is the text of the option before it
+abbrev pub wanted : Form → Text → Given → List Text → Text → Stand
+wanted form label given left word = if fits form.numbers label word then between (given ++ (label, word) ∷ []) left else ended usage
 
 -- after one more word
-abbrev pub after_word : List (Text × Text) → Stand → Text → Stand
-after_word options (between given left) word = after_part given left word (part_of options word)
-after_word options (wants label given left) word = if is_text word then between (given ++ (label, word) ∷ []) left else ended usage
-after_word options (behind given left) word = placed behind given left word
-after_word options (ended meaning) word = ended meaning
+abbrev pub after_word : Form → Stand → Text → Stand
+after_word form (between given left) word = after_part form given left word (part_of form.options word)
+after_word form (wants label given left) word = if is_text word then wanted form label given left word else ended usage
+after_word form (behind given left) word = placed form behind given left word
+after_word form (ended meaning) word = ended meaning
 
 -- what is asked for where these texts were given
 abbrev pub asked : Form → Given → Meaning
@@ -158,7 +181,7 @@ at_end form (ended meaning) = meaning
 
 -- of the words after a subcommand's name
 abbrev pub meaning_of_form : Form → List Text → Meaning
-meaning_of_form form words = at_end form (fold (after_word form.options) (between [] form.positions) words)
+meaning_of_form form words = at_end form (fold (after_word form) (between [] form.positions) words)
 
 -- after a first word that names no subcommand
 abbrev pub meaning_of_other : Text → Meaning
@@ -191,6 +214,10 @@ value position = asks (codes "value") (position ∷ [])
 -- the numbers of positions and classes of the piece set that the text names
 abbrev pub count : Text → Meaning
 count set = asks (codes "count") (set ∷ [])
+
+-- a file of the table of the piece set that the text names, built by so many nodes
+abbrev pub build : Text → Text → Text → Meaning
+build set nodes file = asks (codes "build") (set ∷ nodes ∷ file ∷ [])
 
 -- the value of the position by the table of the file
 abbrev pub probe : Text → Text → Meaning

@@ -10,16 +10,16 @@
 // - what it owes by a definition like `AnswersCount`, a case in each definition of specs/Orders.antt and a field of `Ran` in
 //   specs/Runs.antt;
 // - in program.rt an arm of `answer`, and its cases in proofs/Orders.antt and proofs/Runs.antt.
-ghost use Rattle.std.specs.Prelude.{◌≡◌, false, IfOk, IsSomeAnd, List, codes, map};
+ghost use Rattle.std.specs.Prelude.{◌≡◌, ◌∷◌, [], false, IfOk, IsSomeAnd, List, codes, map};
 ghost use Rattle.clap.specs.Words.{kind_of, rule_of, subcommand_rows_of};
-ghost use Rattle.dob_cli.specs.Forms.{Form, Text, check_form, count_form, file_option, forms, line_form, probe_form, value_form};
+ghost use Rattle.dob_cli.specs.Forms.{Form, Text, build_form, check_form, count_form, file_option, forms, line_form, probe_form, set_option, value_form};
 ghost use Rattle.dob_cli.specs.Lines.{IsAmong, IsLine};
 ghost use Rattle.dob_cli.specs.Words.{asks, is_version, meaning_of};
-ghost use Rattle.dob_cli.specs.Shapes.{Finds, HasShape, bare_app, dobutsu_app, form_app, option_rule, position_rule};
+ghost use Rattle.dob_cli.specs.Shapes.{Finds, HasShape, bare_app, dobutsu_app, form_app, option_rule, text_rule};
 ghost use Rattle.dob_cli.specs.Readings.{ComesFromLine, IsOrder, IsReadingOf, IsReadingOfKind};
 
 use clap::error::ErrorKind;
-use clap::{Arg, ArgMatches, Command, Error};
+use clap::{Arg, ArgMatches, Command, Error, value_parser};
 use std::alloc::{AllocError, Global};
 
 /// What the program is asked to do.
@@ -29,10 +29,22 @@ pub enum Order<'a> {
     Value(&'a str),
     /// To print the numbers of positions and of classes of the piece set that the text names.
     Count(&'a str),
+    /// To build the table of the piece set that the text names by so many nodes, and to keep it under the name.
+    Build {
+        set: &'a str,
+        nodes: u64,
+        file: &'a str,
+    },
     /// To print the value of the position by the table of the file.
-    Probe { file: &'a str, position: &'a str },
+    Probe {
+        file: &'a str,
+        position: &'a str,
+    },
     /// To print the line of the position by the table of the file.
-    Line { file: &'a str, position: &'a str },
+    Line {
+        file: &'a str,
+        position: &'a str,
+    },
     /// To tell whether the table of the file is consistent.
     Check(&'a str),
 }
@@ -53,7 +65,7 @@ pub enum Reading<'a> {
 const PROGRAM_HELP: &str =
     "`dobutsu value --help` says how a position is written, `dobutsu count --help` how a piece set is.
 
-A fault is one line on standard error. The status is 1, and 3 for E23 and E24:
+A fault is one line on standard error. The status is 1, and 3 for E12 to E14, E23 and E24:
 
   E1 Shape         the text isn't fifteen bytes with `/` at 3, 7 and 11, then twice a space and a word
   E2 Letter        a square is none of `.LGECHlgech`
@@ -63,6 +75,12 @@ A fault is one line on standard error. The status is 1, and 3 for E23 and E24:
   E6 FarLion       the lion of the side to move stands on row 4
   E7 OtherSet      the position's piece set isn't the file's
   E8 SetTooLarge   there are more than three pieces besides the lions
+  E9 Nodes         there aren't 1 to 16 nodes
+  E12 TooDeep      a distance would be above 65534 plies
+  E13 Contradiction class N
+                   what a node was told of class N doesn't fit what it knows
+  E14 Stopped node N: CAUSE
+                   node N of a build has stopped, for E12, E13, E23, `Held` or `Counts`
   E15 Truncated    the file ends too early
   E16 Magic        the file doesn't begin as database files do
   E17 SetByte      the file names no piece set
@@ -97,6 +115,20 @@ three such pieces are counted.
 Answers: `positions N` and `classes N`, where a class is a position with its mirror image.
 
 Example: dobutsu count --set 100 prints `positions 4158` and `classes 2124`.";
+
+const BUILD_HELP: &str =
+    "A piece set: three digits CEG, as `dobutsu count --help` says. Nodes: 1 to 16. Each works in a thread of
+its own and owns a part of the positions; with more nodes than processors it works too, only slower.
+The file is the same whatever their number.
+
+The file has 2 bytes a class and 52 more. `dobutsu count --set 111` gives the classes of the largest
+set, which makes 1.5 MB; its build takes seconds. The file is begun when the whole table is there, so
+that an interrupted build leaves no file that looks whole: a part of it is refused as `E15 Truncated`.
+
+Answers: `classes N`, `win N`, `loss N` and `draw N`, where a class is a position with its mirror image.
+
+Example: dobutsu build --set 000 --nodes 2 --out 000.db prints `classes 54`, `win 38`, `loss 12` and
+`draw 4`. `dobutsu check --db 000.db` then tells that the file is right.";
 
 const PROBE_HELP: &str =
     "A file: what `dobutsu check --db FILE` calls consistent holds the values by definition; of any other
@@ -168,6 +200,7 @@ fn dobutsu_command<'a>(alloc: Global) -> Result<Command<'a>, AllocError>
     bare_command(alloc)?
         .subcommand(value_command(alloc)?)?
         .subcommand(count_command(alloc)?)?
+        .subcommand(build_command(alloc)?)?
         .subcommand(probe_command(alloc)?)?
         .subcommand(line_command(alloc)?)?
         .subcommand(check_command(alloc)?)
@@ -203,14 +236,24 @@ fn value_command<'a>(alloc: Global) -> Result<Command<'a>, AllocError>
 fn count_command<'a>(alloc: Global) -> Result<Command<'a>, AllocError>
     ensures { IfOk result (HasShape (form_app count_form)) }
 {
-    let set = Arg::new(alloc, "CEG")
-        .long("set")
-        .required(true)
-        .help("The piece set, as three digits");
     Command::new(alloc, "count")
         .about("Prints how many positions and classes a piece set has, as `count --set 100`")
         .after_help(SET_HELP)
-        .arg(set)
+        .arg(set_argument(alloc))
+}
+
+// The subcommand `build`.
+fn build_command<'a>(alloc: Global) -> Result<Command<'a>, AllocError>
+    ensures { IfOk result (HasShape (form_app build_form)) }
+{
+    Command::new(alloc, "build")
+        .about(
+            "Builds the database file of a piece set, as `build --set 100 --nodes 2 --out 100.db`",
+        )
+        .after_help(BUILD_HELP)
+        .arg(set_argument(alloc))?
+        .arg(nodes_argument(alloc))?
+        .arg(out_argument(alloc))
 }
 
 // The subcommand `probe`.
@@ -245,9 +288,43 @@ fn check_command<'a>(alloc: Global) -> Result<Command<'a>, AllocError>
         .arg(file_argument(alloc))
 }
 
+// The option `--set CEG`.
+fn set_argument<'a>(alloc: Global) -> Arg<'a>
+    ensures rule { rule_of result ≡ option_rule [] set_option }
+    ensures local { result.global ≡ false }
+{
+    Arg::new(alloc, "CEG")
+        .long("set")
+        .required(true)
+        .help("The piece set, as three digits")
+}
+
+// The option `--nodes N`.
+fn nodes_argument<'a>(alloc: Global) -> Arg<'a>
+    ensures rule { rule_of result ≡ option_rule (codes "N" ∷ []) (codes "nodes", codes "N") }
+    ensures local { result.global ≡ false }
+{
+    Arg::new(alloc, "N")
+        .long("nodes")
+        .value_parser(value_parser!(u64))
+        .required(true)
+        .help("The number of nodes, 1 to 16")
+}
+
+// The option `--out FILE`.
+fn out_argument<'a>(alloc: Global) -> Arg<'a>
+    ensures rule { rule_of result ≡ option_rule [] (codes "out", codes "FILE") }
+    ensures local { result.global ≡ false }
+{
+    Arg::new(alloc, "FILE")
+        .long("out")
+        .required(true)
+        .help("The database file, made anew or overwritten")
+}
+
 // The option `--db FILE`.
 fn file_argument<'a>(alloc: Global) -> Arg<'a>
-    ensures rule { rule_of result ≡ option_rule file_option }
+    ensures rule { rule_of result ≡ option_rule [] file_option }
     ensures local { result.global ≡ false }
 {
     Arg::new(alloc, "FILE")
@@ -258,7 +335,7 @@ fn file_argument<'a>(alloc: Global) -> Arg<'a>
 
 // The argument POSITION.
 fn position_argument<'a>(alloc: Global) -> Arg<'a>
-    ensures rule { rule_of result ≡ position_rule (codes "POSITION") }
+    ensures rule { rule_of result ≡ text_rule [] (codes "POSITION") }
     ensures local { result.global ≡ false }
 {
     Arg::new(alloc, "POSITION")
@@ -272,6 +349,8 @@ fn order_of<'a>(matches: &ArgMatches<'a>) -> Option<Order<'a>>
         → IsSomeAnd result (IsOrder (codes "value") texts) }
     ensures count { (texts : List Text) → Finds count_form texts (subcommand_rows_of matches.now)
         → IsSomeAnd result (IsOrder (codes "count") texts) }
+    ensures build { (texts : List Text) → Finds build_form texts (subcommand_rows_of matches.now)
+        → IsSomeAnd result (IsOrder (codes "build") texts) }
     ensures probe { (texts : List Text) → Finds probe_form texts (subcommand_rows_of matches.now)
         → IsSomeAnd result (IsOrder (codes "probe") texts) }
     ensures line { (texts : List Text) → Finds line_form texts (subcommand_rows_of matches.now)
@@ -283,6 +362,11 @@ fn order_of<'a>(matches: &ArgMatches<'a>) -> Option<Order<'a>>
     match name {
         "value" => Some(Order::Value(inner.get_str("POSITION")?)),
         "count" => Some(Order::Count(inner.get_str("CEG")?)),
+        "build" => Some(Order::Build {
+            set: inner.get_str("CEG")?,
+            nodes: inner.get_str("N")?.parse().ok()?,
+            file: inner.get_str("FILE")?,
+        }),
         "probe" => Some(Order::Probe {
             file: inner.get_str("FILE")?,
             position: inner.get_str("POSITION")?,

@@ -21,13 +21,15 @@ pub enum Fault {
     SetTooLarge,
     /// E12: a distance would be above 65,534 plies.
     TooDeep,
-    /// E8, E15 to E20, E23, E24: the file isn't one of a table, or reading it failed.
+    /// E8, E9, E14, E23: the build isn't begun, or it was stopped.
+    Run(dob_run::Fault),
+    /// E8, E15 to E20, E23, E24: the file isn't one of a table, or reading or writing it failed.
     File(dob_dbfile::Fault),
     /// E7, E21, E23: the table has no answer.
     Table(dob_probe::Fault),
     /// E23: a growth was refused for want of memory.
     Memory,
-    /// E24: standard output failed, or the file couldn't be opened.
+    /// E24: standard output failed, or the file couldn't be opened or made.
     Io,
 }
 
@@ -41,6 +43,8 @@ impl Fault {
         match self {
             Fault::Text(_) | Fault::SetText | Fault::SetTooLarge => 1,
             Fault::TooDeep | Fault::Memory | Fault::Io => 3,
+            Fault::Run(dob_run::Fault::Stopped { .. } | dob_run::Fault::Memory) => 3,
+            Fault::Run(_) => 1,
             Fault::File(dob_dbfile::Fault::Memory | dob_dbfile::Fault::Io(_)) => 3,
             Fault::File(_) => 1,
             Fault::Table(dob_probe::Fault::Memory) => 3,
@@ -60,6 +64,7 @@ impl fmt::Display for Fault {
             Fault::SetText => write!(f, "{SetText}"),
             Fault::SetTooLarge => write!(f, "{}", dob_rank::Fault::SetTooLarge),
             Fault::TooDeep => write!(f, "{}", dob_value::Fault::TooDeep),
+            Fault::Run(fault) => write!(f, "{fault}"),
             Fault::File(fault) => write!(f, "{fault}"),
             Fault::Table(fault) => write!(f, "{fault}"),
             Fault::Memory => write!(f, "{Memory}"),
@@ -110,6 +115,14 @@ impl From<dob_rank::Fault> for Fault {
             dob_rank::Fault::SetTooLarge => Fault::SetTooLarge,
             dob_rank::Fault::Memory => Fault::Memory,
         }
+    }
+}
+
+impl From<dob_run::Fault> for Fault {
+    ghost from_gives = { λ given result. result ≡ fault.Run given };
+
+    fn from(given: dob_run::Fault) -> Fault {
+        Fault::Run(given)
     }
 }
 

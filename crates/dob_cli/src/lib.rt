@@ -1,12 +1,14 @@
 // The command line of `dobutsu`: from words to printed bytes and an exit status.
 #![tactic(auto)]
 
+mod builds;
 pub mod command;
 mod counts;
 mod fault;
 mod program;
 mod shelf;
 mod tables;
+mod tally;
 
 pub use fault::Fault;
 pub use program::{run_given, run_over, run_words, tell_memory};

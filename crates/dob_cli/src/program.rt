@@ -5,11 +5,13 @@ ghost use Rattle.std.specs.declared.io.ErrorKind.TheVariants.{OutOfMemory};
 ghost use Rattle.std.specs.Vec.Iter.{into_iter_items};
 ghost use Rattle.dob_dbfile.specs.Sinks.{Says, change};
 ghost use Rattle.dob_cli.specs.Runs.{Ran, RanOn, RanOver, TellsNoText, contents};
-ghost use Rattle.dob_cli.specs.Orders.{AnswersOrder, AreLinesFor, IsFaultFor};
+ghost use Rattle.dob_cli.specs.Orders.{AnswersOrder, AreLinesFor, IsFaultFor, KeepsFiles};
+ghost use Rattle.dob_cli.specs.Shelves.{SameFiles};
 ghost use Rattle.dob_cli.specs.Endings.{Tells, TellsFaultAs, TellsMemory, TellsOneFault, ended};
 ghost use Rattle.dob_cli.specs.Program.{IsValueLineOf, IsFaultOf, value_line};
 ghost use Rattle.dob_cli.specs.declared.fault.Fault.TheVariants.{Memory};
 
+use crate::builds::answer_build;
 use crate::command::{Order, Reading, read_words};
 use crate::counts::answer_count;
 use crate::fault::Fault;
@@ -21,6 +23,7 @@ use dob_value::{Value, sweep_value};
 use std::alloc::{AllocError, Global};
 use std::env::Args;
 use std::io::{self, Write};
+use std::sync::Wait;
 use std::thread::Threads;
 
 /// The exit status for words that the program doesn't know.
@@ -32,21 +35,22 @@ const VERSION: &str = "dobutsu 0.1.0\n";
 /// What is said where an argument isn't UTF-8.
 const NO_TEXT: &[u8] = b"error: an argument is not UTF-8\n\nFor more information, try '--help'.\n";
 
-/// Runs the program by its words, those after the program's name. Database files come from the shelf. What it tells goes
+/// Runs the program by its words, those after the program's name. Database files come from the shelf, and the one of a
+/// build goes there; its promises hold if it returns, since the threads of a build may wait. What it tells goes
 /// to the writer `out`, a fault's line and a word on wrong usage to `err`. The answer is the exit status.
 ///
 /// The status is 0 where it is done or help was asked for, 1 where what was asked is refused, 2 for words that it
-/// doesn't know, 3 for want of memory, for a distance above 65,534 plies and where `out` fails. Where `err` fails,
+/// doesn't know, 3 for want of memory, for a distance above 65,534 plies, for a build that stops and where `out` or a file fails. Where `err` fails,
 /// the status is the same.
 pub fn run_words<'a, S: Shelf, O: Write, E: Write>(
-    rt: &(impl Threads + Sync),
+    rt: &(impl Threads + Wait + Sync),
     alloc: Global,
     words: &'a [&'a str],
     shelf: &mut S,
     out: &mut O,
     err: &mut E,
 ) -> u8
-    ensures { RanOver (S.has shelf.old) (map (λ w. w.now) words.now) result
+    ensures { RanOver (S.has shelf.old) (S.has shelf.new) (S.tells shelf.old) (map (λ w. w.now) words.now) result
         (contents (O.contents out.old) (O.contents out.new)) (contents (E.contents err.old) (E.contents err.new)) }
 {
     let mut told = Lent::new(out);
@@ -61,14 +65,14 @@ pub fn run_words<'a, S: Shelf, O: Write, E: Write>(
 /// Runs the program as `run_words` does, over streams that are sinks as a file's is, so that it is known of them where
 /// they were flushed and whether they failed. A writer of the standard library is one behind `Std` or `Lent`.
 pub fn run_over<'a, S: Shelf, O: Sink, E: Sink>(
-    rt: &(impl Threads + Sync),
+    rt: &(impl Threads + Wait + Sync),
     alloc: Global,
     words: &'a [&'a str],
     shelf: &mut S,
     out: &mut O,
     err: &mut E,
 ) -> u8
-    ensures { Ran (S.has shelf.old) (map (λ w. w.now) words.now)
+    ensures { Ran (S.has shelf.old) (S.has shelf.new) (S.tells shelf.old) (map (λ w. w.now) words.now)
         (ended result (change (O.state out.old) (O.state out.new)) (change (E.state err.old) (E.state err.new))) }
 {
     match read_words(alloc, words) {
@@ -85,15 +89,16 @@ pub fn run_over<'a, S: Shelf, O: Sink, E: Sink>(
 
 // Does what is ordered.
 fn run_order<S: Shelf, O: Sink, E: Sink>(
-    rt: &(impl Threads + Sync),
+    rt: &(impl Threads + Wait + Sync),
     alloc: Global,
     order: Order<'_>,
     shelf: &mut S,
     out: &mut O,
     err: &mut E,
 ) -> u8
-    ensures { AnswersOrder (S.has shelf.old) order.entry
+    ensures done { AnswersOrder (S.has shelf.old) (S.has shelf.new) (S.tells shelf.old) order.entry
         (ended result (change (O.state out.old) (O.state out.new)) (change (E.state err.old) (E.state err.new))) }
+    ensures files { KeepsFiles (S.has shelf.old) (S.has shelf.new) order.entry }
 {
     match answer(rt, alloc, order, shelf) {
         Ok(lines) => tell(alloc, lines.as_str(), out, err),
@@ -103,17 +108,19 @@ fn run_order<S: Shelf, O: Sink, E: Sink>(
 
 // The lines that tell what is ordered.
 fn answer<S: Shelf>(
-    rt: &(impl Threads + Sync),
+    rt: &(impl Threads + Wait + Sync),
     alloc: Global,
     order: Order<'_>,
     shelf: &mut S,
 ) -> Result<String, Fault>
-    ensures ok { IfOk result (λ lines. AreLinesFor (S.has shelf.old) order.entry (string_bytes lines)) }
-    ensures err { IfErr result (IsFaultFor (S.has shelf.old) order.entry) }
+    ensures ok { IfOk result (λ lines. AreLinesFor (S.has shelf.old) (S.has shelf.new) (S.tells shelf.old) order.entry (string_bytes lines)) }
+    ensures err { IfErr result (IsFaultFor (S.has shelf.old) (S.has shelf.new) order.entry) }
+    ensures files { KeepsFiles (S.has shelf.old) (S.has shelf.new) order.entry }
 {
     match order {
         Order::Value(position) => answer_value(alloc, position),
         Order::Count(set) => answer_count(alloc, set),
+        Order::Build { set, nodes, file } => answer_build(rt, alloc, shelf, set, nodes, file),
         Order::Probe { file, position } => answer_probe(alloc, shelf, file, position),
         Order::Line { file, position } => answer_line(alloc, shelf, file, position),
         Order::Check(file) => answer_check(rt, alloc, shelf, file),
@@ -181,24 +188,25 @@ pub fn tell_memory<E: Sink>(err: &mut E) -> u8
 }
 
 /// Runs the program by what it was given: its arguments, of which the first is its name, or why they can't be had.
-/// Database files come from the shelf.
+/// Database files come from the shelf, and go there.
 ///
 /// It does what `run_over` does with the words after the name. Where memory for them was refused, it says so (E23,
 /// status 3); where one of them isn't UTF-8, it says that (status 2).
 pub fn run_given<S: Shelf, O: Sink, E: Sink>(
-    rt: &(impl Threads + Sync),
+    rt: &(impl Threads + Wait + Sync),
     alloc: Global,
     given: io::Result<Args>,
     shelf: &mut S,
     out: &mut O,
     err: &mut E,
 ) -> u8
-    ensures words { IfOk given (λ args. RanOn (S.has shelf.old) (map string_bytes (drop 1 (into_iter_items args)))
+    ensures words { IfOk given (λ args. RanOn (S.has shelf.old) (S.has shelf.new) (S.tells shelf.old) (map string_bytes (drop 1 (into_iter_items args)))
         (ended result (change (O.state out.old) (O.state out.new)) (change (E.state err.old) (E.state err.new)))) }
     ensures refused { IfErr given (λ error. error_kind error ≡ OutOfMemory → TellsMemory
         (ended result (change (O.state out.old) (O.state out.new)) (change (E.state err.old) (E.state err.new)))) }
     ensures unread { IfErr given (λ error. error_kind error ≢ OutOfMemory → TellsNoText
         (ended result (change (O.state out.old) (O.state out.new)) (change (E.state err.old) (E.state err.new)))) }
+    ensures files { IfErr given (λ _. SameFiles (S.has shelf.old) (S.has shelf.new)) }
 {
     match given {
         Ok(args) => run_args(rt, alloc, args, shelf, out, err),
@@ -214,14 +222,14 @@ pub fn run_given<S: Shelf, O: Sink, E: Sink>(
 
 // Runs the program by its arguments, of which the first is its name.
 fn run_args<S: Shelf, O: Sink, E: Sink>(
-    rt: &(impl Threads + Sync),
+    rt: &(impl Threads + Wait + Sync),
     alloc: Global,
     args: Args,
     shelf: &mut S,
     out: &mut O,
     err: &mut E,
 ) -> u8
-    ensures { RanOn (S.has shelf.old) (map string_bytes (drop 1 (into_iter_items args)))
+    ensures { RanOn (S.has shelf.old) (S.has shelf.new) (S.tells shelf.old) (map string_bytes (drop 1 (into_iter_items args)))
         (ended result (change (O.state out.old) (O.state out.new)) (change (E.state err.old) (E.state err.new))) }
 {
     match list_of(alloc, args) {
@@ -253,14 +261,14 @@ fn after_first<'a>(given: &'a [String]) -> &'a [String]
 
 // Runs the program by its words, as they were given.
 fn run_texts<S: Shelf, O: Sink, E: Sink>(
-    rt: &(impl Threads + Sync),
+    rt: &(impl Threads + Wait + Sync),
     alloc: Global,
     given: &[String],
     shelf: &mut S,
     out: &mut O,
     err: &mut E,
 ) -> u8
-    ensures { RanOn (S.has shelf.old) (map string_bytes given.now)
+    ensures { RanOn (S.has shelf.old) (S.has shelf.new) (S.tells shelf.old) (map string_bytes given.now)
         (ended result (change (O.state out.old) (O.state out.new)) (change (E.state err.old) (E.state err.new))) }
 {
     match words_of(alloc, given) {

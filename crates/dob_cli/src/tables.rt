@@ -1,6 +1,7 @@
 // Answers by the table of a database file.
 ghost use Rattle.std.specs.Prelude.{◌≡◌, ◌++◌, ◌∷◌, [], false, IfOk, IfErr, OnOk, string_bytes};
 ghost use Rattle.dob_text.specs.MoveText.{move_text};
+ghost use Rattle.dob_cli.specs.Shelves.{SameFiles};
 ghost use Rattle.dob_cli.specs.Signs.{line_feed};
 ghost use Rattle.dob_cli.specs.Tables.{IsCheckFault, IsCheckLine, IsFileOf, IsMovesLine, IsOpeningFault, IsPositionFault};
 ghost use Rattle.dob_cli.specs.Tables.{IsProbeLine, moves_line, moves_text, space_before};
@@ -26,6 +27,7 @@ pub(crate) fn answer_probe<S: Shelf>(
 ) -> Result<String, Fault>
     ensures ok { IfOk result (λ line. IsProbeLine (S.has shelf.old file.now) text.now (string_bytes line)) }
     ensures err { IfErr result (IsPositionFault (S.has shelf.old file.now) text.now) }
+    ensures files { SameFiles (S.has shelf.old) (S.has shelf.new) }
 {
     let position = read_position(text)?;
     let table = open(alloc, shelf, file)?;
@@ -42,6 +44,7 @@ pub(crate) fn answer_line<S: Shelf>(
 ) -> Result<String, Fault>
     ensures ok { IfOk result (λ line. IsMovesLine (S.has shelf.old file.now) text.now (string_bytes line)) }
     ensures err { IfErr result (IsPositionFault (S.has shelf.old file.now) text.now) }
+    ensures files { SameFiles (S.has shelf.old) (S.has shelf.new) }
 {
     let position = read_position(text)?;
     let table = open(alloc, shelf, file)?;
@@ -59,6 +62,7 @@ pub(crate) fn answer_check<S: Shelf>(
 ) -> Result<String, Fault>
     ensures ok { IfOk result (λ line. IsCheckLine (S.has shelf.old file.now) (string_bytes line)) }
     ensures err { IfErr result (IsCheckFault (S.has shelf.old file.now)) }
+    ensures files { SameFiles (S.has shelf.old) (S.has shelf.new) }
 {
     let table = open(alloc, shelf, file)?;
     check(rt, alloc, &table)?;
@@ -69,6 +73,7 @@ pub(crate) fn answer_check<S: Shelf>(
 fn open<S: Shelf>(alloc: Global, shelf: &mut S, file: &str) -> Result<Table, Fault>
     ensures table { IfOk result (λ table. IsFileOf (S.has shelf.old file.now) table) }
     ensures fault { IfErr result (IsOpeningFault (S.has shelf.old file.now)) }
+    ensures files { SameFiles (S.has shelf.old) (S.has shelf.new) }
 {
     let Some(mut source) = shelf.find(file) else {
         return Err(Fault::Io);

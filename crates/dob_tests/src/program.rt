@@ -1,6 +1,6 @@
 // What the program prints and its exit status, by its words.
 use crate::shelves::put;
-use dob_cli::{MemShelf, run_given, run_over, run_words};
+use dob_cli::{MemShelf, Shelf, run_given, run_over, run_words};
 use dob_dbfile::{MemSink, write_table};
 use dob_pieces::PieceSet;
 use dob_rank::Classes;
@@ -9,15 +9,16 @@ use std::alloc::{AllocError, Global};
 use std::io::{self, ErrorKind, Write};
 use std::process::Abort;
 use std::str;
+use std::sync::Wait;
 use std::test::Fail;
 use std::thread::Threads;
 
-const FILE: &str = "000.db";
+pub(crate) const FILE: &str = "000.db";
 
 // A position whose value takes seven plies.
 const LONG: &str = ".l./.../.../.L. - -";
 
-const NO_PIECES: PieceSet = PieceSet {
+pub(crate) const NO_PIECES: PieceSet = PieceSet {
     chicks: 0,
     elephants: 0,
     giraffes: 0,
@@ -25,10 +26,10 @@ const NO_PIECES: PieceSet = PieceSet {
 
 /// What the program did.
 #[derive(Drop)]
-struct Told {
-    status: u8,
-    out: MemSink,
-    err: MemSink,
+pub(crate) struct Told {
+    pub(crate) status: u8,
+    pub(crate) out: MemSink,
+    pub(crate) err: MemSink,
 }
 
 // A shelf whose one file has those bytes.
@@ -41,7 +42,13 @@ fn shelf_with(alloc: Global, bytes: &[u8]) -> Result<MemShelf, AllocError> {
     }
 }
 
-fn run_on(rt: &(impl Threads + Sync), alloc: Global, shelf: &mut MemShelf, words: &[&str]) -> Told {
+/// What the program does over the shelf.
+pub(crate) fn run_on<S: Shelf>(
+    rt: &(impl Threads + Wait + Sync),
+    alloc: Global,
+    shelf: &mut S,
+    words: &[&str],
+) -> Told {
     let mut out = MemSink::new(alloc);
     let mut err = MemSink::new(alloc);
     let status = run_over(rt, alloc, words, shelf, &mut out, &mut err);
@@ -49,7 +56,11 @@ fn run_on(rt: &(impl Threads + Sync), alloc: Global, shelf: &mut MemShelf, words
 }
 
 // Over an empty file.
-fn run(rt: &(impl Threads + Sync), alloc: Global, words: &[&str]) -> Result<Told, AllocError> {
+fn run(
+    rt: &(impl Threads + Wait + Sync),
+    alloc: Global,
+    words: &[&str],
+) -> Result<Told, AllocError> {
     let mut shelf = shelf_with(alloc, &[])?;
     Ok(run_on(rt, alloc, &mut shelf, words))
 }
@@ -79,7 +90,7 @@ impl Write for Narrow {
 
 /// The words give just that on standard output, and status 0.
 fn answers(
-    rt: &(impl Abort + Threads + Sync),
+    rt: &(impl Abort + Threads + Wait + Sync),
     alloc: Global,
     words: &[&str],
     lines: &str,
@@ -93,8 +104,8 @@ fn answers(
 }
 
 /// The words give just that on standard error, and status 1.
-fn refuses(
-    rt: &(impl Abort + Threads + Sync),
+pub(crate) fn refuses(
+    rt: &(impl Abort + Threads + Wait + Sync),
     alloc: Global,
     words: &[&str],
     line: &str,
@@ -192,7 +203,7 @@ fn tells(bytes: &[u8], part: &str) -> bool {
 
 #[test]
 fn wrong_words_are_usage(rt: HostRuntime) -> Result<(), Fail> {
-    let rows: [(&[&str], &str); 16] = [
+    let rows: [(&[&str], &str); 21] = [
         (&[], "requires a subcommand"),
         (&["value"], "<POSITION>"),
         (&["value", "a", "b"], "'b'"),
@@ -201,6 +212,19 @@ fn wrong_words_are_usage(rt: HostRuntime) -> Result<(), Fail> {
         (&["--value"], "'--value'"),
         (&["count"], "--set <CEG>"),
         (&["count", "100"], "'100'"),
+        (&["build", "--set", "000", "--out", "a"], "--nodes <N>"),
+        (&["build", "--set=000", "--nodes=1"], "--out <FILE>"),
+        (&["build", "--set=000", "--nodes=x", "--out=a"], "'x'"),
+        (&["build", "--set=000", "--nodes", "1.5", "--help"], "'1.5'"),
+        (
+            &[
+                "build",
+                "--set=0",
+                "--nodes=18446744073709551616",
+                "--out=a",
+            ],
+            "18446744073709551616",
+        ),
         (&["count", "--set"], "--set <CEG>"),
         (&["count", "--set", "100", "100"], "'100'"),
         (&["probe", "a"], "--db <FILE>"),
@@ -221,12 +245,13 @@ fn wrong_words_are_usage(rt: HostRuntime) -> Result<(), Fail> {
 
 #[test]
 fn help_is_told_on_standard_output(rt: HostRuntime) -> Result<(), Fail> {
-    let rows: [(&[&str], &str); 8] = [
+    let rows: [(&[&str], &str); 9] = [
         (&["--help"], "Usage: dobutsu"),
         (&["-h"], "Usage: dobutsu"),
         (&["help"], "Usage: dobutsu"),
         (&["value", "--help"], "Usage: dobutsu value"),
         (&["count", "--help"], "Usage: dobutsu count"),
+        (&["build", "--help"], "Usage: dobutsu build"),
         (&["probe", "--help"], "Usage: dobutsu probe"),
         (&["line", "--help"], "Usage: dobutsu line"),
         (&["check", "--help"], "Usage: dobutsu check"),
@@ -329,7 +354,7 @@ fn standard_output_that_cannot_be_flushed(rt: HostRuntime) -> Result<(), Fail> {
 
 /// What the program does with arguments that can't be had for this cause.
 fn without_arguments(
-    rt: &(impl Threads + Sync),
+    rt: &(impl Threads + Wait + Sync),
     alloc: Global,
     cause: ErrorKind,
 ) -> Result<Told, AllocError> {
@@ -356,6 +381,13 @@ fn arguments_that_cannot_be_had(rt: HostRuntime) -> Result<(), Fail> {
     assert_eq!(rt; refused.status, 3);
     assert_eq!(rt; refused.err.bytes(), b"dobutsu: E23 Memory\n".as_slice());
     Ok(())
+}
+
+/// The file of the set's table, found by sweeps.
+pub(crate) fn file_of(alloc: Global, set: PieceSet) -> Result<Vec<u8>, Fail> {
+    let mut sink = MemSink::new(alloc);
+    write_table(alloc, &sweep_table(alloc, set)?, &mut sink)?;
+    Ok(sink.into_bytes())
 }
 
 // The file of the table of lions alone, with another code for one class.

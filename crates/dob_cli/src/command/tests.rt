@@ -13,7 +13,7 @@ const POSITION_TAUGHT: [&str; 6] = [
     "dobutsu value \"..l/.../L../... - -\" prints `win 3`",
 ];
 
-const FAULTS_TAUGHT: [&str; 20] = [
+const FAULTS_TAUGHT: [&str; 24] = [
     "`dobutsu value --help` says how a position is written",
     "E1 Shape ",
     "E2 Letter ",
@@ -23,6 +23,10 @@ const FAULTS_TAUGHT: [&str; 20] = [
     "E6 FarLion ",
     "E7 OtherSet ",
     "E8 SetTooLarge ",
+    "E9 Nodes ",
+    "E12 TooDeep ",
+    "E13 Contradiction class N",
+    "E14 Stopped node N: CAUSE",
     "E15 Truncated ",
     "E16 Magic ",
     "E17 SetByte ",
@@ -43,6 +47,15 @@ const SET_TAUGHT: [&str; 6] = [
     "on the board and in the hands together",
     "a class is a position with its mirror image",
     "dobutsu count --set 100 prints `positions 4158` and `classes 2124`",
+];
+
+const BUILD_TAUGHT: [&str; 6] = [
+    "Nodes: 1 to 16",
+    "with more nodes than processors it works too, only slower",
+    "2 bytes a class",
+    "`dobutsu count --set 111` gives the classes of the largest",
+    "an interrupted build leaves no file that looks whole",
+    "dobutsu build --set 000 --nodes 2 --out 000.db prints `classes 54`",
 ];
 
 fn expect_help<'a>(
@@ -116,9 +129,21 @@ fn help_teaches_the_piece_set(rt: HostRuntime) -> Result<(), Fail> {
 }
 
 #[test]
+fn help_teaches_the_build(rt: HostRuntime) -> Result<(), Fail> {
+    let alloc = rt.alloc();
+    let usage = "Usage: dobutsu build --set <CEG> --nodes <N> --out <FILE>";
+    let taught = BUILD_TAUGHT.as_slice();
+    expect_help(&rt, alloc, &["build", "--help"], usage, taught)?;
+    expect_help(&rt, alloc, &["help", "build"], usage, taught)?;
+    expect_help(&rt, alloc, &["build", "--nodes=2", "-h"], usage, taught)?;
+    Ok(())
+}
+
+#[test]
 fn help_names_each_subcommand(rt: HostRuntime) -> Result<(), Fail> {
     let alloc = rt.alloc();
     let about = [
+        "Builds the database file of a piece set, as `build --set 100 --nodes 2 --out 100.db`",
         "Prints the value of a position",
         "Prints how many positions and classes a piece set has, as `count --set 100`",
     ];
@@ -166,6 +191,42 @@ fn usage_names_what_is_wrong_with_a_set(rt: HostRuntime) -> Result<(), Fail> {
     expect_usage(&rt, alloc, &["count", "--set=100", "--", "x"], "'x'")?;
     expect_usage(&rt, alloc, &["count", "-s", "100"], "'-s'")?;
     expect_usage(&rt, alloc, &["count", "--sets=100"], "'--sets'")?;
+    Ok(())
+}
+
+#[test]
+fn usage_names_what_is_wrong_with_a_build(rt: HostRuntime) -> Result<(), Fail> {
+    let alloc = rt.alloc();
+    expect_usage(&rt, alloc, &["build", "--nodes", "two"], "'two'")?;
+    expect_usage(&rt, alloc, &["build", "--nodes", "-2"], "'-2'")?;
+    expect_usage(&rt, alloc, &["build", "--nodes="], "--nodes <N>")?;
+    expect_usage(
+        &rt,
+        alloc,
+        &["build", "--nodes=2", "--nodes=2"],
+        "--nodes <N>",
+    )?;
+    expect_usage(&rt, alloc, &["build", "--nodes=x", "--help"], "'x'")?;
+    expect_usage(
+        &rt,
+        alloc,
+        &["build", "--set=000", "--nodes=2"],
+        "--out <FILE>",
+    )?;
+    expect_usage(&rt, alloc, &["build", "000"], "'000'")?;
+    Ok(())
+}
+
+#[test]
+fn build_takes_its_texts(rt: HostRuntime) -> Result<(), Fail> {
+    let words = ["build", "--nodes=+016", "--out", "a b.db", "--set", "x"];
+    let Reading::Order(Order::Build { set, nodes, file }) = read_words(rt.alloc(), &words)? else {
+        assert!(rt; false, "no order");
+        return Ok(());
+    };
+    assert_eq!(rt; set, "x");
+    assert_eq!(rt; nodes, 16);
+    assert_eq!(rt; file, "a b.db");
     Ok(())
 }
 

@@ -1,7 +1,7 @@
 -- Each subcommand joins the program.
 use Rattle.std.proofs.lemmas.Result.{IfOk-weaker}
 use Rattle.clap.specs.Words.{App, with_subcommand}
-use Rattle.dob_cli.specs.Forms.{check_form, count_form, line_form, probe_form, value_form}
+use Rattle.dob_cli.specs.Forms.{build_form, check_form, count_form, line_form, probe_form, value_form}
 use Rattle.dob_cli.specs.Shapes.{bare_app, form_app}
 use Rattle.dob_cli.proofs.Outcomes.{subcommand_shape}
 use Rattle.dob_cli.proofs.command.dobutsu_command.Goals as goal
@@ -13,8 +13,11 @@ with_value = with_subcommand bare_app (form_app value_form).top
 abbrev with_count : App
 with_count = with_subcommand with_value (form_app count_form).top
 
+abbrev with_build : App
+with_build = with_subcommand with_count (form_app build_form).top
+
 abbrev with_probe : App
-with_probe = with_subcommand with_count (form_app probe_form).top
+with_probe = with_subcommand with_build (form_app probe_form).top
 
 abbrev with_line : App
 with_line = with_subcommand with_probe (form_app line_form).top
@@ -25,9 +28,11 @@ returns c =
     c.in_ok-subcommand.ensures in
     let second = subcommand_shape _ _ c.in_ok-subcommand-2.field-0 with_value (form_app count_form) first c.in_ok-count_command.ensures
     c.in_ok-subcommand-2.ensures in
-    let third = subcommand_shape _ _ c.in_ok-subcommand-3.field-0 with_count (form_app probe_form) second c.in_ok-probe_command.ensures
+    let third = subcommand_shape _ _ c.in_ok-subcommand-3.field-0 with_count (form_app build_form) second c.in_ok-build_command.ensures
     c.in_ok-subcommand-3.ensures in
-    let fourth = subcommand_shape _ _ c.in_ok-subcommand-4.field-0 with_probe (form_app line_form) third c.in_ok-line_command.ensures
+    let fourth = subcommand_shape _ _ c.in_ok-subcommand-4.field-0 with_build (form_app probe_form) third c.in_ok-probe_command.ensures
     c.in_ok-subcommand-4.ensures in
-    IfOk-weaker c.subcommand-5.result _ _
-    (λ r adds. subcommand_shape _ _ r with_line (form_app check_form) fourth c.in_ok-check_command.ensures adds) c.subcommand-5.ensures
+    let fifth = subcommand_shape _ _ c.in_ok-subcommand-5.field-0 with_probe (form_app line_form) fourth c.in_ok-line_command.ensures
+    c.in_ok-subcommand-5.ensures in
+    IfOk-weaker c.subcommand-6.result _ _
+    (λ r adds. subcommand_shape _ _ r with_line (form_app check_form) fifth c.in_ok-check_command.ensures adds) c.subcommand-6.ensures

@@ -4,12 +4,16 @@ use Rattle.dob_cli.proofs.Endings.{answered, refused}
 use Rattle.dob_cli.proofs.Orders.{memory_holds}
 use Rattle.dob_cli.proofs.program.run_order.Goals as goal
 
-pub returns-in-Ok : goal.returns-in-Ok
-returns-in-Ok g c =
-    let Has = g.S.Shelf.has c.args.shelf.now in
-    answered (AreLinesFor Has c.args.order) (IsFaultFor Has c.args.order) _ _ c.in-Ok.ensures.ok (rw c.as_str.ensures.value at c.tell.ensures)
+pub returns-in-Ok-clause-done : goal.returns-in-Ok-clause-done
+returns-in-Ok-clause-done g c =
+    let Old = g.S.Shelf.has c.args.shelf.now in
+    let New = g.S.Shelf.has c.answer.new.shelf in
+    answered (AreLinesFor Old New (g.S.Shelf.tells c.args.shelf.now) c.args.order) (IsFaultFor Old New c.args.order) _ _ c.in-Ok.ensures.ok
+    (rw c.as_str.ensures.value at c.tell.ensures)
 
-pub returns-in-Err : goal.returns-in-Err
-returns-in-Err g c =
-    let Has = g.S.Shelf.has c.args.shelf.now in
-    refused (AreLinesFor Has c.args.order) (IsFaultFor Has c.args.order) _ _ _ _ (memory_holds Has c.args.order) c.in-Err.ensures.err c.tell_fault.ensures
+pub returns-in-Err-clause-done : goal.returns-in-Err-clause-done
+returns-in-Err-clause-done g c =
+    let Old = g.S.Shelf.has c.args.shelf.now in
+    let New = g.S.Shelf.has c.answer.new.shelf in
+    refused (AreLinesFor Old New (g.S.Shelf.tells c.args.shelf.now) c.args.order) (IsFaultFor Old New c.args.order) _ _ _ _
+    (memory_holds Old New c.args.order) c.in-Err.ensures.err c.tell_fault.ensures

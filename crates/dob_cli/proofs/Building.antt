@@ -1,0 +1,115 @@
+-- What is told of a table and kept of it: the counts of its values, their lines, and its file.
+use Rattle.std.proofs.Common.{◌≡◌, ◌∙◌, ◌+◌, ◌<◌, ◌^◌, ◌++◌, ◌∷◌, [], ℕ, Bool, true, false, arith, refl, sym, ap, subst, cond, codes, append_assoc}
+use Rattle.std.proofs.Common.{get_or, length, take, List, Option, Some, None}
+use Rattle.std.specs.Prelude.{slice_get}
+use Rattle.std.specs.List.{count_by}
+use Rattle.std.specs.Fmt.{decimal}
+use Rattle.std.specs.Io.KnownBytes.{Appends}
+use Rattle.std.proofs.lemmas.List.{length-take-le}
+use Rattle.std.proofs.lemmas.List.Sums.{count_by-le-length, count_by_more_no, count_by_more_yes}
+use Rattle.std.proofs.lemmas.Option.{get_or_from_slice_get}
+use Rattle.dob_value.specs.declared.value.Value.{Value}
+use Rattle.dob_value.specs.Entries.{is_draw}
+use Rattle.dob_dbfile.specs.declared.fault.Fault as file
+use Rattle.dob_dbfile.specs.declared.fault.Fault.TheVariants as file_fault
+use Rattle.dob_dbfile.specs.Sinks.{Change}
+use Rattle.dob_dbfile.specs.Writing.{StopsAt}
+use Rattle.dob_cli.specs.declared.tally.Tally.{Tally}
+use Rattle.dob_cli.specs.declared.fault.Fault.{Fault}
+use Rattle.dob_cli.specs.declared.fault.Fault.TheVariants.{Text, SetText, SetTooLarge, TooDeep, Run, File, Table, Memory, Io}
+use Rattle.dob_cli.specs.Shelves.{Files}
+use Rattle.dob_cli.specs.Sizes.{count_line}
+use Rattle.dob_cli.specs.Builds.{AddsValue, IsBuildFault, IsKeepingFault, IsTally, class_lines, is_loss, is_win}
+
+-- ---- counts
+
+module _ (values : List Value) (class : ℕ) (value : Value) (below : class < length values) (there : slice_get values class ≡ Some value) where
+  counted_more : (p : Value → Bool) → count_by p (take (class + 1) values) ≡ count_by p (take class values) + cond (p value) 1 0
+  counted_more p = go (p value) (ap p (get_or_from_slice_get values class value value there))
+    where
+      go : (b : Bool) → p (get_or values class value) ≡ b → count_by p (take (class + 1) values) ≡ count_by p (take class values) + cond b 1 0
+      go true e = count_by_more_yes p values class value below e
+      go false e = count_by_more_no p values class value below e ∙ omega arith
+
+  pub tally_more : (old new : Tally) → IsTally (take class values) old → AddsValue value old new → IsTally (take (class + 1) values) new
+  tally_more old new is adds = record {
+    wins = adds.wins ∙ ap (λ (n : ℕ). n + cond (is_win value) 1 0) is.wins ∙ sym (counted_more is_win);
+    losses = adds.losses ∙ ap (λ (n : ℕ). n + cond (is_loss value) 1 0) is.losses ∙ sym (counted_more is_loss);
+    draws = adds.draws ∙ ap (λ (n : ℕ). n + cond (is_draw value) 1 0) is.draws ∙ sym (counted_more is_draw);
+  }
+
+-- each count is below the number of classes so far
+pub counts_fit : (values : List Value) (class : ℕ) (tally : Tally) → class < length values → length values < 2 ^ 64 → IsTally (take class values) tally
+    → (tally.wins + 1 < 2 ^ 64) × (tally.losses + 1 < 2 ^ 64) × (tally.draws + 1 < 2 ^ 64)
+counts_fit values class tally below few is = (fits tally.wins is_win is.wins, fits tally.losses is_loss is.losses, fits tally.draws is_draw is.draws)
+  where
+    fits : (n : ℕ) (p : Value → Bool) → n ≡ count_by p (take class values) → n + 1 < 2 ^ 64
+    fits n p e =
+        let most = count_by-le-length p (take class values) in
+        let len = length-take-le class values (omega (arith, below)) in
+        omega (arith, e, most, len, below, few)
+
+-- ---- lines
+
+line_ends : (n : ℕ) (rest : List ℕ) → decimal n ++ 10 ∷ rest ≡ (decimal n ++ 10 ∷ []) ++ rest
+line_ends n rest = sym (append_assoc (decimal n) (10 ∷ []) rest)
+
+two_lines : (c d : ℕ) → codes "loss " ++ (decimal c ++ 10 ∷ (codes "draw " ++ (decimal d ++ 10 ∷ [])))
+    ≡ count_line (codes "loss ") c ++ count_line (codes "draw ") d
+two_lines c d = ap (λ (l : List ℕ). codes "loss " ++ l) (line_ends c (count_line (codes "draw ") d))
+
+three_lines : (b c d : ℕ) → codes "win " ++ (decimal b ++ 10 ∷ (codes "loss " ++ (decimal c ++ 10 ∷ (codes "draw " ++ (decimal d ++ 10 ∷ [])))))
+    ≡ count_line (codes "win ") b ++ (count_line (codes "loss ") c ++ count_line (codes "draw ") d)
+three_lines b c d =
+    ap (λ (l : List ℕ). codes "win " ++ (decimal b ++ 10 ∷ l)) (two_lines c d)
+    ∙ ap (λ (l : List ℕ). codes "win " ++ l) (line_ends b (count_line (codes "loss ") c ++ count_line (codes "draw ") d))
+
+-- the lines of such numbers
+abbrev told : ℕ → ℕ → ℕ → ℕ → List ℕ
+told a b c d = codes "classes " ++ (decimal a ++ 10 ∷ (codes "win " ++ (decimal b ++ 10 ∷ (codes "loss " ++ (decimal c ++ 10 ∷ (codes "draw " ++
+    (decimal d ++ 10 ∷ [])))))))
+
+four_lines : (a b c d : ℕ) → told a b c d
+    ≡ count_line (codes "classes ") a ++ (count_line (codes "win ") b ++ (count_line (codes "loss ") c ++ count_line (codes "draw ") d))
+four_lines a b c d =
+    ap (λ (l : List ℕ). codes "classes " ++ (decimal a ++ 10 ∷ l)) (three_lines b c d)
+    ∙ ap (λ (l : List ℕ). codes "classes " ++ l) (line_ends a (count_line (codes "win ") b ++ (count_line (codes "loss ") c ++ count_line (codes "draw ") d)))
+
+pub lines_told : (values : List Value) (tally : Tally) (classes : ℕ) → classes ≡ length values → IsTally values tally
+    → told classes tally.wins tally.losses tally.draws ≡ class_lines values
+lines_told values tally classes count is = four_lines classes tally.wins tally.losses tally.draws ∙ rw (count, is.wins, is.losses, is.draws) refl
+
+-- ---- the file
+
+-- an empty sink that takes the bytes has just these
+pub received_all : (old new : Option (List ℕ)) (bytes : List ℕ) → old ≡ Some [] → Appends old new bytes → new ≡ Some bytes
+received_all old new bytes e h = go new (subst (λ (o : Option (List ℕ)). Appends o new bytes) e h)
+  where
+    go : (o : Option (List ℕ)) → Appends (Some []) o bytes → o ≡ Some bytes
+    go None h = absurd h
+    go (Some ys) h = ap (λ (x : List ℕ). Some x) h
+
+-- ---- faults
+
+pub stopped_keeping : (c : Change) (bytes : List ℕ) (fault : file.Fault) → StopsAt c bytes fault → IsKeepingFault (File fault)
+stopped_keeping c bytes file_fault.Memory stops = tt
+stopped_keeping c bytes (file_fault.Io count) stops = tt
+stopped_keeping c bytes file_fault.SetTooLarge stops = absurd stops
+stopped_keeping c bytes file_fault.Truncated stops = absurd stops
+stopped_keeping c bytes file_fault.Magic stops = absurd stops
+stopped_keeping c bytes file_fault.SetByte stops = absurd stops
+stopped_keeping c bytes file_fault.ClassCount stops = absurd stops
+stopped_keeping c bytes file_fault.Trailing stops = absurd stops
+stopped_keeping c bytes file_fault.Digest stops = absurd stops
+
+-- a fault of keeping the table is one of building it
+pub keeping_holds : (Old New : Files) (text : List ℕ) (nodes : ℕ) (fault : Fault) → IsKeepingFault fault → IsBuildFault Old New text nodes fault
+keeping_holds Old New text nodes (File f) holds = holds
+keeping_holds Old New text nodes Io holds = tt
+keeping_holds Old New text nodes Memory holds = tt
+keeping_holds Old New text nodes (Text f) holds = absurd holds
+keeping_holds Old New text nodes SetText holds = absurd holds
+keeping_holds Old New text nodes SetTooLarge holds = absurd holds
+keeping_holds Old New text nodes TooDeep holds = absurd holds
+keeping_holds Old New text nodes (Run f) holds = absurd holds
+keeping_holds Old New text nodes (Table f) holds = absurd holds

@@ -1,0 +1,81 @@
+-- What the program owes where it is asked to build a database file.
+use Rattle.std.specs.Prelude.{◌≡◌, ◌≢◌, ℕ, Bool, true, false, IsTrue, cond, List, ◌+◌, ◌++◌, codes, length}
+use Rattle.std.specs.List.{count_by}
+use Rattle.dob_pieces.specs.declared.piece_set.PieceSet.{PieceSet}
+use Rattle.dob_pieces.specs.Sets.{set_text}
+use Rattle.dob_value.specs.declared.value.Value.{Value}
+use Rattle.dob_value.specs.declared.value.Value.TheVariants.{Win, Loss}
+use Rattle.dob_value.specs.Entries.{is_draw}
+use Rattle.dob_value.specs.Follows.{ClassTable, IsValueTable}
+use Rattle.dob_run.specs.Refused.{IsRefused}
+use Rattle.dob_dbfile.specs.declared.fault.Fault.TheVariants as file_fault
+use Rattle.dob_dbfile.specs.Format.{bytes_of}
+use Rattle.dob_cli.specs.declared.tally.Tally.{Tally}
+use Rattle.dob_cli.specs.declared.fault.Fault.{Fault}
+use Rattle.dob_cli.specs.declared.fault.Fault.TheVariants.{SetText, Run, File, Memory, Io}
+use Rattle.dob_cli.specs.Shelves.{Files, HasJust, SameFiles}
+use Rattle.dob_cli.specs.Sizes.{count_line}
+use Rattle.dob_cli.specs.Endings.{Answers, Ending}
+
+-- ---- lines
+
+abbrev pub is_win : Value → Bool
+is_win (Win plies) = true
+is_win _ = false
+
+abbrev pub is_loss : Value → Bool
+is_loss (Loss plies) = true
+is_loss _ = false
+
+-- so many of the values are wins, losses and draws
+pub record IsTally (values : List Value) (tally : Tally) : Type 0 where
+  pub wins : tally.wins ≡ count_by is_win values
+  pub losses : tally.losses ≡ count_by is_loss values
+  pub draws : tally.draws ≡ count_by is_draw values
+
+-- the one of the value's kind is one more
+pub record AddsValue (value : Value) (old new : Tally) : Type 0 where
+  pub wins : new.wins ≡ old.wins + cond (is_win value) 1 0
+  pub losses : new.losses ≡ old.losses + cond (is_loss value) 1 0
+  pub draws : new.draws ≡ old.draws + cond (is_draw value) 1 0
+
+-- the four lines that tell how many classes there are, and how many of them have which value
+abbrev pub class_lines : List Value → List ℕ
+class_lines values =
+    count_line (codes "classes ") (length values)
+    ++ (count_line (codes "win ") (count_by is_win values)
+    ++ (count_line (codes "loss ") (count_by is_loss values)
+    ++ count_line (codes "draw ") (count_by is_draw values)))
+
+-- The lines tell of the value table of the text's piece set, and under the name the shelf has just its file, where it tells
+-- its bytes; New says which bytes the file of a name has then.
+pub record AreBuildLines (tells : Bool) (New : Files) (text file lines : List ℕ) : Type 0 where
+  pub table : ClassTable
+  pub named : text ≡ set_text table.set
+  pub right : IsValueTable table.set table.values
+  pub kept : IsTrue tells → HasJust file (bytes_of table) New
+  pub same : lines ≡ class_lines table.values
+
+-- ---- faults
+
+-- a fault of keeping a table: memory failed, or the file
+abbrev pub IsKeepingFault : Fault → Type 0
+IsKeepingFault (File file_fault.Memory) = Unit {0}
+IsKeepingFault (File (file_fault.Io bytes)) = Unit {0}
+IsKeepingFault Io = Unit {0}
+IsKeepingFault _ = ⊥
+
+-- A fault of building: no set has the text; or the run by so many nodes, with batches of at most 256 items and channels of
+-- 64 batches, was refused or stopped; and then each file has what it had. Or memory failed, or the file.
+abbrev pub IsBuildFault : Files → Files → List ℕ → ℕ → Fault → Type 0
+IsBuildFault Old New text nodes SetText = ((set : PieceSet) → text ≢ set_text set) × SameFiles Old New
+IsBuildFault Old New text nodes (Run fault) =
+    (set : PieceSet) × (text ≡ set_text set) × IsRefused set nodes 256 64 fault × SameFiles Old New
+IsBuildFault Old New text nodes (File fault) = IsKeepingFault (File fault)
+IsBuildFault Old New text nodes Memory = Unit {0}
+IsBuildFault Old New text nodes Io = Unit {0}
+IsBuildFault Old New text nodes _ = ⊥
+
+-- what the program does where it is asked for a file of the table of the piece set that a text names, built by so many nodes
+abbrev pub AnswersBuild : Files → Files → Bool → List ℕ → ℕ → List ℕ → Ending → Type 0
+AnswersBuild Old New tells text nodes file = Answers (AreBuildLines tells New text file) (IsBuildFault Old New text nodes)

@@ -1,0 +1,76 @@
+// Building a database file.
+ghost use Rattle.std.specs.Prelude.{◌≡◌, IfOk, IfErr, OnOk, IsTrue, string_bytes};
+ghost use Rattle.dob_dbfile.specs.Format.{bytes_of};
+ghost use Rattle.dob_cli.specs.Shelves.{HasJust, SameOthers};
+ghost use Rattle.dob_cli.specs.Builds.{AreBuildLines, IsBuildFault, IsKeepingFault, class_lines};
+
+use crate::fault::Fault;
+use crate::shelf::Shelf;
+use crate::tally::tally_of;
+use dob_dbfile::write_table;
+use dob_pieces::PieceSet;
+use dob_run::{Free, run_nodes};
+use dob_value::Table;
+use std::alloc::{AllocError, Global};
+use std::sync::Wait;
+use std::thread::Threads;
+
+// How many items a batch has at most, and how many batches a channel holds.
+const BATCH: usize = 256;
+
+const CAPACITY: usize = 64;
+
+/// Builds the table of the piece set that the text names by so many nodes, and keeps it under the name. The lines that
+/// tell how many classes have which value. Its promises hold if it returns.
+///
+/// The file is made when the table is there, and the lines too. A fault before that leaves all files as they were, and
+/// one after it leaves a beginning of the file.
+pub(crate) fn answer_build<R: Threads + Wait + Sync, S: Shelf>(
+    rt: &R,
+    alloc: Global,
+    shelf: &mut S,
+    text: &str,
+    nodes: u64,
+    file: &str,
+) -> Result<String, Fault>
+    ensures ok { IfOk result (λ lines. AreBuildLines (S.tells shelf.old) (S.has shelf.new) text.now file.now (string_bytes lines)) }
+    ensures err { IfErr result (IsBuildFault (S.has shelf.old) (S.has shelf.new) text.now nodes) }
+    ensures others { SameOthers file.now (S.has shelf.old) (S.has shelf.new) }
+{
+    let set = PieceSet::read(text)?;
+    let built = run_nodes(rt, alloc, set, nodes as usize, BATCH, CAPACITY, &Free)?;
+    let lines = lines_of(alloc, &built.table)?;
+    keep_table(alloc, shelf, file, &built.table)?;
+    Ok(lines)
+}
+
+// Keeps the table's file under the name.
+fn keep_table<S: Shelf>(
+    alloc: Global,
+    shelf: &mut S,
+    file: &str,
+    table: &Table,
+) -> Result<(), Fault>
+    ensures kept { OnOk result (IsTrue (S.tells shelf.old) → HasJust file.now (bytes_of table.now) (S.has shelf.new)) }
+    ensures err { IfErr result IsKeepingFault }
+    ensures others { SameOthers file.now (S.has shelf.old) (S.has shelf.new) }
+{
+    let Some(mut sink) = shelf.make(file) else {
+        return Err(Fault::Io);
+    };
+    write_table(alloc, table, &mut sink)?;
+    shelf.keep(file, sink);
+    Ok(())
+}
+
+// The lines that tell how many classes the table has, and how many of them have which value.
+fn lines_of(alloc: Global, table: &Table) -> Result<String, AllocError>
+    ensures { IfOk result (λ lines. string_bytes lines ≡ class_lines table.now.values) }
+{
+    let classes = table.class_count();
+    let tally = tally_of(table);
+    let wins = tally.wins;
+    let losses = tally.losses;
+    let draws = tally.draws;
+    format!(in alloc; "classes {classes}\nwin {wins}\nloss {losses}\ndraw {draws}\n")
+}
