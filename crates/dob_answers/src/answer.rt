@@ -1,6 +1,7 @@
 // The answer to a line.
 use crate::about_build::about_build;
 use crate::about_cell::about_cell;
+use crate::about_crew::about_crew;
 use crate::about_position::about_position;
 use crate::about_set::about_set;
 use crate::about_token::about_token;
@@ -12,9 +13,16 @@ use dob_text::read_position;
 use dob_value::Fault;
 use std::alloc::Global;
 use std::fmt::Display;
+use std::sync::Wait;
+use std::thread::Threads;
 
-/// The answer to a line, without a line feed. Only memory can run out.
-pub(crate) fn reply(alloc: Global, opened: &mut Opened, line: &str) -> Result<String, Memory> {
+/// The answer to a line, without a line feed. Only memory can run out. A build by threads may not end.
+pub(crate) fn reply<R: Threads + Wait + Sync>(
+    rt: &R,
+    alloc: Global,
+    opened: &mut Opened,
+    line: &str,
+) -> Result<String, Memory> {
     match Question::read(line) {
         None => Ok("unknown question".to_string(alloc)?),
         Some(Question::Position(matter, text)) => match read_position(text) {
@@ -32,6 +40,10 @@ pub(crate) fn reply(alloc: Global, opened: &mut Opened, line: &str) -> Result<St
         Some(Question::Build(text, limit)) => match PieceSet::read(text) {
             Err(fault) => fault_line(alloc, fault),
             Ok(set) => told_build(alloc, about_build(alloc, set, limit)),
+        },
+        Some(Question::Crew(text, nodes)) => match PieceSet::read(text) {
+            Err(fault) => fault_line(alloc, fault),
+            Ok(set) => told_crew(alloc, about_crew(rt, alloc, set, nodes)),
         },
         Some(Question::World(text, sizes, matter)) => match PieceSet::read(text) {
             Err(fault) => fault_line(alloc, fault),
@@ -55,6 +67,15 @@ fn told_build(alloc: Global, answer: Result<String, dob_node::Fault>) -> Result<
     match answer {
         Ok(text) => Ok(text),
         Err(dob_node::Fault::Memory) => Err(Memory),
+        Err(fault) => fault_line(alloc, fault),
+    }
+}
+
+/// The answer, or the line of the fault of a build by threads.
+fn told_crew(alloc: Global, answer: Result<String, dob_run::Fault>) -> Result<String, Memory> {
+    match answer {
+        Ok(text) => Ok(text),
+        Err(dob_run::Fault::Memory) => Err(Memory),
         Err(fault) => fault_line(alloc, fault),
     }
 }

@@ -1,13 +1,14 @@
 // Answers questions about positions and piece sets, one a line, so that this implementation can be compared with
 // another: `moves TEXT`, `after I TEXT`, `catch TEXT`, `value TEXT`, `rank TEXT`, `class TEXT`, `unrank CEG N`,
 // `classat CEG K`, `size CEG`, `back CEG K`, `edges CEG P Q`, `apply CEG CLASS CHANGE ..`, as about_cell.rt says,
-// `alone CEG LIMIT`, as about_build.rt says, about worlds of nodes, as about_world.rt says, and about tokens of the ring,
-// as about_token.rt says. A text that is no position and a set that is none get their faults, and any other line
-// `unknown question`.
+// `alone CEG LIMIT`, as about_build.rt says, `built CEG N`, as about_crew.rt says, about worlds of nodes, as
+// about_world.rt says, and about tokens of the ring, as about_token.rt says. A text that is no position and a set that is
+// none get their faults, and any other line `unknown question`.
 #![tactic(auto)]
 
 mod about_build;
 mod about_cell;
+mod about_crew;
 mod about_position;
 mod about_set;
 mod about_token;
@@ -27,7 +28,7 @@ fn main(rt: HostRuntime) -> Result<()> {
     let input = BufReader::new(rt.alloc(), rt.reader())?;
     let mut opened = Opened::new();
     for line in input.lines(rt.alloc()) {
-        let reply = answer::reply(rt.alloc(), &mut opened, line?.as_str())?;
+        let reply = answer::reply(&rt, rt.alloc(), &mut opened, line?.as_str())?;
         writeln!(output, "{reply}")?;
     }
     output.flush()?;

@@ -13,6 +13,8 @@ pub(crate) enum Question<'a> {
     Cell(u64, &'a str, &'a str),
     /// Which values one node alone finds for the piece set of that text in so many steps.
     Build(&'a str, u64),
+    /// Which values so many nodes, each in a thread of its own, find for the piece set of that text.
+    Crew(&'a str, usize),
     /// What comes of something in a world of the piece set of that text with those sizes.
     World(&'a str, Sizes, OfWorld<'a>),
     /// Something about tokens of the ring.
@@ -93,6 +95,11 @@ impl<'a> Question<'a> {
             "alone" => {
                 let (set, limit) = set_and_number(rest)?;
                 Some(Question::Build(set, limit))
+            }
+            "built" => {
+                let (set, nodes) = rest.split_once(' ')?;
+                let nodes = nodes.parse::<usize>().ok()?;
+                Some(Question::Crew(set, nodes))
             }
             "drive" | "events" => {
                 let (set, rest) = rest.split_once(' ')?;

@@ -64,8 +64,8 @@ fn build<R: Print + Clock + AllocGlobal + Files>(
     Ok(table)
 }
 
-// The line of the system's account of the program that says how much memory it has held at most.
-fn tell_memory<R: Print + AllocGlobal + Files>(rt: &R) -> Result<()> {
+/// Prints the line of the system's account of the program that says how much memory it has held at most.
+pub(crate) fn tell_memory<R: Print + AllocGlobal + Files>(rt: &R) -> Result<()> {
     let account = fs::read_to_string(rt, "/proc/self/status")?;
     for line in account.lines() {
         if line.starts_with("VmHWM") {
@@ -113,7 +113,7 @@ fn items_of(alloc: Global, classes: &Classes, table: &Table) -> Result<Vec<Item>
     let mut targets = Vec::new(alloc);
     for plies in 0..=longest {
         for class in 0..classes.class_count() {
-            let now = value_of(table, class);
+            let now = counts::value_of(table, class);
             if now == Value::Win(plies) || now == Value::Loss(plies) {
                 targets = back_into(targets, classes, class)?;
                 push_items(&mut items, &targets, now)?;
@@ -121,15 +121,6 @@ fn items_of(alloc: Global, classes: &Classes, table: &Table) -> Result<Vec<Item>
         }
     }
     Ok(items)
-}
-
-/// The value of the class; a draw where the table has no such class.
-fn value_of(table: &Table, class: u64) -> Value {
-    if class < table.class_count() {
-        table.value(class)
-    } else {
-        Value::Draw
-    }
 }
 
 /// Appends the news, to each of those classes, that what one of their moves leads to isn't drawn but has that value.

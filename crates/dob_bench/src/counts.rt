@@ -79,6 +79,15 @@ pub(crate) fn count_outcomes(table: &Table) -> Outcomes {
     outcomes
 }
 
+/// The value of the class; a draw where the table has no such class.
+pub(crate) fn value_of(table: &Table, class: u64) -> Value {
+    if class < table.class_count() {
+        table.value(class)
+    } else {
+        Value::Draw
+    }
+}
+
 /// How many edges there are, one for each move that leads from one class into another.
 #[derive(Clone, Copy)]
 pub(crate) struct Edges {

@@ -1,14 +1,16 @@
 // Measures what the builder rests on, and prints what it did and seconds. The words are a piece set, as `111`, and the name
 // of a file for its table, or neither; with no word it goes over lions alone and prints no times, so that what it prints is
 // the same on each machine. With `--plain` in place of a file's name it measures the plain programs of the rules and of the
-// predecessors, each beside the body that goes by masks.
+// predecessors, each beside the body that goes by masks. `build`, a piece set and a number of nodes measure a build by threads.
 #![tactic(auto)]
 
 mod builds;
 mod counts;
+mod crews;
 mod measure;
 mod plain;
 mod timer;
+mod watch;
 
 use anyhow::{Result, bail};
 use dob_pieces::PieceSet;
@@ -20,7 +22,7 @@ const LIONS_ALONE: PieceSet = PieceSet {
     giraffes: 0,
 };
 
-const USAGE: &str = "usage: dob_bench [CEG [FILE | --plain]]";
+const USAGE: &str = "usage: dob_bench [CEG [FILE | --plain] | build CEG NODES]";
 
 fn main(rt: HostRuntime) -> Result<()> {
     let words: Vec<String> = std::env::args(&rt)?.skip(1).collect(rt.alloc())?;
@@ -38,7 +40,13 @@ fn main(rt: HostRuntime) -> Result<()> {
             let bytes = measure::run(&rt, small_set(text.as_str())?, true)?;
             std::fs::write(&rt, name.as_str(), &bytes)?;
         }
-        _ => bail!("more than two words\n{USAGE}"),
+        [word, text, nodes] if word.as_str() == "build" => {
+            let Ok(nodes) = nodes.parse::<usize>() else {
+                bail!("no number of nodes\n{USAGE}");
+            };
+            crews::run(&rt, small_set(text.as_str())?, nodes)?;
+        }
+        _ => bail!("other words\n{USAGE}"),
     }
     Ok(())
 }

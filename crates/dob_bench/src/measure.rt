@@ -33,8 +33,12 @@ pub(crate) fn run<R: Print + Clock + AllocGlobal + Files + Threads + Sync>(
     Ok(bytes)
 }
 
-// Opens the classes of the set.
-fn open<R: Print + Clock + AllocGlobal>(rt: &R, set: PieceSet, timed: bool) -> Result<Classes> {
+/// Opens the classes of the set.
+pub(crate) fn open<R: Print + Clock + AllocGlobal>(
+    rt: &R,
+    set: PieceSet,
+    timed: bool,
+) -> Result<Classes> {
     let timer = Timer::start(rt, timed)?;
     let classes = Classes::open(rt.alloc(), set)?;
     let (positions, count) = (size(set), classes.class_count());
@@ -71,8 +75,8 @@ fn list_moves<R: Print + Clock + AllocGlobal>(
     timer.tell(rt, &[(classes.class_count(), "class"), (in_all, "move")])
 }
 
-// The predecessors of each class.
-fn list_predecessors<R: Print + Clock + AllocGlobal>(
+/// The predecessors of each class.
+pub(crate) fn list_predecessors<R: Print + Clock + AllocGlobal>(
     rt: &R,
     classes: &Classes,
     timed: bool,
@@ -118,8 +122,12 @@ fn check_table<R: Print + Clock + AllocGlobal + Threads + Sync>(
     timer.tell(rt, &[(table.class_count(), "class")])
 }
 
-// The table's file, in memory.
-fn write<R: Print + Clock + AllocGlobal>(rt: &R, table: &Table, timed: bool) -> Result<Vec<u8>> {
+/// The table's file, in memory.
+pub(crate) fn write<R: Print + Clock + AllocGlobal>(
+    rt: &R,
+    table: &Table,
+    timed: bool,
+) -> Result<Vec<u8>> {
     let timer = Timer::start(rt, timed)?;
     let mut sink = MemSink::new(rt.alloc());
     write_table(rt.alloc(), table, &mut sink)?;

@@ -22,12 +22,16 @@ impl Timer {
         let Some(start) = self.start else {
             return Ok(());
         };
-        let seconds = start.elapsed(rt)?.as_secs_f64();
-        println!(rt; "    {seconds:.3} seconds")?;
-        for (count, name) in shares {
-            let each = seconds * 1_000_000.0 / nearest_u64_to_f64(*count);
-            println!(rt; "    {each:.3} microseconds for each {name}")?;
-        }
-        Ok(())
+        tell_seconds(rt, start.elapsed(rt)?.as_secs_f64(), shares)
     }
+}
+
+/// Prints those seconds, and the microseconds for each thing of the kinds given by number and name.
+pub(crate) fn tell_seconds<R: Print>(rt: &R, seconds: f64, shares: &[(u64, &str)]) -> Result<()> {
+    println!(rt; "    {seconds:.3} seconds")?;
+    for (count, name) in shares {
+        let each = seconds * 1_000_000.0 / nearest_u64_to_f64(*count);
+        println!(rt; "    {each:.3} microseconds for each {name}")?;
+    }
+    Ok(())
 }
