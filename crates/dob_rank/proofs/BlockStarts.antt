@@ -5,7 +5,7 @@ use Rattle.std.proofs.lemmas.Bool.{le-ltb, cases_eq, ne_eqb}
 use Rattle.dob_pieces.specs.declared.piece_set.PieceSet.{PieceSet}
 use Rattle.dob_pieces.proofs.Boards.{all_below, all_below-at}
 use Rattle.dob_rank.specs.declared.starts.TheConstants.{STARTS}
-use Rattle.dob_rank.specs.Numbers.{product, digits_of, sum_below, choose, block_bases, block_size}
+use Rattle.dob_rank.specs.Numbers.{product, digits_of, sum_below, choose, block_bases, block_size, own_squares, enemy_squares, free_squares}
 use Rattle.dob_rank.proofs.Numbering.{block_size-product}
 
 -- the bases and the size of a block by the numbers of the set
@@ -18,7 +18,7 @@ bases_in c e g ob =
     let j = slice_index ob 1 in
     let k = slice_index ob 2 in
     (c - i + 1) ∷ (e - j + 1) ∷ (g - k + 1)
-    ∷ 9 ∷ 11 ∷ choose 10 i ∷ choose (10 - i) j ∷ choose (10 - i - j) k
+    ∷ own_squares ∷ enemy_squares ∷ choose free_squares i ∷ choose (free_squares - i) j ∷ choose (free_squares - i - j) k
     ∷ (4 ^ i) ∷ (2 ^ j) ∷ (2 ^ k) ∷ []
 
 abbrev size_by : ℕ → ℕ → ℕ → ℕ → ℕ

@@ -6,6 +6,7 @@ use Rattle.std.proofs.lemmas.Nat.{mul-le}
 use Rattle.dob_pieces.specs.declared.piece_set.PieceSet.{PieceSet}
 use Rattle.dob_rank.specs.Numbers.{product, digits_of, HasDigits, sum_below, choose, with_first, bases, bases_by, block_bases, block_size, size_of}
 use Rattle.dob_rank.specs.Placing.{AreChoices}
+use Rattle.dob_rank.specs.Numbers.{own_squares, enemy_squares, free_squares}
 use Rattle.dob_rank.proofs.MixedRadix.{HasDigits-digits_of}
 use Rattle.dob_rank.proofs.Choices.{choose-split}
 use Rattle.dob_rank.proofs.FormDigits.{power_positive}
@@ -35,14 +36,21 @@ choose-grows m (suc n) k h = elim (cases_lt m (suc n)) [
   | inr le ↦ subst (λ (x : ℕ). choose x k ≤ choose (suc n) k) (let e : suc n ≡ m = omega arith in e) (omega arith)
 ]
 
-choose_ten : (k : ℕ) → k ≤ 2 → choose 10 k ≤ 45
-choose_ten zero h = (let x : 1 ≤ 45 = omega arith in x)
-choose_ten (suc zero) h = (let x : 10 ≤ 45 = omega arith in x)
-choose_ten (suc (suc zero)) h = (let x : 45 ≤ 45 = omega arith in x)
+-- in how many ways two of the squares that the lions leave are chosen
+abbrev pub most_choices : ℕ
+most_choices = 45
+
+choose_ten : (k : ℕ) → k ≤ 2 → choose free_squares k ≤ most_choices
+choose_ten zero h = (let x : 1 ≤ most_choices = omega arith in x)
+choose_ten (suc zero) h = (let x : free_squares ≤ most_choices = omega arith in x)
+choose_ten (suc (suc zero)) h = (let x : most_choices ≤ most_choices = omega arith in x)
 choose_ten (suc (suc (suc k))) h = absurd (omega arith)
 
-pub choose-small : (m k : ℕ) → m ≤ 10 → k ≤ 2 → choose m k ≤ 45
-choose-small m k h l = (let a : choose m k ≤ choose 10 k = choose-grows m 10 k h in let b : choose 10 k ≤ 45 = choose_ten k l in omega arith)
+pub choose-small : (m k : ℕ) → m ≤ free_squares → k ≤ 2 → choose m k ≤ most_choices
+choose-small m k h l =
+    let a : choose m k ≤ choose free_squares k = choose-grows m free_squares k h in
+    let b : choose free_squares k ≤ most_choices = choose_ten k l in
+    omega arith
 
 choose_two_of_two : (k : ℕ) → k ≤ 2 → 0 < choose 2 k
 choose_two_of_two zero h = (let x : 0 < 1 = omega arith in x)
@@ -83,7 +91,7 @@ in_hand c i h = omega arith
 some_in_hand : (c i : ℕ) → 0 < c - i + 1
 some_in_hand c i = omega arith
 
-less_than_ten : (i j : ℕ) → (10 - i ≤ 10) × (10 - i - j ≤ 10)
+less_than_ten : (i j : ℕ) → (free_squares - i ≤ free_squares) × (free_squares - i - j ≤ free_squares)
 less_than_ten i j = ((omega arith), (omega arith))
 
 same : (n : ℕ) → n ≤ n
@@ -101,10 +109,14 @@ at_most a b h = omega arith
 one_more : (c : ℕ) → c ≤ 2 → c + 1 ≤ 3
 one_more c h = omega arith
 
-room_left : (i j : ℕ) → i ≤ 2 → j ≤ 2 → (2 ≤ 10 - i) × (2 ≤ 10 - i - j)
+room_left : (i j : ℕ) → i ≤ 2 → j ≤ 2 → (2 ≤ free_squares - i) × (2 ≤ free_squares - i - j)
 room_left i j h l = ((omega arith), (omega arith))
 
-small : (n : ℕ) → n ≤ 62355744000 → n ≤ 2 ^ 36
+-- the greatest bases that a block has
+abbrev most_bases : List ℕ
+most_bases = 3 ∷ 3 ∷ 3 ∷ own_squares ∷ enemy_squares ∷ most_choices ∷ most_choices ∷ most_choices ∷ (4 ^ 2) ∷ (2 ^ 2) ∷ (2 ^ 2) ∷ []
+
+small : (n : ℕ) → n ≤ product most_bases → n ≤ 2 ^ 36
 small n h = omega arith
 
 abbrev AllPositive : List ℕ → Type 0
@@ -121,22 +133,22 @@ product-bases set i j k h =
     let i2 : i ≤ 2 = few_of_three set.chicks i set.few_chicks h.chicks in
     let j2 : j ≤ 2 = few_of_three set.elephants j set.few_elephants h.elephants in
     let k2 : k ≤ 2 = few_of_three set.giraffes k set.few_giraffes h.giraffes in
-    small (product (bases set i j k)) (product-at_most (bases set i j k) (3 ∷ 3 ∷ 3 ∷ 9 ∷ 11 ∷ 45 ∷ 45 ∷ 45 ∷ 16 ∷ 4 ∷ 4 ∷ []) (
+    small (product (bases set i j k)) (product-at_most (bases set i j k) most_bases (
       in_hand set.chicks i set.few_chicks,
       (
         in_hand set.elephants j set.few_elephants,
         (
           in_hand set.giraffes k set.few_giraffes,
           (
-            same 9,
+            same own_squares,
             (
-              same 11,
+              same enemy_squares,
               (
-                choose-small 10 i (same 10) i2,
+                choose-small free_squares i (same free_squares) i2,
                 (
-                  choose-small (10 - i) j (less_than_ten i j).0 j2,
+                  choose-small (free_squares - i) j (less_than_ten i j).0 j2,
                   (
-                    choose-small (10 - i - j) k (less_than_ten i j).1 k2,
+                    choose-small (free_squares - i - j) k (less_than_ten i j).1 k2,
                     (four_small i i2, (two_small j j2, (two_small k k2, tt))),
                   ),
                 ),
@@ -163,11 +175,11 @@ bases-positive set i j k h =
             (
               below 10,
               (
-                choose-positive 10 i (le_by 2 8) i2,
+                choose-positive free_squares i (le_by 2 8) i2,
                 (
-                  choose-positive (10 - i) j (room_left i j i2 j2).0 j2,
+                  choose-positive (free_squares - i) j (room_left i j i2 j2).0 j2,
                   (
-                    choose-positive (10 - i - j) k (room_left i j i2 j2).1 k2,
+                    choose-positive (free_squares - i - j) k (room_left i j i2 j2).1 k2,
                     (power_positive 4 i (below 3), (power_positive 2 j (below 1), (power_positive 2 k (below 1), tt))),
                   ),
                 ),
@@ -216,23 +228,23 @@ size_of-sum set = refl
 -- bases that can be multiplied: none is 0, and the product is small
 pub record AreBases (bs : List ℕ) : Type 0 where
   pub positive : All (λ (b : ℕ). 0 < b) bs
-  pub small_product : product bs ≤ 68719476736
-  pub fits : product bs < 18446744073709551616
+  pub small_product : product bs ≤ 2 ^ 36
+  pub fits : product bs < 2 ^ 64
 
-fits_word : (n : ℕ) → n ≤ 68719476736 → n < 18446744073709551616
+fits_word : (n : ℕ) → n ≤ 2 ^ 36 → n < 2 ^ 64
 fits_word n h = omega arith
 
 pub AreBases-by : (set : PieceSet) (ob bs : List ℕ) → HasDigits (block_bases set) ob → bs ≡ bases_by set ob → AreBases bs
 AreBases-by set ob bs h e =
     let few : AreFew set (slice_index ob 0) (slice_index ob 1) (slice_index ob 2) = few_from_digits set ob h in
-    let low : product (bases_by set ob) ≤ 68719476736 = product-bases set (slice_index ob 0) (slice_index ob 1) (slice_index ob 2) few in
+    let low : product (bases_by set ob) ≤ 2 ^ 36 = product-bases set (slice_index ob 0) (slice_index ob 1) (slice_index ob 2) few in
     subst AreBases (sym e) (record {
       positive = bases-positive set (slice_index ob 0) (slice_index ob 1) (slice_index ob 2) few;
       small_product = low;
       fits = fits_word (product (bases_by set ob)) low;
     })
 
-fits_small : (n : ℕ) → n ≤ 27 → (n ≤ 68719476736) × (n < 18446744073709551616)
+fits_small : (n : ℕ) → n ≤ 27 → (n ≤ 2 ^ 36) × (n < 2 ^ 64)
 fits_small n h = ((omega arith), (omega arith))
 
 pub HasDigits-numbers : (set : PieceSet) (block : ℕ) (xs : List ℕ) → block < product (block_bases set)
@@ -245,9 +257,9 @@ size_of_bases set block xs bs n e f g = g ∙ ap product f ∙ ap (λ (ys : List
 
 -- one more block before
 pub start_step : (set : PieceSet) (start size earlier block : ℕ) → block ≤ product (block_bases set)
-    → earlier < block → size ≡ block_size set earlier → size ≤ 68719476736
-    → start ≡ sum_below (block_size set) earlier → start ≤ earlier * 68719476736
-    → (start + size ≡ sum_below (block_size set) (earlier + 1)) × (start + size ≤ (earlier + 1) * 68719476736) × (start + size < 18446744073709551616)
+    → earlier < block → size ≡ block_size set earlier → size ≤ 2 ^ 36
+    → start ≡ sum_below (block_size set) earlier → start ≤ earlier * 2 ^ 36
+    → (start + size ≡ sum_below (block_size set) (earlier + 1)) × (start + size ≤ (earlier + 1) * 2 ^ 36) × (start + size < 2 ^ 64)
 start_step set start size earlier block h lt e s i b =
     let few : product (block_bases set) ≤ 27 = blocks_small set in (
       sum_up (block_size set) start size earlier i e,
@@ -258,14 +270,14 @@ start_step set start size earlier block h lt e s i b =
     sum_up : (f : ℕ → ℕ) (start size earlier : ℕ) → start ≡ sum_below f earlier → size ≡ f earlier → start + size ≡ sum_below f (earlier + 1)
     sum_up f start size earlier h k = ap (λ (x : ℕ). x + size) h ∙ ap (λ (x : ℕ). sum_below f earlier + x) k ∙ sym (sum_below_more f earlier)
 
-    more_of : (start size earlier : ℕ) → start ≤ earlier * 68719476736 → size ≤ 68719476736 → start + size ≤ (earlier + 1) * 68719476736
+    more_of : (start size earlier : ℕ) → start ≤ earlier * 2 ^ 36 → size ≤ 2 ^ 36 → start + size ≤ (earlier + 1) * 2 ^ 36
     more_of start size earlier h k = omega arith
 
     before : (a b c : ℕ) → a < b → b ≤ c → a < c
     before a b c h k = omega arith
 
-    less_word : (start size earlier blocks : ℕ) → earlier < blocks → blocks ≤ 27 → start ≤ earlier * 68719476736
-        → size ≤ 68719476736 → start + size < 18446744073709551616
+    less_word : (start size earlier blocks : ℕ) → earlier < blocks → blocks ≤ 27 → start ≤ earlier * 2 ^ 36
+        → size ≤ 2 ^ 36 → start + size < 2 ^ 64
     less_word start size earlier blocks h k l m = omega arith
 
 -- past the last block nothing is left

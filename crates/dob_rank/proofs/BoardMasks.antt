@@ -5,9 +5,9 @@ use Rattle.dob_pieces.specs.declared.kind.HandKind.TheVariants as hand
 use Rattle.dob_pieces.specs.declared.setup.Setup.{Setup}
 use Rattle.dob_pieces.specs.Setups.{Cell, total, IsLegal}
 use Rattle.dob_rank.specs.declared.masks.Masks.{Masks}
-use Rattle.dob_rank.specs.declared.layers.Layer.TheVariants.{OwnLion, EnemyLion, Chicks, Elephants, Giraffes}
+use Rattle.dob_rank.specs.declared.layers.Layer.TheVariants.{OwnLion, EnemyLion, Chicks, Elephants, Giraffes, Empty}
 use Rattle.dob_rank.specs.Numbers.{order, layer, count, on_board}
-use Rattle.dob_rank.specs.Masks.{layer_mask, from_mask}
+use Rattle.dob_rank.specs.Masks.{layer_mask, from_mask, all_squares}
 use Rattle.dob_rank.specs.BoardMasks.{AreMasks}
 use Rattle.dob_rank.proofs.Digits.{HasParts, HasParts-from_position}
 use Rattle.dob_rank.proofs.Planes.{later_are}
@@ -16,31 +16,35 @@ use Rattle.dob_rank.proofs.Sets.{set_of, IsPositionOf-set_of, few_in_layer}
 -- what is left of all squares, layer by layer
 pub record AreLeft (board : List Cell) (masks : Masks) : Type 0 where
   pub long : length (map layer board) ≤ 12
-  pub own_low : masks.own_lion ≤ 4095
-  pub enemy_low : masks.enemy_lion ≤ 4095 - masks.own_lion
-  pub chicks_low : masks.chicks ≤ 4095 - masks.own_lion - masks.enemy_lion
-  pub elephants_low : masks.elephants ≤ 4095 - masks.own_lion - masks.enemy_lion - masks.chicks
-  pub giraffes_low : masks.giraffes ≤ 4095 - masks.own_lion - masks.enemy_lion - masks.chicks - masks.elephants
-  pub after_own : 4095 - masks.own_lion ≡ from_mask 1 (map layer board)
-  pub after_lions : 4095 - masks.own_lion - masks.enemy_lion ≡ from_mask 2 (map layer board)
-  pub after_chicks : 4095 - masks.own_lion - masks.enemy_lion - masks.chicks ≡ from_mask 3 (map layer board)
-  pub after_elephants : 4095 - masks.own_lion - masks.enemy_lion - masks.chicks - masks.elephants ≡ from_mask 4 (map layer board)
-  pub empty : 4095 - masks.own_lion - masks.enemy_lion - masks.chicks - masks.elephants - masks.giraffes ≡ from_mask 5 (map layer board)
+  pub own_low : masks.own_lion ≤ all_squares
+  pub enemy_low : masks.enemy_lion ≤ all_squares - masks.own_lion
+  pub chicks_low : masks.chicks ≤ all_squares - masks.own_lion - masks.enemy_lion
+  pub elephants_low : masks.elephants ≤ all_squares - masks.own_lion - masks.enemy_lion - masks.chicks
+  pub giraffes_low : masks.giraffes ≤ all_squares - masks.own_lion - masks.enemy_lion - masks.chicks - masks.elephants
+  pub after_own : all_squares - masks.own_lion ≡ from_mask (order EnemyLion) (map layer board)
+  pub after_lions : all_squares - masks.own_lion - masks.enemy_lion ≡ from_mask (order Chicks) (map layer board)
+  pub after_chicks : all_squares - masks.own_lion - masks.enemy_lion - masks.chicks ≡ from_mask (order Elephants) (map layer board)
+  pub after_elephants : all_squares - masks.own_lion - masks.enemy_lion - masks.chicks - masks.elephants ≡ from_mask (order Giraffes) (map layer board)
+  pub empty : all_squares - masks.own_lion - masks.enemy_lion - masks.chicks - masks.elephants - masks.giraffes ≡ from_mask (order Empty) (map layer board)
 
 pub left_are : (board : List Cell) (masks : Masks) → length board ≡ 12 → AreMasks board masks → AreLeft board masks
 left_are board masks h are =
     let long : length (map layer board) ≡ 12 = length-map board layer ∙ h in
     let later = later_are (map layer board) long in
-    let a : from_mask 1 (map layer board) + layer_mask 0 (map layer board) ≡ 4095 = later.own_lion in
-    let b : from_mask 2 (map layer board) + layer_mask 1 (map layer board) ≡ from_mask 1 (map layer board) = later.enemy_lion in
-    let c : from_mask 3 (map layer board) + layer_mask 2 (map layer board) ≡ from_mask 2 (map layer board) = later.chicks in
-    let d : from_mask 4 (map layer board) + layer_mask 3 (map layer board) ≡ from_mask 3 (map layer board) = later.elephants in
-    let e : from_mask 5 (map layer board) + layer_mask 4 (map layer board) ≡ from_mask 4 (map layer board) = later.giraffes in
-    let m : masks.own_lion ≡ layer_mask 0 (map layer board) = are.own_lion in
-    let n : masks.enemy_lion ≡ layer_mask 1 (map layer board) = are.enemy_lion in
-    let o : masks.chicks ≡ layer_mask 2 (map layer board) = are.chicks in
-    let p : masks.elephants ≡ layer_mask 3 (map layer board) = are.elephants in
-    let q : masks.giraffes ≡ layer_mask 4 (map layer board) = are.giraffes in
+    let a : from_mask (order EnemyLion) (map layer board) + layer_mask (order OwnLion) (map layer board) ≡ all_squares = later.own_lion in
+    let b : from_mask (order Chicks) (map layer board) + layer_mask (order EnemyLion) (map layer board)
+    ≡ from_mask (order EnemyLion) (map layer board) = later.enemy_lion in
+    let c : from_mask (order Elephants) (map layer board) + layer_mask (order Chicks) (map layer board)
+    ≡ from_mask (order Chicks) (map layer board) = later.chicks in
+    let d : from_mask (order Giraffes) (map layer board) + layer_mask (order Elephants) (map layer board)
+    ≡ from_mask (order Elephants) (map layer board) = later.elephants in
+    let e : from_mask (order Empty) (map layer board) + layer_mask (order Giraffes) (map layer board)
+    ≡ from_mask (order Giraffes) (map layer board) = later.giraffes in
+    let m : masks.own_lion ≡ layer_mask (order OwnLion) (map layer board) = are.own_lion in
+    let n : masks.enemy_lion ≡ layer_mask (order EnemyLion) (map layer board) = are.enemy_lion in
+    let o : masks.chicks ≡ layer_mask (order Chicks) (map layer board) = are.chicks in
+    let p : masks.elephants ≡ layer_mask (order Elephants) (map layer board) = are.elephants in
+    let q : masks.giraffes ≡ layer_mask (order Giraffes) (map layer board) = are.giraffes in
     record {
       long = omega arith;
       own_low = omega arith;
@@ -78,9 +82,9 @@ numbers_are s numbers legal e =
       chicks_are = refl;
       elephants_are = refl;
       giraffes_are = refl;
-      few_chicks = few_in_layer s 2 legal (omega arith);
-      few_elephants = few_in_layer s 3 legal (omega arith);
-      few_giraffes = few_in_layer s 4 legal (omega arith);
+      few_chicks = few_in_layer s (order Chicks) legal (omega arith);
+      few_elephants = few_in_layer s (order Elephants) legal (omega arith);
+      few_giraffes = few_in_layer s (order Giraffes) legal (omega arith);
       all_chicks = parts.chicks;
       all_elephants = parts.elephants;
       all_giraffes = parts.giraffes;

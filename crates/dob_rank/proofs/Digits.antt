@@ -15,7 +15,7 @@ use Rattle.dob_pieces.specs.Setups.{Cell, at, held, holds_lion, holds_kind, tota
 use Rattle.dob_rank.specs.declared.layers.Layer.TheVariants.{OwnLion, EnemyLion, Chicks, Elephants, Giraffes}
 use Rattle.dob_rank.specs.Order.{IsPositionOf, pieces_of}
 use Rattle.dob_rank.specs.Numbers.{order, layer, count, count_from, choose, choice, settle, HasDigits, base_of, forms_number, board_of}
-use Rattle.dob_rank.specs.Numbers.{bases_by, block_bases, on_board, digits, numbers_by, layers_by, setup_by}
+use Rattle.dob_rank.specs.Numbers.{bases_by, block_bases, on_board, digits, numbers_by, layers_by, setup_by, own_squares, enemy_squares, free_squares}
 use Rattle.dob_rank.proofs.Choices.{choice-below}
 use Rattle.dob_rank.proofs.Settled.{hidden, hide, hidden_lower, hidden_later, settle-choice, AreLayers}
 use Rattle.dob_rank.proofs.FormDigits.{AreLayers-map, forms_number-below, board_of-back}
@@ -27,13 +27,13 @@ pub record HasParts (set : PieceSet) (s : Setup) : Type 0 where
   pub squares : length (map layer s.board) ≡ 12
   pub own_lion : count (order OwnLion) (map layer s.board) ≡ 1
   pub other_lion : count (order EnemyLion) (map layer s.board) ≡ 1
-  pub home : choice (order OwnLion) (map layer s.board) < 9
+  pub home : choice (order OwnLion) (map layer s.board) < own_squares
   pub chicks : count (order Chicks) (map layer s.board) + s.hands.mover.chicks + s.hands.enemy.chicks ≡ set.chicks
   pub elephants : count (order Elephants) (map layer s.board) + s.hands.mover.elephants + s.hands.enemy.elephants ≡ set.elephants
   pub giraffes : count (order Giraffes) (map layer s.board) + s.hands.mover.giraffes + s.hands.enemy.giraffes ≡ set.giraffes
 
-lion_home : (s : Setup) → IsLegal s → count 0 (map layer s.board) ≡ 1 → choice 0 (map layer s.board) < 9
-lion_home s legal one = elim (cases_lt (choice 0 (map layer s.board)) 9) [
+lion_home : (s : Setup) → IsLegal s → count 0 (map layer s.board) ≡ 1 → choice 0 (map layer s.board) < own_squares
+lion_home s legal one = elim (cases_lt (choice 0 (map layer s.board)) own_squares) [
   | inl lt ↦ lt
   | inr le ↦ absurd (legal.home (choice 0 (map layer s.board)) le
       (mover_lion (at s (choice 0 (map layer s.board))) (sym (layer-at s.board (choice 0 (map layer s.board))) ∙ lion_at (map layer s.board) one)))
@@ -60,10 +60,11 @@ HasParts-from_position set s p =
 
 -- how many squares each layer chooses from
 pub record HasRoom (s : Setup) : Type 0 where
-  pub one : count_from (order EnemyLion) (map layer s.board) ≡ 11
-  pub two : count_from (order Chicks) (map layer s.board) ≡ 10
-  pub three : count_from (order Elephants) (map layer s.board) ≡ 10 - count (order Chicks) (map layer s.board)
-  pub four : count_from (order Giraffes) (map layer s.board) ≡ 10 - count (order Chicks) (map layer s.board) - count (order Elephants) (map layer s.board)
+  pub one : count_from (order EnemyLion) (map layer s.board) ≡ enemy_squares
+  pub two : count_from (order Chicks) (map layer s.board) ≡ free_squares
+  pub three : count_from (order Elephants) (map layer s.board) ≡ free_squares - count (order Chicks) (map layer s.board)
+  pub four : count_from (order Giraffes) (map layer s.board) ≡ free_squares - count (order Chicks) (map layer s.board) - count (order Elephants)
+      (map layer s.board)
 
 HasRoom-from_parts : (set : PieceSet) (s : Setup) → HasParts set s → HasRoom s
 HasRoom-from_parts set s h =
@@ -90,8 +91,8 @@ HasDigits-digits set s h =
     let a : count 2 (map layer s.board) + s.hands.mover.chicks + s.hands.enemy.chicks ≡ set.chicks = h.chicks in
     let b : count 3 (map layer s.board) + s.hands.mover.elephants + s.hands.enemy.elephants ≡ set.elephants = h.elephants in
     let c : count 4 (map layer s.board) + s.hands.mover.giraffes + s.hands.enemy.giraffes ≡ set.giraffes = h.giraffes in
-    let n1 : choice 1 (map layer s.board) < choose 11 1
-    = subst (λ (x : ℕ). choice 1 (map layer s.board) < choose 11 x) h.other_lion
+    let n1 : choice 1 (map layer s.board) < choose enemy_squares 1
+    = subst (λ (x : ℕ). choice 1 (map layer s.board) < choose enemy_squares x) h.other_lion
     (subst (λ (x : ℕ). choice 1 (map layer s.board) < choose x (count 1 (map layer s.board))) r.one (choice-below 1 (map layer s.board))) in (
       (omega arith),
       (

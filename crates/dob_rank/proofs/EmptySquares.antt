@@ -1,4 +1,4 @@
--- Pieces placed one after another on the squares that are left make the board of the settled layers.
+-- The empty squares of a list of layers: where they stand, what is left of them, and the layers that pieces on them make.
 use Rattle.std.proofs.Common.{◌≡◌, ℕ, zero, suc, ◌+◌, ◌-◌, ◌<◌, ◌≤◌, cond, eqb, List, [], ◌∷◌, length, set, refl, sym, ap, ◌∙◌, subst, inl, inr, arith}
 use Rattle.std.proofs.lemmas.Bool.{cases_eq, cases_lt, lt-ltb, le-ltb, ne_eqb}
 use Rattle.dob_rank.specs.Numbers.{count, choose, with_first, settle}

@@ -1,5 +1,5 @@
 -- What the lists and numbers of the code amount to: the rank of a position, and the position of a rank.
-use Rattle.std.proofs.Common.{◌≡◌, ℕ, ◌+◌, ◌*◌, ◌<◌, ◌≤◌, List, refl, sym, ap, ◌∙◌, subst, inl, inr, arith}
+use Rattle.std.proofs.Common.{◌≡◌, ℕ, ◌+◌, ◌*◌, ◌<◌, ◌≤◌, List, refl, sym, ap, ◌∙◌, subst, inl, inr, arith, ◌^◌}
 use Rattle.dob_pieces.specs.declared.piece_set.PieceSet.{PieceSet}
 use Rattle.dob_pieces.specs.declared.setup.Setup.{Setup}
 use Rattle.dob_pieces.specs.Setups.{IsLegal, mirrored}
@@ -44,13 +44,13 @@ block_upto set s block p is = at_most block (block_of set s) (product (block_bas
     at_most : (a b c : ℕ) → a ≡ b → b < c → a ≤ c
     at_most a b c h k = omega arith
 
-pub rank_small : (set : PieceSet) (s : Setup) (start place : ℕ) → IsPositionOf set s → start ≤ 27 * 68719476736 → place ≡ place_of set s →
-    start + place < 18446744073709551616
+pub rank_small : (set : PieceSet) (s : Setup) (start place : ℕ) → IsPositionOf set s → start ≤ 27 * 2 ^ 36 → place ≡ place_of set s →
+    start + place < 2 ^ 64
 rank_small set s start place p h is =
     sum_small start place (place_of set s) (block_size set (block_of set s)) h is (place_of-below set s p)
     (block_size-small set (block_of set s) (block_of-below set s p))
   where
-    sum_small : (start place n p : ℕ) → start ≤ 27 * 68719476736 → place ≡ n → n < p → p ≤ 68719476736 → start + place < 18446744073709551616
+    sum_small : (start place n p : ℕ) → start ≤ 27 * 2 ^ 36 → place ≡ n → n < p → p ≤ 2 ^ 36 → start + place < 2 ^ 64
     sum_small start place n p h e k l = omega arith
 
 pub ranked : (set : PieceSet) (s : Setup) (block place start : ℕ) → block ≡ block_of set s → place ≡ place_of set s →

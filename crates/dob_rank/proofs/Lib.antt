@@ -19,6 +19,7 @@ pub mod Placed  -- a piece more on the board
 pub mod Numbering  -- ranks number the positions in their order
 pub mod Loops  -- what the code's loops keep
 pub mod Blocks  -- blocks are small
+pub mod BlockStarts  -- the table of the blocks' starts
 pub mod Sets  -- a position and its set
 pub mod Found  -- what the code's lists and numbers are
 pub mod Planes  -- masks of layers and what their bits count
@@ -34,7 +35,6 @@ pub mod RunPlaces  -- a place is a run and a place in it
 pub mod RunMarks  -- the marks of runs
 pub mod RunTables  -- the tables of runs and words grow
 pub mod BlockTables  -- the blocks of a set
-pub mod BlockStarts  -- the table of the blocks' starts
 pub mod DigitParts  -- the digits of a place, part by part
 pub mod Pairs  -- the tables of choices of two squares
 -- Long lists.

@@ -12,8 +12,8 @@ use Rattle.dob_pieces.proofs.Boards.{all_below, all_below-at}
 use Rattle.dob_rank.specs.declared.runs.RunKind.{RunKind}
 use Rattle.dob_rank.specs.declared.runs.RunKind.TheVariants.{First, Later, Mixed}
 use Rattle.dob_rank.specs.Order.{IsPositionOf}
-use Rattle.dob_rank.specs.Numbers.{layer, choice, settle}
-use Rattle.dob_rank.specs.Runs.{lions_of, run_kind}
+use Rattle.dob_rank.specs.Numbers.{layer, choice, settle, own_squares, enemy_squares}
+use Rattle.dob_rank.specs.Runs.{lions_of, run_kind, lion_pairs}
 use Rattle.dob_rank.proofs.Settled.{hide, AreLayers, hide-hide, settle-choice, choice_hide_next}
 use Rattle.dob_rank.proofs.FormDigits.{AreLayers-map}
 use Rattle.dob_rank.proofs.Digits.{HasParts, HasParts-from_position, HasDigits-digits, hide_zero}
@@ -40,10 +40,10 @@ hide-mirror t ls eq = absurd (omega arith)
 
 -- the layers of a board with two lions whose squares have that number
 abbrev pub lions_layers : ℕ → List ℕ
-lions_layers lions = settle 1 1 (lions % 11) (settle 0 1 (lions / 11) (replicate 12 5))
+lions_layers lions = settle 1 1 (lions % enemy_squares) (settle 0 1 (lions / enemy_squares) (replicate 12 5))
 
 abbrev pub lions_in : List ℕ → ℕ
-lions_in ls = choice 0 ls * 11 + choice 1 ls
+lions_in ls = choice 0 ls * enemy_squares + choice 1 ls
 
 -- the number of the mirrored lions
 abbrev pub image_lions : ℕ → ℕ
@@ -55,16 +55,16 @@ lions_in-hide ls =
     sym (choice_hide_next 0 (hide 2 ls) (omega arith))
     ∙ ap (choice 0) (hide-hide 1 2 ls (omega arith) (omega arith)) ∙ choice_hide_next 0 ls (omega arith) in
     let enemy : choice 1 (hide 2 ls) ≡ choice 1 ls = choice_hide_next 1 ls (omega arith) in
-    ap (λ n. n * 11 + choice 1 (hide 2 ls)) own ∙ ap (λ n. choice 0 ls * 11 + n) enemy
+    ap (λ n. n * enemy_squares + choice 1 (hide 2 ls)) own ∙ ap (λ n. choice 0 ls * enemy_squares + n) enemy
 
 -- a position's lions are on the squares of their number
 lions_layers-of : (set : PieceSet) (s : Setup) → IsPositionOf set s → lions_layers (lions_of s) ≡ hide 2 (map layer s.board)
 lions_layers-of set s p =
     let h : HasParts set s = HasParts-from_position set s p in
     let ls = map layer s.board in
-    let below : choice 1 ls < 11 = (HasDigits-digits set s h).1.1.1.1.0 in
-    let own : lions_of s / 11 ≡ choice 0 ls = omega arith in
-    let enemy : lions_of s % 11 ≡ choice 1 ls = omega arith in
+    let below : choice 1 ls < enemy_squares = (HasDigits-digits set s h).1.1.1.1.0 in
+    let own : lions_of s / enemy_squares ≡ choice 0 ls = omega arith in
+    let enemy : lions_of s % enemy_squares ≡ choice 1 ls = omega arith in
     let ok : AreLayers ls = AreLayers-map s.board in
     let start : replicate 12 5 ≡ hide 0 ls = sym (hide_zero ls ∙ ap (λ (n : ℕ). replicate n 5) h.squares) in
     let first : settle 0 1 (choice 0 ls) (replicate 12 5) ≡ hide 1 ls
@@ -73,7 +73,7 @@ lions_layers-of set s p =
     ∙ settle-choice 0 ls (omega arith) ok in
     let second : settle 1 1 (choice 1 ls) (hide 1 ls) ≡ hide 2 ls
     = ap (λ (n : ℕ). settle 1 n (choice 1 ls) (hide 1 ls)) (sym h.other_lion) ∙ settle-choice 1 ls (omega arith) ok in
-    ap (λ n. settle 1 1 (lions_of s % 11) (settle 0 1 n (replicate 12 5))) own
+    ap (λ n. settle 1 1 (lions_of s % enemy_squares) (settle 0 1 n (replicate 12 5))) own
     ∙ ap (λ n. settle 1 1 n (settle 0 1 (choice 0 ls) (replicate 12 5))) enemy
     ∙ ap (settle 1 1 (choice 1 ls)) first ∙ second
 
@@ -86,11 +86,11 @@ lions_of-mirrored set s p =
     ∙ ap lions_in (hide-mirror 2 ls twelve)
     ∙ ap (λ xs. lions_in (mirror_layers xs)) (sym (lions_layers-of set s p))
 
-pub lions_of-below : (set : PieceSet) (s : Setup) → IsPositionOf set s → lions_of s < 99
+pub lions_of-below : (set : PieceSet) (s : Setup) → IsPositionOf set s → lions_of s < lion_pairs
 lions_of-below set s p =
     let h : HasParts set s = HasParts-from_position set s p in
-    let below : choice 1 (map layer s.board) < 11 = (HasDigits-digits set s h).1.1.1.1.0 in
-    let home : choice 0 (map layer s.board) < 9 = h.home in
+    let below : choice 1 (map layer s.board) < enemy_squares = (HasDigits-digits set s h).1.1.1.1.0 in
+    let home : choice 0 (map layer s.board) < own_squares = h.home in
     omega arith
 
 -- ---- what their columns say
@@ -106,7 +106,7 @@ told lions = tells (run_kind lions) lions (image_lions lions)
 
 -- so it does with the mover's lion on one square and the enemy's on each other one
 abbrev row_told : ℕ → Bool
-row_told own = all_below (λ enemy. told (own * 11 + enemy)) 11
+row_told own = all_below (λ enemy. told (own * enemy_squares + enemy)) enemy_squares
 
 row_0 : row_told 0 ≡ true
 row_0 = refl
@@ -135,7 +135,7 @@ row_7 = refl
 row_8 : row_told 8 ≡ true
 row_8 = refl
 
-told_row : (own : ℕ) → own < 9 → row_told own ≡ true
+told_row : (own : ℕ) → own < own_squares → row_told own ≡ true
 told_row zero below = row_0
 told_row (suc zero) below = row_1
 told_row (suc (suc zero)) below = row_2
@@ -147,16 +147,16 @@ told_row (suc (suc (suc (suc (suc (suc (suc zero))))))) below = row_7
 told_row (suc (suc (suc (suc (suc (suc (suc (suc zero)))))))) below = row_8
 told_row (suc (suc (suc (suc (suc (suc (suc (suc (suc own))))))))) below = absurd (omega arith)
 
-tells_at : (lions : ℕ) (kind : RunKind) → lions < 99 → run_kind lions ≡ kind → tells kind lions (image_lions lions) ≡ true
+tells_at : (lions : ℕ) (kind : RunKind) → lions < lion_pairs → run_kind lions ≡ kind → tells kind lions (image_lions lions) ≡ true
 tells_at lions kind below is =
-    let row = told_row (lions / 11) (omega arith) in
-    let whole : lions / 11 * 11 + lions % 11 ≡ lions = omega arith in
-    let here : told (lions / 11 * 11 + lions % 11) ≡ true =
-    all_below-at (λ enemy. told (lions / 11 * 11 + enemy)) 11 (lions % 11) row (omega arith) in
+    let row = told_row (lions / enemy_squares) (omega arith) in
+    let whole : lions / enemy_squares * enemy_squares + lions % enemy_squares ≡ lions = omega arith in
+    let here : told (lions / enemy_squares * enemy_squares + lions % enemy_squares) ≡ true =
+    all_below-at (λ enemy. told (lions / enemy_squares * enemy_squares + enemy)) enemy_squares (lions % enemy_squares) row (omega arith) in
     subst (λ k. tells k lions (image_lions lions) ≡ true) is (subst (λ n. told n ≡ true) whole here)
 
-pub first_lions : (lions : ℕ) → lions < 99 → run_kind lions ≡ First → lions < image_lions lions
+pub first_lions : (lions : ℕ) → lions < lion_pairs → run_kind lions ≡ First → lions < image_lions lions
 first_lions lions below is = ltb-true lions (image_lions lions) (tells_at lions First below is)
 
-pub later_lions : (lions : ℕ) → lions < 99 → run_kind lions ≡ Later → image_lions lions < lions
+pub later_lions : (lions : ℕ) → lions < lion_pairs → run_kind lions ≡ Later → image_lions lions < lions
 later_lions lions below is = ltb-true (image_lions lions) lions (tells_at lions Later below is)

@@ -11,7 +11,7 @@ use Rattle.dob_pieces.specs.declared.setup.Setup.{Setup}
 use Rattle.dob_pieces.specs.Setups.{Cell, holds_lion, holds_kind, total, HasLions, HasLionOffFarRow}
 use Rattle.dob_rank.specs.Order.{IsPositionOf, pieces_of}
 use Rattle.dob_rank.specs.Numbers.{layer, count, count_from, choose, choice, settle, HasDigits, base_of, forms_number, board_of, bases}
-use Rattle.dob_rank.specs.Numbers.{block_bases, on_board, digits, numbers_by, setup_by}
+use Rattle.dob_rank.specs.Numbers.{block_bases, on_board, digits, numbers_by, setup_by, own_squares, enemy_squares, free_squares}
 use Rattle.dob_rank.proofs.Settled.{hide, hide-hide, AreLayers, AreShown, IsSettled, settle-settles, choice_hide_next, count_hide_next}
 use Rattle.dob_rank.proofs.FormDigits.{layers-board_of, forms_number-board_of}
 use Rattle.dob_rank.proofs.LayerCounts.{count_from-next, count_five, AreLayers-shown, length-settle, lion_only, holds_mover_lion}
@@ -63,17 +63,18 @@ from_stages i j k n0 n1 n2 n3 n4 r0 r1 r2 r3 r4 s0 s1 s2 s3 s4 len =
       giraffe_squares = s4.number_is;
     }
 
-chosen : (i j k n0 n1 n2 n3 n4 : ℕ) (r0 r1 : List ℕ) → IsSettled 0 1 n0 (replicate 12 5) r0 → IsSettled 1 1 n1 r0 r1 → length r1 ≡ 12 → count 5 r1 ≡ 10
-    → n2 < choose 10 i → n3 < choose (10 - i) j → n4 < choose (10 - i - j) k
+chosen : (i j k n0 n1 n2 n3 n4 : ℕ) (r0 r1 : List ℕ) → IsSettled 0 1 n0 (replicate 12 5) r0 → IsSettled 1 1 n1 r0 r1 → length r1 ≡ 12
+    → count 5 r1 ≡ free_squares
+    → n2 < choose free_squares i → n3 < choose (free_squares - i) j → n4 < choose (free_squares - i - j) k
     → AreChosen i j k n0 n1 n2 n3 n4 (settle 4 k n4 (settle 3 j n3 (settle 2 i n2 r1)))
 chosen i j k n0 n1 n2 n3 n4 r0 r1 s0 s1 len e1 b2 b3 b4 =
     let s2 : IsSettled 2 i n2 r1 (settle 2 i n2 r1)
     = settle-settles 2 i n2 r1 (omega arith) s1.shown (subst (λ (x : ℕ). n2 < choose x i) (sym e1) b2) in
-    let e2 : count 5 (settle 2 i n2 r1) ≡ 10 - i
+    let e2 : count 5 (settle 2 i n2 r1) ≡ free_squares - i
     = (let e : count 5 (settle 2 i n2 r1) + i ≡ count 5 r1 = empty_after 2 i n2 r1 (settle 2 i n2 r1) (omega arith) s2 in omega arith) in
     let s3 : IsSettled 3 j n3 (settle 2 i n2 r1) (settle 3 j n3 (settle 2 i n2 r1))
     = settle-settles 3 j n3 (settle 2 i n2 r1) (omega arith) s2.shown (subst (λ (x : ℕ). n3 < choose x j) (sym e2) b3) in
-    let e3 : count 5 (settle 3 j n3 (settle 2 i n2 r1)) ≡ 10 - i - j
+    let e3 : count 5 (settle 3 j n3 (settle 2 i n2 r1)) ≡ free_squares - i - j
     = (let e : count 5 (settle 3 j n3 (settle 2 i n2 r1)) + j ≡ count 5 (settle 2 i n2 r1)
     = empty_after 3 j n3 (settle 2 i n2 r1) (settle 3 j n3 (settle 2 i n2 r1)) (omega arith) s3 in omega arith) in
     let s4 : IsSettled 4 k n4 (settle 3 j n3 (settle 2 i n2 r1)) (settle 4 k n4 (settle 3 j n3 (settle 2 i n2 r1)))
@@ -82,20 +83,20 @@ chosen i j k n0 n1 n2 n3 n4 r0 r1 s0 s1 len e1 b2 b3 b4 =
     (settle 4 k n4 (settle 3 j n3 (settle 2 i n2 r1))) s0 s1 s2 s3 s4
     (length-settle 4 k n4 (settle 3 j n3 (settle 2 i n2 r1)) ∙ length-settle 3 j n3 (settle 2 i n2 r1) ∙ length-settle 2 i n2 r1 ∙ len)
 
-later : (i j k n0 n1 n2 n3 n4 : ℕ) (r0 : List ℕ) → IsSettled 0 1 n0 (replicate 12 5) r0 → length r0 ≡ 12 → count 5 r0 ≡ 11
-    → n1 < 11 → n2 < choose 10 i → n3 < choose (10 - i) j → n4 < choose (10 - i - j) k
+later : (i j k n0 n1 n2 n3 n4 : ℕ) (r0 : List ℕ) → IsSettled 0 1 n0 (replicate 12 5) r0 → length r0 ≡ 12 → count 5 r0 ≡ enemy_squares
+    → n1 < enemy_squares → n2 < choose free_squares i → n3 < choose (free_squares - i) j → n4 < choose (free_squares - i - j) k
     → AreChosen i j k n0 n1 n2 n3 n4 (settle 4 k n4 (settle 3 j n3 (settle 2 i n2 (settle 1 1 n1 r0))))
 later i j k n0 n1 n2 n3 n4 r0 s0 len e0 b1 b2 b3 b4 =
     let s1 : IsSettled 1 1 n1 r0 (settle 1 1 n1 r0)
     = settle-settles 1 1 n1 r0 (omega arith) s0.shown (subst (λ (x : ℕ). n1 < choose x 1) (sym e0) b1) in
-    let e1 : count 5 (settle 1 1 n1 r0) ≡ 10
+    let e1 : count 5 (settle 1 1 n1 r0) ≡ free_squares
     = (let e : count 5 (settle 1 1 n1 r0) + 1 ≡ count 5 r0 = empty_after 1 1 n1 r0 (settle 1 1 n1 r0) (omega arith) s1 in omega arith) in
     chosen i j k n0 n1 n2 n3 n4 r0 (settle 1 1 n1 r0) s0 s1 (length-settle 1 1 n1 r0 ∙ len) e1 b2 b3 b4
 
-eleven : (a : ℕ) → a + 1 ≡ 12 → a ≡ 11
+eleven : (a : ℕ) → a + 1 ≡ 12 → a ≡ enemy_squares
 eleven a h = omega arith
 
-below_twelve : (n : ℕ) → n < 9 → n < choose (count 5 (replicate 12 5)) 1
+below_twelve : (n : ℕ) → n < own_squares → n < choose (count 5 (replicate 12 5)) 1
 below_twelve n h = (let b : n < 12 = omega arith in b)
 
 all_empty : AreShown 0 (replicate 12 5)
@@ -104,7 +105,8 @@ all_empty = (let f : (5 < 0) ⊎ (5 ≡ 5) = inr refl in (f, (f, (f, (f, (f, (f,
 zero_below_five : 0 < 5
 zero_below_five = omega arith
 
-pub AreChosen-settled : (i j k n0 n1 n2 n3 n4 : ℕ) → n0 < 9 → n1 < 11 → n2 < choose 10 i → n3 < choose (10 - i) j → n4 < choose (10 - i - j) k
+pub AreChosen-settled : (i j k n0 n1 n2 n3 n4 : ℕ) → n0 < own_squares → n1 < enemy_squares → n2 < choose free_squares i → n3 < choose (free_squares - i) j
+    → n4 < choose (free_squares - i - j) k
     → AreChosen i j k n0 n1 n2 n3 n4 (settle 4 k n4 (settle 3 j n3 (settle 2 i n2 (settle 1 1 n1 (settle 0 1 n0 (replicate 12 5))))))
 AreChosen-settled i j k n0 n1 n2 n3 n4 b0 b1 b2 b3 b4 =
     let s0 : IsSettled 0 1 n0 (replicate 12 5) (settle 0 1 n0 (replicate 12 5))
@@ -118,7 +120,7 @@ AreChosen-settled i j k n0 n1 n2 n3 n4 b0 b1 b2 b3 b4 =
 pub record IsMade (set : PieceSet) (i j k n0 n1 n2 n3 n4 : ℕ) (ls : List ℕ) (s : Setup) : Type 0 where
   pub chosen_are : AreChosen i j k n0 n1 n2 n3 n4 ls
   pub layers_are : map layer s.board ≡ ls
-  pub home : n0 < 9
+  pub home : n0 < own_squares
   pub chicks_are : i + s.hands.mover.chicks + s.hands.enemy.chicks ≡ set.chicks
   pub elephants_are : j + s.hands.mover.elephants + s.hands.enemy.elephants ≡ set.elephants
   pub giraffes_are : k + s.hands.mover.giraffes + s.hands.enemy.giraffes ≡ set.giraffes
@@ -151,7 +153,7 @@ made_home set i j k n0 n1 n2 n3 n4 ls s m square le e =
     let here : get_or ls square 5 ≡ 0 = ap (λ (x : List ℕ). get_or x square 5) (sym m.layers_are) ∙ layer-at s.board square ∙ ap layer e in
     let only : square ≡ choice 0 ls = lion_only ls square m.chosen_are.own_lion here in
     let number : choice 0 ls ≡ n0 = m.chosen_are.own_square in
-    let low : n0 < 9 = m.home in
+    let low : n0 < own_squares = m.home in
     omega arith
 
 pub IsPositionOf-made : (set : PieceSet) (i j k n0 n1 n2 n3 n4 : ℕ) (ls : List ℕ) (s : Setup) → IsMade set i j k n0 n1 n2 n3 n4 ls s → IsPositionOf set s

@@ -4,7 +4,7 @@ use Rattle.std.proofs.Common.{None, refl, sym, ap, ◌∙◌, subst, inl, inr, a
 use Rattle.std.proofs.lemmas.Bool.{cases_eq, cases_lt, lt-ltb, le-ltb}
 use Rattle.std.proofs.Math.Nat.{pow-zero, pow-succ'}
 use Rattle.dob_pieces.specs.Setups.{Cell}
-use Rattle.dob_rank.specs.Numbers.{count, choose, settle, base_of, cell_of, board_of, numbers_by, layers_by}
+use Rattle.dob_rank.specs.Numbers.{count, choose, settle, base_of, cell_of, board_of, numbers_by, layers_by, own_squares, enemy_squares, free_squares}
 use Rattle.dob_rank.specs.Placing.{past, lower_of, higher_of, first_place, second_place, put, AreChoices}
 use Rattle.dob_rank.proofs.Choices.{count_same, count_other, choose-split}
 use Rattle.dob_rank.proofs.Settled.{AreShown, IsSettled, settle-settles}
@@ -103,17 +103,17 @@ open_two t a b (l ∷ ls) h z k low =
 
 -- the two places of a choice
 record IsChoice (m a b : ℕ) : Type 0 where
-  order : a < b
+  rising : a < b
   below : b < m
 
 choice_of : (m n : ℕ) → n < choose m 2 → IsChoice m (lower_of m n) (higher_of m n)
 choice_of zero n h = absurd (omega arith)
 choice_of (suc m) n h = elim (cases_lt n m) [
-  | inl lt ↦ (let more : suc n < suc m = omega arith in rw (lt-ltb n m lt) (record { order = omega arith; below = more }))
+  | inl lt ↦ (let more : suc n < suc m = omega arith in rw (lt-ltb n m lt) (record { rising = omega arith; below = more }))
   | inr le ↦ (let one = choose_one m in
       let rest = choice_of m (n - m) (omega (arith, choose-split m 2, one, h, le)) in
-      let less = rest.order in let low = rest.below in
-      rw (le-ltb n m le) (record { order = omega arith; below = omega arith }))
+      let less = rest.rising in let low = rest.below in
+      rw (le-ltb n m le) (record { rising = omega arith; below = omega arith }))
 ]
 
 -- ---- one layer after another
@@ -196,7 +196,7 @@ stage_two : (numbers : ℕ → ℕ) (t n m : ℕ) (ls : List ℕ) (cells : List 
 stage_two numbers t n m ls cells f h low s =
     let same : count 5 ls ≡ m = s.empty_is in
     let choice = choice_of m n low in
-    let order : lower_of m n < higher_of m n = choice.order in
+    let rising : lower_of m n < higher_of m n = choice.rising in
     let below : higher_of m n < m = choice.below in
     let here : higher_of m n < count 5 ls = omega arith in
     let rest = left numbers t 2 n m ls cells f h low s in
@@ -209,7 +209,7 @@ stage_two numbers t n m ls cells f h low s =
     let other : t ≡ 5 → ⊥ = λ (e : t ≡ 5). absurd (omega arith) in
     let first = open_one t (higher_of m n) ls five none here in
     let one : count t (set ls (empty_place ls (higher_of m n)) t) ≡ 1 = count-set_same t (empty_place ls (higher_of m n)) ls other first ∙ ap suc none in
-    let lower : past (higher_of m n) (lower_of m n) ≡ lower_of m n = past-low (higher_of m n) (lower_of m n) order in
+    let lower : past (higher_of m n) (lower_of m n) ≡ lower_of m n = past-low (higher_of m n) (lower_of m n) rising in
     record {
       board_is = ap (λ (cs : List Cell). set (set cs (f (higher_of m n)) (cell_of t (numbers t % base_of t)))
           (f (lower_of m n)) (cell_of t (numbers t / base_of t % base_of t))) s.board_is
@@ -227,7 +227,7 @@ stage_two numbers t n m ls cells f h low s =
           ∙ ap (set (board_of numbers (set ls (empty_place ls (higher_of m n)) t)) (empty_place ls (lower_of m n)))
           (sym (second_form numbers t (set ls (empty_place ls (higher_of m n)) t) one))
           ∙ sym (board_of-set numbers t (empty_place ls (lower_of m n)) (set ls (empty_place ls (higher_of m n)) t) other
-          (open_two t (lower_of m n) (higher_of m n) ls five none order here))
+          (open_two t (lower_of m n) (higher_of m n) ls five none rising here))
           ∙ ap (board_of numbers) (sym is);
       empty_is = rest.empty_is;
       long = rest.long;
@@ -284,7 +284,7 @@ pub first_below : (numbers : ℕ → ℕ) (t p n m : ℕ) (ls : List ℕ) (cells
 first_below numbers t zero n m ls cells f few low s some = absurd (omega arith)
 first_below numbers t (suc zero) n m ls cells f few low s some = place_below numbers t n m ls cells f (subst (λ (x : ℕ). n < x) (choose_one m) low) s
 first_below numbers t (suc (suc zero)) n m ls cells f few low s some =
-    let choice = choice_of m n low in let order = choice.order in let below = choice.below in
+    let choice = choice_of m n low in let rising = choice.rising in let below = choice.below in
     place_below numbers t (lower_of m n) m ls cells f (omega arith) s
 first_below numbers t (suc (suc (suc p))) n m ls cells f few low s some = absurd (omega arith)
 
@@ -329,11 +329,11 @@ abbrev pub after_chicks : List ℕ → List ℕ → ℕ → ℕ
 after_chicks ob ds n =
     let i = slice_index ob 0 in
     let choice = slice_index ds 5 in
-    after_lions ds (past (second_place 10 i choice) (past (first_place 10 i choice) n))
+    after_lions ds (past (second_place free_squares i choice) (past (first_place free_squares i choice) n))
 
 abbrev pub after_elephants : List ℕ → List ℕ → ℕ → ℕ
 after_elephants ob ds n =
-    let left = 10 - slice_index ob 0 in
+    let left = free_squares - slice_index ob 0 in
     let j = slice_index ob 1 in
     let choice = slice_index ds 6 in
     after_chicks ob ds (past (second_place left j choice) (past (first_place left j choice) n))
@@ -346,18 +346,18 @@ abbrev pub with_chicks : List ℕ → List ℕ → List Cell
 with_chicks ob ds =
     let i = slice_index ob 0 in
     let choice = slice_index ds 5 in
-    put 2 i (after_lions ds (first_place 10 i choice)) (after_lions ds (second_place 10 i choice)) (slice_index ds 8) (with_lions ds)
+    put 2 i (after_lions ds (first_place free_squares i choice)) (after_lions ds (second_place free_squares i choice)) (slice_index ds 8) (with_lions ds)
 
 abbrev pub with_elephants : List ℕ → List ℕ → List Cell
 with_elephants ob ds =
-    let left = 10 - slice_index ob 0 in
+    let left = free_squares - slice_index ob 0 in
     let j = slice_index ob 1 in
     let choice = slice_index ds 6 in
     put 3 j (after_chicks ob ds (first_place left j choice)) (after_chicks ob ds (second_place left j choice)) (slice_index ds 9) (with_chicks ob ds)
 
 abbrev pub with_giraffes : List ℕ → List ℕ → List Cell
 with_giraffes ob ds =
-    let left = 10 - slice_index ob 0 - slice_index ob 1 in
+    let left = free_squares - slice_index ob 0 - slice_index ob 1 in
     let k = slice_index ob 2 in
     let choice = slice_index ds 7 in
     put 4 k (after_elephants ob ds (first_place left k choice)) (after_elephants ob ds (second_place left k choice)) (slice_index ds 10) (with_elephants ob ds)
@@ -372,38 +372,38 @@ chicks_by ob ds = settle 2 (slice_index ob 0) (slice_index ds 5) (lions_by ds)
 abbrev pub elephants_by : List ℕ → List ℕ → List ℕ
 elephants_by ob ds = settle 3 (slice_index ob 1) (slice_index ds 6) (chicks_by ob ds)
 
-pub lions_stand : (ob ds : List ℕ) → AreChoices ob ds → Stand (numbers_by ds) 2 10 (lions_by ds) (with_lions ds) (after_lions ds)
+pub lions_stand : (ob ds : List ℕ) → AreChoices ob ds → Stand (numbers_by ds) 2 free_squares (lions_by ds) (with_lions ds) (after_lions ds)
 lions_stand ob ds c =
-    let own : slice_index ds 3 < 9 = c.own_lion in
+    let own : slice_index ds 3 < own_squares = c.own_lion in
     let zero_low : 0 < 5 = omega arith in
     let one_low : 1 < 5 = omega arith in
-    stage_one (numbers_by ds) 1 (slice_index ds 4) 11 (settle 0 1 (slice_index ds 3) (replicate 12 5))
+    stage_one (numbers_by ds) 1 (slice_index ds 4) enemy_squares (settle 0 1 (slice_index ds 3) (replicate 12 5))
     (set (replicate 12 None) (slice_index ds 3) (cell_of 0 0))
     (past (slice_index ds 3)) one_low c.other_lion
     (stage_one (numbers_by ds) 0 (slice_index ds 3) 12 (replicate 12 5) (replicate 12 None) (λ n. n) zero_low (omega arith) (start (numbers_by ds)))
 
 pub chicks_stand : (ob ds : List ℕ) → AreChoices ob ds →
-    Stand (numbers_by ds) 3 (10 - slice_index ob 0) (chicks_by ob ds) (with_chicks ob ds) (after_chicks ob ds)
+    Stand (numbers_by ds) 3 (free_squares - slice_index ob 0) (chicks_by ob ds) (with_chicks ob ds) (after_chicks ob ds)
 chicks_stand ob ds c =
     let low : 2 < 5 = omega arith in
-    let room : 10 ≤ 12 = omega arith in
-    stage (numbers_by ds) 2 (slice_index ob 0) (slice_index ds 5) 10 (lions_by ds) (with_lions ds)
+    let room : free_squares ≤ 12 = omega arith in
+    stage (numbers_by ds) 2 (slice_index ob 0) (slice_index ds 5) free_squares (lions_by ds) (with_lions ds)
     (after_lions ds) low c.chicks room c.chick_squares (lions_stand ob ds c)
 
 pub elephants_stand : (ob ds : List ℕ) → AreChoices ob ds →
-    Stand (numbers_by ds) 4 (10 - slice_index ob 0 - slice_index ob 1) (elephants_by ob ds) (with_elephants ob ds) (after_elephants ob ds)
+    Stand (numbers_by ds) 4 (free_squares - slice_index ob 0 - slice_index ob 1) (elephants_by ob ds) (with_elephants ob ds) (after_elephants ob ds)
 elephants_stand ob ds c =
     let low : 3 < 5 = omega arith in
-    let room : 10 - slice_index ob 0 ≤ 12 = omega arith in
-    stage (numbers_by ds) 3 (slice_index ob 1) (slice_index ds 6) (10 - slice_index ob 0) (chicks_by ob ds) (with_chicks ob ds) (after_chicks ob ds)
+    let room : free_squares - slice_index ob 0 ≤ 12 = omega arith in
+    stage (numbers_by ds) 3 (slice_index ob 1) (slice_index ds 6) (free_squares - slice_index ob 0) (chicks_by ob ds) (with_chicks ob ds) (after_chicks ob ds)
     low c.elephants room c.elephant_squares (chicks_stand ob ds c)
 
 pub whole_board : (ob ds : List ℕ) → AreChoices ob ds → with_giraffes ob ds ≡ board_of (numbers_by ds) (layers_by ob ds)
 whole_board ob ds c =
     let low : 4 < 5 = omega arith in
-    let room : 10 - slice_index ob 0 - slice_index ob 1 ≤ 12 = omega arith in
-    (stage (numbers_by ds) 4 (slice_index ob 2) (slice_index ds 7) (10 - slice_index ob 0 - slice_index ob 1) (elephants_by ob ds) (with_elephants ob ds)
-    (after_elephants ob ds) low c.giraffes room c.giraffe_squares (elephants_stand ob ds c)).board_is
+    let room : free_squares - slice_index ob 0 - slice_index ob 1 ≤ 12 = omega arith in
+    (stage (numbers_by ds) 4 (slice_index ob 2) (slice_index ds 7) (free_squares - slice_index ob 0 - slice_index ob 1) (elephants_by ob ds)
+    (with_elephants ob ds) (after_elephants ob ds) low c.giraffes room c.giraffe_squares (elephants_stand ob ds c)).board_is
 
 -- pieces put on the same squares of the same board
 pub put-same : (t p a b n : ℕ) (cells : List Cell) (a' b' : ℕ) (cells' : List Cell) → a ≡ a' → b ≡ b'

@@ -7,10 +7,11 @@ use lib.Bits.{and_self}
 use Rattle.std.proofs.Math.Nat.{pow-zero, pow-suc, pow-succ', pow-le-pow_right}
 use Rattle.std.proofs.lemmas.List.{length-map, length-drop}
 use lib.Count.{ones, count_trailing_zeros, under}
-use Rattle.dob_rank.specs.Numbers.{layer, count, count_from, with_first, choice, base_of, forms_number}
+use Rattle.dob_rank.specs.declared.layers.Layer.TheVariants.{OwnLion, EnemyLion, Chicks, Elephants, Giraffes, Empty}
+use Rattle.dob_rank.specs.Numbers.{order, layer, count, count_from, with_first, choice, base_of, forms_number}
 use Rattle.dob_rank.specs.Order.{form}
 use Rattle.dob_rank.proofs.FormDigits.{forms_number-below, forms_number_same, forms_number_other}
-use Rattle.dob_rank.specs.Masks.{layer_mask, from_mask, planes}
+use Rattle.dob_rank.specs.Masks.{layer_mask, from_mask, plane_len, all_squares, first_bit, planes}
 use Rattle.dob_rank.proofs.Choices.{count_same, count_other, count_from_lower, count_from_later, choice_later, choice_not_later}
 use Rattle.dob_pieces.specs.Setups.{Cell}
 use Rattle.dob_pieces.proofs.Boards.{all_below, all_below-at}
@@ -355,15 +356,16 @@ mask-small t (l ∷ ls) = (let rest = mask-small t ls in elim (cases_eq l t) [
   | inr n ↦ omega (arith, mask_other t l ls n, rest, pow-suc 2 (length ls))
 ])
 
-mask_below : (t : ℕ) (ls : List ℕ) → length ls ≤ 12 → layer_mask t ls < 4096
-mask_below t ls h = (let low = mask-small t ls in let most : 2 ^ length ls ≤ 2 ^ 12
+mask_below : (t : ℕ) (ls : List ℕ) → length ls ≤ 12 → layer_mask t ls < 2 ^ plane_len
+mask_below t ls h = (let low = mask-small t ls in let most : 2 ^ length ls ≤ 2 ^ plane_len
     = pow-le-pow_right (let two : 0 < 2 = omega arith in two) h in omega (arith, low, most))
 
-beyond : (t l : ℕ) → t < 5 → suc (suc (suc (suc (suc l)))) ≡ t → ⊥
+beyond : (t l : ℕ) → t < order Empty → suc (suc (suc (suc (suc l)))) ≡ t → ⊥
 beyond t l h e = absurd (omega arith)
 
-planes-parts : (ls : List ℕ) → planes ls ≡ layer_mask 0 ls + 4096 * layer_mask 1 ls + 16777216 * layer_mask 2 ls
-    + 68719476736 * layer_mask 3 ls + 281474976710656 * layer_mask 4 ls
+planes-parts : (ls : List ℕ) → planes ls ≡ layer_mask (order OwnLion) ls + first_bit EnemyLion * layer_mask (order EnemyLion) ls
+    + first_bit Chicks * layer_mask (order Chicks) ls + first_bit Elephants * layer_mask (order Elephants) ls
+    + first_bit Giraffes * layer_mask (order Giraffes) ls
 planes-parts [] = refl
 planes-parts (zero ∷ ls) = omega (arith, planes-parts ls)
 planes-parts (suc zero ∷ ls) = omega (arith, planes-parts ls)
@@ -374,34 +376,48 @@ planes-parts (suc (suc (suc (suc (suc l)))) ∷ ls) =
     omega (
       arith,
       planes-parts ls,
-      mask_other 0 (suc (suc (suc (suc (suc l))))) ls (beyond 0 l (omega arith)),
-      mask_other 1 (suc (suc (suc (suc (suc l))))) ls (beyond 1 l (omega arith)),
-      mask_other 2 (suc (suc (suc (suc (suc l))))) ls (beyond 2 l (omega arith)),
-      mask_other 3 (suc (suc (suc (suc (suc l))))) ls (beyond 3 l (omega arith)),
-      mask_other 4 (suc (suc (suc (suc (suc l))))) ls (beyond 4 l (omega arith)),
+      mask_other (order OwnLion) (suc (suc (suc (suc (suc l))))) ls (beyond (order OwnLion) l (omega arith)),
+      mask_other (order EnemyLion) (suc (suc (suc (suc (suc l))))) ls (beyond (order EnemyLion) l (omega arith)),
+      mask_other (order Chicks) (suc (suc (suc (suc (suc l))))) ls (beyond (order Chicks) l (omega arith)),
+      mask_other (order Elephants) (suc (suc (suc (suc (suc l))))) ls (beyond (order Elephants) l (omega arith)),
+      mask_other (order Giraffes) (suc (suc (suc (suc (suc l))))) ls (beyond (order Giraffes) l (omega arith)),
     )
 
-pub planes-small : (ls : List ℕ) → length ls ≤ 12 → planes ls < 1152921504606846976
-planes-small ls h = omega (arith, planes-parts ls, mask_below 0 ls h, mask_below 1 ls h, mask_below 2 ls h, mask_below 3 ls h, mask_below 4 ls h)
+-- five planes
+pub planes-small : (ls : List ℕ) → length ls ≤ 12 → planes ls < 2 ^ (5 * plane_len)
+planes-small ls h = omega (
+  arith,
+  planes-parts ls,
+  mask_below (order OwnLion) ls h,
+  mask_below (order EnemyLion) ls h,
+  mask_below (order Chicks) ls h,
+  mask_below (order Elephants) ls h,
+  mask_below (order Giraffes) ls h,
+)
+
+-- the plane that begins at that bit
+abbrev pub plane_at : ℕ → ℕ → ℕ
+plane_at number first = number / first % 2 ^ plane_len
 
 -- the masks of the layers are the planes
 pub record ArePlanes (ls : List ℕ) (number : ℕ) : Type 0 where
-  pub own_lion : number % 4096 ≡ layer_mask 0 ls
-  pub enemy_lion : number / 4096 % 4096 ≡ layer_mask 1 ls
-  pub chicks : number / 16777216 % 4096 ≡ layer_mask 2 ls
-  pub elephants : number / 68719476736 % 4096 ≡ layer_mask 3 ls
-  pub giraffes : number / 281474976710656 % 4096 ≡ layer_mask 4 ls
+  pub own_lion : plane_at number (first_bit OwnLion) ≡ layer_mask (order OwnLion) ls
+  pub enemy_lion : plane_at number (first_bit EnemyLion) ≡ layer_mask (order EnemyLion) ls
+  pub chicks : plane_at number (first_bit Chicks) ≡ layer_mask (order Chicks) ls
+  pub elephants : plane_at number (first_bit Elephants) ≡ layer_mask (order Elephants) ls
+  pub giraffes : plane_at number (first_bit Giraffes) ≡ layer_mask (order Giraffes) ls
 
-apart_by : (n a b c d e : ℕ) → a < 4096 → b < 4096 → c < 4096 → d < 4096 → e < 4096 →
-    n ≡ a + 4096 * b + 16777216 * c + 68719476736 * d + 281474976710656 * e →
-    (n % 4096 ≡ a) × (n / 4096 % 4096 ≡ b) × (n / 16777216 % 4096 ≡ c) × (n / 68719476736 % 4096 ≡ d) × (n / 281474976710656 % 4096 ≡ e)
+apart_by : (n a b c d e : ℕ) → a < 2 ^ plane_len → b < 2 ^ plane_len → c < 2 ^ plane_len → d < 2 ^ plane_len → e < 2 ^ plane_len →
+    n ≡ a + first_bit EnemyLion * b + first_bit Chicks * c + first_bit Elephants * d + first_bit Giraffes * e →
+    (plane_at n (first_bit OwnLion) ≡ a) × (plane_at n (first_bit EnemyLion) ≡ b) × (plane_at n (first_bit Chicks) ≡ c)
+    × (plane_at n (first_bit Elephants) ≡ d) × (plane_at n (first_bit Giraffes) ≡ e)
 apart_by n a b c d e p q r s t h = ((omega arith), (omega arith), (omega arith), (omega arith), (omega arith))
 
 pub planes_apart : (ls : List ℕ) (number : ℕ) → length ls ≤ 12 → number ≡ planes ls → ArePlanes ls number
 planes_apart ls number h is =
-    let parts = apart_by number (layer_mask 0 ls) (layer_mask 1 ls) (layer_mask 2 ls) (layer_mask 3 ls)
-    (layer_mask 4 ls) (mask_below 0 ls h) (mask_below 1 ls h)
-    (mask_below 2 ls h) (mask_below 3 ls h) (mask_below 4 ls h) (is ∙ planes-parts ls) in
+    let parts = apart_by number (layer_mask (order OwnLion) ls) (layer_mask (order EnemyLion) ls) (layer_mask (order Chicks) ls)
+    (layer_mask (order Elephants) ls) (layer_mask (order Giraffes) ls) (mask_below (order OwnLion) ls h) (mask_below (order EnemyLion) ls h)
+    (mask_below (order Chicks) ls h) (mask_below (order Elephants) ls h) (mask_below (order Giraffes) ls h) (is ∙ planes-parts ls) in
     record { own_lion = parts.0; enemy_lion = parts.1; chicks = parts.2; elephants = parts.3; giraffes = parts.4 }
 
 -- the layers of what is left of a board
@@ -426,22 +442,29 @@ from-next t (l ∷ ls) = (let rest = from-next t ls in elim (cases_order l t) [
   ]
 ])
 
-from-all : (ls : List ℕ) → from_mask 0 ls + 1 ≡ 2 ^ length ls
+from-all : (ls : List ℕ) → from_mask (order OwnLion) ls + 1 ≡ 2 ^ length ls
 from-all [] = sym (pow-zero 2)
-from-all (l ∷ ls) = omega (arith, from-all ls, from_later 0 l ls (omega arith), pow-suc 2 (length ls))
+from-all (l ∷ ls) = omega (arith, from-all ls, from_later (order OwnLion) l ls (omega arith), pow-suc 2 (length ls))
 
+-- the squares of a layer and those of later ones are what the layers before it leave
 pub record AreLater (ls : List ℕ) : Type 0 where
-  pub own_lion : from_mask 1 ls + layer_mask 0 ls ≡ 4095
-  pub enemy_lion : from_mask 2 ls + layer_mask 1 ls ≡ from_mask 1 ls
-  pub chicks : from_mask 3 ls + layer_mask 2 ls ≡ from_mask 2 ls
-  pub elephants : from_mask 4 ls + layer_mask 3 ls ≡ from_mask 3 ls
-  pub giraffes : from_mask 5 ls + layer_mask 4 ls ≡ from_mask 4 ls
+  pub own_lion : from_mask (order EnemyLion) ls + layer_mask (order OwnLion) ls ≡ all_squares
+  pub enemy_lion : from_mask (order Chicks) ls + layer_mask (order EnemyLion) ls ≡ from_mask (order EnemyLion) ls
+  pub chicks : from_mask (order Elephants) ls + layer_mask (order Chicks) ls ≡ from_mask (order Chicks) ls
+  pub elephants : from_mask (order Giraffes) ls + layer_mask (order Elephants) ls ≡ from_mask (order Elephants) ls
+  pub giraffes : from_mask (order Empty) ls + layer_mask (order Giraffes) ls ≡ from_mask (order Giraffes) ls
 
 pub later_are : (ls : List ℕ) → length ls ≡ 12 → AreLater ls
 later_are ls h =
-    let all : from_mask 0 ls + 1 ≡ 4096 = from-all ls ∙ ap (λ (n : ℕ). 2 ^ n) h in
-    let first : from_mask 1 ls + layer_mask 0 ls ≡ from_mask 0 ls = from-next 0 ls in
-    record { own_lion = omega arith; enemy_lion = from-next 1 ls; chicks = from-next 2 ls; elephants = from-next 3 ls; giraffes = from-next 4 ls }
+    let all : from_mask (order OwnLion) ls + 1 ≡ 2 ^ plane_len = from-all ls ∙ ap (λ (n : ℕ). 2 ^ n) h in
+    let first : from_mask (order EnemyLion) ls + layer_mask (order OwnLion) ls ≡ from_mask (order OwnLion) ls = from-next (order OwnLion) ls in
+    record {
+      own_lion = omega arith;
+      enemy_lion = from-next (order EnemyLion) ls;
+      chicks = from-next (order Chicks) ls;
+      elephants = from-next (order Elephants) ls;
+      giraffes = from-next (order Giraffes) ls;
+    }
 
 -- ---- the squares of a layer's pieces, and their forms
 
@@ -452,6 +475,10 @@ first_square t (l ∷ ls) = cond (nat_eq l t) 0 (suc (first_square t ls))
 abbrev pub second_square : ℕ → List ℕ → ℕ
 second_square t [] = 0
 second_square t (l ∷ ls) = suc (cond (nat_eq l t) (first_square t ls) (second_square t ls))
+
+-- the place of the lowest bit of a word, which has 64 bits
+abbrev pub lowest : ℕ → ℕ
+lowest = count_trailing_zeros 64
 
 zeros_odd : (k n : ℕ) → count_trailing_zeros (suc k) (n * 2 + 1) ≡ 0
 unfolding count_trailing_zeros
@@ -570,26 +597,26 @@ layers_long : (cells : List Cell) → length cells ≡ 12 → length (map layer 
 layers_long cells h = length-map cells layer ∙ h
 
 first_found : (t : ℕ) (cells : List Cell) (mask : ℕ) → length cells ≡ 12 → mask ≡ layer_mask t (map layer cells) → 0 < count t (map layer cells) →
-    count_trailing_zeros 64 mask ≡ first_square t (map layer cells)
+    lowest mask ≡ first_square t (map layer cells)
 first_found t cells mask h m some =
-    let long = layers_long cells h in ap (count_trailing_zeros 64) m ∙ first_zeros t 64 (map layer cells) (omega arith) some
+    let long = layers_long cells h in ap lowest m ∙ first_zeros t 64 (map layer cells) (omega arith) some
 
 second_found : (t : ℕ) (cells : List Cell) (mask less : ℕ) → length cells ≡ 12 → mask ≡ layer_mask t (map layer cells)
     → less ≡ mask - 1 → count t (map layer cells) ≡ 2 →
-    count_trailing_zeros 64 (bit_and mask less) ≡ second_square t (map layer cells)
+    lowest (bit_and mask less) ≡ second_square t (map layer cells)
 second_found t cells mask less h m l two =
     let long = layers_long cells h in
-    ap (λ (x : ℕ). count_trailing_zeros 64 (bit_and mask x)) l ∙ ap (λ (x : ℕ). count_trailing_zeros 64 (bit_and x (x - 1))) m
+    ap (λ (x : ℕ). lowest (bit_and mask x)) l ∙ ap (λ (x : ℕ). lowest (bit_and x (x - 1))) m
     ∙ second_zeros t 64 (map layer cells) (omega arith) two
 
 pub first_on_board : (t : ℕ) (cells : List Cell) (mask : ℕ) → length cells ≡ 12 → mask ≡ layer_mask t (map layer cells) → 0 < count t (map layer cells) →
-    count_trailing_zeros 64 mask < 12
+    lowest mask < 12
 first_on_board t cells mask h m some =
     let long = layers_long cells h in let is = first_found t cells mask h m some in let low = first_square-below t (map layer cells) some in omega arith
 
 pub second_on_board : (t : ℕ) (cells : List Cell) (mask less : ℕ) → length cells ≡ 12 → mask ≡ layer_mask t (map layer cells)
     → less ≡ mask - 1 → count t (map layer cells) ≡ 2 →
-    count_trailing_zeros 64 (bit_and mask less) < 12
+    lowest (bit_and mask less) < 12
 second_on_board t cells mask less h m l two =
     let long = layers_long cells h in let is = second_found t cells mask less h m l two in let low = second_square-below t (map layer cells) two in omega arith
 
@@ -597,18 +624,18 @@ at_square : (cells : List Cell) (found square number : ℕ) → found ≡ square
 at_square cells found square number e n = n ∙ ap (λ (k : ℕ). form (get_or cells k None)) e
 
 pub form_found : (t : ℕ) (cells : List Cell) (mask number : ℕ) → length cells ≡ 12 → mask ≡ layer_mask t (map layer cells) → count t (map layer cells) ≡ 1 →
-    number ≡ form (get_or cells (count_trailing_zeros 64 mask) None) → number ≡ forms_number t cells
+    number ≡ form (get_or cells (lowest mask) None) → number ≡ forms_number t cells
 form_found t cells mask number h m one n =
-    at_square cells (count_trailing_zeros 64 mask) (first_square t (map layer cells)) number (first_found t cells mask h m (omega arith)) n
+    at_square cells (lowest mask) (first_square t (map layer cells)) number (first_found t cells mask h m (omega arith)) n
     ∙ sym (form_one t cells one)
 
 pub forms_found : (t : ℕ) (cells : List Cell) (mask less first other base : ℕ) → length cells ≡ 12 → mask ≡ layer_mask t (map layer cells) → less ≡ mask - 1 →
-    count t (map layer cells) ≡ 2 → first ≡ form (get_or cells (count_trailing_zeros 64 mask) None)
-    → other ≡ form (get_or cells (count_trailing_zeros 64 (bit_and mask less)) None) →
+    count t (map layer cells) ≡ 2 → first ≡ form (get_or cells (lowest mask) None)
+    → other ≡ form (get_or cells (lowest (bit_and mask less)) None) →
     base ≡ base_of t → first * base + other ≡ forms_number t cells
 forms_found t cells mask less first other base h m l two f s b =
-    let one = at_square cells (count_trailing_zeros 64 mask) (first_square t (map layer cells)) first (first_found t cells mask h m (omega arith)) f in
-    let next = at_square cells (count_trailing_zeros 64 (bit_and mask less)) (second_square t (map layer cells)) other
+    let one = at_square cells (lowest mask) (first_square t (map layer cells)) first (first_found t cells mask h m (omega arith)) f in
+    let next = at_square cells (lowest (bit_and mask less)) (second_square t (map layer cells)) other
     (second_found t cells mask less h m l two) s in
     ap (λ (x : ℕ). first * x + other) b ∙ ap (λ (x : ℕ). x * base_of t + other) one
     ∙ ap (λ (x : ℕ). form (get_or cells (first_square t (map layer cells)) None) * base_of t + x) next ∙ sym (form_two t cells two)

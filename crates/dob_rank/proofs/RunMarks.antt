@@ -10,8 +10,8 @@ use Rattle.dob_rank.specs.declared.runs.Word.{Word}
 use Rattle.dob_rank.specs.declared.runs.RunKind.TheVariants.{First, Later, Mixed}
 use Rattle.dob_rank.specs.Numbers.{product, sum_below, block_bases, block_size, start_of}
 use Rattle.dob_rank.specs.Marks.{marks_below, marked, word_of}
-use Rattle.dob_rank.specs.Runs.{runs_in, run_size, run_start, run_kind}
-use Rattle.dob_rank.specs.RunTables.{IsRun, AreRuns, run_word}
+use Rattle.dob_rank.specs.Runs.{runs_in, run_size, run_start, run_kind, lion_pairs}
+use Rattle.dob_rank.specs.RunTables.{IsRun, AreRuns, run_word, word_len}
 use Rattle.dob_rank.proofs.Blocks.{block_size-small, blocks_small}
 use Rattle.dob_rank.proofs.Words.{marks_below-le, marks_below-all, marks_below-unmarked}
 use Rattle.dob_rank.proofs.ClassNumbers.{IsMarkedAt, one_left}
@@ -60,13 +60,13 @@ split_place set block place size within is positive below =
 -- ---- marks of runs
 
 pub first_marks : (set : PieceSet) (block run n : ℕ) → block < product (block_bases set) → run < runs_in set block → n ≤ run_size set block →
-    run_kind (run % 99) ≡ First → marks_below (marked set) (run_start set block run + n) ≡ marks_below (marked set) (run_start set block run) + n
+    run_kind (run % lion_pairs) ≡ First → marks_below (marked set) (run_start set block run + n) ≡ marks_below (marked set) (run_start set block run) + n
 first_marks set block run n within there upto kind =
     marks_below-all (marked set) (run_start set block run) n
     (λ k below. marked_first set block run k (record { block_below = within; run_below = there; local_below = omega arith }) kind)
 
 pub later_marks : (set : PieceSet) (block run n : ℕ) → block < product (block_bases set) → run < runs_in set block → n ≤ run_size set block →
-    run_kind (run % 99) ≡ Later → marks_below (marked set) (run_start set block run + n) ≡ marks_below (marked set) (run_start set block run)
+    run_kind (run % lion_pairs) ≡ Later → marks_below (marked set) (run_start set block run + n) ≡ marks_below (marked set) (run_start set block run)
 later_marks set block run n within there upto kind =
     marks_below-unmarked (marked set) (run_start set block run) n
     (λ k below. marked_later set block run k (record { block_below = within; run_below = there; local_below = omega arith }) kind)
@@ -134,7 +134,7 @@ pub record IsFound (set : PieceSet) (block run local : ℕ) (on : Bool) (before 
   pub before_is : before ≡ marks_below (marked set) (run_start set block run + local)
 
 pub first_found : (set : PieceSet) (block run local : ℕ) (words : List Word) (entry : Run) → IsThere set block run local words entry →
-    run_kind (run % 99) ≡ First → IsFound set block run local true (entry.before + local)
+    run_kind (run % lion_pairs) ≡ First → IsFound set block run local true (entry.before + local)
 first_found set block run local words entry at kind =
     let in_run = at.in_run in
     let marks = first_marks set block run local in_run.block_below in_run.run_below (let low = in_run.local_below in omega arith) kind in
@@ -144,7 +144,7 @@ first_found set block run local words entry at kind =
     }
 
 pub later_found : (set : PieceSet) (block run local : ℕ) (words : List Word) (entry : Run) → IsThere set block run local words entry →
-    run_kind (run % 99) ≡ Later → IsFound set block run local false entry.before
+    run_kind (run % lion_pairs) ≡ Later → IsFound set block run local false entry.before
 later_found set block run local words entry at kind =
     let in_run = at.in_run in
     let marks = later_marks set block run local in_run.block_below in_run.run_below (let low = in_run.local_below in omega arith) kind in
@@ -155,19 +155,19 @@ later_found set block run local words entry at kind =
 
 -- the word of a place in a mixed run
 pub record IsInWord (set : PieceSet) (block run local : ℕ) (words : List Word) (entry : Run) : Type 0 where
-  pub within : entry.word + local / 64 < length words
-  pub word_is : (other : Word) → slice_index_or words (entry.word + local / 64) other ≡ run_word set block run (local / 64)
+  pub within : entry.word + local / word_len < length words
+  pub word_is : (other : Word) → slice_index_or words (entry.word + local / word_len) other ≡ run_word set block run (local / word_len)
 
 pub in_word : (set : PieceSet) (block run local : ℕ) (words : List Word) (entry : Run) → IsThere set block run local words entry →
-    run_kind (run % 99) ≡ Mixed → (some : Word) → IsInWord set block run local words entry
+    run_kind (run % lion_pairs) ≡ Mixed → (some : Word) → IsInWord set block run local words entry
 in_word set block run local words entry at kind some =
-    let low : 64 * (local / 64) < run_size set block = below_size local (run_size set block) at.in_run.local_below in
+    let low : word_len * (local / word_len) < run_size set block = below_size local (run_size set block) at.in_run.local_below in
     record {
-      within = (at.entry_is.words_are kind (local / 64) some low).0;
-      word_is = λ other. (at.entry_is.words_are kind (local / 64) other low).1;
+      within = (at.entry_is.words_are kind (local / word_len) some low).0;
+      word_is = λ other. (at.entry_is.words_are kind (local / word_len) other low).1;
     }
   where
-    below_size : (n size : ℕ) → n < size → 64 * (n / 64) < size
+    below_size : (n size : ℕ) → n < size → word_len * (n / word_len) < size
     below_size n size h = omega arith
 
 -- what its word says of the place
@@ -176,21 +176,21 @@ pub record IsWordOf (mark : ℕ → Bool) (from len : ℕ) (word : Word) : Type 
   pub before_is : word.before ≡ marks_below mark from
 
 run_word-is : (set : PieceSet) (block run number : ℕ) →
-    IsWordOf (marked set) (run_start set block run + 64 * number) (min (run_size set block - 64 * number) 64) (run_word set block run number)
+    IsWordOf (marked set) (run_start set block run + word_len * number) (min (run_size set block - word_len * number) word_len) (run_word set block run number)
 unfolding run_word
 run_word-is set block run number = record { bits_are = refl; before_is = refl }
 
 pub word_there : (set : PieceSet) (block run local : ℕ) (words : List Word) (entry : Run) (word : Word) → IsInWord set block run local words entry →
-    word ≡ slice_index_or words (entry.word + local / 64) word →
-    IsWordOf (marked set) (run_start set block run + 64 * (local / 64)) (min (run_size set block - 64 * (local / 64)) 64) word
+    word ≡ slice_index_or words (entry.word + local / word_len) word →
+    IsWordOf (marked set) (run_start set block run + word_len * (local / word_len)) (min (run_size set block - word_len * (local / word_len)) word_len) word
 word_there set block run local words entry word at read =
-    subst (IsWordOf (marked set) (run_start set block run + 64 * (local / 64)) (min (run_size set block - 64 * (local / 64)) 64))
-    (sym (read ∙ at.word_is word)) (run_word-is set block run (local / 64))
+    subst (IsWordOf (marked set) (run_start set block run + word_len * (local / word_len)) (min (run_size set block - word_len * (local / word_len)) word_len))
+    (sym (read ∙ at.word_is word)) (run_word-is set block run (local / word_len))
 
 -- the place in the word
 pub record IsPlaceInWord (set : PieceSet) (block run local : ℕ) : Type 0 where
-  pub below : local % 64 < min (run_size set block - 64 * (local / 64)) 64
-  pub whole : run_start set block run + 64 * (local / 64) + local % 64 ≡ run_start set block run + local
+  pub below : local % word_len < min (run_size set block - word_len * (local / word_len)) word_len
+  pub whole : run_start set block run + word_len * (local / word_len) + local % word_len ≡ run_start set block run + local
 
 pub place_in_word : (set : PieceSet) (block run local : ℕ) → local < run_size set block → IsPlaceInWord set block run local
 place_in_word set block run local below = record {
@@ -198,24 +198,24 @@ place_in_word set block run local below = record {
   whole = joined (run_start set block run) local;
 }
   where
-    in_both : (n size : ℕ) → n < size → n % 64 < min (size - 64 * (n / 64)) 64
+    in_both : (n size : ℕ) → n < size → n % word_len < min (size - word_len * (n / word_len)) word_len
     in_both n size h = omega arith
 
-    joined : (run n : ℕ) → run + 64 * (n / 64) + n % 64 ≡ run + n
+    joined : (run n : ℕ) → run + word_len * (n / word_len) + n % word_len ≡ run + n
     joined run n = omega arith
 
 pub word_small : (set : PieceSet) (block run local len : ℕ) (word : Word) → IsInRun set block run local →
-    IsWordOf (marked set) (run_start set block run + 64 * (local / 64)) len word → word.before ≤ 1152921504606846976
+    IsWordOf (marked set) (run_start set block run + word_len * (local / word_len)) len word → word.before ≤ 2 ^ 60
 word_small set block run local len word at is =
-    let upto = marks_below-le (marked set) (run_start set block run + 64 * (local / 64)) in
+    let upto = marks_below-le (marked set) (run_start set block run + word_len * (local / word_len)) in
     let start = start_small set block (let there = at.block_below in omega arith) in
     let small = block_size-small set block at.block_below in
     let below = place_in_run set block run local at in
-    bounded word.before (marks_below (marked set) (run_start set block run + 64 * (local / 64))) (run_start set block run) local
+    bounded word.before (marks_below (marked set) (run_start set block run + word_len * (local / word_len))) (run_start set block run) local
     (start_of set block) (run * run_size set block) (block_size set block) is.before_is upto (run_start-is set block run) start below small
   where
-    bounded : (before marks run n start first size : ℕ) → before ≡ marks → marks ≤ run + 64 * (n / 64) → run ≡ start + first → start ≤ 27 * 68719476736 →
-        first + n < size → size ≤ 68719476736 → before ≤ 1152921504606846976
+    bounded : (before marks run n start first size : ℕ) → before ≡ marks → marks ≤ run + word_len * (n / word_len) → run ≡ start + first → start ≤ 27 * 2 ^ 36 →
+        first + n < size → size ≤ 2 ^ 36 → before ≤ 2 ^ 60
     bounded before marks run n start first size a b c d e f = omega arith
 
 -- ---- searches
@@ -269,7 +269,7 @@ run_upto set block run size below is =
     omega (arith, whole, next, upto)
 
 pub first_place : (set : PieceSet) (block run size before class : ℕ) → block < product (block_bases set) → size ≡ run_size set block →
-    IsSearched set block run class → run_kind (run % 99) ≡ First → before ≡ marks_below (marked set) (run_start set block run) →
+    IsSearched set block run class → run_kind (run % lion_pairs) ≡ First → before ≡ marks_below (marked set) (run_start set block run) →
     IsPlaceOfClass set block (run * size + (class - before)) class
 first_place set block run size before class within is at kind before_is =
     let all = first_marks set block run (run_size set block) within at.run_below (omega arith) kind in
@@ -351,11 +351,11 @@ last_place mark start low high class some near low_is high_is =
     one_left mark (start + low) (start + high) class (omega arith) (omega arith) low_is high_is
 
 -- a word of a run ends within it
-pub word_ends : (size word len : ℕ) → word < (size + 64 - 1) / 64 → len ≡ min (size - 64 * word) 64 → 64 * word + len ≤ size
+pub word_ends : (size word len : ℕ) → word < (size + word_len - 1) / word_len → len ≡ min (size - word_len * word) word_len → word_len * word + len ≤ size
 word_ends size word len inside is = omega arith
 
 pub run_marks_small : (set : PieceSet) (block run : ℕ) → block < product (block_bases set) → run ≤ runs_in set block →
-    marks_below (marked set) (run_start set block run) ≤ 4398046511104
+    marks_below (marked set) (run_start set block run) ≤ 2 ^ 42
 run_marks_small set block run within upto =
     let marks = marks_below-le (marked set) (run_start set block run) in
     let start = run_start-is set block run in
@@ -366,6 +366,6 @@ run_marks_small set block run within upto =
     bounded (marks_below (marked set) (run_start set block run)) (run_start set block run) (start_of set block) (run * run_size set block)
     (runs_in set block * run_size set block) (block_size set block) marks start first times whole size
   where
-    bounded : (marks at start run all block : ℕ) → marks ≤ at → at ≡ start + run → start ≤ 27 * 68719476736 → run ≤ all → block ≡ all → block ≤ 68719476736 →
-        marks ≤ 4398046511104
+    bounded : (marks at start run all block : ℕ) → marks ≤ at → at ≡ start + run → start ≤ 27 * 2 ^ 36 → run ≤ all → block ≡ all → block ≤ 2 ^ 36 →
+        marks ≤ 2 ^ 42
     bounded marks at start run all block a b c d e f = omega arith

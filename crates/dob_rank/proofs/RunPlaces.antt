@@ -1,6 +1,6 @@
 -- A place in a block is a run and a place in that run, and the lions of a run compare its positions with their mirror
 -- images.
-use Rattle.std.proofs.Common.{◌≡◌, ℕ, zero, suc, ◌+◌, ◌-◌, ◌*◌, ◌/◌, ◌%◌, ◌<◌, ◌≤◌, Bool, true, false, List, [], ◌∷◌, ◌++◌, length, get_or}
+use Rattle.std.proofs.Common.{◌≡◌, ℕ, zero, suc, ◌+◌, ◌-◌, ◌*◌, ◌/◌, ◌%◌, ◌<◌, ◌≤◌, Bool, true, false, List, [], ◌∷◌, ◌++◌, length, get_or, ◌^◌}
 use Rattle.std.proofs.Common.{take, drop, map, refl, sym, ap, ◌∙◌, subst, inl, inr, arith}
 use Rattle.std.specs.List.{All}
 use Rattle.std.proofs.lemmas.Bool.{cases_Bool, cases_lt}
@@ -13,9 +13,9 @@ use Rattle.dob_pieces.specs.Setups.{mirrored}
 use Rattle.dob_rank.specs.declared.runs.RunKind.TheVariants.{First, Later}
 use Rattle.dob_rank.specs.Order.{IsPositionOf}
 use Rattle.dob_rank.specs.Numbers.{layer, count, choice, forms_number, product, number_of, digits_of, sum_below, block_bases, bases_by}
-use Rattle.dob_rank.specs.Numbers.{on_board, block_of, block_size, rank_of, setup_in}
+use Rattle.dob_rank.specs.Numbers.{on_board, block_of, block_size, rank_of, setup_in, own_squares, enemy_squares}
 use Rattle.dob_rank.specs.Marks.{is_first, marked}
-use Rattle.dob_rank.specs.Runs.{run_bases, local_bases, runs_in, run_size, run_start, lions_of, run_kind}
+use Rattle.dob_rank.specs.Runs.{run_bases, local_bases, runs_in, run_size, run_start, lions_of, run_kind, lion_pairs}
 use Rattle.dob_rank.proofs.Blocks.{AreBases-by, few_in_block, block_size-small}
 use Rattle.dob_rank.proofs.MixedRadix.{digit_below, number_of-below, product-append, number_of-append}
 use Rattle.dob_rank.proofs.Digits.{HasParts-from_position, HasDigits-digits}
@@ -59,12 +59,12 @@ unfolding run_of local_of local_size
 place_of-run set s =
     number_of-append (run_bases set (on_board s)) (local_bases (on_board s)) (hand_digits s ++ lions_digits s) (local_digits s) refl
 
-run_of-lions : (set : PieceSet) (s : Setup) → run_of set s ≡ hand_of set s * 99 + lions_of s
+run_of-lions : (set : PieceSet) (s : Setup) → run_of set s ≡ hand_of set s * lion_pairs + lions_of s
 unfolding run_of hand_of
 run_of-lions set s =
     let split : number_of (run_bases set (on_board s)) (hand_digits s ++ lions_digits s)
-    ≡ number_of (hand_bases set (on_board s)) (hand_digits s) * 99 + number_of (9 ∷ 11 ∷ []) (lions_digits s) =
-    number_of-append (hand_bases set (on_board s)) (9 ∷ 11 ∷ []) (hand_digits s) (lions_digits s) refl in
+    ≡ number_of (hand_bases set (on_board s)) (hand_digits s) * lion_pairs + number_of (own_squares ∷ enemy_squares ∷ []) (lions_digits s) =
+    number_of-append (hand_bases set (on_board s)) (own_squares ∷ enemy_squares ∷ []) (hand_digits s) (lions_digits s) refl in
     omega (arith, split)
 
 local_of-below : (set : PieceSet) (s : Setup) → IsPositionOf set s → local_of s < local_size s
@@ -101,23 +101,23 @@ block_of-mirrored set s p = ap (number_of (block_bases set)) (on_board-mirrored 
 
 -- runs with the same hands stand in the order of their lions
 runs_apart : (hand low high size local other : ℕ) → low < high → local < size →
-    (hand * 99 + low) * size + local < (hand * 99 + high) * size + other
+    (hand * lion_pairs + low) * size + local < (hand * lion_pairs + high) * size + other
 runs_apart hand low high size local other less below =
-    let step : (hand * 99 + low) * size + local < (hand * 99 + high) * size =
-    digit_below (hand * 99 + low) (hand * 99 + high) size local (omega arith) below in
+    let step : (hand * lion_pairs + low) * size + local < (hand * lion_pairs + high) * size =
+    digit_below (hand * lion_pairs + low) (hand * lion_pairs + high) size local (omega arith) below in
     omega (arith, step)
 
 place-parts : (set : PieceSet) (s : Setup) (size lions : ℕ) → local_size s ≡ size → lions_of s ≡ lions →
-    place_of set s ≡ (hand_of set s * 99 + lions) * size + local_of s
+    place_of set s ≡ (hand_of set s * lion_pairs + lions) * size + local_of s
 place-parts set s size lions same is =
     place_of-run set s ∙ ap (λ n. run_of set s * n + local_of s) same
-    ∙ ap (λ n. n * size + local_of s) (run_of-lions set s ∙ ap (λ n. hand_of set s * 99 + n) is)
+    ∙ ap (λ n. n * size + local_of s) (run_of-lions set s ∙ ap (λ n. hand_of set s * lion_pairs + n) is)
 
 image-parts : (set : PieceSet) (s : Setup) → IsPositionOf set s →
-    place_of set (mirrored s) ≡ (hand_of set s * 99 + image_lions (lions_of s)) * local_size s + local_of (mirrored s)
+    place_of set (mirrored s) ≡ (hand_of set s * lion_pairs + image_lions (lions_of s)) * local_size s + local_of (mirrored s)
 image-parts set s p =
     place-parts set (mirrored s) (local_size s) (image_lions (lions_of s)) (local_size-mirrored s p.legal.squares) (lions_of-mirrored set s p)
-    ∙ ap (λ n. (n * 99 + image_lions (lions_of s)) * local_size s + local_of (mirrored s)) (hand_of-mirrored set s p.legal.squares)
+    ∙ ap (λ n. (n * lion_pairs + image_lions (lions_of s)) * local_size s + local_of (mirrored s)) (hand_of-mirrored set s p.legal.squares)
 
 -- the earlier place of a position and its mirror image has the lower rank
 rank_by_place : (set : PieceSet) (s : Setup) → IsPositionOf set s →
@@ -155,7 +155,7 @@ pub record IsInRun (set : PieceSet) (block run local : ℕ) : Type 0 where
 pub record StandsIn (set : PieceSet) (block run local : ℕ) (s : Setup) : Type 0 where
   pub position : IsPositionOf set s
   pub rank_is : rank_of set s ≡ run_start set block run + local
-  pub lions_are : lions_of s ≡ run % 99
+  pub lions_are : lions_of s ≡ run % lion_pairs
 
 pub block_size-runs : (set : PieceSet) (block : ℕ) → block_size set block ≡ runs_in set block * run_size set block
 unfolding runs_in run_size
@@ -193,8 +193,8 @@ stands_in set block run local h =
     ap (λ n. run_of set s * n + local_of s) (sym size) ∙ sym (place_of-run set s) ∙ there.place_is in
     let low : local_of s < run_size set block = subst (λ n. local_of s < n) size (local_of-below set s there.position) in
     let run_is : run_of set s ≡ run = same_quotient (run_of set s) run (run_size set block) (local_of s) local parts low h.local_below in
-    let lions : lions_of s < 99 = lions_of-below set s there.position in
-    let whole : run_of set s ≡ hand_of set s * 99 + lions_of s = run_of-lions set s in (
+    let lions : lions_of s < lion_pairs = lions_of-below set s there.position in
+    let whole : run_of set s ≡ hand_of set s * lion_pairs + lions_of s = run_of-lions set s in (
       s,
       record {
         position = there.position;
@@ -207,7 +207,7 @@ stands_in set block run local h =
     from_start : (start run local : ℕ) → start + (run + local) ≡ start + run + local
     from_start start run local = omega arith
 
-    remainder : (hand lions is run : ℕ) → is ≡ run → is ≡ hand * 99 + lions → lions < 99 → lions ≡ run % 99
+    remainder : (hand lions is run : ℕ) → is ≡ run → is ≡ hand * lion_pairs + lions → lions < lion_pairs → lions ≡ run % lion_pairs
     remainder hand lions is run same whole below = omega arith
 
 mark_at : (set : PieceSet) (block run local : ℕ) (s : Setup) (on : Bool) → StandsIn set block run local s → is_first set (rank_of set s) ≡ on →
@@ -216,7 +216,7 @@ mark_at set block run local s on there is =
     ap (marked set) (sym there.rank_is) ∙ marked-first_of set (rank_of set s) (rank_of-below set s there.position) ∙ is
 
 -- where the lions' columns say first each position of a run is marked
-pub marked_first : (set : PieceSet) (block run local : ℕ) → IsInRun set block run local → run_kind (run % 99) ≡ First →
+pub marked_first : (set : PieceSet) (block run local : ℕ) → IsInRun set block run local → run_kind (run % lion_pairs) ≡ First →
     marked set (run_start set block run + local) ≡ true
 marked_first set block run local h kind =
     let at = stands_in set block run local h in
@@ -231,7 +231,7 @@ marked_first set block run local h kind =
     mark_at set block run local s true at.1 (first_by_place set s p (omega (arith, own, image, apart)))
 
 -- and where they say later none is
-pub marked_later : (set : PieceSet) (block run local : ℕ) → IsInRun set block run local → run_kind (run % 99) ≡ Later →
+pub marked_later : (set : PieceSet) (block run local : ℕ) → IsInRun set block run local → run_kind (run % lion_pairs) ≡ Later →
     marked set (run_start set block run + local) ≡ false
 marked_later set block run local h kind =
     let at = stands_in set block run local h in
@@ -287,18 +287,18 @@ AreRunBases-by set block nums bs within is bases_are =
       positive = positive_locals set ob (AreBases-by set ob (bases_by set ob) (few_in_block set block within) refl).positive;
     })
 
-pub runs_few : (set : PieceSet) (block : ℕ) → block < product (block_bases set) → runs_in set block ≤ 4096
+pub runs_few : (set : PieceSet) (block : ℕ) → block < product (block_bases set) → runs_in set block ≤ 2 ^ 12
 unfolding runs_in
 runs_few set block within =
     few_hands (set.chicks - get_or (digits_of (block_bases set) block) 0 0 + 1) (set.elephants - get_or (digits_of (block_bases set) block) 1 0 + 1)
     (set.giraffes - get_or (digits_of (block_bases set) block) 2 0 + 1)
     (let few = set.few_chicks in omega arith) (let few = set.few_elephants in omega arith) (let few = set.few_giraffes in omega arith)
   where
-    few_hands : (a b c : ℕ) → a ≤ 3 → b ≤ 3 → c ≤ 3 → a * (b * (c * (9 * (11 * 1)))) ≤ 4096
+    few_hands : (a b c : ℕ) → a ≤ 3 → b ≤ 3 → c ≤ 3 → a * (b * (c * (own_squares * (enemy_squares * 1)))) ≤ 2 ^ 12
     few_hands a b c p q r =
-        let first : c * 99 ≤ 3 * 99 = omega arith in
-        let second : b * (c * 99) ≤ 3 * (3 * 99) = mul-le-mul q first in
-        let third : a * (b * (c * 99)) ≤ 3 * (3 * (3 * 99)) = mul-le-mul p second in
+        let first : c * lion_pairs ≤ 3 * lion_pairs = omega arith in
+        let second : b * (c * lion_pairs) ≤ 3 * (3 * lion_pairs) = mul-le-mul q first in
+        let third : a * (b * (c * lion_pairs)) ≤ 3 * (3 * (3 * lion_pairs)) = mul-le-mul p second in
         omega (arith, third)
 
 pub run_size-positive : (set : PieceSet) (block : ℕ) (bs : List ℕ) → AreRunBases set block bs → 0 < run_size set block
@@ -315,7 +315,7 @@ no_runs set block within none =
     none_but_some : (n : ℕ) → n ≤ 0 → 0 < n → ⊥
     none_but_some n p q = omega arith
 
-pub run_size-small : (set : PieceSet) (block : ℕ) → block < product (block_bases set) → run_size set block ≤ 68719476736
+pub run_size-small : (set : PieceSet) (block : ℕ) → block < product (block_bases set) → run_size set block ≤ 2 ^ 36
 run_size-small set block within =
     let whole = block_size-runs set block in
     let small = block_size-small set block within in
@@ -328,7 +328,7 @@ run_size-small set block within =
     times_at_least (zero) b h = absurd (omega arith)
     times_at_least (suc a) b h = omega arith
 
-pub word_size : (n size : ℕ) → n ≡ size → size ≤ 68719476736 → n < 18446744073709551616
+pub word_size : (n size : ℕ) → n ≡ size → size ≤ 2 ^ 36 → n < 2 ^ 64
 word_size n size is small = omega arith
 
 -- ---- the mark of a place

@@ -1,5 +1,5 @@
 -- The tables of runs and words as they grow.
-use Rattle.std.proofs.Common.{◌≡◌, ℕ, ◌+◌, ◌-◌, ◌*◌, ◌/◌, ◌%◌, ◌<◌, ◌≤◌, min, List, [], ◌∷◌, ◌++◌, length, map, slice_index_or}
+use Rattle.std.proofs.Common.{◌≡◌, ℕ, ◌+◌, ◌-◌, ◌*◌, ◌/◌, ◌%◌, ◌<◌, ◌≤◌, min, List, [], ◌∷◌, ◌++◌, length, map, slice_index_or, ◌^◌}
 use Rattle.std.proofs.Common.{append_assoc, refl, sym, ap, ◌∙◌, subst, inl, inr, arith}
 use Rattle.std.specs.List.{range_with_len}
 use Rattle.std.proofs.lemmas.Bool.{cases_lt}
@@ -13,8 +13,8 @@ use Rattle.dob_rank.specs.declared.runs.RunKind.{RunKind}
 use Rattle.dob_rank.specs.declared.runs.RunKind.TheVariants.{First, Later, Mixed}
 use Rattle.dob_rank.specs.Numbers.{product, block_bases, block_size, start_of}
 use Rattle.dob_rank.specs.Marks.{marks_below, marked, word_of}
-use Rattle.dob_rank.specs.Runs.{runs_in, run_size, run_start, run_kind}
-use Rattle.dob_rank.specs.RunTables.{IsRun, AreRuns, run_word, run_words, kept_words, words_by_kind}
+use Rattle.dob_rank.specs.Runs.{runs_in, run_size, run_start, run_kind, lion_pairs}
+use Rattle.dob_rank.specs.RunTables.{IsRun, AreRuns, run_word, run_words, kept_words, words_by_kind, word_len}
 use Rattle.dob_rank.proofs.Blocks.{block_size-small}
 use Rattle.dob_rank.proofs.Words.{ones-word_of, marks_below-le}
 use Rattle.dob_rank.proofs.RunPlaces.{run_start-is}
@@ -28,59 +28,59 @@ make_word bits before = record { bits = bits; before = before }
 -- one more word of a run
 pub record IsNextWord (set : PieceSet) (block run size word bits before count number : ℕ) : Type 0 where
   pub word_is : make_word bits (before + count) ≡ run_word set block run word
-  pub count_is : before + (count + number) ≡ marks_below (marked set) (run_start set block run + min (64 * (word + 1)) size)
-  pub small : before + (count + number) ≤ 4398046511104
+  pub count_is : before + (count + number) ≡ marks_below (marked set) (run_start set block run + min (word_len * (word + 1)) size)
+  pub small : before + (count + number) ≤ 2 ^ 42
 
 pub next_word : (set : PieceSet) (block run size word len bits before count number : ℕ) → block < product (block_bases set) → run < runs_in set block →
-    size ≡ run_size set block → word < (size + 64 - 1) / 64 → len ≡ min (size - 64 * word) 64 →
-    bits ≡ word_of (marked set) (start_of set block + (run * size + 64 * word)) len → number ≡ ones bits →
-    before + count ≡ marks_below (marked set) (run_start set block run + min (64 * word) size) →
+    size ≡ run_size set block → word < (size + word_len - 1) / word_len → len ≡ min (size - word_len * word) word_len →
+    bits ≡ word_of (marked set) (start_of set block + (run * size + word_len * word)) len → number ≡ ones bits →
+    before + count ≡ marks_below (marked set) (run_start set block run + min (word_len * word) size) →
     IsNextWord set block run size word bits before count number
 unfolding run_word
 next_word set block run size word len bits before count number within below is inside len_is bits_are counted so_far =
     let mark = marked set in
     let start : run_start set block run ≡ start_of set block + run * size = run_start-is set block run ∙ ap (λ n. start_of set block + run * n) (sym is) in
-    let from : start_of set block + (run * size + 64 * word) ≡ run_start set block run + 64 * word =
-    joined (start_of set block) (run * size) (64 * word) (run_start set block run) start in
-    let bits_is : bits ≡ word_of mark (run_start set block run + 64 * word) len = bits_are ∙ ap (λ n. word_of mark n len) from in
-    let here : min (64 * word) size ≡ 64 * word = all_inside word size inside in
-    let first : before + count ≡ marks_below mark (run_start set block run + 64 * word) =
+    let from : start_of set block + (run * size + word_len * word) ≡ run_start set block run + word_len * word =
+    joined (start_of set block) (run * size) (word_len * word) (run_start set block run) start in
+    let bits_is : bits ≡ word_of mark (run_start set block run + word_len * word) len = bits_are ∙ ap (λ n. word_of mark n len) from in
+    let here : min (word_len * word) size ≡ word_len * word = all_inside word size inside in
+    let first : before + count ≡ marks_below mark (run_start set block run + word_len * word) =
     so_far ∙ ap (λ n. marks_below mark (run_start set block run + n)) here in
-    let len_of : len ≡ min (run_size set block - 64 * word) 64 = len_is ∙ ap (λ n. min (n - 64 * word) 64) is in
-    let end : run_start set block run + 64 * word + len ≡ run_start set block run + min (64 * (word + 1)) size =
+    let len_of : len ≡ min (run_size set block - word_len * word) word_len = len_is ∙ ap (λ n. min (n - word_len * word) word_len) is in
+    let end : run_start set block run + word_len * word + len ≡ run_start set block run + min (word_len * (word + 1)) size =
     word_end (run_start set block run) word len size len_is inside in
-    let sum : marks_below mark (run_start set block run + 64 * word) + ones (word_of mark (run_start set block run + 64 * word) len)
-    ≡ marks_below mark (run_start set block run + 64 * word + len) = ones-word_of mark (run_start set block run + 64 * word) len in
-    let more : number ≡ ones (word_of mark (run_start set block run + 64 * word) len) = counted ∙ ap ones bits_is in
-    let total : before + (count + number) ≡ marks_below mark (run_start set block run + min (64 * (word + 1)) size) =
-    summed before count number (marks_below mark (run_start set block run + 64 * word)) _ _ first more sum ∙ ap (marks_below mark) end in
-    let few = marks_below-le mark (run_start set block run + min (64 * (word + 1)) size) in
+    let sum : marks_below mark (run_start set block run + word_len * word) + ones (word_of mark (run_start set block run + word_len * word) len)
+    ≡ marks_below mark (run_start set block run + word_len * word + len) = ones-word_of mark (run_start set block run + word_len * word) len in
+    let more : number ≡ ones (word_of mark (run_start set block run + word_len * word) len) = counted ∙ ap ones bits_is in
+    let total : before + (count + number) ≡ marks_below mark (run_start set block run + min (word_len * (word + 1)) size) =
+    summed before count number (marks_below mark (run_start set block run + word_len * word)) _ _ first more sum ∙ ap (marks_below mark) end in
+    let few = marks_below-le mark (run_start set block run + min (word_len * (word + 1)) size) in
     let upto = run_upto set block run size below is in
     let first_small = start_small set block (omega arith) in
     let block_small = block_size-small set block within in
     record {
-      word_is = ap (λ n. make_word n (before + count)) (bits_is ∙ ap (word_of mark (run_start set block run + 64 * word)) len_of)
-          ∙ ap (make_word (word_of mark (run_start set block run + 64 * word) (min (run_size set block - 64 * word) 64))) first;
+      word_is = ap (λ n. make_word n (before + count)) (bits_is ∙ ap (word_of mark (run_start set block run + word_len * word)) len_of)
+          ∙ ap (make_word (word_of mark (run_start set block run + word_len * word) (min (run_size set block - word_len * word) word_len))) first;
       count_is = total;
-      small = bounded (before + (count + number)) (marks_below mark (run_start set block run + min (64 * (word + 1)) size)) (run_start set block run) word size
-          (start_of set block) (run * size) (block_size set block) total few start upto first_small block_small;
+      small = bounded (before + (count + number)) (marks_below mark (run_start set block run + min (word_len * (word + 1)) size))
+          (run_start set block run) word size (start_of set block) (run * size) (block_size set block) total few start upto first_small block_small;
     }
   where
     joined : (start first more run : ℕ) → run ≡ start + first → start + (first + more) ≡ run + more
     joined start first more run e = omega arith
 
-    all_inside : (word size : ℕ) → word < (size + 64 - 1) / 64 → min (64 * word) size ≡ 64 * word
+    all_inside : (word size : ℕ) → word < (size + word_len - 1) / word_len → min (word_len * word) size ≡ word_len * word
     all_inside word size h = omega arith
 
-    word_end : (run word len size : ℕ) → len ≡ min (size - 64 * word) 64 → word < (size + 64 - 1) / 64
-        → run + 64 * word + len ≡ run + min (64 * (word + 1)) size
+    word_end : (run word len size : ℕ) → len ≡ min (size - word_len * word) word_len → word < (size + word_len - 1) / word_len
+        → run + word_len * word + len ≡ run + min (word_len * (word + 1)) size
     word_end run word len size e h = omega arith
 
     summed : (before count number first ones end : ℕ) → before + count ≡ first → number ≡ ones → first + ones ≡ end → before + (count + number) ≡ end
     summed before count number first ones end a b c = omega arith
 
-    bounded : (sum marks run word size start first block : ℕ) → sum ≡ marks → marks ≤ run + min (64 * (word + 1)) size → run ≡ start + first →
-        first + size ≤ block → start ≤ 27 * 68719476736 → block ≤ 68719476736 → sum ≤ 4398046511104
+    bounded : (sum marks run word size start first block : ℕ) → sum ≡ marks → marks ≤ run + min (word_len * (word + 1)) size → run ≡ start + first →
+        first + size ≤ block → start ≤ 27 * 2 ^ 36 → block ≤ 2 ^ 36 → sum ≤ 2 ^ 42
     bounded sum marks run word size start first block a b c d e f = omega arith
 
 -- the words of a run, one after another
@@ -93,27 +93,29 @@ words_more set block run word olds words news next so_far is grown =
     ∙ ap (λ w. olds ++ (map (run_word set block run) (range_with_len 0 word) ++ w ∷ [])) is
     ∙ ap (λ ws. olds ++ ws) (sym (map-range_with_len_more (run_word set block run) 0 word word (omega arith)))
 
-pub words_all : (set : PieceSet) (block run word size : ℕ) → size ≡ run_size set block → word ≤ (size + 64 - 1) / 64 → (size + 64 - 1) / 64 ≤ word →
+pub words_all : (set : PieceSet) (block run word size : ℕ) → size ≡ run_size set block → word ≤ (size + word_len - 1) / word_len
+    → (size + word_len - 1) / word_len ≤ word →
     map (run_word set block run) (range_with_len 0 word) ≡ run_words set block run
 unfolding run_words
 words_all set block run word size is upto past =
     ap (λ n. map (run_word set block run) (range_with_len 0 n)) (same word size (run_size set block) is upto past)
   where
-    same : (word size run : ℕ) → size ≡ run → word ≤ (size + 64 - 1) / 64 → (size + 64 - 1) / 64 ≤ word → word ≡ (run + 63) / 64
+    same : (word size run : ℕ) → size ≡ run → word ≤ (size + word_len - 1) / word_len → (size + word_len - 1) / word_len ≤ word
+        → word ≡ (run + (word_len - 1)) / word_len
     same word size run a b c = omega arith
 
-pub count_all : (set : PieceSet) (block run word size total : ℕ) → size ≡ run_size set block → (size + 64 - 1) / 64 ≤ word →
-    total ≡ marks_below (marked set) (run_start set block run + min (64 * word) size) → total ≡ marks_below (marked set) (run_start set block (run + 1))
+pub count_all : (set : PieceSet) (block run word size total : ℕ) → size ≡ run_size set block → (size + word_len - 1) / word_len ≤ word →
+    total ≡ marks_below (marked set) (run_start set block run + min (word_len * word) size) → total ≡ marks_below (marked set) (run_start set block (run + 1))
 count_all set block run word size total is past so_far =
     so_far ∙ ap (marks_below (marked set)) (ap (λ n. run_start set block run + n) (whole word size past ∙ is) ∙ sym (run_start_next set block run))
   where
-    whole : (word size : ℕ) → (size + 64 - 1) / 64 ≤ word → min (64 * word) size ≡ size
+    whole : (word size : ℕ) → (size + word_len - 1) / word_len ≤ word → min (word_len * word) size ≡ size
     whole word size h = omega arith
 
 pub none_yet : (set : PieceSet) (block run size before : ℕ) → before ≡ marks_below (marked set) (run_start set block run) →
-    before + 0 ≡ marks_below (marked set) (run_start set block run + min (64 * 0) size)
+    before + 0 ≡ marks_below (marked set) (run_start set block run + min (word_len * 0) size)
 none_yet set block run size before is =
-    let same : run_start set block run ≡ run_start set block run + min (64 * 0) size = omega arith in
+    let same : run_start set block run ≡ run_start set block run + min (word_len * 0) size = omega arith in
     plus_none before _ (is ∙ ap (marks_below (marked set)) same)
   where
     plus_none : (a b : ℕ) → a ≡ b → a + 0 ≡ b
@@ -121,12 +123,12 @@ none_yet set block run size before is =
 
 -- ---- the words kept of a run, by its kind
 
-pub kept_by : (set : PieceSet) (block run : ℕ) (kind : RunKind) → run_kind (run % 99) ≡ kind
+pub kept_by : (set : PieceSet) (block run : ℕ) (kind : RunKind) → run_kind (run % lion_pairs) ≡ kind
     → kept_words set block run ≡ words_by_kind kind (run_words set block run)
 kept_by set block run kind is = ap (λ k. words_by_kind k (run_words set block run)) is
 
 pub count_first : (set : PieceSet) (block run size before : ℕ) → block < product (block_bases set) → run < runs_in set block → size ≡ run_size set block →
-    before ≡ marks_below (marked set) (run_start set block run) → run_kind (run % 99) ≡ First
+    before ≡ marks_below (marked set) (run_start set block run) → run_kind (run % lion_pairs) ≡ First
     → before + size ≡ marks_below (marked set) (run_start set block (run + 1))
 count_first set block run size before within below is before_is kind =
     ap (λ n. n + size) before_is ∙ ap (λ n. marks_below (marked set) (run_start set block run) + n) is
@@ -134,7 +136,7 @@ count_first set block run size before within below is before_is kind =
     ∙ ap (marks_below (marked set)) (sym (run_start_next set block run))
 
 pub count_later : (set : PieceSet) (block run before : ℕ) → block < product (block_bases set) → run < runs_in set block →
-    before ≡ marks_below (marked set) (run_start set block run) → run_kind (run % 99) ≡ Later
+    before ≡ marks_below (marked set) (run_start set block run) → run_kind (run % lion_pairs) ≡ Later
     → before + 0 ≡ marks_below (marked set) (run_start set block (run + 1))
 count_later set block run before within below before_is kind =
     plus_none before _ (before_is ∙ sym (later_marks set block run (run_size set block) within below (omega arith) kind)
@@ -160,7 +162,8 @@ IsRun-more set block run words more entry is = record {
 abbrev make_run : ℕ → ℕ → Run
 make_run before word = record { before = before; word = word }
 
-run_words-are : (set : PieceSet) (block run : ℕ) → run_words set block run ≡ map (run_word set block run) (range_with_len 0 ((run_size set block + 63) / 64))
+run_words-are : (set : PieceSet) (block run : ℕ) → run_words set block run
+    ≡ map (run_word set block run) (range_with_len 0 ((run_size set block + (word_len - 1)) / word_len))
 unfolding run_words
 run_words-are set block run = refl
 
@@ -181,15 +184,16 @@ IsRun-new set block run before words before_is = record {
       );
 }
   where
-    word_in : (set : PieceSet) (block run number : ℕ) (other : Word) → 64 * number < run_size set block →
+    word_in : (set : PieceSet) (block run number : ℕ) (other : Word) → word_len * number < run_size set block →
         (number < length (run_words set block run)) × (slice_index_or (run_words set block run) number other ≡ run_word set block run number)
     word_in set block run number other low =
         let words = run_words-are set block run in
-        let inside : number < (run_size set block + 63) / 64 = omega arith in (
+        let inside : number < (run_size set block + (word_len - 1)) / word_len = omega arith in (
           subst (λ ws. number < length ws) (sym words) (let long
-              = length-map-range_with_len (run_word set block run) 0 ((run_size set block + 63) / 64) in omega (arith, long, inside)),
+              = length-map-range_with_len (run_word set block run) 0 ((run_size set block + (word_len - 1)) / word_len) in omega (arith, long, inside)),
           ap (λ ws. slice_index_or ws number other) words
-              ∙ get_or-map-range_with_len (run_word set block run) 0 ((run_size set block + 63) / 64) number number other inside (omega arith),
+              ∙ get_or-map-range_with_len (run_word set block run) 0 ((run_size set block + (word_len - 1)) / word_len) number number other
+              inside (omega arith),
         )
 
 -- one more run

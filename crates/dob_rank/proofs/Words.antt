@@ -5,6 +5,7 @@ use Rattle.std.proofs.Math.Nat.{pow-zero, pow-le-pow_right, pow-suc}
 use Rattle.std.proofs.Math.Arith.{mod-mul}
 use lib.Count.{ones}
 use Rattle.dob_rank.specs.Marks.{one_if, marks_below, word_of}
+use Rattle.dob_rank.specs.RunTables.{word_len}
 use Rattle.dob_rank.proofs.FormDigits.{power_positive}
 
 one_if-below : (b : Bool) → one_if b < 2
@@ -107,10 +108,10 @@ mark_at_bit mark from len place bits is below =
     is_one false = refl
 
 -- and the ones below it are the marks before it
-pub marks_before_bit : (mark : ℕ → Bool) (from len place bits before number : ℕ) → place < 64 → bits ≡ word_of mark from len → place < len →
-    before ≡ marks_below mark from → number ≡ ones (bit_and bits (1 * 2 ^ place % 18446744073709551616 - 1)) → before + number ≡ marks_below mark (from + place)
+pub marks_before_bit : (mark : ℕ → Bool) (from len place bits before number : ℕ) → place < word_len → bits ≡ word_of mark from len → place < len →
+    before ≡ marks_below mark from → number ≡ ones (bit_and bits (1 * 2 ^ place % 2 ^ 64 - 1)) → before + number ≡ marks_below mark (from + place)
 marks_before_bit mark from len place bits before number few is below first counted =
-    let low : bit_and bits (1 * 2 ^ place % 18446744073709551616 - 1) ≡ bits % 2 ^ place =
+    let low : bit_and bits (1 * 2 ^ place % 2 ^ 64 - 1) ≡ bits % 2 ^ place =
     ap (λ (m : ℕ). bit_and bits (m - 1)) (one_shl place 64 few) ∙ and_mask bits place in
     let marks : number ≡ ones (word_of mark from place) =
     counted ∙ ap ones (low ∙ ap (λ (x : ℕ). x % 2 ^ place) is ∙ word_of-low mark from len place (omega arith)) in
@@ -119,9 +120,9 @@ marks_before_bit mark from len place bits before number few is below first count
 -- one more mark in front of a word
 pub record IsWordStep (mark : ℕ → Bool) (len first place word bit : ℕ) : Type 0 where
   pub word_is : 2 * word + bit ≡ word_of mark (first + (place - 1)) (len - (place - 1))
-  pub small : 2 * word + bit < 18446744073709551616
+  pub small : 2 * word + bit < 2 ^ 64
 
-pub word_step : (mark : ℕ → Bool) (len first place word bit : ℕ) → 0 < place → place ≤ len → len ≤ 64 → word ≡ word_of mark (first + place) (len - place)
+pub word_step : (mark : ℕ → Bool) (len first place word bit : ℕ) → 0 < place → place ≤ len → len ≤ word_len → word ≡ word_of mark (first + place) (len - place)
     → bit ≡ one_if (mark (first + (place - 1))) → IsWordStep mark len first place word bit
 word_step mark len first place word bit p q few e b =
     let next : suc (first + (place - 1)) ≡ first + place = omega arith in
@@ -131,8 +132,8 @@ word_step mark len first place word bit p q few e b =
     ∙ ap (λ (x : ℕ). word_of mark x (len - place) * 2 + one_if (mark (first + (place - 1)))) next in
     let is : 2 * word + bit ≡ word_of mark (first + (place - 1)) (len - (place - 1)) = omega arith in
     let low : word_of mark (first + (place - 1)) (len - (place - 1)) < 2 ^ (len - (place - 1)) = word_of-below mark (first + (place - 1)) (len - (place - 1)) in
-    let below : 2 ^ (len - (place - 1)) ≤ 2 ^ 64
-    = pow-le-pow_right (let two : 0 < 2 = omega arith in two) (let l : len - (place - 1) ≤ 64 = omega arith in l) in
+    let below : 2 ^ (len - (place - 1)) ≤ 2 ^ word_len
+    = pow-le-pow_right (let two : 0 < 2 = omega arith in two) (let l : len - (place - 1) ≤ word_len = omega arith in l) in
     record { word_is = is; small = omega arith }
 
 -- ---- marks below a place

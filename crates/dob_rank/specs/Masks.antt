@@ -1,5 +1,8 @@
 -- The squares of a layer as the bits of a number, square 0 as the lowest.
-use Rattle.std.specs.Prelude.{ℕ, zero, suc, ◌+◌, ◌*◌, ◌==◌, nat_lt, cond, List, [], ◌∷◌}
+use Rattle.std.specs.Prelude.{ℕ, ◌+◌, ◌-◌, ◌*◌, ◌^◌, ◌==◌, nat_lt, cond, List, [], ◌∷◌}
+use Rattle.dob_rank.specs.declared.layers.Layer.{Layer}
+use Rattle.dob_rank.specs.declared.layers.Layer.TheVariants.{Empty}
+use Rattle.dob_rank.specs.Numbers.{order, layer_at}
 
 -- the squares of that layer
 abbrev pub layer_mask : ℕ → List ℕ → ℕ
@@ -11,14 +14,21 @@ abbrev pub from_mask : ℕ → List ℕ → ℕ
 from_mask t [] = 0
 from_mask t (l ∷ ls) = cond (nat_lt l t) 0 1 + 2 * from_mask t ls
 
--- a bit in the plane of a layer, of which each has twelve; empty cells have none
+-- how many bits a plane has: one for each square
+abbrev pub plane_len : ℕ
+plane_len = 12
+
+-- all squares: each bit of a plane
+abbrev pub all_squares : ℕ
+all_squares = 2 ^ plane_len - 1
+
+-- the first bit of a layer's plane, behind the planes of earlier layers; empty squares have none
+abbrev pub first_bit : Layer → ℕ
+first_bit Empty = 0
+first_bit other = 2 ^ (plane_len * order other)
+
 abbrev pub plane : ℕ → ℕ
-plane zero = 1
-plane (suc zero) = 4096
-plane (suc (suc zero)) = 16777216
-plane (suc (suc (suc zero))) = 68719476736
-plane (suc (suc (suc (suc zero)))) = 281474976710656
-plane _ = 0
+plane t = first_bit (layer_at t)
 
 -- all planes of a list of layers
 abbrev pub planes : List ℕ → ℕ

@@ -48,6 +48,15 @@ order Elephants = 3
 order Giraffes = 4
 order Empty = 5
 
+-- the layer of that number; none comes after the empty squares
+abbrev pub layer_at : ℕ → Layer
+layer_at zero = OwnLion
+layer_at (suc zero) = EnemyLion
+layer_at (suc (suc zero)) = Chicks
+layer_at (suc (suc (suc zero))) = Elephants
+layer_at (suc (suc (suc (suc zero)))) = Giraffes
+layer_at _ = Empty
+
 abbrev pub layer_of : Side → Kind → Layer
 layer_of Mover Lion = OwnLion
 layer_of Enemy Lion = EnemyLion
@@ -103,13 +112,14 @@ settle t pieces number (l ∷ ls) =
 -- ---- forms, as digits in the base of their layer
 
 -- how many forms a piece of the layer has
+abbrev pub form_count : Layer → ℕ
+form_count Chicks = 4
+form_count Elephants = 2
+form_count Giraffes = 2
+form_count _ = 1
+
 abbrev pub base_of : ℕ → ℕ
-base_of zero = 1
-base_of (suc zero) = 1
-base_of (suc (suc zero)) = 4
-base_of (suc (suc (suc zero))) = 2
-base_of (suc (suc (suc (suc zero)))) = 2
-base_of _ = 1
+base_of t = form_count (layer_at t)
 
 -- the number whose digits are the forms of the layer's cells
 abbrev pub forms_number : ℕ → List Cell → ℕ
@@ -117,7 +127,7 @@ forms_number t [] = 0
 forms_number t (cell ∷ cells) =
     cond (layer cell == t) (form cell * base_of t ^ count t (map layer cells)) 0 + forms_number t cells
 
--- the piece of a layer and a form
+-- the side of an elephant or a giraffe by its form, and the chick or hen of a form
 abbrev pub side_of : ℕ → Side
 side_of zero = Mover
 side_of _ = Enemy
@@ -128,13 +138,17 @@ chick_of (suc zero) = Some (piece_of Mover Hen)
 chick_of (suc (suc zero)) = Some (piece_of Enemy Chick)
 chick_of _ = Some (piece_of Enemy Hen)
 
+-- the cell of a layer and a form
+abbrev pub cell_in : Layer → ℕ → Cell
+cell_in OwnLion f = Some (piece_of Mover Lion)
+cell_in EnemyLion f = Some (piece_of Enemy Lion)
+cell_in Chicks f = chick_of f
+cell_in Elephants f = Some (piece_of (side_of f) Elephant)
+cell_in Giraffes f = Some (piece_of (side_of f) Giraffe)
+cell_in Empty f = None
+
 abbrev pub cell_of : ℕ → ℕ → Cell
-cell_of zero f = Some (piece_of Mover Lion)
-cell_of (suc zero) f = Some (piece_of Enemy Lion)
-cell_of (suc (suc zero)) f = chick_of f
-cell_of (suc (suc (suc zero))) f = Some (piece_of (side_of f) Elephant)
-cell_of (suc (suc (suc (suc zero)))) f = Some (piece_of (side_of f) Giraffe)
-cell_of _ f = None
+cell_of t f = cell_in (layer_at t) f
 
 -- the board of these layers on which the forms of layer t have the number `numbers t`
 abbrev pub board_of : (ℕ → ℕ) → List ℕ → List Cell
@@ -144,6 +158,17 @@ board_of numbers (l ∷ ls) =
 
 -- ---- the blocks of one set: the positions with the same numbers on the board
 
+-- on how many squares the mover's lion can stand, which are those off its far row; on how many others the enemy's; and how many
+-- squares both of them leave
+abbrev pub own_squares : ℕ
+own_squares = 9
+
+abbrev pub enemy_squares : ℕ
+enemy_squares = 11
+
+abbrev pub free_squares : ℕ
+free_squares = 10
+
 -- the bases of the numbers of chicks, elephants and giraffes on the board
 abbrev pub block_bases : PieceSet → List ℕ
 block_bases set = (set.chicks + 1) ∷ (set.elephants + 1) ∷ (set.giraffes + 1) ∷ []
@@ -152,7 +177,8 @@ block_bases set = (set.chicks + 1) ∷ (set.elephants + 1) ∷ (set.giraffes + 1
 abbrev pub bases : PieceSet → ℕ → ℕ → ℕ → List ℕ
 bases set i j k =
     (set.chicks - i + 1) ∷ (set.elephants - j + 1) ∷ (set.giraffes - k + 1)
-    ∷ 9 ∷ 11 ∷ choose 10 i ∷ choose (10 - i) j ∷ choose (10 - i - j) k
+    ∷ own_squares ∷ enemy_squares
+    ∷ choose free_squares i ∷ choose (free_squares - i) j ∷ choose (free_squares - i - j) k
     ∷ (4 ^ i) ∷ (2 ^ j) ∷ (2 ^ k) ∷ []
 
 -- the bases of the block of those numbers on the board
@@ -165,7 +191,7 @@ on_board setup =
     let ls = map layer setup.board in
     count (order Chicks) ls ∷ count (order Elephants) ls ∷ count (order Giraffes) ls ∷ []
 
--- the digits of a setup in its block
+-- the digits of a setup in its block: 0 to 2 the mover's hand, 3 to 7 the squares of each layer, 8 to 10 the forms of each kind
 abbrev pub digits : Setup → List ℕ
 digits setup =
     let ls = map layer setup.board in

@@ -1,7 +1,7 @@
 -- Placing pieces: the squares that a choice takes of those that are left, and a board with a piece on each of them.
 use Rattle.std.specs.Prelude.{ℕ, zero, suc, ◌+◌, ◌-◌, ◌/◌, ◌%◌, nat_lt, cond, List, slice_set, slice_index, ◌<◌, ◌≤◌}
 use Rattle.dob_pieces.specs.Setups.{Cell}
-use Rattle.dob_rank.specs.Numbers.{base_of, cell_of, choose}
+use Rattle.dob_rank.specs.Numbers.{base_of, cell_of, choose, own_squares, enemy_squares, free_squares}
 
 -- the number-th of the squares other than one that is taken
 abbrev pub past : ℕ → ℕ → ℕ
@@ -16,15 +16,19 @@ abbrev pub higher_of : ℕ → ℕ → ℕ
 higher_of zero number = 0
 higher_of (suc n) number = cond (nat_lt number n) (suc number) (suc (higher_of n (number - n)))
 
--- the same where at most two are chosen: 12 stands for one that isn't
+-- the place of a piece that isn't there, beyond all squares
+abbrev pub nowhere : ℕ
+nowhere = 12
+
+-- the same where at most two are chosen
 abbrev pub first_place : ℕ → ℕ → ℕ → ℕ
-first_place squares zero number = 12
+first_place squares zero number = nowhere
 first_place squares (suc zero) number = number
 first_place squares (suc (suc pieces)) number = lower_of squares number
 
 abbrev pub second_place : ℕ → ℕ → ℕ → ℕ
-second_place squares zero number = 12
-second_place squares (suc zero) number = 12
+second_place squares zero number = nowhere
+second_place squares (suc zero) number = nowhere
 second_place squares (suc (suc pieces)) number = higher_of squares number
 
 -- the cells with pieces of a layer on two squares, or on the first alone, or on none, whose forms have that number
@@ -39,8 +43,8 @@ pub record AreChoices (on_board digits : List ℕ) : Type 0 where
   pub chicks : slice_index on_board 0 ≤ 2
   pub elephants : slice_index on_board 1 ≤ 2
   pub giraffes : slice_index on_board 2 ≤ 2
-  pub own_lion : slice_index digits 3 < 9
-  pub other_lion : slice_index digits 4 < 11
-  pub chick_squares : slice_index digits 5 < choose 10 (slice_index on_board 0)
-  pub elephant_squares : slice_index digits 6 < choose (10 - slice_index on_board 0) (slice_index on_board 1)
-  pub giraffe_squares : slice_index digits 7 < choose (10 - slice_index on_board 0 - slice_index on_board 1) (slice_index on_board 2)
+  pub own_lion : slice_index digits 3 < own_squares
+  pub other_lion : slice_index digits 4 < enemy_squares
+  pub chick_squares : slice_index digits 5 < choose free_squares (slice_index on_board 0)
+  pub elephant_squares : slice_index digits 6 < choose (free_squares - slice_index on_board 0) (slice_index on_board 1)
+  pub giraffe_squares : slice_index digits 7 < choose (free_squares - slice_index on_board 0 - slice_index on_board 1) (slice_index on_board 2)

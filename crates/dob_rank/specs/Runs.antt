@@ -3,8 +3,10 @@
 use Rattle.std.specs.Prelude.{◌≤◌, ℕ, zero, suc, ◌+◌, ◌-◌, ◌*◌, ◌/◌, ◌%◌, ◌^◌, nat_lt, if◌then◌else◌, List, [], ◌∷◌, map, slice_index}
 use Rattle.dob_pieces.specs.declared.piece_set.PieceSet.{PieceSet}
 use Rattle.dob_pieces.specs.declared.setup.Setup.{Setup}
+use Rattle.dob_pieces.specs.Squares.{column}
 use Rattle.dob_rank.specs.declared.layers.Layer.TheVariants.{OwnLion, EnemyLion}
 use Rattle.dob_rank.specs.Numbers.{product, digits_of, order, layer, choose, choice, block_bases, start_of}
+use Rattle.dob_rank.specs.Numbers.{own_squares, enemy_squares, free_squares}
 use Rattle.dob_rank.specs.declared.runs.RunKind.{RunKind}
 use Rattle.dob_rank.specs.declared.runs.RunKind.TheVariants.{First, Later, Mixed}
 
@@ -12,7 +14,7 @@ use Rattle.dob_rank.specs.declared.runs.RunKind.TheVariants.{First, Later, Mixed
 abbrev pub run_bases : PieceSet → List ℕ → List ℕ
 run_bases set on_board =
     (set.chicks - slice_index on_board 0 + 1) ∷ (set.elephants - slice_index on_board 1 + 1)
-    ∷ (set.giraffes - slice_index on_board 2 + 1) ∷ 9 ∷ 11 ∷ []
+    ∷ (set.giraffes - slice_index on_board 2 + 1) ∷ own_squares ∷ enemy_squares ∷ []
 
 -- the bases of the squares and forms, whose digits tell the place in a run
 abbrev pub local_bases : List ℕ → List ℕ
@@ -20,7 +22,7 @@ local_bases on_board =
     let i = slice_index on_board 0 in
     let j = slice_index on_board 1 in
     let k = slice_index on_board 2 in
-    choose 10 i ∷ choose (10 - i) j ∷ choose (10 - i - j) k ∷ (4 ^ i) ∷ (2 ^ j) ∷ (2 ^ k) ∷ []
+    choose free_squares i ∷ choose (free_squares - i) j ∷ choose (free_squares - i - j) k ∷ (4 ^ i) ∷ (2 ^ j) ∷ (2 ^ k) ∷ []
 
 -- the bases of the forms alone
 abbrev pub form_bases : List ℕ → List ℕ
@@ -42,15 +44,15 @@ run_size set block = product (local_bases (digits_of (block_bases set) block))
 unfoldable pub run_start : PieceSet → ℕ → ℕ → ℕ
 run_start set block run = start_of set block + run * run_size set block
 
--- on how many pairs of squares the lions can stand: 9 for the mover's, 11 others for the enemy's
+-- on how many pairs of squares the lions can stand
 abbrev pub lion_pairs : ℕ
-lion_pairs = 99
+lion_pairs = own_squares * enemy_squares
 
 -- the number of the lions' squares, below `lion_pairs`
 abbrev pub lions_of : Setup → ℕ
 lions_of setup =
     let ls = map layer setup.board in
-    choice (order OwnLion) ls * 11 + choice (order EnemyLion) ls
+    choice (order OwnLion) ls * enemy_squares + choice (order EnemyLion) ls
 
 -- the square of the enemy's lion, by its number among those that the mover's lion leaves
 abbrev pub enemy_square : ℕ → ℕ → ℕ
@@ -66,4 +68,6 @@ kind_by_columns _ enemy = Later
 
 -- the kind of the runs of those lions
 abbrev pub run_kind : ℕ → RunKind
-run_kind lions = kind_by_columns (lions / 11 % 3) (enemy_square (lions / 11) (lions % 11) % 3)
+run_kind lions =
+    let own = lions / enemy_squares in
+    kind_by_columns (column own) (column (enemy_square own (lions % enemy_squares)))

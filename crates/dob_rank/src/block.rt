@@ -5,15 +5,15 @@ ghost use Rattle.dob_rank.specs.Numbers.{choose, product, HasDigits, digits_of, 
 ghost use Rattle.dob_rank.specs.Numbers.{block_size, size_of};
 ghost use Rattle.dob_rank.specs.Runs.{runs_in, run_size, form_bases, AreFewOnBoard};
 
-use crate::runs::LIONS;
+use crate::runs::{ENEMY_SQUARES, FREE_SQUARES, LIONS, OWN_SQUARES};
 use crate::{radix, starts};
 use dob_pieces::PieceSet;
 
 /// One number for each kind of piece: chicks (hens counted with them), elephants, giraffes.
 pub(crate) type EachKind = [u64; 3];
 
-/// How many digits tell the place in a block: three numbers in hand, the choices of squares of five layers, the
-/// forms of three kinds.
+/// How many digits tell the place in a block: 0 to 2 are the numbers in hand, 3 to 7 the choices of squares of five
+/// layers, and 8 to 10 the forms of three kinds.
 pub(crate) const DIGITS: usize = 11;
 
 /// The bases of the numbers on the board.
@@ -57,11 +57,11 @@ pub(crate) fn bases_in(set: PieceSet, on_board: &EachKind) -> [u64; DIGITS]
         u64::from(set.chicks) - chicks + 1,
         u64::from(set.elephants) - elephants + 1,
         u64::from(set.giraffes) - giraffes + 1,
-        9,
-        11,
-        choose(10, chicks),
-        choose(10 - chicks, elephants),
-        choose(10 - chicks - elephants, giraffes),
+        OWN_SQUARES,
+        ENEMY_SQUARES,
+        choose(FREE_SQUARES, chicks),
+        choose(FREE_SQUARES - chicks, elephants),
+        choose(FREE_SQUARES - chicks - elephants, giraffes),
         power(4, chicks),
         power(2, elephants),
         power(2, giraffes),
@@ -88,8 +88,8 @@ pub(crate) fn digits_in(set: PieceSet, on_board: &EachKind, place: u64) -> [u64;
         hands[0],
         hands[1],
         hands[2],
-        lions / 11,
-        lions % 11,
+        lions / ENEMY_SQUARES,
+        lions % ENEMY_SQUARES,
         squares[0],
         squares[1],
         squares[2],

@@ -219,11 +219,11 @@ fn push_words(
     Ok(count)
 }
 
-/// The marks of at most 64 places from one on.
+/// The marks of at most as many places from one on as a word has.
 fn word_from(set: PieceSet, block: u64, first: u64, len: u64) -> u64
     requires block { block < product (block_bases set) }
     requires within { first + len ≤ block_size set block }
-    requires few { len ≤ 64 }
+    requires few { len ≤ WORD }
     ensures { result ≡ word_of (marked set) (start_of set block + first) len }
 {
     let mut word = 0;

@@ -1,6 +1,6 @@
 // The squares of each layer as the bits of a number, found in one pass over the board without branches, and what such
 // bits tell: how many squares there are, and the number of their choice.
-ghost use Rattle.std.specs.Prelude.{◌≡◌, ◌<◌, ◌≤◌, ℕ, suc, List, length, map};
+ghost use Rattle.std.specs.Prelude.{◌≡◌, ◌<◌, ◌≤◌, ◌/◌, ◌%◌, ◌^◌, ℕ, suc, List, length, map};
 ghost use Rattle.dob_rank.specs.Numbers.{order, layer, count, choice, forms_number};
 ghost use Rattle.dob_rank.specs.Masks.{layer_mask, from_mask, plane};
 
@@ -14,24 +14,49 @@ const ANY: Piece = Piece {
     kind: Kind::Lion,
 };
 
-/// For each kind of the mover's pieces, then of the enemy's, and last for an empty cell the bit in the plane of its
-/// layer; a plane has twelve bits.
-const PLANES: [u64; 11] = [
-    1,
-    281474976710656,
-    68719476736,
-    16777216,
-    16777216,
-    4096,
-    281474976710656,
-    68719476736,
-    16777216,
-    16777216,
-    0,
+/// How many bits a plane has: one for each square. A word of planes has a plane for each layer of pieces.
+const PLANE: u64 = 12;
+
+/// The first bit of each layer's plane; empty squares have none.
+const OWN_LION_PLANE: u64 = 1;
+
+const ENEMY_LION_PLANE: u64 = 1 << PLANE;
+
+const CHICKS_PLANE: u64 = 1 << (2 * PLANE);
+
+const ELEPHANTS_PLANE: u64 = 1 << (3 * PLANE);
+
+const GIRAFFES_PLANE: u64 = 1 << (4 * PLANE);
+
+const NO_PLANE: u64 = 0;
+
+/// How many kinds of pieces a side has.
+const KINDS: usize = 5;
+
+/// How many pieces differ by side or kind.
+const PIECES: usize = 2 * KINDS;
+
+/// What a cell can have: each of those pieces, or none.
+const CELLS: usize = PIECES + 1;
+
+/// For each kind of the mover's pieces, then of the enemy's, and last for an empty cell the first bit of its layer's
+/// plane.
+const PLANES: [u64; CELLS] = [
+    OWN_LION_PLANE,
+    GIRAFFES_PLANE,
+    ELEPHANTS_PLANE,
+    CHICKS_PLANE,
+    CHICKS_PLANE,
+    ENEMY_LION_PLANE,
+    GIRAFFES_PLANE,
+    ELEPHANTS_PLANE,
+    CHICKS_PLANE,
+    CHICKS_PLANE,
+    NO_PLANE,
 ];
 
-/// All squares of the board.
-pub(crate) const ALL: u64 = 4095;
+/// All squares of the board: each bit of a plane.
+pub(crate) const ALL: u64 = (1 << PLANE) - 1;
 
 /// The squares of the board that each layer has.
 #[derive(Clone, Copy, Debug)]
@@ -43,10 +68,12 @@ pub(crate) struct Masks {
     pub(crate) giraffes: u64,
 }
 
-/// The squares of columns b and c.
-const COLUMN_B: u64 = 2 * 585;
+/// The squares of each column: of the three bits of a row the lowest is that of column a.
+const COLUMN_A: u64 = 0b001_001_001_001;
 
-const COLUMN_C: u64 = 4 * 585;
+const COLUMN_B: u64 = COLUMN_A << 1;
+
+const COLUMN_C: u64 = COLUMN_A << 2;
 
 impl Masks {
     /// Whether the lions' columns say that the mirror image is earlier: a hint, on which nothing rests but time.
@@ -73,22 +100,30 @@ pub(crate) fn masks_of(board: &[Option<Piece>; Square::COUNT]) -> Masks
         planes = 2 * planes + plane_of(board[square]);
     }
     Masks {
-        own_lion: planes % 4096,
-        enemy_lion: planes / 4096 % 4096,
-        chicks: planes / 16777216 % 4096,
-        elephants: planes / 68719476736 % 4096,
-        giraffes: planes / 281474976710656 % 4096,
+        own_lion: plane_at(planes, OWN_LION_PLANE),
+        enemy_lion: plane_at(planes, ENEMY_LION_PLANE),
+        chicks: plane_at(planes, CHICKS_PLANE),
+        elephants: plane_at(planes, ELEPHANTS_PLANE),
+        giraffes: plane_at(planes, GIRAFFES_PLANE),
     }
 }
 
-/// The bit of a cell's layer.
+/// The plane that begins at that bit of a word of planes.
+fn plane_at(planes: u64, first: u64) -> u64
+    requires { 0 < first }
+    ensures { result ≡ planes / first % 2 ^ PLANE }
+{
+    planes / first % (ALL + 1)
+}
+
+/// The first bit of the plane of a cell's layer.
 fn plane_of(cell: Option<Piece>) -> u64
     ensures value { result ≡ plane (layer cell) }
-    ensures bound { result ≤ 281474976710656 }
+    ensures bound { result ≤ GIRAFFES_PLANE }
 {
     let is_empty = cell.is_none();
     let piece = cell.unwrap_or(ANY);
-    PLANES[piece.kind as usize + 5 * (piece.side as usize) + 10 * usize::from(is_empty)]
+    PLANES[piece.kind as usize + KINDS * (piece.side as usize) + PIECES * usize::from(is_empty)]
 }
 
 /// How many squares a mask has.
@@ -103,8 +138,8 @@ pub(crate) fn count(mask: u64) -> u64
 /// layers.
 pub(crate) fn choice_of(mask: u64, later: u64, pieces: u64) -> u64
     requires { pieces ≤ 2 }
-    ensures { (t : ℕ) (ls : List ℕ) → t < order Layer.Empty → length ls ≤ 12 → mask ≡ layer_mask t ls → later ≡ from_mask (suc t) ls → count t ls ≡ pieces
-        → result ≡ choice t ls }
+    ensures { (t : ℕ) (ls : List ℕ) → t < order Layer.Empty → length ls ≤ 12 → mask ≡ layer_mask t ls → later ≡ from_mask (suc t) ls
+        → count t ls ≡ pieces → result ≡ choice t ls }
 {
     if pieces == 0 {
         return 0;

@@ -6,18 +6,22 @@ ghost use Rattle.dob_rank.specs.Placing.{past, lower_of, higher_of, first_place,
 use crate::block::{DIGITS, EachKind};
 use crate::forms::{base_of, cell_of};
 use crate::layers::Layer;
+use crate::runs::FREE_SQUARES;
 use dob_pieces::{Piece, Square};
 
 /// The place of a piece that isn't there, beyond all squares.
 const NOWHERE: u64 = 12;
 
+/// How many choices there are of two of the squares that the lions leave.
+const PAIRS: usize = 45;
+
 /// The two numbers of each choice of two, counted from the end, as distances from the last number.
-const FIRST_FROM_END: [u8; 45] = [
+const FIRST_FROM_END: [u8; PAIRS] = [
     1, 2, 2, 3, 3, 3, 4, 4, 4, 4, 5, 5, 5, 5, 5, 6, 6, 6, 6, 6, 6, 7, 7, 7, 7, 7, 7, 7, 8, 8, 8, 8,
     8, 8, 8, 8, 9, 9, 9, 9, 9, 9, 9, 9, 9,
 ];
 
-const SECOND_FROM_END: [u8; 45] = [
+const SECOND_FROM_END: [u8; PAIRS] = [
     0, 0, 1, 0, 1, 2, 0, 1, 2, 3, 0, 1, 2, 3, 4, 0, 1, 2, 3, 4, 5, 0, 1, 2, 3, 4, 5, 6, 0, 1, 2, 3,
     4, 5, 6, 7, 0, 1, 2, 3, 4, 5, 6, 7, 8,
 ];
@@ -54,9 +58,13 @@ pub(crate) fn board_by(
     requires { AreChoices on_board.now digits.now }
     ensures { result ≡ board_of (numbers_by digits.now) (layers_by on_board.now digits.now) }
 {
-    let chicks = places_of(10, on_board[0], digits[5]);
-    let elephants = places_of(10 - on_board[0], on_board[1], digits[6]);
-    let giraffes = places_of(10 - on_board[0] - on_board[1], on_board[2], digits[7]);
+    let chicks = places_of(FREE_SQUARES, on_board[0], digits[5]);
+    let elephants = places_of(FREE_SQUARES - on_board[0], on_board[1], digits[6]);
+    let giraffes = places_of(
+        FREE_SQUARES - on_board[0] - on_board[1],
+        on_board[2],
+        digits[7],
+    );
     let own = digits[3];
     let enemy = digits[4];
     let lions = (enemy, own);
@@ -93,12 +101,12 @@ pub(crate) fn board_by(
 /// The places among so many squares that a choice of at most two takes, the lower first.
 pub(crate) fn places_of(squares: u64, pieces: u64, number: u64) -> (u64, u64)
     requires few { pieces ≤ 2 }
-    requires squares { squares ≤ 10 }
+    requires squares { squares ≤ FREE_SQUARES }
     requires number { number < choose squares pieces }
     ensures first { result.0 ≡ first_place squares pieces number }
     ensures second { result.1 ≡ second_place squares pieces number }
-    ensures first_bound { result.0 ≤ 12 }
-    ensures second_bound { result.1 ≤ 12 }
+    ensures first_bound { result.0 ≤ NOWHERE }
+    ensures second_bound { result.1 ≤ NOWHERE }
 {
     match pieces {
         0 => (NOWHERE, NOWHERE),
@@ -109,12 +117,12 @@ pub(crate) fn places_of(squares: u64, pieces: u64, number: u64) -> (u64, u64)
 
 /// The places among so many squares that a choice of two takes, the lower first.
 fn pair_of(squares: u64, number: u64) -> (u64, u64)
-    requires squares { squares ≤ 10 }
+    requires squares { squares ≤ FREE_SQUARES }
     requires number { number < choose squares 2 }
     ensures lower { result.0 ≡ lower_of squares number }
     ensures higher { result.1 ≡ higher_of squares number }
-    ensures lower_bound { result.0 ≤ 12 }
-    ensures higher_bound { result.1 ≤ 12 }
+    ensures lower_bound { result.0 ≤ NOWHERE }
+    ensures higher_bound { result.1 ≤ NOWHERE }
 {
     let last = squares - 1;
     let from_end = (squares * last / 2 - 1 - number) as usize;

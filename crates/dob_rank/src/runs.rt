@@ -4,8 +4,17 @@ ghost use Rattle.std.specs.Prelude.{◌≡◌, ℕ, Bool, ◌<◌, ◌≤◌, �
 ghost use Rattle.dob_rank.specs.Marks.{word_of, marks_below};
 ghost use Rattle.dob_rank.specs.Runs.{run_kind};
 
+/// On how many squares the mover's lion can stand: those off its far row.
+pub(crate) const OWN_SQUARES: u64 = 9;
+
+/// On how many the enemy's lion can stand: all that the mover's leaves.
+pub(crate) const ENEMY_SQUARES: u64 = 11;
+
 /// In how many ways the two lions can stand.
-pub(crate) const LIONS: u64 = 99;
+pub(crate) const LIONS: u64 = OWN_SQUARES * ENEMY_SQUARES;
+
+/// How many squares both lions leave to other pieces.
+pub(crate) const FREE_SQUARES: u64 = 10;
 
 /// Whether the positions of a run are no later than their mirror images.
 #[derive(Clone, Copy, Debug, PartialEq, Eq)]
@@ -20,11 +29,11 @@ pub(crate) enum RunKind {
 
 /// The kind of the runs of those lions.
 pub(crate) fn kind_of(lions: u64) -> RunKind
-    requires { lions < 99 }
+    requires { lions < LIONS }
     ensures { result ≡ run_kind lions }
 {
-    let own = lions / 11;
-    let digit = lions % 11;
+    let own = lions / ENEMY_SQUARES;
+    let digit = lions % ENEMY_SQUARES;
     let enemy = if digit < own { digit } else { digit + 1 };
     match (own % 3, enemy % 3) {
         (0, _) | (1, 0) => RunKind::First,
@@ -53,7 +62,7 @@ pub(crate) struct Word {
 impl Word {
     /// Whether a place of the word is marked, and how many places before it are.
     pub(crate) fn look_up(self, place: u64) -> (bool, u64)
-        requires place { place < 64 }
+        requires place { place < WORD }
         requires before { self.before ≤ 2 ^ 60 }
         ensures mark { (mark : ℕ → Bool) (from len : ℕ) → self.bits ≡ word_of mark from len → place < len
             → result.0 ≡ mark (from + place) }

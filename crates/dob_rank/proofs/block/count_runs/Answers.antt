@@ -1,5 +1,5 @@
 -- The first five bases are those of the runs.
-use Rattle.std.proofs.Common.{◌≤◌, ℕ, sym, subst}
+use Rattle.std.proofs.Common.{◌≤◌, ℕ, sym, subst, ◌^◌}
 use Rattle.dob_rank.proofs.RunPlaces.{AreRunBases-by, runs_few}
 use Rattle.dob_rank.proofs.block.count_runs.Goals as goal
 
@@ -9,4 +9,4 @@ returns-clause-value c = (AreRunBases-by c.args.set c.args.block _ _ c.requires 
 pub returns-clause-bound : goal.returns-clause-bound
 returns-clause-bound c =
     let runs = (AreRunBases-by c.args.set c.args.block _ _ c.requires c.numbers_in-on_board.ensures c.bases_in.ensures).runs_are in
-    subst (λ (n : ℕ). n ≤ 4096) (sym runs) (runs_few c.args.set c.args.block c.requires)
+    subst (λ (n : ℕ). n ≤ 2 ^ 12) (sym runs) (runs_few c.args.set c.args.block c.requires)

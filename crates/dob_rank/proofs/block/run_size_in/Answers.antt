@@ -1,5 +1,5 @@
 -- The last six bases are those of the places in a run.
-use Rattle.std.proofs.Common.{◌<◌, ◌≤◌, ℕ, sym, subst, ◌∙◌}
+use Rattle.std.proofs.Common.{◌<◌, ◌≤◌, ℕ, sym, subst, ◌∙◌, ◌^◌}
 use Rattle.dob_rank.proofs.RunPlaces.{AreRunBases-by, run_size-positive, run_size-small, word_size}
 use Rattle.dob_rank.proofs.block.run_size_in.Goals as goal
 
@@ -25,4 +25,4 @@ returns-clause-positive c =
 pub returns-clause-bound : goal.returns-clause-bound
 returns-clause-bound c =
     let are = AreRunBases-by c.args.set c.args.block _ _ c.requires c.numbers_in-on_board.ensures c.bases_in.ensures in
-    subst (λ (n : ℕ). n ≤ 68719476736) (sym (c.product.ensures ∙ are.size_is)) (run_size-small c.args.set c.args.block c.requires)
+    subst (λ (n : ℕ). n ≤ 2 ^ 36) (sym (c.product.ensures ∙ are.size_is)) (run_size-small c.args.set c.args.block c.requires)

@@ -1,5 +1,5 @@
 -- The planes of the board are the masks of its layers.
-use Rattle.std.proofs.Common.{map, drop, arith}
+use Rattle.std.proofs.Common.{map, drop, ◌∙◌, arith}
 use Rattle.dob_rank.specs.Numbers.{layer}
 use Rattle.dob_rank.proofs.Planes.{planes-small, planes_all, layers_upto}
 use Rattle.dob_rank.proofs.masks.masks_of.Goals as goal
@@ -18,21 +18,21 @@ overflow_add-planes c =
     omega (arith, low, is)
 
 pub returns-clause-own_lion : goal.returns-clause-own_lion
-returns-clause-own_lion c = (planes_all c.args.board.now c.loop-square.square c.loop-square.planes c.told-board
+returns-clause-own_lion c = c.plane_at.ensures ∙ (planes_all c.args.board.now c.loop-square.square c.loop-square.planes c.told-board
     (omega arith) c.loop-square.invariant.planes_are).own_lion
 
 pub returns-clause-enemy_lion : goal.returns-clause-enemy_lion
-returns-clause-enemy_lion c = (planes_all c.args.board.now c.loop-square.square c.loop-square.planes c.told-board
+returns-clause-enemy_lion c = c.plane_at-2.ensures ∙ (planes_all c.args.board.now c.loop-square.square c.loop-square.planes c.told-board
     (omega arith) c.loop-square.invariant.planes_are).enemy_lion
 
 pub returns-clause-chicks : goal.returns-clause-chicks
-returns-clause-chicks c = (planes_all c.args.board.now c.loop-square.square c.loop-square.planes c.told-board
+returns-clause-chicks c = c.plane_at-3.ensures ∙ (planes_all c.args.board.now c.loop-square.square c.loop-square.planes c.told-board
     (omega arith) c.loop-square.invariant.planes_are).chicks
 
 pub returns-clause-elephants : goal.returns-clause-elephants
-returns-clause-elephants c = (planes_all c.args.board.now c.loop-square.square c.loop-square.planes c.told-board
+returns-clause-elephants c = c.plane_at-4.ensures ∙ (planes_all c.args.board.now c.loop-square.square c.loop-square.planes c.told-board
     (omega arith) c.loop-square.invariant.planes_are).elephants
 
 pub returns-clause-giraffes : goal.returns-clause-giraffes
-returns-clause-giraffes c = (planes_all c.args.board.now c.loop-square.square c.loop-square.planes c.told-board
+returns-clause-giraffes c = c.plane_at-5.ensures ∙ (planes_all c.args.board.now c.loop-square.square c.loop-square.planes c.told-board
     (omega arith) c.loop-square.invariant.planes_are).giraffes

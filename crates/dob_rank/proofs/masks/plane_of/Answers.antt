@@ -10,13 +10,13 @@ use Rattle.dob_pieces.specs.declared.kind.Side.{Side}
 use Rattle.dob_pieces.specs.declared.kind.Side.TheVariants.{Mover, Enemy}
 use Rattle.dob_pieces.specs.declared.kind.Piece.{Piece}
 use Rattle.dob_pieces.specs.Setups.{Cell, piece_of}
-use Rattle.dob_rank.specs.declared.masks.TheConstants.{PLANES}
+use Rattle.dob_rank.specs.declared.masks.TheConstants.{PLANES, KINDS, PIECES}
 use Rattle.dob_rank.specs.Numbers.{order, layer, layer_of}
 use Rattle.dob_rank.specs.Masks.{plane}
 use Rattle.dob_rank.proofs.masks.plane_of.Goals as goal
 
 entry : Piece → ℕ → ℕ
-entry piece none = get_or PLANES (tag_of kinds.the_type piece.kind + 5 * tag_of sides.the_type piece.side + 10 * none) 0
+entry piece none = get_or PLANES (tag_of kinds.the_type piece.kind + KINDS * tag_of sides.the_type piece.side + PIECES * none) 0
 
 of_piece : (side : Side) (kind : Kind) → entry (piece_of side kind) 0 ≡ plane (order (layer_of side kind))
 unfolding entry

@@ -1,7 +1,7 @@
 -- The squares of the pieces are those that the layers before leave, and the board is the one of the settled layers.
 use Rattle.std.proofs.Common.{◌≡◌, ◌<◌, ◌-◌, ℕ, None, replicate, set, slice_index, sym, ap, ◌∙◌, subst}
 use Rattle.dob_pieces.specs.Setups.{Cell}
-use Rattle.dob_rank.specs.Numbers.{numbers_by, cell_of}
+use Rattle.dob_rank.specs.Numbers.{numbers_by, cell_of, free_squares}
 use Rattle.dob_rank.specs.Placing.{past}
 use Rattle.dob_rank.proofs.Placed.{after_lions, after_chicks, after_elephants, with_lions, with_chicks, with_elephants, lions_by, chicks_by}
 use Rattle.dob_rank.proofs.Placed.{elephants_by, lions_stand, chicks_stand, elephants_stand, whole_board, first_below, second_below}
@@ -19,7 +19,7 @@ put-requires-clause-first c =
     let digits = c.args.digits.now in
     λ some. subst (λ (n : ℕ). n < 12)
     (sym (c.among-chick_squares.ensures.first ∙ ap (after_lions digits) c.places_of-chicks.ensures.first))
-    (first_below (numbers_by digits) 2 (slice_index on_board 0) (slice_index digits 5) 10
+    (first_below (numbers_by digits) 2 (slice_index on_board 0) (slice_index digits 5) free_squares
     (lions_by digits) (with_lions digits) (after_lions digits)
     c.requires.chicks c.requires.chick_squares (lions_stand on_board digits c.requires) some)
 
@@ -28,7 +28,7 @@ put-requires-clause-second c =
     let on_board = c.args.on_board.now in
     let digits = c.args.digits.now in
     λ some. subst (λ (n : ℕ). n < 12) (sym (c.among-chick_squares.ensures.second ∙ ap (after_lions digits) c.places_of-chicks.ensures.second))
-    (second_below (numbers_by digits) 2 (slice_index on_board 0) (slice_index digits 5) 10
+    (second_below (numbers_by digits) 2 (slice_index on_board 0) (slice_index digits 5) free_squares
     (lions_by digits) (with_lions digits) (after_lions digits)
     c.requires.chicks c.requires.chick_squares (lions_stand on_board digits c.requires) some)
 
@@ -41,7 +41,7 @@ put-requires-2-clause-first c =
     ∙ ap (after_lions digits) (among_same _ _ _ _ _ _ _ c.among.ensures.first c.places_of-chicks.ensures.first
     c.places_of-chicks.ensures.second c.places_of-elephants.ensures.first)))
     (first_below (numbers_by digits) 3 (slice_index on_board 1) (slice_index digits 6)
-    (10 - slice_index on_board 0) (chicks_by on_board digits) (with_chicks on_board digits)
+    (free_squares - slice_index on_board 0) (chicks_by on_board digits) (with_chicks on_board digits)
     (after_chicks on_board digits)
     c.requires.elephants c.requires.elephant_squares (chicks_stand on_board digits c.requires) some)
 
@@ -54,7 +54,7 @@ put-requires-2-clause-second c =
     ∙ ap (after_lions digits) (among_same _ _ _ _ _ _ _ c.among.ensures.second c.places_of-chicks.ensures.first
     c.places_of-chicks.ensures.second c.places_of-elephants.ensures.second)))
     (second_below (numbers_by digits) 3 (slice_index on_board 1) (slice_index digits 6)
-    (10 - slice_index on_board 0) (chicks_by on_board digits) (with_chicks on_board digits)
+    (free_squares - slice_index on_board 0) (chicks_by on_board digits) (with_chicks on_board digits)
     (after_chicks on_board digits)
     c.requires.elephants c.requires.elephant_squares (chicks_stand on_board digits c.requires) some)
 
@@ -68,7 +68,7 @@ put-requires-3-clause-first c =
     c.places_of-chicks.ensures.second (among_same _ _ _ _ _ _ _ c.among-2.ensures.first c.places_of-elephants.ensures.first
     c.places_of-elephants.ensures.second c.places_of-giraffes.ensures.first))))
     (first_below (numbers_by digits) 4 (slice_index on_board 2) (slice_index digits 7)
-    (10 - slice_index on_board 0 - slice_index on_board 1) (elephants_by on_board digits)
+    (free_squares - slice_index on_board 0 - slice_index on_board 1) (elephants_by on_board digits)
     (with_elephants on_board digits) (after_elephants on_board digits)
     c.requires.giraffes c.requires.giraffe_squares (elephants_stand on_board digits c.requires) some)
 
@@ -82,7 +82,7 @@ put-requires-3-clause-second c =
     c.places_of-chicks.ensures.second (among_same _ _ _ _ _ _ _ c.among-2.ensures.second c.places_of-elephants.ensures.first
     c.places_of-elephants.ensures.second c.places_of-giraffes.ensures.second))))
     (second_below (numbers_by digits) 4 (slice_index on_board 2) (slice_index digits 7)
-    (10 - slice_index on_board 0 - slice_index on_board 1) (elephants_by on_board digits)
+    (free_squares - slice_index on_board 0 - slice_index on_board 1) (elephants_by on_board digits)
     (with_elephants on_board digits) (after_elephants on_board digits)
     c.requires.giraffes c.requires.giraffe_squares (elephants_stand on_board digits c.requires) some)
 

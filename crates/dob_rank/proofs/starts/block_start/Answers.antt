@@ -1,5 +1,5 @@
 -- The table's entry is the sum, computed for each set and each block.
-use Rattle.std.proofs.Common.{ℕ, ◌≤◌, subst, sym}
+use Rattle.std.proofs.Common.{ℕ, ◌≤◌, ◌*◌, ◌^◌, subst, sym}
 use Rattle.dob_rank.proofs.BlockStarts.{start_is}
 use Rattle.dob_rank.proofs.Blocks.{blocks_small}
 use Rattle.dob_rank.proofs.RunMarks.{start_small}
@@ -10,5 +10,5 @@ returns-clause-value c = start_is c.args.set c.args.block c.requires (blocks_sma
 
 pub returns-clause-bound : goal.returns-clause-bound
 returns-clause-bound c =
-    subst (λ (n : ℕ). n ≤ 1855425871872) (sym (start_is c.args.set c.args.block c.requires (blocks_small c.args.set)))
+    subst (λ (n : ℕ). n ≤ 27 * 2 ^ 36) (sym (start_is c.args.set c.args.block c.requires (blocks_small c.args.set)))
     (start_small c.args.set c.args.block c.requires)

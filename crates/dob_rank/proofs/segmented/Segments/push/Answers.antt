@@ -1,5 +1,5 @@
 -- The item joins the last segment; where memory is refused the list is as it was.
-use Rattle.std.proofs.Common.{◌≤◌, ◌+◌, ℕ, ap, sym, ◌∙◌, length, arith, Result, Ok, Err}
+use Rattle.std.proofs.Common.{◌≤◌, ◌+◌, ℕ, ap, sym, ◌∙◌, length, arith, Result, Ok, Err, ◌^◌}
 use Rattle.std.specs.Result.{OnErr}
 use Rattle.std.proofs.lemmas.List.{length_push}
 use Rattle.dob_rank.proofs.Segmentation.{pushed_is, same_is}
@@ -32,7 +32,7 @@ invariant_of-self-2 g c =
     c.open_segment.ensures.whole (c.open_segment.ensures.same ∙ c.self.view_is) (c.self.invariant.2 ∙ ap length c.self.view_is)
     c.split-number.ensures.number c.in_ok-open_segment.ensures.opened
     c.index_mut-segment.result.now c.push.new.self c.args.item c.index_mut-segment.ensures.value c.in_ok-push.ensures.items in
-    let below : c.self.inside.count + 1 ≤ 72057594037927936 = (let most : c.self.inside.count ≤ 72057594037927936 = c.self.invariant.1 in omega arith) in (
+    let below : c.self.inside.count + 1 ≤ 2 ^ 56 = (let most : c.self.inside.count ≤ 2 ^ 56 = c.self.invariant.1 in omega arith) in (
       c.self.invariant.0,
       below,
       ap (λ (k : ℕ). k + 1) (c.self.invariant.2 ∙ ap length c.self.view_is) ∙ sym (length_push c.args.self.now c.args.item) ∙ sym (ap length kept.0),
