@@ -11,6 +11,7 @@ use Rattle.dob_pieces.specs.declared.kind.Side.TheVariants.{Mover, Enemy}
 use Rattle.dob_pieces.specs.Setups.{Cell, piece_of}
 use Rattle.dob_rank.specs.Order.{form, form_of}
 use Rattle.dob_rank.specs.Numbers.{order, layer, layer_of, count, base_of, forms_number, cell_of, board_of}
+use Rattle.dob_rank.specs.declared.layers.Layer.TheVariants.{Empty}
 use Rattle.dob_rank.proofs.MixedRadix.{digit_below}
 use Rattle.dob_rank.proofs.Choices.{count_same, count_other}
 use Rattle.dob_rank.proofs.Settled.{AreLayers}
@@ -33,7 +34,7 @@ pub form-below : (cell : Cell) → form cell < base_of (layer cell)
 form-below None = omega arith
 form-below (Some piece) = form_of-below piece.side piece.kind
 
-pub layer_of-bound : (s : Side) (k : Kind) → order (layer_of s k) < 5
+pub layer_of-bound : (s : Side) (k : Kind) → order (layer_of s k) < order Empty
 layer_of-bound Mover Lion = omega arith
 layer_of-bound Mover Giraffe = omega arith
 layer_of-bound Mover Elephant = omega arith
@@ -45,9 +46,9 @@ layer_of-bound Enemy Elephant = omega arith
 layer_of-bound Enemy Chick = omega arith
 layer_of-bound Enemy Hen = omega arith
 
-pub layer-bound : (cell : Cell) → layer cell ≤ 5
+pub layer-bound : (cell : Cell) → layer cell ≤ order Empty
 layer-bound None = omega arith
-layer-bound (Some piece) = (let low : order (layer_of piece.side piece.kind) < 5 = layer_of-bound piece.side piece.kind in omega arith)
+layer-bound (Some piece) = (let low : order (layer_of piece.side piece.kind) < order Empty = layer_of-bound piece.side piece.kind in omega arith)
 
 pub AreLayers-map : (cells : List Cell) → AreLayers (map layer cells)
 AreLayers-map [] = tt
@@ -71,7 +72,7 @@ cell_of-cell None = refl
 cell_of-cell (Some piece) = cell_of-piece piece.side piece.kind
 
 -- a cell made has its layer
-pub layer-cell_of : (l f : ℕ) → l ≤ 5 → layer (cell_of l f) ≡ l
+pub layer-cell_of : (l f : ℕ) → l ≤ order Empty → layer (cell_of l f) ≡ l
 layer-cell_of zero f h = refl
 layer-cell_of (suc zero) f h = refl
 layer-cell_of (suc (suc zero)) zero h = refl
@@ -86,7 +87,7 @@ layer-cell_of (suc (suc (suc (suc (suc zero))))) f h = refl
 layer-cell_of (suc (suc (suc (suc (suc (suc l)))))) f h = absurd (omega arith)
 
 -- a cell made has its form
-pub form-cell_of : (l f : ℕ) → l < 5 → f < base_of l → form (cell_of l f) ≡ f
+pub form-cell_of : (l f : ℕ) → l < order Empty → f < base_of l → form (cell_of l f) ≡ f
 form-cell_of zero f h k = omega arith
 form-cell_of (suc zero) f h k = omega arith
 form-cell_of (suc (suc zero)) zero h k = refl
@@ -188,7 +189,7 @@ layers-board_of numbers (l ∷ ls) a =
 one_left : (n : ℕ) → n % 1 ≡ 0
 one_left n = omega arith
 
-at_layer : (numbers : ℕ → ℕ) (t l : ℕ) (ls : List ℕ) → t < 5 → l ≡ t → map layer (board_of numbers ls) ≡ ls
+at_layer : (numbers : ℕ → ℕ) (t l : ℕ) (ls : List ℕ) → t < order Empty → l ≡ t → map layer (board_of numbers ls) ≡ ls
     → forms_number t (board_of numbers ls) ≡ numbers t % base_of t ^ count t ls
     → layer (cell_of l (numbers l / base_of l ^ count l ls % base_of l)) ≡ l
     → forms_number t (board_of numbers (l ∷ ls)) ≡ numbers t % base_of t ^ count t (l ∷ ls)
@@ -206,7 +207,7 @@ at_layer numbers t l ls h e layers rest head =
     ∙ ap (λ (x : ℕ). numbers t % base_of t ^ x) (sym (count_same t ls)))
 
 -- the forms number of the board made is the number that it was made from
-pub forms_number-board_of : (numbers : ℕ → ℕ) (t : ℕ) (ls : List ℕ) → t < 5 → AreLayers ls
+pub forms_number-board_of : (numbers : ℕ → ℕ) (t : ℕ) (ls : List ℕ) → t < order Empty → AreLayers ls
     → forms_number t (board_of numbers ls) ≡ numbers t % base_of t ^ count t ls
 forms_number-board_of numbers t [] h a = sym (ap (λ (x : ℕ). numbers t % x) (pow-zero (base_of t)) ∙ one_left (numbers t))
 forms_number-board_of numbers t (l ∷ ls) h a =

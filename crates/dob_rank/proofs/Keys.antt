@@ -9,7 +9,8 @@ use Rattle.dob_pieces.specs.declared.piece_set.PieceSet.{PieceSet}
 use Rattle.dob_pieces.specs.declared.setup.Setup.{Setup}
 use Rattle.dob_pieces.specs.Setups.{Cell, holds_lion, holds_kind}
 use Rattle.dob_rank.specs.Order.{IsPositionOf, Precedes, Before, key, forms, form}
-use Rattle.dob_rank.specs.Numbers.{layer, count, choice, forms_number, on_board, digits}
+use Rattle.dob_rank.specs.Numbers.{layer, count, choice, forms_number, on_board, digits, order}
+use Rattle.dob_rank.specs.declared.layers.Layer.TheVariants.{OwnLion, EnemyLion, Chicks, Elephants, Giraffes}
 use Rattle.dob_rank.proofs.Choices.{Alike, Alike-next, choice-rises, layer_squares}
 use Rattle.dob_rank.proofs.LayerCounts.{holds_mover_lion, holds_enemy_lion, holds_kind-layer, count-layer, squares-layer}
 use Rattle.dob_rank.proofs.KeyParts.{length-layer_squares, Alike-start, choice-alike, layer_forms, length-layer_forms, forms_number-rises, forms_number-alike}
@@ -22,12 +23,14 @@ hand_list s = s.hands.mover.chicks ∷ s.hands.mover.elephants ∷ s.hands.mover
 
 -- the key after the numbers on the board, by layers
 abbrev pub forms_key : Setup → List ℕ
-forms_key s = layer_forms 2 s.board ++ (layer_forms 3 s.board ++ layer_forms 4 s.board)
+forms_key s = layer_forms (order Chicks) s.board ++ (layer_forms (order Elephants) s.board ++ layer_forms (order Giraffes) s.board)
 
 abbrev pub squares_key : Setup → List ℕ
 squares_key s =
-    layer_squares 0 0 (map layer s.board) ++ (layer_squares 1 0 (map layer s.board) ++ (layer_squares 2 0 (map layer s.board)
-    ++ (layer_squares 3 0 (map layer s.board) ++ (layer_squares 4 0 (map layer s.board) ++ forms_key s))))
+    layer_squares (order OwnLion) 0 (map layer s.board)
+    ++ (layer_squares (order EnemyLion) 0 (map layer s.board)
+    ++ (layer_squares (order Chicks) 0 (map layer s.board)
+    ++ (layer_squares (order Elephants) 0 (map layer s.board) ++ (layer_squares (order Giraffes) 0 (map layer s.board) ++ forms_key s))))
 
 -- a test that tells a layer, in each part of the key
 kind_forms : (kind : HandKind) (t : ℕ) (s : Setup) → ((cell : Cell) → holds_kind kind cell ≡ eqb (layer cell) t) → forms kind s ≡ layer_forms t s.board
@@ -45,17 +48,18 @@ key-layers s =
     let c : (t : ℕ) (kind : HandKind) → ((cell : Cell) → holds_kind kind cell ≡ eqb (layer cell) t)
     → count_by (holds_kind kind) s.board ≡ count t (map layer s.board)
     = λ t kind h. count-layer (holds_kind kind) t h s.board in
-    join_same _ _ _ _ (three_same _ _ _ _ _ _ (c 2 hand.Chick (holds_kind-layer hand.Chick)) (c 3 hand.Elephant (holds_kind-layer hand.Elephant))
-    (c 4 hand.Giraffe (holds_kind-layer hand.Giraffe)))
+    join_same _ _ _ _ (three_same _ _ _ _ _ _ (c (order Chicks) hand.Chick (holds_kind-layer hand.Chick))
+    (c (order Elephants) hand.Elephant (holds_kind-layer hand.Elephant))
+    (c (order Giraffes) hand.Giraffe (holds_kind-layer hand.Giraffe)))
     (ap (λ (xs : List ℕ). hand_list s ++ xs)
-    (join_same _ _ _ _ (squares-layer (holds_lion Mover) 0 holds_mover_lion 0 s.board)
-    (join_same _ _ _ _ (squares-layer (holds_lion Enemy) 1 holds_enemy_lion 0 s.board)
-    (join_same _ _ _ _ (squares-layer (holds_kind hand.Chick) 2 (holds_kind-layer hand.Chick) 0 s.board)
-    (join_same _ _ _ _ (squares-layer (holds_kind hand.Elephant) 3 (holds_kind-layer hand.Elephant) 0 s.board)
-    (join_same _ _ _ _ (squares-layer (holds_kind hand.Giraffe) 4 (holds_kind-layer hand.Giraffe) 0 s.board)
-    (join_same _ _ _ _ (kind_forms hand.Chick 2 s (holds_kind-layer hand.Chick))
-    (join_same _ _ _ _ (kind_forms hand.Elephant 3 s (holds_kind-layer hand.Elephant))
-    (kind_forms hand.Giraffe 4 s (holds_kind-layer hand.Giraffe))))))))))
+    (join_same _ _ _ _ (squares-layer (holds_lion Mover) (order OwnLion) holds_mover_lion 0 s.board)
+    (join_same _ _ _ _ (squares-layer (holds_lion Enemy) (order EnemyLion) holds_enemy_lion 0 s.board)
+    (join_same _ _ _ _ (squares-layer (holds_kind hand.Chick) (order Chicks) (holds_kind-layer hand.Chick) 0 s.board)
+    (join_same _ _ _ _ (squares-layer (holds_kind hand.Elephant) (order Elephants) (holds_kind-layer hand.Elephant) 0 s.board)
+    (join_same _ _ _ _ (squares-layer (holds_kind hand.Giraffe) (order Giraffes) (holds_kind-layer hand.Giraffe) 0 s.board)
+    (join_same _ _ _ _ (kind_forms hand.Chick (order Chicks) s (holds_kind-layer hand.Chick))
+    (join_same _ _ _ _ (kind_forms hand.Elephant (order Elephants) s (holds_kind-layer hand.Elephant))
+    (kind_forms hand.Giraffe (order Giraffes) s (holds_kind-layer hand.Giraffe))))))))))
 
 -- a layer's squares, and what follows them
 choice_part : (t : ℕ) (xs ys c d c' d' : List ℕ) → Alike t xs ys → count t xs ≡ count t ys → Precedes (layer_squares t 0 xs ++ c) (layer_squares t 0 ys ++ d)
@@ -78,21 +82,25 @@ forms_part t xs ys c d c' d' e p rest =
     ]
 
 abbrev forms_digits : Setup → List ℕ
-forms_digits s = forms_number 2 s.board ∷ forms_number 3 s.board ∷ forms_number 4 s.board ∷ []
+forms_digits s = forms_number (order Chicks) s.board ∷ forms_number (order Elephants) s.board ∷ forms_number (order Giraffes) s.board ∷ []
 
 forms_key-rises : (p q : Setup) → on_board p ≡ on_board q → Precedes (forms_key p) (forms_key q) → Precedes (forms_digits p) (forms_digits q)
 forms_key-rises p q e h =
-    let c2 : count 2 (map layer p.board) ≡ count 2 (map layer q.board) = cc in
-    let c3 : count 3 (map layer p.board) ≡ count 3 (map layer q.board) = cc in
-    let c4 : count 4 (map layer p.board) ≡ count 4 (map layer q.board) = cc in
-    forms_part 2 p.board q.board (layer_forms 3 p.board ++ layer_forms 4 p.board) (layer_forms 3 q.board ++ layer_forms 4 q.board)
-    (forms_number 3 p.board ∷ forms_number 4 p.board ∷ []) (forms_number 3 q.board ∷ forms_number 4 q.board ∷ []) c2 h
-    (λ h3. forms_part 3 p.board q.board (layer_forms 4 p.board) (layer_forms 4 q.board) (forms_number 4 p.board ∷ []) (forms_number 4 q.board ∷ []) c3 h3
+    let c2 : count (order Chicks) (map layer p.board) ≡ count (order Chicks) (map layer q.board) = cc in
+    let c3 : count (order Elephants) (map layer p.board) ≡ count (order Elephants) (map layer q.board) = cc in
+    let c4 : count (order Giraffes) (map layer p.board) ≡ count (order Giraffes) (map layer q.board) = cc in
+    forms_part (order Chicks) p.board q.board (layer_forms (order Elephants) p.board ++ layer_forms (order Giraffes) p.board)
+    (layer_forms (order Elephants) q.board ++ layer_forms (order Giraffes) q.board)
+    (forms_number (order Elephants) p.board ∷ forms_number (order Giraffes) p.board ∷ [])
+    (forms_number (order Elephants) q.board ∷ forms_number (order Giraffes) q.board ∷ []) c2 h
+    (λ h3. forms_part (order Elephants) p.board q.board (layer_forms (order Giraffes) p.board) (layer_forms (order Giraffes) q.board)
+    (forms_number (order Giraffes) p.board ∷ []) (forms_number (order Giraffes) q.board ∷ []) c3 h3
     (λ h4. inl (forms_number-rises 4 p.board q.board c4 h4)))
 
 abbrev squares_digits : Setup → List ℕ
 squares_digits s =
-    choice 0 (map layer s.board) ∷ choice 1 (map layer s.board) ∷ choice 2 (map layer s.board) ∷ choice 3 (map layer s.board) ∷ choice 4 (map layer s.board)
+    choice (order OwnLion) (map layer s.board) ∷ choice (order EnemyLion) (map layer s.board) ∷ choice (order Chicks) (map layer s.board)
+    ∷ choice (order Elephants) (map layer s.board) ∷ choice (order Giraffes) (map layer s.board)
     ∷ forms_digits s
 
 squares_key-rises : (set : PieceSet) (p q : Setup) → HasParts set p → HasParts set q → on_board p ≡ on_board q
@@ -100,25 +108,31 @@ squares_key-rises : (set : PieceSet) (p q : Setup) → HasParts set p → HasPar
 squares_key-rises set p q hp hq e h =
     let xs : List ℕ = map layer p.board in
     let ys : List ℕ = map layer q.board in
-    let c2 : count 2 (map layer p.board) ≡ count 2 (map layer q.board) = cc in
-    let c3 : count 3 (map layer p.board) ≡ count 3 (map layer q.board) = cc in
-    let c4 : count 4 (map layer p.board) ≡ count 4 (map layer q.board) = cc in
-    choice_part 0 xs ys
-    (layer_squares 1 0 xs ++ (layer_squares 2 0 xs ++ (layer_squares 3 0 xs ++ (layer_squares 4 0 xs ++ forms_key p))))
-    (layer_squares 1 0 ys ++ (layer_squares 2 0 ys ++ (layer_squares 3 0 ys ++ (layer_squares 4 0 ys ++ forms_key q))))
-    (choice 1 xs ∷ choice 2 xs ∷ choice 3 xs ∷ choice 4 xs ∷ forms_digits p) (choice 1 ys ∷ choice 2 ys ∷ choice 3 ys ∷ choice 4 ys ∷ forms_digits q)
+    let c2 : count (order Chicks) (map layer p.board) ≡ count (order Chicks) (map layer q.board) = cc in
+    let c3 : count (order Elephants) (map layer p.board) ≡ count (order Elephants) (map layer q.board) = cc in
+    let c4 : count (order Giraffes) (map layer p.board) ≡ count (order Giraffes) (map layer q.board) = cc in
+    choice_part (order OwnLion) xs ys
+    (layer_squares (order EnemyLion) 0 xs ++ (layer_squares (order Chicks) 0 xs
+    ++ (layer_squares (order Elephants) 0 xs ++ (layer_squares (order Giraffes) 0 xs ++ forms_key p))))
+    (layer_squares (order EnemyLion) 0 ys ++ (layer_squares (order Chicks) 0 ys
+    ++ (layer_squares (order Elephants) 0 ys ++ (layer_squares (order Giraffes) 0 ys ++ forms_key q))))
+    (choice (order EnemyLion) xs ∷ choice (order Chicks) xs ∷ choice (order Elephants) xs ∷ choice (order Giraffes) xs ∷ forms_digits p)
+    (choice (order EnemyLion) ys ∷ choice (order Chicks) ys ∷ choice (order Elephants) ys ∷ choice (order Giraffes) ys ∷ forms_digits q)
     (Alike-start xs ys (hp.squares ∙ sym hq.squares)) (hp.own_lion ∙ sym hq.own_lion) h
-    (λ a1 h1. choice_part 1 xs ys
-    (layer_squares 2 0 xs ++ (layer_squares 3 0 xs ++ (layer_squares 4 0 xs ++ forms_key p)))
-    (layer_squares 2 0 ys ++ (layer_squares 3 0 ys ++ (layer_squares 4 0 ys ++ forms_key q)))
-    (choice 2 xs ∷ choice 3 xs ∷ choice 4 xs ∷ forms_digits p) (choice 2 ys ∷ choice 3 ys ∷ choice 4 ys ∷ forms_digits q)
+    (λ a1 h1. choice_part (order EnemyLion) xs ys
+    (layer_squares (order Chicks) 0 xs ++ (layer_squares (order Elephants) 0 xs ++ (layer_squares (order Giraffes) 0 xs ++ forms_key p)))
+    (layer_squares (order Chicks) 0 ys ++ (layer_squares (order Elephants) 0 ys ++ (layer_squares (order Giraffes) 0 ys ++ forms_key q)))
+    (choice (order Chicks) xs ∷ choice (order Elephants) xs ∷ choice (order Giraffes) xs ∷ forms_digits p)
+    (choice (order Chicks) ys ∷ choice (order Elephants) ys ∷ choice (order Giraffes) ys ∷ forms_digits q)
     a1 (hp.other_lion ∙ sym hq.other_lion) h1
-    (λ a2 h2. choice_part 2 xs ys
-    (layer_squares 3 0 xs ++ (layer_squares 4 0 xs ++ forms_key p)) (layer_squares 3 0 ys ++ (layer_squares 4 0 ys ++ forms_key q))
-    (choice 3 xs ∷ choice 4 xs ∷ forms_digits p) (choice 3 ys ∷ choice 4 ys ∷ forms_digits q) a2 c2 h2
-    (λ a3 h3. choice_part 3 xs ys (layer_squares 4 0 xs ++ forms_key p) (layer_squares 4 0 ys ++ forms_key q)
-    (choice 4 xs ∷ forms_digits p) (choice 4 ys ∷ forms_digits q) a3 c3 h3
-    (λ a4 h4. choice_part 4 xs ys (forms_key p) (forms_key q) (forms_digits p) (forms_digits q) a4 c4 h4
+    (λ a2 h2. choice_part (order Chicks) xs ys
+    (layer_squares (order Elephants) 0 xs ++ (layer_squares (order Giraffes) 0 xs ++ forms_key p))
+    (layer_squares (order Elephants) 0 ys ++ (layer_squares (order Giraffes) 0 ys ++ forms_key q))
+    (choice (order Elephants) xs ∷ choice (order Giraffes) xs ∷ forms_digits p)
+    (choice (order Elephants) ys ∷ choice (order Giraffes) ys ∷ forms_digits q) a2 c2 h2
+    (λ a3 h3. choice_part (order Elephants) xs ys (layer_squares (order Giraffes) 0 xs ++ forms_key p) (layer_squares (order Giraffes) 0 ys ++ forms_key q)
+    (choice (order Giraffes) xs ∷ forms_digits p) (choice (order Giraffes) ys ∷ forms_digits q) a3 c3 h3
+    (λ a4 h4. choice_part (order Giraffes) xs ys (forms_key p) (forms_key q) (forms_digits p) (forms_digits q) a4 c4 h4
     (λ a5 h5. forms_key-rises p q e h5)))))
 
 abbrev s_chicks : Setup → ℕ
@@ -171,14 +185,16 @@ same_part t xs ys c d a e h =
 
 same_forms : (p q : Setup) → on_board p ≡ on_board q → forms_key p ≡ forms_key q → forms_digits p ≡ forms_digits q
 same_forms p q e h =
-    let c2 : count 2 (map layer p.board) ≡ count 2 (map layer q.board) = cc in
-    let c3 : count 3 (map layer p.board) ≡ count 3 (map layer q.board) = cc in
-    let c4 : count 4 (map layer p.board) ≡ count 4 (map layer q.board) = cc in
-    let r2 = append-same (layer_forms 2 p.board) (layer_forms 2 q.board) (layer_forms 3 p.board ++ layer_forms 4 p.board)
-    (layer_forms 3 q.board ++ layer_forms 4 q.board)
-    (length-layer_forms 2 p.board ∙ c2 ∙ sym (length-layer_forms 2 q.board)) h in
-    let r3 = append-same (layer_forms 3 p.board) (layer_forms 3 q.board) (layer_forms 4 p.board) (layer_forms 4 q.board)
-    (length-layer_forms 3 p.board ∙ c3 ∙ sym (length-layer_forms 3 q.board)) r2.1 in
+    let c2 : count (order Chicks) (map layer p.board) ≡ count (order Chicks) (map layer q.board) = cc in
+    let c3 : count (order Elephants) (map layer p.board) ≡ count (order Elephants) (map layer q.board) = cc in
+    let c4 : count (order Giraffes) (map layer p.board) ≡ count (order Giraffes) (map layer q.board) = cc in
+    let r2 = append-same (layer_forms (order Chicks) p.board) (layer_forms (order Chicks) q.board)
+    (layer_forms (order Elephants) p.board ++ layer_forms (order Giraffes) p.board)
+    (layer_forms (order Elephants) q.board ++ layer_forms (order Giraffes) q.board)
+    (length-layer_forms (order Chicks) p.board ∙ c2 ∙ sym (length-layer_forms (order Chicks) q.board)) h in
+    let r3 = append-same (layer_forms (order Elephants) p.board) (layer_forms (order Elephants) q.board) (layer_forms (order Giraffes) p.board)
+    (layer_forms (order Giraffes) q.board)
+    (length-layer_forms (order Elephants) p.board ∙ c3 ∙ sym (length-layer_forms (order Elephants) q.board)) r2.1 in
     three_same _ _ _ _ _ _ (forms_number-alike 2 p.board q.board c2 r2.0) (forms_number-alike 3 p.board q.board c3 r3.0)
     (forms_number-alike 4 p.board q.board c4 r3.1)
 
@@ -191,28 +207,32 @@ same_squares : (set : PieceSet) (p q : Setup) → HasParts set p → HasParts se
 same_squares set p q hp hq e h =
     let xs : List ℕ = map layer p.board in
     let ys : List ℕ = map layer q.board in
-    let c2 : count 2 (map layer p.board) ≡ count 2 (map layer q.board) = cc in
-    let c3 : count 3 (map layer p.board) ≡ count 3 (map layer q.board) = cc in
-    let c4 : count 4 (map layer p.board) ≡ count 4 (map layer q.board) = cc in
-    let s0 : IsSamePart 0 (map layer p.board) (map layer q.board)
-    (layer_squares 1 0 (map layer p.board)
-    ++ (layer_squares 2 0 (map layer p.board) ++ (layer_squares 3 0 (map layer p.board) ++ (layer_squares 4 0 (map layer p.board) ++ forms_key p))))
-    (layer_squares 1 0 (map layer q.board)
-    ++ (layer_squares 2 0 (map layer q.board) ++ (layer_squares 3 0 (map layer q.board) ++ (layer_squares 4 0 (map layer q.board) ++ forms_key q))))
-    = same_part 0 _ _ _ _ (Alike-start xs ys (hp.squares ∙ sym hq.squares)) (hp.own_lion ∙ sym hq.own_lion) h in
-    let s1 : IsSamePart 1 (map layer p.board) (map layer q.board)
-    (layer_squares 2 0 (map layer p.board) ++ (layer_squares 3 0 (map layer p.board) ++ (layer_squares 4 0 (map layer p.board) ++ forms_key p)))
-    (layer_squares 2 0 (map layer q.board) ++ (layer_squares 3 0 (map layer q.board) ++ (layer_squares 4 0 (map layer q.board) ++ forms_key q)))
-    = same_part 1 _ _ _ _ s0.alike (hp.other_lion ∙ sym hq.other_lion) s0.rest_is in
-    let s2 : IsSamePart 2 (map layer p.board) (map layer q.board)
-    (layer_squares 3 0 (map layer p.board) ++ (layer_squares 4 0 (map layer p.board) ++ forms_key p))
-    (layer_squares 3 0 (map layer q.board) ++ (layer_squares 4 0 (map layer q.board) ++ forms_key q))
-    = same_part 2 _ _ _ _ s1.alike c2 s1.rest_is in
-    let s3 : IsSamePart 3 (map layer p.board) (map layer q.board) (layer_squares 4 0 (map layer p.board) ++ forms_key p)
-    (layer_squares 4 0 (map layer q.board) ++ forms_key q)
-    = same_part 3 _ _ _ _ s2.alike c3 s2.rest_is in
-    let s4 : IsSamePart 4 (map layer p.board) (map layer q.board) (forms_key p) (forms_key q)
-    = same_part 4 _ _ _ _ s3.alike c4 s3.rest_is in
+    let c2 : count (order Chicks) (map layer p.board) ≡ count (order Chicks) (map layer q.board) = cc in
+    let c3 : count (order Elephants) (map layer p.board) ≡ count (order Elephants) (map layer q.board) = cc in
+    let c4 : count (order Giraffes) (map layer p.board) ≡ count (order Giraffes) (map layer q.board) = cc in
+    let s0 : IsSamePart (order OwnLion) (map layer p.board) (map layer q.board)
+    (layer_squares (order EnemyLion) 0 (map layer p.board)
+    ++ (layer_squares (order Chicks) 0 (map layer p.board) ++
+    (layer_squares (order Elephants) 0 (map layer p.board) ++ (layer_squares (order Giraffes) 0 (map layer p.board) ++ forms_key p))))
+    (layer_squares (order EnemyLion) 0 (map layer q.board)
+    ++ (layer_squares (order Chicks) 0 (map layer q.board) ++
+    (layer_squares (order Elephants) 0 (map layer q.board) ++ (layer_squares (order Giraffes) 0 (map layer q.board) ++ forms_key q))))
+    = same_part (order OwnLion) _ _ _ _ (Alike-start xs ys (hp.squares ∙ sym hq.squares)) (hp.own_lion ∙ sym hq.own_lion) h in
+    let s1 : IsSamePart (order EnemyLion) (map layer p.board) (map layer q.board)
+    (layer_squares (order Chicks) 0 (map layer p.board) ++ (layer_squares (order Elephants) 0 (map layer p.board)
+    ++ (layer_squares (order Giraffes) 0 (map layer p.board) ++ forms_key p)))
+    (layer_squares (order Chicks) 0 (map layer q.board) ++ (layer_squares (order Elephants) 0 (map layer q.board)
+    ++ (layer_squares (order Giraffes) 0 (map layer q.board) ++ forms_key q)))
+    = same_part (order EnemyLion) _ _ _ _ s0.alike (hp.other_lion ∙ sym hq.other_lion) s0.rest_is in
+    let s2 : IsSamePart (order Chicks) (map layer p.board) (map layer q.board)
+    (layer_squares (order Elephants) 0 (map layer p.board) ++ (layer_squares (order Giraffes) 0 (map layer p.board) ++ forms_key p))
+    (layer_squares (order Elephants) 0 (map layer q.board) ++ (layer_squares (order Giraffes) 0 (map layer q.board) ++ forms_key q))
+    = same_part (order Chicks) _ _ _ _ s1.alike c2 s1.rest_is in
+    let s3 : IsSamePart (order Elephants) (map layer p.board) (map layer q.board) (layer_squares (order Giraffes) 0 (map layer p.board) ++ forms_key p)
+    (layer_squares (order Giraffes) 0 (map layer q.board) ++ forms_key q)
+    = same_part (order Elephants) _ _ _ _ s2.alike c3 s2.rest_is in
+    let s4 : IsSamePart (order Giraffes) (map layer p.board) (map layer q.board) (forms_key p) (forms_key q)
+    = same_part (order Giraffes) _ _ _ _ s3.alike c4 s3.rest_is in
     five_same _ _ _ _ _ _ _ _ _ _ _ _ s0.choice_is s1.choice_is s2.choice_is s3.choice_is s4.choice_is (same_forms p q e s4.rest_is)
 
 -- positions of one set with the same key have the same numbers on the board and the same digits

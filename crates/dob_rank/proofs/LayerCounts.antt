@@ -13,6 +13,7 @@ use Rattle.dob_pieces.specs.declared.kind.Side.TheVariants.{Mover, Enemy}
 use Rattle.dob_pieces.specs.Setups.{Cell, piece_of, holds_lion, holds_kind}
 use Rattle.dob_rank.specs.Order.{squares_from}
 use Rattle.dob_rank.specs.Numbers.{order, layer, layer_of, count, count_from, with_first, choice, settle}
+use Rattle.dob_rank.specs.declared.layers.Layer.TheVariants.{OwnLion, Empty, EnemyLion, Chicks, Elephants, Giraffes}
 use Rattle.dob_rank.proofs.Choices.{count_same, count_other, count_from_lower, count_from_later, choice_later, choice_not_later, layer_squares}
 use Rattle.dob_rank.proofs.Settled.{AreShown, AreLayers, settle_kept, settle_taken, settle_left}
 
@@ -36,32 +37,32 @@ count_from-next t (l ∷ ls) =
           ])
     ]
 
-pub count_from-zero : (ls : List ℕ) → count_from 0 ls ≡ length ls
+pub count_from-zero : (ls : List ℕ) → count_from (order OwnLion) ls ≡ length ls
 count_from-zero [] = refl
 count_from-zero (l ∷ ls) = count_from_later 0 l ls (omega arith) ∙ ap suc (count_from-zero ls)
 
--- where only layers below t and 5 are, those from t on are the fives
-pub count_five : (t : ℕ) (ls : List ℕ) → t ≤ 5 → AreShown t ls → count 5 ls ≡ count_from t ls
+-- where only layers below t and empty squares are, those from t on are the empty ones
+pub count_five : (t : ℕ) (ls : List ℕ) → t ≤ order Empty → AreShown t ls → count (order Empty) ls ≡ count_from t ls
 count_five t [] h a = refl
 count_five t (l ∷ ls) h a =
-    let rest : count 5 ls ≡ count_from t ls = count_five t ls h a.1 in
+    let rest : count (order Empty) ls ≡ count_from t ls = count_five t ls h a.1 in
     elim a.0 [
-      | inl lt ↦ (let other : l ≡ 5 → ⊥ = omega arith in count_other 5 l ls other ∙ rest ∙ sym (count_from_lower t l ls lt))
-      | inr e ↦ ap (λ (x : ℕ). count 5 (x ∷ ls)) e ∙ count_same 5 ls ∙ ap suc rest ∙ sym (count_from_later t l ls (omega arith))
+      | inl lt ↦ (let other : l ≡ order Empty → ⊥ = omega arith in count_other (order Empty) l ls other ∙ rest ∙ sym (count_from_lower t l ls lt))
+      | inr e ↦ ap (λ (x : ℕ). count (order Empty) (x ∷ ls)) e ∙ count_same (order Empty) ls ∙ ap suc rest ∙ sym (count_from_later t l ls (omega arith))
     ]
 
-pub AreLayers-shown : (ls : List ℕ) → AreShown 5 ls → AreLayers ls
+pub AreLayers-shown : (ls : List ℕ) → AreShown (order Empty) ls → AreLayers ls
 AreLayers-shown [] a = tt
 AreLayers-shown (l ∷ ls) a = ((elim a.0 [ inl lt ↦ omega arith | inr e ↦ omega arith ]), AreLayers-shown ls a.1)
 
 pub length-settle : (t pieces number : ℕ) (ls : List ℕ) → length (settle t pieces number ls) ≡ length ls
 length-settle t pieces number [] = refl
-length-settle t pieces number (l ∷ ls) = elim (cases_eq l 5) [
+length-settle t pieces number (l ∷ ls) = elim (cases_eq l (order Empty)) [
   | inr n ↦ ap length (settle_kept t pieces number l ls n) ∙ ap suc (length-settle t pieces number ls)
   | inl e ↦ ap (λ (x : ℕ). length (settle t pieces number (x ∷ ls))) e
-      ∙ elim (cases_lt number (with_first (count 5 ls) pieces)) [
+      ∙ elim (cases_lt number (with_first (count (order Empty) ls) pieces)) [
         | inl lt ↦ ap length (settle_taken t pieces number ls lt) ∙ ap suc (length-settle t (pieces - 1) number ls)
-        | inr le ↦ ap length (settle_left t pieces number ls le) ∙ ap suc (length-settle t pieces (number - with_first (count 5 ls) pieces) ls)
+        | inr le ↦ ap length (settle_left t pieces number ls le) ∙ ap suc (length-settle t pieces (number - with_first (count (order Empty) ls) pieces) ls)
       ]
 ]
 
@@ -80,8 +81,8 @@ choice_of_none t (l ∷ ls) h = elim (cases_order l t) [
       ])
 ]
 
-pub count_positive : (t : ℕ) (ls : List ℕ) (k : ℕ) → t < 5 → get_or ls k 5 ≡ t → 0 < count t ls
-count_positive t [] k h e = absurd (let five : 5 ≡ t = e in omega arith)
+pub count_positive : (t : ℕ) (ls : List ℕ) (k : ℕ) → t < order Empty → get_or ls k (order Empty) ≡ t → 0 < count t ls
+count_positive t [] k h e = absurd (let five : order Empty ≡ t = e in omega arith)
 count_positive t (l ∷ ls) zero h e = (let one : count t (l ∷ ls) ≡ suc (count t ls) = ap (λ (x : ℕ). count t (x ∷ ls)) e ∙ count_same t ls in omega arith)
 count_positive t (l ∷ ls) (suc k) h e = (let rest : 0 < count t ls = count_positive t ls k h e in
     elim (cases_eq l t) [
@@ -90,41 +91,45 @@ count_positive t (l ∷ ls) (suc k) h e = (let rest : 0 < count t ls = count_pos
     ])
 
 -- the choice of one square is that square, where no layer is earlier
-pub lion_at : (ls : List ℕ) → count 0 ls ≡ 1 → get_or ls (choice 0 ls) 5 ≡ 0
+pub lion_at : (ls : List ℕ) → count (order OwnLion) ls ≡ 1 → get_or ls (choice (order OwnLion) ls) (order Empty) ≡ order OwnLion
 lion_at [] h = absurd (omega arith)
 lion_at (zero ∷ ls) h =
-    let none : count 0 ls ≡ 0 = (let one : count 0 (zero ∷ ls) ≡ suc (count 0 ls) = count_same 0 ls in omega arith) in
-    ap (λ (x : ℕ). get_or (zero ∷ ls) x 5) (choice_not_later 0 0 ls (omega arith) ∙ choice_of_none 0 ls none)
+    let none : count (order OwnLion) ls ≡ 0 = (let one : count (order OwnLion) (zero ∷ ls) ≡ suc (count (order OwnLion) ls)
+    = count_same (order OwnLion) ls in omega arith) in
+    ap (λ (x : ℕ). get_or (zero ∷ ls) x (order Empty)) (choice_not_later (order OwnLion) 0 ls (omega arith) ∙ choice_of_none (order OwnLion) ls none)
 lion_at (suc l ∷ ls) h =
-    let one : count 0 ls ≡ 1 = sym (count_other 0 (suc l) ls (omega arith)) ∙ h in
-    let next : choice 0 (suc l ∷ ls) ≡ suc (choice 0 ls) = choice_later 0 (suc l) ls (omega arith)
-    ∙ ap (λ (x : ℕ). with_first (count_from 0 ls) x + choice 0 ls) one ∙ (let s : 1 + choice 0 ls ≡ suc (choice 0 ls) = omega arith in s) in
-    ap (λ (x : ℕ). get_or (suc l ∷ ls) x 5) next ∙ lion_at ls one
+    let one : count (order OwnLion) ls ≡ 1 = sym (count_other (order OwnLion) (suc l) ls (omega arith)) ∙ h in
+    let next : choice (order OwnLion) (suc l ∷ ls) ≡ suc (choice (order OwnLion) ls) = choice_later (order OwnLion) (suc l) ls (omega arith)
+    ∙ ap (λ (x : ℕ). with_first (count_from (order OwnLion) ls) x + choice (order OwnLion) ls) one
+    ∙ (let s : 1 + choice (order OwnLion) ls ≡ suc (choice (order OwnLion) ls) = omega arith in s) in
+    ap (λ (x : ℕ). get_or (suc l ∷ ls) x (order Empty)) next ∙ lion_at ls one
 
-first_only : (ls : List ℕ) (k : ℕ) → count 0 ls ≡ 0 → get_or (zero ∷ ls) k 5 ≡ 0 → k ≡ 0
+first_only : (ls : List ℕ) (k : ℕ) → count (order OwnLion) ls ≡ 0 → get_or (zero ∷ ls) k (order Empty) ≡ order OwnLion → k ≡ 0
 first_only ls zero none e = refl
-first_only ls (suc k) none e = absurd (let some : 0 < count 0 ls = count_positive 0 ls k (omega arith) e in omega arith)
+first_only ls (suc k) none e = absurd (let some : 0 < count (order OwnLion) ls = count_positive 0 ls k (omega arith) e in omega arith)
 
-pub lion_only : (ls : List ℕ) (k : ℕ) → count 0 ls ≡ 1 → get_or ls k 5 ≡ 0 → k ≡ choice 0 ls
+pub lion_only : (ls : List ℕ) (k : ℕ) → count (order OwnLion) ls ≡ 1 → get_or ls k (order Empty) ≡ order OwnLion → k ≡ choice (order OwnLion) ls
 lion_only [] k h e = absurd (omega arith)
 lion_only (zero ∷ ls) k h e =
-    let none : count 0 ls ≡ 0 = (let one : count 0 (zero ∷ ls) ≡ suc (count 0 ls) = count_same 0 ls in omega arith) in
-    let here : choice 0 (zero ∷ ls) ≡ 0 = choice_not_later 0 0 ls (omega arith) ∙ choice_of_none 0 ls none in
+    let none : count (order OwnLion) ls ≡ 0 = (let one : count (order OwnLion) (zero ∷ ls) ≡ suc (count (order OwnLion) ls)
+    = count_same (order OwnLion) ls in omega arith) in
+    let here : choice (order OwnLion) (zero ∷ ls) ≡ 0 = choice_not_later (order OwnLion) 0 ls (omega arith) ∙ choice_of_none (order OwnLion) ls none in
     first_only ls k none e ∙ sym here
 lion_only (suc l ∷ ls) zero h e = absurd (let z : suc l ≡ 0 = e in omega arith)
 lion_only (suc l ∷ ls) (suc k) h e =
-    let one : count 0 ls ≡ 1 = sym (count_other 0 (suc l) ls (omega arith)) ∙ h in
-    let next : choice 0 (suc l ∷ ls) ≡ suc (choice 0 ls) = choice_later 0 (suc l) ls (omega arith)
-    ∙ ap (λ (x : ℕ). with_first (count_from 0 ls) x + choice 0 ls) one ∙ (let s : 1 + choice 0 ls ≡ suc (choice 0 ls) = omega arith in s) in
+    let one : count (order OwnLion) ls ≡ 1 = sym (count_other (order OwnLion) (suc l) ls (omega arith)) ∙ h in
+    let next : choice (order OwnLion) (suc l ∷ ls) ≡ suc (choice (order OwnLion) ls) = choice_later (order OwnLion) (suc l) ls (omega arith)
+    ∙ ap (λ (x : ℕ). with_first (count_from (order OwnLion) ls) x + choice (order OwnLion) ls) one
+    ∙ (let s : 1 + choice (order OwnLion) ls ≡ suc (choice (order OwnLion) ls) = omega arith in s) in
     ap suc (lion_only ls k one e) ∙ sym next
 
 -- ---- layers and the tests of the key
 
-pub holds_mover_lion : (cell : Cell) → holds_lion Mover cell ≡ eqb (layer cell) 0
+pub holds_mover_lion : (cell : Cell) → holds_lion Mover cell ≡ eqb (layer cell) (order OwnLion)
 holds_mover_lion None = refl
 holds_mover_lion (Some piece) = of_piece piece.side piece.kind
   where
-    of_piece : (s : Side) (k : Kind) → holds_lion Mover (Some (piece_of s k)) ≡ eqb (order (layer_of s k)) 0
+    of_piece : (s : Side) (k : Kind) → holds_lion Mover (Some (piece_of s k)) ≡ eqb (order (layer_of s k)) (order OwnLion)
     of_piece Mover Lion = refl
     of_piece Mover Giraffe = refl
     of_piece Mover Elephant = refl
@@ -136,11 +141,11 @@ holds_mover_lion (Some piece) = of_piece piece.side piece.kind
     of_piece Enemy Chick = refl
     of_piece Enemy Hen = refl
 
-pub holds_enemy_lion : (cell : Cell) → holds_lion Enemy cell ≡ eqb (layer cell) 1
+pub holds_enemy_lion : (cell : Cell) → holds_lion Enemy cell ≡ eqb (layer cell) (order EnemyLion)
 holds_enemy_lion None = refl
 holds_enemy_lion (Some piece) = of_piece piece.side piece.kind
   where
-    of_piece : (s : Side) (k : Kind) → holds_lion Enemy (Some (piece_of s k)) ≡ eqb (order (layer_of s k)) 1
+    of_piece : (s : Side) (k : Kind) → holds_lion Enemy (Some (piece_of s k)) ≡ eqb (order (layer_of s k)) (order EnemyLion)
     of_piece Mover Lion = refl
     of_piece Mover Giraffe = refl
     of_piece Mover Elephant = refl
@@ -154,9 +159,9 @@ holds_enemy_lion (Some piece) = of_piece piece.side piece.kind
 
 -- the layer of a kind of piece that can lie in a hand
 abbrev pub layer_of_kind : HandKind → ℕ
-layer_of_kind hand.Chick = 2
-layer_of_kind hand.Elephant = 3
-layer_of_kind hand.Giraffe = 4
+layer_of_kind hand.Chick = order Chicks
+layer_of_kind hand.Elephant = order Elephants
+layer_of_kind hand.Giraffe = order Giraffes
 
 pub holds_kind-layer : (kind : HandKind) (cell : Cell) → holds_kind kind cell ≡ eqb (layer cell) (layer_of_kind kind)
 holds_kind-layer hand.Chick None = refl
@@ -215,12 +220,12 @@ squares-layer test t h from (cell ∷ cells) =
     ap (λ (b : Bool). cond b (from ∷ squares_from (suc from) test cells) (squares_from (suc from) test cells)) (h cell)
     ∙ ap (λ (xs : List ℕ). cond (eqb (layer cell) t) (from ∷ xs) xs) (squares-layer test t h (suc from) cells)
 
--- a cell of layer 0 is the mover's lion
-pub mover_lion : (cell : Cell) → layer cell ≡ 0 → cell ≡ Some (piece_of Mover Lion)
-mover_lion None h = absurd (let five : 5 ≡ 0 = h in omega arith)
+-- a cell of the first layer is the mover's lion
+pub mover_lion : (cell : Cell) → layer cell ≡ order OwnLion → cell ≡ Some (piece_of Mover Lion)
+mover_lion None h = absurd (let five : order Empty ≡ order OwnLion = h in omega arith)
 mover_lion (Some piece) h = of_piece piece.side piece.kind h
   where
-    of_piece : (s : Side) (k : Kind) → order (layer_of s k) ≡ 0 → Some (piece_of s k) ≡ Some (piece_of Mover Lion)
+    of_piece : (s : Side) (k : Kind) → order (layer_of s k) ≡ order OwnLion → Some (piece_of s k) ≡ Some (piece_of Mover Lion)
     of_piece Mover Lion e = refl
     of_piece Mover Giraffe e = absurd (omega arith)
     of_piece Mover Elephant e = absurd (omega arith)
@@ -233,7 +238,7 @@ mover_lion (Some piece) h = of_piece piece.side piece.kind h
     of_piece Enemy Hen e = absurd (omega arith)
 
 -- the layer on a square
-pub layer-at : (cells : List Cell) (k : ℕ) → get_or (map layer cells) k 5 ≡ layer (get_or cells k None)
+pub layer-at : (cells : List Cell) (k : ℕ) → get_or (map layer cells) k (order Empty) ≡ layer (get_or cells k None)
 layer-at [] k = refl
 layer-at (cell ∷ cells) zero = refl
 layer-at (cell ∷ cells) (suc k) = layer-at cells k

@@ -12,8 +12,9 @@ use Rattle.dob_pieces.proofs.Boards.{all_below, all_below-at}
 use Rattle.dob_rank.specs.declared.runs.RunKind.{RunKind}
 use Rattle.dob_rank.specs.declared.runs.RunKind.TheVariants.{First, Later, Mixed}
 use Rattle.dob_rank.specs.Order.{IsPositionOf}
-use Rattle.dob_rank.specs.Numbers.{layer, choice, settle, own_squares, enemy_squares}
+use Rattle.dob_rank.specs.Numbers.{layer, choice, settle, own_squares, enemy_squares, order, empty_layers}
 use Rattle.dob_rank.specs.Runs.{lions_of, run_kind, lion_pairs}
+use Rattle.dob_rank.specs.declared.layers.Layer.TheVariants.{OwnLion, EnemyLion, Chicks, Empty}
 use Rattle.dob_rank.proofs.Settled.{hide, AreLayers, hide-hide, settle-choice, choice_hide_next}
 use Rattle.dob_rank.proofs.FormDigits.{AreLayers-map}
 use Rattle.dob_rank.proofs.Digits.{HasParts, HasParts-from_position, HasDigits-digits, hide_zero}
@@ -21,7 +22,7 @@ use Rattle.dob_rank.proofs.Digits.{HasParts, HasParts-from_position, HasDigits-d
 -- ---- layers of the mirror image
 
 abbrev pub mirror_layers : List ℕ → List ℕ
-mirror_layers ls = map (λ k. slice_index_or ls (mirrored_square k) 5) (range_with_len 0 12)
+mirror_layers ls = map (λ k. slice_index_or ls (mirrored_square k) (order Empty)) (range_with_len 0 12)
 
 layers-of_mirrored : (board : List Cell) → length board ≡ 12 →
     map layer (board_by (λ k. slice_index_or board (mirrored_square k) None)) ≡ mirror_layers (map layer board)
@@ -40,42 +41,44 @@ hide-mirror t ls eq = absurd (omega arith)
 
 -- the layers of a board with two lions whose squares have that number
 abbrev pub lions_layers : ℕ → List ℕ
-lions_layers lions = settle 1 1 (lions % enemy_squares) (settle 0 1 (lions / enemy_squares) (replicate 12 5))
+lions_layers lions = settle (order EnemyLion) 1 (lions % enemy_squares) (settle (order OwnLion) 1 (lions / enemy_squares) empty_layers)
 
 abbrev pub lions_in : List ℕ → ℕ
-lions_in ls = choice 0 ls * enemy_squares + choice 1 ls
+lions_in ls = choice (order OwnLion) ls * enemy_squares + choice (order EnemyLion) ls
 
 -- the number of the mirrored lions
 abbrev pub image_lions : ℕ → ℕ
 image_lions lions = lions_in (mirror_layers (lions_layers lions))
 
-lions_in-hide : (ls : List ℕ) → lions_in (hide 2 ls) ≡ lions_in ls
+lions_in-hide : (ls : List ℕ) → lions_in (hide (order Chicks) ls) ≡ lions_in ls
 lions_in-hide ls =
-    let own : choice 0 (hide 2 ls) ≡ choice 0 ls =
-    sym (choice_hide_next 0 (hide 2 ls) (omega arith))
-    ∙ ap (choice 0) (hide-hide 1 2 ls (omega arith) (omega arith)) ∙ choice_hide_next 0 ls (omega arith) in
-    let enemy : choice 1 (hide 2 ls) ≡ choice 1 ls = choice_hide_next 1 ls (omega arith) in
-    ap (λ n. n * enemy_squares + choice 1 (hide 2 ls)) own ∙ ap (λ n. choice 0 ls * enemy_squares + n) enemy
+    let own : choice (order OwnLion) (hide (order Chicks) ls) ≡ choice (order OwnLion) ls =
+    sym (choice_hide_next (order OwnLion) (hide (order Chicks) ls) (omega arith))
+    ∙ ap (choice (order OwnLion)) (hide-hide (order EnemyLion) (order Chicks) ls (omega arith) (omega arith))
+    ∙ choice_hide_next (order OwnLion) ls (omega arith) in
+    let enemy : choice (order EnemyLion) (hide (order Chicks) ls) ≡ choice (order EnemyLion) ls = choice_hide_next (order EnemyLion) ls (omega arith) in
+    ap (λ n. n * enemy_squares + choice (order EnemyLion) (hide (order Chicks) ls)) own ∙ ap (λ n. choice (order OwnLion) ls * enemy_squares + n) enemy
 
 -- a position's lions are on the squares of their number
-lions_layers-of : (set : PieceSet) (s : Setup) → IsPositionOf set s → lions_layers (lions_of s) ≡ hide 2 (map layer s.board)
+lions_layers-of : (set : PieceSet) (s : Setup) → IsPositionOf set s → lions_layers (lions_of s) ≡ hide (order Chicks) (map layer s.board)
 lions_layers-of set s p =
     let h : HasParts set s = HasParts-from_position set s p in
     let ls = map layer s.board in
-    let below : choice 1 ls < enemy_squares = (HasDigits-digits set s h).1.1.1.1.0 in
-    let own : lions_of s / enemy_squares ≡ choice 0 ls = omega arith in
-    let enemy : lions_of s % enemy_squares ≡ choice 1 ls = omega arith in
+    let below : choice (order EnemyLion) ls < enemy_squares = (HasDigits-digits set s h).1.1.1.1.0 in
+    let own : lions_of s / enemy_squares ≡ choice (order OwnLion) ls = omega arith in
+    let enemy : lions_of s % enemy_squares ≡ choice (order EnemyLion) ls = omega arith in
     let ok : AreLayers ls = AreLayers-map s.board in
-    let start : replicate 12 5 ≡ hide 0 ls = sym (hide_zero ls ∙ ap (λ (n : ℕ). replicate n 5) h.squares) in
-    let first : settle 0 1 (choice 0 ls) (replicate 12 5) ≡ hide 1 ls
-    = ap (settle 0 1 (choice 0 ls)) start
-    ∙ ap (λ (n : ℕ). settle 0 n (choice 0 ls) (hide 0 ls)) (sym h.own_lion)
-    ∙ settle-choice 0 ls (omega arith) ok in
-    let second : settle 1 1 (choice 1 ls) (hide 1 ls) ≡ hide 2 ls
-    = ap (λ (n : ℕ). settle 1 n (choice 1 ls) (hide 1 ls)) (sym h.other_lion) ∙ settle-choice 1 ls (omega arith) ok in
-    ap (λ n. settle 1 1 (lions_of s % enemy_squares) (settle 0 1 n (replicate 12 5))) own
-    ∙ ap (λ n. settle 1 1 n (settle 0 1 (choice 0 ls) (replicate 12 5))) enemy
-    ∙ ap (settle 1 1 (choice 1 ls)) first ∙ second
+    let start : empty_layers ≡ hide (order OwnLion) ls = sym (hide_zero ls ∙ ap (λ (n : ℕ). replicate n (order Empty)) h.squares) in
+    let first : settle (order OwnLion) 1 (choice (order OwnLion) ls) empty_layers ≡ hide (order EnemyLion) ls
+    = ap (settle (order OwnLion) 1 (choice (order OwnLion) ls)) start
+    ∙ ap (λ (n : ℕ). settle (order OwnLion) n (choice (order OwnLion) ls) (hide (order OwnLion) ls)) (sym h.own_lion)
+    ∙ settle-choice (order OwnLion) ls (omega arith) ok in
+    let second : settle (order EnemyLion) 1 (choice (order EnemyLion) ls) (hide (order EnemyLion) ls) ≡ hide (order Chicks) ls
+    = ap (λ (n : ℕ). settle (order EnemyLion) n (choice (order EnemyLion) ls) (hide (order EnemyLion) ls)) (sym h.other_lion)
+    ∙ settle-choice (order EnemyLion) ls (omega arith) ok in
+    ap (λ n. settle (order EnemyLion) 1 (lions_of s % enemy_squares) (settle (order OwnLion) 1 n empty_layers)) own
+    ∙ ap (λ n. settle (order EnemyLion) 1 n (settle (order OwnLion) 1 (choice (order OwnLion) ls) empty_layers)) enemy
+    ∙ ap (settle (order EnemyLion) 1 (choice (order EnemyLion) ls)) first ∙ second
 
 pub lions_of-mirrored : (set : PieceSet) (s : Setup) → IsPositionOf set s → lions_of (mirrored s) ≡ image_lions (lions_of s)
 lions_of-mirrored set s p =
@@ -83,14 +86,14 @@ lions_of-mirrored set s p =
     let twelve : length ls ≡ 12 = length-map s.board layer ∙ p.legal.squares in
     ap lions_in (layers-mirrored s p.legal.squares)
     ∙ sym (lions_in-hide (mirror_layers ls))
-    ∙ ap lions_in (hide-mirror 2 ls twelve)
+    ∙ ap lions_in (hide-mirror (order Chicks) ls twelve)
     ∙ ap (λ xs. lions_in (mirror_layers xs)) (sym (lions_layers-of set s p))
 
 pub lions_of-below : (set : PieceSet) (s : Setup) → IsPositionOf set s → lions_of s < lion_pairs
 lions_of-below set s p =
     let h : HasParts set s = HasParts-from_position set s p in
-    let below : choice 1 (map layer s.board) < enemy_squares = (HasDigits-digits set s h).1.1.1.1.0 in
-    let home : choice 0 (map layer s.board) < own_squares = h.home in
+    let below : choice (order EnemyLion) (map layer s.board) < enemy_squares = (HasDigits-digits set s h).1.1.1.1.0 in
+    let home : choice (order OwnLion) (map layer s.board) < own_squares = h.home in
     omega arith
 
 -- ---- what their columns say

@@ -6,7 +6,8 @@ use Rattle.std.proofs.lemmas.List.{drop_more}
 use Rattle.std.proofs.lemmas.Nat.{mul-le}
 use Rattle.std.proofs.Math.Nat.{mul_comm, pow-zero, pow-succ'}
 use Rattle.dob_pieces.specs.Setups.{Cell}
-use Rattle.dob_rank.specs.Numbers.{product, number_of, HasDigits, layer, count, choose, base_of, forms_number, board_of}
+use Rattle.dob_rank.specs.Numbers.{product, number_of, HasDigits, layer, count, choose, base_of, forms_number, board_of, order}
+use Rattle.dob_rank.specs.declared.layers.Layer.TheVariants.{Empty}
 use Rattle.dob_rank.proofs.MixedRadix.{digit_below, number_of-below}
 
 -- ---- the rest of a list, one element further back
@@ -138,6 +139,7 @@ pub record IsBoardStep (numbers rest ls : List ℕ) (board : List Cell) (i numbe
   pub size : length (set board (i - 1) cell) ≡ 12
   pub rest_size : length (set rest (get_or ls (i - 1) 0) number) ≡ 6
   pub board_is : drop (i - 1) (set board (i - 1) cell) ≡ board_of (slice_index numbers) (drop (i - 1) ls)
-  pub rest_is : (t : ℕ) → t ≤ 5 → slice_index (set rest (get_or ls (i - 1) 0) number) t ≡ slice_index numbers t / base_of t ^ count t (drop (i - 1) ls)
+  pub rest_is : (t : ℕ) → t ≤ order Empty → slice_index (set rest (get_or ls (i - 1) 0) number) t
+      ≡ slice_index numbers t / base_of t ^ count t (drop (i - 1) ls)
 
 -- ---- the start of a block

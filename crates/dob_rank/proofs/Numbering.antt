@@ -11,7 +11,7 @@ use Rattle.dob_rank.proofs.MixedRadix.{number_of-below, number_of-rises, HasDigi
 use Rattle.dob_rank.proofs.Sums.{sum_below-rises, same_block}
 use Rattle.dob_rank.proofs.Counts.{HasCount-from_numbering}
 use Rattle.dob_rank.proofs.Digits.{HasParts, HasParts-from_position, HasDigits-on_board, HasDigits-digits, setup_by-back}
-use Rattle.dob_rank.proofs.Made.{HasPlace, made, IsMade-made, IsPositionOf-made, on_board-made, digits-made}
+use Rattle.dob_rank.proofs.Made.{HasPlace, made, IsMade-made, IsPositionOf-made, on_board-made, digits-made, all_settled}
 use Rattle.dob_rank.proofs.Keys.{Before-digits, key-same}
 use Rattle.dob_rank.proofs.Order.{Precedes-total}
 
@@ -88,9 +88,9 @@ from_digits set i j k (h1 ∷ h2 ∷ h3 ∷ n0 ∷ n1 ∷ n2 ∷ n3 ∷ n4 ∷ f
     let m = IsMade-made set i j k h1 h2 h3 n0 n1 n2 n3 n4 f2 f3 f4 p in
     record {
       position = IsPositionOf-made set i j k n0 n1 n2 n3 n4
-          (settle 4 k n4 (settle 3 j n3 (settle 2 i n2 (settle 1 1 n1 (settle 0 1 n0 (replicate 12 5)))))) (made set i j k h1 h2 h3 n0 n1 n2 n3 n4 f2 f3 f4) m;
+          (all_settled i j k n0 n1 n2 n3 n4) (made set i j k h1 h2 h3 n0 n1 n2 n3 n4 f2 f3 f4) m;
       on_board_is = on_board-made set i j k n0 n1 n2 n3 n4
-          (settle 4 k n4 (settle 3 j n3 (settle 2 i n2 (settle 1 1 n1 (settle 0 1 n0 (replicate 12 5)))))) (made set i j k h1 h2 h3 n0 n1 n2 n3 n4 f2 f3 f4) m;
+          (all_settled i j k n0 n1 n2 n3 n4) (made set i j k h1 h2 h3 n0 n1 n2 n3 n4 f2 f3 f4) m;
       digits_are = digits-made set i j k h1 h2 h3 n0 n1 n2 n3 n4 f2 f3 f4 p;
     }
 

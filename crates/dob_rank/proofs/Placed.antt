@@ -6,6 +6,8 @@ use Rattle.std.proofs.Math.Nat.{pow-zero, pow-succ'}
 use Rattle.dob_pieces.specs.Setups.{Cell}
 use Rattle.dob_rank.specs.Numbers.{count, choose, settle, base_of, cell_of, board_of, numbers_by, layers_by, own_squares, enemy_squares, free_squares}
 use Rattle.dob_rank.specs.Placing.{past, lower_of, higher_of, first_place, second_place, put, AreChoices}
+use Rattle.dob_rank.specs.Numbers.{order, empty_layers}
+use Rattle.dob_rank.specs.declared.layers.Layer.TheVariants.{OwnLion, EnemyLion, Chicks, Elephants, Giraffes, Empty}
 use Rattle.dob_rank.proofs.Choices.{count_same, count_other, choose-split}
 use Rattle.dob_rank.proofs.Settled.{AreShown, IsSettled, settle-settles}
 use Rattle.dob_rank.proofs.LayerCounts.{length-settle}
@@ -18,18 +20,18 @@ use Rattle.dob_rank.proofs.EmptySquares.{settle_one, settle_two, choose_one}
 -- the square is empty, and no square of the layer stands before it
 abbrev IsOpen : ℕ → ℕ → List ℕ → Type 0
 IsOpen s t [] = ⊥
-IsOpen zero t (l ∷ ls) = l ≡ 5
+IsOpen zero t (l ∷ ls) = l ≡ order Empty
 IsOpen (suc s) t (l ∷ ls) = (l ≡ t → ⊥) × IsOpen s t ls
 
-count-set_other : (l t s : ℕ) (ls : List ℕ) → (l ≡ 5 → ⊥) → (l ≡ t → ⊥) → IsOpen s t ls → count l (set ls s t) ≡ count l ls
+count-set_other : (l t s : ℕ) (ls : List ℕ) → (l ≡ order Empty → ⊥) → (l ≡ t → ⊥) → IsOpen s t ls → count l (set ls s t) ≡ count l ls
 count-set_other l t s [] h k o = absurd o
 count-set_other l t zero (m ∷ ls) h k o =
-    count_other l t ls (λ e. k (sym e)) ∙ sym (ap (λ (x : ℕ). count l (x ∷ ls)) o ∙ count_other l 5 ls (λ e. h (sym e)))
+    count_other l t ls (λ e. k (sym e)) ∙ sym (ap (λ (x : ℕ). count l (x ∷ ls)) o ∙ count_other l (order Empty) ls (λ e. h (sym e)))
 count-set_other l t (suc s) (m ∷ ls) h k o = (let rest = count-set_other l t s ls h k o.1 in omega (arith, rest))
 
-count-set_same : (t s : ℕ) (ls : List ℕ) → (t ≡ 5 → ⊥) → IsOpen s t ls → count t (set ls s t) ≡ suc (count t ls)
+count-set_same : (t s : ℕ) (ls : List ℕ) → (t ≡ order Empty → ⊥) → IsOpen s t ls → count t (set ls s t) ≡ suc (count t ls)
 count-set_same t s [] h o = absurd o
-count-set_same t zero (l ∷ ls) h o = count_same t ls ∙ ap suc (sym (ap (λ (x : ℕ). count t (x ∷ ls)) o ∙ count_other t 5 ls (λ e. h (sym e))))
+count-set_same t zero (l ∷ ls) h o = count_same t ls ∙ ap suc (sym (ap (λ (x : ℕ). count t (x ∷ ls)) o ∙ count_other t (order Empty) ls (λ e. h (sym e))))
 count-set_same t (suc s) (l ∷ ls) h o =
     count_other t l (set ls s t) o.0 ∙ count-set_same t s ls h o.1 ∙ ap suc (sym (count_other t l ls o.0))
 
@@ -37,21 +39,21 @@ count-set_same t (suc s) (l ∷ ls) h o =
 abbrev next_cell : (ℕ → ℕ) → ℕ → List ℕ → Cell
 next_cell numbers t ls = cell_of t (numbers t / base_of t ^ count t ls % base_of t)
 
-board_of-set : (numbers : ℕ → ℕ) (t s : ℕ) (ls : List ℕ) → (t ≡ 5 → ⊥) → IsOpen s t ls
+board_of-set : (numbers : ℕ → ℕ) (t s : ℕ) (ls : List ℕ) → (t ≡ order Empty → ⊥) → IsOpen s t ls
     → board_of numbers (set ls s t) ≡ set (board_of numbers ls) s (next_cell numbers t ls)
 board_of-set numbers t s [] h o = absurd o
 board_of-set numbers t zero (l ∷ ls) h o =
     ap (λ (n : ℕ). cell_of t (numbers t / base_of t ^ n % base_of t) ∷ board_of numbers ls)
-    (sym (ap (λ (x : ℕ). count t (x ∷ ls)) o ∙ count_other t 5 ls (λ e. h (sym e))))
+    (sym (ap (λ (x : ℕ). count t (x ∷ ls)) o ∙ count_other t (order Empty) ls (λ e. h (sym e))))
 board_of-set numbers t (suc s) (l ∷ ls) h o =
     ap (λ (c : Cell). c ∷ board_of numbers (set ls s t)) head ∙ ap (λ (cs : List Cell). next_cell numbers l ls ∷ cs) (board_of-set numbers t s ls h o.1)
     ∙ ap (λ (n : ℕ). next_cell numbers l ls ∷ set (board_of numbers ls) s (cell_of t (numbers t / base_of t ^ n % base_of t))) (sym (count_other t l ls o.0))
   where
-    empty : (l m n : ℕ) → l ≡ 5 → cell_of l m ≡ cell_of l n
+    empty : (l m n : ℕ) → l ≡ order Empty → cell_of l m ≡ cell_of l n
     empty l m n e = subst (λ (x : ℕ). cell_of x m ≡ cell_of x n) (sym e) refl
 
     head : next_cell numbers l (set ls s t) ≡ next_cell numbers l ls
-    head = elim (cases_eq l 5) [
+    head = elim (cases_eq l (order Empty)) [
       | inl e ↦ empty l (numbers l / base_of l ^ count l (set ls s t) % base_of l) (numbers l / base_of l ^ count l ls % base_of l) e
       | inr ne ↦ ap (λ (n : ℕ). cell_of l (numbers l / base_of l ^ n % base_of l)) (count-set_other l t s ls ne o.0 o.1)
     ]
@@ -64,39 +66,41 @@ no_layer t l ls h = elim (cases_eq l t) [
   | inr ne ↦ (ne, sym (count_other t l ls ne) ∙ h)
 ]
 
-five_more : (l : ℕ) (ls : List ℕ) → l ≡ 5 → count 5 (l ∷ ls) ≡ suc (count 5 ls)
-five_more l ls e = ap (λ (x : ℕ). count 5 (x ∷ ls)) e ∙ count_same 5 ls
+five_more : (l : ℕ) (ls : List ℕ) → l ≡ order Empty → count (order Empty) (l ∷ ls) ≡ suc (count (order Empty) ls)
+five_more l ls e = ap (λ (x : ℕ). count (order Empty) (x ∷ ls)) e ∙ count_same (order Empty) ls
 
-open_one : (t n : ℕ) (ls : List ℕ) → (5 ≡ t → ⊥) → count t ls ≡ 0 → n < count 5 ls → IsOpen (empty_place ls n) t ls
+open_one : (t n : ℕ) (ls : List ℕ) → (order Empty ≡ t → ⊥) → count t ls ≡ 0 → n < count (order Empty) ls → IsOpen (empty_place ls n) t ls
 open_one t n [] h z k = absurd (omega arith)
 open_one t n (l ∷ ls) h z k =
     let none = no_layer t l ls z in
-    elim (cases_eq l 5) [
+    elim (cases_eq l (order Empty)) [
       | inl e ↦ subst (λ (x : ℕ). IsOpen (empty_place (x ∷ ls) n) t (x ∷ ls)) (sym e)
           (five n (subst (λ (m : ℕ). n < m) (five_more l ls e) k) (λ j low. open_one t j ls h none.1 low))
       | inr ne ↦ subst (λ (s : ℕ). IsOpen s t (l ∷ ls)) (sym (kept l ls n ne))
-          (none.0, open_one t n ls h none.1 (subst (λ (m : ℕ). n < m) (count_other 5 l ls ne) k))
+          (none.0, open_one t n ls h none.1 (subst (λ (m : ℕ). n < m) (count_other (order Empty) l ls ne) k))
     ]
   where
-    five : (n : ℕ) → n < suc (count 5 ls) → ((j : ℕ) → j < count 5 ls → IsOpen (empty_place ls j) t ls) → IsOpen (empty_place (5 ∷ ls) n) t (5 ∷ ls)
+    five : (n : ℕ) → n < suc (count (order Empty) ls) → ((j : ℕ) → j < count (order Empty) ls → IsOpen (empty_place ls j) t ls)
+        → IsOpen (empty_place (order Empty ∷ ls) n) t (order Empty ∷ ls)
     five zero low rec = refl
     five (suc n) low rec = (h, rec n (omega arith))
 
-open_two : (t a b : ℕ) (ls : List ℕ) → (5 ≡ t → ⊥) → count t ls ≡ 0 → a < b → b < count 5 ls → IsOpen (empty_place ls a) t (set ls (empty_place ls b) t)
+open_two : (t a b : ℕ) (ls : List ℕ) → (order Empty ≡ t → ⊥) → count t ls ≡ 0 → a < b → b < count (order Empty) ls
+    → IsOpen (empty_place ls a) t (set ls (empty_place ls b) t)
 open_two t a b [] h z k low = absurd (omega arith)
 open_two t a b (l ∷ ls) h z k low =
     let none = no_layer t l ls z in
-    elim (cases_eq l 5) [
+    elim (cases_eq l (order Empty)) [
       | inl e ↦ subst (λ (x : ℕ). IsOpen (empty_place (x ∷ ls) a) t (set (x ∷ ls) (empty_place (x ∷ ls) b) t)) (sym e)
           (five a b k (subst (λ (m : ℕ). b < m) (five_more l ls e) low) (λ i j less under. open_two t i j ls h none.1 less under))
       | inr ne ↦ subst (λ (s : ℕ). IsOpen s t (set (l ∷ ls) (empty_place (l ∷ ls) b) t)) (sym (kept l ls a ne))
           (subst (λ (s : ℕ). IsOpen (suc (empty_place ls a)) t (set (l ∷ ls) s t)) (sym (kept l ls b ne))
-          (none.0, open_two t a b ls h none.1 k (subst (λ (m : ℕ). b < m) (count_other 5 l ls ne) low)))
+          (none.0, open_two t a b ls h none.1 k (subst (λ (m : ℕ). b < m) (count_other (order Empty) l ls ne) low)))
     ]
   where
-    five : (a b : ℕ) → a < b → b < suc (count 5 ls) →
-        ((i j : ℕ) → i < j → j < count 5 ls → IsOpen (empty_place ls i) t (set ls (empty_place ls j) t)) →
-        IsOpen (empty_place (5 ∷ ls) a) t (set (5 ∷ ls) (empty_place (5 ∷ ls) b) t)
+    five : (a b : ℕ) → a < b → b < suc (count (order Empty) ls) →
+        ((i j : ℕ) → i < j → j < count (order Empty) ls → IsOpen (empty_place ls i) t (set ls (empty_place ls j) t)) →
+        IsOpen (empty_place (order Empty ∷ ls) a) t (set (order Empty ∷ ls) (empty_place (order Empty ∷ ls) b) t)
     five a zero less under rec = absurd (omega arith)
     five zero (suc b) less under rec = refl
     five (suc a) (suc b) less under rec = (h, rec a b (omega arith) (omega arith))
@@ -121,12 +125,12 @@ choice_of (suc m) n h = elim (cases_lt n m) [
 -- the board of the layers that were settled so far, and where the squares that are left stand
 pub record Stand (numbers : ℕ → ℕ) (t m : ℕ) (ls : List ℕ) (cells : List Cell) (f : ℕ → ℕ) : Type 0 where
   pub board_is : cells ≡ board_of numbers ls
-  pub empty_is : count 5 ls ≡ m
+  pub empty_is : count (order Empty) ls ≡ m
   pub long : length ls ≡ 12
   pub shown : AreShown t ls
   pub place_is : (n : ℕ) → n < m → empty_place ls n ≡ f n
 
-none_shown : (t : ℕ) (ls : List ℕ) → t < 5 → AreShown t ls → count t ls ≡ 0
+none_shown : (t : ℕ) (ls : List ℕ) → t < order Empty → AreShown t ls → count t ls ≡ 0
 none_shown t [] h a = refl
 none_shown t (l ∷ ls) h a = count_other t l ls other ∙ none_shown t ls h a.1
   where
@@ -135,17 +139,17 @@ none_shown t (l ∷ ls) h a = count_other t l ls other ∙ none_shown t ls h a.1
 
 -- what is the same of each number of pieces
 record IsLeft (t p m : ℕ) (rs : List ℕ) : Type 0 where
-  empty_is : count 5 rs ≡ m - p
+  empty_is : count (order Empty) rs ≡ m - p
   long : length rs ≡ 12
   shown : AreShown (suc t) rs
 
-left : (numbers : ℕ → ℕ) (t p n m : ℕ) (ls : List ℕ) (cells : List Cell) (f : ℕ → ℕ) → t < 5 → n < choose m p → Stand numbers t m ls cells f →
+left : (numbers : ℕ → ℕ) (t p n m : ℕ) (ls : List ℕ) (cells : List Cell) (f : ℕ → ℕ) → t < order Empty → n < choose m p → Stand numbers t m ls cells f →
     IsLeft t p m (settle t p n ls)
 left numbers t p n m ls cells f h low s =
     let settled : IsSettled t p n ls (settle t p n ls) =
     settle-settles t p n ls h s.shown (subst (λ (x : ℕ). n < choose x p) (sym s.empty_is) low) in
-    let after : count 5 (settle t p n ls) + p ≡ count 5 ls = empty_after t p n ls (settle t p n ls) h settled in
-    let before : count 5 ls ≡ m = s.empty_is in
+    let after : count (order Empty) (settle t p n ls) + p ≡ count (order Empty) ls = empty_after t p n ls (settle t p n ls) h settled in
+    let before : count (order Empty) ls ≡ m = s.empty_is in
     record { empty_is = omega arith; long = length-settle t p n ls ∙ s.long; shown = settled.shown }
 
 without : (n : ℕ) → n / 1 ≡ n
@@ -165,16 +169,16 @@ second_form numbers t ls o =
     once n = omega arith
 
 -- one piece
-pub stage_one : (numbers : ℕ → ℕ) (t n m : ℕ) (ls : List ℕ) (cells : List Cell) (f : ℕ → ℕ) → t < 5 → n < m → Stand numbers t m ls cells f →
+pub stage_one : (numbers : ℕ → ℕ) (t n m : ℕ) (ls : List ℕ) (cells : List Cell) (f : ℕ → ℕ) → t < order Empty → n < m → Stand numbers t m ls cells f →
     Stand numbers (suc t) (m - 1) (settle t 1 n ls) (set cells (f n) (cell_of t (numbers t % base_of t))) (λ k. f (past n k))
 stage_one numbers t n m ls cells f h low s =
-    let same : count 5 ls ≡ m = s.empty_is in
-    let here : n < count 5 ls = omega arith in
+    let same : count (order Empty) ls ≡ m = s.empty_is in
+    let here : n < count (order Empty) ls = omega arith in
     let rest = left numbers t 1 n m ls cells f h (subst (λ (x : ℕ). n < x) (sym (choose_one m)) low) s in
     let is : settle t 1 n ls ≡ set ls (empty_place ls n) t = settle_one t n ls here in
     let none : count t ls ≡ 0 = none_shown t ls h s.shown in
-    let five : 5 ≡ t → ⊥ = λ (e : 5 ≡ t). absurd (omega arith) in
-    let other : t ≡ 5 → ⊥ = λ (e : t ≡ 5). absurd (omega arith) in
+    let five : order Empty ≡ t → ⊥ = λ (e : order Empty ≡ t). absurd (omega arith) in
+    let other : t ≡ order Empty → ⊥ = λ (e : t ≡ order Empty). absurd (omega arith) in
     record {
       board_is = ap (λ (cs : List Cell). set cs (f n) (cell_of t (numbers t % base_of t))) s.board_is
           ∙ ap (λ (x : ℕ). set (board_of numbers ls) x (cell_of t (numbers t % base_of t))) (sym (s.place_is n low))
@@ -189,24 +193,24 @@ stage_one numbers t n m ls cells f h low s =
     }
 
 -- two pieces
-stage_two : (numbers : ℕ → ℕ) (t n m : ℕ) (ls : List ℕ) (cells : List Cell) (f : ℕ → ℕ) → t < 5 → n < choose m 2 → Stand numbers t m ls cells f →
+stage_two : (numbers : ℕ → ℕ) (t n m : ℕ) (ls : List ℕ) (cells : List Cell) (f : ℕ → ℕ) → t < order Empty → n < choose m 2 → Stand numbers t m ls cells f →
     Stand numbers (suc t) (m - 2) (settle t 2 n ls)
     (set (set cells (f (higher_of m n)) (cell_of t (numbers t % base_of t))) (f (lower_of m n)) (cell_of t (numbers t / base_of t % base_of t)))
     (λ k. f (past (higher_of m n) (past (lower_of m n) k)))
 stage_two numbers t n m ls cells f h low s =
-    let same : count 5 ls ≡ m = s.empty_is in
+    let same : count (order Empty) ls ≡ m = s.empty_is in
     let choice = choice_of m n low in
     let rising : lower_of m n < higher_of m n = choice.rising in
     let below : higher_of m n < m = choice.below in
-    let here : higher_of m n < count 5 ls = omega arith in
+    let here : higher_of m n < count (order Empty) ls = omega arith in
     let rest = left numbers t 2 n m ls cells f h low s in
     let once : List ℕ = set ls (empty_place ls (higher_of m n)) t in
     let is : settle t 2 n ls ≡ set (set ls (empty_place ls (higher_of m n)) t) (empty_place ls (lower_of m n)) t =
     subst (λ (x : ℕ). settle t 2 n ls ≡ set (set ls (empty_place ls (higher_of x n)) t) (empty_place ls (lower_of x n)) t) same
     (settle_two t n ls (subst (λ (x : ℕ). n < choose x 2) (sym same) low)) in
     let none : count t ls ≡ 0 = none_shown t ls h s.shown in
-    let five : 5 ≡ t → ⊥ = λ (e : 5 ≡ t). absurd (omega arith) in
-    let other : t ≡ 5 → ⊥ = λ (e : t ≡ 5). absurd (omega arith) in
+    let five : order Empty ≡ t → ⊥ = λ (e : order Empty ≡ t). absurd (omega arith) in
+    let other : t ≡ order Empty → ⊥ = λ (e : t ≡ order Empty). absurd (omega arith) in
     let first = open_one t (higher_of m n) ls five none here in
     let one : count t (set ls (empty_place ls (higher_of m n)) t) ≡ 1 = count-set_same t (empty_place ls (higher_of m n)) ls other first ∙ ap suc none in
     let lower : past (higher_of m n) (lower_of m n) ≡ lower_of m n = past-low (higher_of m n) (lower_of m n) rising in
@@ -243,7 +247,7 @@ stage_two numbers t n m ls cells f h low s =
     }
 
 -- any number of pieces up to two
-pub stage : (numbers : ℕ → ℕ) (t p n m : ℕ) (ls : List ℕ) (cells : List Cell) (f : ℕ → ℕ) → t < 5
+pub stage : (numbers : ℕ → ℕ) (t p n m : ℕ) (ls : List ℕ) (cells : List Cell) (f : ℕ → ℕ) → t < order Empty
     → p ≤ 2 → m ≤ 12 → n < choose m p → Stand numbers t m ls cells f →
     Stand numbers (suc t) (m - p) (settle t p n ls) (put t p (f (first_place m p n)) (f (second_place m p n)) (numbers t) cells)
     (λ k. f (past (second_place m p n) (past (first_place m p n) k)))
@@ -273,7 +277,7 @@ stage numbers t (suc (suc (suc p))) n m ls cells f h few upto low s = absurd (om
 -- the squares of a choice are on the board
 pub place_below : (numbers : ℕ → ℕ) (t n m : ℕ) (ls : List ℕ) (cells : List Cell) (f : ℕ → ℕ) → n < m → Stand numbers t m ls cells f → f n < 12
 place_below numbers t n m ls cells f low s =
-    let same : count 5 ls ≡ m = s.empty_is in
+    let same : count (order Empty) ls ≡ m = s.empty_is in
     let here = empty_place-below ls n (omega arith) in
     let long : length ls ≡ 12 = s.long in
     let is : empty_place ls n ≡ f n = s.place_is n low in
@@ -297,20 +301,20 @@ second_below numbers t (suc (suc (suc p))) n m ls cells f few low s some = absur
 
 -- ---- the empty board
 
-all_empty : (n : ℕ) → AreShown 0 (replicate n 5)
+all_empty : (n : ℕ) → AreShown (order OwnLion) (replicate n (order Empty))
 all_empty zero = tt
 all_empty (suc n) = (inr refl, all_empty n)
 
-empty_board : (numbers : ℕ → ℕ) (n : ℕ) → replicate n None ≡ board_of numbers (replicate n 5)
+empty_board : (numbers : ℕ → ℕ) (n : ℕ) → replicate n None ≡ board_of numbers (replicate n (order Empty))
 empty_board numbers zero = refl
 empty_board numbers (suc n) = ap (λ (cs : List Cell). None ∷ cs) (empty_board numbers n)
 
-every_place : (m n : ℕ) → n < m → empty_place (replicate m 5) n ≡ n
+every_place : (m n : ℕ) → n < m → empty_place (replicate m (order Empty)) n ≡ n
 every_place zero n h = absurd (omega arith)
 every_place (suc m) zero h = refl
 every_place (suc m) (suc n) h = ap suc (every_place m n (omega arith))
 
-pub start : (numbers : ℕ → ℕ) → Stand numbers 0 12 (replicate 12 5) (replicate 12 None) (λ n. n)
+pub start : (numbers : ℕ → ℕ) → Stand numbers (order OwnLion) 12 empty_layers (replicate 12 None) (λ n. n)
 start numbers = record {
   board_is = empty_board numbers 12;
   empty_is = refl;
@@ -340,69 +344,75 @@ after_elephants ob ds n =
 
 -- the board with the lions, with the chicks, with the elephants and with the giraffes
 abbrev pub with_lions : List ℕ → List Cell
-with_lions ds = set (set (replicate 12 None) (slice_index ds 3) (cell_of 0 0)) (past (slice_index ds 3) (slice_index ds 4)) (cell_of 1 0)
+with_lions ds = set (set (replicate 12 None) (slice_index ds 3) (cell_of (order OwnLion) 0)) (past (slice_index ds 3) (slice_index ds 4))
+    (cell_of (order EnemyLion) 0)
 
 abbrev pub with_chicks : List ℕ → List ℕ → List Cell
 with_chicks ob ds =
     let i = slice_index ob 0 in
     let choice = slice_index ds 5 in
-    put 2 i (after_lions ds (first_place free_squares i choice)) (after_lions ds (second_place free_squares i choice)) (slice_index ds 8) (with_lions ds)
+    put (order Chicks) i (after_lions ds (first_place free_squares i choice)) (after_lions ds (second_place free_squares i choice)) (slice_index ds 8)
+    (with_lions ds)
 
 abbrev pub with_elephants : List ℕ → List ℕ → List Cell
 with_elephants ob ds =
     let left = free_squares - slice_index ob 0 in
     let j = slice_index ob 1 in
     let choice = slice_index ds 6 in
-    put 3 j (after_chicks ob ds (first_place left j choice)) (after_chicks ob ds (second_place left j choice)) (slice_index ds 9) (with_chicks ob ds)
+    put (order Elephants) j (after_chicks ob ds (first_place left j choice)) (after_chicks ob ds (second_place left j choice)) (slice_index ds 9)
+    (with_chicks ob ds)
 
 abbrev pub with_giraffes : List ℕ → List ℕ → List Cell
 with_giraffes ob ds =
     let left = free_squares - slice_index ob 0 - slice_index ob 1 in
     let k = slice_index ob 2 in
     let choice = slice_index ds 7 in
-    put 4 k (after_elephants ob ds (first_place left k choice)) (after_elephants ob ds (second_place left k choice)) (slice_index ds 10) (with_elephants ob ds)
+    put (order Giraffes) k (after_elephants ob ds (first_place left k choice)) (after_elephants ob ds (second_place left k choice)) (slice_index ds 10)
+    (with_elephants ob ds)
 
 -- the layers settled up to the lions, the chicks and the elephants
 abbrev pub lions_by : List ℕ → List ℕ
-lions_by ds = settle 1 1 (slice_index ds 4) (settle 0 1 (slice_index ds 3) (replicate 12 5))
+lions_by ds = settle (order EnemyLion) 1 (slice_index ds 4) (settle (order OwnLion) 1 (slice_index ds 3) empty_layers)
 
 abbrev pub chicks_by : List ℕ → List ℕ → List ℕ
-chicks_by ob ds = settle 2 (slice_index ob 0) (slice_index ds 5) (lions_by ds)
+chicks_by ob ds = settle (order Chicks) (slice_index ob 0) (slice_index ds 5) (lions_by ds)
 
 abbrev pub elephants_by : List ℕ → List ℕ → List ℕ
-elephants_by ob ds = settle 3 (slice_index ob 1) (slice_index ds 6) (chicks_by ob ds)
+elephants_by ob ds = settle (order Elephants) (slice_index ob 1) (slice_index ds 6) (chicks_by ob ds)
 
-pub lions_stand : (ob ds : List ℕ) → AreChoices ob ds → Stand (numbers_by ds) 2 free_squares (lions_by ds) (with_lions ds) (after_lions ds)
+pub lions_stand : (ob ds : List ℕ) → AreChoices ob ds → Stand (numbers_by ds) (order Chicks) free_squares (lions_by ds) (with_lions ds) (after_lions ds)
 lions_stand ob ds c =
     let own : slice_index ds 3 < own_squares = c.own_lion in
-    let zero_low : 0 < 5 = omega arith in
-    let one_low : 1 < 5 = omega arith in
-    stage_one (numbers_by ds) 1 (slice_index ds 4) enemy_squares (settle 0 1 (slice_index ds 3) (replicate 12 5))
-    (set (replicate 12 None) (slice_index ds 3) (cell_of 0 0))
+    let zero_low : order OwnLion < order Empty = omega arith in
+    let one_low : order EnemyLion < order Empty = omega arith in
+    stage_one (numbers_by ds) (order EnemyLion) (slice_index ds 4) enemy_squares (settle (order OwnLion) 1 (slice_index ds 3) empty_layers)
+    (set (replicate 12 None) (slice_index ds 3) (cell_of (order OwnLion) 0))
     (past (slice_index ds 3)) one_low c.other_lion
-    (stage_one (numbers_by ds) 0 (slice_index ds 3) 12 (replicate 12 5) (replicate 12 None) (λ n. n) zero_low (omega arith) (start (numbers_by ds)))
+    (stage_one (numbers_by ds) (order OwnLion) (slice_index ds 3) 12 empty_layers (replicate 12 None) (λ n. n) zero_low (omega arith) (start (numbers_by ds)))
 
 pub chicks_stand : (ob ds : List ℕ) → AreChoices ob ds →
-    Stand (numbers_by ds) 3 (free_squares - slice_index ob 0) (chicks_by ob ds) (with_chicks ob ds) (after_chicks ob ds)
+    Stand (numbers_by ds) (order Elephants) (free_squares - slice_index ob 0) (chicks_by ob ds) (with_chicks ob ds) (after_chicks ob ds)
 chicks_stand ob ds c =
-    let low : 2 < 5 = omega arith in
+    let low : order Chicks < order Empty = omega arith in
     let room : free_squares ≤ 12 = omega arith in
-    stage (numbers_by ds) 2 (slice_index ob 0) (slice_index ds 5) free_squares (lions_by ds) (with_lions ds)
+    stage (numbers_by ds) (order Chicks) (slice_index ob 0) (slice_index ds 5) free_squares (lions_by ds) (with_lions ds)
     (after_lions ds) low c.chicks room c.chick_squares (lions_stand ob ds c)
 
 pub elephants_stand : (ob ds : List ℕ) → AreChoices ob ds →
-    Stand (numbers_by ds) 4 (free_squares - slice_index ob 0 - slice_index ob 1) (elephants_by ob ds) (with_elephants ob ds) (after_elephants ob ds)
+    Stand (numbers_by ds) (order Giraffes) (free_squares - slice_index ob 0 - slice_index ob 1) (elephants_by ob ds) (with_elephants ob ds)
+    (after_elephants ob ds)
 elephants_stand ob ds c =
-    let low : 3 < 5 = omega arith in
+    let low : order Elephants < order Empty = omega arith in
     let room : free_squares - slice_index ob 0 ≤ 12 = omega arith in
-    stage (numbers_by ds) 3 (slice_index ob 1) (slice_index ds 6) (free_squares - slice_index ob 0) (chicks_by ob ds) (with_chicks ob ds) (after_chicks ob ds)
+    stage (numbers_by ds) (order Elephants) (slice_index ob 1) (slice_index ds 6) (free_squares - slice_index ob 0) (chicks_by ob ds) (with_chicks ob ds)
+    (after_chicks ob ds)
     low c.elephants room c.elephant_squares (chicks_stand ob ds c)
 
 pub whole_board : (ob ds : List ℕ) → AreChoices ob ds → with_giraffes ob ds ≡ board_of (numbers_by ds) (layers_by ob ds)
 whole_board ob ds c =
-    let low : 4 < 5 = omega arith in
+    let low : order Giraffes < order Empty = omega arith in
     let room : free_squares - slice_index ob 0 - slice_index ob 1 ≤ 12 = omega arith in
-    (stage (numbers_by ds) 4 (slice_index ob 2) (slice_index ds 7) (free_squares - slice_index ob 0 - slice_index ob 1) (elephants_by ob ds)
+    (stage (numbers_by ds) (order Giraffes) (slice_index ob 2) (slice_index ds 7) (free_squares - slice_index ob 0 - slice_index ob 1) (elephants_by ob ds)
     (with_elephants ob ds) (after_elephants ob ds) low c.giraffes room c.giraffe_squares (elephants_stand ob ds c)).board_is
 
 -- pieces put on the same squares of the same board

@@ -12,10 +12,11 @@ use Rattle.dob_pieces.specs.declared.setup.Setup.{Setup}
 use Rattle.dob_pieces.specs.Setups.{mirrored}
 use Rattle.dob_rank.specs.declared.runs.RunKind.TheVariants.{First, Later}
 use Rattle.dob_rank.specs.Order.{IsPositionOf}
-use Rattle.dob_rank.specs.Numbers.{layer, count, choice, forms_number, product, number_of, digits_of, sum_below, block_bases, bases_by}
+use Rattle.dob_rank.specs.Numbers.{layer, count, choice, forms_number, product, number_of, digits_of, sum_below, block_bases, bases_by, order}
 use Rattle.dob_rank.specs.Numbers.{on_board, block_of, block_size, rank_of, setup_in, own_squares, enemy_squares}
 use Rattle.dob_rank.specs.Marks.{is_first, marked}
 use Rattle.dob_rank.specs.Runs.{run_bases, local_bases, runs_in, run_size, run_start, lions_of, run_kind, lion_pairs}
+use Rattle.dob_rank.specs.declared.layers.Layer.TheVariants.{OwnLion, EnemyLion, Chicks, Elephants, Giraffes}
 use Rattle.dob_rank.proofs.Blocks.{AreBases-by, few_in_block, block_size-small}
 use Rattle.dob_rank.proofs.MixedRadix.{digit_below, number_of-below, product-append, number_of-append}
 use Rattle.dob_rank.proofs.Digits.{HasParts-from_position, HasDigits-digits}
@@ -34,12 +35,12 @@ abbrev hand_digits : Setup → List ℕ
 hand_digits s = s.hands.mover.chicks ∷ s.hands.mover.elephants ∷ s.hands.mover.giraffes ∷ []
 
 abbrev lions_digits : Setup → List ℕ
-lions_digits s = choice 0 (map layer s.board) ∷ choice 1 (map layer s.board) ∷ []
+lions_digits s = choice (order OwnLion) (map layer s.board) ∷ choice (order EnemyLion) (map layer s.board) ∷ []
 
 abbrev local_digits : Setup → List ℕ
 local_digits s =
-    choice 2 (map layer s.board) ∷ choice 3 (map layer s.board) ∷ choice 4 (map layer s.board)
-    ∷ forms_number 2 s.board ∷ forms_number 3 s.board ∷ forms_number 4 s.board ∷ []
+    choice (order Chicks) (map layer s.board) ∷ choice (order Elephants) (map layer s.board) ∷ choice (order Giraffes) (map layer s.board)
+    ∷ forms_number (order Chicks) s.board ∷ forms_number (order Elephants) s.board ∷ forms_number (order Giraffes) s.board ∷ []
 
 -- the numbers of the hands, of the run and of the place in it
 hand_of : PieceSet → Setup → ℕ

@@ -6,8 +6,9 @@ use Rattle.dob_pieces.specs.declared.piece_set.PieceSet.{PieceSet}
 use Rattle.dob_pieces.specs.declared.setup.Setup.{Setup}
 use Rattle.dob_pieces.specs.Setups.{total, IsLegal}
 use Rattle.dob_rank.specs.Order.{IsPositionOf, pieces_of, HasRank}
-use Rattle.dob_rank.specs.Numbers.{layer, count, product, number_of, digits_of, sum_below, block_bases, bases, bases_by, on_board, digits}
+use Rattle.dob_rank.specs.Numbers.{layer, count, product, number_of, digits_of, sum_below, block_bases, bases, bases_by, on_board, digits, order}
 use Rattle.dob_rank.specs.Numbers.{block_of, block_size, rank_of}
+use Rattle.dob_rank.specs.declared.layers.Layer.TheVariants.{OwnLion, EnemyLion, Chicks, Elephants, Giraffes, Empty}
 use Rattle.dob_rank.proofs.Digits.{HasParts, HasParts-from_position}
 use Rattle.dob_rank.proofs.Numbering.{block_size-product, rank_of-place, place_of, HasRank-rank_of}
 
@@ -43,22 +44,23 @@ one_few : (n : ℕ) → n ≡ 1 → n ≤ 2
 one_few n h = omega arith
 
 -- no layer of a legal setup has more than two cells but the empty one
-pub few_in_layer : (s : Setup) (t : ℕ) → IsLegal s → t < 5 → count t (map layer s.board) ≤ 2
+pub few_in_layer : (s : Setup) (t : ℕ) → IsLegal s → t < order Empty → count t (map layer s.board) ≤ 2
 few_in_layer s t legal below = by_layer t below
   where
     parts : HasParts (set_of s legal) s
     parts = HasParts-from_position (set_of s legal) s (IsPositionOf-set_of s legal)
 
-    by_layer : (t : ℕ) → t < 5 → count t (map layer s.board) ≤ 2
-    by_layer zero h = one_few (count 0 (map layer s.board)) parts.own_lion
-    by_layer (suc zero) h = one_few (count 1 (map layer s.board)) parts.other_lion
-    by_layer (suc (suc zero)) h = few_left (count 2 (map layer s.board)) s.hands.mover.chicks s.hands.enemy.chicks
+    by_layer : (t : ℕ) → t < order Empty → count t (map layer s.board) ≤ 2
+    by_layer zero h = one_few (count (order OwnLion) (map layer s.board)) parts.own_lion
+    by_layer (suc zero) h = one_few (count (order EnemyLion) (map layer s.board)) parts.other_lion
+    by_layer (suc (suc zero)) h = few_left (count (order Chicks) (map layer s.board)) s.hands.mover.chicks s.hands.enemy.chicks
         (total hand.Chick s) parts.chicks (legal.few hand.Chick)
     by_layer (suc (suc (suc zero))) h
-        = few_left (count 3 (map layer s.board)) s.hands.mover.elephants s.hands.enemy.elephants
+        = few_left (count (order Elephants) (map layer s.board)) s.hands.mover.elephants s.hands.enemy.elephants
         (total hand.Elephant s) parts.elephants (legal.few hand.Elephant)
     by_layer (suc (suc (suc (suc zero)))) h
-        = few_left (count 4 (map layer s.board)) s.hands.mover.giraffes s.hands.enemy.giraffes (total hand.Giraffe s) parts.giraffes (legal.few hand.Giraffe)
+        = few_left (count (order Giraffes) (map layer s.board)) s.hands.mover.giraffes s.hands.enemy.giraffes (total hand.Giraffe s) parts.giraffes
+        (legal.few hand.Giraffe)
     by_layer (suc (suc (suc (suc (suc t))))) h = absurd (omega (arith, h))
 
 -- ---- a rank depends on the set's numbers alone
@@ -90,7 +92,7 @@ rank_of-sets p q s hp hq =
     ∙ ap (λ (xs : List ℕ). sum_below (block_size p) (number_of xs (on_board s)) + place_of p s) (block_bases-same p q c e g)
     ∙ ap (λ (n : ℕ). n + place_of p s) (sum_below-same (block_size p) (block_size q) (λ n. block_size-same p q n c e g) (block_of q s))
     ∙ ap (λ (xs : List ℕ). sum_below (block_size q) (block_of q s) + number_of xs (digits s))
-    (bases-same p q (count 2 (map layer s.board)) (count 3 (map layer s.board)) (count 4 (map layer s.board)) c e g)
+    (bases-same p q (count (order Chicks) (map layer s.board)) (count (order Elephants) (map layer s.board)) (count (order Giraffes) (map layer s.board)) c e g)
     ∙ sym (rank_of-place q s)
 
 -- the rank found for one set is that of each set of the position

@@ -72,6 +72,10 @@ layer_on (Some piece) = layer_of piece.side piece.kind
 abbrev pub layer : Cell → ℕ
 layer cell = order (layer_on cell)
 
+-- the layers of an empty board
+abbrev pub empty_layers : List ℕ
+empty_layers = replicate 12 (order Empty)
+
 -- how many cells are of that layer
 abbrev pub count : ℕ → List ℕ → ℕ
 count t [] = 0
@@ -211,7 +215,7 @@ layers_by on_board ds =
     settle (order Giraffes) (slice_index on_board 2) (slice_index ds 7)
     (settle (order Elephants) (slice_index on_board 1) (slice_index ds 6)
     (settle (order Chicks) (slice_index on_board 0) (slice_index ds 5)
-    (settle (order EnemyLion) 1 (slice_index ds 4) (settle (order OwnLion) 1 (slice_index ds 3) (replicate 12 (order Empty))))))
+    (settle (order EnemyLion) 1 (slice_index ds 4) (settle (order OwnLion) 1 (slice_index ds 3) empty_layers))))
 
 -- the mover's hand that the digits say, and the enemy's with all other pieces of the set
 abbrev pub hand_by : List ℕ → Hand

@@ -1,8 +1,9 @@
 -- The squares of the pieces are those that the layers before leave, and the board is the one of the settled layers.
 use Rattle.std.proofs.Common.{◌≡◌, ◌<◌, ◌-◌, ℕ, None, replicate, set, slice_index, sym, ap, ◌∙◌, subst}
 use Rattle.dob_pieces.specs.Setups.{Cell}
-use Rattle.dob_rank.specs.Numbers.{numbers_by, cell_of, free_squares}
+use Rattle.dob_rank.specs.Numbers.{numbers_by, cell_of, free_squares, order}
 use Rattle.dob_rank.specs.Placing.{past}
+use Rattle.dob_rank.specs.declared.layers.Layer.TheVariants.{OwnLion, Chicks, Elephants, Giraffes}
 use Rattle.dob_rank.proofs.Placed.{after_lions, after_chicks, after_elephants, with_lions, with_chicks, with_elephants, lions_by, chicks_by}
 use Rattle.dob_rank.proofs.Placed.{elephants_by, lions_stand, chicks_stand, elephants_stand, whole_board, first_below, second_below}
 use Rattle.dob_rank.proofs.Placed.{put-same}
@@ -19,7 +20,7 @@ put-requires-clause-first c =
     let digits = c.args.digits.now in
     λ some. subst (λ (n : ℕ). n < 12)
     (sym (c.among-chick_squares.ensures.first ∙ ap (after_lions digits) c.places_of-chicks.ensures.first))
-    (first_below (numbers_by digits) 2 (slice_index on_board 0) (slice_index digits 5) free_squares
+    (first_below (numbers_by digits) (order Chicks) (slice_index on_board 0) (slice_index digits 5) free_squares
     (lions_by digits) (with_lions digits) (after_lions digits)
     c.requires.chicks c.requires.chick_squares (lions_stand on_board digits c.requires) some)
 
@@ -28,7 +29,7 @@ put-requires-clause-second c =
     let on_board = c.args.on_board.now in
     let digits = c.args.digits.now in
     λ some. subst (λ (n : ℕ). n < 12) (sym (c.among-chick_squares.ensures.second ∙ ap (after_lions digits) c.places_of-chicks.ensures.second))
-    (second_below (numbers_by digits) 2 (slice_index on_board 0) (slice_index digits 5) free_squares
+    (second_below (numbers_by digits) (order Chicks) (slice_index on_board 0) (slice_index digits 5) free_squares
     (lions_by digits) (with_lions digits) (after_lions digits)
     c.requires.chicks c.requires.chick_squares (lions_stand on_board digits c.requires) some)
 
@@ -40,7 +41,7 @@ put-requires-2-clause-first c =
     (sym (c.among-elephant_squares.ensures.first
     ∙ ap (after_lions digits) (among_same _ _ _ _ _ _ _ c.among.ensures.first c.places_of-chicks.ensures.first
     c.places_of-chicks.ensures.second c.places_of-elephants.ensures.first)))
-    (first_below (numbers_by digits) 3 (slice_index on_board 1) (slice_index digits 6)
+    (first_below (numbers_by digits) (order Elephants) (slice_index on_board 1) (slice_index digits 6)
     (free_squares - slice_index on_board 0) (chicks_by on_board digits) (with_chicks on_board digits)
     (after_chicks on_board digits)
     c.requires.elephants c.requires.elephant_squares (chicks_stand on_board digits c.requires) some)
@@ -53,7 +54,7 @@ put-requires-2-clause-second c =
     (sym (c.among-elephant_squares.ensures.second
     ∙ ap (after_lions digits) (among_same _ _ _ _ _ _ _ c.among.ensures.second c.places_of-chicks.ensures.first
     c.places_of-chicks.ensures.second c.places_of-elephants.ensures.second)))
-    (second_below (numbers_by digits) 3 (slice_index on_board 1) (slice_index digits 6)
+    (second_below (numbers_by digits) (order Elephants) (slice_index on_board 1) (slice_index digits 6)
     (free_squares - slice_index on_board 0) (chicks_by on_board digits) (with_chicks on_board digits)
     (after_chicks on_board digits)
     c.requires.elephants c.requires.elephant_squares (chicks_stand on_board digits c.requires) some)
@@ -67,7 +68,7 @@ put-requires-3-clause-first c =
     ∙ ap (after_lions digits) (among_same _ _ _ _ _ _ _ c.among-3.ensures.first c.places_of-chicks.ensures.first
     c.places_of-chicks.ensures.second (among_same _ _ _ _ _ _ _ c.among-2.ensures.first c.places_of-elephants.ensures.first
     c.places_of-elephants.ensures.second c.places_of-giraffes.ensures.first))))
-    (first_below (numbers_by digits) 4 (slice_index on_board 2) (slice_index digits 7)
+    (first_below (numbers_by digits) (order Giraffes) (slice_index on_board 2) (slice_index digits 7)
     (free_squares - slice_index on_board 0 - slice_index on_board 1) (elephants_by on_board digits)
     (with_elephants on_board digits) (after_elephants on_board digits)
     c.requires.giraffes c.requires.giraffe_squares (elephants_stand on_board digits c.requires) some)
@@ -81,7 +82,7 @@ put-requires-3-clause-second c =
     ∙ ap (after_lions digits) (among_same _ _ _ _ _ _ _ c.among-3.ensures.second c.places_of-chicks.ensures.first
     c.places_of-chicks.ensures.second (among_same _ _ _ _ _ _ _ c.among-2.ensures.second c.places_of-elephants.ensures.first
     c.places_of-elephants.ensures.second c.places_of-giraffes.ensures.second))))
-    (second_below (numbers_by digits) 4 (slice_index on_board 2) (slice_index digits 7)
+    (second_below (numbers_by digits) (order Giraffes) (slice_index on_board 2) (slice_index digits 7)
     (free_squares - slice_index on_board 0 - slice_index on_board 1) (elephants_by on_board digits)
     (with_elephants on_board digits) (after_elephants on_board digits)
     c.requires.giraffes c.requires.giraffe_squares (elephants_stand on_board digits c.requires) some)
@@ -91,7 +92,7 @@ returns c =
     let on_board = c.args.on_board.now in
     let digits = c.args.digits.now in
     c.put-3.ensures
-    ∙ put-same 4 (slice_index on_board 2) _ _ (slice_index digits 10) _ _ _ (with_elephants on_board digits)
+    ∙ put-same (order Giraffes) (slice_index on_board 2) _ _ (slice_index digits 10) _ _ _ (with_elephants on_board digits)
     (c.among-giraffe_squares.ensures.first
     ∙ ap (after_lions digits) (among_same _ _ _ _ _ _ _ c.among-3.ensures.first c.places_of-chicks.ensures.first
     c.places_of-chicks.ensures.second (among_same _ _ _ _ _ _ _ c.among-2.ensures.first c.places_of-elephants.ensures.first
@@ -101,7 +102,7 @@ returns c =
     c.places_of-chicks.ensures.second (among_same _ _ _ _ _ _ _ c.among-2.ensures.second c.places_of-elephants.ensures.first
     c.places_of-elephants.ensures.second c.places_of-giraffes.ensures.second)))
     (c.put-2.ensures
-    ∙ put-same 3 (slice_index on_board 1) _ _ (slice_index digits 9) _ _ _ (with_chicks on_board digits)
+    ∙ put-same (order Elephants) (slice_index on_board 1) _ _ (slice_index digits 9) _ _ _ (with_chicks on_board digits)
     (c.among-elephant_squares.ensures.first
     ∙ ap (after_lions digits) (among_same _ _ _ _ _ _ _ c.among.ensures.first c.places_of-chicks.ensures.first
     c.places_of-chicks.ensures.second c.places_of-elephants.ensures.first))
@@ -109,11 +110,11 @@ returns c =
     ∙ ap (after_lions digits) (among_same _ _ _ _ _ _ _ c.among.ensures.second c.places_of-chicks.ensures.first
     c.places_of-chicks.ensures.second c.places_of-elephants.ensures.second))
     (c.put.ensures
-    ∙ put-same 2 (slice_index on_board 0) _ _ (slice_index digits 8) _ _ _ (with_lions digits)
+    ∙ put-same (order Chicks) (slice_index on_board 0) _ _ (slice_index digits 8) _ _ _ (with_lions digits)
     (c.among-chick_squares.ensures.first ∙ ap (after_lions digits) c.places_of-chicks.ensures.first)
     (c.among-chick_squares.ensures.second ∙ ap (after_lions digits) c.places_of-chicks.ensures.second)
     (ap (λ (cell : Cell). set (set (replicate 12 None) (slice_index digits 3) cell) c.past.result c.cell_of-2.result) c.cell_of.ensures
-    ∙ ap (λ (square : ℕ). set (set (replicate 12 None) (slice_index digits 3) (cell_of 0 0)) square c.cell_of-2.result) c.past.ensures.value
-    ∙ ap (set (set (replicate 12 None) (slice_index digits 3) (cell_of 0 0))
+    ∙ ap (λ (square : ℕ). set (set (replicate 12 None) (slice_index digits 3) (cell_of (order OwnLion) 0)) square c.cell_of-2.result) c.past.ensures.value
+    ∙ ap (set (set (replicate 12 None) (slice_index digits 3) (cell_of (order OwnLion) 0))
     (past (slice_index digits 3) (slice_index digits 4))) c.cell_of-2.ensures)))
     ∙ whole_board on_board digits c.requires

@@ -1,6 +1,7 @@
 -- The masks of later layers are what the earlier ones leave, and the digits are the choices of their squares.
 use Rattle.std.proofs.Common.{◌≡◌, ℕ, [], ◌∷◌, map, arith}
-use Rattle.dob_rank.specs.Numbers.{layer}
+use Rattle.dob_rank.specs.Numbers.{layer, order}
+use Rattle.dob_rank.specs.declared.layers.Layer.TheVariants.{OwnLion, EnemyLion, Chicks, Elephants, Giraffes}
 use Rattle.dob_rank.proofs.BoardMasks.{left_are, numbers_are}
 use Rattle.dob_rank.proofs.ranks.digits_of.Goals as goal
 
@@ -48,9 +49,9 @@ returns c =
     let are = numbers_are c.args.position.now.setup c.args.on_board.now c.args.position.now.legal c.requires.on_board in
     let layers = map layer c.args.position.now.setup.board in
     eleven _ _ _ _ _ _ _ _ _ _ _ _ _ _ _ _ _ _ _ _ _ _ c.from.ensures c.from-2.ensures c.from-3.ensures
-    (c.choice_of.ensures 0 layers (omega arith) left.long c.requires.masks.own_lion left.after_own are.own_lion)
-    (c.choice_of-2.ensures 1 layers (omega arith) left.long c.requires.masks.enemy_lion left.after_lions are.enemy_lion)
-    (c.choice_of-3.ensures 2 layers (omega arith) left.long c.requires.masks.chicks left.after_chicks are.chicks_are)
-    (c.choice_of-4.ensures 3 layers (omega arith) left.long c.requires.masks.elephants left.after_elephants are.elephants_are)
-    (c.choice_of-5.ensures 4 layers (omega arith) left.long c.requires.masks.giraffes left.empty are.giraffes_are)
+    (c.choice_of.ensures (order OwnLion) layers (omega arith) left.long c.requires.masks.own_lion left.after_own are.own_lion)
+    (c.choice_of-2.ensures (order EnemyLion) layers (omega arith) left.long c.requires.masks.enemy_lion left.after_lions are.enemy_lion)
+    (c.choice_of-3.ensures (order Chicks) layers (omega arith) left.long c.requires.masks.chicks left.after_chicks are.chicks_are)
+    (c.choice_of-4.ensures (order Elephants) layers (omega arith) left.long c.requires.masks.elephants left.after_elephants are.elephants_are)
+    (c.choice_of-5.ensures (order Giraffes) layers (omega arith) left.long c.requires.masks.giraffes left.empty are.giraffes_are)
     c.forms_of.ensures c.forms_of-2.ensures c.forms_of-3.ensures
