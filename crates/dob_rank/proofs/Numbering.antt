@@ -1,10 +1,10 @@
 -- Ranks number the positions of a set, in their order.
-use Rattle.std.proofs.Common.{◌≡◌, ℕ, zero, suc, ◌+◌, ◌-◌, ◌<◌, ◌≤◌, Bool, cond, List, [], ◌∷◌, replicate, refl, sym, ap, ◌∙◌, subst, inl, inr, arith}
+use Rattle.std.proofs.Common.{◌≡◌, ℕ, zero, suc, ◌+◌, ◌-◌, ◌<◌, ◌≤◌, Bool, cond, List, [], ◌∷◌, refl, sym, ap, ◌∙◌, subst, inl, inr, arith}
 use Rattle.std.proofs.lemmas.Bool.{cases_lt, lt-ltb, le-ltb}
 use Rattle.dob_pieces.specs.declared.piece_set.PieceSet.{PieceSet}
 use Rattle.dob_pieces.specs.declared.setup.Setup.{Setup}
 use Rattle.dob_rank.specs.Order.{IsPositionOf, Before, key, HasSize, HasRank}
-use Rattle.dob_rank.specs.Numbers.{settle, product, number_of, digits_of, HasDigits, sum_below, block_bases, bases_by, on_board, digits}
+use Rattle.dob_rank.specs.Numbers.{product, number_of, digits_of, HasDigits, sum_below, block_bases, bases_by, on_board, digits}
 use Rattle.dob_rank.specs.Numbers.{block_of, block_size, size_of, rank_of, setup_by, setup_in, find, nth}
 pub use Rattle.dob_rank.specs.Numbers.{place_of, HasBlock}
 use Rattle.dob_rank.proofs.MixedRadix.{number_of-below, number_of-rises, HasDigits-digits_of, number_of-digits_of, digits_of-number_of}
