@@ -1,11 +1,10 @@
 -- The steps and drops that masks tell are those of the walk over all squares.
-use Rattle.std.proofs.Common.{◌≡◌, ℕ, ◌<◌, ◌&&◌, nat_lt, Bool, true, false, bit_and, cond, List, [], ◌∷◌, Option, Some, None, length, refl}
-use Rattle.std.proofs.Common.{sym, ap, ◌∙◌, subst, option_to_list}
+use Rattle.std.proofs.Common.{◌≡◌, ℕ, ◌<◌, ◌&&◌, nat_lt, Bool, true, false, bit_and, cond, List, [], ◌∷◌, Some, None, length, refl}
+use Rattle.std.proofs.Common.{sym, ap, ◌∙◌, option_to_list}
 use Rattle.std.specs.Option.{is_some}
 use Rattle.std.proofs.lemmas.Bool.{lt-ltb}
 use Rattle.dob_pieces.specs.declared.kind.Kind.{Kind}
 use Rattle.dob_pieces.specs.declared.kind.HandKind.{HandKind}
-use Rattle.dob_pieces.specs.declared.kind.Piece.{Piece}
 use Rattle.dob_pieces.specs.declared.kind.Side.{Side}
 use Rattle.dob_pieces.specs.declared.kind.Side.TheVariants.{Mover, Enemy}
 use Rattle.dob_pieces.specs.declared.setup.Setup.{Setup}
@@ -19,9 +18,9 @@ use Rattle.dob_moves.specs.declared.game_move.Move.{Move}
 use Rattle.dob_moves.specs.declared.game_move.Move.TheVariants.{Step, Put}
 use Rattle.dob_moves.specs.declared.first_moves.Aim.TheVariants.{Elsewhere}
 use Rattle.dob_moves.specs.Moves.{grows_at}
-use Rattle.dob_moves.specs.Walks.{may_end, step_onto, steps_by, own_kind, steps_if, steps_from, put_if, put_on, drops_of}
+use Rattle.dob_moves.specs.Walks.{may_end, own_kind, steps_if, steps_from, put_if, put_on, drops_of}
 use Rattle.dob_moves.proofs.Masked.{end_is}
-use Rattle.dob_moves.proofs.Tables.{step_to, steps_by-squares}
+use Rattle.dob_moves.proofs.Tables.{step_to}
 
 -- ---- the steps of a piece
 

@@ -1,6 +1,6 @@
 -- What the masks of a position say of its status.
-use Rattle.std.proofs.Common.{◌≡◌, ◌≢◌, ℕ, ◌+◌, ◌*◌, ◌/◌, ◌<◌, ◌≤◌, ◌&&◌, not, Bool, true, false, true≢false, bit_and, Some, None, length}
-use Rattle.std.proofs.Common.{refl, sym, ap, ◌∙◌, subst, arith, inl, inr}
+use Rattle.std.proofs.Common.{◌≡◌, ◌≢◌, ℕ, ◌/◌, ◌<◌, ◌≤◌, ◌&&◌, Bool, true, false, true≢false, bit_and, Some, None, length}
+use Rattle.std.proofs.Common.{refl, sym, ap, ◌∙◌, arith, inl, inr}
 use Rattle.std.specs.Int.{trailing_zeros, w16}
 use Rattle.std.specs.Option.{is_some}
 use Rattle.std.proofs.lemmas.Bool.{and_parts, cases_lt}
@@ -11,7 +11,7 @@ use Rattle.dob_pieces.specs.declared.kind.Side.TheVariants.{Mover, Enemy}
 use Rattle.dob_pieces.specs.declared.setup.Setup.{Setup}
 use Rattle.dob_pieces.specs.Pieces.{leads}
 use Rattle.dob_pieces.specs.Setups.{Cell, at, piece_of, HasLions}
-use Rattle.dob_pieces.specs.Masks.{IsMask, is_prey, is_end, attacks, attacks_by}
+use Rattle.dob_pieces.specs.Masks.{IsMask, is_prey, is_end, attacks}
 use Rattle.dob_pieces.proofs.Boards.{one_lion, within-from_piece}
 use Rattle.dob_pieces.proofs.MaskBits.{IsMask-and, IsLowest, lowest_is, none_passes}
 use Rattle.dob_pieces.proofs.Attacks.{attacks_piece, own_attacks}
@@ -20,7 +20,7 @@ use Rattle.dob_moves.specs.declared.game_move.Move.TheVariants.{Step, Put}
 use Rattle.dob_moves.specs.declared.first_moves.Aim.TheVariants.{Elsewhere}
 use Rattle.dob_moves.specs.Moves.{CanGo, CatchesLion, grows_at, place}
 use Rattle.dob_moves.specs.Statuses.{CanCatch, HasTried, IsFirstCatch}
-use Rattle.dob_moves.specs.Walks.{may_end, own_kind, step_onto}
+use Rattle.dob_moves.specs.Walks.{may_end, step_onto}
 use Rattle.dob_moves.proofs.Reach.{IsStep, step_sound}
 
 -- ---- who catches the enemy lion

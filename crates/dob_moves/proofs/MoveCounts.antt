@@ -1,11 +1,9 @@
 -- Moves counted piece by piece.
 use Rattle.std.proofs.Common.{◌≡◌, ◌≢◌, ℕ, ◌+◌, ◌*◌, ◌<◌, ◌≤◌, ◌||◌, if◌then◌else◌, Bool, true, false, List, [], ◌∷◌, ◌++◌, Option, Some}
 use Rattle.std.proofs.Common.{None, length, get_or, take, refl, sym, ap, ◌∙◌, arith, option_to_list, Contains, bit_and, count_ones}
-use Rattle.std.specs.List.{filter_map}
 use Rattle.std.specs.Int.{trailing_zeros, w16}
 use Rattle.std.specs.Option.{is_some}
 use Rattle.std.proofs.lemmas.List.{length-append}
-use Rattle.dob_pieces.specs.Lists.{each_below}
 use Rattle.dob_pieces.specs.declared.kind.Kind.{Kind}
 use Rattle.dob_pieces.specs.declared.kind.HandKind.{HandKind}
 use Rattle.dob_pieces.specs.declared.setup.Setup.{Setup}
@@ -89,7 +87,7 @@ count_start p own are = record { items = []; walk = walk_start (own_at p) (steps
 
 -- one more square
 pub record CountsOn (p : Setup) (left after count new : ℕ) : Type 0 where
-  pub small : new ≤ 144
+  pub small : new ≤ 12 * 12
   pub less : after < left
   pub next : AreCounted p after new
 
@@ -115,7 +113,7 @@ count_next p left place after count steps w some e gone is few =
       };
     }
 
-pub count_end : (p : Setup) (left count : ℕ) → AreCounted p left count → left ≡ 0 → (count ≡ length (all_steps Elsewhere p)) × (count ≤ 144)
+pub count_end : (p : Setup) (left count : ℕ) → AreCounted p left count → left ≡ 0 → (count ≡ length (all_steps Elsewhere p)) × (count ≤ 12 * 12)
 unfolding all_steps
 count_end p left count w none = (
   w.number ∙ ap length (walk_end (own_at p) (steps_from Elsewhere p) left [] w.items (from_quiet p) w.walk none),

@@ -1,5 +1,5 @@
 -- The list of a position's moves has just its moves.
-use Rattle.std.proofs.Common.{◌≡◌, ℕ, zero, suc, ◌<◌, ◌||◌, if◌then◌else◌, Bool, true, false, [], ◌++◌, Option, Some, None, length, refl}
+use Rattle.std.proofs.Common.{◌≡◌, ◌+◌, ℕ, zero, suc, ◌<◌, ◌||◌, if◌then◌else◌, Bool, true, false, [], ◌++◌, Option, Some, None, length, refl}
 use Rattle.std.proofs.Common.{ap, inl, inr, arith, Contains}
 use Rattle.std.specs.Option.{is_some}
 use Rattle.std.proofs.lemmas.List.Elements.{Contains-append_cases}
@@ -13,7 +13,7 @@ use Rattle.dob_pieces.proofs.Lists.{rising-append, rising-pairs}
 use Rattle.dob_moves.specs.declared.game_move.Move.{Move}
 use Rattle.dob_moves.specs.declared.position_status.Status.TheVariants.{Caught, Tried}
 use Rattle.dob_moves.specs.declared.first_moves.Aim.TheVariants.{AtLion, Elsewhere}
-use Rattle.dob_moves.specs.Moves.{CanGo, place}
+use Rattle.dob_moves.specs.Moves.{CanGo, place, first_drop}
 use Rattle.dob_moves.specs.Statuses.{CanCatch, HasTried, AreMoves}
 use Rattle.dob_moves.specs.Walks.{first, all_steps, all_drops}
 use Rattle.dob_moves.specs.MoveLists.{has_tried, moves_of}
@@ -64,8 +64,8 @@ going_on p twelve no_catch no_try = record {
   whole = λ m is_open goes.
       let all = open_answer p twelve is_open [] (all_steps Elsewhere p) (all_steps Elsewhere p ++ all_drops p) refl refl refl in
       all.whole m is_open goes;
-  ordered = rising-pairs place 0 180 (all_steps Elsewhere p ++ all_drops p)
-      (rising-append place 0 144 180 (all_steps Elsewhere p) (all_drops p) (steps_rising Elsewhere p) (drops_rising p));
+  ordered = rising-pairs place 0 (first_drop + 36) (all_steps Elsewhere p ++ all_drops p)
+      (rising-append place 0 first_drop (first_drop + 36) (all_steps Elsewhere p) (all_drops p) (steps_rising Elsewhere p) (drops_rising p));
 }
 
 by_tests : (p : Setup) → length p.board ≡ 12 → (o : Option Move) (tried : Bool) → o ≡ first (all_steps AtLion p) → has_tried p ≡ tried

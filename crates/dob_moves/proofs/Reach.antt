@@ -21,7 +21,7 @@ use Rattle.dob_moves.specs.declared.game_move.Move.{Move}
 use Rattle.dob_moves.specs.declared.game_move.Move.TheVariants.{Step, Put}
 use Rattle.dob_moves.specs.declared.first_moves.Aim.{Aim}
 use Rattle.dob_moves.specs.declared.first_moves.Aim.TheVariants.{AtLion, Elsewhere}
-use Rattle.dob_moves.specs.Moves.{grows_at, CanTake, CanGo, CatchesLion, hand_place, place}
+use Rattle.dob_moves.specs.Moves.{grows_at, CanTake, CanGo, CatchesLion, hand_place, place, first_drop}
 use Rattle.dob_moves.specs.Statuses.{IsFirstCatch}
 use Rattle.dob_moves.specs.Walks.{first, may_end, step_onto, steps_by, own_kind, own_by_side, steps_if, steps_from, all_steps, put_if}
 use Rattle.dob_moves.specs.Walks.{put_on, drops_of, all_drops}
@@ -196,7 +196,7 @@ steps_sound aim p m h =
     let w = each_sound (steps_from aim p) 12 m h in
     steps_from_sound aim p w.0 m w.1 w.2
 
-pub steps_rising : (aim : Aim) (p : Setup) → Rising place 0 144 (all_steps aim p)
+pub steps_rising : (aim : Aim) (p : Setup) → Rising place 0 first_drop (all_steps aim p)
 unfolding all_steps
 steps_rising aim p = rising-each place (steps_from aim p) (λ from. 12 * from) 12 (λ from lt. steps_from_rising aim p from lt)
 
@@ -225,9 +225,9 @@ put_sound p kind to m lt some e = by_cell (at p to) refl e where
       subst (λ (x : Move). CanGo p x) same (_, record { in_hand = some; on_board = lt; free = free; outcome = refl })
   by_cell (Some piece) taken e = cc
 
-put_place : (p : Setup) (kind : HandKind) (to : ℕ) (m : Move) → put_on p kind to ≡ Some m → place m ≡ 144 + 12 * hand_place kind + to
+put_place : (p : Setup) (kind : HandKind) (to : ℕ) (m : Move) → put_on p kind to ≡ Some m → place m ≡ first_drop + 12 * hand_place kind + to
 put_place p kind to m e = by_cell (at p to) e where
-  by_cell : (cell : Cell) → put_if cell kind to ≡ Some m → place m ≡ 144 + 12 * hand_place kind + to
+  by_cell : (cell : Cell) → put_if cell kind to ≡ Some m → place m ≡ first_drop + 12 * hand_place kind + to
   by_cell None e = let same : Put kind to ≡ m = cc in sym (ap place same)
   by_cell (Some piece) e = cc
 
@@ -238,17 +238,18 @@ drops_of_sound p kind m h =
     let w = each_sound (λ to. option_to_list (put_on p kind to)) 12 m found.1 in
     put_sound p kind w.0 m w.1 (ltb-true 0 (held p.hands.mover kind) found.0) (option_sound (put_on p kind w.0) m w.2)
 
-drops_of_rising : (p : Setup) (kind : HandKind) → Rising place (144 + 12 * hand_place kind) (144 + 12 * hand_place kind + 12) (drops_of p kind)
+drops_of_rising : (p : Setup) (kind : HandKind) → Rising place (first_drop + 12 * hand_place kind) (first_drop + 12 * hand_place kind + 12) (drops_of p kind)
 unfolding drops_of
 drops_of_rising p kind =
-    let low = 144 + 12 * hand_place kind in
+    let low = first_drop + 12 * hand_place kind in
     let g : ℕ → List Move = λ to. option_to_list (put_on p kind to) in
     rising-cond place _ low (low + 12) (each_below g 12) (omega arith)
     (rising-lower place low (low + 0) (low + 12) _ (omega arith) (rising-each place g (λ to. low + to) 12 (λ to lt. at_square to))) where
-      at_square : (to : ℕ) → Rising place (144 + 12 * hand_place kind + to) (144 + 12 * hand_place kind + suc to) (option_to_list (put_on p kind to))
-      at_square to = subst (λ (high : ℕ). Rising place (144 + 12 * hand_place kind + to) high (option_to_list (put_on p kind to)))
-          (let e : suc (144 + 12 * hand_place kind + to) ≡ 144 + 12 * hand_place kind + suc to = omega arith in e)
-          (rising-option (144 + 12 * hand_place kind + to) (put_on p kind to) (λ m e. put_place p kind to m e))
+      at_square : (to : ℕ) → Rising place (first_drop + 12 * hand_place kind + to) (first_drop + 12 * hand_place kind + suc to)
+          (option_to_list (put_on p kind to))
+      at_square to = subst (λ (high : ℕ). Rising place (first_drop + 12 * hand_place kind + to) high (option_to_list (put_on p kind to)))
+          (let e : suc (first_drop + 12 * hand_place kind + to) ≡ first_drop + 12 * hand_place kind + suc to = omega arith in e)
+          (rising-option (first_drop + 12 * hand_place kind + to) (put_on p kind to) (λ m e. put_place p kind to m e))
 
 drops_of_whole : (p : Setup) (kind : HandKind) (to : ℕ) → CanGo p (Put kind to) → Contains (drops_of p kind) (Put kind to)
 unfolding drops_of
@@ -268,11 +269,12 @@ drops_sound p m h =
       | inr giraffe ↦ drops_of_sound p hand.Giraffe m giraffe
     ]
 
-pub drops_rising : (p : Setup) → Rising place 144 180 (all_drops p)
+pub drops_rising : (p : Setup) → Rising place first_drop (first_drop + 36) (all_drops p)
 unfolding all_drops
 drops_rising p =
-    rising-append place 144 168 180 (drops_of p hand.Chick ++ drops_of p hand.Elephant) (drops_of p hand.Giraffe)
-    (rising-append place 144 156 168 (drops_of p hand.Chick) (drops_of p hand.Elephant) (drops_of_rising p hand.Chick) (drops_of_rising p hand.Elephant))
+    rising-append place first_drop (first_drop + 24) (first_drop + 36) (drops_of p hand.Chick ++ drops_of p hand.Elephant) (drops_of p hand.Giraffe)
+    (rising-append place first_drop (first_drop + 12) (first_drop + 24) (drops_of p hand.Chick) (drops_of p hand.Elephant)
+    (drops_of_rising p hand.Chick) (drops_of_rising p hand.Elephant))
     (drops_of_rising p hand.Giraffe)
 
 pub drops_whole : (p : Setup) (kind : HandKind) (to : ℕ) → CanGo p (Put kind to) → Contains (all_drops p) (Put kind to)
@@ -298,7 +300,7 @@ no_catch p len none (Put kind to) h = h
 first_step_least : (p : Setup) → length p.board ≡ 12 → (m : Move) → first (all_steps AtLion p) ≡ Some m
     → (other : Move) → CatchesLion p other → place m ≤ place other
 first_step_least p len m e (Step kind from to catch grows) h =
-    first_least 0 144 (all_steps AtLion p) m (Step kind from to catch grows) (steps_rising AtLion p) e
+    first_least 0 first_drop (all_steps AtLion p) m (Step kind from to catch grows) (steps_rising AtLion p) e
     (found_in_steps AtLion p kind from to (Step kind from to catch grows) len (lion_found p kind from to catch grows h))
 first_step_least p len m e (Put kind to) h = absurd h
 

@@ -1,5 +1,5 @@
 -- What the searches say of a position.
-use Rattle.std.proofs.Common.{refl, ◌≡◌, ◌≢◌, List, [], ◌++◌, Contains, inl, inr, subst, arith, Bool, true, false, Option, Some, None}
+use Rattle.std.proofs.Common.{refl, ◌≡◌, ◌≢◌, ◌+◌, List, [], ◌++◌, Contains, inl, inr, subst, arith, Bool, true, false, Option, Some, None}
 use Rattle.std.proofs.Common.{MatchOption, length, sym, ◌∙◌}
 use Rattle.std.specs.Bool.{IsTrue}
 use Rattle.std.specs.Option.{is_some}
@@ -11,7 +11,7 @@ use Rattle.dob_moves.specs.declared.game_move.Move.TheVariants.{Step, Put}
 use Rattle.dob_moves.specs.declared.position_status.Status.{Status}
 use Rattle.dob_moves.specs.declared.position_status.Status.TheVariants.{Caught, Tried, Stuck, Open}
 use Rattle.std.proofs.lemmas.List.Elements.{Contains-append_left, Contains-append_right, Contains-append_cases}
-use Rattle.dob_moves.specs.Moves.{CanGo, place}
+use Rattle.dob_moves.specs.Moves.{CanGo, place, first_drop}
 use Rattle.dob_moves.specs.Statuses.{CanCatch, HasStatus, AreMoves, IsFirstCatch}
 use Rattle.dob_moves.specs.Walks.{first, all_steps, all_drops}
 use Rattle.dob_moves.proofs.Firsts.{none_from}
@@ -53,8 +53,8 @@ open_moves : (p : Setup) → length p.board ≡ 12 → HasStatus p Open → AreM
 open_moves p len h = record {
   sound = λ m here. (h, listed_goes p m here);
   whole = λ m is_open goes. move_listed p len m goes;
-  ordered = rising-pairs place 0 180 (all_steps Elsewhere p ++ all_drops p)
-      (rising-append place 0 144 180 (all_steps Elsewhere p) (all_drops p) (steps_rising Elsewhere p) (drops_rising p));
+  ordered = rising-pairs place 0 (first_drop + 36) (all_steps Elsewhere p ++ all_drops p)
+      (rising-append place 0 first_drop (first_drop + 36) (all_steps Elsewhere p) (all_drops p) (steps_rising Elsewhere p) (drops_rising p));
 }
 
 -- the steps and then the drops are the moves of an open position

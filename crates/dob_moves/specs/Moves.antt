@@ -79,8 +79,12 @@ hand_place hand.Chick = 0
 hand_place hand.Elephant = 1
 hand_place hand.Giraffe = 2
 
+-- the first place of a drop in the move order, behind those of all steps
+abbrev pub first_drop : ℕ
+first_drop = 12 * 12
+
 -- A move's place in the move order: steps by their first square and then their last, after them drops by kind and
 -- then square. Squares are below 12.
 abbrev pub place : Move → ℕ
 place (Step kind from to catch grows) = 12 * from + to
-place (Put kind to) = 144 + 12 * hand_place kind + to
+place (Put kind to) = first_drop + 12 * hand_place kind + to

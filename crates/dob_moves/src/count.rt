@@ -1,5 +1,5 @@
 // The number of a position's moves, counted without a list of them.
-ghost use Rattle.std.specs.Prelude.{◌≡◌, ◌≤◌, length};
+ghost use Rattle.std.specs.Prelude.{◌≡◌, ◌≤◌, ◌*◌, length};
 ghost use Rattle.dob_pieces.specs.Masks.{AreMasks};
 ghost use Rattle.dob_moves.specs.Walks.{steps_by, steps_from, all_steps, drops_of, all_drops};
 ghost use Rattle.dob_moves.specs.MoveLists.{moves_of};
@@ -37,7 +37,7 @@ fn count_steps_from(setup: &Setup, masks: &Masks, from: Square) -> u8
 fn count_steps(setup: &Setup, masks: &Masks) -> u8
     requires { AreMasks setup.now masks.now }
     ensures number { result ≡ length (all_steps Elsewhere setup.now) }
-    ensures few { result ≤ 144 }
+    ensures few { result ≤ 12 * 12 }
 {
     let mut count = 0;
     let mut left = masks.own;

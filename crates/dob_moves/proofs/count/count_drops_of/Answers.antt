@@ -1,6 +1,5 @@
 -- A kind in hand has a drop on each empty square, any other none.
 use Rattle.std.proofs.Common.{length, sym, ap, arith}
-use Rattle.dob_moves.specs.declared.game_move.Move.{Move}
 use Rattle.dob_moves.proofs.Listed.{drops_none}
 use Rattle.dob_moves.proofs.MoveCounts.{counted_drops}
 use Rattle.dob_moves.proofs.count.count_drops_of.Goals as goal

@@ -1,6 +1,6 @@
 -- The own squares are gone over from the lowest on.
-use Rattle.std.proofs.Common.{ℕ, ◌+◌, arith}
-use Rattle.dob_moves.proofs.MoveCounts.{CountsOn, count_start, count_next, count_end}
+use Rattle.std.proofs.Common.{arith}
+use Rattle.dob_moves.proofs.MoveCounts.{count_start, count_next, count_end}
 use Rattle.dob_moves.proofs.count.count_steps.Goals as goal
 
 pub loop-left-init : goal.loop-left-init

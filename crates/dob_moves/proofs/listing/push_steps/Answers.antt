@@ -1,5 +1,5 @@
 -- The squares of the mask are gone over from the lowest on, and the others give nothing.
-use Rattle.std.proofs.Common.{◌≡◌, ◌++◌, ◌<◌, ℕ, true, List, sym, ap, ◌∙◌, arith}
+use Rattle.std.proofs.Common.{arith}
 use Rattle.dob_moves.specs.declared.first_moves.Aim.TheVariants.{Elsewhere}
 use Rattle.dob_moves.specs.Walks.{steps_from, all_steps}
 use Rattle.dob_moves.proofs.Listed.{own_at, from_quiet}

@@ -1,12 +1,11 @@
 -- The squares of the mask are gone over from the lowest on, and the others give nothing.
-use Rattle.std.proofs.Common.{rules, ◌≡◌, ◌∷◌, [], ◌++◌, ◌<◌, ℕ, true, List, sym, ap, ◌∙◌, arith}
+use Rattle.std.proofs.Common.{rules, ◌≡◌, ◌∷◌, [], ◌++◌, List, sym, ap, ◌∙◌, arith}
 use Rattle.dob_moves.specs.declared.game_move.Move.{Move}
 use Rattle.dob_moves.specs.declared.game_move.Move.TheVariants.{Step}
 use Rattle.dob_moves.specs.declared.first_moves.Aim.TheVariants.{Elsewhere}
 use Rattle.std.specs.Option.{is_some}
 use Rattle.dob_pieces.specs.Setups.{at}
 use Rattle.dob_moves.specs.Moves.{grows_at}
-use Rattle.dob_moves.specs.Walks.{steps_by}
 use Rattle.dob_moves.proofs.Tables.{steps_by-squares}
 use Rattle.dob_moves.proofs.Listed.{may_step, steps_to, steps_quiet, step_there, may_step_mask}
 use Rattle.dob_pieces.proofs.MaskWalks.{walk_start, walk_less, walk_next, walk_end}

@@ -1,6 +1,5 @@
 -- The lion can be caught where some piece attacks it.
-use Rattle.std.proofs.Common.{◌≡◌, true≢false, sym, ◌∙◌}
-use Rattle.std.proofs.lemmas.Bool.{not-true, not_from_false, eqb-false, eqb-true, cases_Bool, ne_eqb}
+use Rattle.std.proofs.lemmas.Bool.{not-true, not_from_false, eqb-false, ne_eqb}
 use Rattle.dob_moves.proofs.Masked.{no_attack, some_attack}
 use Rattle.dob_moves.proofs.status_of.can_catch.Goals as goal
 

@@ -2,11 +2,8 @@
 use Rattle.std.proofs.Common.{◌≡◌, Bool, true, Some, ap, sym, subst, ◌∙◌}
 use Rattle.dob_pieces.specs.declared.kind.Kind.{Kind}
 use Rattle.dob_pieces.specs.declared.kind.Side.TheVariants.{Mover}
-use Rattle.dob_pieces.specs.declared.setup.Setup.{Setup}
 use Rattle.dob_pieces.specs.Setups.{at, piece_of}
-use Rattle.dob_moves.specs.declared.game_move.Move.{Move}
 use Rattle.dob_moves.specs.declared.game_move.Move.TheVariants.{Step}
-use Rattle.dob_moves.specs.Moves.{grows_at}
 use Rattle.dob_moves.specs.Statuses.{IsFirstCatch}
 use Rattle.dob_moves.specs.Walks.{own_kind}
 use Rattle.dob_moves.proofs.Masked.{no_attack, first_attack, own_attacker}
