@@ -1,3 +1,4 @@
 pub mod PartLists
 pub mod Runs
 pub mod Told
+pub mod TakenBack

@@ -84,7 +84,7 @@ module _ (set : PieceSet) (n to : ℕ) where
   abbrev count : Settlement → ℕ
   count s = count_for set n to s
 
-  items-append : (ss ts : List Settlement) → items (ss ++ ts) ≡ items ss ++ items ts
+  pub items-append : (ss ts : List Settlement) → items (ss ++ ts) ≡ items ss ++ items ts
   items-append [] ts = refl
   items-append (s ∷ ss) ts = ap (λ xs. items_of (predecessors set) n to s ++ xs) (items-append ss ts) ∙ sym (append_assoc (items_of (predecessors set) n to s) (items ss) (items ts))
 
@@ -139,7 +139,7 @@ module _ (set : PieceSet) (n to : ℕ) where
       let later = parts_fit (next ∷ parts) 0 h.3 (omega arith) in
       omega (arith, own, exact, later)
 
-  whole_is : (parts : List Part) (skip : ℕ) → AreWhole count skip parts → skip + total parts ≡ length (items (settlements_of parts))
+  pub whole_is : (parts : List Part) (skip : ℕ) → AreWhole count skip parts → skip + total parts ≡ length (items (settlements_of parts))
   whole_is [] skip w = omega (arith, w)
   whole_is (part ∷ parts) skip w =
       let own = length-items part.settlement (settlements_of parts) in

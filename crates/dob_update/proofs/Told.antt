@@ -201,7 +201,7 @@ told_none parts classes all =
 
 -- ---- what an outbox lists
 
-total-push : (parts : List Part) (part : Part) → total (parts ++ part ∷ []) ≡ total parts + part.items
+pub total-push : (parts : List Part) (part : Part) → total (parts ++ part ∷ []) ≡ total parts + part.items
 total-push [] part = omega arith
 total-push (first ∷ parts) part = let later = total-push parts part in omega (arith, later)
 

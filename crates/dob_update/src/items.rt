@@ -1,5 +1,6 @@
 // The items that a settlement makes.
-ghost use Rattle.std.specs.Prelude.{◌≡◌, ◌<◌, ◌++◌, OnOk};
+ghost use Rattle.std.specs.Prelude.{◌≡◌, ◌<◌, ◌++◌, length, OnOk};
+ghost use Rattle.dob_share.specs.declared.news.Settlement.{Settlement as Settled};
 ghost use Rattle.dob_update.specs.Items.{item_for, items_of};
 
 use dob_pieces::Memory;
@@ -35,4 +36,18 @@ pub fn push_items(
         }
     }
     Ok(())
+}
+
+/// How many items a settlement has for the owner `to`, one of `n`, where its class has these predecessors.
+pub fn count_items(predecessors: &[u64], n: usize, to: usize) -> usize
+    requires { 0 < n }
+    ensures { (settlement : Settled) → result ≡ length (items_of (λ _. predecessors.now) n to settlement) }
+{
+    let mut count = 0;
+    for class in predecessors {
+        if to == owner(*class, n) {
+            count += 1;
+        }
+    }
+    count
 }

@@ -8,7 +8,7 @@ mod outbox;
 mod part;
 
 pub use batch::Batch;
-pub use items::{item_for, push_items};
+pub use items::{count_items, item_for, push_items};
 pub use outbox::Outbox;
 pub use part::Part;
 

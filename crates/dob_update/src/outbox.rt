@@ -5,7 +5,7 @@ ghost use Rattle.dob_unmove.specs.Edges.{predecessors};
 ghost use Rattle.dob_share.specs.declared.news.Settlement.{Settlement as Settled};
 ghost use Rattle.dob_update.specs.Items.{item_for, items_of};
 ghost use Rattle.dob_update.specs.Parts.{front, behind, skip_behind, total, told, class_told, AreWhole};
-ghost use Rattle.dob_update.specs.Batches.{IsOutbox, IsCut, empty_outbox, added};
+ghost use Rattle.dob_update.specs.Batches.{OutboxView, IsOutbox, HasOneMore, IsCut, empty_outbox, added};
 
 use crate::batch::Batch;
 use crate::items::item_for;
@@ -103,6 +103,20 @@ impl Outbox {
             items: items.len(),
         });
         Ok(())
+    }
+
+    /// Takes back the settlement that was added last, with its `count` items for the receiver, of which none was cut; one
+    /// without items isn't listed.
+    pub fn take_back(&mut self, count: usize)
+        requires { (before : OutboxView) × HasOneMore before count self.old }
+        ensures { (before : OutboxView) → HasOneMore before count self.old → self.new ≡ before }
+    {
+        if count == 0 {
+            return;
+        }
+        self.parts.pop_back();
+        let left = self.classes.len() - count;
+        self.classes.truncate(left);
     }
 
     /// Cuts a batch of the first `size` items, from 1 to 4096, or of all where fewer are left, and `None` where none

@@ -3,7 +3,7 @@ ghost use Rattle.std.specs.Prelude.{◌≡◌, OnOk};
 ghost use Rattle.dob_pieces.specs.declared.piece_set.PieceSet.{PieceSet as Set};
 ghost use Rattle.dob_update.specs.Batches.{OutboxView};
 
-use crate::{Batch, Outbox, push_items};
+use crate::{Batch, Outbox, count_items, push_items};
 use dob_pieces::{Memory, PieceSet};
 use dob_rank::Classes;
 use dob_share::Settlement;
@@ -48,6 +48,29 @@ fn add(
     let mut items = Vec::new(alloc);
     push_items(&mut items, settlement, &predecessors, 2, 1)?;
     outbox.add(settlement, &items)
+}
+
+// Adds the settlement with its items, and takes it back.
+fn add_and_take_back(
+    rt: &impl Abort,
+    alloc: Global,
+    classes: &Classes,
+    outbox: &mut Outbox,
+    settlement: Settlement,
+) -> Result<(), Memory>
+    requires set { outbox.old.set ≡ classes.now.set }
+    requires n { outbox.old.n ≡ 2 }
+    requires to { outbox.old.to ≡ 1 }
+    ensures { OnOk result (outbox.new ≡ outbox.old) }
+{
+    assert!(rt; settlement.class < classes.class_count());
+    let predecessors = back(alloc, classes, settlement.class)?;
+    let mut items = Vec::new(alloc);
+    push_items(&mut items, settlement, &predecessors, 2, 1)?;
+    assert_eq!(rt; count_items(&predecessors, 2, 1), items.len());
+    outbox.add(settlement, &items)?;
+    outbox.take_back(items.len());
+    Ok(())
 }
 
 // The next batch of at most so many items.
@@ -126,4 +149,24 @@ fn batches_over_settlements(rt: HostRuntime) -> Result<(), Memory> {
     assert!(rt; outbox.cut_count() < 100);
     assert!(rt; outbox.cut(1)?.is_none());
     Ok(())
+}
+
+#[test]
+fn taken_back(rt: HostRuntime) -> Result<(), Memory> {
+    let alloc = rt.alloc();
+    let classes = lion_classes(&rt, alloc);
+    let mut outbox = Outbox::new(alloc, classes.set, 2, 0, 1);
+    add_and_take_back(&rt, alloc, &classes, &mut outbox, won(0, 16))?;
+    assert!(rt; outbox.is_empty());
+    add(&rt, alloc, &classes, &mut outbox, won(0, 16))?;
+    add_and_take_back(&rt, alloc, &classes, &mut outbox, won(1, 0))?;
+    add_and_take_back(&rt, alloc, &classes, &mut outbox, won(1, 15))?;
+    tells(
+        &rt,
+        alloc,
+        &cut(&rt, &mut outbox, 4096)?,
+        &[17, 17, 27, 35, 35],
+        0,
+        1,
+    )
 }

@@ -1,0 +1,154 @@
+-- An outbox without the settlement that was added last.
+use Rattle.std.proofs.Common.{◌≡◌, ℕ, ◌+◌, ◌-◌, ◌<◌, ◌≤◌, List, [], ◌∷◌, ◌++◌, length, take, drop, get_or, refl, sym, ap, ◌∙◌, subst, arith, length-append, length-drop, length-take-le}
+use Rattle.std.specs.Prelude.{map}
+use Rattle.std.proofs.lemmas.List.{append-nil, length-map, map-append, drop-append-le, take_all, take_at, take_more, take-append-drop, nil_from_length, same_from_push}
+use Rattle.dob_share.specs.declared.news.Settlement.{Settlement}
+use Rattle.dob_share.specs.declared.news.Item.{Item}
+use Rattle.dob_update.specs.declared.part.Part.{Part}
+use Rattle.dob_update.specs.Items.{item_for}
+use Rattle.dob_update.specs.Parts.{settlement_of, settlements_of, total, told, AreWhole}
+use Rattle.dob_update.specs.Batches.{OutboxView, items_for, with_items, added, HasOneMore}
+use Rattle.dob_update.specs.Runs.{count_for, AreListed}
+use Rattle.dob_update.proofs.Runs.{items-append, whole_is}
+use Rattle.dob_update.proofs.Told.{told-length, told-push, total-push}
+
+-- ---- the last part
+
+module _ (count : Settlement → ℕ) where
+  last_whole : (left : List Part) (part : Part) → AreWhole count 0 (left ++ part ∷ []) → part.items ≡ count part.settlement
+  last_whole [] part w = let whole = w.1 in omega (arith, whole)
+  last_whole (first ∷ left) part w = last_whole left part w.3
+
+  -- the last part has all items of its settlement, where the parts have as many
+  last_is_whole : (left : List Part) (skip : ℕ) (part : Part) → AreWhole count skip (left ++ part ∷ []) → count part.settlement ≤ total left + part.items
+      → part.items ≡ count part.settlement
+  last_is_whole [] skip part w enough = let whole = w.1 in omega (arith, whole, enough)
+  last_is_whole (first ∷ left) skip part w enough = last_whole left part w.3
+
+  -- then those before it end with a settlement, too
+  AreWhole-left : (left : List Part) (skip : ℕ) (part : Part) → AreWhole count skip (left ++ part ∷ []) → part.items ≡ count part.settlement → AreWhole count skip left
+  AreWhole-left [] skip part w all = let whole = w.1 in omega (arith, whole, all)
+  AreWhole-left (first ∷ left) skip part w all = (w.0, w.1, w.2, AreWhole-left left 0 part w.3 all)
+
+-- ---- the outbox before
+
+with_some : (s : Settlement) (items : List Item) → 0 < length items → with_items s items ≡ s ∷ []
+with_some s [] some = absurd (omega (arith, some))
+with_some s (item ∷ items) some = refl
+
+-- where the settlement has no items, nothing was added
+pub nothing_back : (before outbox : OutboxView) (count : ℕ) → count ≡ 0 → HasOneMore before count outbox → outbox ≡ before
+nothing_back before outbox count none more =
+    more.outbox_is ∙ ap (λ (xs : List Item). added before more.settlement xs) (nil_from_length more.items (more.many ∙ none))
+    ∙ ap (λ (ss : List Settlement). record before { settlements = ss; items = before.items ++ [] }) (append-nil before.settlements)
+    ∙ ap (λ (xs : List Item). record before { items = xs }) (append-nil before.items)
+
+-- there are as many items
+pub as_many : (before outbox : OutboxView) (count : ℕ) → HasOneMore before count outbox → length outbox.items ≡ length before.items + count
+as_many before outbox count more =
+    ap (λ (o : OutboxView). length o.items) more.outbox_is ∙ length-append before.items more.items ∙ ap (λ (m : ℕ). length before.items + m) more.many
+
+module _ (old before : OutboxView) (left : List Part) (part : Part) (classes : List ℕ) (count : ℕ)
+    (listed : AreListed old.set old.n old.to (left ++ part ∷ []) old.skip classes) (settlements_are : old.settlements ≡ settlements_of (left ++ part ∷ []))
+    (items_are : old.items ≡ told (left ++ part ∷ []) classes) (some : 0 < count) (more : HasOneMore before count old) where
+  last_is : (settlements_of left ≡ before.settlements) × (part.settlement ≡ more.settlement)
+  last_is = same_from_push (settlements_of left) before.settlements part.settlement more.settlement
+      (sym (map-append settlement_of left (part ∷ [])) ∙ sym settlements_are ∙ ap (λ (o : OutboxView). o.settlements) more.outbox_is
+      ∙ ap (λ (ss : List Settlement). before.settlements ++ ss) (with_some more.settlement more.items (let many = more.many in omega (arith, many, some))))
+
+  count_is : count_for old.set old.n old.to part.settlement ≡ count
+  count_is = ap (λ (s : Settlement). count_for old.set old.n old.to s) last_is.1
+      ∙ ap (λ (o : OutboxView). count_for o.set o.n o.to more.settlement) more.outbox_is
+      ∙ sym (ap length more.items_are) ∙ more.many
+
+  sum_is : total left + part.items ≡ length before.items + count
+  sum_is =
+      let parts = left ++ part ∷ [] in
+      let counted = listed.counted in
+      let long = told-length parts classes (omega (arith, counted)) in
+      let all = ap length items_are in
+      let sum = total-push left part in
+      let both = as_many before old count more in
+      omega (arith, long, all, sum, both)
+
+  part_is : part.items ≡ count_for old.set old.n old.to part.settlement
+  part_is = last_is_whole (count_for old.set old.n old.to) left old.skip part listed.rest.parts_fit (omega (arith, count_is, sum_is))
+
+  left_is : total left ≡ length classes - count
+  left_is = let counted = listed.counted in let sum = total-push left part in omega (arith, counted, sum, part_is, count_is)
+
+  within : length classes - count ≤ length classes
+  within = omega arith
+
+  -- the items of the parts before it
+  told_left : take (length classes - count) old.items ≡ told left (take (length classes - count) classes)
+  told_left =
+      let k = length classes - count in
+      let front = take k classes in
+      let tail = drop k classes in
+      let long_front : length front ≡ k = length-take-le k classes within in
+      let long_tail = length-drop k classes in
+      let counted = listed.counted in
+      let sum = total-push left part in
+      ap (take k) (items_are ∙ ap (λ (cs : List ℕ). told (left ++ part ∷ []) cs) (sym (take-append-drop k classes))
+      ∙ told-push left part front tail (left_is ∙ sym long_front) (omega (arith, long_tail, left_is, counted, sum)))
+      ∙ take_at (told left front) (map (item_for part.settlement) tail) k (told-length left front (omega (arith, left_is, long_front)) ∙ left_is)
+
+  before_is : take (length classes - count) old.items ≡ before.items
+  before_is =
+      let k = length classes - count in
+      let counted = listed.counted in
+      let sum = total-push left part in
+      ap (λ (o : OutboxView). take k o.items) more.outbox_is ∙ take_at before.items more.items k (omega (arith, sum_is, counted, sum))
+
+  listed_left : AreListed old.set old.n old.to left old.skip (take (length classes - count) classes)
+  listed_left =
+      let k = length classes - count in
+      let whole = AreWhole-left (count_for old.set old.n old.to) left old.skip part listed.rest.parts_fit part_is in
+      let first = items_for old.set old.n old.to (settlements_of left) in
+      let own = items_for old.set old.n old.to (part.settlement ∷ []) in
+      let apart : items_for old.set old.n old.to (settlements_of (left ++ part ∷ [])) ≡ first ++ own
+      = ap (items_for old.set old.n old.to) (map-append settlement_of left (part ∷ [])) ∙ items-append old.set old.n old.to (settlements_of left) (part.settlement ∷ []) in
+      let long = whole_is old.set old.n old.to left old.skip whole in
+      let fewer = length-drop old.skip first in
+      record {
+        counted = left_is ∙ sym (length-take-le k classes within);
+        rest = record {
+          parts_fit = whole;
+          rest = sym told_left ∙ ap (take k) (items_are ∙ listed.rest.rest ∙ ap (drop old.skip) apart ∙ drop-append-le old.skip first own (omega (arith, long)))
+              ∙ take_at (drop old.skip first) own k (omega (arith, fewer, long, left_is));
+        };
+      }
+
+  view_is : (record old { settlements = settlements_of left; items = told left (take (length classes - count) classes) }) ≡ before
+  view_is =
+      ap (λ (ss : List Settlement). record old { settlements = ss; items = told left (take (length classes - count) classes) }) last_is.0
+      ∙ ap (λ (xs : List Item). record old { settlements = before.settlements; items = xs }) (sym told_left ∙ before_is)
+      ∙ ap (λ (o : OutboxView). record o { settlements = before.settlements; items = before.items }) more.outbox_is
+
+-- the parts but the last, and the classes but those of the last settlement
+pub taken_back : (old before : OutboxView) (parts left : List Part) (classes rest : List ℕ) (count : ℕ) → AreListed old.set old.n old.to parts old.skip classes
+    → old.settlements ≡ settlements_of parts → old.items ≡ told parts classes → 0 < count → HasOneMore before count old
+    → left ≡ take (length parts - 1) parts → rest ≡ take (length classes - count) classes
+    → AreListed old.set old.n old.to left old.skip rest × ((record old { settlements = settlements_of left; items = told left rest }) ≡ before)
+taken_back old before parts left classes rest count listed settlements_are items_are some more parts_left classes_left =
+    let k = length parts - 1 in
+    let none : Part = record { settlement = more.settlement; items = 0 } in
+    let part = get_or parts k none in
+    let many = more.many in
+    let as_parts = length-map parts settlement_of in
+    let as_settlements : length old.settlements ≡ length before.settlements + 1
+    = ap (λ (o : OutboxView). length o.settlements) more.outbox_is ∙ length-append before.settlements (with_items more.settlement more.items)
+    ∙ ap (λ (ss : List Settlement). length before.settlements + length ss) (with_some more.settlement more.items (omega (arith, many, some))) in
+    let same = ap length settlements_are in
+    let apart : parts ≡ take k parts ++ part ∷ []
+    = sym (take_all (k + 1) parts (omega (arith, as_parts, as_settlements, same))) ∙ take_more parts k none (omega (arith, as_parts, as_settlements, same)) in
+    let again = subst (λ (ps : List Part). AreListed old.set old.n old.to ps old.skip classes) apart listed in
+    let settlements_again = settlements_are ∙ ap settlements_of apart in
+    let items_again = items_are ∙ ap (λ (ps : List Part). told ps classes) apart in
+    subst (λ (ps : List Part). AreListed old.set old.n old.to ps old.skip rest × ((record old { settlements = settlements_of ps; items = told ps rest }) ≡ before)) (sym parts_left)
+    (subst (λ (cs : List ℕ). AreListed old.set old.n old.to (take k parts) old.skip cs
+    × ((record old { settlements = settlements_of (take k parts); items = told (take k parts) cs }) ≡ before)) (sym classes_left) (
+      listed_left old before (take k parts) part classes count again settlements_again items_again some more,
+      view_is old before (take k parts) part classes count again settlements_again items_again some more,
+    ))

@@ -1,0 +1,11 @@
+-- As many of the classes so far are the owner's.
+use Rattle.std.proofs.Common.{◌≡◌, ◌≤◌, ◌==◌, length, take}
+use Rattle.std.specs.List.{filter}
+use Rattle.dob_share.specs.Owners.{owner_of}
+use Rattle.dob_update.proofs.items.count_items.Given as goal
+
+abbrev pub invariant-loop-class : goal.invariant-loop-class
+invariant-loop-class l = record {
+  within : l.count ≤ l.class-index;
+  counted : l.count ≡ length (filter (λ class. owner_of l.n class == l.to) (take l.class-index l.predecessors));
+}
