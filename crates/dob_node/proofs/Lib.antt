@@ -21,6 +21,7 @@ pub mod SoleSteps
 pub mod SoleOpens
 pub mod SoleEnds
 pub mod Sends
+pub mod TakenBack
 pub mod TakenLists
 pub mod Parts
 pub mod SoleStops

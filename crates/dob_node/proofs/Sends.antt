@@ -80,26 +80,27 @@ added_none targets settlement n from old = record {
   later = λ to default high. refl;
 }
 
--- what is asked of the items for an outbox that has nothing of the settlement yet
+-- what is asked of the items for an outbox to a node
+pub asked_of : (targets : List ℕ) (settlement : Settlement) (n from k : ℕ) (set : PieceSet) (o : OutboxView) (items : List Item) → IsOutboxTo set n from k o →
+    targets ≡ predecessors set settlement.class → items ≡ items_of (λ _. targets) n k settlement → items ≡ items_of (predecessors o.set) o.n o.to settlement
+asked_of targets settlement n from k set o items is same are =
+    subst (λ (st : PieceSet). items ≡ items_of (predecessors st) o.n o.to settlement) (sym is.of.0)
+    (subst (λ (m : ℕ). items ≡ items_of (predecessors set) m o.to settlement) (sym is.of.1)
+    (subst (λ (j : ℕ). items ≡ items_of (predecessors set) n j settlement) (sym is.of.3)
+    (subst (λ (ts : List ℕ). items ≡ items_of (λ _. ts) n k settlement) same are)))
+
+-- the same for an outbox that has nothing of the settlement yet
 pub items_asked : (targets : List ℕ) (settlement : Settlement) (n from k : ℕ) (old mid : List OutboxView) (items : List Item) →
     AreAdded targets settlement n from k old mid →
     (set : PieceSet) × (targets ≡ predecessors set settlement.class) × ((to : ℕ) → IsOutboxTo set n from to (outbox_in set n from old to)) →
     k < length old → items ≡ items_of (λ _. targets) n k settlement → (default : OutboxView) →
     items ≡ items_of (predecessors (get_or mid k default).set) (get_or mid k default).n (get_or mid k default).to settlement
 items_asked targets settlement n from k old mid items so_far of low are default =
-    subst (λ (o : OutboxView). items ≡ items_of (predecessors o.set) o.n o.to settlement) (sym at_last) (there of.2 of.1)
+    subst (λ (o : OutboxView). items ≡ items_of (predecessors o.set) o.n o.to settlement) (sym at_last)
+    (asked_of targets settlement n from k of.0 (outbox_in of.0 n from old k) items (of.2 k) of.1 are)
   where
     at_last : get_or mid k default ≡ outbox_in of.0 n from old k
     at_last = so_far.later k default (omega arith) ∙ get_or_default old k default (empty_outbox of.0 n from k) low
-
-    there : ((to : ℕ) → IsOutboxTo of.0 n from to (outbox_in of.0 n from old to)) → targets ≡ predecessors of.0 settlement.class →
-        let o = outbox_in of.0 n from old k in items ≡ items_of (predecessors o.set) o.n o.to settlement
-    there all same =
-        let o = outbox_in of.0 n from old k in
-        subst (λ (st : PieceSet). items ≡ items_of (predecessors st) o.n o.to settlement) (sym (all k).of.0)
-        (subst (λ (m : ℕ). items ≡ items_of (predecessors of.0) m o.to settlement) (sym (all k).of.1)
-        (subst (λ (j : ℕ). items ≡ items_of (predecessors of.0) n j settlement) (sym (all k).of.3)
-        (subst (λ (ts : List ℕ). items ≡ items_of (λ _. ts) n k settlement) same are)))
 
 -- ---- what the outboxes are for
 
@@ -215,6 +216,10 @@ ready_added set targets s n from old new was now are ready = record {
   addressed = addressed_added set targets s n from old new was now (subst (λ (m : ℕ). AreAdded targets s m from m old new) ready.receivers are) ready.addressed;
   nothing_to_self = ap (λ (o : OutboxView). o.items) (are.unsent (empty_outbox set n from from)) ∙ ready.nothing_to_self;
 }
+
+-- outboxes as they were
+pub ready_same : (set : PieceSet) (n from : ℕ) (old new : List OutboxView) → new ≡ old → AreReady set n from old → AreReady set n from new
+ready_same set n from old new same ready = subst (λ xs. AreReady set n from xs) (sym same) ready
 
 pub ready_cut : (set : PieceSet) (n from to size : ℕ) (given : Option BatchView) (old new : List OutboxView) →
     IfSome given (λ batch. IsCutFrom to size batch old new) → (IsNone given → new ≡ old) → AreReady set n from old → AreReady set n from new

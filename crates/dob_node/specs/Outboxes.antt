@@ -2,6 +2,7 @@
 use Rattle.std.specs.Prelude.{◌≡◌, ◌≢◌, ℕ, ◌<◌, ◌≤◌, List, length, slice_index_or}
 use Rattle.std.specs.List.{All}
 use Rattle.dob_pieces.specs.declared.piece_set.PieceSet.{PieceSet}
+use Rattle.dob_unmove.specs.Edges.{predecessors}
 use Rattle.dob_share.specs.declared.news.Settlement.{Settlement}
 use Rattle.dob_update.specs.Items.{items_of}
 use Rattle.dob_update.specs.Batches.{BatchView, OutboxView, empty_outbox, added, IsCut}
@@ -24,6 +25,14 @@ pub record AreAdded (targets : List ℕ) (settlement : Settlement) (n from upto 
       slice_index_or new to default ≡ added (slice_index_or old to default) settlement (items_of (λ _. targets) n to settlement)
   pub unsent : (default : OutboxView) → slice_index_or new from default ≡ slice_index_or old from default
   pub later : (to : ℕ) (default : OutboxView) → upto ≤ to → slice_index_or new to default ≡ slice_index_or old to default
+
+-- The outboxes are those before with a settlement more, as above, where these were outboxes from one node to each.
+pub record HaveOneMore (targets : List ℕ) (from upto : ℕ) (before outboxes : List OutboxView) : Type 0 where
+  pub set : PieceSet
+  pub settlement : Settlement
+  pub targets_are : targets ≡ predecessors set settlement.class
+  pub addressed : (to : ℕ) → IsOutboxTo set (length before) from to (outbox_in set (length before) from before to)
+  pub are_added : AreAdded targets settlement (length before) from upto before outboxes
 
 -- The batch is cut from the outbox for that node; the others are the same.
 pub record IsCutFrom (to size : ℕ) (batch : BatchView) (old new : List OutboxView) : Type 0 where

@@ -4,6 +4,7 @@ ghost use Rattle.std.specs.List.{All};
 ghost use Rattle.std.specs.VecDeque.{deque_len, deque_capacity};
 ghost use Rattle.dob_share.specs.Openings.{opening_of};
 ghost use Rattle.dob_share.specs.Owners.{owner_of};
+ghost use Rattle.dob_update.specs.Items.{items_of};
 ghost use Rattle.dob_node.specs.declared.cause.Cause.TheVariants as cause;
 ghost use Rattle.dob_node.specs.OpeningLists.{opening_value, opening_settlement, opening_settlements, status_in};
 ghost use Rattle.dob_node.specs.Takes.{HasEntries, StopsAt};
@@ -15,9 +16,9 @@ use crate::taking::take_items;
 use dob_moves::Status;
 use dob_pieces::{Memory, PieceSet};
 use dob_rank::Classes;
-use dob_share::{Item, Opening, Settlement, Share};
+use dob_share::{Item, Opening, Settlement, Share, owner};
 use dob_unmove::back_into;
-use dob_update::{Batch, Outbox, push_items};
+use dob_update::{Batch, Outbox, item_for};
 use dob_value::Value;
 use std::alloc::Global;
 use std::collections::VecDeque;
@@ -96,8 +97,7 @@ impl Node {
     /// Expands the first settlement of the history that isn't: its items for the own classes are to be applied, those for
     /// other nodes' classes are to be sent. False where there is none.
     ///
-    /// Error: `Memory`, after which the cells and the history are as they were, but the node has perhaps some of the items
-    /// to apply and to send, and so is of no use.
+    /// Error: `Memory`, which leaves the node as it was.
     pub fn expand(&mut self, classes: &Classes) -> Result<bool, Cause>
         requires set { classes.now.set ≡ self.old.set }
         requires sound { IsSound self.old }
@@ -105,8 +105,8 @@ impl Node {
         ensures nothing { result ≡ Ok false → self.new ≡ self.old }
         ensures expanded { result ≡ Ok true → IsExpanded self.old self.new }
         ensures memory { IfErr result (λ why. why ≡ cause.Memory) }
-        ensures kept { OnErr result ((self.new.share ≡ self.old.share) × (self.new.history ≡ self.old.history) × (self.new.expanded ≡ self.old.expanded)) }
-        ensures sound { OnOk result (IsSound self.new) }
+        ensures refused { OnErr result (IsUnchanged self.old self.new) }
+        ensures sound { IsSound self.new }
     {
         if self.expanded == self.history.len() {
             return Ok(false);
@@ -114,11 +114,8 @@ impl Node {
         let settlement = self.history.get(self.expanded);
         let room = mem::replace(&mut self.targets, Vec::new(self.alloc));
         let targets = back_into(room, classes, settlement.class)?;
+        self.own.reserve(targets.len())?;
         let mut items = mem::replace(&mut self.items, Vec::new(self.alloc));
-        items.clear();
-        push_items(&mut items, settlement, &targets, self.n, self.id)?;
-        self.own.reserve(items.len())?;
-        push_all(&mut self.own, &items);
         add_for_others(
             &mut items,
             &mut self.outboxes,
@@ -126,6 +123,7 @@ impl Node {
             &targets,
             self.id,
         )?;
+        push_own(&mut self.own, settlement, &targets, self.n, self.id);
         self.targets = targets;
         self.items = items;
         self.expanded += 1;
@@ -298,13 +296,23 @@ impl Node {
     }
 }
 
-// Appends the items, for which there is room.
-fn push_all(queue: &mut VecDeque<Item>, items: &[Item])
-    requires { deque_len queue.old + length items.now ≤ deque_capacity queue.old }
-    ensures { queue.new.items ≡ queue.old.items ++ items.now }
+// Appends the settlement's items for the owner `id`, one of `n`; `targets` are the classes with a move into the settled
+// one, and there is room for an item of each.
+fn push_own(
+    queue: &mut VecDeque<Item>,
+    settlement: Settlement,
+    targets: &[u64],
+    n: usize,
+    id: usize,
+)
+    requires owners { 0 < n }
+    requires room { deque_len queue.old + length targets.now ≤ deque_capacity queue.old }
+    ensures { queue.new.items ≡ queue.old.items ++ items_of (λ _. targets.now) n id settlement }
 {
-    for item in items {
-        queue.push_back_reserved(*item);
+    for class in targets {
+        if owner(*class, n) == id {
+            queue.push_back_reserved(item_for(settlement, *class));
+        }
     }
 }
 

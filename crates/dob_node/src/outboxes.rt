@@ -1,15 +1,15 @@
 // The outboxes of a node, one for each node: what it has still to send.
-ghost use Rattle.std.specs.Prelude.{◌≡◌, ℕ, ◌+◌, ◌<◌, ◌≤◌, ◌↔◌, [], length, vec_len, slice_index_or, slice_set, ◌*◌, ◌^◌, IsTrue, IsNone, IfOk, IfSome, OnOk, OnErr};
+ghost use Rattle.std.specs.Prelude.{◌≡◌, ℕ, ◌+◌, ◌<◌, ◌≤◌, ◌↔◌, List, [], length, vec_len, slice_index_or, slice_set, ◌*◌, ◌^◌, IsTrue, IsNone, IfOk, IfSome, OnOk, OnErr};
 ghost use Rattle.std.specs.List.{All};
 ghost use Rattle.dob_pieces.specs.declared.piece_set.PieceSet.{PieceSet as Set};
 ghost use Rattle.dob_unmove.specs.Edges.{predecessors};
 ghost use Rattle.dob_update.specs.Items.{items_of};
-ghost use Rattle.dob_update.specs.Batches.{OutboxView, empty_outbox, added};
-ghost use Rattle.dob_node.specs.Outboxes.{outbox_in, IsOutboxTo, AreAdded, IsCutFrom};
+ghost use Rattle.dob_update.specs.Batches.{OutboxView, HasOneMore, empty_outbox, added};
+ghost use Rattle.dob_node.specs.Outboxes.{outbox_in, IsOutboxTo, AreAdded, HaveOneMore, IsCutFrom};
 
 use dob_pieces::{Memory, PieceSet};
 use dob_share::{Item, Settlement};
-use dob_update::{Batch, Outbox, push_items};
+use dob_update::{Batch, Outbox, count_items, push_items};
 use std::alloc::Global;
 
 /// Outboxes with nothing to send, of node `from` among `n`, for each node.
@@ -32,7 +32,7 @@ pub(crate) fn empty_outboxes(
 /// Adds a settlement to the outbox for each node but `from`, with its items for that node; `targets` are the classes
 /// with a move into the settled one. The list is for the items of one node at a time; what it held is gone.
 ///
-/// Error: `Memory`, after which some of the outboxes may have the settlement.
+/// Error: `Memory`, which leaves the outboxes as they were.
 pub(crate) fn add_for_others(
     items: &mut Vec<Item>,
     outboxes: &mut Vec<Outbox>,
@@ -41,14 +41,19 @@ pub(crate) fn add_for_others(
     from: usize,
 ) -> Result<(), Memory>
     requires addressed { let n = length outboxes.old.items in (set : Set) × (targets.now ≡ predecessors set settlement.class) × ((to : ℕ) → IsOutboxTo set n from to (outbox_in set n from outboxes.old.items to)) }
-    ensures { let n = length outboxes.old.items in OnOk result (AreAdded targets.now settlement n from n outboxes.old.items outboxes.new.items) }
+    ensures added { let n = length outboxes.old.items in OnOk result (AreAdded targets.now settlement n from n outboxes.old.items outboxes.new.items) }
+    ensures refused { OnErr result (outboxes.new.items ≡ outboxes.old.items) }
 {
     let n = outboxes.len();
     for to in 0..n {
         if to != from {
-            items.clear();
-            push_items(items, settlement, targets, n, to)?;
-            add_to(outboxes, to, settlement, items)?;
+            match add_to(items, outboxes, to, settlement, targets) {
+                Ok(()) => {}
+                Err(why) => {
+                    take_back(outboxes, targets, from, to);
+                    return Err(why);
+                }
+            }
         }
     }
     Ok(())
@@ -56,17 +61,47 @@ pub(crate) fn add_for_others(
 
 // Adds a settlement with its items to the outbox for a node. After `Memory` the outboxes are unchanged.
 fn add_to(
+    items: &mut Vec<Item>,
     outboxes: &mut Vec<Outbox>,
     to: usize,
     settlement: Settlement,
-    items: &[Item],
+    targets: &[u64],
 ) -> Result<(), Memory>
     requires there { to < vec_len outboxes.old }
-    requires items { (default : OutboxView) → let outbox = slice_index_or outboxes.old.items to default in items.now ≡ items_of (predecessors outbox.set) outbox.n outbox.to settlement }
-    ensures { OnOk result ((default : OutboxView) → outboxes.new.items ≡ slice_set outboxes.old.items to (added (slice_index_or outboxes.old.items to default) settlement items.now)) }
+    requires items { (default : OutboxView) → let outbox = slice_index_or outboxes.old.items to default in items_of (λ _. targets.now) (vec_len outboxes.old) to settlement ≡ items_of (predecessors outbox.set) outbox.n outbox.to settlement }
+    ensures added { OnOk result ((default : OutboxView) → outboxes.new.items ≡ slice_set outboxes.old.items to (added (slice_index_or outboxes.old.items to default) settlement (items_of (λ _. targets.now) (vec_len outboxes.old) to settlement))) }
+    ensures refused { OnErr result (outboxes.new.items ≡ outboxes.old.items) }
 {
+    items.clear();
+    push_items(items, settlement, targets, outboxes.len(), to)?;
     let outbox = &mut outboxes[to];
     outbox.add(settlement, items)
+}
+
+// Takes the settlement that was added last back out of the outboxes for the nodes below `upto` but `from`; `targets`
+// are the classes with a move into the settled one.
+fn take_back(outboxes: &mut Vec<Outbox>, targets: &[u64], from: usize, upto: usize)
+    requires upto { upto ≤ vec_len outboxes.old }
+    requires added { (before : List OutboxView) × HaveOneMore targets.now from upto before outboxes.old.items }
+    ensures { (before : List OutboxView) → HaveOneMore targets.now from upto before outboxes.old.items → outboxes.new.items ≡ before }
+{
+    let n = outboxes.len();
+    for to in 0..upto {
+        if to != from {
+            let count = count_items(targets, n, to);
+            take_back_at(outboxes, to, count);
+        }
+    }
+}
+
+// Takes the settlement that was added last, with its `count` items, back out of the outbox for a node.
+fn take_back_at(outboxes: &mut Vec<Outbox>, to: usize, count: usize)
+    requires there { to < vec_len outboxes.old }
+    requires added { (default : OutboxView) → (before : OutboxView) × HasOneMore before count (slice_index_or outboxes.old.items to default) }
+    ensures { (default before : OutboxView) → HasOneMore before count (slice_index_or outboxes.old.items to default) → outboxes.new.items ≡ slice_set outboxes.old.items to before }
+{
+    let outbox = &mut outboxes[to];
+    outbox.take_back(count);
 }
 
 /// Cuts a batch of the first `size` items, from 1 to 4096, from the outbox for a node that has some.

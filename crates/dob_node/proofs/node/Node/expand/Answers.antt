@@ -1,12 +1,13 @@
 -- One more settlement is told, and its items have its values.
-use Rattle.std.proofs.Common.{◌==◌, ℕ, ap, ◌∙◌, ◌++◌, sym, subst}
-use Rattle.std.specs.List.{filter}
+use Rattle.std.proofs.Common.{◌==◌, ℕ, refl, ap, ◌∙◌, ◌++◌, sym, subst}
+use Rattle.std.specs.List.{All, filter}
 use Rattle.dob_unmove.specs.Edges.{predecessors}
 use Rattle.dob_share.specs.Owners.{owner_of}
 use Rattle.dob_update.specs.Items.{items_of}
+use Rattle.dob_node.specs.Takes.{HasEntries}
 use Rattle.dob_node.specs.Outboxes.{IsOutboxTo, outbox_in}
 use Rattle.dob_node.proofs.Sounds.{next_told, entries_more}
-use Rattle.dob_node.proofs.Sends.{ready_added}
+use Rattle.dob_node.proofs.Sends.{ready_added, ready_same}
 use Rattle.dob_node.proofs.node.Node.expand.Goals as goal
 
 pub add_for_others-requires : goal.add_for_others-requires
@@ -15,7 +16,7 @@ add_for_others-requires c =
     record {
       addressed = (
         node.set,
-        c.deref-3.ensures.value ∙ c.in_ok-targets.ensures.list ∙ ap (λ st. predecessors st c.get-settlement.result.class) c.requires.set,
+        c.deref.ensures.value ∙ c.in_ok-targets.ensures.list ∙ ap (λ st. predecessors st c.get-settlement.result.class) c.requires.set,
         λ to. subst (λ (m : ℕ). IsOutboxTo node.set m node.id to (outbox_in node.set m node.id node.outboxes.items to)) (sym c.requires.sound.receivers)
             (c.requires.sound.addressed to),
       );
@@ -26,16 +27,31 @@ returns-clause-sound c =
     let node = c.args.self.now in
     let sound = c.requires.sound in
     let s = c.get-settlement.result in
-    let ready = ready_added node.set c.deref-3.result.now s node.n node.id node.outboxes.items c.add_for_others.new.outboxes.items
-    c.get-settlement.ensures.was c.get-settlement.ensures.now c.in_ok-add_for_others.ensures
+    let targets = c.deref-2.result.now in
+    let ready = ready_added node.set c.deref.result.now s node.n node.id node.outboxes.items c.add_for_others.new.outboxes.items
+    c.get-settlement.ensures.was c.get-settlement.ensures.now c.in_ok-add_for_others.ensures.added
     (record { receivers = sound.receivers; addressed = sound.addressed; nothing_to_self = sound.nothing_to_self }) in
     record {
       kept = sound.kept;
       told = next_told node.expanded _ _ sound.told c.len.ensures.count c.if-self-len.false;
-      entries = entries_more s node.own.items c.push_all.new.queue.items c.push_items.new.items.items
-          (filter (λ to. owner_of node.n to == node.id) c.deref.result.now) c.get-settlement.ensures.was c.get-settlement.ensures.now
-          sound.entries (c.in_ok-push_items.ensures ∙ ap (λ xs. xs ++ items_of (λ _. c.deref.result.now) node.n node.id s) c.clear.ensures.items)
-          (c.push_all.ensures ∙ ap (λ xs. xs ++ c.deref-2.result.now) c.reserve.ensures.items ∙ ap (λ xs. node.own.items ++ xs) c.deref-2.ensures.value);
+      entries = entries_more s node.own.items c.push_own.new.queue.items (items_of (λ _. targets) node.n node.id s)
+          (filter (λ to. owner_of node.n to == node.id) targets) c.get-settlement.ensures.was c.get-settlement.ensures.now
+          sound.entries refl (c.push_own.ensures ∙ ap (λ xs. xs ++ items_of (λ _. targets) node.n node.id s) c.reserve.ensures.items);
+      receivers = ready.receivers;
+      addressed = ready.addressed;
+      nothing_to_self = ready.nothing_to_self;
+    }
+
+pub returns-in_err-add_for_others-clause-sound : goal.returns-in_err-add_for_others-clause-sound
+returns-in_err-add_for_others-clause-sound c =
+    let node = c.args.self.now in
+    let sound = c.requires.sound in
+    let ready = ready_same node.set node.n node.id node.outboxes.items c.add_for_others.new.outboxes.items c.in_err-add_for_others.ensures.refused
+    (record { receivers = sound.receivers; addressed = sound.addressed; nothing_to_self = sound.nothing_to_self }) in
+    record {
+      kept = sound.kept;
+      told = sound.told;
+      entries = subst (λ xs. All HasEntries xs) (sym c.reserve.ensures.items) sound.entries;
       receivers = ready.receivers;
       addressed = ready.addressed;
       nothing_to_self = ready.nothing_to_self;

@@ -1,0 +1,99 @@
+-- Outboxes from which a settlement is taken back.
+use Rattle.std.proofs.Common.{◌≡◌, ◌≢◌, ℕ, ◌+◌, ◌<◌, ◌≤◌, inl, inr, refl, sym, ap, ◌∙◌, subst, arith, List, length, get_or, set}
+use Rattle.std.proofs.lemmas.Bool.{cases_order, cases_lt}
+use Rattle.std.proofs.lemmas.List.{length-set, get_or-set_same, get_or-set_other, get_or_default, same_lists}
+use Rattle.dob_pieces.specs.declared.piece_set.PieceSet.{PieceSet}
+use Rattle.dob_unmove.specs.Edges.{predecessors}
+use Rattle.dob_share.specs.declared.news.Settlement.{Settlement}
+use Rattle.dob_update.specs.Items.{items_of}
+use Rattle.dob_update.specs.Batches.{OutboxView, empty_outbox, HasOneMore}
+use Rattle.dob_node.specs.Outboxes.{outbox_in, IsOutboxTo, AreAdded, HaveOneMore}
+use Rattle.dob_node.proofs.Sends.{asked_of}
+
+-- the outboxes for the nodes so far have a settlement more, where nothing else has changed since
+pub one_more_each : (targets : List ℕ) (settlement : Settlement) (n from k : ℕ) (old mid new : List OutboxView) → n ≡ length old →
+    AreAdded targets settlement n from k old mid → new ≡ mid →
+    (let many = length old in
+    (set : PieceSet) × (targets ≡ predecessors set settlement.class) × ((to : ℕ) → IsOutboxTo set many from to (outbox_in set many from old to))) →
+    HaveOneMore targets from k old new
+one_more_each targets settlement n from k old mid new count so_far same of = record {
+  set = of.0;
+  settlement = settlement;
+  targets_are = of.1;
+  addressed = of.2;
+  are_added = subst (λ (xs : List OutboxView). AreAdded targets settlement (length old) from k old xs) (sym same)
+      (subst (λ (m : ℕ). AreAdded targets settlement m from k old mid) count so_far);
+}
+
+-- the outboxes for the nodes so far are those before, the others as they were
+pub record AreBack (upto : ℕ) (before outboxes now : List OutboxView) : Type 0 where
+  pub whole : length now ≡ length before
+  pub back : (to : ℕ) (default : OutboxView) → to < upto → get_or now to default ≡ get_or before to default
+  pub later : (to : ℕ) (default : OutboxView) → upto ≤ to → get_or now to default ≡ get_or outboxes to default
+
+module _ (targets : List ℕ) (from upto : ℕ) (before outboxes : List OutboxView) (more : HaveOneMore targets from upto before outboxes) where
+  pub back_none : AreBack 0 before outboxes outboxes
+  back_none = record {
+    whole = more.are_added.whole;
+    back = λ to default low. absurd (omega arith);
+    later = λ to default high. refl;
+  }
+
+  -- the outbox for the next node has one settlement more
+  pub one_more : (k count : ℕ) (now : List OutboxView) (default : OutboxView) → AreBack k before outboxes now → k < upto → k < length before → k ≢ from →
+      count ≡ length (items_of (λ _. targets) (length before) k more.settlement) → HasOneMore (get_or before k default) count (get_or now k default)
+  one_more k count now default so_far low within other count_is =
+      let n = length before in
+      let made = items_of (λ _. targets) n k more.settlement in
+      record {
+        settlement = more.settlement;
+        items = made;
+        items_are = asked_of targets more.settlement n from k more.set (get_or before k default) made
+            (subst (λ (o : OutboxView). IsOutboxTo more.set n from k o) (get_or_default before k (empty_outbox more.set n from k) default within) (more.addressed k))
+            more.targets_are refl;
+        many = sym count_is;
+        outbox_is = so_far.later k default (omega arith) ∙ more.are_added.sent k default low other;
+      }
+
+  pub back_one : (k : ℕ) (now new : List OutboxView) → AreBack k before outboxes now → k < length before →
+      ((default : OutboxView) → new ≡ set now k (get_or before k default)) → AreBack (k + 1) before outboxes new
+  back_one k now new so_far within is = record {
+    whole = ap length (is any) ∙ length-set now k (get_or before k any) ∙ so_far.whole;
+    back = λ to default below. elim (cases_order to k) [
+      | inl same ↦ subst (λ (j : ℕ). get_or new j default ≡ get_or before j default) (sym same)
+          (ap (λ xs. get_or xs k default) (is default)
+          ∙ get_or-set_same now k (get_or before k default) default (subst (λ (m : ℕ). k < m) (sym so_far.whole) within))
+      | inr order ↦ elim order [
+        | inl less ↦ elsewhere to default (λ same. omega arith) ∙ so_far.back to default less
+        | inr greater ↦ absurd (omega arith)
+      ]
+    ];
+    later = λ to default high. elsewhere to default (λ same. omega arith) ∙ so_far.later to default (omega arith);
+  }
+    where
+      any : OutboxView
+      any = empty_outbox more.set 0 0 0
+
+      elsewhere : (to : ℕ) (default : OutboxView) → to ≢ k → get_or new to default ≡ get_or now to default
+      elsewhere to default apart = ap (λ xs. get_or xs to default) (is default) ∙ get_or-set_other now k to (get_or before k default) default apart
+
+  -- nothing was added to the node's own outbox
+  pub back_own : (k : ℕ) (now : List OutboxView) → AreBack k before outboxes now → k ≡ from → AreBack (k + 1) before outboxes now
+  back_own k now so_far own = record {
+    whole = so_far.whole;
+    back = λ to default below. elim (cases_order to k) [
+      | inl same ↦ subst (λ (j : ℕ). get_or now j default ≡ get_or before j default) (sym (same ∙ own))
+          (so_far.later from default (omega arith) ∙ more.are_added.unsent default)
+      | inr order ↦ elim order [
+        | inl less ↦ so_far.back to default less
+        | inr greater ↦ absurd (omega arith)
+      ]
+    ];
+    later = λ to default high. so_far.later to default (omega arith);
+  }
+
+  pub back_all : (now : List OutboxView) → AreBack upto before outboxes now → now ≡ before
+  back_all now so_far = same_lists now before so_far.whole (λ k default low. elim (cases_lt k upto) [
+    | inl less ↦ so_far.back k default less
+    | inr high ↦ so_far.later k default high ∙ more.are_added.later k default high
+  ])

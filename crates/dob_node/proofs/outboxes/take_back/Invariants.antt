@@ -1,0 +1,10 @@
+-- The outboxes for the nodes so far are those before.
+use Rattle.std.proofs.Common.{List}
+use Rattle.dob_update.specs.Batches.{OutboxView}
+use Rattle.dob_node.specs.Outboxes.{HaveOneMore}
+use Rattle.dob_node.proofs.TakenBack.{AreBack}
+use Rattle.dob_node.proofs.outboxes.take_back.Given as goal
+
+abbrev pub invariant-loop-to : goal.invariant-loop-to
+invariant-loop-to l = (before : List OutboxView) → HaveOneMore l.targets l.from l.upto before l.initial.outboxes.items →
+    AreBack l.to before l.initial.outboxes.items l.outboxes.items
