@@ -1,25 +1,31 @@
 -- What is told of a table and kept of it: the counts of its values, their lines, and its file.
 use Rattle.std.proofs.Common.{◌≡◌, ◌∙◌, ◌+◌, ◌<◌, ◌^◌, ◌++◌, ◌∷◌, [], ℕ, Bool, true, false, arith, refl, sym, ap, subst, cond, codes, append_assoc}
 use Rattle.std.proofs.Common.{get_or, length, take, List, Option, Some, None}
-use Rattle.std.specs.Prelude.{slice_get}
+use Rattle.std.specs.Prelude.{IsTrue, slice_get}
 use Rattle.std.specs.List.{count_by}
 use Rattle.std.specs.Fmt.{decimal}
 use Rattle.std.specs.Io.KnownBytes.{Appends}
 use Rattle.std.proofs.lemmas.List.{length-take-le}
 use Rattle.std.proofs.lemmas.List.Sums.{count_by-le-length, count_by_more_no, count_by_more_yes}
 use Rattle.std.proofs.lemmas.Option.{get_or_from_slice_get}
+use Rattle.dob_pieces.specs.declared.piece_set.PieceSet.{PieceSet}
+use Rattle.dob_pieces.specs.Sets.{set_text}
 use Rattle.dob_value.specs.declared.value.Value.{Value}
 use Rattle.dob_value.specs.Entries.{is_draw}
+use Rattle.dob_value.specs.Follows.{ClassTable, IsValueTable}
+use Rattle.dob_run.specs.declared.finishing.Built.{Built}
+use Rattle.dob_run.specs.Built.{IsBuilt}
 use Rattle.dob_dbfile.specs.declared.fault.Fault as file
 use Rattle.dob_dbfile.specs.declared.fault.Fault.TheVariants as file_fault
+use Rattle.dob_dbfile.specs.Format.{bytes_of}
 use Rattle.dob_dbfile.specs.Sinks.{Change}
 use Rattle.dob_dbfile.specs.Writing.{StopsAt}
 use Rattle.dob_cli.specs.declared.tally.Tally.{Tally}
 use Rattle.dob_cli.specs.declared.fault.Fault.{Fault}
 use Rattle.dob_cli.specs.declared.fault.Fault.TheVariants.{Text, SetText, SetTooLarge, TooDeep, Run, File, Table, Memory, Io}
-use Rattle.dob_cli.specs.Shelves.{Files}
+use Rattle.dob_cli.specs.Shelves.{Files, HasJust}
 use Rattle.dob_cli.specs.Sizes.{count_line}
-use Rattle.dob_cli.specs.Builds.{AddsValue, IsBuildFault, IsKeepingFault, IsTally, class_lines, is_loss, is_win}
+use Rattle.dob_cli.specs.Builds.{AddsValue, IsBuildFault, IsKeepingFault, IsTableFor, IsTally, class_lines, is_loss, is_win}
 
 -- ---- counts
 
@@ -79,6 +85,16 @@ pub lines_told : (values : List Value) (tally : Tally) (classes : ℕ) → class
     → told classes tally.wins tally.losses tally.draws ≡ class_lines values
 lines_told values tally classes count is = four_lines classes tally.wins tally.losses tally.draws ∙ rw (count, is.wins, is.losses, is.draws) refl
 
+-- ---- the table
+
+-- the table that was built of the set with this text is the text's
+pub table_for : (text : List ℕ) (set : PieceSet) (nodes size : ℕ) (built : Built) → text ≡ set_text set → IsBuilt set nodes size built
+    → IsTableFor text built.table
+table_for text set nodes size built named is = record {
+  named = named ∙ ap set_text (sym is.set_is);
+  right = subst (λ s. IsValueTable s built.table.values) (sym is.set_is) is.values;
+}
+
 -- ---- the file
 
 -- an empty sink that takes the bytes has just these
@@ -91,25 +107,29 @@ received_all old new bytes e h = go new (subst (λ (o : Option (List ℕ)). Appe
 
 -- ---- faults
 
-pub stopped_keeping : (c : Change) (bytes : List ℕ) (fault : file.Fault) → StopsAt c bytes fault → IsKeepingFault (File fault)
-stopped_keeping c bytes file_fault.Memory stops = tt
-stopped_keeping c bytes (file_fault.Io count) stops = tt
-stopped_keeping c bytes file_fault.SetTooLarge stops = absurd stops
-stopped_keeping c bytes file_fault.Truncated stops = absurd stops
-stopped_keeping c bytes file_fault.Magic stops = absurd stops
-stopped_keeping c bytes file_fault.SetByte stops = absurd stops
-stopped_keeping c bytes file_fault.ClassCount stops = absurd stops
-stopped_keeping c bytes file_fault.Trailing stops = absurd stops
-stopped_keeping c bytes file_fault.Digest stops = absurd stops
+module _ (Old New : Files) (tells : Bool) (name : List ℕ) (table : ClassTable) where
+  -- the file was made, and writing it stopped
+  pub stopped_keeping : (c : Change) (fault : file.Fault) → (IsTrue tells → HasJust name [] New) → StopsAt c (bytes_of table) fault
+      → IsKeepingFault Old New tells name table (File fault)
+  stopped_keeping c file_fault.Memory empty stops = empty
+  stopped_keeping c (file_fault.Io count) empty stops = (stops.within, empty)
+  stopped_keeping c file_fault.SetTooLarge empty stops = absurd stops
+  stopped_keeping c file_fault.Truncated empty stops = absurd stops
+  stopped_keeping c file_fault.Magic empty stops = absurd stops
+  stopped_keeping c file_fault.SetByte empty stops = absurd stops
+  stopped_keeping c file_fault.ClassCount empty stops = absurd stops
+  stopped_keeping c file_fault.Trailing empty stops = absurd stops
+  stopped_keeping c file_fault.Digest empty stops = absurd stops
 
--- a fault of keeping the table is one of building it
-pub keeping_holds : (Old New : Files) (text : List ℕ) (nodes : ℕ) (fault : Fault) → IsKeepingFault fault → IsBuildFault Old New text nodes fault
-keeping_holds Old New text nodes (File f) holds = holds
-keeping_holds Old New text nodes Io holds = tt
-keeping_holds Old New text nodes Memory holds = tt
-keeping_holds Old New text nodes (Text f) holds = absurd holds
-keeping_holds Old New text nodes SetText holds = absurd holds
-keeping_holds Old New text nodes SetTooLarge holds = absurd holds
-keeping_holds Old New text nodes TooDeep holds = absurd holds
-keeping_holds Old New text nodes (Run f) holds = absurd holds
-keeping_holds Old New text nodes (Table f) holds = absurd holds
+  -- a fault of keeping the text's table is one of building it
+  pub keeping_holds : (text : List ℕ) (nodes : ℕ) (fault : Fault) → IsTableFor text table → IsKeepingFault Old New tells name table fault
+      → IsBuildFault Old New tells text nodes name fault
+  keeping_holds text nodes (File f) built holds = (table, built, holds)
+  keeping_holds text nodes Io built holds = (table, built, holds)
+  keeping_holds text nodes Memory built holds = absurd holds
+  keeping_holds text nodes (Text f) built holds = absurd holds
+  keeping_holds text nodes SetText built holds = absurd holds
+  keeping_holds text nodes SetTooLarge built holds = absurd holds
+  keeping_holds text nodes TooDeep built holds = absurd holds
+  keeping_holds text nodes (Run f) built holds = absurd holds
+  keeping_holds text nodes (Table f) built holds = absurd holds

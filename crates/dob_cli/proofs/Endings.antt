@@ -39,9 +39,8 @@ set_fault_holds text set Io named holds = absurd holds
 
 -- a fault, with nothing on standard output
 pub refused : (AreLines : List ℕ → Type 0) (Holds : Fault → Type 0) (fault : Fault) (status : ℕ) (out : State) (err : Change)
-    → Holds Memory → Holds fault → TellsOneFault fault status err → Answers AreLines Holds (ended status (change out out) err)
-refused AreLines Holds fault status out err memory holds (inl told) = inr (inl (record { fault = fault; holds = holds; told = told; silent = refl }))
-refused AreLines Holds fault status out err memory holds (inr told) = inr (inl (record { fault = Memory; holds = memory; told = told; silent = refl }))
+    → Holds fault → TellsOneFault fault status err → Answers AreLines Holds (ended status (change out out) err)
+refused AreLines Holds fault status out err holds told = inr (inl (record { fault = fault; holds = holds; told = told; silent = refl }))
 
 -- want of memory, with nothing on standard output
 pub memory_told : (status : ℕ) (out : State) (err : Change) → TellsOneFault Memory status err → TellsMemory (ended status (change out out) err)

@@ -10,22 +10,12 @@ use Rattle.dob_cli.specs.Shelves.{Files, SameFiles, SameOthers}
 use Rattle.dob_cli.specs.Words.{Meaning, asks, build, help, number_of, topic, usage, version}
 use Rattle.dob_cli.specs.declared.command.Reading.TheVariants as reading
 use Rattle.dob_cli.specs.Readings.{IsOrder, IsReadingOf, name_of_order}
-use Rattle.dob_cli.specs.declared.fault.Fault.TheVariants.{Memory}
-use Rattle.dob_cli.specs.Orders.{AnswersOrder, IsFaultFor, KeepsFiles}
+use Rattle.dob_cli.specs.Orders.{AnswersOrder, KeepsFiles}
 use Rattle.dob_cli.specs.Program.{AnswersValue}
 use Rattle.dob_cli.specs.Sizes.{AnswersCount}
 use Rattle.dob_cli.specs.Builds.{AnswersBuild}
 use Rattle.dob_cli.specs.Tables.{AnswersCheck, AnswersLine, AnswersProbe}
 use Rattle.dob_cli.proofs.Outcomes.{first_text}
-
--- want of memory holds of every order
-pub memory_holds : (Old New : Files) (o : Order) → IsFaultFor Old New o Memory
-memory_holds Old New (Value t) = tt
-memory_holds Old New (Count t) = tt
-memory_holds Old New (Build s n f) = tt
-memory_holds Old New (Probe f t) = tt
-memory_holds Old New (Line f t) = tt
-memory_holds Old New (Check f) = tt
 
 -- two names that differ aren't one
 differs : (a b : Text) → bytes_eq a a ≡ true → bytes_eq a b ≡ false → a ≡ b → ⊥

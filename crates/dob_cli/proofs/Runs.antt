@@ -35,21 +35,21 @@ told_same text e (inr failed) = (failed.0.1.same, fault_same Io e.status e.err f
 
 answers_same : (AreLines : List ℕ → Type 0) (Holds : Fault → Type 0) (e : Ending) → Answers AreLines Holds e → IsSame e.out × IsSame e.err
 answers_same AreLines Holds e (inl lines) = (lines.told.same, untouched_same e.err lines.silent)
-answers_same AreLines Holds e (inr (inl fault)) = (untouched_same e.out fault.silent, said_same e.err _ fault.told.1)
+answers_same AreLines Holds e (inr (inl is)) = (untouched_same e.out is.silent, fault_same is.fault e.status e.err is.told)
 answers_same AreLines Holds e (inr (inr failed)) = (failed.part.1.same, fault_same Io e.status e.err failed.told)
 
 -- ---- what was done is what the words ask for
 
 -- want of memory is a fault of every order
 memory_answered : (AreLines : List ℕ → Type 0) (Holds : Fault → Type 0) (e : Ending) → Holds Memory → TellsMemory e → Answers AreLines Holds e
-memory_answered AreLines Holds e holds told = inr (inl (record { fault = Memory; holds = holds; told = told.0; silent = told.1 }))
+memory_answered AreLines Holds e holds told = inr (inl (record { fault = Memory; holds = holds; told = inl told.0; silent = told.1 }))
 
 module _ (Old New : Files) (tells : Bool) (words : List Text) (e : Ending) where
   pub ran_memory : TellsMemory e → SameFiles Old New → Ran Old New tells words e
   ran_memory told same = record {
     value = λ text _. memory_answered _ _ e tt told;
     count = λ set _. memory_answered _ _ e tt told;
-    build = λ set nodes file _. memory_answered _ _ e tt told;
+    build = λ set nodes file _. memory_answered _ _ e same told;
     probe = λ file text _. memory_answered _ _ e tt told;
     line = λ file text _. memory_answered _ _ e tt told;
     check = λ file _. memory_answered _ _ e tt told;
@@ -82,8 +82,8 @@ module _ (Old New : Files) (tells : Bool) (words : List Text) (e : Ending) where
     usage = λ is. absurd (asked (reading.Order o) read _ is);
     others = λ set nodes file is. kept_others Old New o set nodes file (asked (reading.Order o) read _ is) keeps;
     files = λ none. kept_files Old New (meaning_of words) o read none keeps;
-    same_out = (answers_same (AreLinesFor Old New tells o) (IsFaultFor Old New o) e answers).0;
-    same_err = (answers_same (AreLinesFor Old New tells o) (IsFaultFor Old New o) e answers).1;
+    same_out = (answers_same (AreLinesFor Old New tells o) (IsFaultFor Old New tells o) e answers).0;
+    same_err = (answers_same (AreLinesFor Old New tells o) (IsFaultFor Old New tells o) e answers).1;
   }
 
   pub ran_version : IsReadingOf (meaning_of words) reading.Version → Tells version_line e → SameFiles Old New → Ran Old New tells words e

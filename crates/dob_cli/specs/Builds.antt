@@ -1,5 +1,5 @@
 -- What the program owes where it is asked to build a database file.
-use Rattle.std.specs.Prelude.{◌≡◌, ◌≢◌, ℕ, Bool, true, false, IsTrue, cond, List, ◌+◌, ◌++◌, codes, length}
+use Rattle.std.specs.Prelude.{◌≡◌, ◌≢◌, ◌≤◌, ℕ, Bool, true, false, IsTrue, cond, List, [], ◌+◌, ◌++◌, codes, length}
 use Rattle.std.specs.List.{count_by}
 use Rattle.dob_pieces.specs.declared.piece_set.PieceSet.{PieceSet}
 use Rattle.dob_pieces.specs.Sets.{set_text}
@@ -47,35 +47,47 @@ class_lines values =
     ++ (count_line (codes "loss ") (count_by is_loss values)
     ++ count_line (codes "draw ") (count_by is_draw values)))
 
+-- the table is the value table of the piece set that the text names
+pub record IsTableFor (text : List ℕ) (table : ClassTable) : Type 0 where
+  pub named : text ≡ set_text table.set
+  pub right : IsValueTable table.set table.values
+
 -- The lines tell of the value table of the text's piece set, and under the name the shelf has just its file, where it tells
 -- its bytes; New says which bytes the file of a name has then.
 pub record AreBuildLines (tells : Bool) (New : Files) (text file lines : List ℕ) : Type 0 where
   pub table : ClassTable
-  pub named : text ≡ set_text table.set
-  pub right : IsValueTable table.set table.values
+  pub built : IsTableFor text table
   pub kept : IsTrue tells → HasJust file (bytes_of table) New
   pub same : lines ≡ class_lines table.values
 
 -- ---- faults
 
--- a fault of keeping a table: memory failed, or the file
-abbrev pub IsKeepingFault : Fault → Type 0
-IsKeepingFault (File file_fault.Memory) = Unit {0}
-IsKeepingFault (File (file_fault.Io bytes)) = Unit {0}
-IsKeepingFault Io = Unit {0}
-IsKeepingFault _ = ⊥
+-- The fault of keeping a table's file, by its moment. The file couldn't be made: each file has what it had. Then the file was
+-- made and nothing of it is kept: where the shelf tells its bytes it is empty, and so no table's. Memory for its bytes was
+-- refused before any of them went out, or a write or the flush failed after so many.
+abbrev pub IsKeepingFault : Files → Files → Bool → List ℕ → ClassTable → Fault → Type 0
+IsKeepingFault Old New tells file table Io = SameFiles Old New
+IsKeepingFault Old New tells file table (File file_fault.Memory) = IsTrue tells → HasJust file [] New
+IsKeepingFault Old New tells file table (File (file_fault.Io count)) =
+    (count ≤ length (bytes_of table)) × (IsTrue tells → HasJust file [] New)
+IsKeepingFault Old New tells file table _ = ⊥
 
--- A fault of building: no set has the text; or the run by so many nodes, with batches of at most 256 items and channels of
--- 64 batches, was refused or stopped; and then each file has what it had. Or memory failed, or the file.
-abbrev pub IsBuildFault : Files → Files → List ℕ → ℕ → Fault → Type 0
-IsBuildFault Old New text nodes SetText = ((set : PieceSet) → text ≢ set_text set) × SameFiles Old New
-IsBuildFault Old New text nodes (Run fault) =
+-- The fault of building, by its moment. While each file has what it had: no set has the text; or the run by so many nodes,
+-- with batches of at most 256 items and channels of 64 batches, was refused or stopped; or memory was refused, for the words
+-- or for the lines. Then the table is there, and keeping its file failed.
+abbrev pub IsBuildFault : Files → Files → Bool → List ℕ → ℕ → List ℕ → Fault → Type 0
+IsBuildFault Old New tells text nodes file SetText = ((set : PieceSet) → text ≢ set_text set) × SameFiles Old New
+IsBuildFault Old New tells text nodes file (Run fault) =
     (set : PieceSet) × (text ≡ set_text set) × IsRefused set nodes 256 64 fault × SameFiles Old New
-IsBuildFault Old New text nodes (File fault) = IsKeepingFault (File fault)
-IsBuildFault Old New text nodes Memory = Unit {0}
-IsBuildFault Old New text nodes Io = Unit {0}
-IsBuildFault Old New text nodes _ = ⊥
+IsBuildFault Old New tells text nodes file Memory = SameFiles Old New
+IsBuildFault Old New tells text nodes file Io =
+    (table : ClassTable) × IsTableFor text table × IsKeepingFault Old New tells file table Io
+IsBuildFault Old New tells text nodes file (File fault) =
+    (table : ClassTable) × IsTableFor text table × IsKeepingFault Old New tells file table (File fault)
+IsBuildFault Old New tells text nodes file _ = ⊥
 
--- what the program does where it is asked for a file of the table of the piece set that a text names, built by so many nodes
+-- What the program does where it is asked for a file of the table of the piece set that a text names, built by so many nodes.
+-- Where standard output fails it does so in lines that are right, and so the file is whole.
 abbrev pub AnswersBuild : Files → Files → Bool → List ℕ → ℕ → List ℕ → Ending → Type 0
-AnswersBuild Old New tells text nodes file = Answers (AreBuildLines tells New text file) (IsBuildFault Old New text nodes)
+AnswersBuild Old New tells text nodes file =
+    Answers (AreBuildLines tells New text file) (IsBuildFault Old New tells text nodes file)

@@ -31,11 +31,11 @@ pub record TellsLines (AreLines : List ℕ → Type 0) (e : Ending) : Type 0 whe
   pub told : Puts e.out lines
   pub silent : IsUntouched e.err
 
--- it told a fault that holds, and nothing on standard output
+-- it told a fault that holds, or that no memory was left for telling it, and nothing on standard output
 pub record TellsFault (Holds : Fault → Type 0) (e : Ending) : Type 0 where
   pub fault : Fault
   pub holds : Holds fault
-  pub told : TellsFaultAs fault e.status e.err
+  pub told : TellsOneFault fault e.status e.err
   pub silent : IsUntouched e.out
 
 -- standard output failed in such lines, after a beginning of them; it told that fault

@@ -20,13 +20,13 @@ AreLinesFor Old New tells (Line file position) = IsMovesLine (Old file.now) posi
 AreLinesFor Old New tells (Check file) = IsCheckLine (Old file.now)
 
 -- the fault holds of the order
-abbrev pub IsFaultFor : Files → Files → Order → Fault → Type 0
-IsFaultFor Old New (Value position) = IsFaultOf position.now
-IsFaultFor Old New (Count set) = IsCountFaultOf set.now
-IsFaultFor Old New (Build set nodes file) = IsBuildFault Old New set.now nodes
-IsFaultFor Old New (Probe file position) = IsPositionFault (Old file.now) position.now
-IsFaultFor Old New (Line file position) = IsPositionFault (Old file.now) position.now
-IsFaultFor Old New (Check file) = IsCheckFault (Old file.now)
+abbrev pub IsFaultFor : Files → Files → Bool → Order → Fault → Type 0
+IsFaultFor Old New tells (Value position) = IsFaultOf position.now
+IsFaultFor Old New tells (Count set) = IsCountFaultOf set.now
+IsFaultFor Old New tells (Build set nodes file) = IsBuildFault Old New tells set.now nodes file.now
+IsFaultFor Old New tells (Probe file position) = IsPositionFault (Old file.now) position.now
+IsFaultFor Old New tells (Line file position) = IsPositionFault (Old file.now) position.now
+IsFaultFor Old New tells (Check file) = IsCheckFault (Old file.now)
 
 -- the order leaves each file what it had, but for the one that it names to be made
 abbrev pub KeepsFiles : Files → Files → Order → Type 0
@@ -35,4 +35,4 @@ KeepsFiles Old New _ = SameFiles Old New
 
 -- what the program does with the order
 abbrev pub AnswersOrder : Files → Files → Bool → Order → Ending → Type 0
-AnswersOrder Old New tells order = Answers (AreLinesFor Old New tells order) (IsFaultFor Old New order)
+AnswersOrder Old New tells order = Answers (AreLinesFor Old New tells order) (IsFaultFor Old New tells order)

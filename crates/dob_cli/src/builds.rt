@@ -23,8 +23,8 @@ const CAPACITY: usize = 64;
 /// Builds the table of the piece set that the text names by so many nodes, and keeps it under the name. The lines that
 /// tell how many classes have which value. Its promises hold if it returns.
 ///
-/// The file is made when the table is there, and the lines too. A fault before that leaves all files as they were, and
-/// one after it leaves a beginning of the file.
+/// The file is made when the table is there, and the lines too. A fault before that leaves all files as they were; want of
+/// memory then leaves the file empty, and a sink that fails a beginning of it, as far as the sink took it.
 pub(crate) fn answer_build<R: Threads + Wait + Sync, S: Shelf>(
     rt: &R,
     alloc: Global,
@@ -34,7 +34,7 @@ pub(crate) fn answer_build<R: Threads + Wait + Sync, S: Shelf>(
     file: &str,
 ) -> Result<String, Fault>
     ensures ok { IfOk result (λ lines. AreBuildLines (S.tells shelf.old) (S.has shelf.new) text.now file.now (string_bytes lines)) }
-    ensures err { IfErr result (IsBuildFault (S.has shelf.old) (S.has shelf.new) text.now nodes) }
+    ensures err { IfErr result (IsBuildFault (S.has shelf.old) (S.has shelf.new) (S.tells shelf.old) text.now nodes file.now) }
     ensures others { SameOthers file.now (S.has shelf.old) (S.has shelf.new) }
 {
     let set = PieceSet::read(text)?;
@@ -44,7 +44,7 @@ pub(crate) fn answer_build<R: Threads + Wait + Sync, S: Shelf>(
     Ok(lines)
 }
 
-// Keeps the table's file under the name.
+// Keeps the table's file under the name, which is made empty first.
 fn keep_table<S: Shelf>(
     alloc: Global,
     shelf: &mut S,
@@ -52,7 +52,7 @@ fn keep_table<S: Shelf>(
     table: &Table,
 ) -> Result<(), Fault>
     ensures kept { OnOk result (IsTrue (S.tells shelf.old) → HasJust file.now (bytes_of table.now) (S.has shelf.new)) }
-    ensures err { IfErr result IsKeepingFault }
+    ensures err { IfErr result (IsKeepingFault (S.has shelf.old) (S.has shelf.new) (S.tells shelf.old) file.now table.now) }
     ensures others { SameOthers file.now (S.has shelf.old) (S.has shelf.new) }
 {
     let Some(mut sink) = shelf.make(file) else {

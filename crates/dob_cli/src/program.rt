@@ -114,7 +114,7 @@ fn answer<S: Shelf>(
     shelf: &mut S,
 ) -> Result<String, Fault>
     ensures ok { IfOk result (λ lines. AreLinesFor (S.has shelf.old) (S.has shelf.new) (S.tells shelf.old) order.entry (string_bytes lines)) }
-    ensures err { IfErr result (IsFaultFor (S.has shelf.old) (S.has shelf.new) order.entry) }
+    ensures err { IfErr result (IsFaultFor (S.has shelf.old) (S.has shelf.new) (S.tells shelf.old) order.entry) }
     ensures files { KeepsFiles (S.has shelf.old) (S.has shelf.new) order.entry }
 {
     match order {

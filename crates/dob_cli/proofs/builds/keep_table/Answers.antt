@@ -1,4 +1,4 @@
--- The sink was empty and took the file, which the shelf then keeps.
+-- The sink was empty and took the file, which the shelf then keeps; where it took none the file is as it was made.
 use Rattle.std.proofs.Common.{[], Bool, refl, subst, sym}
 use Rattle.std.specs.Prelude.{IsTrue}
 use Rattle.std.proofs.lemmas.Result.{err_from_is_err_and}
@@ -13,7 +13,8 @@ keep-requires g c = λ tells. ([], (c.in-Some.ensures.made (subst (λ (b : Bool)
 pub returns-in_err-write_table-clause-err : goal.returns-in_err-write_table-clause-err
 returns-in_err-write_table-clause-err g c =
     let p = err_from_is_err_and c.from_residual.result c.from_residual.ensures.1 in
-    rw (p.1, p.2) (stopped_keeping _ _ c.in_err-write_table.field-0.0 c.in_err-write_table.ensures.stopped)
+    rw (p.1, p.2) (stopped_keeping (g.S.Shelf.has c.args.shelf.now) (g.S.Shelf.has c.make.new.self) (g.S.Shelf.tells c.args.shelf.now) c.args.file.now
+    c.args.table.now _ c.in_err-write_table.field-0.0 c.in-Some.ensures.made c.in_err-write_table.ensures.stopped)
 
 pub returns-clause-kept : goal.returns-clause-kept
 returns-clause-kept g c = λ tells.

@@ -12,3 +12,6 @@ returns-in-Check-clause-ok g c = rw c.in-Check.is c.answer_check.ensures.ok
 
 pub returns-in-Build-clause-ok : goal.returns-in-Build-clause-ok
 returns-in-Build-clause-ok g c = rw c.in-Build.is c.answer_build.ensures.ok
+
+pub returns-in-Build-clause-err : goal.returns-in-Build-clause-err
+returns-in-Build-clause-err g c = rw c.in-Build.is c.answer_build.ensures.err
