@@ -30,35 +30,6 @@ module _ (f : Form) (texts : List Text) (met : Option (Text × List Row)) (found
   of_labels : (ls : List Text) → labels f ≡ ls → map (λ l. first_of l found.0) ls ≡ map (λ t. Some t) texts
   of_labels ls are = ap (map (λ l. first_of l found.0)) (sym are) ∙ found.2
 
-  pub no_text : (label : Text) → labels f ≡ label ∷ [] → (o : Option (Bor Text)) → IsGot label o → o ≡ None → ⊥
-  no_text label only o got is =
-      none_missing (None ∷ []) texts (ap (λ x. x ∷ []) (sym (in_rows label o None got is)) ∙ of_labels (label ∷ []) only) refl
-
-  pub one_text : (label : Text) → labels f ≡ label ∷ [] → (o : Option (Bor Text)) (t : Bor Text) → IsGot label o → o ≡ Some t → t.now ∷ [] ≡ texts
-  one_text label only o t got is =
-      found_texts (t.now ∷ []) texts (ap (λ x. x ∷ []) (sym (in_rows label o (Some t) got is)) ∙ of_labels (label ∷ []) only)
-
-  pub no_first : (a b : Text) → labels f ≡ a ∷ b ∷ [] → (o : Option (Bor Text)) → IsGot a o → o ≡ None → ⊥
-  no_first a b both o got is =
-      none_missing (None ∷ first_of b found.0 ∷ []) texts
-      (ap (λ x. x ∷ first_of b found.0 ∷ []) (sym (in_rows a o None got is)) ∙ of_labels (a ∷ b ∷ []) both) refl
-
-  -- two texts that may be there
-  pair : {x y z w : Option Text} → x ≡ z → y ≡ w → x ∷ y ∷ [] ≡ z ∷ w ∷ []
-  pair e g = cc
-
-  pub no_second : (a b : Text) → labels f ≡ a ∷ b ∷ [] → (o : Option (Bor Text)) (t : Bor Text) → IsGot a o → o ≡ Some t
-      → (p : Option (Bor Text)) → IsGot b p → p ≡ None → ⊥
-  no_second a b both o t got is p next none =
-      none_missing (Some t.now ∷ None ∷ []) texts (sym (pair (in_rows a o (Some t) got is) (in_rows b p None next none)) ∙ of_labels (a ∷ b ∷ []) both) refl
-
-  pub two_texts : (a b : Text) → labels f ≡ a ∷ b ∷ [] → (o : Option (Bor Text)) (t : Bor Text) → IsGot a o → o ≡ Some t
-      → (p : Option (Bor Text)) (u : Bor Text) → IsGot b p → p ≡ Some u → t.now ∷ u.now ∷ [] ≡ texts
-  two_texts a b both o t got is p u next there =
-      found_texts (t.now ∷ u.now ∷ []) texts (sym (pair (in_rows a o (Some t) got is) (in_rows b p (Some u) next there)) ∙ of_labels (a ∷ b ∷ []) both)
-
-  -- ---- of three
-
   -- one of the labels has none
   misses : (before after : List Text) (label : Text) → first_of label found.0 ≡ None
       → list_all is_some (map (λ l. first_of l found.0) (before ++ label ∷ after)) ≡ false
@@ -69,10 +40,28 @@ module _ (f : Form) (texts : List Text) (met : Option (Text × List Row)) (found
       and_false true = refl
       and_false false = refl
 
+  -- so that no texts were found
   pub no_label : (before after : List Text) (label : Text) → labels f ≡ before ++ label ∷ after → (o : Option (Bor Text)) → IsGot label o → o ≡ None → ⊥
   no_label before after label are o got is =
       none_missing (map (λ l. first_of l found.0) (before ++ label ∷ after)) texts (of_labels (before ++ label ∷ after) are)
       (misses before after label (in_rows label o None got is))
+
+  -- ---- one text, and two
+
+  pub one_text : (label : Text) → labels f ≡ label ∷ [] → (o : Option (Bor Text)) (t : Bor Text) → IsGot label o → o ≡ Some t → t.now ∷ [] ≡ texts
+  one_text label only o t got is =
+      found_texts (t.now ∷ []) texts (ap (λ x. x ∷ []) (sym (in_rows label o (Some t) got is)) ∙ of_labels (label ∷ []) only)
+
+  -- two texts that may be there
+  pair : {x y z w : Option Text} → x ≡ z → y ≡ w → x ∷ y ∷ [] ≡ z ∷ w ∷ []
+  pair e g = cc
+
+  pub two_texts : (a b : Text) → labels f ≡ a ∷ b ∷ [] → (o : Option (Bor Text)) (t : Bor Text) → IsGot a o → o ≡ Some t
+      → (p : Option (Bor Text)) (u : Bor Text) → IsGot b p → p ≡ Some u → t.now ∷ u.now ∷ [] ≡ texts
+  two_texts a b both o t got is p u next there =
+      found_texts (t.now ∷ u.now ∷ []) texts (sym (pair (in_rows a o (Some t) got is) (in_rows b p (Some u) next there)) ∙ of_labels (a ∷ b ∷ []) both)
+
+  -- ---- three texts
 
   module _ (a b c : Text) (are : labels f ≡ a ∷ b ∷ c ∷ []) where
     triple : {x y z u v w : Option Text} → x ≡ u → y ≡ v → z ≡ w → x ∷ y ∷ z ∷ [] ≡ u ∷ v ∷ w ∷ []

@@ -47,11 +47,18 @@ line_form = record { name = codes "line"; options = file_option ∷ []; position
 abbrev pub check_form : Form
 check_form = record { name = codes "check"; options = file_option ∷ []; positions = []; numbers = [] }
 
+-- the options `--nodes N` and `--out FILE`
+abbrev pub nodes_option : Text × Text
+nodes_option = (codes "nodes", codes "N")
+
+abbrev pub out_option : Text × Text
+out_option = (codes "out", codes "FILE")
+
 -- `build --set CEG --nodes N --out FILE`
 abbrev pub build_form : Form
 build_form = record {
   name = codes "build";
-  options = set_option ∷ (codes "nodes", codes "N") ∷ (codes "out", codes "FILE") ∷ [];
+  options = set_option ∷ nodes_option ∷ out_option ∷ [];
   positions = [];
   numbers = codes "N" ∷ [];
 }

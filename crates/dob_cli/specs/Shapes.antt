@@ -1,10 +1,11 @@
 -- What `clap` reads of the program's commands.
-use Rattle.std.specs.Prelude.{◌≡◌, ◌++◌, List, [], ◌∷◌, Option, None, Some, codes, false, fold, if◌then◌else◌, map, true}
+use Rattle.std.specs.Prelude.{◌≡◌, ◌++◌, List, ◌∷◌, Option, None, Some, codes, false, fold, if◌then◌else◌, map, true}
 use Rattle.std.specs.List.{list_any}
 use Rattle.std.specs.Str.{bytes_eq}
+use Rattle.clap.specs.declared.builder.Arg.{Arg}
 use Rattle.clap.specs.declared.builder.Command.{Command}
 use Rattle.clap.specs.declared.builder.Command.TheViews.{out-Command}
-use Rattle.clap.specs.Words.{App, Row, Rule, app_of, first_of, new_app, new_rule, with_subcommand}
+use Rattle.clap.specs.Words.{App, Row, Rule, app_of, first_of, new_app, new_rule, rule_of, with_subcommand}
 use Rattle.clap.specs.declared.builder.value_parser.ValueParser.{ValueParser}
 use Rattle.clap.specs.declared.builder.value_parser.ValueParser.TheVariants.{Unsigned}
 use Rattle.dob_cli.specs.Forms.{Form, Text, forms, labels}
@@ -25,6 +26,10 @@ text_rule numbers label = record (new_rule label) { required = true; parser = pa
 -- an option with its text, as `--set CEG`
 abbrev pub option_rule : List Text → Text × Text → Rule
 option_rule numbers o = record (text_rule numbers o.1) { long = Some o.0 }
+
+-- the argument is read so, and it isn't one of each subcommand too
+abbrev pub IsRead : Rule → Arg → Type 0
+IsRead rule a = (rule_of a ≡ rule) × (a.global ≡ false)
 
 -- a subcommand of this form
 abbrev pub form_app : Form → App

@@ -10,12 +10,13 @@
 // - what it owes by a definition like `AnswersCount`, a case in each definition of specs/Orders.antt and a field of `Ran` in
 //   specs/Runs.antt;
 // - in program.rt an arm of `answer`, and its cases in proofs/Orders.antt and proofs/Runs.antt.
-ghost use Rattle.std.specs.Prelude.{◌≡◌, ◌∷◌, [], false, IfOk, IsSomeAnd, List, codes, map};
-ghost use Rattle.clap.specs.Words.{kind_of, rule_of, subcommand_rows_of};
-ghost use Rattle.dob_cli.specs.Forms.{Form, Text, build_form, check_form, count_form, file_option, forms, line_form, probe_form, set_option, value_form};
+ghost use Rattle.std.specs.Prelude.{◌≡◌, ◌∷◌, [], IfOk, IsSomeAnd, List, codes, map};
+ghost use Rattle.clap.specs.Words.{kind_of, subcommand_rows_of};
+ghost use Rattle.dob_cli.specs.Forms.{Form, Text, build_form, check_form, count_form, forms, line_form, probe_form, value_form};
+ghost use Rattle.dob_cli.specs.Forms.{file_option, nodes_option, out_option, set_option};
 ghost use Rattle.dob_cli.specs.Lines.{IsAmong, IsLine};
 ghost use Rattle.dob_cli.specs.Words.{asks, is_version, meaning_of};
-ghost use Rattle.dob_cli.specs.Shapes.{Finds, HasShape, bare_app, dobutsu_app, form_app, option_rule, text_rule};
+ghost use Rattle.dob_cli.specs.Shapes.{Finds, HasShape, IsRead, bare_app, dobutsu_app, form_app, option_rule, text_rule};
 ghost use Rattle.dob_cli.specs.Readings.{ComesFromLine, IsOrder, IsReadingOf, IsReadingOfKind};
 
 use clap::error::ErrorKind;
@@ -65,7 +66,7 @@ pub enum Reading<'a> {
 const PROGRAM_HELP: &str =
     "`dobutsu value --help` says how a position is written, `dobutsu count --help` how a piece set is.
 
-A fault is one line on standard error. The status is 1, and 3 for E12 to E14, E23 and E24:
+A fault is one line on standard error. The status is 1, and 3 for E12, E14, E23 and E24:
 
   E1 Shape         the text isn't fifteen bytes with `/` at 3, 7 and 11, then twice a space and a word
   E2 Letter        a square is none of `.LGECHlgech`
@@ -76,11 +77,10 @@ A fault is one line on standard error. The status is 1, and 3 for E12 to E14, E2
   E7 OtherSet      the position's piece set isn't the file's
   E8 SetTooLarge   there are more than three pieces besides the lions
   E9 Nodes         there aren't 1 to 16 nodes
-  E12 TooDeep      a distance would be above 65534 plies
-  E13 Contradiction class N
-                   what a node was told of class N doesn't fit what it knows
+  E12 TooDeep      of `value`: a distance would be above 65534 plies
   E14 Stopped node N: CAUSE
-                   node N of a build has stopped, for E12, E13, E23, `Held` or `Counts`
+                   node N of a build has stopped. The cause: `E12 TooDeep`, `E23 Memory`, `Held`, `Counts`, or
+                   `E13 Contradiction class C`, what it was told of class C doesn't fit what it knows
   E15 Truncated    the file ends too early
   E16 Magic        the file doesn't begin as database files do
   E17 SetByte      the file names no piece set
@@ -223,13 +223,10 @@ fn bare_command<'a>(alloc: Global) -> Result<Command<'a>, AllocError>
 fn value_command<'a>(alloc: Global) -> Result<Command<'a>, AllocError>
     ensures { IfOk result (HasShape (form_app value_form)) }
 {
-    let position = Arg::new(alloc, "POSITION")
-        .required(true)
-        .help("The position, as text");
     Command::new(alloc, "value")
         .about("Prints the value of a position")
         .after_help(POSITION_HELP)
-        .arg(position)
+        .arg(position_argument(alloc))
 }
 
 // The subcommand `count`.
@@ -290,53 +287,44 @@ fn check_command<'a>(alloc: Global) -> Result<Command<'a>, AllocError>
 
 // The option `--set CEG`.
 fn set_argument<'a>(alloc: Global) -> Arg<'a>
-    ensures rule { rule_of result ≡ option_rule [] set_option }
-    ensures local { result.global ≡ false }
+    ensures { IsRead (option_rule [] set_option) result }
 {
-    Arg::new(alloc, "CEG")
-        .long("set")
-        .required(true)
-        .help("The piece set, as three digits")
+    option_argument(alloc, "set", "CEG", "The piece set, as three digits")
 }
 
 // The option `--nodes N`.
 fn nodes_argument<'a>(alloc: Global) -> Arg<'a>
-    ensures rule { rule_of result ≡ option_rule (codes "N" ∷ []) (codes "nodes", codes "N") }
-    ensures local { result.global ≡ false }
+    ensures { IsRead (option_rule (codes "N" ∷ []) nodes_option) result }
 {
-    Arg::new(alloc, "N")
-        .long("nodes")
-        .value_parser(value_parser!(u64))
-        .required(true)
-        .help("The number of nodes, 1 to 16")
+    let number = value_parser!(u64);
+    option_argument(alloc, "nodes", "N", "The number of nodes, 1 to 16").value_parser(number)
 }
 
 // The option `--out FILE`.
 fn out_argument<'a>(alloc: Global) -> Arg<'a>
-    ensures rule { rule_of result ≡ option_rule [] (codes "out", codes "FILE") }
-    ensures local { result.global ≡ false }
+    ensures { IsRead (option_rule [] out_option) result }
 {
-    Arg::new(alloc, "FILE")
-        .long("out")
-        .required(true)
-        .help("The database file, made anew or overwritten")
+    let help = "The database file, made anew or overwritten";
+    option_argument(alloc, "out", "FILE", help)
 }
 
 // The option `--db FILE`.
 fn file_argument<'a>(alloc: Global) -> Arg<'a>
-    ensures rule { rule_of result ≡ option_rule [] file_option }
-    ensures local { result.global ≡ false }
+    ensures { IsRead (option_rule [] file_option) result }
 {
-    Arg::new(alloc, "FILE")
-        .long("db")
-        .required(true)
-        .help("The database file")
+    option_argument(alloc, "db", "FILE", "The database file")
+}
+
+// An option that has to be there: the name behind `--`, and what its text is called.
+fn option_argument<'a>(alloc: Global, name: &'a str, label: &'a str, help: &'a str) -> Arg<'a>
+    ensures { IsRead (option_rule [] (name.now, label.now)) result }
+{
+    Arg::new(alloc, label).long(name).required(true).help(help)
 }
 
 // The argument POSITION.
 fn position_argument<'a>(alloc: Global) -> Arg<'a>
-    ensures rule { rule_of result ≡ text_rule [] (codes "POSITION") }
-    ensures local { result.global ≡ false }
+    ensures { IsRead (text_rule [] (codes "POSITION")) result }
 {
     Arg::new(alloc, "POSITION")
         .required(true)

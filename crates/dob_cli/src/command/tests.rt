@@ -13,7 +13,7 @@ const POSITION_TAUGHT: [&str; 6] = [
     "dobutsu value \"..l/.../L../... - -\" prints `win 3`",
 ];
 
-const FAULTS_TAUGHT: [&str; 24] = [
+const FAULTS_TAUGHT: [&str; 26] = [
     "`dobutsu value --help` says how a position is written",
     "E1 Shape ",
     "E2 Letter ",
@@ -24,9 +24,11 @@ const FAULTS_TAUGHT: [&str; 24] = [
     "E7 OtherSet ",
     "E8 SetTooLarge ",
     "E9 Nodes ",
-    "E12 TooDeep ",
-    "E13 Contradiction class N",
+    "3 for E12, E14, E23 and E24",
+    "E12 TooDeep      of `value`",
     "E14 Stopped node N: CAUSE",
+    "The cause: `E12 TooDeep`, `E23 Memory`, `Held`, `Counts`, or",
+    "`E13 Contradiction class C`",
     "E15 Truncated ",
     "E16 Magic ",
     "E17 SetByte ",
