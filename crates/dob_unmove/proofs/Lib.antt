@@ -1,18 +1,22 @@
-pub mod Gathered
-pub mod Threats
-pub mod Runs
-pub mod Undone
-pub mod Listed
-pub mod Once
-pub mod Hands
-pub mod Kept
-pub mod Counting
-pub mod Gathering
-pub mod Classes
-pub mod Ascending
-pub mod Edges
-pub mod Homes
-pub mod Shapes
-pub mod Dead
-pub mod WayMasks
-pub mod OwnImages
+-- The lemmas, in the order in which they are read.
+-- The walk over the ways to take the last move back.
+pub mod Runs  -- ways taken in turn
+pub mod Undone  -- the ways are those of the moves that lead there
+pub mod Listed  -- the list has each way that can undo the last move
+pub mod Once  -- and no way twice
+pub mod Shapes  -- where the ways of a list end, and from where they come
+pub mod Hands  -- what the hands hold
+pub mod Kept  -- taking a move back keeps the lions and the other pieces
+-- Counts of the moves that lead into a class.
+pub mod Counting  -- what all ways add counts the moves
+pub mod Gathering  -- and so do the functions that gather classes
+pub mod Classes  -- classes have one number each
+pub mod Ascending  -- ascending lists are told apart by their counts
+pub mod Edges  -- the predecessors are that one list
+-- Ways that are skipped.
+pub mod Threats  -- who could catch the enemy lion before the move
+pub mod Homes  -- where the mover's lion of a representative stands
+pub mod Gathered  -- what the ways add, one list after the other
+pub mod Dead  -- ways that lead back to no open representative
+pub mod WayMasks  -- the masks of the ways
+pub mod OwnImages  -- positions that are their own mirror images

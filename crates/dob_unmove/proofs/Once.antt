@@ -29,6 +29,8 @@ hand_place hand.Chick = 0
 hand_place hand.Elephant = 1
 hand_place hand.Giraffe = 2
 
+-- A thousand for each square of arrival; within it a hundred for each kind of piece and for the drops behind them; within that five
+-- for each square of departure, one for each kind that may be caught.
 place : Undo → ℕ
 place (Unstep kind from to caught) = 1000 * to + (100 * kind_place kind + (5 * from + caught_place caught))
 place (Unput kind to) = 1000 * to + (500 + hand_place kind)

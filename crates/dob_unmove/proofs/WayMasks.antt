@@ -18,16 +18,17 @@ use Rattle.dob_pieces.proofs.Attacks.{is_that_lion}
 use Rattle.dob_pieces.proofs.MaskBits.{IsMask-and, IsMask-same, none_passes}
 use Rattle.dob_unmove.specs.declared.attackers.Attackers.TheVariants.{One}
 use Rattle.dob_unmove.specs.declared.attackers.Threat.{Threat}
+use Rattle.dob_unmove.specs.declared.ways.TheConstants.{ALL, HOMES_ON_A, HOMES_ON_A_AND_B}
 use Rattle.dob_unmove.specs.Threats.{elsewhere}
 use Rattle.dob_unmove.specs.Ways.{is_home, TellsHome, may_end, comes_home}
 
 -- the squares of the one mask that the other hasn't
-pub IsMask-without : (f g : ℕ → Bool) (a b : ℕ) → IsMask f a → IsMask g b → IsMask (λ s. f s && not (g s)) (bit_and a (65535 - b))
+pub IsMask-without : (f g : ℕ → Bool) (a b : ℕ) → IsMask f a → IsMask g b → IsMask (λ s. f s && not (g s)) (bit_and a (2 ^ 16 - 1 - b))
 IsMask-without f g a b is are = record {
-  within = let le = and_le_l a (65535 - b) in let lt = is.within in omega (arith, le, lt);
+  within = let le = and_le_l a (2 ^ 16 - 1 - b) in let lt = is.within in omega (arith, le, lt);
   bits = λ s lt.
-      bit_at_and a (65535 - b) s
-      ∙ ap (λ (n : ℕ). min n (bit_at (65535 - b) s)) (is.bits s lt)
+      bit_at_and a (2 ^ 16 - 1 - b) s
+      ∙ ap (λ (n : ℕ). min n (bit_at (2 ^ 16 - 1 - b) s)) (is.bits s lt)
       ∙ ap (λ (n : ℕ). min (cond (f s) 1 0) n)
       (bit_at_not w16 b s (let low = are.within in omega (arith, low)) (omega (arith, lt)) ∙ ap (λ (n : ℕ). 1 - n) (are.bits s lt))
       ∙ both (f s) (g s);
@@ -56,28 +57,29 @@ by_bits mask test h =
 abbrev home_by : Bool → ℕ → Bool
 home_by aside s = nat_lt s 9 && ((column s == 0) || ((column s == 1) && not aside))
 
-pub homes_on_a : (lion : ℕ) → (column lion == 2) ≡ true → IsMask (is_home lion) 73
-homes_on_a lion e = IsMask-same (home_by true) (is_home lion) 73 (λ s lt. ap (λ b. home_by b s) (sym e)) (by_bits 73 (home_by true) refl)
+pub homes_on_a : (lion : ℕ) → (column lion == 2) ≡ true → IsMask (is_home lion) HOMES_ON_A
+homes_on_a lion e = IsMask-same (home_by true) (is_home lion) HOMES_ON_A (λ s lt. ap (λ b. home_by b s) (sym e)) (by_bits HOMES_ON_A (home_by true) refl)
 
-pub homes_on_both : (lion : ℕ) → (column lion == 2) ≡ false → IsMask (is_home lion) 219
-homes_on_both lion e = IsMask-same (home_by false) (is_home lion) 219 (λ s lt. ap (λ b. home_by b s) (sym e)) (by_bits 219 (home_by false) refl)
+pub homes_on_both : (lion : ℕ) → (column lion == 2) ≡ false → IsMask (is_home lion) HOMES_ON_A_AND_B
+homes_on_both lion e =
+    IsMask-same (home_by false) (is_home lion) HOMES_ON_A_AND_B (λ s lt. ap (λ b. home_by b s) (sym e)) (by_bits HOMES_ON_A_AND_B (home_by false) refl)
 
-pub everywhere : (test : ℕ → Bool) → ((s : ℕ) → test s ≡ true) → IsMask test 4095
-everywhere test all = IsMask-same (λ s. true) test 4095 (λ s lt. sym (all s)) (by_bits 4095 (λ s. true) refl)
+pub everywhere : (test : ℕ → Bool) → ((s : ℕ) → test s ≡ true) → IsMask test ALL
+everywhere test all = IsMask-same (λ s. true) test ALL (λ s lt. sym (all s)) (by_bits ALL (λ s. true) refl)
 
 pub nowhere : (test : ℕ → Bool) → ((s : ℕ) → test s ≡ false) → IsMask test 0
 nowhere test none = IsMask-same (λ s. false) test 0 (λ s lt. sym (none s)) (by_bits 0 (λ s. false) refl)
 
 abbrev alone_test : ℕ → Bool
-alone_test a = has_bits (1 * 2 ^ a % 65536) (λ s. not (not (a == s)))
+alone_test a = has_bits (1 * 2 ^ a % 2 ^ 16) (λ s. not (not (a == s)))
 
 all_alone : all_below alone_test 12 ≡ true
 all_alone = refl
 
-pub alone : (a : ℕ) → a < 12 → IsMask (λ s. not (elsewhere (One a) s)) (1 * 2 ^ a % 65536)
-alone a lt = by_bits (1 * 2 ^ a % 65536) (λ s. not (not (a == s))) (all_below-at alone_test 12 a all_alone lt)
+pub alone : (a : ℕ) → a < 12 → IsMask (λ s. not (elsewhere (One a) s)) (1 * 2 ^ a % 2 ^ 16)
+alone a lt = by_bits (1 * 2 ^ a % 2 ^ 16) (λ s. not (not (a == s))) (all_below-at alone_test 12 a all_alone lt)
 
-pub comes_anywhere : (kind : Kind) (lion : ℕ) → kind ≢ Lion → IsMask (comes_home kind lion) 4095
+pub comes_anywhere : (kind : Kind) (lion : ℕ) → kind ≢ Lion → IsMask (comes_home kind lion) ALL
 comes_anywhere Lion lion other = absurd (other refl)
 comes_anywhere Giraffe lion other = everywhere (comes_home Giraffe lion) (λ s. refl)
 comes_anywhere Elephant lion other = everywhere (comes_home Elephant lion) (λ s. refl)

@@ -12,13 +12,13 @@ ghost use Rattle.dob_unmove.specs.Ways.{is_home, comes_home, may_come, AreWays};
 use crate::attackers::{Attackers, Threat};
 use dob_pieces::{Kind, Masks, Setup, Square};
 
-/// All squares.
-const ALL: u16 = 4095;
+/// All squares. Of the twelve bits of a mask the lowest three are row 1, and of the three of a row the lowest is column a.
+const ALL: u16 = 0b111_111_111_111;
 
 /// The squares of rows 1 to 3 on column a, and those on columns a and b.
-const HOMES_ON_A: u16 = 73;
+const HOMES_ON_A: u16 = 0b000_001_001_001;
 
-const HOMES_ON_A_AND_B: u16 = 219;
+const HOMES_ON_A_AND_B: u16 = 0b000_011_011_011;
 
 /// What the masks of a setup after a move tell, in which the side that made it is the mover.
 #[derive(Clone, Copy, Debug)]

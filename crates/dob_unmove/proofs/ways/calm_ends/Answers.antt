@@ -3,13 +3,14 @@ use Rattle.std.proofs.Common.{◌<◌, ◌*◌, ◌%◌, ◌^◌, refl, sym, sub
 use Rattle.dob_pieces.specs.Masks.{IsMask}
 use Rattle.dob_unmove.specs.declared.attackers.Attackers.{Attackers}
 use Rattle.dob_unmove.specs.declared.attackers.Attackers.TheVariants.{Nobody, One, Several}
+use Rattle.dob_unmove.specs.declared.ways.TheConstants.{ALL}
 use Rattle.dob_unmove.specs.Threats.{elsewhere}
 use Rattle.dob_unmove.proofs.WayMasks.{everywhere, nowhere, alone}
 use Rattle.dob_unmove.proofs.ways.calm_ends.Goals as goal
 
 pub returns-in-Nobody : goal.returns-in-Nobody
 returns-in-Nobody c =
-    subst (λ (a : Attackers). IsMask (λ s. not (elsewhere a s)) 4095) (sym c.in-Nobody.is) (everywhere (λ (s : ℕ). not (elsewhere Nobody s)) (λ s. refl))
+    subst (λ (a : Attackers). IsMask (λ s. not (elsewhere a s)) ALL) (sym c.in-Nobody.is) (everywhere (λ (s : ℕ). not (elsewhere Nobody s)) (λ s. refl))
 
 pub returns-in-Several : goal.returns-in-Several
 returns-in-Several c =
@@ -17,6 +18,6 @@ returns-in-Several c =
 
 pub returns-in-One : goal.returns-in-One
 returns-in-One c =
-    subst (λ (a : Attackers). IsMask (λ s. not (elsewhere a s)) (1 * 2 ^ c.index.result % 65536)) (sym c.in-One.is)
-    (subst (λ (n : ℕ). IsMask (λ s. not (elsewhere (One c.in-One.attacker) s)) (1 * 2 ^ n % 65536)) (sym c.index.ensures.value)
+    subst (λ (a : Attackers). IsMask (λ s. not (elsewhere a s)) (1 * 2 ^ c.index.result % 2 ^ 16)) (sym c.in-One.is)
+    (subst (λ (n : ℕ). IsMask (λ s. not (elsewhere (One c.in-One.attacker) s)) (1 * 2 ^ n % 2 ^ 16)) (sym c.index.ensures.value)
     (alone c.in-One.attacker (subst (λ (n : ℕ). n < 12) c.index.ensures.value c.index.ensures.bound)))
