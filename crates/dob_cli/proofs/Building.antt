@@ -10,11 +10,13 @@ use Rattle.std.proofs.lemmas.List.Sums.{count_by-le-length, count_by_more_no, co
 use Rattle.std.proofs.lemmas.Option.{get_or_from_slice_get}
 use Rattle.dob_pieces.specs.declared.piece_set.PieceSet.{PieceSet}
 use Rattle.dob_pieces.specs.Sets.{set_text}
+use Rattle.dob_rank.specs.Limits.{IsSmall}
 use Rattle.dob_value.specs.declared.value.Value.{Value}
 use Rattle.dob_value.specs.Entries.{is_draw}
 use Rattle.dob_value.specs.Follows.{ClassTable, IsValueTable}
 use Rattle.dob_run.specs.declared.finishing.Built.{Built}
 use Rattle.dob_run.specs.Built.{IsBuilt}
+use Rattle.dob_run.specs.Refused.{AreWithin}
 use Rattle.dob_dbfile.specs.declared.fault.Fault as file
 use Rattle.dob_dbfile.specs.declared.fault.Fault.TheVariants as file_fault
 use Rattle.dob_dbfile.specs.Format.{bytes_of}
@@ -88,10 +90,12 @@ lines_told values tally classes count is = four_lines classes tally.wins tally.l
 -- ---- the table
 
 -- the table that was built of the set with this text is the text's
-pub table_for : (text : List ℕ) (set : PieceSet) (nodes size : ℕ) (built : Built) → text ≡ set_text set → IsBuilt set nodes size built
-    → IsTableFor text built.table
-table_for text set nodes size built named is = record {
+pub table_for : (text : List ℕ) (set : PieceSet) (nodes size capacity : ℕ) (built : Built) → text ≡ set_text set → IsBuilt set nodes size built
+    → IsSmall set × AreWithin nodes size capacity → IsTableFor text nodes built.table
+table_for text set nodes size capacity built named is limits = record {
   named = named ∙ ap set_text (sym is.set_is);
+  small = subst IsSmall (sym is.set_is) limits.0;
+  few = limits.1.0;
   right = subst (λ s. IsValueTable s built.table.values) (sym is.set_is) is.values;
 }
 
@@ -122,7 +126,7 @@ module _ (Old New : Files) (tells : Bool) (name : List ℕ) (table : ClassTable)
   stopped_keeping c file_fault.Digest empty stops = absurd stops
 
   -- a fault of keeping the text's table is one of building it
-  pub keeping_holds : (text : List ℕ) (nodes : ℕ) (fault : Fault) → IsTableFor text table → IsKeepingFault Old New tells name table fault
+  pub keeping_holds : (text : List ℕ) (nodes : ℕ) (fault : Fault) → IsTableFor text nodes table → IsKeepingFault Old New tells name table fault
       → IsBuildFault Old New tells text nodes name fault
   keeping_holds text nodes (File f) built holds = (table, built, holds)
   keeping_holds text nodes Io built holds = (table, built, holds)

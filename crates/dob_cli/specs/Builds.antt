@@ -3,6 +3,8 @@ use Rattle.std.specs.Prelude.{◌≡◌, ◌≢◌, ◌≤◌, ℕ, Bool, true, 
 use Rattle.std.specs.List.{count_by}
 use Rattle.dob_pieces.specs.declared.piece_set.PieceSet.{PieceSet}
 use Rattle.dob_pieces.specs.Sets.{set_text}
+use Rattle.dob_rank.specs.Limits.{IsSmall}
+use Rattle.dob_safra.specs.Laws.{IsSize}
 use Rattle.dob_value.specs.declared.value.Value.{Value}
 use Rattle.dob_value.specs.declared.value.Value.TheVariants.{Win, Loss}
 use Rattle.dob_value.specs.Entries.{is_draw}
@@ -47,16 +49,19 @@ class_lines values =
     ++ (count_line (codes "loss ") (count_by is_loss values)
     ++ count_line (codes "draw ") (count_by is_draw values)))
 
--- the table is the value table of the piece set that the text names
-pub record IsTableFor (text : List ℕ) (table : ClassTable) : Type 0 where
+-- So many nodes may build the table: it is the value table of the piece set that the text names, a small one, and there are 1
+-- to 16 nodes.
+pub record IsTableFor (text : List ℕ) (nodes : ℕ) (table : ClassTable) : Type 0 where
   pub named : text ≡ set_text table.set
+  pub small : IsSmall table.set
+  pub few : IsSize nodes
   pub right : IsValueTable table.set table.values
 
 -- The lines tell of the value table of the text's piece set, and under the name the shelf has just its file, where it tells
 -- its bytes; New says which bytes the file of a name has then.
-pub record AreBuildLines (tells : Bool) (New : Files) (text file lines : List ℕ) : Type 0 where
+pub record AreBuildLines (tells : Bool) (New : Files) (text : List ℕ) (nodes : ℕ) (file lines : List ℕ) : Type 0 where
   pub table : ClassTable
-  pub built : IsTableFor text table
+  pub built : IsTableFor text nodes table
   pub kept : IsTrue tells → HasJust file (bytes_of table) New
   pub same : lines ≡ class_lines table.values
 
@@ -81,13 +86,13 @@ IsBuildFault Old New tells text nodes file (Run fault) =
     (set : PieceSet) × (text ≡ set_text set) × IsRefused set nodes 256 64 fault × SameFiles Old New
 IsBuildFault Old New tells text nodes file Memory = SameFiles Old New
 IsBuildFault Old New tells text nodes file Io =
-    (table : ClassTable) × IsTableFor text table × IsKeepingFault Old New tells file table Io
+    (table : ClassTable) × IsTableFor text nodes table × IsKeepingFault Old New tells file table Io
 IsBuildFault Old New tells text nodes file (File fault) =
-    (table : ClassTable) × IsTableFor text table × IsKeepingFault Old New tells file table (File fault)
+    (table : ClassTable) × IsTableFor text nodes table × IsKeepingFault Old New tells file table (File fault)
 IsBuildFault Old New tells text nodes file _ = ⊥
 
 -- What the program does where it is asked for a file of the table of the piece set that a text names, built by so many nodes.
 -- Where standard output fails it does so in lines that are right, and so the file is whole.
 abbrev pub AnswersBuild : Files → Files → Bool → List ℕ → ℕ → List ℕ → Ending → Type 0
 AnswersBuild Old New tells text nodes file =
-    Answers (AreBuildLines tells New text file) (IsBuildFault Old New tells text nodes file)
+    Answers (AreBuildLines tells New text nodes file) (IsBuildFault Old New tells text nodes file)

@@ -14,7 +14,7 @@ use Rattle.dob_cli.specs.Tables.{IsCheckFault, IsCheckLine, IsMovesLine, IsPosit
 abbrev pub AreLinesFor : Files → Files → Bool → Order → List ℕ → Type 0
 AreLinesFor Old New tells (Value position) = IsValueLineOf position.now
 AreLinesFor Old New tells (Count set) = AreCountLinesOf set.now
-AreLinesFor Old New tells (Build set nodes file) = AreBuildLines tells New set.now file.now
+AreLinesFor Old New tells (Build set nodes file) = AreBuildLines tells New set.now nodes file.now
 AreLinesFor Old New tells (Probe file position) = IsProbeLine (Old file.now) position.now
 AreLinesFor Old New tells (Line file position) = IsMovesLine (Old file.now) position.now
 AreLinesFor Old New tells (Check file) = IsCheckLine (Old file.now)

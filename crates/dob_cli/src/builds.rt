@@ -33,7 +33,7 @@ pub(crate) fn answer_build<R: Threads + Wait + Sync, S: Shelf>(
     nodes: u64,
     file: &str,
 ) -> Result<String, Fault>
-    ensures ok { IfOk result (λ lines. AreBuildLines (S.tells shelf.old) (S.has shelf.new) text.now file.now (string_bytes lines)) }
+    ensures ok { IfOk result (λ lines. AreBuildLines (S.tells shelf.old) (S.has shelf.new) text.now nodes file.now (string_bytes lines)) }
     ensures err { IfErr result (IsBuildFault (S.has shelf.old) (S.has shelf.new) (S.tells shelf.old) text.now nodes file.now) }
     ensures others { SameOthers file.now (S.has shelf.old) (S.has shelf.new) }
 {
