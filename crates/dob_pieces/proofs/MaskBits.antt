@@ -1,11 +1,11 @@
 -- Sets of squares as masks: what the operations on bits make of them.
-use Rattle.std.proofs.Common.{◌≡◌, ◌≢◌, ℕ, zero, suc, ◌+◌, ◌-◌, ◌*◌, ◌/◌, ◌%◌, ◌^◌, ◌<◌, ◌≤◌, min, max, nat_eq, nat_le, bit_and, bit_or}
-use Rattle.std.proofs.Common.{Bool, true, false, true≢false, not, ◌&&◌, ◌||◌, cond, refl, sym, ap, ◌∙◌, subst, arith, inl, inr, w16}
+use Rattle.std.proofs.Common.{◌≡◌, ◌≢◌, ℕ, suc, ◌*◌, ◌/◌, ◌%◌, ◌^◌, ◌<◌, ◌≤◌, min, max, nat_eq, nat_le, bit_and, bit_or}
+use Rattle.std.proofs.Common.{Bool, true, false, true≢false, ◌&&◌, ◌||◌, cond, refl, sym, ap, ◌∙◌, arith, inl, inr, w16}
 use Rattle.std.specs.Int.{bit_at, bit_not, trailing_zeros}
 use Rattle.std.proofs.lemmas.Bool.{and_parts, cases_lt, cases_eq, le-leb, lt-leb, leb-true}
 use Rattle.std.proofs.lemmas.Nat.{and_le_l, or_lt}
 use Rattle.std.proofs.lemmas.Nat.Bits.{shr_and_one, bit_at_and, bit_at_or, bit_at-trailing_zeros, bit_at_clear_same, bit_at_clear_other}
-use Rattle.std.proofs.lemmas.Nat.Bits.{bit_at_above, bit_at-lt, bit_at-zero, same_from_bits_below}
+use Rattle.std.proofs.lemmas.Nat.Bits.{bit_at_above, bit_at-zero}
 use Rattle.dob_pieces.specs.Masks.{IsMask}
 
 abbrev pub bit_if : Bool → ℕ

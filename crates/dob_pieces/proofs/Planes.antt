@@ -1,7 +1,6 @@
 -- Masks made in one pass over the board: several in one word, twelve bits each, which no sum carries over.
-use Rattle.std.proofs.Common.{◌≡◌, ℕ, suc, ◌+◌, ◌-◌, ◌*◌, ◌/◌, ◌%◌, ◌^◌, ◌<◌, ◌≤◌, Bool, true, false, cond, List, [], ◌∷◌, Some, None, map}
-use Rattle.std.proofs.Common.{length, get_or, drop, slice_index_or, refl, sym, ap, ◌∙◌, arith, add-one}
-use Rattle.std.specs.Int.{bit_at}
+use Rattle.std.proofs.Common.{◌≡◌, ℕ, suc, ◌+◌, ◌-◌, ◌*◌, ◌/◌, ◌%◌, ◌^◌, ◌<◌, ◌≤◌, Bool, false, cond, List, [], ◌∷◌, Some, None, map}
+use Rattle.std.proofs.Common.{length, get_or, drop, slice_index_or, ap, ◌∙◌, arith}
 use Rattle.std.specs.Simd.Lanes.{mask_l}
 use Rattle.std.proofs.Math.Pow.{pow_mono}
 use Rattle.std.proofs.Math.Seq.{drop-cons}
@@ -12,8 +11,8 @@ use Rattle.dob_pieces.specs.declared.kind.Kind.TheVariants.{Lion, Giraffe, Eleph
 use Rattle.dob_pieces.specs.declared.kind.Side.{Side}
 use Rattle.dob_pieces.specs.declared.kind.Side.TheVariants.{Mover, Enemy}
 use Rattle.dob_pieces.specs.declared.setup.Setup.{Setup}
-use Rattle.dob_pieces.specs.Setups.{Cell, at, piece_of}
-use Rattle.dob_pieces.specs.Masks.{IsMask, AreSquares, is_piece, is_own, is_end, is_empty, code_of}
+use Rattle.dob_pieces.specs.Setups.{Cell, piece_of}
+use Rattle.dob_pieces.specs.Masks.{AreSquares, is_piece, is_own, is_end, is_empty, code_of}
 
 -- ---- one mask
 

@@ -1,10 +1,9 @@
 -- Each square adds its bits, and each plane of the words is one mask.
-use Rattle.std.proofs.Common.{◌≡◌, ◌≤◌, ◌/◌, ◌%◌, refl, ℕ, List, length, drop, sym, ap, ◌∙◌, arith, rules}
+use Rattle.std.proofs.Common.{◌≡◌, ◌≤◌, ◌/◌, ◌%◌, refl, ℕ, length, drop, ap, ◌∙◌, arith, rules}
 use Rattle.dob_pieces.specs.declared.kind.Kind.TheVariants.{Lion, Giraffe, Elephant, Chick, Hen}
 use Rattle.dob_pieces.specs.declared.kind.Side.TheVariants.{Mover, Enemy}
-use Rattle.dob_pieces.specs.Setups.{Cell}
 use Rattle.dob_pieces.specs.Masks.{is_piece, is_own, is_end, is_empty}
-use Rattle.dob_pieces.proofs.Planes.{IsRead, kinds_word, others_word, kinds_read, others_read, none_read, kinds_planes, others_planes, are_squares}
+use Rattle.dob_pieces.proofs.Planes.{kinds_word, others_word, kinds_read, others_read, none_read, kinds_planes, others_planes, are_squares}
 use Rattle.dob_pieces.proofs.masks.Masks.of.Goals as goal
 
 pub loop-square-init : goal.loop-square-init
