@@ -40,7 +40,3 @@ pub use scans::scan;
 
 #[cfg(test)]
 mod tests;
-#[cfg(test)]
-mod tests_builds;
-#[cfg(test)]
-mod tests_turns;

@@ -1,10 +1,14 @@
 // Runners that are turned by hand, one after the other, in one thread.
-ghost use Rattle.std.specs.Prelude.{◌≡◌, IsTrue};
+ghost use Rattle.std.specs.Prelude.{◌≡◌, IsTrue, IfOk, ◌∷◌, []};
+ghost use Rattle.dob_rank.specs.Limits.{IsSmall};
+ghost use Rattle.dob_run.specs.Manned.{IsNewCrew};
+ghost use Rattle.dob_run.specs.Runners.{KeepsRunner};
 
-use crate::{Free, Gate, Runner, crew};
-use dob_board::Halt;
+use super::{is_done, is_table_of_lions, lions};
+use crate::{Free, Gate, Runner, crew, finish};
+use dob_board::{Board, Halt};
 use dob_node::Cause;
-use dob_pieces::PieceSet;
+use dob_pieces::{Memory, PieceSet};
 use dob_rank::Classes;
 use std::alloc::Global;
 use std::process::Abort;
@@ -12,16 +16,27 @@ use std::sync::Wait;
 use std::sync::atomic::{AtomicUsize, Ordering};
 use std::test::Fail;
 
-// The classes of the least set, and the runners of two nodes that own them, with batches of one item and channels for one
-// batch.
-fn two_runners(rt: &(impl Wait + Abort), alloc: Global) -> (Classes, Runner, Runner) {
-    let set = PieceSet::read("000").expect(rt, "a set");
-    let classes = Classes::open(alloc, set).expect(rt, "classes");
-    let (_board, mut runners) = crew(alloc, &classes, 2, 1, 1).expect(rt, "a crew");
+// The classes of lions alone, and a crew of two nodes that own them, with batches of one item and channels for one batch.
+fn two_runners(rt: &(impl Wait + Abort), alloc: Global) -> (Classes, Board, Runner, Runner)
+    ensures small { IsSmall result.0.set }
+    ensures crew { IsNewCrew result.0.set 2 1 1 result.1 (result.2 ∷ result.3 ∷ []) }
+{
+    let classes = Classes::open(alloc, lions(rt)).expect(rt, "classes");
+    let (board, mut runners) = crew(alloc, &classes, 2, 1, 1).expect(rt, "a crew");
     let second = runners.pop().expect(rt, "the second runner");
     let first = runners.pop().expect(rt, "the first runner");
     assert!(rt; runners.is_empty());
-    (classes, first, second)
+    (classes, board, first, second)
+}
+
+// The two in a list.
+fn both(alloc: Global, first: Runner, second: Runner) -> Result<Vec<Runner>, Memory>
+    ensures { IfOk result (λ runners. runners.items ≡ first ∷ second ∷ []) }
+{
+    let mut runners = Vec::with_capacity(alloc, 2)?;
+    runners.push(first)?;
+    runners.push(second)?;
+    Ok(runners)
 }
 
 // Whether the classes are those of the piece set.
@@ -37,7 +52,9 @@ fn turn_once<G: Gate>(
     runner: &mut Runner,
     classes: &Classes,
     gate: &G,
-) -> Result<Halt, Cause> {
+) -> Result<Halt, Cause>
+    ensures { KeepsRunner runner.old runner.new }
+{
     assert!(rt; !runner.stopped());
     if !are_of(classes, runner.set) {
         panic!(rt; "the classes of another piece set")
@@ -51,7 +68,10 @@ fn turn_to_the_end(
     first: &mut Runner,
     second: &mut Runner,
     classes: &Classes,
-) {
+)
+    ensures first { KeepsRunner first.old first.new }
+    ensures second { KeepsRunner second.old second.new }
+{
     for _ in 0..20_000 {
         let halt = turn_once(rt, first, classes, &Free);
         if halt == Ok(Halt::Ended) {
@@ -62,29 +82,23 @@ fn turn_to_the_end(
     }
 }
 
-// The number at that place.
-fn at(rt: &impl Abort, numbers: &[u64], place: usize) -> u64 {
-    numbers.get(place).copied().expect(rt, "a number")
-}
-
 #[test]
 fn turned_by_hand(rt: HostRuntime) -> Result<(), Fail> {
-    let (classes, mut first, mut second) = two_runners(&rt, rt.alloc());
+    let (classes, board, mut first, mut second) = two_runners(&rt, rt.alloc());
     turn_to_the_end(&rt, &mut first, &mut second, &classes);
     assert!(rt; first.mail.seat.halt == Halt::Ended);
     assert!(rt; turn_once(&rt, &mut second, &classes, &Free) == Ok(Halt::Ended));
-    assert!(rt; first.stopped());
-    assert!(rt; second.stopped());
     assert!(rt; first.is_idle());
     assert!(rt; second.is_idle());
-    let there = &first.mail.seat;
-    let back = &second.mail.seat;
-    let sent = at(&rt, &there.posted, 1);
-    let sent_back = at(&rt, &back.posted, 0);
-    assert!(rt; sent >= 10);
-    assert!(rt; sent == at(&rt, &back.taken, 0));
-    assert!(rt; sent_back >= 10);
-    assert!(rt; sent_back == at(&rt, &there.taken, 1));
+    assert!(rt; first.stopped());
+    assert!(rt; second.stopped());
+    let runners = both(rt.alloc(), first, second)?;
+    let built = finish(&rt, rt.alloc(), board, runners).expect(&rt, "a table");
+    assert!(rt; is_done(&built, 2));
+    assert!(rt; is_table_of_lions(&built.table));
+    assert!(rt; built.links.len() == 4);
+    assert!(rt; built.links[1].sent >= 10);
+    assert!(rt; built.links[2].sent >= 10);
     Ok(())
 }
 
@@ -103,7 +117,7 @@ impl Gate for Counting {
 
 #[test]
 fn held_after_three_turns(rt: HostRuntime) -> Result<(), Fail> {
-    let (classes, mut first, mut second) = two_runners(&rt, rt.alloc());
+    let (classes, _board, mut first, mut second) = two_runners(&rt, rt.alloc());
     let gate = Counting {
         most: 3,
         asked: AtomicUsize::new(0),
@@ -124,7 +138,7 @@ fn held_after_three_turns(rt: HostRuntime) -> Result<(), Fail> {
 
 #[test]
 fn held_after_the_end(rt: HostRuntime) -> Result<(), Fail> {
-    let (classes, mut first, mut second) = two_runners(&rt, rt.alloc());
+    let (classes, _board, mut first, mut second) = two_runners(&rt, rt.alloc());
     turn_to_the_end(&rt, &mut first, &mut second, &classes);
     let gate = Counting {
         most: 0,
