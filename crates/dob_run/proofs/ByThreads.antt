@@ -1,67 +1,89 @@
--- A crew that was run to its end, from what its threads promise to what its finish gives.
-use Rattle.std.proofs.Common.{ℕ, List, Result, Ok, Err, map, subst, ◌∙◌, arith}
-use Rattle.std.specs.Prelude.{IfOk, IfErr}
-use Rattle.std.proofs.lemmas.List.{length-map}
+-- A crew that was run, from what its threads promise to what is made of it.
+use Rattle.std.proofs.Common.{◌≡◌, ℕ, ◌<◌, List, Result, Ok, Err, map, subst, ◌∙◌, arith}
+use Rattle.std.specs.Prelude.{IfOk, IfErr, Some, slice_get}
 use Rattle.std.specs.List.{AllZip}
 use Rattle.dob_pieces.specs.declared.piece_set.PieceSet.{PieceSet}
-use Rattle.dob_rank.specs.Limits.{IsSmall}
 use Rattle.dob_board.specs.declared.board.Board.{Board}
+use Rattle.dob_node.specs.declared.cause.Cause.{Cause}
 use Rattle.dob_run.specs.declared.fault.Fault.{Fault}
 use Rattle.dob_run.specs.declared.fault.Fault.TheVariants.{SetTooLarge, Nodes, Sizes, Stopped, Memory}
 use Rattle.dob_run.specs.declared.finishing.Built.{Built}
 use Rattle.dob_run.specs.declared.runner.Runner.{Runner}
+use Rattle.dob_run.specs.declared.runs.Turned.{Turned}
+use Rattle.dob_run.specs.declared.turns.Until.{Until}
 use Rattle.dob_run.specs.declared.turns.Until.TheVariants as until
 use Rattle.dob_run.specs.Built.{IsBuilt}
 use Rattle.dob_run.specs.Closing.{IsCrew}
 use Rattle.dob_run.specs.Finishing.{HaveStopped, IsFailureOf}
-use Rattle.dob_run.specs.Manned.{mail_of, IsNewCrew}
-use Rattle.dob_run.specs.Refused.{IsStop}
-use Rattle.dob_run.specs.Turned.{StopsSo}
-use Rattle.dob_run.specs.Turns.{Ends}
-use Rattle.dob_run.proofs.Manned.{zip_at, zip_long, crew_kept}
-use Rattle.dob_run.proofs.Parting.{count_is}
-use Rattle.dob_run.proofs.Places.{inside}
+use Rattle.dob_run.specs.Manned.{mail_of}
+use Rattle.dob_run.specs.Refused.{IsRefused}
+use Rattle.dob_run.specs.Runners.{KeepsRunner}
+use Rattle.dob_run.specs.Turned.{IsTurned, AreUnfailed, IsFirstFailed, HasLeft, StopsSo}
+use Rattle.dob_run.specs.Turns.{Ends, HasRun}
+use Rattle.dob_run.proofs.Leaving.{for_kept, turned_is}
+use Rattle.dob_run.proofs.Manned.{zip_at, crew_low, crew_kept}
 use Rattle.dob_run.proofs.Refusals.{stops_so}
 use Rattle.dob_run.proofs.Threaded.{all_kept}
 
-module _ (set : PieceSet) (n size capacity : ℕ) (board : Board) (old ended : List Runner) (opened : IsNewCrew set n size capacity board old)
-    (ends : AllZip (Ends until.Stopped) old ended) where
-  pub still_crew : IsCrew board (map mail_of ended)
-  still_crew = crew_kept board old ended opened.crew (all_kept until.Stopped old ended ends)
+module _ (until : Until) (set : PieceSet) (n size capacity : ℕ) (board : Board) (ended : List Runner) (ran : HasRun until set n size capacity board ended) where
+  kept : AllZip KeepsRunner ran.old ended
+  kept = all_kept until ran.old ended ran.ends
 
-  pub have_stopped : IsSmall set → HaveStopped set size ended
-  have_stopped small = record {
-    small = small;
+  pub still_crew : IsCrew board (map mail_of ended)
+  still_crew = crew_kept board ran.old ended ran.opened.crew kept
+
+  -- a runner that has failed is one of the crew
+  refused_by : (node : ℕ) (why : Cause) (runner : Runner) → slice_get ended node ≡ Some runner → IsRefused set n size capacity (Stopped node why)
+  refused_by node why runner at =
+      let low : node < n = omega (arith, crew_low board ended still_crew node runner at, ran.opened.nodes) in
+      (ran.small, ran.within, low)
+
+  -- ---- where it was closed after some turns
+
+  pub first_refused : (fault : Fault) → IsFirstFailed ended fault → IsRefused set n size capacity fault
+  first_refused (Stopped node why) first = refused_by node why first.0 first.1
+  first_refused SetTooLarge first = absurd first
+  first_refused Nodes first = absurd first
+  first_refused Sizes first = absurd first
+  first_refused Memory first = absurd first
+
+  pub first_stops : (fault : Fault) → IsFirstFailed ended fault → StopsSo IsFirstFailed set n size capacity fault
+  first_stops fault first = stops_so IsFirstFailed set n size capacity board ran.old ended fault ran.opened kept first
+
+  pub has_turned : (turned : Turned) → AreUnfailed ended → HasLeft board.nodes ended turned → IsTurned set n size turned
+  has_turned turned unfailed left =
+      subst (λ (k : ℕ). IsTurned set k size turned) ran.opened.nodes
+      (turned_is board set size ended turned still_crew left (for_kept set size ran.old ended ran.opened.each kept unfailed))
+
+-- ---- where it was run to its end
+
+module _ (set : PieceSet) (n size capacity : ℕ) (board : Board) (ended : List Runner) (ran : HasRun until.Stopped set n size capacity board ended) where
+  pub have_stopped : HaveStopped set size ended
+  have_stopped = record {
+    small = ran.small;
     each = λ k runner at.
-        let was = zip_at (Ends until.Stopped) old ended k runner ends at in
-        let is = opened.each k was.0 was.1 in
+        let was = zip_at (Ends until.Stopped) ran.old ended k runner ran.ends at in
+        let is = ran.opened.each k was.0 was.1 in
         record { set_is = was.2.0.set ∙ is.set_is; size_is = was.2.0.size ∙ is.size_is; halted = was.2.1 };
   }
 
-  pub is_built : (result : Result Built Fault) → IsSmall set →
+  pub is_built : (result : Result Built Fault) →
       IfOk result (λ built. (s : PieceSet) (m : ℕ) → HaveStopped s m ended → IsBuilt s board.nodes m built) → IfOk result (IsBuilt set n size)
-  is_built (Ok built) small is = subst (λ (k : ℕ). IsBuilt set k size built) opened.nodes (is set size (have_stopped small))
-  is_built (Err why) small is = tt
+  is_built (Ok built) is = subst (λ (k : ℕ). IsBuilt set k size built) ran.opened.nodes (is set size have_stopped)
+  is_built (Err why) is = tt
 
-  stop_here : (fault : Fault) → IsFailureOf ended fault → IsStop n fault
-  stop_here (Stopped node why) failure =
-      omega (
-        arith,
-        inside ended failure.runner node failure.at,
-        zip_long (Ends until.Stopped) old ended ends,
-        length-map old mail_of,
-        count_is board (map mail_of old) opened.crew,
-        opened.nodes,
-      )
-  stop_here Memory failure = tt
-  stop_here SetTooLarge failure = absurd failure
-  stop_here Nodes failure = absurd failure
-  stop_here Sizes failure = absurd failure
+  refused_for : (fault : Fault) → IsFailureOf ended fault → IsRefused set n size capacity fault
+  refused_for (Stopped node why) failure = refused_by until.Stopped set n size capacity board ended ran node why failure.runner failure.at
+  refused_for Memory failure = (ran.small, ran.within)
+  refused_for SetTooLarge failure = absurd failure
+  refused_for Nodes failure = absurd failure
+  refused_for Sizes failure = absurd failure
 
-  pub is_stop : (result : Result Built Fault) → IfErr result (IsFailureOf ended) → IfErr result (IsStop n)
-  is_stop (Ok built) failure = tt
-  is_stop (Err fault) failure = stop_here fault failure
+  pub is_refused : (result : Result Built Fault) → IfErr result (IsFailureOf ended) → IfErr result (IsRefused set n size capacity)
+  is_refused (Ok built) failure = tt
+  is_refused (Err fault) failure = refused_for fault failure
 
   pub is_stopped : (result : Result Built Fault) → IfErr result (IsFailureOf ended) → IfErr result (StopsSo IsFailureOf set n size capacity)
   is_stopped (Ok built) failure = tt
-  is_stopped (Err fault) failure = stops_so IsFailureOf set n size capacity board old ended fault opened (all_kept until.Stopped old ended ends) failure
+  is_stopped (Err fault) failure =
+      stops_so IsFailureOf set n size capacity board ran.old ended fault ran.opened (all_kept until.Stopped ran.old ended ran.ends) failure

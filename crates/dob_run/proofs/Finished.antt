@@ -39,7 +39,7 @@ use Rattle.dob_run.specs.Mails.{AreOut}
 use Rattle.dob_run.specs.Knows.{CanHaveMade, KnowsRight}
 use Rattle.dob_run.specs.Workers.{planned, items_in, items_worked, own_applied, applied_from, SendsRight, IsLawful}
 use Rattle.dob_run.specs.Finished.{IsRunnerOf, AreJoinedBy, AreFinished, AreShown}
-use Rattle.dob_run.proofs.Keeping.{some_at}
+use Rattle.dob_run.proofs.Places.{some_at}
 use Rattle.dob_run.proofs.Applied.{applied_here, applied_else}
 use Rattle.dob_run.proofs.Summing.{sums_by}
 

@@ -28,6 +28,7 @@ use Rattle.dob_run.specs.Mails.{KeepsEach, AreOut}
 use Rattle.dob_run.specs.Keeps.{KeepsMail, HasSameLinks}
 use Rattle.dob_run.specs.Runners.{KeepsRunner, GoesOn as Goes, HasFailed, HasBroken, HasTurned, Steps}
 use Rattle.dob_run.proofs.Counted.{there_set, else_set}
+use Rattle.dob_run.proofs.Places.{one_thing}
 
 -- ---- lists of batches
 
@@ -61,9 +62,6 @@ inlet_trans x y z one two = (two.0 ∙ one.0, goes_on_trans (taken_by x.end) (ta
 
 -- ---- lists of links
 
-same_item : {L : Type 0} (x y : L) → Some x ≡ Some y → x ≡ y
-same_item x y e = cc
-
 -- what stood elsewhere and what stands at the place
 pub each_after : {L : Type 0} (Q : ℕ → L → Type 0) (xs : List L) (k : ℕ) (y : L) → ((j : ℕ) (l : L) → j ≢ k → slice_get xs j ≡ Some l → Q j l) → Q k y →
     (j : ℕ) (l : L) → slice_get (set xs k y) j ≡ Some l → Q j l
@@ -78,12 +76,12 @@ pub one_kept : {L : Type 0} (Keeps : L → L → Type 0) → ((x : L) → Keeps 
     KeepsEach Keeps xs (set xs k y)
 one_kept Keeps self xs k x y at keeps j before after old new =
     each_after (λ m l. slice_get xs m ≡ Some before → Keeps before l) xs k y
-    (λ m l apart there was. subst (Keeps before) (same_item before l (sym was ∙ there)) (self before))
-    (λ was. subst (λ b. Keeps b y) (same_item x before (sym at ∙ was)) keeps) j after new old
+    (λ m l apart there was. subst (Keeps before) (one_thing before l (sym was ∙ there)) (self before))
+    (λ was. subst (λ b. Keeps b y) (one_thing x before (sym at ∙ was)) keeps) j after new old
 
 pub each_same : {L : Type 0} (Keeps : L → L → Type 0) → ((x : L) → Keeps x x) → (xs ys : List L) → ys ≡ xs → KeepsEach Keeps xs ys
 each_same Keeps self xs ys same j before after old new =
-    subst (Keeps before) (same_item before after (sym old ∙ (ap (λ zs. slice_get zs j) (sym same) ∙ new))) (self before)
+    subst (Keeps before) (one_thing before after (sym old ∙ (ap (λ zs. slice_get zs j) (sym same) ∙ new))) (self before)
 
 there_is : {L : Type 0} (xs ys : List L) (j : ℕ) (x : L) → length xs ≡ length ys → slice_get xs j ≡ Some x → (y : L) × (slice_get ys j ≡ Some y)
 there_is [] ys j x same at = absurd (cc)
@@ -180,11 +178,6 @@ goes_trans a b c one two = record { keeps = runner_trans a b c one.keeps two.kee
 
 pub failed_after : (a b c : Runner) (why : Cause) → KeepsRunner a b → HasFailed b c why → HasFailed a c why
 failed_after a b c why kept failed = record { keeps = runner_trans a b c kept failed.keeps; cause = failed.cause; stopped = failed.stopped }
-
-pub some_at : {L : Type 0} (xs : List L) (k : ℕ) → k < length xs → (x : L) × (slice_get xs k ≡ Some x)
-some_at [] k within = absurd (omega (arith, within))
-some_at (x ∷ xs) zero within = (x, refl)
-some_at (x ∷ xs) (suc k) within = some_at xs k (omega (arith, within))
 
 -- hands that were empty are
 pub out_still : (old new : Mail) → new.seat.nodes ≡ old.seat.nodes →

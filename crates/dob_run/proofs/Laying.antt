@@ -11,7 +11,7 @@ use Rattle.dob_run.specs.declared.hands.Inlet.{Inlet}
 use Rattle.dob_run.specs.Rows.{StandsAt, AreRows}
 use Rattle.dob_run.specs.Laid.{IsLaid, IsRowLaid, AreLaidUpto}
 use Rattle.dob_run.proofs.Counted.{there_set, else_set}
-use Rattle.dob_run.proofs.Places.{at_end, get_last, get_before, inside, one_thing}
+use Rattle.dob_run.proofs.Places.{at_end, each_more, get_last, get_before, inside, one_thing}
 
 module _ {Z : Type 0} (capacity : ℕ) where
   pub row_begins : (columns : List (Vec Inlet Z)) → IsRowLaid capacity 0 [] columns columns
@@ -75,10 +75,7 @@ module _ {Y Z : Type 0} (capacity n : ℕ) where
   row_more i rows old new row so_far laid = record {
     rows = record {
       count = omega (arith, length-append rows (row ∷ []), so_far.rows.count);
-      each = λ k other e. elim (at_end rows row other k e) [
-        | inl before ↦ so_far.rows.each k other before
-        | inr last ↦ ap (λ (v : Vec Outlet Y). length v.items) (sym last.1) ∙ laid.long
-      ];
+      each = each_more (λ (k : ℕ) (other : Vec Outlet Y). length other.items ≡ n) rows (rows ++ row ∷ []) row i so_far.rows.count refl so_far.rows.each laid.long;
     };
     columns = record {
       count = laid.columns ∙ so_far.columns.count;
@@ -95,10 +92,7 @@ pub column_more : {Y : Type 0} → (k : ℕ) (columns : List (Vec Inlet Y)) (col
     AreRows (k + 1) 0 (columns ++ column ∷ [])
 column_more {Y} k columns column are empty = record {
   count = omega (arith, length-append columns (column ∷ []), are.count);
-  each = λ j other e. elim (at_end columns column other j e) [
-    | inl before ↦ are.each j other before
-    | inr last ↦ ap (λ (v : Vec Inlet Y). length v.items) (sym last.1) ∙ empty
-  ];
+  each = each_more (λ (j : ℕ) (other : Vec Inlet Y). length other.items ≡ 0) columns (columns ++ column ∷ []) column k are.count refl are.each empty;
 }
 
 -- the ends of a new channel, each with an empty hand

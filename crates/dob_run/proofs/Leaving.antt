@@ -1,9 +1,7 @@
 -- What a crew's runners leave when they are closed, put together from their parts.
 use Rattle.std.proofs.Common.{◌≡◌, ◌≢◌, ℕ, ◌+◌, ◌-◌, ◌*◌, ◌<◌, ◌≤◌, inl, inr, List, [], ◌∷◌, ◌++◌, Option, Some, None, length, map, take, drop, sym, ap, ◌∙◌, subst, arith, length-append}
 use Rattle.std.proofs.Common.{Global}
-use Rattle.std.specs.Prelude.{slice_get, Result, IfErr}
-use Rattle.std.specs.Result.{IsErrAnd}
-use Rattle.std.proofs.lemmas.Result.{err_from_is_err_and}
+use Rattle.std.specs.Prelude.{slice_get}
 use Rattle.std.proofs.lemmas.List.{length-map, take-append-drop}
 use Rattle.std.specs.declared.vec.Vec.{Vec}
 use Rattle.std.specs.List.{AllZip}
@@ -13,13 +11,11 @@ use Rattle.dob_share.specs.declared.news.Item.{Item}
 use Rattle.dob_update.specs.Batches.{BatchView}
 use Rattle.dob_board.specs.declared.board.Board.{Board}
 use Rattle.dob_board.specs.declared.board.Closed.{Closed}
-use Rattle.dob_board.specs.Seats.{AreWords, IsSeatOf}
+use Rattle.dob_board.specs.Seats.{AreWords}
 use Rattle.dob_chan.specs.declared.calls.Rejoined.{Rejoined}
 use Rattle.dob_chan.specs.Ends.{sent_by, taken_by}
 use Rattle.dob_node.specs.declared.node.Node.{Node}
 use Rattle.dob_node.specs.Nodes.{outbox_to}
-use Rattle.dob_run.specs.declared.fault.Fault.{Fault}
-use Rattle.dob_run.specs.declared.fault.Fault.TheVariants.{SetTooLarge, Nodes, Sizes, Stopped, Memory}
 use Rattle.dob_run.specs.declared.hands.Outlet.{Outlet}
 use Rattle.dob_run.specs.declared.hands.Inlet.{Inlet}
 use Rattle.dob_run.specs.declared.mail.Mail.{Mail}
@@ -34,13 +30,11 @@ use Rattle.dob_run.specs.Knows.{KnowsRight}
 use Rattle.dob_run.specs.Links.{offered, worked}
 use Rattle.dob_run.specs.Manned.{mail_of, node_of, AreRunnersFor}
 use Rattle.dob_run.specs.Runners.{KeepsRunner}
-use Rattle.dob_run.specs.Refused.{IsStop}
-use Rattle.dob_run.specs.Turned.{IsWorker, IsLink, IsTurned, AreUnfailed, IsFirstFailed, AreWorkers, HasLeft}
+use Rattle.dob_run.specs.Turned.{IsWorker, IsLink, IsTurned, AreUnfailed, AreWorkers, HasLeft}
 use Rattle.dob_run.specs.Workers.{planned, items_in, items_worked, applied_from, AreLast, SendsRight, IsLawful}
 use Rattle.dob_run.proofs.Applied.{applied_here, applied_else}
-use Rattle.dob_run.proofs.Manned.{zip_at, zip_long}
-use Rattle.dob_run.proofs.Places.{at_end, inside, one_thing, next_is, then_left, all_gone}
-use Rattle.dob_run.proofs.Parting.{get_map, map_got, some_at, count_is}
+use Rattle.dob_run.proofs.Manned.{zip_at, seat_there, are_linked, seat_at, crew_many, crew_low, outlet_at, inlet_at}
+use Rattle.dob_run.proofs.Places.{each_more, none_at, inside, one_thing, get_map, map_got, next_is, then_left, gone_all}
 
 -- ---- workers, one by one
 
@@ -54,12 +48,6 @@ pub record IsManning {Y Z : Type 0} (nodes : List Node) (sending : List (Vec (Op
   pub taking_are : taking_left ≡ drop done taking
   pub so_far : AreWorkers done nodes (map row_of sending) (map row_of taking) workers
 
--- while a thing is left in one list, one is left in another that is as long
-pub thing_left : {X Y : Type 0} → (xs left after : List X) (x : X) (ys ys_left : List Y) (done : ℕ) → left ≡ drop done xs → left ≡ x ∷ after → ys_left ≡ drop done ys →
-    length ys ≡ length xs → length ys_left ≢ 0
-thing_left xs left after x ys ys_left done is next ys_are long none =
-    omega (arith, all_gone ys done (ap length (sym ys_are) ∙ none), inside xs x done (next_is xs after x done (sym is ∙ next)), long)
-
 module _ {Y Z : Type 0} (nodes : List Node) (sending : List (Vec (Option BatchView) Y)) (taking : List (Vec (Option BatchView) Z)) where
   pub manning_begins : (nodes_left : List Node) (sending_left : List (Vec (Option BatchView) Y)) (taking_left : List (Vec (Option BatchView) Z)) (workers : List Worker) →
       nodes_left ≡ nodes → sending_left ≡ sending → taking_left ≡ taking → workers ≡ [] → IsManning nodes sending taking nodes_left sending_left taking_left workers
@@ -71,7 +59,7 @@ module _ {Y Z : Type 0} (nodes : List Node) (sending : List (Vec (Option BatchVi
     taking_are = t;
     so_far = record {
       count = ap length none;
-      each = λ k worker e. absurd (let nothing : slice_get [] k ≡ Some worker = ap (λ (l : List Worker). slice_get l k) (sym none) ∙ e in cc);
+      each = λ k worker e. none_at workers k worker none e;
     };
   }
 
@@ -93,24 +81,15 @@ module _ {A : Type 0} (nodes : List Node) (sending taking : List (Vec (Option Ba
         taking_are = then_left taking taking_after into on.done (sym on.taking_are ∙ t);
         so_far = record {
           count = omega (arith, ap length more_is, length-append workers (worker ∷ []), on.so_far.count);
-          each = λ k other e. elim (at_end workers worker other k (ap (λ (l : List Worker). slice_get l k) (sym more_is) ∙ e)) [
-            | inl before ↦ on.so_far.each k other before
-            | inr last ↦ let place : on.done ≡ k = sym on.so_far.count ∙ sym last.0 in
-                subst (λ (w : Worker). (slice_get nodes k ≡ Some w.node) × (slice_get (map row_of sending) k ≡ Some w.sending.items) × (slice_get (map row_of taking) k ≡ Some w.taking.items))
-                last.1 (
-                  subst (λ (m : ℕ). slice_get nodes m ≡ Some worker.node) place (at ∙ ap Some (sym node_is)),
-                  subst (λ (m : ℕ). slice_get (map row_of sending) m ≡ Some worker.sending.items) place (at_out ∙ ap Some (sym out_is)),
-                  subst (λ (m : ℕ). slice_get (map row_of taking) m ≡ Some worker.taking.items) place (at_into ∙ ap Some (sym into_is)),
-                )
-          ];
+          each = each_more _ workers more worker on.done on.so_far.count more_is on.so_far.each
+              (at ∙ ap Some (sym node_is), at_out ∙ ap Some (sym out_is), at_into ∙ ap Some (sym into_is));
         };
       }
 
   pub all_manned : (nodes_left : List Node) (sending_left taking_left : List (Vec (Option BatchView) A)) (workers : List Worker) →
       IsManning nodes sending taking nodes_left sending_left taking_left workers → length nodes_left ≡ 0 → AreWorkers (length nodes) nodes (map row_of sending) (map row_of taking) workers
   all_manned nodes_left sending_left taking_left workers on none =
-      let all : length nodes ≤ on.done = all_gone nodes on.done (ap length (sym on.nodes_are) ∙ none) in
-      subst (λ (k : ℕ). AreWorkers k nodes (map row_of sending) (map row_of taking) workers) (omega (arith, all, on.within)) on.so_far
+      subst (λ (k : ℕ). AreWorkers k nodes (map row_of sending) (map row_of taking) workers) (gone_all nodes nodes_left on.done on.nodes_are none on.within) on.so_far
 
 -- ---- what the runners leave
 
@@ -155,12 +134,6 @@ unfailed_more runners node before last k runner low at = elim (same_or_not k nod
   | inr other ↦ before k runner (omega (arith, low, other)) at
 ]
 
--- what is so of a failure is so of an answer that hands it on
-pub handed_on : {A : Type 0} (P : Fault → Type 0) (result : Result A Fault) (why : Fault) → IsErrAnd result (λ given. given ≡ why) → P why → IfErr result P
-handed_on P result why is has =
-    let given = err_from_is_err_and result is in
-    subst (λ s. IfErr s P) (sym given.1) (subst P (sym given.2) has)
-
 -- the runners are still for that piece set and that size
 pub for_kept : (set : PieceSet) (size : ℕ) (old new : List Runner) → AreRunnersFor set size old → AllZip KeepsRunner old new → AreUnfailed new → AreRunnersFor set size new
 for_kept set size old new are kept unfailed k runner at =
@@ -180,34 +153,22 @@ applied_by (Some runner) from = applied_from runner.node runner.mail.inlets.item
 
 module _ (board : Board) (set : PieceSet) (size : ℕ) (runners : List Runner) (turned : Turned) (crew : IsCrew board (map mail_of runners)) (left : HasLeft board.nodes runners turned)
     (are : AreRunnersFor set size runners) where
-  seat_there : (k : ℕ) (runner : Runner) → slice_get runners k ≡ Some runner → slice_get (map seat_in (map mail_of runners)) k ≡ Some runner.mail.seat
-  seat_there k runner at = get_map seat_in (map mail_of runners) k runner.mail (get_map mail_of runners k runner at)
-
-  seat_at : (k : ℕ) (runner : Runner) → slice_get runners k ≡ Some runner → IsSeatOf board.rest.table_id board.nodes k runner.mail.seat
-  seat_at k runner at = crew.seats.seats_are k runner.mail.seat (seat_there k runner at)
-
   lawful_at : (k : ℕ) (runner : Runner) → slice_get runners k ≡ Some runner → IsLawful set size runner.node runner.mail
   lawful_at k runner at =
       let is = are k runner at in
       subst (λ (p : PieceSet × ℕ). IsLawful p.0 p.1 runner.node runner.mail) (λ q. (is.set_is q, is.size_is q)) (runner.lawful (inl is.unfailed))
 
-  many : length runners ≡ board.nodes
-  many = sym (length-map runners mail_of) ∙ count_is board (map mail_of runners) crew
-
-  low : (k : ℕ) (runner : Runner) → slice_get runners k ≡ Some runner → k < board.nodes
-  low k runner at = omega (arith, inside runners runner k at, many)
-
   sends_at : (i j : ℕ) (from : Runner) (outlet : Outlet) → slice_get runners i ≡ Some from → slice_get from.mail.outlets.items j ≡ Some outlet → i ≢ j →
       SendsRight from.node size j (offered outlet)
   sends_at i j from outlet at out apart =
-      (lawful_at i from at).sends j outlet (λ same. apart (sym (same ∙ (seat_at i from at).node))) out
+      (lawful_at i from at).sends j outlet (λ same. apart (sym (same ∙ (seat_at board runners crew i from at).node))) out
 
   worker_is : (i : ℕ) (worker : Worker) (runner : Runner) → slice_get runners i ≡ Some runner → worker.node ≡ runner.node →
       IsWorker set board.nodes i (λ from. applied_by (slice_get runners i) from) worker
   worker_is i worker runner at node_is =
       let law = lawful_at i runner at in
-      let id : runner.node.id ≡ i = law.of.1 ∙ (seat_at i runner at).node in
-      let many_nodes : runner.node.n ≡ board.nodes = law.of.2 ∙ (seat_at i runner at).nodes in
+      let id : runner.node.id ≡ i = law.of.1 ∙ (seat_at board runners crew i runner at).node in
+      let many_nodes : runner.node.n ≡ board.nodes = law.of.2 ∙ (seat_at board runners crew i runner at).nodes in
       let own : planned runner.node i ≡ applied_by (Some runner) i ++ runner.node.own.items =
       ap (λ (k : ℕ). planned runner.node k) (sym id) ∙ sym (own_split (planned runner.node runner.node.id) runner.node.own.items law.own)
       ∙ ap (λ (items : List Item). items ++ runner.node.own.items) (sym (applied_here runner.node runner.mail.inlets.items i (sym id))) in
@@ -225,7 +186,7 @@ module _ (board : Board) (set : PieceSet) (size : ℕ) (runners : List Runner) (
       applied_by (slice_get runners j) i ≡ items_in (worked inlet)
   applied_of i j to inlet at into apart =
       ap (λ (o : Option Runner). applied_by o i) at
-      ∙ applied_else to.node to.mail.inlets.items i (λ same. apart (same ∙ (lawful_at j to at).of.1 ∙ (seat_at j to at).node))
+      ∙ applied_else to.node to.mail.inlets.items i (λ same. apart (same ∙ (lawful_at j to at).of.1 ∙ (seat_at board runners crew j to at).node))
       ∙ ap items_worked into
 
   link_is : (i j : ℕ) (sender taker : Worker) (from to : Runner) (outlet : Outlet) (inlet : Inlet) (link : Rejoined) → slice_get runners i ≡ Some from →
@@ -233,8 +194,8 @@ module _ (board : Board) (set : PieceSet) (size : ℕ) (runners : List Runner) (
       slice_get from.mail.outlets.items j ≡ Some outlet → slice_get to.mail.inlets.items i ≡ Some inlet → IsJoined outlet.end inlet.end link →
       IsLink board.nodes size turned.closed.words.items i j sender taker (applied_by (slice_get runners j) i) link
   link_is i j sender taker from to outlet inlet link at_i at_j node_is out_is into_is out into joined =
-      let low_i = low i from at_i in
-      let low_j = low j to at_j in
+      let low_i = crew_low board runners crew i from at_i in
+      let low_j = crew_low board runners crew j to at_j in
       record {
         sent = sent_by outlet.end;
         received = taken_by inlet.end;
@@ -247,14 +208,14 @@ module _ (board : Board) (set : PieceSet) (size : ℕ) (runners : List Runner) (
         lawful = joined.lawful;
         posted = omega (
           arith,
-          left.words.posted i j from.mail.seat (seat_there i from at_i) low_j,
+          left.words.posted i j from.mail.seat (seat_there runners i from at_i) low_j,
           from.mail.posted j outlet out,
           length-append (sent_by outlet.end) (in_hand outlet.hand),
           joined.sent,
         );
         taken = omega (
           arith,
-          left.words.taken j i to.mail.seat (seat_there j to at_j) low_i,
+          left.words.taken j i to.mail.seat (seat_there runners j to at_j) low_i,
           to.mail.taken i inlet into,
           ap length inlet.last,
           length-append (worked_of inlet.end inlet.hand) (in_hand inlet.hand),
@@ -268,7 +229,7 @@ module _ (board : Board) (set : PieceSet) (size : ℕ) (runners : List Runner) (
 
   pub turned_is : IsTurned set board.nodes size turned
   turned_is = record {
-    count = left.count ∙ many;
+    count = left.count ∙ crew_many board runners crew;
     words = left.words.count;
     links_count = left.links_count;
     applied = λ i j. applied_by (slice_get runners j) i;
@@ -276,27 +237,8 @@ module _ (board : Board) (set : PieceSet) (size : ℕ) (runners : List Runner) (
     links = λ i j sender taker at_i at_j.
         let from = left.workers i sender at_i in
         let to = left.workers j taker at_j in
-        let outlet = some_at from.0.mail.outlets.items j (omega (arith, from.0.mail.outlets_len, (seat_at i from.0 from.1).nodes, low j to.0 to.1)) in
-        let inlet = some_at to.0.mail.inlets.items i (omega (arith, to.0.mail.inlets_len, (seat_at j to.0 to.1).nodes, low i from.0 from.1)) in
-        let link = left.links i j outlet.0 inlet.0 (record {
-          sender = from.0.mail;
-          taker = to.0.mail;
-          sends = get_map mail_of runners i from.0 from.1;
-          takes = get_map mail_of runners j to.0 to.1;
-          out = outlet.1;
-          into = inlet.1;
-        }) in
+        let outlet = outlet_at board runners crew i j from.0 from.1 (crew_low board runners crew j to.0 to.1) in
+        let inlet = inlet_at board runners crew i j to.0 to.1 (crew_low board runners crew i from.0 from.1) in
+        let link = left.links i j outlet.0 inlet.0 (are_linked runners i j from.0 to.0 outlet.0 inlet.0 from.1 to.1 outlet.1 inlet.1) in
         (link.0, link.1, link_is i j sender taker from.0 to.0 outlet.0 inlet.0 link.0 from.1 to.1 from.2 from.3 to.4 outlet.1 inlet.1 link.2);
   }
-
--- ---- refusals
-
--- the node that has failed is one of the crew
-pub stop_of : (board : Board) (n : ℕ) (old new : List Runner) (fault : Fault) → IsCrew board (map mail_of old) → AllZip KeepsRunner old new → board.nodes ≡ n →
-    IsFirstFailed new fault → IsStop n fault
-stop_of board n old new (Stopped node why) crew kept many first =
-    omega (arith, inside new first.0 node first.1, zip_long KeepsRunner old new kept, length-map old mail_of, count_is board (map mail_of old) crew, many)
-stop_of board n old new SetTooLarge crew kept many first = absurd first
-stop_of board n old new Nodes crew kept many first = absurd first
-stop_of board n old new Sizes crew kept many first = absurd first
-stop_of board n old new Memory crew kept many first = absurd first

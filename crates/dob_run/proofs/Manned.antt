@@ -1,5 +1,5 @@
 -- The runners of a crew's mails, before and after their turns.
-use Rattle.std.proofs.Common.{◌≡◌, ℕ, zero, suc, List, [], ◌∷◌, length, map, Some, refl, sym, ap, ◌∙◌, subst, arith}
+use Rattle.std.proofs.Common.{◌≡◌, ℕ, zero, suc, ◌<◌, List, [], ◌∷◌, length, map, Some, refl, sym, ap, ◌∙◌, subst, arith}
 use Rattle.std.specs.Prelude.{slice_get}
 use Rattle.std.proofs.lemmas.List.{length-map}
 use Rattle.std.specs.List.{AllZip}
@@ -7,15 +7,17 @@ use Rattle.dob_pieces.specs.declared.piece_set.PieceSet.{PieceSet}
 use Rattle.dob_board.specs.declared.board.Board.{Board}
 use Rattle.dob_board.specs.Seats.{IsSeatOf}
 use Rattle.dob_chan.specs.Ends.{ArePaired}
+use Rattle.dob_run.specs.declared.hands.Outlet.{Outlet}
+use Rattle.dob_run.specs.declared.hands.Inlet.{Inlet}
 use Rattle.dob_run.specs.declared.mail.Mail.{Mail}
 use Rattle.dob_run.specs.declared.runner.Runner.{Runner}
-use Rattle.dob_run.specs.Closing.{seat_in, IsCrew}
+use Rattle.dob_run.specs.Closing.{AreLinked, seat_in, IsCrew}
 use Rattle.dob_run.specs.Opening.{IsNewMail, AreNewMails}
 use Rattle.dob_run.specs.Runners.{KeepsRunner, IsNew}
 use Rattle.dob_run.specs.Turns.{AllSuit}
 use Rattle.dob_run.specs.Manned.{mail_of, AreRunnersFor, IsRunnerOf}
-use Rattle.dob_run.proofs.Places.{inside, one_thing}
-use Rattle.dob_run.proofs.Parting.{get_map, map_got, some_at}
+use Rattle.dob_run.proofs.Places.{inside, one_thing, get_map, map_got, some_at}
+use Rattle.dob_run.proofs.Parting.{count_is}
 
 -- what stands at a place has its other at that place
 pub zip_at : {X Y : Type 0} → (R : X → Y → Type 0) (xs : List X) (ys : List Y) (k : ℕ) (y : Y) → AllZip R xs ys → slice_get ys k ≡ Some y →
@@ -50,6 +52,43 @@ runners_new set size capacity mails runners are new k runner at =
 pub all_suit : (set : PieceSet) (size : ℕ) (runners : List Runner) → AreRunnersFor set size runners → AllSuit set runners
 all_suit set size runners are k runner at = let is = are k runner at in record { set_is = sym is.set_is; unfailed = is.unfailed }
 
+-- ---- a crew's runners
+
+pub seat_there : (runners : List Runner) (k : ℕ) (runner : Runner) → slice_get runners k ≡ Some runner →
+    slice_get (map seat_in (map mail_of runners)) k ≡ Some runner.mail.seat
+seat_there runners k runner at = get_map seat_in (map mail_of runners) k runner.mail (get_map mail_of runners k runner at)
+
+pub are_linked : (runners : List Runner) (i j : ℕ) (from to : Runner) (outlet : Outlet) (inlet : Inlet) → slice_get runners i ≡ Some from →
+    slice_get runners j ≡ Some to → slice_get from.mail.outlets.items j ≡ Some outlet → slice_get to.mail.inlets.items i ≡ Some inlet →
+    AreLinked (map mail_of runners) i j outlet inlet
+are_linked runners i j from to outlet inlet sends takes out into = record {
+  sender = from.mail;
+  taker = to.mail;
+  sends = get_map mail_of runners i from sends;
+  takes = get_map mail_of runners j to takes;
+  out = out;
+  into = into;
+}
+
+-- each has the seat of its place and a link for each node, and there are as many as the board has nodes
+module _ (board : Board) (runners : List Runner) (crew : IsCrew board (map mail_of runners)) where
+  pub seat_at : (k : ℕ) (runner : Runner) → slice_get runners k ≡ Some runner → IsSeatOf board.rest.table_id board.nodes k runner.mail.seat
+  seat_at k runner at = crew.seats.seats_are k runner.mail.seat (seat_there runners k runner at)
+
+  pub crew_many : length runners ≡ board.nodes
+  crew_many = sym (length-map runners mail_of) ∙ count_is board (map mail_of runners) crew
+
+  pub crew_low : (k : ℕ) (runner : Runner) → slice_get runners k ≡ Some runner → k < board.nodes
+  crew_low k runner at = omega (arith, inside runners runner k at, crew_many)
+
+  pub outlet_at : (i j : ℕ) (from : Runner) → slice_get runners i ≡ Some from → j < board.nodes →
+      (outlet : Outlet) × (slice_get from.mail.outlets.items j ≡ Some outlet)
+  outlet_at i j from at low = some_at from.mail.outlets.items j (omega (arith, from.mail.outlets_len, (seat_at i from at).nodes, low))
+
+  pub inlet_at : (i j : ℕ) (to : Runner) → slice_get runners j ≡ Some to → i < board.nodes →
+      (inlet : Inlet) × (slice_get to.mail.inlets.items i ≡ Some inlet)
+  inlet_at i j to at low = some_at to.mail.inlets.items i (omega (arith, to.mail.inlets_len, (seat_at j to at).nodes, low))
+
 -- a runner of which it is known where it was before its turns
 was_at : (old new : List Runner) (k : ℕ) (mail : Mail) → AllZip KeepsRunner old new → slice_get (map mail_of new) k ≡ Some mail →
     (before : Runner) × (after : Runner) × (slice_get old k ≡ Some before) × KeepsRunner before after × (after.mail ≡ mail)
@@ -62,12 +101,11 @@ was_at old new k mail kept at =
 pub crew_kept : (board : Board) (old new : List Runner) → IsCrew board (map mail_of old) → AllZip KeepsRunner old new → IsCrew board (map mail_of new)
 crew_kept board old new crew kept = record {
   seats = record {
-    count = length-map (map mail_of new) seat_in ∙ length-map new mail_of ∙ zip_long KeepsRunner old new kept ∙ sym (length-map old mail_of)
-        ∙ sym (length-map (map mail_of old) seat_in) ∙ crew.seats.count;
+    count = length-map (map mail_of new) seat_in ∙ length-map new mail_of ∙ zip_long KeepsRunner old new kept ∙ crew_many board old crew;
     seats_are = λ k seat at.
         let mail = map_got seat_in (map mail_of new) k seat at in
         let was = was_at old new k mail.0 kept mail.1 in
-        let before = crew.seats.seats_are k was.0.mail.seat (get_map seat_in (map mail_of old) k was.0.mail (get_map mail_of old k was.0 was.2)) in
+        let before = seat_at board old crew k was.0 was.2 in
         let same = was.3.mail.seat in
         subst (IsSeatOf board.rest.table_id board.nodes k) (ap (λ (m : Mail). m.seat) was.4 ∙ mail.2) (record {
           node = same.node ∙ before.node;
@@ -86,13 +124,7 @@ crew_kept board old new crew kept = record {
       (omega (arith, inside to.1.mail.inlets.items inlet i into, to.1.mail.inlets_len, to.0.mail.inlets_len, to.3.mail.seat.nodes)) in
       let sends = from.3.mail.outlets j outlet_before.0 outlet outlet_before.1 out in
       let takes = to.3.mail.inlets i inlet_before.0 inlet inlet_before.1 into in
-      let were : ArePaired outlet_before.0.end inlet_before.0.end = crew.paired i j outlet_before.0 inlet_before.0 (record {
-        sender = from.0.mail;
-        taker = to.0.mail;
-        sends = get_map mail_of old i from.0 from.2;
-        takes = get_map mail_of old j to.0 to.2;
-        out = outlet_before.1;
-        into = inlet_before.1;
-      }) in
+      let were : ArePaired outlet_before.0.end inlet_before.0.end = crew.paired i j outlet_before.0 inlet_before.0
+          (are_linked old i j from.0 to.0 outlet_before.0 inlet_before.0 from.2 to.2 outlet_before.1 inlet_before.1) in
       takes.0 ∙ were ∙ sym sends.0;
 }

@@ -19,7 +19,7 @@ use Rattle.dob_rank.proofs.Marks.{HasClasses-classes_of}
 use Rattle.dob_rank.proofs.Representatives.{class_setup_is}
 use Rattle.dob_share.specs.declared.opening.Opening.{Opening}
 use Rattle.dob_node.specs.Openings.{IsOpening, AreOpeningsBelow, AreOpenings}
-use Rattle.dob_run.proofs.Places.{at_end}
+use Rattle.dob_run.proofs.Places.{each_more}
 
 -- ---- the status of a position
 
@@ -65,11 +65,7 @@ openings_more : (set : PieceSet) (class : ℕ) (before : List Opening) (more : O
     AreOpeningsBelow set (class + 1) (before ++ more ∷ [])
 openings_more set class before more are is = record {
   whole = length-append before (more ∷ []) ∙ ap (λ (k : ℕ). k + 1) are.whole;
-  each = λ k given at. elim (at_end before more given k at) [
-    | inl old ↦ are.each k given old
-    | inr last ↦ subst (λ (m : ℕ). IsOpening (class_setup set m) given) (sym (last.0 ∙ are.whole))
-        (subst (λ (o : Opening). IsOpening (class_setup set class) o) last.1 is)
-  ];
+  each = each_more (λ (k : ℕ) (given : Opening). IsOpening (class_setup set k) given) before (before ++ more ∷ []) more class are.whole refl are.each is;
 }
 
 openings_below : (set : PieceSet) (upto : ℕ) → upto ≤ classes_of set → (openings : List Opening) × AreOpeningsBelow set upto openings

@@ -16,28 +16,11 @@ use Rattle.dob_run.specs.declared.closing.Parts.{Parts}
 use Rattle.dob_run.specs.Rows.{StandsAt}
 use Rattle.dob_run.specs.Ending.{outlet_end, inlet_end, AreDealt, IsJoined, AreEnds, AreJoined}
 use Rattle.dob_run.specs.Closing.{AreLinked, seat_in, IsCrew, row_of, ends_out, ends_in, hands_out, hands_in, HasRowMore, HasAdded, ArePartsOf}
-use Rattle.dob_run.proofs.Places.{at_end, get_last, get_before, inside, one_thing}
+use Rattle.dob_run.proofs.Places.{at_end, get_last, get_before, inside, middle, one_thing, get_map, map_got, some_at}
 
 map_end : {A B : Type 0} → (f : A → B) (xs : List A) (x : A) → map f (xs ++ x ∷ []) ≡ map f xs ++ f x ∷ []
 map_end f [] x = refl
 map_end {A} {B} f (y ∷ xs) x = ap (λ (zs : List B). f y ∷ zs) (map_end f xs x)
-
--- what a function of a thing at a place is
-pub get_map : {A B : Type 0} → (f : A → B) (xs : List A) (k : ℕ) (x : A) → slice_get xs k ≡ Some x → slice_get (map f xs) k ≡ Some (f x)
-get_map f [] k x e = absurd (cc)
-get_map f (y ∷ xs) zero x e = cc
-get_map f (y ∷ xs) (suc k) x e = get_map f xs k x e
-
--- what stands at a place of a function of all things is that of the thing there
-pub map_got : {A B : Type 0} → (f : A → B) (xs : List A) (k : ℕ) (y : B) → slice_get (map f xs) k ≡ Some y → (x : A) × (slice_get xs k ≡ Some x) × (f x ≡ y)
-map_got f [] k y e = absurd (cc)
-map_got f (x ∷ xs) zero y e = (x, refl, one_thing (f x) y e)
-map_got f (x ∷ xs) (suc k) y e = map_got f xs k y e
-
-pub some_at : {A : Type 0} → (xs : List A) (k : ℕ) → k < length xs → (x : A) × (slice_get xs k ≡ Some x)
-some_at [] k below = absurd (omega (arith, below))
-some_at (x ∷ xs) zero below = (x, refl)
-some_at (x ∷ xs) (suc k) below = some_at xs k (omega (arith, below))
 
 -- one row more on both sides
 rows_more : {X Z : Type 0} → (f : Mail → List X) (mails : List Mail) (mail : Mail) (old new : List (Vec X Z)) → map row_of old ≡ map f mails →
@@ -96,11 +79,8 @@ parting_goes_on n all left after mail old new on is added wide = record {
 -- the mail that comes next is one of all
 pub one_of : (n : ℕ) (all left after : List Mail) (mail : Mail) (parts : Parts) → AreParting n all left parts → left ≡ mail ∷ after →
     (k : ℕ) × (slice_get all k ≡ Some mail)
-one_of n all left after mail parts on is = (length on.gone, ap (λ (l : List Mail). slice_get l (length on.gone)) (on.split ∙ ap (λ (l : List Mail). on.gone ++ l) is) ∙ middle on.gone)
-  where
-    middle : (gone : List Mail) → slice_get (gone ++ mail ∷ after) (length gone) ≡ Some mail
-    middle [] = refl
-    middle (m ∷ gone) = middle gone
+one_of n all left after mail parts on is =
+    (length on.gone, ap (λ (l : List Mail). slice_get l (length on.gone)) (on.split ∙ ap (λ (l : List Mail). on.gone ++ l) is) ∙ middle on.gone after mail)
 
 pub all_parted : (n : ℕ) (all left : List Mail) (parts : Parts) → AreParting n all left parts → length left ≡ 0 → ArePartsOf n all parts
 all_parted n all [] parts on none = subst (λ (l : List Mail). ArePartsOf n l parts) (sym (on.split ∙ append-nil on.gone)) on.are

@@ -1,5 +1,5 @@
--- What stands where in a list after one thing more, or after one was exchanged.
-use Rattle.std.proofs.Common.{◌≡◌, ℕ, zero, suc, ◌+◌, ◌<◌, ◌≤◌, ◌⊎◌, inl, inr, List, [], ◌∷◌, ◌++◌, length, map, drop, Some, refl, sym, ap, ◌∙◌, arith, ⊎_elim, append_assoc}
+-- What stands where in a list, also after one thing more, after one was exchanged, and in a function of all its things.
+use Rattle.std.proofs.Common.{◌≡◌, ◌≢◌, ℕ, zero, suc, ◌+◌, ◌<◌, ◌≤◌, ◌⊎◌, inl, inr, List, [], ◌∷◌, ◌++◌, length, map, drop, Some, refl, sym, ap, ◌∙◌, subst, arith, ⊎_elim, append_assoc}
 use Rattle.std.proofs.lemmas.List.{append-nil}
 use Rattle.std.specs.Prelude.{slice_get}
 
@@ -8,6 +8,17 @@ at_end [] a b zero e = inr (refl, (cc))
 at_end [] a b (suc j) e = absurd (cc)
 at_end (x ∷ xs) a b zero e = inl e
 at_end (x ∷ xs) a b (suc j) e = ⊎_elim (λ l. inl l) (λ r. inr (ap suc r.0, r.1)) (at_end xs a b j e)
+
+pub none_at : {A L : Type 0} → (l : List A) (k : ℕ) (a : A) → l ≡ [] → slice_get l k ≡ Some a → L
+none_at {A} l k a none e = absurd (let nothing : slice_get [] k ≡ Some a = ap (λ (xs : List A). slice_get xs k) (sym none) ∙ e in cc)
+
+-- what is so of each thing and its place is so with one thing more
+pub each_more : {A : Type 0} → (Q : ℕ → A → Type 0) (l more : List A) (a : A) (k : ℕ) → length l ≡ k → more ≡ l ++ a ∷ [] →
+    ((j : ℕ) (b : A) → slice_get l j ≡ Some b → Q j b) → Q k a → (j : ℕ) (b : A) → slice_get more j ≡ Some b → Q j b
+each_more {A} Q l more a k long is each here j b e = elim (at_end l a b j (ap (λ (xs : List A). slice_get xs j) (sym is) ∙ e)) [
+  | inl before ↦ each j b before
+  | inr last ↦ subst (λ (p : ℕ × A). Q p.0 p.1) (λ i. ((sym long ∙ sym last.0) i, last.1 i)) here
+]
 
 pub get_last : {A : Type 0} → (l : List A) (a : A) → slice_get (l ++ a ∷ []) (length l) ≡ Some a
 get_last [] a = refl
@@ -31,6 +42,27 @@ get_front [] m b j e = absurd (cc)
 get_front (x ∷ xs) m b zero e = e
 get_front (x ∷ xs) m b (suc j) e = get_front xs m b j e
 
+-- what a function of a thing at a place is
+pub get_map : {A B : Type 0} → (f : A → B) (xs : List A) (k : ℕ) (x : A) → slice_get xs k ≡ Some x → slice_get (map f xs) k ≡ Some (f x)
+get_map f [] k x e = absurd (cc)
+get_map f (y ∷ xs) zero x e = cc
+get_map f (y ∷ xs) (suc k) x e = get_map f xs k x e
+
+-- what stands at a place of a function of all things is that of the thing there
+pub map_got : {A B : Type 0} → (f : A → B) (xs : List A) (k : ℕ) (y : B) → slice_get (map f xs) k ≡ Some y → (x : A) × (slice_get xs k ≡ Some x) × (f x ≡ y)
+map_got f [] k y e = absurd (cc)
+map_got f (x ∷ xs) zero y e = (x, refl, one_thing (f x) y e)
+map_got f (x ∷ xs) (suc k) y e = map_got f xs k y e
+
+pub some_at : {A : Type 0} → (xs : List A) (k : ℕ) → k < length xs → (x : A) × (slice_get xs k ≡ Some x)
+some_at [] k below = absurd (omega (arith, below))
+some_at (x ∷ xs) zero below = (x, refl)
+some_at (x ∷ xs) (suc k) below = some_at xs k (omega (arith, below))
+
+pub middle : {A : Type 0} → (gone after : List A) (x : A) → slice_get (gone ++ x ∷ after) (length gone) ≡ Some x
+middle [] after x = refl
+middle (y ∷ gone) after x = middle gone after x
+
 -- what comes next of a list of which the first k things went
 pub next_is : {A : Type 0} → (l rest : List A) (a : A) (k : ℕ) → drop k l ≡ a ∷ rest → slice_get l k ≡ Some a
 next_is [] rest a zero e = absurd (cc)
@@ -47,10 +79,20 @@ then_drop (x ∷ xs) rest a (suc k) e = then_drop xs rest a k e
 pub then_left : {A : Type 0} → (l rest : List A) (a : A) (k : ℕ) → drop k l ≡ a ∷ rest → rest ≡ drop (k + 1) l
 then_left l rest a k e = let one_more : suc k ≡ k + 1 = omega arith in then_drop l rest a k e ∙ ap (λ (m : ℕ). drop m l) one_more
 
-pub all_gone : {A : Type 0} → (l : List A) (k : ℕ) → length (drop k l) ≡ 0 → length l ≤ k
+all_gone : {A : Type 0} → (l : List A) (k : ℕ) → length (drop k l) ≡ 0 → length l ≤ k
 all_gone [] k e = omega arith
 all_gone (x ∷ xs) zero e = absurd (omega (arith, e))
 all_gone (x ∷ xs) (suc k) e = let h = all_gone xs k e in omega arith
+
+-- where nothing is left, all things went
+pub gone_all : {A : Type 0} → (l left : List A) (k : ℕ) → left ≡ drop k l → length left ≡ 0 → k ≤ length l → k ≡ length l
+gone_all l left k is none within = omega (arith, all_gone l k (ap length (sym is) ∙ none), within)
+
+-- while a thing is left in one list, one is left in another that is as long
+pub thing_left : {A B : Type 0} → (xs left after : List A) (x : A) (ys ys_left : List B) (done : ℕ) → left ≡ drop done xs → left ≡ x ∷ after →
+    ys_left ≡ drop done ys → length ys ≡ length xs → length ys_left ≢ 0
+thing_left xs left after x ys ys_left done is next ys_are long none =
+    omega (arith, all_gone ys done (ap length (sym ys_are) ∙ none), inside xs x done (next_is xs after x done (sym is ∙ next)), long)
 
 -- a function of all things is that of those that went, and then that of those that are left
 module _ {A B : Type 0} (f : A → B) where

@@ -9,7 +9,7 @@ use Rattle.dob_chan.specs.declared.calls.Rejoined.{Rejoined}
 use Rattle.dob_run.specs.Rows.{StandsAt}
 use Rattle.dob_run.specs.Ending.{AreDealt, IsJoined, AreRowJoined, AreJoined}
 use Rattle.dob_run.proofs.Counted.{there_set, else_set}
-use Rattle.dob_run.proofs.Places.{get_last, get_before, get_front, inside, one_thing, next_is, then_left, all_gone}
+use Rattle.dob_run.proofs.Places.{get_last, get_before, get_front, inside, one_thing, next_is, then_left, gone_all}
 
 module _ {X Z : Type 0} where
   pub dealt_none : (things : List X) (rows : List (Vec X Z)) → AreDealt 0 things rows rows
@@ -101,8 +101,7 @@ module _ (sends : List SendEnd) (takes : List TakeEnd) (before : List Rejoined) 
   pub row_done : (sends_left : List SendEnd) (takes_left : List TakeEnd) (links : List Rejoined) → IsRowOn sends takes before sends_left takes_left links →
       length sends_left ≡ 0 → AreRowJoined (length sends) (length before) sends takes links × ((row : List Rejoined) × (links ≡ before ++ row) × (length row ≡ length sends))
   row_done sends_left takes_left links on none =
-      let all : length sends ≤ on.done = all_gone sends on.done (ap length (sym on.senders) ∙ none) in
-      let is : on.done ≡ length sends = omega (arith, all, on.within) in
+      let is = gone_all sends sends_left on.done on.senders none on.within in
       (subst (λ (k : ℕ). AreRowJoined k (length before) sends takes links) is on.joined, (on.row, on.links_are, on.count ∙ is))
 
 -- The ends in so many rows are joined, and these rows are left.
@@ -173,21 +172,4 @@ module _ {Y Z : Type 0} (n : ℕ) (sends : List (Vec SendEnd Y)) (takes : List (
   pub all_done : (sends_left : List (Vec SendEnd Y)) (takes_left : List (Vec TakeEnd Z)) (links : List Rejoined) → AreOn n sends takes sends_left takes_left links →
       length sends_left ≡ 0 → AreJoined n (length sends) sends takes links
   all_done sends_left takes_left links on none =
-      let all : length sends ≤ on.done = all_gone sends on.done (ap length (sym on.senders) ∙ none) in
-      subst (λ (k : ℕ). AreJoined n k sends takes links) (omega (arith, all, on.within)) on.joined
-
--- while a sending end is left, so is a taking end
-pub taker_left : (sends : List SendEnd) (takes : List TakeEnd) (before : List Rejoined) (sends_left after : List SendEnd) (takes_left : List TakeEnd)
-    (links : List Rejoined) (send : SendEnd) → IsRowOn sends takes before sends_left takes_left links → sends_left ≡ send ∷ after → length takes ≡ length sends →
-    length takes_left ≢ 0
-taker_left sends takes before sends_left after takes_left links send on is same none =
-    let more = inside sends send on.done (next_is sends after send on.done (sym on.senders ∙ is)) in
-    omega (arith, all_gone takes on.done (ap length (sym on.takers) ∙ none), more, same)
-
--- while a row of sending ends is left, so is one of taking ends
-pub takers_left : {Y Z : Type 0} → (n : ℕ) (sends : List (Vec SendEnd Y)) (takes : List (Vec TakeEnd Z)) (sends_left after : List (Vec SendEnd Y))
-    (takes_left : List (Vec TakeEnd Z)) (links : List Rejoined) (row : Vec SendEnd Y) → AreOn n sends takes sends_left takes_left links → sends_left ≡ row ∷ after →
-    length takes ≡ length sends → length takes_left ≢ 0
-takers_left n sends takes sends_left after takes_left links row on is same none =
-    let more = inside sends row on.done (next_is sends after row on.done (sym on.senders ∙ is)) in
-    omega (arith, all_gone takes on.done (ap length (sym on.takers) ∙ none), more, same)
+      subst (λ (k : ℕ). AreJoined n k sends takes links) (gone_all sends sends_left on.done on.senders none on.within) on.joined

@@ -1,5 +1,5 @@
 -- Seats that get their rows and columns of links one by one, and what their mails are then.
-use Rattle.std.proofs.Common.{◌≡◌, ◌≢◌, ℕ, zero, suc, ◌+◌, ◌-◌, ◌<◌, ◌≤◌, inl, inr, List, [], ◌∷◌, ◌++◌, length, map, drop, take, replicate, Some, refl, sym, ap, ◌∙◌, subst, arith, length-append}
+use Rattle.std.proofs.Common.{◌≡◌, ◌≢◌, ℕ, zero, suc, ◌+◌, ◌-◌, ◌<◌, ◌≤◌, List, [], ◌∷◌, ◌++◌, length, map, drop, take, replicate, Some, refl, sym, ap, ◌∙◌, subst, arith, length-append}
 use Rattle.std.specs.Prelude.{slice_get, slice_index}
 use Rattle.std.proofs.lemmas.List.{length-map}
 use Rattle.std.specs.declared.vec.Vec.{Vec}
@@ -8,9 +8,7 @@ use Rattle.dob_board.specs.declared.board.Board.{Board}
 use Rattle.dob_board.specs.declared.seat.NodeSeat.{NodeSeat}
 use Rattle.dob_board.specs.declared.view.Stand.{Stand}
 use Rattle.dob_board.specs.Rule.{fresh}
-use Rattle.dob_board.specs.declared.halt.Halt.{Halt}
-use Rattle.dob_board.specs.declared.halt.Halt.TheVariants.{Running, Ended, Failed}
-use Rattle.dob_board.specs.Words.{halt_word}
+use Rattle.dob_board.specs.declared.halt.Halt.TheVariants.{Running}
 use Rattle.dob_board.specs.Seats.{AreSeats, IsSeatOf, stand_of}
 use Rattle.dob_chan.specs.Ends.{ArePaired}
 use Rattle.dob_run.specs.declared.hands.Outlet.{Outlet}
@@ -23,8 +21,8 @@ use Rattle.dob_run.specs.Laid.{IsLaid, AreLaid}
 use Rattle.dob_run.specs.Closing.{AreLinked, seat_in}
 use Rattle.dob_run.specs.Opening.{AreNewMails}
 use Rattle.dob_run.specs.Seating.{CanSeat, CanSeatAll, IsSeated, AreSeated}
-use Rattle.dob_run.proofs.Places.{at_end, inside, one_thing, next_is, then_left, all_gone}
-use Rattle.dob_run.proofs.Parting.{get_map, map_got, some_at}
+use Rattle.dob_run.proofs.Keeping.{same_halt}
+use Rattle.dob_run.proofs.Places.{each_more, none_at, inside, one_thing, get_map, map_got, some_at, next_is, then_left, gone_all}
 
 -- So many seats have their mails, and these seats, rows and columns are left.
 pub record IsSeating {Y Z : Type 0} (seats : List NodeSeat) (rows : List (Vec Outlet Y)) (columns : List (Vec Inlet Z)) (seats_left : List NodeSeat)
@@ -47,7 +45,7 @@ module _ {Y Z : Type 0} (seats : List NodeSeat) (rows : List (Vec Outlet Y)) (co
     columns_are = c;
     so_far = record {
       count = ap length none;
-      each = λ k mail e. absurd (let nothing : slice_get [] k ≡ Some mail = ap (λ (l : List Mail). slice_get l k) (sym none) ∙ e in cc);
+      each = λ k mail e. none_at mails k mail none e;
     };
   }
 
@@ -58,17 +56,6 @@ module _ {Y Z : Type 0} (seats : List NodeSeat) (rows : List (Vec Outlet Y)) (co
   next_can seats_left after rows_left more_rows columns_left more_columns mails seat row column on s r c can =
       can.each on.done seat row column (next_is seats after seat on.done (sym on.seats_are ∙ s)) (next_is rows more_rows row on.done (sym on.rows_are ∙ r))
       (next_is columns more_columns column on.done (sym on.columns_are ∙ c))
-
-  -- while a seat is left, so are a row and a column
-  pub row_left : (seats_left after : List NodeSeat) (rows_left : List (Vec Outlet Y)) (columns_left : List (Vec Inlet Z)) (mails : List Mail) (seat : NodeSeat) →
-      IsSeating seats rows columns seats_left rows_left columns_left mails → seats_left ≡ seat ∷ after → CanSeatAll seats rows columns → length rows_left ≢ 0
-  row_left seats_left after rows_left columns_left mails seat on s can none =
-      omega (arith, all_gone rows on.done (ap length (sym on.rows_are) ∙ none), inside seats seat on.done (next_is seats after seat on.done (sym on.seats_are ∙ s)), can.rows_len)
-
-  pub column_left : (seats_left after : List NodeSeat) (rows_left : List (Vec Outlet Y)) (columns_left : List (Vec Inlet Z)) (mails : List Mail) (seat : NodeSeat) →
-      IsSeating seats rows columns seats_left rows_left columns_left mails → seats_left ≡ seat ∷ after → CanSeatAll seats rows columns → length columns_left ≢ 0
-  column_left seats_left after rows_left columns_left mails seat on s can none =
-      omega (arith, all_gone columns on.done (ap length (sym on.columns_are) ∙ none), inside seats seat on.done (next_is seats after seat on.done (sym on.seats_are ∙ s)), can.columns_len)
 
   pub seating_goes_on : (seats_left after : List NodeSeat) (rows_left more_rows : List (Vec Outlet Y)) (columns_left more_columns : List (Vec Inlet Z)) (mails more : List Mail)
       (seat : NodeSeat) (row : Vec Outlet Y) (column : Vec Inlet Z) (mail : Mail) → IsSeating seats rows columns seats_left rows_left columns_left mails →
@@ -86,26 +73,14 @@ module _ {Y Z : Type 0} (seats : List NodeSeat) (rows : List (Vec Outlet Y)) (co
         columns_are = then_left columns more_columns column on.done (sym on.columns_are ∙ c);
         so_far = record {
           count = omega (arith, ap length more_is, length-append mails (mail ∷ []), on.so_far.count);
-          each = λ k other e. elim (at_end mails mail other k (ap (λ (l : List Mail). slice_get l k) (sym more_is) ∙ e)) [
-            | inl before ↦ on.so_far.each k other before
-            | inr last ↦ let place : on.done ≡ k = sym on.so_far.count ∙ sym last.0 in (
-              seat,
-              row,
-              column,
-              subst (λ (m : ℕ). slice_get seats m ≡ Some seat) place at,
-              subst (λ (m : ℕ). slice_get rows m ≡ Some row) place at_row,
-              subst (λ (m : ℕ). slice_get columns m ≡ Some column) place at_column,
-              subst (IsSeated seat row column) last.1 is,
-            )
-          ];
+          each = each_more _ mails more mail on.done on.so_far.count more_is on.so_far.each (seat, row, column, at, at_row, at_column, is);
         };
       }
 
   pub all_seated : (seats_left : List NodeSeat) (rows_left : List (Vec Outlet Y)) (columns_left : List (Vec Inlet Z)) (mails : List Mail) →
       IsSeating seats rows columns seats_left rows_left columns_left mails → length seats_left ≡ 0 → AreSeated (length seats) seats rows columns mails
   all_seated seats_left rows_left columns_left mails on none =
-      let all : length seats ≤ on.done = all_gone seats on.done (ap length (sym on.seats_are) ∙ none) in
-      subst (λ (k : ℕ). AreSeated k seats rows columns mails) (omega (arith, all, on.within)) on.so_far
+      subst (λ (k : ℕ). AreSeated k seats rows columns mails) (gone_all seats seats_left on.done on.seats_are none on.within) on.so_far
 
 -- ---- seats and links at the start
 
@@ -122,11 +97,6 @@ no_count (suc m) (suc k) = no_count m k
 none_taken : (m : ℕ) → take {A = BatchView} m [] ≡ []
 none_taken zero = refl
 none_taken (suc m) = refl
-
-no_halt : (halt : Halt) → halt_word halt ≡ 0 → halt ≡ Running
-no_halt Running e = refl
-no_halt Ended e = absurd (omega (arith, e))
-no_halt (Failed node) e = absurd (omega (arith, e))
 
 new_out : (capacity : ℕ) (outlet : Outlet) (inlet : Inlet) → IsLaid capacity outlet inlet → offered outlet ≡ []
 new_out capacity outlet inlet laid = (λ i. laid.nothing.0 i ++ in_hand (laid.empty.0 i))
@@ -182,7 +152,7 @@ module _ {Y Z : Type 0} (capacity n : ℕ) (rows : List (Vec Outlet Y)) (columns
         let start = is_fresh k got.0 got.3 in
         record {
           black = ap (λ (s : NodeSeat). s.black) is.seat_is ∙ ap (λ (s : Stand). s.black) (sym start);
-          running = ap (λ (s : NodeSeat). s.halt) is.seat_is ∙ no_halt got.0.halt (ap (λ (s : Stand). s.halt) (sym start));
+          running = ap (λ (s : NodeSeat). s.halt) is.seat_is ∙ same_halt got.0.halt Running (ap (λ (s : Stand). s.halt) (sym start));
           unsent = λ to outlet there.
               let laid = out_laid are k to outlet (got.1, got.4, ap (λ (l : List Outlet). slice_get l to) (sym is.outlets) ∙ there) in
               (new_out capacity outlet laid.0 laid.1, laid.1.empty.0, laid.1.room);

@@ -11,10 +11,9 @@ use Rattle.dob_share.specs.Owners.{owner_of}
 use Rattle.dob_update.specs.Batches.{BatchView}
 use Rattle.dob_board.specs.declared.board.Board.{Board}
 use Rattle.dob_board.specs.declared.board.Closed.{Closed}
-use Rattle.dob_board.specs.declared.halt.Halt.{Halt}
 use Rattle.dob_board.specs.declared.halt.Halt.TheVariants.{Running, Ended, Failed}
 use Rattle.dob_board.specs.Words.{posted_word, halt_word}
-use Rattle.dob_board.specs.Seats.{AreWords, IsSeatOf}
+use Rattle.dob_board.specs.Seats.{AreWords}
 use Rattle.dob_chan.specs.declared.calls.Rejoined.{Rejoined}
 use Rattle.dob_chan.specs.Ends.{sent_by, taken_by}
 use Rattle.dob_node.specs.declared.cause.Cause.{Cause}
@@ -30,7 +29,7 @@ use Rattle.dob_run.specs.declared.finishing.Built.{Built}
 use Rattle.dob_run.specs.Hands.{in_hand}
 use Rattle.dob_run.specs.Links.{offered, worked}
 use Rattle.dob_run.specs.Mails.{AreOut}
-use Rattle.dob_run.specs.Closing.{AreLinked, seat_in, IsCrew, HasEnded}
+use Rattle.dob_run.specs.Closing.{seat_in, IsCrew, HasEnded}
 use Rattle.dob_run.specs.Ending.{IsJoined}
 use Rattle.dob_run.specs.Manned.{mail_of, node_of}
 use Rattle.dob_run.specs.Turned.{IsFirstFailed}
@@ -40,31 +39,18 @@ use Rattle.dob_run.specs.Finished.{AreJoinedBy, AreFinished, AreShown}
 use Rattle.dob_run.specs.Finishing.{HaveStopped, IsFailure, IsFailureOf, failed_of, IsOwner, AreOwners, AreShownBelow}
 use Rattle.dob_run.proofs.Finished.{nothing_of, finished_right}
 use Rattle.dob_run.proofs.Keeping.{same_halt}
+use Rattle.dob_run.proofs.Manned.{seat_there, are_linked, seat_at, crew_many, crew_low, outlet_at, inlet_at}
 use Rattle.dob_run.proofs.Needed.{needed_fits}
 use Rattle.dob_run.proofs.Openings.{some_openings}
-use Rattle.dob_run.proofs.Parting.{get_map, map_got, some_at, count_is}
-use Rattle.dob_run.proofs.Places.{inside}
+use Rattle.dob_run.proofs.Places.{get_map, map_got, some_at}
 use Rattle.dob_run.proofs.Shown.{owner_is}
 
 -- ---- the words
 
 module _ (board : Board) (set : PieceSet) (size : ℕ) (runners : List Runner) (words : List ℕ) (crew : IsCrew board (map mail_of runners))
     (stopped : HaveStopped set size runners) (are : AreWords board.nodes (map seat_in (map mail_of runners)) words) where
-  seat_there : (k : ℕ) (runner : Runner) → slice_get runners k ≡ Some runner →
-      slice_get (map seat_in (map mail_of runners)) k ≡ Some runner.mail.seat
-  seat_there k runner at = get_map seat_in (map mail_of runners) k runner.mail (get_map mail_of runners k runner at)
-
-  seat_at : (k : ℕ) (runner : Runner) → slice_get runners k ≡ Some runner → IsSeatOf board.rest.table_id board.nodes k runner.mail.seat
-  seat_at k runner at = crew.seats.seats_are k runner.mail.seat (seat_there k runner at)
-
-  many : length runners ≡ board.nodes
-  many = sym (length-map runners mail_of) ∙ count_is board (map mail_of runners) crew
-
-  low : (k : ℕ) (runner : Runner) → slice_get runners k ≡ Some runner → k < board.nodes
-  low k runner at = omega (arith, inside runners runner k at, many)
-
   there : (k : ℕ) → k < board.nodes → (runner : Runner) × (slice_get runners k ≡ Some runner)
-  there k within = some_at runners k (omega (arith, within, many))
+  there k within = some_at runners k (omega (arith, within, crew_many board runners crew))
 
   -- the piece set of the first of them is that of all
   pub set_same : (s : PieceSet) → ((runner : Runner) → slice_get runners 0 ≡ Some runner → s ≡ runner.set) → s ≡ set
@@ -72,18 +58,13 @@ module _ (board : Board) (set : PieceSet) (size : ℕ) (runners : List Runner) (
 
   -- each seat knows the halt that the words say
   halt_is : (k : ℕ) (runner : Runner) → slice_get runners k ≡ Some runner → halt_word runner.mail.seat.halt ≡ slice_index words 2
-  halt_is k runner at = sym (are.halt_seen k runner.mail.seat (seat_there k runner at) (stopped.each k runner at).halted)
-
-  no_run : (halt : Halt) → halt ≢ Running → halt_word halt ≢ 0
-  no_run Running running e = running refl
-  no_run Ended running e = omega (arith, e)
-  no_run (Failed node) running e = omega (arith, e)
+  halt_is k runner at = sym (are.halt_seen k runner.mail.seat (seat_there runners k runner at) (stopped.each k runner at).halted)
 
   -- which isn't that the run goes on
   pub not_running : slice_index words 2 ≢ 0
   not_running none =
       let runner = there 0 board.some in
-      no_run runner.0.mail.seat.halt (stopped.each 0 runner.0 runner.1).halted (halt_is 0 runner.0 runner.1 ∙ none)
+      (stopped.each 0 runner.0 runner.1).halted (same_halt runner.0.mail.seat.halt Running (halt_is 0 runner.0 runner.1 ∙ none))
 
   -- ---- a run that failed
 
@@ -99,8 +80,8 @@ module _ (board : Board) (set : PieceSet) (size : ℕ) (runners : List Runner) (
     pub some_cause : (why : Cause) × (slice_get causes node ≡ Some (Some why))
     some_cause =
         let runner : Runner = culprit.0 in
-        let halt : runner.mail.seat.halt ≡ Failed node = are.failed node runner.mail.seat (seat_there node runner culprit.1) failed in
-        let why = some_of runner.failed (runner.own (halt ∙ ap Failed (sym (seat_at node runner culprit.1).node))) in
+        let halt : runner.mail.seat.halt ≡ Failed node = are.failed node runner.mail.seat (seat_there runners node runner culprit.1) failed in
+        let why = some_of runner.failed (runner.own (halt ∙ ap Failed (sym (seat_at board runners crew node runner culprit.1).node))) in
         (why.0, ap (λ (l : List (Option Cause)). slice_get l node) causes_are ∙ get_map failed_of runners node runner culprit.1 ∙ ap Some why.1)
 
     pub is_failure : (why : Cause) → slice_get causes node ≡ Some (Some why) → IsFailure runners node why
@@ -139,22 +120,22 @@ module _ (board : Board) (set : PieceSet) (size : ℕ) (runners : List Runner) (
         subst (λ (p : PieceSet × ℕ). IsLawful p.0 p.1 runner.node runner.mail) (λ q. (is.set_is q, is.size_is q)) (law_own k runner at)
 
     white : (k : ℕ) (runner : Runner) → slice_get runners k ≡ Some runner → runner.mail.seat.black ≡ false
-    white k runner at = are.all_white ended k runner.mail.seat (seat_there k runner at)
+    white k runner at = are.all_white ended k runner.mail.seat (seat_there runners k runner at)
 
     rest : (k : ℕ) (runner : Runner) → slice_get runners k ≡ Some runner → IsIdle runner.node × AreOut runner.mail.outlets.items
     rest k runner at = (law k runner at).white (white k runner at)
 
     id_is : (k : ℕ) (runner : Runner) → slice_get runners k ≡ Some runner → runner.node.id ≡ k
-    id_is k runner at = (law k runner at).of.1 ∙ (seat_at k runner at).node
+    id_is k runner at = (law k runner at).of.1 ∙ (seat_at board runners crew k runner at).node
 
     n_is : (k : ℕ) (runner : Runner) → slice_get runners k ≡ Some runner → runner.node.n ≡ board.nodes
-    n_is k runner at = (law k runner at).of.2 ∙ (seat_at k runner at).nodes
+    n_is k runner at = (law k runner at).of.2 ∙ (seat_at board runners crew k runner at).nodes
 
     -- the nodes own their classes
     pub owners_are : (nodes : List Node) → nodes ≡ map node_of runners → AreOwners set (length nodes) nodes
     owners_are nodes is k node at =
         let got = map_got node_of runners k node (ap (λ (l : List Node). slice_get l k) (sym is) ∙ at) in
-        let count : board.nodes ≡ length nodes = sym (ap length is ∙ length-map runners node_of ∙ many) in
+        let count : board.nodes ≡ length nodes = sym (ap length is ∙ length-map runners node_of ∙ crew_many board runners crew) in
         let owner = owner_is set size board.nodes k got.0.node got.0.mail (law k got.0 got.1) (id_is k got.0 got.1) (n_is k got.0 got.1) in
         subst (λ (m : ℕ). IsOwner set m k node) count (subst (λ (x : Node). IsOwner set board.nodes k x) got.2 owner)
 
@@ -162,7 +143,7 @@ module _ (board : Board) (set : PieceSet) (size : ℕ) (runners : List Runner) (
     shown_by : (nodes : List Node) (values : List Value) → nodes ≡ map node_of runners →
         AreShownBelow (length nodes) (classes_of set) nodes values → AreShown set board.nodes runners values
     shown_by nodes values is shown =
-        let count : length nodes ≡ board.nodes = ap length is ∙ length-map runners node_of ∙ many in
+        let count : length nodes ≡ board.nodes = ap length is ∙ length-map runners node_of ∙ crew_many board runners crew in
         let by_nodes : AreShownBelow board.nodes (classes_of set) (map node_of runners) values =
         subst (λ (p : ℕ × List Node). AreShownBelow p.0 (classes_of set) p.1 values) (λ q. (count q, is q)) shown in
         record {
@@ -170,38 +151,28 @@ module _ (board : Board) (set : PieceSet) (size : ℕ) (runners : List Runner) (
           each = λ class value runner at owns. by_nodes.each class value runner.node at (get_map node_of runners (owner_of board.nodes class) runner owns);
         }
 
-    linked : (i j : ℕ) (sender taker : Runner) (outlet : Outlet) (inlet : Inlet) → AreJoinedBy runners i j sender taker outlet inlet →
-        AreLinked (map mail_of runners) i j outlet inlet
-    linked i j sender taker outlet inlet joined = record {
-      sender = sender.mail;
-      taker = taker.mail;
-      sends = get_map mail_of runners i sender joined.sends;
-      takes = get_map mail_of runners j taker joined.takes;
-      out = joined.out;
-      into = joined.into;
-    }
-
     -- as many batches were posted as were taken
     counts : (i j : ℕ) (sender taker : Runner) → slice_get runners i ≡ Some sender → slice_get runners j ≡ Some taker →
         slice_index sender.mail.seat.posted.items j ≡ slice_index taker.mail.seat.taken.items i
     counts i j sender taker at_i at_j =
-        sym (are.posted i j sender.mail.seat (seat_there i sender at_i) (low j taker at_j))
-        ∙ are.all_taken ended i j (low i sender at_i) (low j taker at_j)
-        ∙ are.taken j i taker.mail.seat (seat_there j taker at_j) (low i sender at_i)
+        sym (are.posted i j sender.mail.seat (seat_there runners i sender at_i) (crew_low board runners crew j taker at_j))
+        ∙ are.all_taken ended i j (crew_low board runners crew i sender at_i) (crew_low board runners crew j taker at_j)
+        ∙ are.taken j i taker.mail.seat (seat_there runners j taker at_j) (crew_low board runners crew i sender at_i)
 
     module _ (left : Left) (words_are : words ≡ left.closed.words.items) (has : HasEnded board.nodes (map mail_of runners) left) where
       pub finished : AreFinished set board.nodes runners
       finished = record {
-        count = many;
+        count = crew_many board runners crew;
         each = λ k runner at. record {
-          seat = ((seat_at k runner at).node, (seat_at k runner at).nodes);
+          seat = ((seat_at board runners crew k runner at).node, (seat_at board runners crew k runner at).nodes);
           set_is = (stopped.each k runner at).set_is;
           lawful = law_own k runner at;
         };
         white = white;
         counts = λ i j sender taker outlet inlet joined. counts i j sender taker joined.sends joined.takes;
         channels = λ i j sender taker outlet inlet joined.
-            let link = has.links i j outlet inlet (linked i j sender taker outlet inlet joined) in (link.0.waiting.items, link.2.lawful);
+            let links = are_linked runners i j sender taker outlet inlet joined.sends joined.takes joined.out joined.into in
+            let link = has.links i j outlet inlet links in (link.0.waiting.items, link.2.lawful);
       }
 
       link_is : (values : List Value) → AreShown set board.nodes runners values →
@@ -219,10 +190,10 @@ module _ (board : Board) (set : PieceSet) (size : ℕ) (runners : List Runner) (
       }
         where
           low_i : i < board.nodes
-          low_i = low i sender joined.sends
+          low_i = crew_low board runners crew i sender joined.sends
 
           low_j : j < board.nodes
-          low_j = low j taker joined.takes
+          low_j = crew_low board runners crew j taker joined.takes
 
           -- nothing lies in the sending hand
           empty : outlet.hand ≡ None
@@ -235,7 +206,7 @@ module _ (board : Board) (set : PieceSet) (size : ℕ) (runners : List Runner) (
           is_sent = is.sent ∙ ap length (sym offered_is)
 
           posted : slice_index words (posted_word board.nodes i j) ≡ link.sent
-          posted = are.posted i j sender.mail.seat (seat_there i sender joined.sends) low_j ∙ sender.mail.posted j outlet joined.out ∙ sym is_sent
+          posted = are.posted i j sender.mail.seat (seat_there runners i sender joined.sends) low_j ∙ sender.mail.posted j outlet joined.out ∙ sym is_sent
 
           same : length (worked inlet) ≡ length (sent_by outlet.end)
           same = sym (taker.mail.taken i inlet joined.into) ∙ sym (counts i j sender taker joined.sends joined.takes)
@@ -267,11 +238,11 @@ module _ (board : Board) (set : PieceSet) (size : ℕ) (runners : List Runner) (
             links = λ i j low_i low_j.
                 let from = there i low_i in
                 let to = there j low_j in
-                let outlet = some_at from.0.mail.outlets.items j (omega (arith, from.0.mail.outlets_len, (seat_at i from.0 from.1).nodes, low_j)) in
-                let inlet = some_at to.0.mail.inlets.items i (omega (arith, to.0.mail.inlets_len, (seat_at j to.0 to.1).nodes, low_i)) in
+                let outlet = outlet_at board runners crew i j from.0 from.1 low_j in
+                let inlet = inlet_at board runners crew i j to.0 to.1 low_i in
                 let joined : AreJoinedBy runners i j from.0 to.0 outlet.0 inlet.0 =
                 record { sends = from.1; takes = to.1; out = outlet.1; into = inlet.1 } in
-                let link = has.links i j outlet.0 inlet.0 (linked i j from.0 to.0 outlet.0 inlet.0 joined) in (
+                let link = has.links i j outlet.0 inlet.0 (are_linked runners i j from.0 to.0 outlet.0 inlet.0 from.1 to.1 outlet.1 inlet.1) in (
                   link.0,
                   ap (λ (v : Vec Rejoined Global). slice_get v.items (i * board.nodes + j)) links ∙ link.1,
                   subst (λ (l : List ℕ). IsDone set board.nodes size l values i j link.0) items

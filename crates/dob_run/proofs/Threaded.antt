@@ -14,16 +14,13 @@ use Rattle.dob_run.specs.declared.turns.Until.{Until}
 use Rattle.dob_run.specs.declared.turns.Until.TheVariants.{Turns, Stopped}
 use Rattle.dob_run.specs.Started.{IsStartOf, IsEndOf}
 use Rattle.dob_run.specs.Turns.{IsThrough, Ends}
+use Rattle.dob_run.proofs.Places.{middle}
 
 zip_one : {X Y : Type 0} → (R : X → Y → Type 0) (xs : List X) (ys : List Y) (x : X) (y : Y) → AllZip R xs ys → R x y → AllZip R (xs ++ x ∷ []) (ys ++ y ∷ [])
 zip_one R [] [] x y are is = (is, tt)
 zip_one R [] (b ∷ ys) x y are is = absurd are
 zip_one R (a ∷ xs) [] x y are is = absurd are
 zip_one R (a ∷ xs) (b ∷ ys) x y are is = (are.0, zip_one R xs ys x y are.1 is)
-
-middle : {X : Type 0} → (gone after : List X) (x : X) → slice_get (gone ++ x ∷ after) (length gone) ≡ Some x
-middle [] after x = refl
-middle (y ∷ gone) after x = middle gone after x
 
 -- Of all things some went, each with its answer, and these are left.
 pub record AreGoing {X Y : Type 0} (R : X → Y → Type 0) (all left : List X) (answers : List Y) : Type 0 where

@@ -1,5 +1,5 @@
 -- Why no crew is opened, and why one leaves nothing.
-use Rattle.std.specs.Prelude.{⊤, ℕ, ◌<◌, ◌≤◌}
+use Rattle.std.specs.Prelude.{ℕ, ◌<◌, ◌≤◌}
 use Rattle.dob_pieces.specs.declared.piece_set.PieceSet.{PieceSet}
 use Rattle.dob_rank.specs.Limits.{IsSmall}
 use Rattle.dob_safra.specs.Laws.{IsSize}
@@ -30,26 +30,18 @@ IsNoCrew n batch capacity SetTooLarge = ⊥
 IsNoCrew n batch capacity (Stopped node why) = ⊥
 IsNoCrew n batch capacity Memory = AreWithin n batch capacity
 
--- the set is too large, or else the first of the sizes that is outside its limits
-abbrev pub IsOverLimit : PieceSet → ℕ → ℕ → ℕ → Fault → Type 0
-IsOverLimit set n batch capacity SetTooLarge = ¬ IsSmall set
-IsOverLimit set n batch capacity Nodes = IsSmall set × IsOutside n batch capacity Nodes
-IsOverLimit set n batch capacity Sizes = IsSmall set × IsOutside n batch capacity Sizes
-IsOverLimit set n batch capacity (Stopped node why) = ⊥
-IsOverLimit set n batch capacity Memory = ⊥
+-- why no crew of the piece set is run: the set is too large, or where it isn't no crew is opened
+abbrev pub IsNotBegun : PieceSet → ℕ → ℕ → ℕ → Fault → Type 0
+IsNotBegun set n batch capacity SetTooLarge = ¬ IsSmall set
+IsNotBegun set n batch capacity Nodes = IsSmall set × IsNoCrew n batch capacity Nodes
+IsNotBegun set n batch capacity Sizes = IsSmall set × IsNoCrew n batch capacity Sizes
+IsNotBegun set n batch capacity (Stopped node why) = ⊥
+IsNotBegun set n batch capacity Memory = IsSmall set × IsNoCrew n batch capacity Memory
 
--- a node has stopped, or memory is refused
-abbrev pub IsStop : ℕ → Fault → Type 0
-IsStop n (Stopped node why) = node < n
-IsStop n Memory = ⊤
-IsStop n SetTooLarge = ⊥
-IsStop n Nodes = ⊥
-IsStop n Sizes = ⊥
-
--- why a crew leaves nothing: a limit is passed, or where none is a node has stopped or memory is refused
+-- why a crew leaves nothing: none is run, or one of its nodes has stopped
 abbrev pub IsRefused : PieceSet → ℕ → ℕ → ℕ → Fault → Type 0
-IsRefused set n batch capacity SetTooLarge = IsOverLimit set n batch capacity SetTooLarge
-IsRefused set n batch capacity Nodes = IsOverLimit set n batch capacity Nodes
-IsRefused set n batch capacity Sizes = IsOverLimit set n batch capacity Sizes
+IsRefused set n batch capacity SetTooLarge = IsNotBegun set n batch capacity SetTooLarge
+IsRefused set n batch capacity Nodes = IsNotBegun set n batch capacity Nodes
+IsRefused set n batch capacity Sizes = IsNotBegun set n batch capacity Sizes
 IsRefused set n batch capacity (Stopped node why) = IsSmall set × AreWithin n batch capacity × (node < n)
-IsRefused set n batch capacity Memory = IsSmall set × AreWithin n batch capacity
+IsRefused set n batch capacity Memory = IsNotBegun set n batch capacity Memory

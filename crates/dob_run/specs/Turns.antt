@@ -1,10 +1,15 @@
 -- What runners need to make turns, and what they are afterwards.
 use Rattle.std.specs.Prelude.{◌≡◌, ◌≢◌, ⊤, ℕ, List, None, Some, slice_get}
+use Rattle.std.specs.List.{AllZip}
 use Rattle.dob_pieces.specs.declared.piece_set.PieceSet.{PieceSet}
+use Rattle.dob_rank.specs.Limits.{IsSmall}
+use Rattle.dob_board.specs.declared.board.Board.{Board}
 use Rattle.dob_board.specs.declared.halt.Halt.TheVariants.{Running}
 use Rattle.dob_run.specs.declared.runner.Runner.{Runner}
 use Rattle.dob_run.specs.declared.turns.Until.{Until}
 use Rattle.dob_run.specs.declared.turns.Until.TheVariants.{Turns, Stopped}
+use Rattle.dob_run.specs.Manned.{IsNewCrew}
+use Rattle.dob_run.specs.Refused.{AreWithin}
 use Rattle.dob_run.specs.Runners.{KeepsRunner}
 
 -- the runner can work with the classes of that piece set
@@ -24,3 +29,11 @@ IsThrough Stopped runner = runner.mail.seat.halt ≢ Running
 -- it keeps its place in its crew, and has
 abbrev pub Ends : Until → Runner → Runner → Type 0
 Ends until old new = KeepsRunner old new × IsThrough until new
+
+-- The runners of a new crew of the piece set, of sizes within their limits, were to make turns for so long, and have.
+pub record HasRun (until : Until) (set : PieceSet) (n size capacity : ℕ) (board : Board) (ended : List Runner) : Type 0 where
+  pub small : IsSmall set
+  pub within : AreWithin n size capacity
+  pub old : List Runner
+  pub opened : IsNewCrew set n size capacity board old
+  pub ends : AllZip (Ends until) old ended

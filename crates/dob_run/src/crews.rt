@@ -48,10 +48,8 @@ pub fn crew(
     }
 }
 
-/// A crew as above, of sizes within their limits.
-///
-/// Error: `Memory`.
-pub(crate) fn open_crew(
+// A crew as above, of sizes within their limits.
+fn open_crew(
     alloc: Global,
     classes: &Classes,
     n: usize,
@@ -62,26 +60,26 @@ pub(crate) fn open_crew(
     ensures { IfOk result (λ opened. IsNewCrew classes.now.set n batch capacity opened.0 opened.1.items) }
 {
     let openings = opening(alloc, classes)?;
-    crew_of(alloc, classes.set, &openings, n, batch, capacity)
+    crew_of(alloc, classes.set, openings, n, batch, capacity)
 }
 
-/// A crew as above, by what was found of each class of the piece set.
+/// A crew as above, by what was found of each class of the piece set, which is given up.
 ///
 /// Error: `Memory`.
 pub(crate) fn crew_of(
     alloc: Global,
     set: PieceSet,
-    openings: &[Opening],
+    openings: Vec<Opening>,
     n: usize,
     batch: usize,
     capacity: usize,
 ) -> Result<(Board, Vec<Runner>), Memory>
-    requires openings { AreOpenings set openings.now }
+    requires openings { AreOpenings set openings.items }
     requires within { AreWithin n batch capacity }
     ensures { IfOk result (λ opened. IsNewCrew set n batch capacity opened.0 opened.1.items) }
 {
     let (board, mails) = open_mails(alloc, n, capacity)?;
-    let runners = man_all(alloc, set, openings, mails, batch)?;
+    let runners = man_all(alloc, set, &openings, mails, batch)?;
     Ok((board, runners))
 }
 

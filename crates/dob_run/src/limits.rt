@@ -1,11 +1,12 @@
 // The limits of what a crew is opened for.
-ghost use Rattle.std.specs.Prelude.{IfSome, IfNone};
+ghost use Rattle.std.specs.Prelude.{◌≡◌, IfSome, IfNone, IfOk, IfErr, OnOk};
 ghost use Rattle.dob_rank.specs.Limits.{IsSmall};
-ghost use Rattle.dob_run.specs.Refused.{AreWithin, IsOutside, IsOverLimit};
+ghost use Rattle.dob_run.specs.Refused.{AreWithin, IsOutside, IsNotBegun};
 
 use crate::fault::Fault;
 use dob_pieces::PieceSet;
-use dob_rank::MOST_PIECES;
+use dob_rank::{Classes, MOST_PIECES};
+use std::alloc::Global;
 
 /// Which limit these sizes of a crew pass: `Nodes` where `n` isn't 1 to 16, else `Sizes` where `batch` isn't 1 to 4096 or
 /// `capacity` not 1 to 1024.
@@ -22,14 +23,29 @@ pub(crate) fn size_passed(n: usize, batch: usize, capacity: usize) -> Option<Fau
     None
 }
 
-/// Which limit a build of the piece set passes with these sizes: `SetTooLarge` where the set has more than `MOST_PIECES`
-/// besides the lions, else that of the sizes.
-pub(crate) fn limit_passed(set: PieceSet, n: usize, batch: usize, capacity: usize) -> Option<Fault>
-    ensures within { IfNone result (IsSmall set × AreWithin n batch capacity) }
-    ensures passed { IfSome result (IsOverLimit set n batch capacity) }
+/// The classes of the piece set, where a crew of these sizes may own them.
+///
+/// Errors, tested in this order: `SetTooLarge` where the set has more than `MOST_PIECES` besides the lions; the limit that the
+/// sizes pass; `Memory`.
+pub(crate) fn classes_within(
+    alloc: Global,
+    set: PieceSet,
+    n: usize,
+    batch: usize,
+    capacity: usize,
+) -> Result<Classes, Fault>
+    ensures set { IfOk result (λ classes. classes.set ≡ set) }
+    ensures within { OnOk result (IsSmall set × AreWithin n batch capacity) }
+    ensures refused { IfErr result (IsNotBegun set n batch capacity) }
 {
     if set.chicks + set.elephants + set.giraffes > MOST_PIECES {
-        return Some(Fault::SetTooLarge);
+        return Err(Fault::SetTooLarge);
     }
-    size_passed(n, batch, capacity)
+    if let Some(fault) = size_passed(n, batch, capacity) {
+        return Err(fault);
+    }
+    match Classes::open(alloc, set) {
+        Ok(classes) => Ok(classes),
+        Err(_) => Err(Fault::Memory),
+    }
 }

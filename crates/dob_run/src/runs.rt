@@ -2,23 +2,20 @@
 ghost use Rattle.std.specs.Prelude.{◌≡◌, ◌<◌, ◌≤◌, IfOk, IfErr, OnOk, map, length, Some, slice_get};
 ghost use Rattle.dob_run.specs.Closing.{IsCrew, row_of};
 ghost use Rattle.dob_run.specs.Manned.{mail_of, node_of};
-ghost use Rattle.dob_run.specs.Refused.{AreWithin, IsRefused, IsStop};
+ghost use Rattle.dob_run.specs.Refused.{IsRefused};
 ghost use Rattle.dob_run.specs.Turned.{IsTurned, AreUnfailed, IsFirstFailed, StopsSo, AreWorkers, HasLeft};
 
 use crate::closing::{Ended, close_mails};
-use crate::crews::open_crew;
 use crate::fault::Fault;
 use crate::gate::Gate;
-use crate::limits::limit_passed;
 use crate::mail::Mail;
 use crate::runner::Runner;
-use crate::threads::run_each;
+use crate::threads::run_crew;
 use crate::turns::Until;
 use dob_board::{Board, Closed};
 use dob_chan::Rejoined;
 use dob_node::{Cause, Node};
 use dob_pieces::{Memory, PieceSet};
-use dob_rank::Classes;
 use dob_update::Batch;
 use std::alloc::Global;
 use std::sync::Wait;
@@ -45,9 +42,7 @@ pub struct Turned {
 /// and channels that hold at most `capacity` batches, and without the halt word and the token: each asks the gate at the
 /// start of each turn. One that fails ends, and the others make their turns. Its promises hold if it returns.
 ///
-/// Errors, tested in this order: `SetTooLarge` where the set has more than `MOST_PIECES` besides the lions; `Nodes` where `n`
-/// isn't 1 to 16; `Sizes` where `batch` isn't 1 to 4096 or `capacity` not 1 to 1024; `Stopped` with the least node that
-/// failed and its cause, which is `Memory` where no thread could be made for it; `Memory`.
+/// Errors: those of `run_nodes`, but `Stopped` with the least node that failed and its cause.
 pub fn run_turns<R: Threads + Wait + Sync, G: Gate + Sync>(
     rt: &R,
     alloc: Global,
@@ -62,33 +57,8 @@ pub fn run_turns<R: Threads + Wait + Sync, G: Gate + Sync>(
     ensures refused { IfErr result (IsRefused set n batch capacity) }
     ensures stopped { IfErr result (StopsSo IsFirstFailed set n batch capacity) }
 {
-    if let Some(fault) = limit_passed(set, n, batch, capacity) {
-        return Err(fault);
-    }
-    let Ok(classes) = Classes::open(alloc, set) else {
-        return Err(Fault::Memory);
-    };
-    turn_crew(rt, alloc, &classes, n, batch, capacity, turns, gate)
-}
-
-// A crew's turns, from its beginning to its end.
-fn turn_crew<R: Threads + Wait + Sync, G: Gate + Sync>(
-    rt: &R,
-    alloc: Global,
-    classes: &Classes,
-    n: usize,
-    batch: usize,
-    capacity: usize,
-    turns: u64,
-    gate: &G,
-) -> Result<Turned, Fault>
-    requires { AreWithin n batch capacity }
-    ensures turned { IfOk result (IsTurned classes.now.set n batch) }
-    ensures node { IfErr result (IsStop n) }
-    ensures stopped { IfErr result (StopsSo IsFirstFailed classes.now.set n batch capacity) }
-{
-    let (board, runners) = open_crew(alloc, classes, n, batch, capacity)?;
-    let ended = run_each(rt, alloc, runners, classes, gate, &Until::Turns(turns))?;
+    let until = Until::Turns(turns);
+    let (board, ended) = run_crew(rt, alloc, set, n, batch, capacity, gate, &until)?;
     find_failed(&ended)?;
     let turned = close_crew(rt, alloc, board, ended)?;
     Ok(turned)

@@ -1,14 +1,20 @@
 // A thread for each runner of a crew.
-ghost use Rattle.std.specs.Prelude.{◌≡◌, IfOk};
+ghost use Rattle.std.specs.Prelude.{◌≡◌, IfOk, IfErr};
 ghost use Rattle.std.specs.List.{AllZip};
-ghost use Rattle.dob_run.specs.Turns.{Suits, AllSuit, Ends};
+ghost use Rattle.dob_run.specs.Refused.{IsNotBegun};
+ghost use Rattle.dob_run.specs.Turns.{Suits, AllSuit, Ends, HasRun};
 ghost use Rattle.dob_run.specs.Started.{IsStartOf, IsEndOf};
 
+use crate::crews::crew_of;
+use crate::fault::Fault;
 use crate::gate::Gate;
+use crate::limits::classes_within;
 use crate::runner::Runner;
+use crate::scans::scan;
 use crate::turns::Until;
+use dob_board::Board;
 use dob_node::Cause;
-use dob_pieces::Memory;
+use dob_pieces::{Memory, PieceSet};
 use dob_rank::Classes;
 use std::alloc::Global;
 use std::snapshot::Snapshot;
@@ -35,12 +41,34 @@ pub(crate) enum Started {
     GaveUp(Runner),
 }
 
-/// Lets each runner make turns for so long, in a thread of its own, and waits for all of them. What became of each, in order.
-/// One for which no thread can be made makes no turn and fails for want of memory; the others make theirs. Its promises
-/// hold if it returns.
+/// Opens a crew of `n` nodes of the piece set, with batches of at most `batch` items and channels that hold at most `capacity`
+/// batches, and lets its runners make their turns as below. Threads find what is known of each class; that is given up before
+/// the first turn. The board, and what became of each runner. Its promises hold if it returns.
 ///
-/// Error: `Memory`, which gives the runners up.
-pub(crate) fn run_each<R: Threads + Wait + Sync, G: Gate + Sync>(
+/// Errors: those of `classes_within`; `Memory`, which gives the crew up.
+pub(crate) fn run_crew<R: Threads + Wait + Sync, G: Gate + Sync>(
+    rt: &R,
+    alloc: Global,
+    set: PieceSet,
+    n: usize,
+    batch: usize,
+    capacity: usize,
+    gate: &G,
+    until: &Until,
+) -> Result<(Board, Vec<Runner>), Fault>
+    ensures ran { IfOk result (λ ran. HasRun until.now set n batch capacity ran.0 ran.1.items) }
+    ensures refused { IfErr result (IsNotBegun set n batch capacity) }
+{
+    let classes = classes_within(alloc, set, n, batch, capacity)?;
+    let openings = scan(rt, alloc, &classes)?;
+    let (board, runners) = crew_of(alloc, set, openings, n, batch, capacity)?;
+    let ended = run_each(rt, alloc, runners, &classes, gate, until)?;
+    Ok((board, ended))
+}
+
+// Lets each runner make turns for so long, in a thread of its own, and waits for all of them. What became of each, in order.
+// One for which no thread can be made makes no turn and fails for want of memory; the others make theirs.
+fn run_each<R: Threads + Wait + Sync, G: Gate + Sync>(
     rt: &R,
     alloc: Global,
     runners: Vec<Runner>,

@@ -1,9 +1,45 @@
+use Rattle.dob_run.specs.declared.turns.Until.TheVariants.{Stopped}
 use Rattle.dob_run.specs.Finishing.{IsFailureOf}
-use Rattle.dob_run.proofs.Refusals.{over_refused, over_stops}
+use Rattle.dob_run.specs.Refused.{IsRefused}
+use Rattle.dob_run.specs.Turned.{StopsSo}
+use Rattle.dob_run.proofs.ByThreads.{still_crew, have_stopped, is_built, is_refused, is_stopped}
+use Rattle.dob_run.proofs.Refusals.{handed_on, unbegun_refused, unbegun_stops}
 use Rattle.dob_run.proofs.build.run_nodes.Goals as goal
 
-pub returns-in-Some-clause-refused : goal.returns-in-Some-clause-refused
-returns-in-Some-clause-refused g c = over_refused c.args.set c.args.n c.args.batch c.args.capacity c.in-Some.fault c.in-Some.ensures.passed
+pub returns-in_err-board-clause-refused : goal.returns-in_err-board-clause-refused
+returns-in_err-board-clause-refused g c =
+    let fault = c.in_err-board.field-0.0 in
+    handed_on (IsRefused c.args.set c.args.n c.args.batch c.args.capacity) c.from_residual.result fault c.from_residual.ensures.1
+    (unbegun_refused c.args.set c.args.n c.args.batch c.args.capacity fault c.in_err-board.ensures.refused)
 
-pub returns-in-Some-clause-stopped : goal.returns-in-Some-clause-stopped
-returns-in-Some-clause-stopped g c = over_stops IsFailureOf c.args.set c.args.n c.args.batch c.args.capacity c.in-Some.fault c.in-Some.ensures.passed
+pub returns-in_err-board-clause-stopped : goal.returns-in_err-board-clause-stopped
+returns-in_err-board-clause-stopped g c =
+    let fault = c.in_err-board.field-0.0 in
+    handed_on (StopsSo IsFailureOf c.args.set c.args.n c.args.batch c.args.capacity) c.from_residual.result fault c.from_residual.ensures.1
+    (unbegun_stops IsFailureOf c.args.set c.args.n c.args.batch c.args.capacity fault c.in_err-board.ensures.refused)
+
+pub finish-requires-clause-crew : goal.finish-requires-clause-crew
+finish-requires-clause-crew g c =
+    still_crew Stopped c.args.set c.args.n c.args.batch c.args.capacity c.in_ok-board.board c.in_ok-board.ended.items c.in_ok-board.ensures.ran
+
+pub finish-requires-clause-stopped : goal.finish-requires-clause-stopped
+finish-requires-clause-stopped g c = (
+  c.args.set,
+  c.args.batch,
+  have_stopped c.args.set c.args.n c.args.batch c.args.capacity c.in_ok-board.board c.in_ok-board.ended.items c.in_ok-board.ensures.ran,
+)
+
+pub returns-clause-built : goal.returns-clause-built
+returns-clause-built g c =
+    is_built c.args.set c.args.n c.args.batch c.args.capacity c.in_ok-board.board c.in_ok-board.ended.items c.in_ok-board.ensures.ran
+    c.finish.result c.finish.ensures.built
+
+pub returns-clause-refused : goal.returns-clause-refused
+returns-clause-refused g c =
+    is_refused c.args.set c.args.n c.args.batch c.args.capacity c.in_ok-board.board c.in_ok-board.ended.items c.in_ok-board.ensures.ran
+    c.finish.result c.finish.ensures.failed
+
+pub returns-clause-stopped : goal.returns-clause-stopped
+returns-clause-stopped g c =
+    is_stopped c.args.set c.args.n c.args.batch c.args.capacity c.in_ok-board.board c.in_ok-board.ended.items c.in_ok-board.ensures.ran
+    c.finish.result c.finish.ensures.failed

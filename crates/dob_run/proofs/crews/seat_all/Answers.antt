@@ -3,7 +3,8 @@ use Rattle.dob_run.specs.declared.hands.Outlet.{Outlet}
 use Rattle.dob_run.specs.declared.hands.Inlet.{Inlet}
 use Rattle.dob_run.specs.declared.mail.Mail.{Mail}
 use Rattle.dob_run.specs.Seating.{CanSeat, IsSeated, AreSeated}
-use Rattle.dob_run.proofs.Seated.{seating_begins, next_can, row_left, column_left, seating_goes_on, all_seated}
+use Rattle.dob_run.proofs.Seated.{seating_begins, next_can, seating_goes_on, all_seated}
+use Rattle.dob_run.proofs.Places.{thing_left}
 use Rattle.dob_run.proofs.crews.seat_all.Goals as goal
 use Rattle.dob_run.proofs.crews.seat_all.Goals.{In-Some-next-2}
 
@@ -12,10 +13,14 @@ loop-seat-init c = seating_begins c.args.seats.items c.args.rows.items c.args.co
     c.into_iter-seat-iterator.ensures.into_iter_gives.0 c.into_iter-rows_left.ensures.rest c.into_iter-columns_left.ensures.rest (search rules)
 
 pub unreachable-requires : goal.unreachable-requires
-unreachable-requires c = row_left c.args.seats.items c.args.rows.items c.args.columns.items _ _ _ _ _ c.in-Some.seat c.loop-seat.invariant c.in-Some.ensures.steps.0 c.requires (search rules)
+unreachable-requires c =
+    let inv = c.loop-seat.invariant in
+    thing_left c.args.seats.items _ _ c.in-Some.seat c.args.rows.items _ inv.done inv.seats_are c.in-Some.ensures.steps.0 inv.rows_are c.requires.rows_len (search rules)
 
 pub unreachable-requires-in_default-next : goal.unreachable-requires-in_default-next
-unreachable-requires-in_default-next c = column_left c.args.seats.items c.args.rows.items c.args.columns.items _ _ _ _ _ c.in-Some.seat c.loop-seat.invariant c.in-Some.ensures.steps.0 c.requires (search rules)
+unreachable-requires-in_default-next c =
+    let inv = c.loop-seat.invariant in
+    thing_left c.args.seats.items _ _ c.in-Some.seat c.args.columns.items _ inv.done inv.seats_are c.in-Some.ensures.steps.0 inv.columns_are c.requires.columns_len (search rules)
 
 can : (c : In-Some-next-2) → CanSeat c.in-Some.seat c.in-Some-next.outlets.items c.in-Some-next-2.inlets.items
 can c = next_can c.args.seats.items c.args.rows.items c.args.columns.items _ _ _ _ _ _ _ c.in-Some.seat c.in-Some-next.outlets c.in-Some-next-2.inlets

@@ -2,7 +2,8 @@ use Rattle.std.proofs.Common.{◌≡◌, ℕ, rules, sym, subst, List, Vec, Glob
 use Rattle.dob_chan.specs.declared.ends.SendEnd.{SendEnd}
 use Rattle.dob_chan.specs.declared.ends.TakeEnd.{TakeEnd}
 use Rattle.dob_run.specs.Ending.{AreRowJoined, AreJoined}
-use Rattle.dob_run.proofs.Rejoining.{AreOn, all_begin, all_go_on, next_rows, all_done, takers_left}
+use Rattle.dob_run.proofs.Places.{thing_left}
+use Rattle.dob_run.proofs.Rejoining.{AreOn, all_begin, all_go_on, next_rows, all_done}
 use Rattle.dob_run.proofs.rejoin.rejoin_all.Goals as goal
 
 pub loop-row-init : goal.loop-row-init
@@ -15,7 +16,8 @@ loop-row-init g c =
 
 pub unreachable-requires : goal.unreachable-requires
 unreachable-requires g c =
-    takers_left (vec_len c.args.sends) c.args.sends.items c.args.takes.items _ _ _ _ c.in-Some.row c.loop-row.invariant c.in-Some.ensures.steps.0
+    let inv = c.loop-row.invariant in
+    thing_left c.args.sends.items _ _ c.in-Some.row c.args.takes.items _ inv.done inv.senders c.in-Some.ensures.steps.0 inv.takers
     (c.requires.takers.count ∙ sym c.requires.senders.count) (search rules)
 
 pub rejoin_row-requires-clause-count : goal.rejoin_row-requires-clause-count

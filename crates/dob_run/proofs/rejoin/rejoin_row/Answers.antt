@@ -3,7 +3,8 @@ use Rattle.std.proofs.lemmas.List.{append-nil}
 use Rattle.dob_chan.specs.declared.ends.SendEnd.{SendEnd}
 use Rattle.dob_chan.specs.declared.ends.TakeEnd.{TakeEnd}
 use Rattle.dob_run.specs.Ending.{AreRowJoined}
-use Rattle.dob_run.proofs.Rejoining.{IsRowOn, row_begins, row_goes_on, next_pair, row_done, taker_left}
+use Rattle.dob_run.proofs.Places.{thing_left}
+use Rattle.dob_run.proofs.Rejoining.{IsRowOn, row_begins, row_goes_on, next_pair, row_done}
 use Rattle.dob_run.proofs.rejoin.rejoin_row.Goals as goal
 
 pub loop-send-init : goal.loop-send-init
@@ -16,7 +17,8 @@ loop-send-init g c =
 
 pub unreachable-requires : goal.unreachable-requires
 unreachable-requires g c =
-    taker_left c.args.sends.items c.args.takes.items c.args.links.now.items _ _ _ _ c.in-Some.send c.loop-send.invariant c.in-Some.ensures.steps.0 (search rules) (search rules)
+    let inv = c.loop-send.invariant in
+    thing_left c.args.sends.items _ _ c.in-Some.send c.args.takes.items _ inv.done inv.senders c.in-Some.ensures.steps.0 inv.takers (search rules) (search rules)
 
 pub rejoin_one-requires : goal.rejoin_one-requires
 rejoin_one-requires g c =

@@ -1,5 +1,5 @@
 use Rattle.std.proofs.Common.{rules, sym}
-use Rattle.dob_run.proofs.Parting.{some_at}
+use Rattle.dob_run.proofs.Places.{some_at}
 use Rattle.dob_run.proofs.runs.find_failed.Goals as goal
 
 pub returns-in-Some-clause-first : goal.returns-in-Some-clause-first

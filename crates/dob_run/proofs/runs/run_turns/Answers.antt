@@ -1,9 +1,45 @@
-use Rattle.dob_run.specs.Turned.{IsFirstFailed}
-use Rattle.dob_run.proofs.Refusals.{over_refused, over_stops}
+use Rattle.std.proofs.Common.{List, subst}
+use Rattle.dob_run.specs.declared.runner.Runner.{Runner}
+use Rattle.dob_run.specs.declared.turns.Until.TheVariants.{Turns}
+use Rattle.dob_run.specs.Refused.{IsRefused}
+use Rattle.dob_run.specs.Turned.{AreUnfailed, IsFirstFailed, StopsSo}
+use Rattle.dob_run.proofs.ByThreads.{still_crew, first_refused, first_stops, has_turned}
+use Rattle.dob_run.proofs.Refusals.{handed_on, unbegun_refused, unbegun_stops}
 use Rattle.dob_run.proofs.runs.run_turns.Goals as goal
 
-pub returns-in-Some-clause-refused : goal.returns-in-Some-clause-refused
-returns-in-Some-clause-refused g c = over_refused c.args.set c.args.n c.args.batch c.args.capacity c.in-Some.fault c.in-Some.ensures.passed
+pub returns-in_err-board-clause-refused : goal.returns-in_err-board-clause-refused
+returns-in_err-board-clause-refused g c =
+    let fault = c.in_err-board.field-0.0 in
+    handed_on (IsRefused c.args.set c.args.n c.args.batch c.args.capacity) c.from_residual.result fault c.from_residual.ensures.1
+    (unbegun_refused c.args.set c.args.n c.args.batch c.args.capacity fault c.in_err-board.ensures.refused)
 
-pub returns-in-Some-clause-stopped : goal.returns-in-Some-clause-stopped
-returns-in-Some-clause-stopped g c = over_stops IsFirstFailed c.args.set c.args.n c.args.batch c.args.capacity c.in-Some.fault c.in-Some.ensures.passed
+pub returns-in_err-board-clause-stopped : goal.returns-in_err-board-clause-stopped
+returns-in_err-board-clause-stopped g c =
+    let fault = c.in_err-board.field-0.0 in
+    handed_on (StopsSo IsFirstFailed c.args.set c.args.n c.args.batch c.args.capacity) c.from_residual.result fault c.from_residual.ensures.1
+    (unbegun_stops IsFirstFailed c.args.set c.args.n c.args.batch c.args.capacity fault c.in_err-board.ensures.refused)
+
+pub returns-in_err-find_failed-clause-refused : goal.returns-in_err-find_failed-clause-refused
+returns-in_err-find_failed-clause-refused g c =
+    let fault = c.in_err-find_failed.field-0.0 in
+    handed_on (IsRefused c.args.set c.args.n c.args.batch c.args.capacity) c.from_residual-in_err-find_failed.result fault
+    c.from_residual-in_err-find_failed.ensures.1
+    (first_refused (Turns c.args.turns) c.args.set c.args.n c.args.batch c.args.capacity c.in_ok-board.board c.in_ok-board.ended.items c.in_ok-board.ensures.ran
+    fault (subst (λ (l : List Runner). IsFirstFailed l fault) c.deref.ensures.value c.in_err-find_failed.ensures.first))
+
+pub returns-in_err-find_failed-clause-stopped : goal.returns-in_err-find_failed-clause-stopped
+returns-in_err-find_failed-clause-stopped g c =
+    let fault = c.in_err-find_failed.field-0.0 in
+    handed_on (StopsSo IsFirstFailed c.args.set c.args.n c.args.batch c.args.capacity) c.from_residual-in_err-find_failed.result fault
+    c.from_residual-in_err-find_failed.ensures.1
+    (first_stops (Turns c.args.turns) c.args.set c.args.n c.args.batch c.args.capacity c.in_ok-board.board c.in_ok-board.ended.items c.in_ok-board.ensures.ran
+    fault (subst (λ (l : List Runner). IsFirstFailed l fault) c.deref.ensures.value c.in_err-find_failed.ensures.first))
+
+pub close_crew-requires : goal.close_crew-requires
+close_crew-requires g c = still_crew (Turns c.args.turns) c.args.set c.args.n c.args.batch c.args.capacity c.in_ok-board.board c.in_ok-board.ended.items
+    c.in_ok-board.ensures.ran
+
+pub returns-clause-turned : goal.returns-clause-turned
+returns-clause-turned g c =
+    has_turned (Turns c.args.turns) c.args.set c.args.n c.args.batch c.args.capacity c.in_ok-board.board c.in_ok-board.ended.items c.in_ok-board.ensures.ran
+    c.in_ok-turned.turned (subst (λ (l : List Runner). AreUnfailed l) c.deref.ensures.value c.in_ok-find_failed.ensures.going) c.in_ok-turned.ensures

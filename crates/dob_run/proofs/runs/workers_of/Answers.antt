@@ -1,5 +1,6 @@
 use Rattle.std.proofs.Common.{rules, refl}
-use Rattle.dob_run.proofs.Leaving.{manning_begins, manning_goes_on, all_manned, thing_left}
+use Rattle.dob_run.proofs.Leaving.{manning_begins, manning_goes_on, all_manned}
+use Rattle.dob_run.proofs.Places.{thing_left}
 use Rattle.dob_run.proofs.runs.workers_of.Goals as goal
 
 pub loop-node-init : goal.loop-node-init
