@@ -1,8 +1,9 @@
 // A build by threads, from a piece set to its table.
-ghost use Rattle.std.specs.Prelude.{IfOk, IfErr};
+ghost use Rattle.std.specs.Prelude.{IfOk, IfErr, OnOk};
+ghost use Rattle.dob_rank.specs.Limits.{IsSmall};
 ghost use Rattle.dob_run.specs.Built.{IsBuilt};
 ghost use Rattle.dob_run.specs.Finishing.{IsFailureOf};
-ghost use Rattle.dob_run.specs.Refused.{IsRefused};
+ghost use Rattle.dob_run.specs.Refused.{AreWithin, IsRefused};
 ghost use Rattle.dob_run.specs.Turned.{StopsSo};
 
 use crate::fault::Fault;
@@ -32,6 +33,7 @@ pub fn run_nodes<R: Threads + Wait + Sync, G: Gate + Sync>(
     gate: &G,
 ) -> Result<Built, Fault>
     ensures built { IfOk result (IsBuilt set n batch) }
+    ensures within { OnOk result (IsSmall set × AreWithin n batch capacity) }
     ensures refused { IfErr result (IsRefused set n batch capacity) }
     ensures stopped { IfErr result (StopsSo IsFailureOf set n batch capacity) }
 {
