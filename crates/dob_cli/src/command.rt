@@ -3,7 +3,8 @@
 // A further subcommand, as `probe --db FILE POSITION`, has
 // - a form in specs/Forms.antt, also in `forms`, and the name of what it asks for at the end of specs/Words.antt;
 // - a variant of `Order` here, with its case in both functions of specs/Readings.antt;
-// - a function that makes its command, which `dobutsu_command` adds, and an arm and a clause in `order_of`;
+// - a function that makes its command, its options by `option_argument`, which `dobutsu_command` adds, and an arm and a
+//   clause in `order_of`;
 // - a record in proofs/Taken.antt, proofs/AllWords.antt and proofs/Lines.antt, by `refl`, and a line each in `all_fit` and
 //   `all_known`;
 // - its cases in the answers of `dobutsu_command`, `order_of` and `read_words`, as those of `count`;
