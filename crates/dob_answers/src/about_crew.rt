@@ -1,16 +1,11 @@
 // Answers about a build by threads: how many classes a piece set has, and how many of them it finds won, lost and drawn.
 use crate::about_build::tell_outcomes;
 use dob_pieces::{Memory, PieceSet};
-use dob_run::{Fault, Free, run_nodes};
+use dob_run::{BATCH, CAPACITY, Fault, Free, run_nodes};
 use dob_value::Table;
 use std::alloc::Global;
 use std::sync::Wait;
 use std::thread::Threads;
-
-// The sizes that the program `dobutsu` takes.
-const BATCH: usize = 256;
-
-const CAPACITY: usize = 64;
 
 /// `classes N win N loss N draw N`, as so many nodes find them, each in a thread of its own. An error is that of the build.
 pub(crate) fn about_crew<R: Threads + Wait + Sync>(

@@ -10,7 +10,7 @@ use crate::watch::Watch;
 use anyhow::Result;
 use dob_pieces::{Memory, PieceSet};
 use dob_rank::Classes;
-use dob_run::{Built, run_nodes, scan};
+use dob_run::{BATCH, Built, CAPACITY, run_nodes, scan};
 use dob_unmove::back_into;
 use dob_value::{Table, Value};
 use std::alloc::Global;
@@ -18,11 +18,6 @@ use std::rt::{Clock, Files};
 use std::sync::Wait;
 use std::thread::Threads;
 use std::time::Instant;
-
-// The sizes that the program `dobutsu` takes.
-const BATCH: usize = 256;
-
-const CAPACITY: usize = 64;
 
 /// Measures a build of the set by so many nodes.
 pub(crate) fn run<R: Print + Clock + AllocGlobal + Files + Threads + Wait + Sync>(

@@ -9,6 +9,7 @@ use Rattle.dob_value.specs.declared.value.Value.{Value}
 use Rattle.dob_value.specs.declared.value.Value.TheVariants.{Win, Loss}
 use Rattle.dob_value.specs.Entries.{is_draw}
 use Rattle.dob_value.specs.Follows.{ClassTable, IsValueTable}
+use Rattle.dob_run.specs.declared.limits.TheConstants.{BATCH, CAPACITY}
 use Rattle.dob_run.specs.Refused.{IsRefused}
 use Rattle.dob_dbfile.specs.declared.fault.Fault.TheVariants as file_fault
 use Rattle.dob_dbfile.specs.Format.{bytes_of}
@@ -78,12 +79,12 @@ IsKeepingFault Old New tells file table (File (file_fault.Io count)) =
 IsKeepingFault Old New tells file table _ = ⊥
 
 -- The fault of building, by its moment. While each file has what it had: no set has the text; or the run by so many nodes,
--- with batches of at most 256 items and channels of 64 batches, was refused or stopped; or memory was refused, for the words
--- or for the lines. Then the table is there, and keeping its file failed.
+-- with batches and channels of the program's sizes, was refused or stopped; or memory was refused, for the words or for the
+-- lines. Then the table is there, and keeping its file failed.
 abbrev pub IsBuildFault : Files → Files → Bool → List ℕ → ℕ → List ℕ → Fault → Type 0
 IsBuildFault Old New tells text nodes file SetText = ((set : PieceSet) → text ≢ set_text set) × SameFiles Old New
 IsBuildFault Old New tells text nodes file (Run fault) =
-    (set : PieceSet) × (text ≡ set_text set) × IsRefused set nodes 256 64 fault × SameFiles Old New
+    (set : PieceSet) × (text ≡ set_text set) × IsRefused set nodes BATCH CAPACITY fault × SameFiles Old New
 IsBuildFault Old New tells text nodes file Memory = SameFiles Old New
 IsBuildFault Old New tells text nodes file Io =
     (table : ClassTable) × IsTableFor text nodes table × IsKeepingFault Old New tells file table Io

@@ -9,16 +9,11 @@ use crate::shelf::Shelf;
 use crate::tally::tally_of;
 use dob_dbfile::write_table;
 use dob_pieces::PieceSet;
-use dob_run::{Free, run_nodes};
+use dob_run::{BATCH, CAPACITY, Free, run_nodes};
 use dob_value::Table;
 use std::alloc::{AllocError, Global};
 use std::sync::Wait;
 use std::thread::Threads;
-
-// How many items a batch has at most, and how many batches a channel holds.
-const BATCH: usize = 256;
-
-const CAPACITY: usize = 64;
 
 /// Builds the table of the piece set that the text names by so many nodes, and keeps it under the name. The lines that
 /// tell how many classes have which value. Its promises hold if it returns.

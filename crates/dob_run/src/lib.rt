@@ -33,6 +33,7 @@ pub use finishing::{Built, finish};
 pub use gate::{Free, Gate};
 pub use hands::{Inlet, Outlet};
 pub use laws::finished_is_right;
+pub use limits::{BATCH, CAPACITY};
 pub use mail::Mail;
 pub use runner::Runner;
 pub use runs::{Turned, Worker, run_turns};

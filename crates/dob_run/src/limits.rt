@@ -8,6 +8,14 @@ use dob_pieces::PieceSet;
 use dob_rank::{Classes, MOST_PIECES};
 use std::alloc::Global;
 
+/// The most items of a batch where the program builds: a batch takes 6 kB for them, and a node's turn, which makes about so
+/// many, stays short.
+pub const BATCH: usize = 256;
+
+/// The most batches in a channel of such a build: a sender may be some 64 turns ahead of its receiver before it has to wait,
+/// and a full channel has 0.4 MB of items.
+pub const CAPACITY: usize = 64;
+
 /// Which limit these sizes of a crew pass: `Nodes` where `n` isn't 1 to 16, else `Sizes` where `batch` isn't 1 to 4096 or
 /// `capacity` not 1 to 1024.
 pub(crate) fn size_passed(n: usize, batch: usize, capacity: usize) -> Option<Fault>
