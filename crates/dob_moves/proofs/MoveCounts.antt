@@ -1,6 +1,6 @@
 -- Moves counted piece by piece.
 use Rattle.std.proofs.Common.{◌≡◌, ◌≢◌, ℕ, ◌+◌, ◌*◌, ◌<◌, ◌≤◌, ◌||◌, if◌then◌else◌, Bool, true, false, List, [], ◌∷◌, ◌++◌, Option, Some}
-use Rattle.std.proofs.Common.{None, length, get_or, take, refl, sym, ap, ◌∙◌, arith, option_to_list, Contains, bit_and, count_ones}
+use Rattle.std.proofs.Common.{None, length, refl, ap, ◌∙◌, arith, Contains, bit_and, count_ones}
 use Rattle.std.specs.Int.{trailing_zeros, w16}
 use Rattle.std.specs.Option.{is_some}
 use Rattle.std.proofs.lemmas.List.{length-append}
