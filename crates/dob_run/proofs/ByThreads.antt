@@ -1,8 +1,9 @@
 -- A crew that was run, from what its threads promise to what is made of it.
 use Rattle.std.proofs.Common.{◌≡◌, ℕ, ◌<◌, List, Result, Ok, Err, map, subst, ◌∙◌, arith}
-use Rattle.std.specs.Prelude.{IfOk, IfErr, Some, slice_get}
+use Rattle.std.specs.Prelude.{IfOk, IfErr, OnOk, Some, slice_get}
 use Rattle.std.specs.List.{AllZip}
 use Rattle.dob_pieces.specs.declared.piece_set.PieceSet.{PieceSet}
+use Rattle.dob_rank.specs.Limits.{IsSmall}
 use Rattle.dob_board.specs.declared.board.Board.{Board}
 use Rattle.dob_node.specs.declared.cause.Cause.{Cause}
 use Rattle.dob_run.specs.declared.fault.Fault.{Fault}
@@ -16,7 +17,7 @@ use Rattle.dob_run.specs.Built.{IsBuilt}
 use Rattle.dob_run.specs.Closing.{IsCrew}
 use Rattle.dob_run.specs.Finishing.{HaveStopped, IsFailureOf}
 use Rattle.dob_run.specs.Manned.{mail_of}
-use Rattle.dob_run.specs.Refused.{IsRefused}
+use Rattle.dob_run.specs.Refused.{AreWithin, IsRefused}
 use Rattle.dob_run.specs.Runners.{KeepsRunner}
 use Rattle.dob_run.specs.Turned.{IsTurned, AreUnfailed, IsFirstFailed, HasLeft, StopsSo}
 use Rattle.dob_run.specs.Turns.{Ends, HasRun}
@@ -31,6 +32,11 @@ module _ (until : Until) (set : PieceSet) (n size capacity : ℕ) (board : Board
 
   pub still_crew : IsCrew board (map mail_of ended)
   still_crew = crew_kept board ran.old ended ran.opened.crew kept
+
+  -- what is made of it is made within the limits
+  pub is_within : {A : Type 0} (result : Result A Fault) → OnOk result (IsSmall set × AreWithin n size capacity)
+  is_within (Ok made) = (ran.small, ran.within)
+  is_within (Err why) = tt
 
   -- a runner that has failed is one of the crew
   refused_by : (node : ℕ) (why : Cause) (runner : Runner) → slice_get ended node ≡ Some runner → IsRefused set n size capacity (Stopped node why)

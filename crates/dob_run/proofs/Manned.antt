@@ -125,6 +125,6 @@ crew_kept board old new crew kept = record {
       let sends = from.3.mail.outlets j outlet_before.0 outlet outlet_before.1 out in
       let takes = to.3.mail.inlets i inlet_before.0 inlet inlet_before.1 into in
       let were : ArePaired outlet_before.0.end inlet_before.0.end = crew.paired i j outlet_before.0 inlet_before.0
-          (are_linked old i j from.0 to.0 outlet_before.0 inlet_before.0 from.2 to.2 outlet_before.1 inlet_before.1) in
+      (are_linked old i j from.0 to.0 outlet_before.0 inlet_before.0 from.2 to.2 outlet_before.1 inlet_before.1) in
       takes.0 ∙ were ∙ sym sends.0;
 }

@@ -2,7 +2,7 @@ use Rattle.dob_run.specs.declared.turns.Until.TheVariants.{Stopped}
 use Rattle.dob_run.specs.Finishing.{IsFailureOf}
 use Rattle.dob_run.specs.Refused.{IsRefused}
 use Rattle.dob_run.specs.Turned.{StopsSo}
-use Rattle.dob_run.proofs.ByThreads.{still_crew, have_stopped, is_built, is_refused, is_stopped}
+use Rattle.dob_run.proofs.ByThreads.{still_crew, have_stopped, is_built, is_within, is_refused, is_stopped}
 use Rattle.dob_run.proofs.Refusals.{handed_on, unbegun_refused, unbegun_stops}
 use Rattle.dob_run.proofs.build.run_nodes.Goals as goal
 
@@ -33,6 +33,10 @@ pub returns-clause-built : goal.returns-clause-built
 returns-clause-built g c =
     is_built c.args.set c.args.n c.args.batch c.args.capacity c.in_ok-board.board c.in_ok-board.ended.items c.in_ok-board.ensures.ran
     c.finish.result c.finish.ensures.built
+
+pub returns-clause-within : goal.returns-clause-within
+returns-clause-within g c =
+    is_within Stopped c.args.set c.args.n c.args.batch c.args.capacity c.in_ok-board.board c.in_ok-board.ended.items c.in_ok-board.ensures.ran c.finish.result
 
 pub returns-clause-refused : goal.returns-clause-refused
 returns-clause-refused g c =

@@ -43,3 +43,6 @@ pub returns-clause-turned : goal.returns-clause-turned
 returns-clause-turned g c =
     has_turned (Turns c.args.turns) c.args.set c.args.n c.args.batch c.args.capacity c.in_ok-board.board c.in_ok-board.ended.items c.in_ok-board.ensures.ran
     c.in_ok-turned.turned (subst (λ (l : List Runner). AreUnfailed l) c.deref.ensures.value c.in_ok-find_failed.ensures.going) c.in_ok-turned.ensures
+
+pub returns-clause-within : goal.returns-clause-within
+returns-clause-within g c = (c.in_ok-board.ensures.ran.small, c.in_ok-board.ensures.ran.within)

@@ -1,5 +1,4 @@
-use Rattle.std.proofs.Common.{rules, subst}
-use Rattle.dob_pieces.specs.declared.piece_set.PieceSet.{PieceSet}
+use Rattle.std.proofs.Common.{rules}
 use Rattle.dob_run.specs.Turns.{AllSuit}
 use Rattle.dob_run.proofs.Manned.{all_suit}
 use Rattle.dob_run.proofs.threads.run_crew.Goals as goal

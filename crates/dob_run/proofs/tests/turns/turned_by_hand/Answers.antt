@@ -1,5 +1,5 @@
 -- The crew is closed as one whose runners have stopped.
-use Rattle.std.proofs.Common.{◌≡◌, ◌≢◌, List, [], ◌∷◌, map, sym, subst, arith}
+use Rattle.std.proofs.Common.{◌≡◌, ◌≢◌, List, [], ◌∷◌, sym, subst, arith}
 use Rattle.std.specs.List.{AllZip}
 use Rattle.dob_pieces.specs.declared.piece_set.PieceSet.{PieceSet}
 use Rattle.dob_rank.specs.Limits.{IsSmall}
@@ -7,9 +7,7 @@ use Rattle.dob_board.specs.declared.board.Board.{Board}
 use Rattle.dob_board.specs.declared.halt.Halt.TheVariants.{Running}
 use Rattle.dob_run.specs.declared.runner.Runner.{Runner}
 use Rattle.dob_run.specs.declared.turns.Until.TheVariants.{Stopped}
-use Rattle.dob_run.specs.Closing.{IsCrew}
-use Rattle.dob_run.specs.Finishing.{HaveStopped}
-use Rattle.dob_run.specs.Manned.{mail_of, IsNewCrew}
+use Rattle.dob_run.specs.Manned.{IsNewCrew}
 use Rattle.dob_run.specs.Runners.{KeepsRunner}
 use Rattle.dob_run.specs.Turns.{Ends, HasRun}
 use Rattle.dob_run.proofs.ByThreads.{still_crew, have_stopped}
