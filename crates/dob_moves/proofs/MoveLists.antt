@@ -40,7 +40,7 @@ tried_at p false true c at_a at_b at_c h = (1, omega arith, enemy_lion (at p 1) 
 tried_at p false false true at_a at_b at_c h = (2, omega arith, enemy_lion (at p 2) at_c)
 tried_at p false false false at_a at_b at_c h = cc
 
-not_tried_at : (p : Setup) (a b c : Bool) → holds_lion Enemy (at p 0) ≡ a → holds_lion Enemy (at p 1) ≡ b → holds_lion Enemy (at p 2) ≡ c
+pub not_tried_at : (p : Setup) (a b c : Bool) → holds_lion Enemy (at p 0) ≡ a → holds_lion Enemy (at p 1) ≡ b → holds_lion Enemy (at p 2) ≡ c
     → a || (b || c) ≡ false → (square : ℕ) → square < 3 → at p square ≡ Some (piece_of Enemy Lion) → ⊥
 not_tried_at p true b c at_a at_b at_c h square low e = cc
 not_tried_at p false true c at_a at_b at_c h square low e = cc

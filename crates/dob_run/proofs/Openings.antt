@@ -1,17 +1,14 @@
 -- Each position has a status, and so each piece set has openings, whether they were listed or not.
-use Rattle.std.proofs.Common.{◌≡◌, ℕ, zero, suc, ◌+◌, ◌<◌, ◌≤◌, ◌||◌, ◌⊎◌, inl, inr, Bool, true, false, List, [], ◌∷◌, ◌++◌, Option, Some, None, MatchOption, length, length-append, refl, ap, ◌∙◌, subst, arith}
-use Rattle.dob_pieces.specs.declared.kind.Kind.TheVariants.{Lion}
-use Rattle.dob_pieces.specs.declared.kind.Side.TheVariants.{Enemy}
+use Rattle.std.proofs.Common.{◌≡◌, ℕ, zero, suc, ◌+◌, ◌<◌, ◌≤◌, ◌⊎◌, inl, inr, Bool, true, false, List, [], ◌∷◌, ◌++◌, Option, Some, None, MatchOption, length, length-append, refl, ap, ◌∙◌, subst, arith}
 use Rattle.dob_pieces.specs.declared.piece_set.PieceSet.{PieceSet}
 use Rattle.dob_pieces.specs.declared.setup.Setup.{Setup}
-use Rattle.dob_pieces.specs.Setups.{at, holds_lion, piece_of}
 use Rattle.dob_pieces.proofs.Lists.{head_in, none_in_empty}
 use Rattle.dob_moves.specs.declared.game_move.Move.{Move}
 use Rattle.dob_moves.specs.declared.position_status.Status.{Status}
 use Rattle.dob_moves.specs.declared.position_status.Status.TheVariants.{Caught, Tried, Stuck, Open}
 use Rattle.dob_moves.specs.Statuses.{CanCatch, HasTried, HasStatus, AreMoves, IsFirstCatch}
 use Rattle.dob_moves.specs.MoveLists.{has_tried, moves_of}
-use Rattle.dob_moves.proofs.MoveLists.{tried_at, AreMoves-moves_of}
+use Rattle.dob_moves.proofs.MoveLists.{tried_at, not_tried_at, AreMoves-moves_of}
 use Rattle.dob_moves.proofs.Verdicts.{catch_answer}
 use Rattle.dob_rank.specs.Marks.{classes_of}
 use Rattle.dob_rank.specs.ClassRows.{class_setup}
@@ -22,17 +19,6 @@ use Rattle.dob_node.specs.Openings.{IsOpening, AreOpeningsBelow, AreOpenings}
 use Rattle.dob_run.proofs.Places.{each_more}
 
 -- ---- the status of a position
-
--- no enemy lion on row 1
-not_tried : (p : Setup) (a b c : Bool) → holds_lion Enemy (at p 0) ≡ a → holds_lion Enemy (at p 1) ≡ b → holds_lion Enemy (at p 2) ≡ c →
-    a || (b || c) ≡ false → (square : ℕ) → square < 3 → at p square ≡ Some (piece_of Enemy Lion) → ⊥
-not_tried p true b c at_a at_b at_c none square low e = cc
-not_tried p false true c at_a at_b at_c none square low e = cc
-not_tried p false false true at_a at_b at_c none square low e = cc
-not_tried p false false false at_a at_b at_c none zero low e = let lion : holds_lion Enemy (at p 0) ≡ true = ap (holds_lion Enemy) e in cc
-not_tried p false false false at_a at_b at_c none (suc zero) low e = let lion : holds_lion Enemy (at p 1) ≡ true = ap (holds_lion Enemy) e in cc
-not_tried p false false false at_a at_b at_c none (suc (suc zero)) low e = let lion : holds_lion Enemy (at p 2) ≡ true = ap (holds_lion Enemy) e in cc
-not_tried p false false false at_a at_b at_c none (suc (suc (suc square))) low e = absurd (omega (arith, low))
 
 -- where the game isn't over, by the list of the moves
 going_on : (p : Setup) → ¬ CanCatch p → ¬ HasTried p → (moves : List Move) → AreMoves p moves → (s : Status) × HasStatus p s
@@ -47,7 +33,7 @@ by_tests : (p : Setup) → length p.board ≡ 12 → CanCatch p ⊎ (¬ CanCatch
 by_tests p twelve (inl catch) tried h = (Caught, catch)
 by_tests p twelve (inr none) true h = (Tried, (none, tried_at p _ _ _ refl refl refl h))
 by_tests p twelve (inr none) false h =
-    going_on p none (λ try. not_tried p _ _ _ refl refl refl h try.0 try.1 try.2) (moves_of p) (AreMoves-moves_of p twelve)
+    going_on p none (λ try. not_tried_at p _ _ _ refl refl refl h try.0 try.1 try.2) (moves_of p) (AreMoves-moves_of p twelve)
 
 pub has_status : (p : Setup) → length p.board ≡ 12 → (s : Status) × HasStatus p s
 has_status p twelve = by_tests p twelve (by_catch p _ (catch_answer p _ twelve refl)) (has_tried p) refl
