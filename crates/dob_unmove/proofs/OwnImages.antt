@@ -1,40 +1,54 @@
 -- Positions that are their own mirror images: their lions stand on column b.
-use Rattle.std.proofs.Common.{◌≡◌, ℕ, ◌<◌, ◌==◌, ◌||◌, not, Bool, true, false, Some, refl, sym, ap, ◌∙◌, arith}
-use Rattle.std.proofs.lemmas.Bool.{eqb-true, eq-eqb}
+use Rattle.std.proofs.Common.{◌≡◌, ℕ, ◌<◌, ◌==◌, ◌&&◌, ◌||◌, not, Bool, true, false, Some, refl, sym, ap, ◌∙◌, bit_and, bit_or}
+use Rattle.std.proofs.lemmas.Bool.{eq-eqb}
 use Rattle.dob_pieces.specs.declared.kind.Kind.TheVariants.{Lion}
-use Rattle.dob_pieces.specs.declared.kind.Side.TheVariants.{Enemy}
+use Rattle.dob_pieces.specs.declared.kind.Side.{Side}
+use Rattle.dob_pieces.specs.declared.kind.Side.TheVariants.{Mover, Enemy}
+use Rattle.dob_pieces.specs.declared.masks.Masks.{Masks}
 use Rattle.dob_pieces.specs.declared.setup.Setup.{Setup}
+use Rattle.dob_pieces.specs.Masks.{AreMasks, is_piece}
 use Rattle.dob_pieces.specs.Squares.{column, mirrored_square}
-use Rattle.dob_pieces.specs.Setups.{at, piece_of, IsLegal, turned, mirrored}
-use Rattle.dob_pieces.proofs.Boards.{all_below, all_below-at, at-mirrored, within-from_piece, one_lion}
-use Rattle.dob_pieces.proofs.Symmetries.{turned-mirrored}
-use Rattle.dob_unmove.specs.declared.ways.Ways.{Ways}
+use Rattle.dob_pieces.specs.Setups.{at, piece_of, IsLegal, mirrored}
+use Rattle.dob_pieces.proofs.Boards.{all_below, all_below-at, at-mirrored, one_lion}
+use Rattle.dob_pieces.proofs.MaskBits.{IsMask-and, IsMask-or}
+use Rattle.dob_unmove.specs.declared.ways.TheConstants.{BESIDE_B}
 use Rattle.dob_unmove.specs.Classes.{IsTurned}
-use Rattle.dob_unmove.specs.Ways.{AreWays}
-use Rattle.dob_unmove.proofs.Threats.{turned_squares, turned_lions}
+use Rattle.dob_unmove.proofs.Threats.{turned_lions}
+use Rattle.dob_unmove.proofs.WayMasks.{by_bits, empty_mask, lion_passes}
 
-abbrev is_fixed_on_b : ℕ → Bool
-is_fixed_on_b s = not (mirrored_square s == s) || (column s == 1)
+-- of columns a and c
+abbrev is_beside_b : ℕ → Bool
+is_beside_b s = not (column s == 1)
 
-all_fixed : all_below is_fixed_on_b 12 ≡ true
-all_fixed = refl
+abbrev moves_if_beside_b : ℕ → Bool
+moves_if_beside_b s = not (mirrored_square s == s) || not (is_beside_b s)
 
-fixed_column : (s : ℕ) → s < 12 → mirrored_square s ≡ s → column s ≡ 1
-fixed_column s lt same =
-    eqb-true (column s) 1 (second (mirrored_square s == s) (column s == 1) (eq-eqb (mirrored_square s) s same) (all_below-at is_fixed_on_b 12 s all_fixed lt))
-  where
-    second : (a b : Bool) → a ≡ true → (not a || b) ≡ true → b ≡ true
-    second true b e h = h
-    second false b e h = cc
+all_move : all_below moves_if_beside_b 12 ≡ true
+all_move = refl
 
-pub own_column : (q : Setup) → IsLegal q → (ways : Ways) → AreWays (turned q) ways → mirrored q ≡ q → column ways.threat.lion ≡ 1
-own_column q legal ways are own =
-    let t : IsTurned IsLegal (turned q) = (q, legal, refl) in
-    let e = ways.threat.lion in
-    let there = are.threat_is.lion in
-    let within = within-from_piece (turned q) e (piece_of Enemy Lion) there in
-    let twelve = turned_squares (turned q) t in
-    let low : e < 12 = omega (arith, within, twelve) in
-    let same : mirrored (turned q) ≡ turned q = sym (turned-mirrored q) ∙ ap turned own in
-    let image : at (turned q) (mirrored_square e) ≡ Some (piece_of Enemy Lion) = sym (at-mirrored (turned q) e low) ∙ ap (λ (x : Setup). at x e) same ∙ there in
-    fixed_column e low (one_lion Enemy (turned q) (mirrored_square e) e (turned_lions (turned q) t) image there)
+fixed_on_b : (s : ℕ) → s < 12 → mirrored_square s ≡ s → is_beside_b s ≡ false
+fixed_on_b s lt same = second (mirrored_square s == s) (is_beside_b s) (eq-eqb (mirrored_square s) s same) (all_below-at moves_if_beside_b 12 s all_move lt) where
+  second : (a b : Bool) → a ≡ true → (not a || not b) ≡ true → b ≡ false
+  second true true e h = cc
+  second true false e h = refl
+  second false b e h = cc
+
+either : (a b c : Bool) → (a ≡ true → c ≡ false) → (b ≡ true → c ≡ false) → ((a || b) && c) ≡ false
+either true b c first second = first refl
+either false true c first second = second refl
+either false false c first second = refl
+
+module _ (p : Setup) (legal : IsTurned IsLegal p) (own : mirrored p ≡ p) where
+  lion_on_b : (side : Side) (s : ℕ) → s < 12 → is_piece side Lion (at p s) ≡ true → is_beside_b s ≡ false
+  lion_on_b side s lt passes =
+      let there = lion_passes side (at p s) passes in
+      let image : at p (mirrored_square s) ≡ Some (piece_of side Lion) = sym (at-mirrored p s lt) ∙ ap (λ (x : Setup). at x s) own ∙ there in
+      fixed_on_b s lt (one_lion side p (mirrored_square s) s (turned_lions p legal) image there)
+
+  pub lions_on_b : (masks : Masks) → AreMasks p masks → bit_and (bit_or masks.lion masks.enemy_lion) BESIDE_B ≡ 0
+  lions_on_b masks are =
+      empty_mask (λ s. (is_piece Mover Lion (at p s) || is_piece Enemy Lion (at p s)) && is_beside_b s)
+      (bit_and (bit_or masks.lion masks.enemy_lion) BESIDE_B)
+      (IsMask-and _ _ (bit_or masks.lion masks.enemy_lion) BESIDE_B (IsMask-or _ _ masks.lion masks.enemy_lion are.lion_is are.enemy_lion_is)
+      (by_bits BESIDE_B is_beside_b refl))
+      (λ s lt. either (is_piece Mover Lion (at p s)) (is_piece Enemy Lion (at p s)) (is_beside_b s) (lion_on_b Mover s lt) (lion_on_b Enemy s lt))

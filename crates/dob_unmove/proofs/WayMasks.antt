@@ -8,7 +8,7 @@ use Rattle.std.proofs.lemmas.Nat.Bits.{bit_at_and, bit_at_not, same_from_bits_be
 use Rattle.dob_pieces.specs.declared.kind.Kind.{Kind}
 use Rattle.dob_pieces.specs.declared.kind.Kind.TheVariants.{Lion, Giraffe, Elephant, Chick, Hen}
 use Rattle.dob_pieces.specs.declared.kind.Side.{Side}
-use Rattle.dob_pieces.specs.declared.kind.Side.TheVariants.{Mover, Enemy}
+use Rattle.dob_pieces.specs.declared.kind.Side.TheVariants.{Mover}
 use Rattle.dob_pieces.specs.declared.setup.Setup.{Setup}
 use Rattle.dob_pieces.specs.Squares.{column}
 use Rattle.dob_pieces.specs.Setups.{Cell, at, piece_of, holds_lion, HasLions}
@@ -46,7 +46,7 @@ IsMask-without f g a b is are = record {
 abbrev has_bits : ℕ → (ℕ → Bool) → Bool
 has_bits mask test = nat_lt mask 4096 && all_below (λ s. nat_eq (bit_at mask s) (cond (test s) 1 0)) 12
 
-by_bits : (mask : ℕ) (test : ℕ → Bool) → has_bits mask test ≡ true → IsMask test mask
+pub by_bits : (mask : ℕ) (test : ℕ → Bool) → has_bits mask test ≡ true → IsMask test mask
 by_bits mask test h =
     let parts = and_parts (nat_lt mask 4096) (all_below (λ s. nat_eq (bit_at mask s) (cond (test s) 1 0)) 12) h in
     record {
@@ -89,7 +89,7 @@ comes_anywhere Hen lion other = everywhere (comes_home Hen lion) (λ s. refl)
 -- ---- where a move may have ended
 
 -- a mask in which nothing passes is empty
-empty_mask : (test : ℕ → Bool) (mask : ℕ) → IsMask test mask → ((s : ℕ) → s < 12 → test s ≡ false) → mask ≡ 0
+pub empty_mask : (test : ℕ → Bool) (mask : ℕ) → IsMask test mask → ((s : ℕ) → s < 12 → test s ≡ false) → mask ≡ 0
 empty_mask test mask is none =
     same_from_bits_below 12 mask 0 is.within (omega arith) (λ k lt. is.bits k lt ∙ ap (λ b. cond b 1 0) (none k lt) ∙ sym (bit_at-zero k))
 
@@ -97,16 +97,17 @@ and_true : (b : Bool) → (b && true) ≡ b
 and_true true = refl
 and_true false = refl
 
-lion_holds : (cell : Cell) → is_piece Mover Lion cell ≡ true → holds_lion Mover cell ≡ true
-lion_holds None h = cc
-lion_holds (Some piece) h = of_piece piece.side piece.kind h where
-  of_piece : (side : Side) (kind : Kind) → is_piece Mover Lion (Some (piece_of side kind)) ≡ true → holds_lion Mover (Some (piece_of side kind)) ≡ true
-  of_piece Mover Lion h = refl
-  of_piece Mover Giraffe h = cc
-  of_piece Mover Elephant h = cc
-  of_piece Mover Chick h = cc
-  of_piece Mover Hen h = cc
-  of_piece Enemy kind h = cc
+lion_holds : (side own : Side) (kind : Kind) → is_piece side Lion (Some (piece_of own kind)) ≡ true → holds_lion side (Some (piece_of own kind)) ≡ true
+lion_holds side own Lion h = h
+lion_holds side own Giraffe h = h
+lion_holds side own Elephant h = h
+lion_holds side own Chick h = h
+lion_holds side own Hen h = h
+
+-- what passes as the lion of a side is it
+pub lion_passes : (side : Side) (cell : Cell) → is_piece side Lion cell ≡ true → cell ≡ Some (piece_of side Lion)
+lion_passes side None h = cc
+lion_passes side (Some piece) h = is_that_lion side (Some piece) (lion_holds side piece.side piece.kind h)
 
 module _ (after : Setup) (threat : Threat) (lions : HasLions after) (lion homes calm own place : ℕ)
     (lion_is : IsMask (λ s. is_piece Mover Lion (at after s)) lion) (homes_are : IsMask (is_home threat.lion) homes)
@@ -135,7 +136,7 @@ module _ (after : Setup) (threat : Threat) (lions : HasLions after) (lion homes 
     none_there s is no_home = empty_mask (λ s. is_piece Mover Lion (at after s) && is_home threat.lion s) (bit_and lion homes) both_are
         (λ k lt. elim (cases_Bool (is_piece Mover Lion (at after k))) [
           | inl lion_there ↦
-              (let found : at after k ≡ Some (piece_of Mover Lion) = is_that_lion Mover (at after k) (lion_holds (at after k) lion_there) in
+              (let found : at after k ≡ Some (piece_of Mover Lion) = lion_passes Mover (at after k) lion_there in
               let same : k ≡ s = one_lion Mover after k s lions found is in
               ap (λ b. b && is_home threat.lion k) lion_there ∙ ap (is_home threat.lion) same ∙ no_home)
           | inr not_there ↦ ap (λ b. b && is_home threat.lion k) not_there

@@ -201,14 +201,13 @@ fn class_before(classes: &Classes, after: &Setup, ways: &Ways, undo: Undo) -> Op
     }
 }
 
-/// Whether the representative is its own mirror image. What is known of the turned setup says mostly that it isn't: its lions
-/// would stand on column b.
+/// Whether the representative is its own mirror image. What is known of the turned setup says mostly that it isn't.
 fn is_own_image(classes: &Classes, first: &Position, ways: &Ways) -> bool
     requires first { (class : ℕ) × IsFirstIn classes.now.set first.now.setup class }
     requires ways { AreWays (turned first.now.setup) ways.now }
     ensures { IsTrue result ↔ (mirrored first.now.setup ≡ first.now.setup) }
 {
-    if ways.threat.lion.column() == 1 {
+    if ways.has_lions_on_b() {
         return class_of_first(classes, &first.mirrored()).is_some();
     }
     false

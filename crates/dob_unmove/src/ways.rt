@@ -1,8 +1,8 @@
 // What masks tell of the ways to take a move back: where it may have ended, and from where a piece may have come, so that what
 // stood before was open and the earlier one of its class. All other ways are skipped.
-ghost use Rattle.std.specs.Prelude.{◌≡◌, not};
+ghost use Rattle.std.specs.Prelude.{◌≡◌, not, IsTrue};
 ghost use Rattle.dob_pieces.specs.Masks.{IsMask, AreMasks};
-ghost use Rattle.dob_pieces.specs.Setups.{at, IsLegal};
+ghost use Rattle.dob_pieces.specs.Setups.{at, mirrored, IsLegal};
 ghost use Rattle.dob_pieces.specs.declared.setup.Setup.{Setup};
 ghost use Rattle.dob_unmove.specs.Classes.{IsTurned};
 ghost use Rattle.dob_unmove.specs.Threats.{elsewhere};
@@ -19,6 +19,9 @@ const ALL: u16 = 0b111_111_111_111;
 const HOMES_ON_A: u16 = 0b000_001_001_001;
 
 const HOMES_ON_A_AND_B: u16 = 0b000_011_011_011;
+
+/// The squares of columns a and c.
+const BESIDE_B: u16 = 0b101_101_101_101;
 
 /// What the masks of a setup after a move tell, in which the side that made it is the mover.
 #[derive(Clone, Copy, Debug)]
@@ -91,6 +94,13 @@ impl Ways {
             Kind::Lion => self.homes,
             _ => ALL,
         }
+    }
+
+    /// Whether both lions stand on column b, as they do where the setup is its own mirror image.
+    pub(crate) fn has_lions_on_b(&self) -> bool
+        ensures { (after : Setup) → IsTurned IsLegal after → AreWays after self.now → mirrored after ≡ after → IsTrue result }
+    {
+        (self.masks.lion | self.masks.enemy_lion) & BESIDE_B == 0
     }
 
     /// Whether the mover's piece of that kind stands on the square.

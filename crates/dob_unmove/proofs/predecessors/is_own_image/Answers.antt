@@ -1,19 +1,20 @@
 -- A position that is its own mirror image has its lions on column b.
-use Rattle.std.proofs.Common.{true≢false, sym, ◌∙◌, inl, inr}
+use Rattle.std.proofs.Common.{true≢false, refl, sym, ap, ◌∙◌, inl, inr}
 use Rattle.std.specs.Option.{is_some}
 use Rattle.std.proofs.lemmas.Bool.{cases_Bool}
+use Rattle.dob_pieces.specs.Setups.{turned}
+use Rattle.dob_pieces.proofs.Symmetries.{turned-mirrored}
 use Rattle.dob_unmove.specs.Classes.{IsFirstIn}
 use Rattle.dob_unmove.proofs.Classes.{IsNumbering-classes}
 use Rattle.dob_unmove.proofs.Gathering.{own_image, other_image}
 use Rattle.dob_unmove.proofs.Kept.{position_mirrored}
-use Rattle.dob_unmove.proofs.OwnImages.{own_column}
 use Rattle.dob_unmove.proofs.predecessors.is_own_image.Goals as goal
 
 pub class_of_first-requires : goal.class_of_first-requires
 class_of_first-requires c = position_mirrored c.args.classes.now.set c.args.first.now.setup c.mirrored.result.setup c.requires.first.1.0.0 c.mirrored.ensures
 
-pub returns-then-column-eq1 : goal.returns-then-column-eq1
-returns-then-column-eq1 c =
+pub returns-then-has_lions_on_b : goal.returns-then-has_lions_on_b
+returns-then-has_lions_on_b c =
     let set = c.args.classes.now.set in
     let q = c.args.first.now.setup in (
       λ some. own_image (IsFirstIn set) q c.mirrored.result.setup c.class_of_first.result
@@ -28,7 +29,11 @@ returns-then-column-eq1 c =
     )
 
 pub returns : goal.returns
-returns c = (
-  λ no_truth. absurd (true≢false (sym no_truth)),
-  λ own. absurd (c.if-column-eq1.false (c.column.ensures.value ∙ own_column c.args.first.now.setup c.args.first.now.legal c.args.ways.now c.requires.ways own)),
-)
+returns c =
+    let q = c.args.first.now.setup in (
+      λ no_truth. absurd (true≢false (sym no_truth)),
+      λ own.
+          let image = sym (turned-mirrored q) ∙ ap turned own in
+          let on_b = c.has_lions_on_b.ensures (turned q) (q, c.args.first.now.legal, refl) c.requires.ways image in
+          absurd (true≢false (sym on_b ∙ c.if-has_lions_on_b.false)),
+    )
