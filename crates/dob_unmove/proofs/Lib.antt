@@ -20,3 +20,4 @@ pub mod Gathered  -- what the ways add, one list after the other
 pub mod Dead  -- ways that lead back to no open representative
 pub mod WayMasks  -- the masks of the ways
 pub mod OwnImages  -- positions that are their own mirror images
+pub mod ImageMasks  -- masks of mirror images

@@ -3,6 +3,7 @@
 
 mod attackers;
 mod earlier;
+mod images;
 pub mod plain;
 mod predecessors;
 mod undo;

@@ -14,6 +14,7 @@ ghost use Rattle.dob_unmove.specs.Walks.{stands, uncatch, unsteps_from, unsteps,
 ghost use Rattle.dob_unmove.specs.Ways.{may_come, AreWays, CanWalk};
 
 use crate::earlier::open_before;
+use crate::images::mirrored_masks;
 use crate::plain::class_of_first;
 use crate::undo::Undo;
 use crate::walk::{arrives_at, holds_caught};
@@ -228,7 +229,8 @@ fn gather(room: Vec<u64>, classes: &Classes, first: &Position) -> Result<Vec<u64
         return Ok(found);
     }
     let image = after.mirrored();
-    gather_all(classes, &image, &Ways::of(&image), &mut found)?;
+    let image_ways = Ways::by(&image, mirrored_masks(&ways.masks));
+    gather_all(classes, &image, &image_ways, &mut found)?;
     Ok(found)
 }
 

@@ -62,7 +62,15 @@ impl Ways {
         requires { IsTurned IsLegal after.now }
         ensures { AreWays after.now result }
     {
-        let masks = Masks::of(after);
+        Ways::by(after, Masks::of(after))
+    }
+
+    /// The same by the masks of that setup.
+    pub(crate) fn by(after: &Setup, masks: Masks) -> Ways
+        requires legal { IsTurned IsLegal after.now }
+        requires masks { AreMasks after.now masks }
+        ensures { AreWays after.now result }
+    {
         let threat = Threat::by(after, &masks);
         let homes = homes_of(threat.lion);
         let calm = masks.own & calm_ends(threat.attackers);

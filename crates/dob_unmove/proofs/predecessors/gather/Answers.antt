@@ -1,5 +1,7 @@
 -- The walks over the position and over its mirror image count the edges.
-use Rattle.std.proofs.Common.{true≢false, sym, ap, ◌∙◌}
+use Rattle.std.proofs.Common.{true≢false, sym, ap, ◌∙◌, subst}
+use Rattle.dob_pieces.specs.declared.setup.Setup.{Setup}
+use Rattle.dob_pieces.specs.Masks.{AreMasks}
 use Rattle.dob_pieces.specs.Setups.{mirrored}
 use Rattle.dob_unmove.specs.Classes.{IsFirstIn}
 use Rattle.dob_unmove.proofs.Classes.{IsNumbering-classes}
@@ -13,16 +15,21 @@ of-ways-requires c = (c.args.first.now.setup, c.args.first.now.legal, c.turned-a
 pub gather_all-requires : goal.gather_all-requires
 gather_all-requires c = record { of_set = (c.args.first.now.setup, c.requires.1.0.0, c.turned-after.ensures); ways_are = c.of-ways.ensures }
 
-pub of-requires : goal.of-requires
-of-requires c =
+pub by-image_ways-requires-clause-legal : goal.by-image_ways-requires-clause-legal
+by-image_ways-requires-clause-legal c =
     turned_legal c.args.first.now.setup c.mirrored-image.result c.args.first.now.legal (c.mirrored-image.ensures ∙ ap mirrored c.turned-after.ensures)
+
+pub by-image_ways-requires-clause-masks : goal.by-image_ways-requires-clause-masks
+by-image_ways-requires-clause-masks c =
+    subst (λ (s : Setup). AreMasks s c.mirrored_masks.result) (sym c.mirrored-image.ensures)
+    (c.mirrored_masks.ensures c.turned-after.result c.of-ways.ensures.masks_are)
 
 pub gather_all-requires-2 : goal.gather_all-requires-2
 gather_all-requires-2 c = record {
   of_set =
       turned_position c.args.classes.now.set c.args.first.now.setup c.mirrored-image.result c.requires.1.0.0
       (c.mirrored-image.ensures ∙ ap mirrored c.turned-after.ensures);
-  ways_are = c.of.ensures;
+  ways_are = c.by-image_ways.ensures;
 }
 
 pub returns-then-is_own_image : goal.returns-then-is_own_image

@@ -10,20 +10,20 @@ use Rattle.dob_pieces.proofs.Boards.{within-from_piece}
 use Rattle.dob_unmove.specs.Ways.{may_end}
 use Rattle.dob_unmove.proofs.Threats.{turned_squares, turned_lions}
 use Rattle.dob_unmove.proofs.WayMasks.{away, at_home, calm_ends, lion_ends}
-use Rattle.dob_unmove.proofs.ways.Ways.of.Goals as goal
-use Rattle.dob_unmove.proofs.ways.Ways.of.Goals.{then-masks-homes-eq0, else-masks-homes-eq0}
+use Rattle.dob_unmove.proofs.ways.Ways.by.Goals as goal
+use Rattle.dob_unmove.proofs.ways.Ways.by.Goals.{then-masks-homes-eq0, else-masks-homes-eq0}
 
 pub returns : goal.returns
 returns c =
     let after = c.args.after.now in
-    let masks = c.of-masks.result in
-    let are = c.of-masks.ensures in
+    let masks = c.args.masks in
+    let are = c.requires.masks in
     let threat = c.by-threat.result in
-    let lions = turned_lions after c.requires in
+    let lions = turned_lions after c.requires.legal in
     let place : ℕ = trailing_zeros w16 masks.lion in
-    let there = lion_at after Mover masks.lion place (turned_squares after c.requires) lions are.lion_is refl in
+    let there = lion_at after Mover masks.lion place (turned_squares after c.requires.legal) lions are.lion_is refl in
     let within = within-from_piece after place (piece_of Mover Lion) there in
-    let twelve = turned_squares after c.requires in
+    let twelve = turned_squares after c.requires.legal in
     let low : place < 12 = omega (arith, within, twelve) in
     elim c.if-masks-homes-eq0.branch [
       | then-masks-homes-eq0 w ↦ record {
