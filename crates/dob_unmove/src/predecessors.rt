@@ -1,7 +1,10 @@
 // The classes from which a class is reached: the walk over the ways back that masks leave.
-ghost use Rattle.std.specs.Prelude.{◌≡◌, ◌↔◌, true, false, ◌<◌, ℕ, ◌∷◌, [], IsTrue, IfOk, OnOk};
+ghost use Rattle.std.specs.Prelude.{◌≡◌, ◌↔◌, true, false, ◌<◌, ℕ, ◌∷◌, [], Some, IsTrue, IfOk, OnOk};
 ghost use Rattle.dob_pieces.specs.declared.setup.Setup.{Setup};
-ghost use Rattle.dob_pieces.specs.Setups.{at, turned, mirrored};
+ghost use Rattle.dob_pieces.specs.Pieces.{kind_on_board};
+ghost use Rattle.dob_pieces.specs.Setups.{at, piece_of, turned, mirrored};
+ghost use Rattle.dob_pieces.specs.declared.kind.Kind.{Kind};
+ghost use Rattle.dob_pieces.specs.declared.kind.Side.TheVariants.{Mover};
 ghost use Rattle.dob_rank.specs.Marks.{classes_of};
 ghost use Rattle.dob_unmove.specs.declared.undo.Undo.{Undo};
 ghost use Rattle.dob_unmove.specs.Undoes.{arrives_at as arrival, CanUndo, earlier};
@@ -17,9 +20,11 @@ use crate::earlier::open_before;
 use crate::images::mirrored_masks;
 use crate::plain::class_of_first;
 use crate::undo::Undo;
-use crate::walk::{arrives_at, holds_caught};
+use crate::walk::holds_caught;
 use crate::ways::Ways;
-use dob_pieces::{HandKind, Kind, Memory, Position, Setup, Square, lowest_square, without_square};
+use dob_pieces::{
+    HandKind, Kind, Memory, Position, Setup, Side, Square, lowest_square, without_square,
+};
 use dob_rank::Classes;
 use std::alloc::Global;
 
@@ -44,7 +49,6 @@ fn gather_all(
 }
 
 /// Those from which the last move ended on the square.
-#[tactic(auto, using(crate::proofs::Gathered::gathers), unfolding(crate::specs::Walks::undoes_at))]
 fn gather_at(
     classes: &Classes,
     after: &Setup,
@@ -56,17 +60,84 @@ fn gather_at(
     requires calm { elsewhere ways.now.threat.attackers to ≡ false }
     ensures { OnOk result (Gathers (IsFirstIn classes.now.set) after.now (undoes_at after.now to) found.old.items found.new.items) }
 {
-    gather_steps(classes, after, ways, Kind::Lion, to, found)?;
-    gather_steps(classes, after, ways, Kind::Giraffe, to, found)?;
-    gather_steps(classes, after, ways, Kind::Elephant, to, found)?;
-    gather_steps(classes, after, ways, Kind::Chick, to, found)?;
-    gather_steps(classes, after, ways, Kind::Hen, to, found)?;
-    gather_put(classes, after, ways, HandKind::Chick, to, found)?;
-    gather_put(classes, after, ways, HandKind::Elephant, to, found)?;
-    gather_put(classes, after, ways, HandKind::Giraffe, to, found)
+    let Some(piece) = after.at(to) else {
+        return Ok(());
+    };
+    match piece.side {
+        Side::Mover => gather_kind(classes, after, ways, piece.kind, to, found),
+        Side::Enemy => Ok(()),
+    }
 }
 
-/// Those from which a piece of that kind stepped to the square.
+/// Those from which the mover's piece of that kind came to the square on which it stands.
+fn gather_kind(
+    classes: &Classes,
+    after: &Setup,
+    ways: &Ways,
+    kind: Kind,
+    to: Square,
+    found: &mut Vec<u64>,
+) -> Result<(), Memory>
+    requires walk { CanWalk classes.now.set after.now ways.now }
+    requires calm { elsewhere ways.now.threat.attackers to ≡ false }
+    requires stands { at after.now to ≡ Some (piece_of Mover kind) }
+    ensures { OnOk result (Gathers (IsFirstIn classes.now.set) after.now (undoes_at after.now to) found.old.items found.new.items) }
+{
+    match kind {
+        Kind::Lion => gather_steps(classes, after, ways, Kind::Lion, to, found),
+        Kind::Giraffe => {
+            gather_steps(classes, after, ways, Kind::Giraffe, to, found)?;
+            gather_put(classes, after, ways, HandKind::Giraffe, to, found)
+        }
+        Kind::Elephant => {
+            gather_steps(classes, after, ways, Kind::Elephant, to, found)?;
+            gather_put(classes, after, ways, HandKind::Elephant, to, found)
+        }
+        Kind::Chick => gather_chick(classes, after, ways, to, found),
+        Kind::Hen => gather_hen(classes, after, ways, to, found),
+    }
+}
+
+/// Those from which the chick came that stands on the square. On its far row it was dropped there, since a step would have
+/// made it a hen.
+fn gather_chick(
+    classes: &Classes,
+    after: &Setup,
+    ways: &Ways,
+    to: Square,
+    found: &mut Vec<u64>,
+) -> Result<(), Memory>
+    requires walk { CanWalk classes.now.set after.now ways.now }
+    requires calm { elsewhere ways.now.threat.attackers to ≡ false }
+    requires stands { at after.now to ≡ Some (piece_of Mover Kind.Chick) }
+    ensures { OnOk result (Gathers (IsFirstIn classes.now.set) after.now (undoes_at after.now to) found.old.items found.new.items) }
+{
+    if to.row() != 3 {
+        gather_steps(classes, after, ways, Kind::Chick, to, found)?;
+    }
+    gather_put(classes, after, ways, HandKind::Chick, to, found)
+}
+
+/// Those from which the hen came that stands on the square: on its far row as a chick too.
+fn gather_hen(
+    classes: &Classes,
+    after: &Setup,
+    ways: &Ways,
+    to: Square,
+    found: &mut Vec<u64>,
+) -> Result<(), Memory>
+    requires walk { CanWalk classes.now.set after.now ways.now }
+    requires calm { elsewhere ways.now.threat.attackers to ≡ false }
+    requires stands { at after.now to ≡ Some (piece_of Mover Kind.Hen) }
+    ensures { OnOk result (Gathers (IsFirstIn classes.now.set) after.now (undoes_at after.now to) found.old.items found.new.items) }
+{
+    if to.row() == 3 {
+        gather_steps(classes, after, ways, Kind::Chick, to, found)?;
+    }
+    gather_steps(classes, after, ways, Kind::Hen, to, found)
+}
+
+/// Those from which a piece of that kind stepped to the square, on which it stands as what it became.
 fn gather_steps(
     classes: &Classes,
     after: &Setup,
@@ -77,11 +148,9 @@ fn gather_steps(
 ) -> Result<(), Memory>
     requires walk { CanWalk classes.now.set after.now ways.now }
     requires calm { elsewhere ways.now.threat.attackers to ≡ false }
+    requires stands { stands (at after.now to) (arrival kind to) ≡ true }
     ensures { OnOk result (Gathers (IsFirstIn classes.now.set) after.now (unsteps after.now kind to) found.old.items found.new.items) }
 {
-    if !ways.stands(arrives_at(kind, to), to) {
-        return Ok(());
-    }
     let mut left = ways.sources(kind, to);
     while left != 0 {
         let from = lowest_square(left);
@@ -150,8 +219,7 @@ fn gather_catch(
     gather_one(classes, after, ways, undo, found)
 }
 
-/// Those from which a piece of that kind was dropped on the square.
-#[tactic(auto, using(crate::proofs::Gathered::gathers), unfolding(crate::specs::Walks::unputs))]
+/// The one from which the piece of that kind that stands on the square was dropped there.
 fn gather_put(
     classes: &Classes,
     after: &Setup,
@@ -162,11 +230,9 @@ fn gather_put(
 ) -> Result<(), Memory>
     requires walk { CanWalk classes.now.set after.now ways.now }
     requires calm { elsewhere ways.now.threat.attackers to ≡ false }
+    requires stands { at after.now to ≡ Some (piece_of Mover (kind_on_board kind)) }
     ensures { OnOk result (Gathers (IsFirstIn classes.now.set) after.now (unputs after.now kind to) found.old.items found.new.items) }
 {
-    if !ways.stands(kind.on_board(), to) {
-        return Ok(());
-    }
     gather_one(classes, after, ways, Undo::Unput { kind, to }, found)
 }
 

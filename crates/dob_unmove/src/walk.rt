@@ -188,7 +188,7 @@ fn is_kind(own: Kind, kind: Kind) -> bool
 }
 
 // The kind as which a piece of that kind arrives on the square: a chick on its far row as a hen.
-pub(crate) fn arrives_at(kind: Kind, to: Square) -> Kind
+fn arrives_at(kind: Kind, to: Square) -> Kind
     ensures { result ≡ arrives_at kind to }
 {
     match kind {

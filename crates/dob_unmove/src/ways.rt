@@ -2,11 +2,10 @@
 // stood before was open and the earlier one of its class. All other ways are skipped.
 ghost use Rattle.std.specs.Prelude.{◌≡◌, not, IsTrue};
 ghost use Rattle.dob_pieces.specs.Masks.{IsMask, AreMasks};
-ghost use Rattle.dob_pieces.specs.Setups.{at, mirrored, IsLegal};
+ghost use Rattle.dob_pieces.specs.Setups.{mirrored, IsLegal};
 ghost use Rattle.dob_pieces.specs.declared.setup.Setup.{Setup};
 ghost use Rattle.dob_unmove.specs.Classes.{IsTurned};
 ghost use Rattle.dob_unmove.specs.Threats.{elsewhere};
-ghost use Rattle.dob_unmove.specs.Walks.{stands as stands_there};
 ghost use Rattle.dob_unmove.specs.Ways.{is_home, comes_home, may_come, AreWays};
 
 use crate::attackers::{Attackers, Threat};
@@ -109,19 +108,5 @@ impl Ways {
         ensures { (after : Setup) → IsTurned IsLegal after → AreWays after self.now → mirrored after ≡ after → IsTrue result }
     {
         (self.masks.lion | self.masks.enemy_lion) & BESIDE_B == 0
-    }
-
-    /// Whether the mover's piece of that kind stands on the square.
-    pub(crate) fn stands(&self, kind: Kind, square: Square) -> bool
-        ensures { (after : Setup) → AreWays after self.now → result ≡ stands_there (at after square) kind }
-    {
-        let mask = match kind {
-            Kind::Lion => self.masks.lion,
-            Kind::Giraffe => self.masks.giraffes,
-            Kind::Elephant => self.masks.elephants,
-            Kind::Chick => self.masks.chicks,
-            Kind::Hen => self.masks.hens,
-        };
-        mask >> square.index() & 1 == 1
     }
 }

@@ -1,18 +1,11 @@
 -- The squares of the mask are gone over from the lowest on, and the steps from the others are dead.
-use Rattle.std.proofs.Common.{◌∙◌, sym, ap, arith}
-use Rattle.dob_pieces.specs.Setups.{at}
+use Rattle.std.proofs.Common.{arith}
 use Rattle.dob_unmove.specs.Classes.{IsFirstIn}
-use Rattle.dob_unmove.specs.Walks.{stands, unsteps_from}
+use Rattle.dob_unmove.specs.Walks.{unsteps_from}
 use Rattle.dob_unmove.specs.Ways.{may_come}
 use Rattle.dob_unmove.proofs.Gathered.{gathered_start, gathered_less, passes_lowest, gathered_next, gathered_end}
-use Rattle.dob_unmove.proofs.Dead.{comes_dead, no_steps, all_steps}
+use Rattle.dob_unmove.proofs.Dead.{comes_dead, all_steps}
 use Rattle.dob_unmove.proofs.predecessors.gather_steps.Goals as goal
-
-pub returns-then-not-stands : goal.returns-then-not-stands
-returns-then-not-stands c =
-    let stood = c.stands.ensures c.args.after.now c.requires.walk.ways_are in
-    no_steps (IsFirstIn c.args.classes.now.set) c.args.after.now c.args.kind c.args.to c.args.found.now.items
-    (ap (stands (at c.args.after.now c.args.to)) (sym c.arrives_at.ensures) ∙ sym stood ∙ c.if-not-stands.true)
 
 pub loop-left-init : goal.loop-left-init
 loop-left-init c =
@@ -33,28 +26,18 @@ loop-left-smaller c =
     (omega arith)
     c.lowest_square-from.ensures c.without_square-left.ensures
 
-pub gather_steps_from-requires-clause-stands : goal.gather_steps_from-requires-clause-stands
-gather_steps_from-requires-clause-stands c =
-    ap (stands (at c.args.after.now c.args.to)) (sym c.arrives_at.ensures) ∙ sym (c.stands.ensures c.args.after.now c.requires.walk.ways_are)
-    ∙ c.if-not-stands.false
-
 pub loop-left-preserved : goal.loop-left-preserved
 loop-left-preserved c =
     gathered_next (IsFirstIn c.args.classes.now.set) c.args.after.now (may_come c.args.after.now c.args.ways.now.threat.lion c.args.kind c.args.to)
     (unsteps_from c.args.after.now c.args.kind c.args.to)
-    (comes_dead c.args.classes.now.set c.args.after.now c.args.ways.now c.requires.walk c.args.kind c.args.to
-    (ap (stands (at c.args.after.now c.args.to)) (sym c.arrives_at.ensures) ∙ sym (c.stands.ensures c.args.after.now c.requires.walk.ways_are)
-    ∙ c.if-not-stands.false))
+    (comes_dead c.args.classes.now.set c.args.after.now c.args.ways.now c.requires.walk c.args.kind c.args.to c.requires.stands)
     c.loop-left.left c.lowest_square-from.result c.without_square-left.result _ _ _ c.loop-left.invariant (omega arith)
     c.lowest_square-from.ensures c.without_square-left.ensures c.in_ok-gather_steps_from.ensures
 
 pub returns : goal.returns
 returns c =
-    let there =
-    ap (stands (at c.args.after.now c.args.to)) (sym c.arrives_at.ensures) ∙ sym (c.stands.ensures c.args.after.now c.requires.walk.ways_are)
-    ∙ c.if-not-stands.false in
-    all_steps (IsFirstIn c.args.classes.now.set) c.args.after.now c.args.kind c.args.to c.args.found.now.items c.loop-left.found.items there
+    all_steps (IsFirstIn c.args.classes.now.set) c.args.after.now c.args.kind c.args.to c.args.found.now.items c.loop-left.found.items c.requires.stands
     (gathered_end (IsFirstIn c.args.classes.now.set) c.args.after.now (may_come c.args.after.now c.args.ways.now.threat.lion c.args.kind c.args.to)
     (unsteps_from c.args.after.now c.args.kind c.args.to)
-    (comes_dead c.args.classes.now.set c.args.after.now c.args.ways.now c.requires.walk c.args.kind c.args.to there)
+    (comes_dead c.args.classes.now.set c.args.after.now c.args.ways.now c.requires.walk c.args.kind c.args.to c.requires.stands)
     c.loop-left.left _ _ c.loop-left.invariant (omega arith))

@@ -1,0 +1,32 @@
+-- the steps, of which there are none on the far row, and the drop
+use Rattle.std.proofs.Common.{sym, ◌∙◌}
+use Rattle.std.proofs.lemmas.Bool.{eq-eqb}
+use Rattle.std.proofs.lemmas.Result.{on_ok_weaker}
+use Rattle.dob_pieces.specs.declared.kind.HandKind.TheVariants as hand
+use Rattle.dob_pieces.specs.declared.kind.Kind.TheVariants.{Chick}
+use Rattle.dob_pieces.specs.Squares.{row}
+use Rattle.dob_unmove.specs.Classes.{IsFirstIn}
+use Rattle.dob_unmove.specs.Gathers.{Gathers}
+use Rattle.dob_unmove.specs.Walks.{unsteps, unputs}
+use Rattle.dob_unmove.proofs.Gathered.{gathers_none}
+use Rattle.dob_unmove.proofs.Standing.{ways_of_chick, no_chick_steps, gathers_same, gathers_both}
+use Rattle.dob_unmove.proofs.predecessors.gather_chick.Goals as goal
+use Rattle.dob_unmove.proofs.predecessors.gather_chick.Goals.{then-row-ne3+in_ok-gather_steps, else-row-ne3}
+
+pub returns : goal.returns
+returns c =
+    let first = IsFirstIn c.args.classes.now.set in
+    let after = c.args.after.now in
+    let to = c.args.to in
+    let old = c.args.found.now.items in
+    let steps : Gathers first after (unsteps after Chick to) old c.if-row-ne3.found.items = elim c.if-row-ne3.branch [
+      | then-row-ne3+in_ok-gather_steps w ↦ rw w.found-is w.in_ok-gather_steps.ensures
+      | else-row-ne3 w ↦
+          rw w.found-is
+          (gathers_same first after _ _ old old
+          (no_chick_steps after to c.requires.stands (eq-eqb (row to) 3 (sym c.row.ensures.value ∙ w.if-row-ne3.false))) (gathers_none first after old))
+    ] in
+    on_ok_weaker c.gather_put.result
+    (gathers_both first after _ (unsteps after Chick to) (unputs after hand.Chick to) old c.if-row-ne3.found.items c.gather_put.new.found.items
+    (ways_of_chick after to c.requires.stands) steps)
+    c.gather_put.ensures

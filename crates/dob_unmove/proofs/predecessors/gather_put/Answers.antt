@@ -1,0 +1,12 @@
+-- the drop alone
+use Rattle.std.proofs.lemmas.Result.{on_ok_weaker}
+use Rattle.dob_unmove.specs.Classes.{IsFirstIn}
+use Rattle.dob_unmove.proofs.Standing.{way_of_drop, gathers_same}
+use Rattle.dob_unmove.proofs.predecessors.gather_put.Goals as goal
+
+pub returns : goal.returns
+returns c =
+    on_ok_weaker c.gather_one.result
+    (gathers_same (IsFirstIn c.args.classes.now.set) c.args.after.now _ _ c.args.found.now.items c.gather_one.new.found.items
+    (way_of_drop c.args.after.now c.args.to c.args.kind c.requires.stands))
+    c.gather_one.ensures
