@@ -200,12 +200,6 @@ module _ (after : Setup) (threat : Threat) (kind : Kind) (from to : ℕ) (there 
 
 -- ---- the steps to a square
 
-pub no_steps : (IsFirst : Setup → ℕ → Type 0) (after : Setup) (kind : Kind) (to : ℕ) (xs : List ℕ) → stands (at after to) (arrives_at kind to) ≡ false
-    → Gathers IsFirst after (unsteps after kind to) xs xs
-unfolding unsteps
-no_steps IsFirst after kind to xs none =
-    subst (λ b. Gathers IsFirst after (cond b (each_below (unsteps_from after kind to) 12) []) xs xs) (sym none) refl
-
 pub all_steps : (IsFirst : Setup → ℕ → Type 0) (after : Setup) (kind : Kind) (to : ℕ) (xs ys : List ℕ) → stands (at after to) (arrives_at kind to) ≡ true
     → Gathers IsFirst after (each_below (unsteps_from after kind to) 12) xs ys → Gathers IsFirst after (unsteps after kind to) xs ys
 unfolding unsteps

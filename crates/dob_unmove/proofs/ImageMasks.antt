@@ -39,10 +39,13 @@ IsMask-down test mask is =
       within = omega (arith, within);
       bits = λ s lt.
           let down : bit_at (mask / 2 ^ 2) s ≡ bit_at mask (s + 2) =
-          ap (λ (n : ℕ). bit_at n s) halves ∙ sym (bit_at-suc (mask / 2) s) ∙ sym (bit_at-suc mask (suc s)) ∙ ap (bit_at mask) (let e : suc (suc s) ≡ s + 2 = omega arith in e) in
+          ap (λ (n : ℕ). bit_at n s) halves ∙ sym (bit_at-suc (mask / 2) s) ∙ sym (bit_at-suc mask (suc s))
+          ∙ ap (bit_at mask) (let e : suc (suc s) ≡ s + 2 = omega arith in e) in
           elim (cases_lt s 10) [
             | inl here ↦ down ∙ is.bits (s + 2) (omega (arith, here)) ∙ ap (λ b. bit_if (b && test (s + 2))) (sym (lt-ltb s 10 here))
-            | inr past ↦ down ∙ bit_at_above mask 12 (s + 2) (omega (arith, within)) (omega (arith, past)) ∙ ap (λ b. bit_if (b && test (s + 2))) (sym (le-ltb s 10 past))
+            | inr past ↦
+                down ∙ bit_at_above mask 12 (s + 2) (omega (arith, within)) (omega (arith, past))
+                ∙ ap (λ b. bit_if (b && test (s + 2))) (sym (le-ltb s 10 past))
           ];
     }
 
@@ -92,7 +95,8 @@ through test false false x y z = refl
 same_image : (test : ℕ → Bool) (s : ℕ) → s < 12
     → ((nat_le 2 s && (on_a (s - 2) && test (s - 2))) || (on_b s && test s)) || (on_a s && (nat_lt s 10 && test (s + 2))) ≡ test (mirrored_square s)
 same_image test s lt =
-    let parts = and_parts (image s == mirrored_square s) (just_one (nat_le 2 s && on_a (s - 2)) (on_b s) (on_a s && nat_lt s 10)) (all_below-at has_image 12 s all_have lt) in
+    let parts = and_parts (image s == mirrored_square s) (just_one (nat_le 2 s && on_a (s - 2)) (on_b s) (on_a s && nat_lt s 10))
+    (all_below-at has_image 12 s all_have lt) in
     ap (λ (x : Bool). (x || (on_b s && test s)) || (on_a s && (nat_lt s 10 && test (s + 2)))) (and_assoc (nat_le 2 s) (on_a (s - 2)) (test (s - 2)))
     ∙ ap (λ (x : Bool). (((nat_le 2 s && on_a (s - 2)) && test (s - 2)) || (on_b s && test s)) || x) (and_assoc (on_a s) (nat_lt s 10) (test (s + 2)))
     ∙ the_one (nat_le 2 s && on_a (s - 2)) (on_b s) (on_a s && nat_lt s 10) (test (s - 2)) (test s) (test (s + 2)) parts.1

@@ -27,11 +27,13 @@ all_move : all_below moves_if_beside_b 12 ≡ true
 all_move = refl
 
 fixed_on_b : (s : ℕ) → s < 12 → mirrored_square s ≡ s → is_beside_b s ≡ false
-fixed_on_b s lt same = second (mirrored_square s == s) (is_beside_b s) (eq-eqb (mirrored_square s) s same) (all_below-at moves_if_beside_b 12 s all_move lt) where
-  second : (a b : Bool) → a ≡ true → (not a || not b) ≡ true → b ≡ false
-  second true true e h = cc
-  second true false e h = refl
-  second false b e h = cc
+fixed_on_b s lt same =
+    second (mirrored_square s == s) (is_beside_b s) (eq-eqb (mirrored_square s) s same) (all_below-at moves_if_beside_b 12 s all_move lt)
+  where
+    second : (a b : Bool) → a ≡ true → (not a || not b) ≡ true → b ≡ false
+    second true true e h = cc
+    second true false e h = refl
+    second false b e h = cc
 
 either : (a b c : Bool) → (a ≡ true → c ≡ false) → (b ≡ true → c ≡ false) → ((a || b) && c) ≡ false
 either true b c first second = first refl
