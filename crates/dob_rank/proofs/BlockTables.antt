@@ -1,44 +1,51 @@
 -- The blocks of a set: what a block of the list says of its set.
-use Rattle.std.proofs.Common.{◌≡◌, ℕ, ◌+◌, ◌<◌, ◌≤◌, List, length, slice_index_or, true, [], ◌∷◌, ◌++◌, refl, sym, ap, ◌∙◌, subst, inl, inr, arith}
+use Rattle.std.proofs.Common.{◌≡◌, ℕ, ◌+◌, ◌*◌, ◌<◌, ◌≤◌, List, length, slice_index_or, true, [], ◌∷◌, ◌++◌, refl, sym, ap, ◌∙◌, subst, inl, inr, arith}
 use Rattle.std.proofs.lemmas.Bool.{cases_lt}
 use Rattle.std.proofs.lemmas.List.{length_push, get_or_append_left, get_or_push}
 use Rattle.dob_pieces.specs.declared.piece_set.PieceSet.{PieceSet}
 use Rattle.dob_pieces.specs.declared.setup.Setup.{Setup}
 use Rattle.dob_rank.specs.declared.block_classes.BlockClasses.{BlockClasses}
 use Rattle.dob_rank.specs.Order.{IsPositionOf}
-use Rattle.dob_rank.specs.Numbers.{product, block_bases, block_of, place_of, block_size, start_of, rank_of, size_of}
+use Rattle.dob_rank.specs.Numbers.{product, block_bases, block_of, block_size, start_of, rank_of, size_of}
+use Rattle.dob_rank.specs.Runs.{runs_in, run_size, run_start, run_of, local_of, IsInRun}
 use Rattle.dob_rank.specs.Marks.{marks_below, marked, classes_of}
 use Rattle.dob_rank.specs.BlockTables.{IsBlock, AreBlocks}
 use Rattle.dob_rank.proofs.Sums.{sum_below-rises}
 use Rattle.dob_rank.proofs.Blocks.{sum_below_more}
 use Rattle.dob_rank.proofs.Words.{marks_below_none}
-use Rattle.dob_rank.proofs.Numbering.{HasBlock, place_of-below, rank_of-place, rank_of-block}
+use Rattle.dob_rank.proofs.Numbering.{HasBlock, rank_of-block}
+use Rattle.dob_rank.proofs.RunPlaces.{place_in_run, run_start-is, spot_there}
 use Rattle.dob_rank.proofs.ClassNumbers.{IsAtClass, at_class}
 
 -- the block of a position, with the position's set and block in place of its own
-pub record IsBlockOf (set : PieceSet) (s : Setup) (block : BlockClasses) : Type 0 where
-  pub set_is : block.set ≡ set
-  pub number_is : block.number ≡ block_of set s
+record IsBlockOf (set : PieceSet) (s : Setup) (block : BlockClasses) : Type 0 where
+  set_is : block.set ≡ set
+  number_is : block.number ≡ block_of set s
 
-pub block_read : (set : PieceSet) (s : Setup) (blocks : List BlockClasses) (index : ℕ) (block : BlockClasses) → IsPositionOf set s → index ≡ block_of set s →
+block_read : (set : PieceSet) (s : Setup) (blocks : List BlockClasses) (index : ℕ) (block : BlockClasses) → IsPositionOf set s → index ≡ block_of set s →
     AreBlocks set blocks → index < length blocks → block ≡ slice_index_or blocks index block → IsBlockOf set s block
 block_read set s blocks index block p is are below read =
     let here : IsBlock set index (slice_index_or blocks index block) = are index block below in
     let there : IsBlock set index block = subst (IsBlock set index) (sym read) here in
     record { set_is = there.set_is; number_is = there.number_is ∙ is }
 
-pub place_there : (set : PieceSet) (s : Setup) (of : PieceSet) (number place : ℕ) → IsPositionOf set s
-    → of ≡ set → number ≡ block_of set s → place ≡ place_of set s →
-    place < block_size of number
-place_there set s of number place p of_is number_is place_is =
-    subst (λ q. place < block_size q number) (sym of_is) (subst (λ n. place < block_size set n) (sym number_is)
-    (subst (λ n. n < block_size set (block_of set s)) (sym place_is) (place_of-below set s p)))
+-- the position's spot in that block
+pub record IsSpotRead (set : PieceSet) (s : Setup) (block : BlockClasses) (run local : ℕ) : Type 0 where
+  pub there : IsInRun block.set block.number run local
+  pub mark_is : marked block.set (run_start block.set block.number run + local) ≡ marked set (rank_of set s)
+  pub before_is : marks_below (marked block.set) (run_start block.set block.number run + local) ≡ marks_below (marked set) (rank_of set s)
 
-pub rank_there : (set : PieceSet) (s : Setup) (of : PieceSet) (number place : ℕ) → of ≡ set → number ≡ block_of set s → place ≡ place_of set s →
-    start_of of number + place ≡ rank_of set s
-rank_there set s of number place of_is number_is place_is =
-    ap (λ q. start_of q number + place) of_is ∙ ap (λ n. start_of set n + place) number_is ∙ ap (λ n. start_of set (block_of set s) + n) place_is
-    ∙ sym (rank_of-place set s)
+pub spot_read : (set : PieceSet) (s : Setup) (blocks : List BlockClasses) (index run local : ℕ) (block : BlockClasses) → IsPositionOf set s →
+    index ≡ block_of set s → run ≡ run_of set s → local ≡ local_of s → AreBlocks set blocks → index < length blocks →
+    block ≡ slice_index_or blocks index block → IsSpotRead set s block run local
+spot_read set s blocks index run local block p is run_is local_is are below read =
+    let of = block_read set s blocks index block p is are below read in
+    let spot = spot_there set s block.set block.number run local p of.set_is of.number_is run_is local_is in
+    record {
+      there = spot.there;
+      mark_is = ap (λ q. marked q (run_start block.set block.number run + local)) of.set_is ∙ ap (marked set) spot.rank_is;
+      before_is = ap (λ q. marks_below (marked q) (run_start block.set block.number run + local)) of.set_is ∙ ap (marks_below (marked set)) spot.rank_is;
+    }
 
 -- ---- how many classes stand before the blocks
 
@@ -116,14 +123,24 @@ place_below_size set block place within below =
     let upto = sum_below-rises (block_size set) block (product (block_bases set)) within in
     omega (arith, upto, below)
 
--- the position at a marked place is the representative of its class
-pub at_place : (set : PieceSet) (index place class : ℕ) (block : BlockClasses) (s : Setup)
-    → IsBlock set index block → place < block_size block.set block.number →
-    marked block.set (start_of block.set block.number + place) ≡ true → marks_below (marked block.set) (start_of block.set block.number + place) ≡ class →
-    HasBlock set block.number place s → IsAtClass set s class
-at_place set index place class block s is below on number there =
+-- the position at a marked spot is the representative of its class
+pub at_spot : (set : PieceSet) (index run local class : ℕ) (block : BlockClasses) (s : Setup) → IsBlock set index block →
+    run < runs_in block.set block.number → local < run_size block.set block.number →
+    marked block.set (run_start block.set block.number run + local) ≡ true →
+    marks_below (marked block.set) (run_start block.set block.number run + local) ≡ class →
+    HasBlock set block.number (run * run_size set block.number + local) s → IsAtClass set s class
+at_spot set index run local class block s is run_low local_low on number there =
     let within : block.number < product (block_bases set) = subst (λ q. block.number < product (block_bases q)) is.set_is block.within in
-    at_class set s (start_of set block.number + place) class there.position (rank_of-block set block.number place s there)
-    (place_below_size set block.number place within (subst (λ q. place < block_size q block.number) is.set_is below))
-    (subst (λ q. marked q (start_of q block.number + place) ≡ true) is.set_is on)
-    (subst (λ q. marks_below (marked q) (start_of q block.number + place) ≡ class) is.set_is number)
+    let in_run : IsInRun set block.number run local = record {
+      block_below = within;
+      run_below = subst (λ q. run < runs_in q block.number) is.set_is run_low;
+      local_below = subst (λ q. local < run_size q block.number) is.set_is local_low;
+    } in
+    let start = run_start-is set block.number run in
+    let whole : start_of set block.number + (run * run_size set block.number + local) ≡ run_start set block.number run + local = omega (arith, start) in
+    at_class set s (run_start set block.number run + local) class there.position
+    (rank_of-block set block.number (run * run_size set block.number + local) s there ∙ whole)
+    (subst (λ n. n < size_of set) whole
+    (place_below_size set block.number (run * run_size set block.number + local) within (place_in_run set block.number run local in_run)))
+    (subst (λ q. marked q (run_start q block.number run + local) ≡ true) is.set_is on)
+    (subst (λ q. marks_below (marked q) (run_start q block.number run + local) ≡ class) is.set_is number)

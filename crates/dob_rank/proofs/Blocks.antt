@@ -3,10 +3,12 @@ use Rattle.std.proofs.Common.{◌≡◌, ℕ, zero, suc, ◌+◌, ◌-◌, ◌*�
 use Rattle.std.specs.List.{All}
 use Rattle.std.proofs.lemmas.Bool.{cases_lt}
 use Rattle.std.proofs.lemmas.Nat.{mul-le}
+use Rattle.std.proofs.Math.Nat.{mul-le-mul}
 use Rattle.dob_pieces.specs.declared.piece_set.PieceSet.{PieceSet}
 use Rattle.dob_rank.specs.Numbers.{product, digits_of, HasDigits, sum_below, choose, with_first, bases, bases_by, block_bases, block_size, size_of}
 use Rattle.dob_rank.specs.Placing.{AreChoices}
 use Rattle.dob_rank.specs.Numbers.{own_squares, enemy_squares, free_squares}
+use Rattle.dob_rank.specs.Runs.{run_bases, lion_pairs}
 use Rattle.dob_rank.proofs.MixedRadix.{HasDigits-digits_of}
 use Rattle.dob_rank.proofs.Choices.{choose-split}
 use Rattle.dob_rank.proofs.FormDigits.{power_positive}
@@ -292,6 +294,20 @@ none_left set rank start block blocks h e l m i k =
 
     over : (size sum start rank : ℕ) → rank < size → size ≡ sum → start ≡ sum → start ≤ rank → ⊥
     over size sum start rank h e i k = absurd (omega arith)
+
+-- a block has few runs
+pub run_bases-few : (set : PieceSet) (ob : List ℕ) → product (run_bases set ob) ≤ 2 ^ 12
+run_bases-few set ob =
+    few_hands (set.chicks - slice_index ob 0 + 1) (set.elephants - slice_index ob 1 + 1) (set.giraffes - slice_index ob 2 + 1)
+    (in_hand set.chicks (slice_index ob 0) set.few_chicks) (in_hand set.elephants (slice_index ob 1) set.few_elephants)
+    (in_hand set.giraffes (slice_index ob 2) set.few_giraffes)
+  where
+    few_hands : (a b c : ℕ) → a ≤ 3 → b ≤ 3 → c ≤ 3 → a * (b * (c * (own_squares * (enemy_squares * 1)))) ≤ 2 ^ 12
+    few_hands a b c p q r =
+        let first : c * lion_pairs ≤ 3 * lion_pairs = omega arith in
+        let second : b * (c * lion_pairs) ≤ 3 * (3 * lion_pairs) = mul-le-mul q first in
+        let third : a * (b * (c * lion_pairs)) ≤ 3 * (3 * (3 * lion_pairs)) = mul-le-mul p second in
+        omega (arith, third)
 
 -- digits below their bases are choices of squares
 pub AreChoices-digits : (set : PieceSet) (ob ds : List ℕ) → HasDigits (block_bases set) ob → HasDigits (bases_by set ob) ds → AreChoices ob ds

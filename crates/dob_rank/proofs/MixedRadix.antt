@@ -1,5 +1,5 @@
 -- Mixed radix numbers: the number of the digits and the digits of the number, in order.
-use Rattle.std.proofs.Common.{◌≡◌, ℕ, zero, suc, ◌+◌, ◌*◌, ◌%◌, ◌<◌, ◌/◌, List, [], ◌∷◌, ◌++◌, length, get_or, refl, sym, ap, ◌∙◌, subst, inl, inr, arith}
+use Rattle.std.proofs.Common.{◌≡◌, ℕ, zero, suc, ◌+◌, ◌*◌, ◌%◌, ◌<◌, ◌≤◌, ◌/◌, List, [], ◌∷◌, ◌++◌, length, get_or, refl, sym, ap, ◌∙◌, subst, inl, inr, arith}
 use Rattle.std.proofs.Math.Nat.{mul_comm, mul_assoc, add-mul}
 use Rattle.std.proofs.lemmas.Nat.{div-mul-add, mod-mul-add, div-add-mod', mul-add-lt, div_below, mod_below}
 use Rattle.dob_rank.specs.Order.{Precedes}
@@ -110,8 +110,54 @@ digits_of-append bs cs n h =
     (HasDigits-append bs cs (digits_of bs (n / product cs)) (digits_of cs (n % product cs)) (HasDigits-digits_of bs (n / product cs) high)
     (HasDigits-digits_of cs (n % product cs) low))
 
+-- the number that two parts make is below the product of both, and its digits are theirs
+pub parts-below : (bs cs : List ℕ) (high low : ℕ) → high < product bs → low < product cs → high * product cs + low < product (bs ++ cs)
+parts-below bs cs high low h l =
+    subst (λ (n : ℕ). high * product cs + low < n) (sym (product-append bs cs)) (digit_below high (product bs) (product cs) low h l)
+
+pub digits_of-parts : (bs cs : List ℕ) (high low : ℕ) → high < product bs → low < product cs →
+    digits_of (bs ++ cs) (high * product cs + low) ≡ digits_of bs high ++ digits_of cs low
+digits_of-parts bs cs high low h l =
+    digits_of-append bs cs (high * product cs + low) (parts-below bs cs high low h l)
+    ∙ ap (λ (n : ℕ). digits_of bs n ++ digits_of cs ((high * product cs + low) % product cs)) (div-mul-add high (product cs) low l)
+    ∙ ap (λ (n : ℕ). digits_of bs high ++ digits_of cs n) (mod-mul-add high (product cs) low l)
+
 once : (n : ℕ) → n * 1 ≡ n
 once n = omega arith
+
+-- three digits make their number by two steps
+pub number_of-three : (a b c x y z : ℕ) → (x * b + y) * c + z ≡ number_of (a ∷ b ∷ c ∷ []) (x ∷ y ∷ z ∷ [])
+number_of-three a b c x y z =
+    let sum : (x * b + y) * c ≡ x * b * c + y * c = add-mul (x * b) y c in
+    let first : x * b * c ≡ x * (b * (c * 1)) = mul_assoc x b c ∙ ap (λ (n : ℕ). x * (b * n)) (sym (once c)) in
+    omega (arith, sum, first)
+
+-- the same of lists of three, and that nothing on the way is too large
+pub record IsNumberOfThree (bs ds : List ℕ) : Type 0 where
+  pub first_low : get_or ds 0 0 * get_or bs 1 0 < product bs
+  pub second_low : get_or ds 0 0 * get_or bs 1 0 + get_or ds 1 0 < product bs
+  pub third_low : (get_or ds 0 0 * get_or bs 1 0 + get_or ds 1 0) * get_or bs 2 0 < product bs
+  pub number_is : (get_or ds 0 0 * get_or bs 1 0 + get_or ds 1 0) * get_or bs 2 0 + get_or ds 2 0 ≡ number_of bs ds
+  pub number_low : number_of bs ds < product bs
+
+pub number_by_three : (bs ds : List ℕ) → length bs ≡ 3 → length ds ≡ 3 → HasDigits bs ds → IsNumberOfThree bs ds
+number_by_three (a ∷ b ∷ c ∷ []) (x ∷ y ∷ z ∷ []) e f h =
+    let low : number_of (a ∷ b ∷ c ∷ []) (x ∷ y ∷ z ∷ []) < product (a ∷ b ∷ c ∷ []) = number_of-below (a ∷ b ∷ c ∷ []) (x ∷ y ∷ z ∷ []) h in
+    let is : (x * b + y) * c + z ≡ number_of (a ∷ b ∷ c ∷ []) (x ∷ y ∷ z ∷ []) = number_of-three a b c x y z in
+    let some : z < c = h.1.1.0 in
+    let more : x * b + y ≤ (x * b + y) * c = times_some (x * b + y) c (omega arith) in
+    record {
+      first_low = omega (arith, low, is, more);
+      second_low = omega (arith, low, is, more);
+      third_low = omega (arith, low, is);
+      number_is = is;
+      number_low = low;
+    }
+  where
+    times_some : (n c : ℕ) → 0 < c → n ≤ n * c
+    times_some n zero p = absurd (omega arith)
+    times_some n (suc c) p = omega arith
+number_by_three bs ds e f h = absurd (omega arith)
 
 whole : (n : ℕ) → n / 1 ≡ n
 whole n = omega arith

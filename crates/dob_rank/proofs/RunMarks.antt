@@ -1,7 +1,6 @@
 -- The marks of runs: how many there are before each place of a block, and the tables that say so.
 use Rattle.std.proofs.Common.{◌≡◌, ℕ, zero, suc, ◌+◌, ◌-◌, ◌*◌, ◌/◌, ◌%◌, ◌^◌, ◌<◌, ◌≤◌, min, Bool, true, false, List, length}
 use Rattle.std.proofs.Common.{slice_index_or, refl, sym, ap, ◌∙◌, subst, arith}
-use Rattle.std.proofs.lemmas.Nat.{div-add-mod', div_below, mod_below}
 use Rattle.std.proofs.Math.Nat.{add-mul, mul-le-mul_right}
 use Rattle.dob_pieces.specs.declared.piece_set.PieceSet.{PieceSet}
 use Rattle.dob_rank.specs.declared.block_classes.BlockClasses.{BlockClasses}
@@ -10,12 +9,12 @@ use Rattle.dob_rank.specs.declared.runs.Word.{Word}
 use Rattle.dob_rank.specs.declared.runs.RunKind.TheVariants.{First, Later, Mixed}
 use Rattle.dob_rank.specs.Numbers.{product, sum_below, block_bases, block_size, start_of}
 use Rattle.dob_rank.specs.Marks.{marks_below, marked, word_of}
-use Rattle.dob_rank.specs.Runs.{runs_in, run_size, run_start, run_kind, lion_pairs}
+use Rattle.dob_rank.specs.Runs.{runs_in, run_size, run_start, IsInRun, run_kind, lion_pairs}
 use Rattle.dob_rank.specs.RunTables.{IsRun, AreRuns, run_word, word_len}
 use Rattle.dob_rank.proofs.Blocks.{block_size-small, blocks_small}
 use Rattle.dob_rank.proofs.Words.{marks_below-le, marks_below-all, marks_below-unmarked}
 use Rattle.dob_rank.proofs.ClassNumbers.{IsMarkedAt, one_left}
-use Rattle.dob_rank.proofs.RunPlaces.{IsInRun, block_size-runs, place_in_run, run_start-is, marked_first, marked_later, run_size-some}
+use Rattle.dob_rank.proofs.RunPlaces.{block_size-runs, place_in_run, run_start-is, marked_first, marked_later, run_size-some}
 
 -- ---- places of runs
 
@@ -31,31 +30,6 @@ run_start_next set block run =
 
 pub run_start_end : (set : PieceSet) (block : ℕ) → run_start set block (runs_in set block) ≡ start_of set block + block_size set block
 run_start_end set block = run_start-is set block (runs_in set block) ∙ ap (λ n. start_of set block + n) (sym (block_size-runs set block))
-
--- a place's run, and its place there
-pub record IsSplit (set : PieceSet) (block place run local : ℕ) : Type 0 where
-  pub there : IsInRun set block run local
-  pub whole : run_start set block run + local ≡ start_of set block + place
-
-pub split_place : (set : PieceSet) (block place size : ℕ) → block < product (block_bases set) → size ≡ run_size set block → 0 < size →
-    place < block_size set block → IsSplit set block place (place / size) (place % size)
-split_place set block place size within is positive below =
-    let parts : runs_in set block * size ≡ block_size set block = ap (λ n. runs_in set block * n) is ∙ sym (block_size-runs set block) in
-    let local : place % size < size = mod_below place size positive in
-    let sum : place / size * size + place % size ≡ place = div-add-mod' place size in
-    let start : run_start set block (place / size) ≡ start_of set block + place / size * size =
-    run_start-is set block (place / size) ∙ ap (λ n. start_of set block + place / size * n) (sym is) in
-    record {
-      there = record {
-        block_below = within;
-        run_below = div_below place size (runs_in set block) positive (subst (λ n. place < n) (sym parts) below);
-        local_below = subst (λ n. place % size < n) is local;
-      };
-      whole = joined (run_start set block (place / size)) (start_of set block) (place / size * size) (place % size) place start sum;
-    }
-  where
-    joined : (at start run local place : ℕ) → at ≡ start + run → run + local ≡ place → at + local ≡ start + place
-    joined at start run local place a b = omega arith
 
 -- ---- marks of runs
 
@@ -251,10 +225,10 @@ run_search set block before after high class within starts ends is low upto =
     some_runs (suc high) first last class none low upto = omega arith
 
 -- the place of a class in a run whose lions say first
-pub record IsPlaceOfClass (set : PieceSet) (block place class : ℕ) : Type 0 where
-  pub place_below : place < block_size set block
-  pub mark_is : marked set (start_of set block + place) ≡ true
-  pub class_is : marks_below (marked set) (start_of set block + place) ≡ class
+pub record IsSpotOfClass (set : PieceSet) (block run local class : ℕ) : Type 0 where
+  pub local_below : local < run_size set block
+  pub mark_is : marked set (run_start set block run + local) ≡ true
+  pub class_is : marks_below (marked set) (run_start set block run + local) ≡ class
 
 pub record IsSearched (set : PieceSet) (block run class : ℕ) : Type 0 where
   pub run_below : run < runs_in set block
@@ -268,37 +242,25 @@ run_upto set block run size below is =
     let upto : (run + 1) * size ≤ runs_in set block * size = mul-le-mul_right size (let le : run + 1 ≤ runs_in set block = omega arith in le) in
     omega (arith, whole, next, upto)
 
-pub first_place : (set : PieceSet) (block run size before class : ℕ) → block < product (block_bases set) → size ≡ run_size set block →
+pub first_spot : (set : PieceSet) (block run before class : ℕ) → block < product (block_bases set) →
     IsSearched set block run class → run_kind (run % lion_pairs) ≡ First → before ≡ marks_below (marked set) (run_start set block run) →
-    IsPlaceOfClass set block (run * size + (class - before)) class
-first_place set block run size before class within is at kind before_is =
+    IsSpotOfClass set block run (class - before) class
+first_spot set block run before class within at kind before_is =
     let all = first_marks set block run (run_size set block) within at.run_below (omega arith) kind in
     let next : marks_below (marked set) (run_start set block (run + 1)) ≡ marks_below (marked set) (run_start set block run + run_size set block) =
     ap (marks_below (marked set)) (run_start_next set block run) in
     let below : class - before < run_size set block =
     few_classes class before (marks_below (marked set) (run_start set block run)) (marks_below (marked set) (run_start set block (run + 1)))
     (run_size set block) before_is at.low_is at.high_is (next ∙ all) in
-    let upto = run_upto set block run size at.run_below is in
-    let in_run : IsInRun set block run (class - before) = record { block_below = within; run_below = at.run_below; local_below = below } in
-    let whole : run_start set block run + (class - before) ≡ start_of set block + (run * size + (class - before)) =
-    joined (run_start set block run) (start_of set block) (run * size) (class - before)
-    (run_start-is set block run ∙ ap (λ n. start_of set block + run * n) (sym is)) in
     let marks = first_marks set block run (class - before) within at.run_below (omega arith) kind in
     record {
-      place_below = in_block (run * size) (class - before) size (run_size set block) (block_size set block) is upto below;
-      mark_is = ap (marked set) (sym whole) ∙ marked_first set block run (class - before) in_run kind;
-      class_is = ap (marks_below (marked set)) (sym whole) ∙ marks
-          ∙ sum_back (marks_below (marked set) (run_start set block run)) before class before_is at.low_is;
+      local_below = below;
+      mark_is = marked_first set block run (class - before) (record { block_below = within; run_below = at.run_below; local_below = below }) kind;
+      class_is = marks ∙ sum_back (marks_below (marked set) (run_start set block run)) before class before_is at.low_is;
     }
   where
     few_classes : (class before low high size : ℕ) → before ≡ low → low ≤ class → class < high → high ≡ low + size → class - before < size
     few_classes class before low high size a b c d = omega arith
-
-    joined : (run start first local : ℕ) → run ≡ start + first → run + local ≡ start + (first + local)
-    joined run start first local e = omega arith
-
-    in_block : (first local size same block : ℕ) → size ≡ same → first + size ≤ block → local < same → first + local < block
-    in_block first local size same block a b c = omega arith
 
     sum_back : (low before class : ℕ) → before ≡ low → low ≤ class → low + (class - before) ≡ class
     sum_back low before class a b = omega arith
@@ -329,21 +291,6 @@ place_search set block run size class within is low high =
     none run = omega arith
 
 -- the place found there, as one of the block
-pub searched_place : (set : PieceSet) (block run size local class : ℕ) → IsInRun set block run local → size ≡ run_size set block →
-    marked set (run_start set block run + local) ≡ true → marks_below (marked set) (run_start set block run + local) ≡ class →
-    IsPlaceOfClass set block (run * size + local) class
-searched_place set block run size local class at is on number =
-    let whole : run_start set block run + local ≡ start_of set block + (run * size + local) =
-    joined (run_start set block run) (start_of set block) (run * size) local (run_start-is set block run ∙ ap (λ n. start_of set block + run * n) (sym is)) in
-    record {
-      place_below = subst (λ n. run * n + local < block_size set block) (sym is) (place_in_run set block run local at);
-      mark_is = ap (marked set) (sym whole) ∙ on;
-      class_is = ap (marks_below (marked set)) (sym whole) ∙ number;
-    }
-  where
-    joined : (run start first local : ℕ) → run ≡ start + first → run + local ≡ start + (first + local)
-    joined run start first local e = omega arith
-
 -- two neighbours between which the last search ends
 pub last_place : (mark : ℕ → Bool) (start low high class : ℕ) → low < high → high - low ≤ 1 → marks_below mark (start + low) ≤ class →
     class < marks_below mark (start + high) → IsMarkedAt mark (start + low) class

@@ -1,12 +1,12 @@
 -- A place in a block is a run and a place in that run, and the lions of a run compare its positions with their mirror
 -- images.
 use Rattle.std.proofs.Common.{◌≡◌, ℕ, zero, suc, ◌+◌, ◌-◌, ◌*◌, ◌/◌, ◌%◌, ◌<◌, ◌≤◌, Bool, true, false, List, [], ◌∷◌, ◌++◌, length, get_or, ◌^◌}
-use Rattle.std.proofs.Common.{take, drop, map, refl, sym, ap, ◌∙◌, subst, inl, inr, arith}
+use Rattle.std.proofs.Common.{map, refl, sym, ap, ◌∙◌, subst, inl, inr, arith}
 use Rattle.std.specs.List.{All}
 use Rattle.std.proofs.lemmas.Bool.{cases_Bool, cases_lt}
 use Rattle.std.proofs.lemmas.List.{length-map}
 use Rattle.std.proofs.lemmas.Nat.{div-mul-add}
-use Rattle.std.proofs.Math.Nat.{mul-pos, mul-le-mul}
+use Rattle.std.proofs.Math.Nat.{mul-pos}
 use Rattle.dob_pieces.specs.declared.piece_set.PieceSet.{PieceSet}
 use Rattle.dob_pieces.specs.declared.setup.Setup.{Setup}
 use Rattle.dob_pieces.specs.Setups.{mirrored}
@@ -15,12 +15,13 @@ use Rattle.dob_rank.specs.Order.{IsPositionOf}
 use Rattle.dob_rank.specs.Numbers.{layer, count, choice, forms_number, product, number_of, digits_of, sum_below, block_bases, bases_by, order}
 use Rattle.dob_rank.specs.Numbers.{on_board, block_of, block_size, rank_of, setup_in, own_squares, enemy_squares}
 use Rattle.dob_rank.specs.Marks.{is_first, marked}
-use Rattle.dob_rank.specs.Runs.{run_bases, local_bases, runs_in, run_size, run_start, lions_of, run_kind, lion_pairs}
+use Rattle.dob_rank.specs.Runs.{run_bases, local_bases, runs_in, run_size, run_start, run_of, local_of, IsInRun, lions_of, run_kind, lion_pairs}
 use Rattle.dob_rank.specs.declared.layers.Layer.TheVariants.{OwnLion, EnemyLion, Chicks, Elephants, Giraffes}
-use Rattle.dob_rank.proofs.Blocks.{AreBases-by, few_in_block, block_size-small}
+use Rattle.dob_rank.proofs.Blocks.{AreBases-by, few_in_block, block_size-small, run_bases-few}
 use Rattle.dob_rank.proofs.MixedRadix.{digit_below, number_of-below, product-append, number_of-append}
 use Rattle.dob_rank.proofs.Digits.{HasParts-from_position, HasDigits-digits}
-use Rattle.dob_rank.proofs.Numbering.{place_of, rank_of-place, block_size-product, on_board-block, HasBlock, HasBlock-setup_in, rank_of-block, rank_of-below}
+use Rattle.dob_rank.proofs.Numbering.{place_of, rank_of-place, block_of-below, block_size-product, on_board-block}
+use Rattle.dob_rank.proofs.Numbering.{HasBlock, HasBlock-setup_in, rank_of-block, rank_of-below}
 use Rattle.dob_rank.proofs.Found.{IsPositionOf-mirrored}
 use Rattle.dob_rank.proofs.Marks.{first-marked, marked-first, marked-first_of}
 use Rattle.dob_rank.proofs.Representatives.{first_by_rank, rank_of_first}
@@ -42,15 +43,9 @@ local_digits s =
     choice (order Chicks) (map layer s.board) ∷ choice (order Elephants) (map layer s.board) ∷ choice (order Giraffes) (map layer s.board)
     ∷ forms_number (order Chicks) s.board ∷ forms_number (order Elephants) s.board ∷ forms_number (order Giraffes) s.board ∷ []
 
--- the numbers of the hands, of the run and of the place in it
+-- the number of the hands, and the size of the run
 hand_of : PieceSet → Setup → ℕ
 hand_of set s = number_of (hand_bases set (on_board s)) (hand_digits s)
-
-pub run_of : PieceSet → Setup → ℕ
-run_of set s = number_of (run_bases set (on_board s)) (hand_digits s ++ lions_digits s)
-
-pub local_of : Setup → ℕ
-local_of s = number_of (local_bases (on_board s)) (local_digits s)
 
 pub local_size : Setup → ℕ
 local_size s = product (local_bases (on_board s))
@@ -146,12 +141,6 @@ later_by_place set s p lt = elim (cases_Bool (is_first set (rank_of set s))) [
 
 -- ---- the marks of a run
 
--- a run of a block, and a place in it
-pub record IsInRun (set : PieceSet) (block run local : ℕ) : Type 0 where
-  pub block_below : block < product (block_bases set)
-  pub run_below : run < runs_in set block
-  pub local_below : local < run_size set block
-
 -- the position that stands there
 pub record StandsIn (set : PieceSet) (block run local : ℕ) (s : Setup) : Type 0 where
   pub position : IsPositionOf set s
@@ -210,6 +199,41 @@ stands_in set block run local h =
 
     remainder : (hand lions is run : ℕ) → is ≡ run → is ≡ hand * lion_pairs + lions → lions < lion_pairs → lions ≡ run % lion_pairs
     remainder hand lions is run same whole below = omega arith
+
+-- a position's own spot
+pub record HasSpot (set : PieceSet) (s : Setup) (of : PieceSet) (block run local : ℕ) : Type 0 where
+  pub there : IsInRun of block run local
+  pub rank_is : run_start of block run + local ≡ rank_of set s
+
+run_of-below : (set : PieceSet) (s : Setup) → IsPositionOf set s → run_of set s < runs_in set (block_of set s)
+unfolding run_of runs_in
+run_of-below set s p =
+    let h = HasDigits-digits set s (HasParts-from_position set s p) in
+    subst (λ xs. run_of set s < product (run_bases set xs)) (sym (on_board-block set s p))
+    (number_of-below (run_bases set (on_board s)) (hand_digits s ++ lions_digits s) (h.0, (h.1.0, (h.1.1.0, (h.1.1.1.0, (h.1.1.1.1.0, tt))))))
+
+own_spot : (set : PieceSet) (s : Setup) → IsPositionOf set s → HasSpot set s set (block_of set s) (run_of set s) (local_of s)
+own_spot set s p =
+    let size : local_size s ≡ run_size set (block_of set s) = local_size-block set (block_of set s) s p refl in
+    let place : place_of set s ≡ run_of set s * run_size set (block_of set s) + local_of s =
+    place_of-run set s ∙ ap (λ n. run_of set s * n + local_of s) size in
+    let rank = rank_of-place set s in
+    let start = run_start-is set (block_of set s) (run_of set s) in
+    record {
+      there = record {
+        block_below = block_of-below set s p;
+        run_below = run_of-below set s p;
+        local_below = subst (λ n. local_of s < n) size (local_of-below set s p);
+      };
+      rank_is = omega (arith, place, rank, start);
+    }
+
+pub spot_there : (set : PieceSet) (s : Setup) (of : PieceSet) (block run local : ℕ) → IsPositionOf set s → of ≡ set → block ≡ block_of set s →
+    run ≡ run_of set s → local ≡ local_of s → HasSpot set s of block run local
+spot_there set s of block run local p of_is block_is run_is local_is =
+    subst (λ q. HasSpot set s q block run local) (sym of_is) (subst (λ n. HasSpot set s set n run local) (sym block_is)
+    (subst (λ n. HasSpot set s set (block_of set s) n local) (sym run_is)
+    (subst (λ n. HasSpot set s set (block_of set s) (run_of set s) n) (sym local_is) (own_spot set s p))))
 
 mark_at : (set : PieceSet) (block run local : ℕ) (s : Setup) (on : Bool) → StandsIn set block run local s → is_first set (rank_of set s) ≡ on →
     marked set (run_start set block run + local) ≡ on
@@ -270,40 +294,21 @@ product-positive (b ∷ bs) all =
     mul_positive : (a b : ℕ) → 0 < a → 0 < b → 0 < a * b
     mul_positive a b p q = mul-pos p q
 
--- what the code finds of a block's bases
-pub record AreRunBases (set : PieceSet) (block : ℕ) (bs : List ℕ) : Type 0 where
-  pub runs_are : get_or bs 0 0 * (get_or bs 1 0 * (get_or bs 2 0 * (get_or bs 3 0 * get_or bs 4 0))) ≡ runs_in set block
-  pub size_is : product (take 6 (drop 5 bs)) ≡ run_size set block
-  pub positive : All (λ (n : ℕ). 0 < n) (take 6 (drop 5 bs))
+-- what the code finds of a block's numbers
+pub runs_found : (set : PieceSet) (block : ℕ) (nums bs : List ℕ) → nums ≡ digits_of (block_bases set) block → bs ≡ bases_by set nums →
+    get_or bs 0 0 * (get_or bs 1 0 * (get_or bs 2 0 * (get_or bs 3 0 * get_or bs 4 0))) ≡ runs_in set block
+unfolding runs_in
+runs_found set block nums bs is bases_are =
+    ap (λ (xs : List ℕ). get_or xs 0 0 * (get_or xs 1 0 * (get_or xs 2 0 * (get_or xs 3 0 * get_or xs 4 0)))) (bases_are ∙ ap (bases_by set) is)
 
-pub AreRunBases-by : (set : PieceSet) (block : ℕ) (nums bs : List ℕ) → block < product (block_bases set) → nums ≡ digits_of (block_bases set) block →
-    bs ≡ bases_by set nums → AreRunBases set block bs
-unfolding runs_in run_size
-AreRunBases-by set block nums bs within is bases_are =
-    let whole : bs ≡ bases_by set (digits_of (block_bases set) block) = bases_are ∙ ap (bases_by set) is in
-    let ob = digits_of (block_bases set) block in
-    subst (AreRunBases set block) (sym whole) (record {
-      runs_are = refl;
-      size_is = refl;
-      positive = positive_locals set ob (AreBases-by set ob (bases_by set ob) (few_in_block set block within) refl).positive;
-    })
+pub run_size-found : (set : PieceSet) (block size : ℕ) (nums : List ℕ) → nums ≡ digits_of (block_bases set) block → size ≡ product (local_bases nums) →
+    size ≡ run_size set block
+unfolding run_size
+run_size-found set block size nums is found = found ∙ ap (λ (xs : List ℕ). product (local_bases xs)) is
 
 pub runs_few : (set : PieceSet) (block : ℕ) → block < product (block_bases set) → runs_in set block ≤ 2 ^ 12
 unfolding runs_in
-runs_few set block within =
-    few_hands (set.chicks - get_or (digits_of (block_bases set) block) 0 0 + 1) (set.elephants - get_or (digits_of (block_bases set) block) 1 0 + 1)
-    (set.giraffes - get_or (digits_of (block_bases set) block) 2 0 + 1)
-    (let few = set.few_chicks in omega arith) (let few = set.few_elephants in omega arith) (let few = set.few_giraffes in omega arith)
-  where
-    few_hands : (a b c : ℕ) → a ≤ 3 → b ≤ 3 → c ≤ 3 → a * (b * (c * (own_squares * (enemy_squares * 1)))) ≤ 2 ^ 12
-    few_hands a b c p q r =
-        let first : c * lion_pairs ≤ 3 * lion_pairs = omega arith in
-        let second : b * (c * lion_pairs) ≤ 3 * (3 * lion_pairs) = mul-le-mul q first in
-        let third : a * (b * (c * lion_pairs)) ≤ 3 * (3 * (3 * lion_pairs)) = mul-le-mul p second in
-        omega (arith, third)
-
-pub run_size-positive : (set : PieceSet) (block : ℕ) (bs : List ℕ) → AreRunBases set block bs → 0 < run_size set block
-run_size-positive set block bs are = subst (λ n. 0 < n) are.size_is (product-positive (take 6 (drop 5 bs)) are.positive)
+runs_few set block within = run_bases-few set (digits_of (block_bases set) block)
 
 no_runs : (set : PieceSet) (block : ℕ) → block < product (block_bases set) → runs_in set block ≤ 0 → ⊥
 unfolding runs_in
@@ -328,9 +333,6 @@ run_size-small set block within =
     times_at_least : (a b : ℕ) → 0 < a → b ≤ a * b
     times_at_least (zero) b h = absurd (omega arith)
     times_at_least (suc a) b h = omega arith
-
-pub word_size : (n size : ℕ) → n ≡ size → size ≤ 2 ^ 36 → n < 2 ^ 64
-word_size n size is small = omega arith
 
 -- ---- the mark of a place
 
@@ -361,7 +363,37 @@ unmarked_by_place set block place other s t there image is lt =
     ordered : (own image place other : ℕ) → own ≡ place → other ≡ image → other < place → image < own
     ordered own image place other p q lt = omega arith
 
+-- in an earlier run each place is earlier
+pub earlier_run : (run other size local place : ℕ) → run < other → local < size → run * size + local ≤ other * size + place
+earlier_run run other size local place less low = omega (arith, digit_below run other size local less low)
+
+-- the spot of the mirror image of the position at a place
+pub record HasImageAt (set : PieceSet) (block run local : ℕ) (image : Setup) : Type 0 where
+  pub local_below : local < run_size set block
+  pub place_is : run * run_size set block + local ≡ place_of set image
+
+pub image_spot : (set : PieceSet) (block place run local : ℕ) (s t : Setup) → HasBlock set block place s → t ≡ mirrored s → run ≡ run_of set t →
+    local ≡ local_of t → HasImageAt set block run local t
+image_spot set block place run local s t there image run_is local_is =
+    let p : IsPositionOf set t = subst (IsPositionOf set) (sym image) (IsPositionOf-mirrored set s there.position) in
+    let same : block_of set t ≡ block = ap (block_of set) image ∙ block_of-mirrored set s there.position ∙ there.block_is in
+    let size : local_size t ≡ run_size set block = local_size-block set block t p same in
+    record {
+      local_below = subst (λ n. n < run_size set block) (sym local_is) (subst (λ n. local_of t < n) size (local_of-below set t p));
+      place_is = ap (λ n. n * run_size set block + local) run_is ∙ ap (λ n. run_of set t * run_size set block + n) local_is
+          ∙ ap (λ n. run_of set t * n + local_of t) (sym size) ∙ sym (place_of-run set t);
+    }
+
+-- the mark of a spot is that of its place
+pub mark_of_spot : (set : PieceSet) (block run local : ℕ) (on : Bool) →
+    marked set (sum_below (block_size set) block + (run * run_size set block + local)) ≡ on → marked set (run_start set block run + local) ≡ on
+mark_of_spot set block run local on is =
+    let start = run_start-is set block run in
+    let whole : run_start set block run + local ≡ sum_below (block_size set) block + (run * run_size set block + local) = omega (arith, start) in
+    ap (marked set) whole ∙ is
+
 pub run_size-some : (set : PieceSet) (block : ℕ) → block < product (block_bases set) → 0 < run_size set block
+unfolding run_size
 run_size-some set block within =
     let ob = digits_of (block_bases set) block in
-    run_size-positive set block (bases_by set ob) (AreRunBases-by set block ob (bases_by set ob) within refl refl)
+    product-positive (local_bases ob) (positive_locals set ob (AreBases-by set ob (bases_by set ob) (few_in_block set block within) refl).positive)

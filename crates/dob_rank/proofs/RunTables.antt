@@ -33,16 +33,13 @@ pub record IsNextWord (set : PieceSet) (block run size word bits before count nu
 
 pub next_word : (set : PieceSet) (block run size word len bits before count number : ℕ) → block < product (block_bases set) → run < runs_in set block →
     size ≡ run_size set block → word < (size + word_len - 1) / word_len → len ≡ min (size - word_len * word) word_len →
-    bits ≡ word_of (marked set) (start_of set block + (run * size + word_len * word)) len → number ≡ ones bits →
+    bits ≡ word_of (marked set) (run_start set block run + word_len * word) len → number ≡ ones bits →
     before + count ≡ marks_below (marked set) (run_start set block run + min (word_len * word) size) →
     IsNextWord set block run size word bits before count number
 unfolding run_word
-next_word set block run size word len bits before count number within below is inside len_is bits_are counted so_far =
+next_word set block run size word len bits before count number within below is inside len_is bits_is counted so_far =
     let mark = marked set in
     let start : run_start set block run ≡ start_of set block + run * size = run_start-is set block run ∙ ap (λ n. start_of set block + run * n) (sym is) in
-    let from : start_of set block + (run * size + word_len * word) ≡ run_start set block run + word_len * word =
-    joined (start_of set block) (run * size) (word_len * word) (run_start set block run) start in
-    let bits_is : bits ≡ word_of mark (run_start set block run + word_len * word) len = bits_are ∙ ap (λ n. word_of mark n len) from in
     let here : min (word_len * word) size ≡ word_len * word = all_inside word size inside in
     let first : before + count ≡ marks_below mark (run_start set block run + word_len * word) =
     so_far ∙ ap (λ n. marks_below mark (run_start set block run + n)) here in
@@ -66,9 +63,6 @@ next_word set block run size word len bits before count number within below is i
           (run_start set block run) word size (start_of set block) (run * size) (block_size set block) total few start upto first_small block_small;
     }
   where
-    joined : (start first more run : ℕ) → run ≡ start + first → start + (first + more) ≡ run + more
-    joined start first more run e = omega arith
-
     all_inside : (word size : ℕ) → word < (size + word_len - 1) / word_len → min (word_len * word) size ≡ word_len * word
     all_inside word size h = omega arith
 

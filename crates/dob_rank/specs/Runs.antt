@@ -1,11 +1,11 @@
 -- Runs: the positions of a block with the same hands and the same lions, which stand in a row. Their numbers within
 -- the block, their sizes, and what the columns of the lions say of them.
-use Rattle.std.specs.Prelude.{◌≤◌, ℕ, zero, suc, ◌+◌, ◌-◌, ◌*◌, ◌/◌, ◌%◌, ◌^◌, nat_lt, if◌then◌else◌, List, [], ◌∷◌, map, slice_index}
+use Rattle.std.specs.Prelude.{◌<◌, ◌≤◌, ℕ, zero, suc, ◌+◌, ◌-◌, ◌*◌, ◌/◌, ◌%◌, ◌^◌, nat_lt, if◌then◌else◌, List, [], ◌∷◌, map, take, drop, slice_index}
 use Rattle.dob_pieces.specs.declared.piece_set.PieceSet.{PieceSet}
 use Rattle.dob_pieces.specs.declared.setup.Setup.{Setup}
 use Rattle.dob_pieces.specs.Squares.{column}
 use Rattle.dob_rank.specs.declared.layers.Layer.TheVariants.{OwnLion, EnemyLion}
-use Rattle.dob_rank.specs.Numbers.{product, digits_of, order, layer, choose, choice, block_bases, start_of}
+use Rattle.dob_rank.specs.Numbers.{product, number_of, digits_of, order, layer, choose, choice, block_bases, start_of, on_board, digits}
 use Rattle.dob_rank.specs.Numbers.{own_squares, enemy_squares, free_squares}
 use Rattle.dob_rank.specs.declared.runs.RunKind.{RunKind}
 use Rattle.dob_rank.specs.declared.runs.RunKind.TheVariants.{First, Later, Mixed}
@@ -43,6 +43,26 @@ run_size set block = product (local_bases (digits_of (block_bases set) block))
 
 unfoldable pub run_start : PieceSet → ℕ → ℕ → ℕ
 run_start set block run = start_of set block + run * run_size set block
+
+-- a spot of a block: a run, and a place in it
+pub record IsInRun (set : PieceSet) (block run local : ℕ) : Type 0 where
+  pub block_below : block < product (block_bases set)
+  pub run_below : run < runs_in set block
+  pub local_below : local < run_size set block
+
+-- the numbers of the run that digits tell, and of the place in it
+abbrev pub run_number : PieceSet → List ℕ → List ℕ → ℕ
+run_number set on_board ds = number_of (run_bases set on_board) (take 5 ds)
+
+abbrev pub local_number : List ℕ → List ℕ → ℕ
+local_number on_board ds = number_of (local_bases on_board) (drop 5 ds)
+
+-- those of a setup
+unfoldable pub run_of : PieceSet → Setup → ℕ
+run_of set setup = run_number set (on_board setup) (digits setup)
+
+unfoldable pub local_of : Setup → ℕ
+local_of setup = local_number (on_board setup) (digits setup)
 
 -- on how many pairs of squares the lions can stand
 abbrev pub lion_pairs : ℕ

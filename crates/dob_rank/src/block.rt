@@ -1,11 +1,11 @@
 // The blocks of a piece set: the positions with the same numbers of chicks, elephants and giraffes on the board.
 // The blocks stand in the order of those numbers.
 ghost use Rattle.std.specs.Prelude.{◌≡◌, ◌<◌, ◌≤◌, ◌+◌, ◌*◌, ◌^◌, slice_index};
-ghost use Rattle.dob_rank.specs.Numbers.{choose, product, HasDigits, digits_of, sum_below, bases_by, block_bases};
+ghost use Rattle.dob_rank.specs.Numbers.{choose, product, HasDigits, number_of, digits_of, sum_below, bases_by, block_bases};
 ghost use Rattle.dob_rank.specs.Numbers.{block_size, size_of};
-ghost use Rattle.dob_rank.specs.Runs.{runs_in, run_size, form_bases, AreFewOnBoard};
+ghost use Rattle.dob_rank.specs.Runs.{runs_in, run_size, run_bases, form_bases, local_bases, run_number, local_number, AreFewOnBoard};
 
-use crate::runs::{ENEMY_SQUARES, FREE_SQUARES, LIONS, OWN_SQUARES};
+use crate::runs::{ENEMY_SQUARES, FREE_SQUARES, LIONS, OWN_SQUARES, Spot};
 use crate::{radix, starts};
 use dob_pieces::PieceSet;
 
@@ -68,20 +68,17 @@ pub(crate) fn bases_in(set: PieceSet, on_board: &EachKind) -> [u64; DIGITS]
     ]
 }
 
-/// The digits of a place in the block of those numbers on the board.
-pub(crate) fn digits_in(set: PieceSet, on_board: &EachKind, place: u64) -> [u64; DIGITS]
+/// The digits of a spot in the block of those numbers on the board.
+pub(crate) fn digits_in(set: PieceSet, on_board: &EachKind, spot: Spot) -> [u64; DIGITS]
     requires on_board { HasDigits (block_bases set) on_board.now }
-    requires place { place < product (bases_by set on_board.now) }
-    ensures { result ≡ digits_of (bases_by set on_board.now) place }
+    requires run { spot.run < product (run_bases set on_board.now) }
+    requires local { spot.local < product (local_bases on_board.now) }
+    ensures { result ≡ digits_of (bases_by set on_board.now) (spot.run * product (local_bases on_board.now) + spot.local) }
 {
     let bases = bases_in(set, on_board);
-    let forms = forms_in(on_board);
-    let size = bases[5] * (bases[6] * (bases[7] * forms));
-    let run = place / size;
-    let local = place % size;
-    let hands = radix::three_digits(&[bases[0], bases[1], bases[2]], run / LIONS);
-    let lions = run % LIONS;
-    let (choices, form) = radix::split_by_power(local, form_bits(on_board));
+    let hands = radix::three_digits(&[bases[0], bases[1], bases[2]], spot.run / LIONS);
+    let lions = spot.run % LIONS;
+    let (choices, form) = radix::split_by_power(spot.local, form_bits(on_board));
     let squares = radix::three_digits(&[bases[5], bases[6], bases[7]], choices);
     let forms = form_digits(on_board, form);
     [
@@ -97,6 +94,67 @@ pub(crate) fn digits_in(set: PieceSet, on_board: &EachKind, place: u64) -> [u64;
         forms[1],
         forms[2],
     ]
+}
+
+/// The spot that those digits write in the block of those numbers on the board.
+pub(crate) fn spot_from(set: PieceSet, on_board: &EachKind, digits: &[u64; DIGITS]) -> Spot
+    requires on_board { HasDigits (block_bases set) on_board.now }
+    requires digits { HasDigits (bases_by set on_board.now) digits.now }
+    ensures run { result.run ≡ run_number set on_board.now digits.now }
+    ensures local { result.local ≡ local_number on_board.now digits.now }
+{
+    let bases = bases_in(set, on_board);
+    let hands = radix::number_of(
+        &[bases[0], bases[1], bases[2]],
+        &[digits[0], digits[1], digits[2]],
+    );
+    let lions = digits[3] * ENEMY_SQUARES + digits[4];
+    let squares = radix::number_of(
+        &[bases[5], bases[6], bases[7]],
+        &[digits[5], digits[6], digits[7]],
+    );
+    let forms = form_number(on_board, &[digits[8], digits[9], digits[10]]);
+    let run = hands * LIONS + lions;
+    let local = radix::join_by_power(squares, forms, form_bits(on_board));
+    Spot { run, local }
+}
+
+/// The place in the block of those numbers on the board at which a spot is.
+pub(crate) fn place_of(on_board: &EachKind, spot: Spot) -> u64
+    requires few { AreFewOnBoard on_board.now }
+    requires run { spot.run < 2 ^ 12 }
+    requires local { spot.local < product (local_bases on_board.now) }
+    ensures { result ≡ spot.run * product (local_bases on_board.now) + spot.local }
+{
+    spot.run * size_of_runs(on_board) + spot.local
+}
+
+/// The spot that is at a place in the block of those numbers on the board.
+pub(crate) fn spot_at(set: PieceSet, on_board: &EachKind, place: u64) -> Spot
+    requires on_board { HasDigits (block_bases set) on_board.now }
+    requires place { place < product (bases_by set on_board.now) }
+    ensures run { result.run < product (run_bases set on_board.now) }
+    ensures local { result.local < product (local_bases on_board.now) }
+    ensures place { result.run * product (local_bases on_board.now) + result.local ≡ place }
+{
+    let size = size_of_runs(on_board);
+    Spot {
+        run: place / size,
+        local: place % size,
+    }
+}
+
+/// How many positions each run of those numbers on the board has.
+fn size_of_runs(on_board: &EachKind) -> u64
+    requires { AreFewOnBoard on_board.now }
+    ensures value { result ≡ product (local_bases on_board.now) }
+    ensures bound { result ≤ 2 ^ 25 }
+{
+    let chicks = on_board[0];
+    let elephants = on_board[1];
+    let giraffes = on_board[2];
+    let for_giraffes = choose(FREE_SQUARES - chicks - elephants, giraffes) * forms_in(on_board);
+    choose(FREE_SQUARES, chicks) * (choose(FREE_SQUARES - chicks, elephants) * for_giraffes)
 }
 
 /// How many forms the pieces of those numbers on the board have.
@@ -125,6 +183,17 @@ fn form_digits(on_board: &EachKind, number: u64) -> EachKind
     let (rest, giraffes) = radix::split_by_power(number, on_board[2]);
     let (chicks, elephants) = radix::split_by_power(rest, on_board[1]);
     [chicks, elephants, giraffes]
+}
+
+/// The number whose digits are those forms.
+fn form_number(on_board: &EachKind, forms: &EachKind) -> u64
+    requires few { AreFewOnBoard on_board.now }
+    requires forms { HasDigits (form_bases on_board.now) forms.now }
+    ensures value { result ≡ number_of (form_bases on_board.now) forms.now }
+    ensures bound { result < 256 }
+{
+    let elephants = radix::join_by_power(forms[0], forms[1], on_board[1]);
+    radix::join_by_power(elephants, forms[2], on_board[2])
 }
 
 /// In how many ways at most two squares are chosen from so many.
@@ -181,8 +250,7 @@ pub(crate) fn run_size_in(set: PieceSet, block: u64) -> u64
     ensures positive { 0 < result }
     ensures bound { result ≤ 2 ^ 36 }
 {
-    let on_board = numbers_in(set, block);
-    radix::product(&bases_in(set, &on_board)[5..])
+    size_of_runs(&numbers_in(set, block))
 }
 
 /// The block in which a rank below the set's size lies, and the place there.

@@ -7,8 +7,8 @@ ghost use Rattle.dob_rank.specs.Runs.{runs_in, run_size, run_start};
 ghost use Rattle.dob_rank.specs.RunTables.{AreRuns, run_words, kept_words};
 
 use crate::block;
-use crate::ranks::{place_of, position_at};
-use crate::runs::{LIONS, Run, RunKind, WORD, Word, kind_of};
+use crate::ranks::{position_at, spot_of};
+use crate::runs::{LIONS, Run, RunKind, Spot, WORD, Word, kind_of};
 use dob_pieces::{Memory, PieceSet};
 use std::alloc::Global;
 
@@ -68,46 +68,38 @@ impl BlockClasses {
         })
     }
 
-    /// Whether the position at a place of the block is a representative, and how many are before it.
-    pub(crate) fn look_up(&self, place: u64) -> (bool, u64)
-        requires { place < block_size self.now.set self.now.number }
-        ensures mark { result.0 ≡ marked self.now.set (start_of self.now.set self.now.number + place) }
-        ensures before { result.1 ≡ marks_below (marked self.now.set) (start_of self.now.set self.now.number + place) }
+    /// Whether the position at a spot of the block is a representative, and how many are before it.
+    pub(crate) fn look_up(&self, spot: Spot) -> (bool, u64)
+        requires run { spot.run < runs_in self.now.set self.now.number }
+        requires local { spot.local < run_size self.now.set self.now.number }
+        ensures mark { result.0 ≡ marked self.now.set (run_start self.now.set self.now.number spot.run + spot.local) }
+        ensures before { result.1 ≡ marks_below (marked self.now.set) (run_start self.now.set self.now.number spot.run + spot.local) }
     {
-        self.look_up_in(place / self.size, place % self.size)
-    }
-
-    /// The same at a place of a run.
-    fn look_up_in(&self, number: u64, local: u64) -> (bool, u64)
-        requires run { number < runs_in self.now.set self.now.number }
-        requires local { local < run_size self.now.set self.now.number }
-        ensures mark { result.0 ≡ marked self.now.set (run_start self.now.set self.now.number number + local) }
-        ensures before { result.1 ≡ marks_below (marked self.now.set) (run_start self.now.set self.now.number number + local) }
-    {
-        let run = self.runs[number as usize];
-        match kind_of(number % LIONS) {
-            RunKind::First => (true, run.before + local),
+        let run = self.runs[spot.run as usize];
+        match kind_of(spot.run % LIONS) {
+            RunKind::First => (true, run.before + spot.local),
             RunKind::Later => (false, run.before),
             RunKind::Mixed => {
-                self.words[run.word + (local / WORD) as usize].look_up(local % WORD)
+                self.words[run.word + (spot.local / WORD) as usize].look_up(spot.local % WORD)
             }
         }
     }
 
-    /// The place of the representative before which there are so many in the whole set.
-    pub(crate) fn place_at(&self, class: u64) -> u64
+    /// The spot of the representative before which there are so many in the whole set.
+    pub(crate) fn spot_at(&self, class: u64) -> Spot
         requires low { self.now.before ≤ class }
         requires high { class < self.now.after }
-        ensures place { result < block_size self.now.set self.now.number }
-        ensures mark { marked self.now.set (start_of self.now.set self.now.number + result) ≡ true }
-        ensures class { marks_below (marked self.now.set) (start_of self.now.set self.now.number + result) ≡ class }
+        ensures run { result.run < runs_in self.now.set self.now.number }
+        ensures local { result.local < run_size self.now.set self.now.number }
+        ensures mark { marked self.now.set (run_start self.now.set self.now.number result.run + result.local) ≡ true }
+        ensures class { marks_below (marked self.now.set) (run_start self.now.set self.now.number result.run + result.local) ≡ class }
     {
         let run = self.run_at(class);
-        let first = run * self.size;
-        match kind_of(run % LIONS) {
-            RunKind::First => first + (class - self.before_run(run)),
-            RunKind::Later | RunKind::Mixed => first + self.search(run, class),
-        }
+        let local = match kind_of(run % LIONS) {
+            RunKind::First => class - self.before_run(run),
+            RunKind::Later | RunKind::Mixed => self.search(run, class),
+        };
+        Spot { run, local }
     }
 
     /// The run in which that representative stands: the last one with no more of them before it.
@@ -152,7 +144,7 @@ impl BlockClasses {
         let mut high = self.size;
         while 1 < high - low {
             let middle = low + (high - low) / 2;
-            if self.look_up_in(run, middle).1 <= class {
+            if self.look_up(Spot { run, local: middle }).1 <= class {
                 low = middle;
             } else {
                 high = middle;
@@ -209,7 +201,7 @@ fn push_words(
     let mut count = 0;
     for word in 0..(size + WORD - 1) / WORD {
         let len = (size - WORD * word).min(WORD);
-        let bits = word_from(set, block, run * size + WORD * word, len);
+        let bits = word_from(set, block, run, WORD * word, len);
         words.push(Word {
             bits,
             before: before + count,
@@ -219,28 +211,31 @@ fn push_words(
     Ok(count)
 }
 
-/// The marks of at most as many places from one on as a word has.
-fn word_from(set: PieceSet, block: u64, first: u64, len: u64) -> u64
+/// The marks of at most as many places of a run from one on as a word has.
+fn word_from(set: PieceSet, block: u64, run: u64, first: u64, len: u64) -> u64
     requires block { block < product (block_bases set) }
-    requires within { first + len ≤ block_size set block }
+    requires run { run < runs_in set block }
+    requires within { first + len ≤ run_size set block }
     requires few { len ≤ WORD }
-    ensures { result ≡ word_of (marked set) (start_of set block + first) len }
+    ensures { result ≡ word_of (marked set) (run_start set block run + first) len }
 {
     let mut word = 0;
     for place in (0..len).rev() {
-        word = 2 * word + mark_of(set, block, first + place);
+        let local = first + place;
+        word = 2 * word + mark_of(set, block, Spot { run, local });
     }
     word
 }
 
-/// The mark of a place of a block: 1 where its position is no later than its mirror image, and else 0.
-fn mark_of(set: PieceSet, block: u64, place: u64) -> u64
+/// The mark of a spot of a block: 1 where its position is no later than its mirror image, and else 0.
+fn mark_of(set: PieceSet, block: u64, spot: Spot) -> u64
     requires block { block < product (block_bases set) }
-    requires place { place < block_size set block }
-    ensures { result ≡ one_if (marked set (start_of set block + place)) }
+    requires run { spot.run < runs_in set block }
+    requires local { spot.local < run_size set block }
+    ensures { result ≡ one_if (marked set (run_start set block spot.run + spot.local)) }
 {
-    let image = position_at(set, block, place).mirrored();
-    if place <= place_of(set, &image).1 {
+    let image = position_at(set, block, spot).mirrored();
+    if spot.is_up_to(spot_of(set, &image).1) {
         1
     } else {
         0

@@ -12,7 +12,7 @@ use crate::block_classes::BlockClasses;
 use crate::fault::Fault;
 use crate::limit::MOST_PIECES;
 use crate::masks::{Masks, masks_of};
-use crate::ranks::{place_by, position_at};
+use crate::ranks::{position_at, spot_by};
 use dob_pieces::{PieceSet, Position};
 use std::alloc::Global;
 
@@ -108,7 +108,7 @@ impl Classes {
         ensures number { class_number self.now.set result.setup ≡ class }
     {
         let block = &self.blocks[self.block_at(class)];
-        position_at(self.set, block.number, block.place_at(class))
+        position_at(self.set, block.number, block.spot_at(class))
     }
 
     /// The block in which the representative of that class stands: the last one with no more classes before it.
@@ -142,7 +142,7 @@ impl Classes {
         ensures mark { result.0 ≡ marked self.now.set (rank_of self.now.set position.now.setup) }
         ensures before { result.1 ≡ marks_below (marked self.now.set) (rank_of self.now.set position.now.setup) }
     {
-        let (block, place) = place_by(self.set, position, masks);
-        self.blocks[block as usize].look_up(place)
+        let (block, spot) = spot_by(self.set, position, masks);
+        self.blocks[block as usize].look_up(spot)
     }
 }

@@ -1,5 +1,5 @@
 // Numbers in mixed radix: a list of bases, and for each base a digit below it, the first of most weight.
-ghost use Rattle.std.specs.Prelude.{◌≡◌, ◌<◌, ◌≤◌, ◌^◌, ◌/◌, ◌%◌};
+ghost use Rattle.std.specs.Prelude.{◌≡◌, ◌<◌, ◌≤◌, ◌+◌, ◌*◌, ◌^◌, ◌/◌, ◌%◌};
 ghost use Rattle.std.specs.List.{All};
 ghost use Rattle.dob_rank.specs.Numbers.{product, number_of, digits_of, HasDigits};
 
@@ -16,19 +16,13 @@ pub(crate) fn product(bases: &[u64]) -> u64
     weight
 }
 
-/// The number that the digits write.
-pub(crate) fn number_of(bases: &[u64], digits: &[u64]) -> u64
+/// The number that three digits write.
+pub(crate) fn number_of(bases: &[u64; 3], digits: &[u64; 3]) -> u64
     requires below { HasDigits bases.now digits.now }
     requires fits { product bases.now < 2 ^ 64 }
     ensures { result ≡ number_of bases.now digits.now }
 {
-    let mut number = 0;
-    let mut weight = 1;
-    for i in (0..bases.len()).rev() {
-        number += digits[i] * weight;
-        weight *= bases[i];
-    }
-    number
+    (digits[0] * bases[1] + digits[1]) * bases[2] + digits[2]
 }
 
 /// The three digits of a number.
@@ -48,6 +42,16 @@ pub(crate) fn split_by_power(number: u64, exponent: u64) -> (u64, u64)
     ensures rest { result.1 ≡ number % 2 ^ exponent }
 {
     (number >> exponent, number & ((1 << exponent) - 1))
+}
+
+/// The number whose quotient and remainder by a power of 2 those are.
+pub(crate) fn join_by_power(quotient: u64, rest: u64, exponent: u64) -> u64
+    requires exponent { exponent ≤ 31 }
+    requires quotient { quotient < 2 ^ 31 }
+    requires rest { rest < 2 ^ 32 }
+    ensures { result ≡ quotient * 2 ^ exponent + rest }
+{
+    (quotient << exponent) + rest
 }
 
 /// The quotient and the remainder by a base. The bases of sets of up to three pieces are listed, so that there is no

@@ -1,15 +1,17 @@
 // The rank of a position, the position of a rank, and the representative of a class.
-ghost use Rattle.std.specs.Prelude.{◌≡◌, ◌<◌, ◌≤◌, ◌+◌, ◌^◌};
+ghost use Rattle.std.specs.Prelude.{◌≡◌, ◌<◌, ◌≤◌, ◌+◌, ◌*◌, ◌^◌};
 ghost use Rattle.dob_pieces.specs.Setups.{total};
 ghost use Rattle.dob_rank.specs.BoardMasks.{AreMasks};
 ghost use Rattle.dob_rank.specs.Order.{IsPositionOf, HasSize, HasRank, RepresentativeOf};
-ghost use Rattle.dob_rank.specs.Numbers.{size_of, rank_of, product, block_bases, block_of, block_size, place_of};
+ghost use Rattle.dob_rank.specs.Numbers.{size_of, rank_of, product, number_of, block_bases, block_of};
 ghost use Rattle.dob_rank.specs.Numbers.{HasBlock, bases_by, on_board as on_board_of, digits as all_digits_of, setup_by, hands_by};
 ghost use Rattle.dob_rank.specs.Numbers.{HasDigits};
+ghost use Rattle.dob_rank.specs.Runs.{runs_in, run_size, run_bases, local_bases, run_of, local_of};
 
 use crate::block::{self, DIGITS, EachKind};
 use crate::layers::Layer;
 use crate::masks::{self, Masks};
+use crate::runs::Spot;
 use crate::{placing, radix, starts};
 use dob_pieces::{Hand, HandKind, Hands, PieceSet, Position, Setup};
 
@@ -30,8 +32,8 @@ pub fn rank(position: &Position) -> u64
     let masks = masks::masks_of(&position.setup.board);
     let on_board = numbers_on_board(position, masks);
     let set = piece_set_of(position, &on_board);
-    let (block, place) = place_with(set, position, masks, &on_board);
-    starts::block_start(set, block) + place
+    let (block, spot) = spot_with(set, position, masks, &on_board);
+    starts::block_start(set, block) + block::place_of(&on_board, spot)
 }
 
 /// The position of the set that has that rank, which is below the set's size.
@@ -43,40 +45,43 @@ pub fn unrank(set: PieceSet, rank: u64) -> Position
     ensures only { (p : Setup) → IsPositionOf set p → rank_of set p ≡ rank → p ≡ result.setup }
 {
     let (block, place) = block::find_block(set, rank);
-    position_at(set, block, place)
+    let on_board = block::numbers_in(set, block);
+    position_by(set, &on_board, block::spot_at(set, &on_board, place))
 }
 
-/// The number of the block of a position of the set, and the position's place there.
-pub(crate) fn place_of(set: PieceSet, position: &Position) -> (u64, u64)
+/// The number of the block of a position of the set, and the position's spot there.
+pub(crate) fn spot_of(set: PieceSet, position: &Position) -> (u64, Spot)
     requires { IsPositionOf set position.now.setup }
     ensures block { result.0 ≡ block_of set position.now.setup }
-    ensures place { result.1 ≡ place_of set position.now.setup }
+    ensures run { result.1.run ≡ run_of set position.now.setup }
+    ensures local { result.1.local ≡ local_of position.now.setup }
 {
-    place_by(set, position, masks::masks_of(&position.setup.board))
+    spot_by(set, position, masks::masks_of(&position.setup.board))
 }
 
 /// The same by the masks of the position.
-pub(crate) fn place_by(set: PieceSet, position: &Position, masks: Masks) -> (u64, u64)
+pub(crate) fn spot_by(set: PieceSet, position: &Position, masks: Masks) -> (u64, Spot)
     requires position { IsPositionOf set position.now.setup }
     requires masks { AreMasks position.now.setup.board masks }
     ensures block { result.0 ≡ block_of set position.now.setup }
-    ensures place { result.1 ≡ place_of set position.now.setup }
+    ensures run { result.1.run ≡ run_of set position.now.setup }
+    ensures local { result.1.local ≡ local_of position.now.setup }
 {
-    place_with(set, position, masks, &numbers_on_board(position, masks))
+    spot_with(set, position, masks, &numbers_on_board(position, masks))
 }
 
 /// The same by the masks of the position and the numbers on its board.
-fn place_with(set: PieceSet, position: &Position, masks: Masks, on_board: &EachKind) -> (u64, u64)
+fn spot_with(set: PieceSet, position: &Position, masks: Masks, on_board: &EachKind) -> (u64, Spot)
     requires position { IsPositionOf set position.now.setup }
     requires masks { AreMasks position.now.setup.board masks }
     requires on_board { on_board.now ≡ on_board_of position.now.setup }
     ensures block { result.0 ≡ block_of set position.now.setup }
-    ensures place { result.1 ≡ place_of set position.now.setup }
+    ensures run { result.1.run ≡ run_of set position.now.setup }
+    ensures local { result.1.local ≡ local_of position.now.setup }
 {
     let block = radix::number_of(&block::block_bases_of(set), on_board);
     let digits = digits_of(position, masks, on_board);
-    let place = radix::number_of(&block::bases_in(set, on_board), &digits);
-    (block, place)
+    (block, block::spot_from(set, on_board, &digits))
 }
 
 /// The piece set of a position, by the numbers on its board.
@@ -104,15 +109,25 @@ fn in_all(on_board: u64, mover: u8, enemy: u8) -> u8
     on_board as u8 + mover + enemy
 }
 
-/// The position of the set at that place of the block of that number.
-pub(crate) fn position_at(set: PieceSet, block: u64, place: u64) -> Position
+/// The position of the set at that spot of the block of that number.
+pub(crate) fn position_at(set: PieceSet, block: u64, spot: Spot) -> Position
     requires block { block < product (block_bases set) }
-    requires place { place < block_size set block }
-    ensures { HasBlock set block place result.setup }
+    requires run { spot.run < runs_in set block }
+    requires local { spot.local < run_size set block }
+    ensures { HasBlock set block (spot.run * run_size set block + spot.local) result.setup }
 {
-    let on_board = block::numbers_in(set, block);
-    let digits = block::digits_in(set, &on_board, place);
-    Position::new(setup_of(set, &on_board, &digits))
+    position_by(set, &block::numbers_in(set, block), spot)
+}
+
+/// The position of the set at that spot of the block of those numbers on the board.
+fn position_by(set: PieceSet, on_board: &EachKind, spot: Spot) -> Position
+    requires on_board { HasDigits (block_bases set) on_board.now }
+    requires run { spot.run < product (run_bases set on_board.now) }
+    requires local { spot.local < product (local_bases on_board.now) }
+    ensures { HasBlock set (number_of (block_bases set) on_board.now) (spot.run * product (local_bases on_board.now) + spot.local) result.setup }
+{
+    let digits = block::digits_in(set, on_board, spot);
+    Position::new(setup_of(set, on_board, &digits))
 }
 
 /// The earlier of a position and its mirror image.

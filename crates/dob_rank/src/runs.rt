@@ -1,6 +1,6 @@
 // Runs: positions of a block with the same hands and the same lions stand in a row, and the columns of the lions say
 // of ten runs in eleven whether their positions are the earlier ones of their classes. In the others marks say it.
-ghost use Rattle.std.specs.Prelude.{◌≡◌, ℕ, Bool, ◌<◌, ◌≤◌, ◌+◌, ◌^◌};
+ghost use Rattle.std.specs.Prelude.{◌≡◌, ℕ, Bool, true, false, ◌<◌, ◌≤◌, ◌+◌, ◌*◌, ◌^◌};
 ghost use Rattle.dob_rank.specs.Marks.{word_of, marks_below};
 ghost use Rattle.dob_rank.specs.Runs.{run_kind};
 
@@ -39,6 +39,31 @@ pub(crate) fn kind_of(lions: u64) -> RunKind
         (0, _) | (1, 0) => RunKind::First,
         (1, 1) => RunKind::Mixed,
         _ => RunKind::Later,
+    }
+}
+
+/// A place in a block: the run, and the place in the run.
+#[derive(Clone, Copy, Debug)]
+pub(crate) struct Spot {
+    pub(crate) run: u64,
+    pub(crate) local: u64,
+}
+
+impl Spot {
+    /// Whether the place is no later than the other one.
+    pub(crate) fn is_up_to(self, other: Spot) -> bool
+        ensures up_to { (size : ℕ) → self.local < size → result ≡ true
+            → self.run * size + self.local ≤ other.run * size + other.local }
+        ensures later { (size : ℕ) → other.local < size → result ≡ false
+            → other.run * size + other.local < self.run * size + self.local }
+    {
+        if self.run < other.run {
+            true
+        } else if self.run == other.run {
+            self.local <= other.local
+        } else {
+            false
+        }
     }
 }
 

@@ -11,24 +11,10 @@ overflow_add-word-end c =
     let small = block_size-small c.args.set c.args.block c.requires.block in
     omega (arith, upto, small)
 
-pub overflow_mul-run : goal.overflow_mul-run
-overflow_mul-run c =
-    let upto = run_upto c.args.set c.args.block c.args.run c.args.size c.requires.run c.requires.size in
-    let small = block_size-small c.args.set c.args.block c.requires.block in
-    omega (arith, upto, small)
-
-pub overflow_add-run : goal.overflow_add-run
-overflow_add-run c =
-    let upto = run_upto c.args.set c.args.block c.args.run c.args.size c.requires.run c.requires.size in
-    let small = block_size-small c.args.set c.args.block c.requires.block in
-    let inside = word_ends c.args.size c.loop-word.word _ c.loop-word-test.true c.min-len.ensures in
-    omega (arith, upto, small, inside)
-
 pub word_from-bits-requires-clause-within : goal.word_from-bits-requires-clause-within
 word_from-bits-requires-clause-within c =
-    let upto = run_upto c.args.set c.args.block c.args.run c.args.size c.requires.run c.requires.size in
     let inside = word_ends c.args.size c.loop-word.word _ c.loop-word-test.true c.min-len.ensures in
-    omega (arith, upto, inside)
+    omega (arith, inside, c.requires.size)
 
 pub overflow_add-before : goal.overflow_add-before
 overflow_add-before c =

@@ -1,23 +1,23 @@
--- A digit more keeps the number below the product of the bases, so that nothing overflows.
+-- Three digits below their bases write a number below the product, and nothing on the way is larger.
 use Rattle.std.proofs.Common.{arith}
-use Rattle.dob_rank.proofs.Loops.{digit_step}
+use Rattle.dob_rank.proofs.MixedRadix.{number_by_three}
 use Rattle.dob_rank.proofs.radix.number_of.Goals as goal
 
-pub overflow_mul-number : goal.overflow_mul-number
-overflow_mul-number c = (let s
-    = digit_step c.args.bases.now c.args.digits.now c.loop-i.i c.loop-i.number c.loop-i.weight c.requires.below c.loop-i-test.true c.loop-i.auto.i
-    c.loop-i.invariant.number_is c.loop-i.invariant.weight_is in omega (arith, s.below))
+pub overflow_mul-result : goal.overflow_mul-result
+overflow_mul-result c = (let is = number_by_three c.args.bases.now c.args.digits.now c.told-bases c.told-digits c.requires.below in
+    omega (arith, is.first_low, c.requires.fits))
 
-pub overflow_add-number : goal.overflow_add-number
-overflow_add-number c = (let s
-    = digit_step c.args.bases.now c.args.digits.now c.loop-i.i c.loop-i.number c.loop-i.weight c.requires.below c.loop-i-test.true c.loop-i.auto.i
-    c.loop-i.invariant.number_is c.loop-i.invariant.weight_is in omega (arith, s.below))
+pub overflow_add-result : goal.overflow_add-result
+overflow_add-result c = (let is = number_by_three c.args.bases.now c.args.digits.now c.told-bases c.told-digits c.requires.below in
+    omega (arith, is.second_low, c.requires.fits))
 
-pub overflow_mul-weight : goal.overflow_mul-weight
-overflow_mul-weight c = (let s
-    = digit_step c.args.bases.now c.args.digits.now c.loop-i.i c.loop-i.number c.loop-i.weight c.requires.below c.loop-i-test.true c.loop-i.auto.i
-    c.loop-i.invariant.number_is c.loop-i.invariant.weight_is in omega (arith, s.weight_below))
+pub overflow_mul-result-2 : goal.overflow_mul-result-2
+overflow_mul-result-2 c = (let is = number_by_three c.args.bases.now c.args.digits.now c.told-bases c.told-digits c.requires.below in
+    omega (arith, is.third_low, c.requires.fits))
 
-pub loop-i-preserved : goal.loop-i-preserved
-loop-i-preserved c = (let s = digit_step c.args.bases.now c.args.digits.now c.loop-i.i c.loop-i.number c.loop-i.weight c.requires.below
-    c.loop-i-test.true c.loop-i.auto.i c.loop-i.invariant.number_is c.loop-i.invariant.weight_is in record { number_is = s.number_is; weight_is = s.weight_is })
+pub overflow_add-result-2 : goal.overflow_add-result-2
+overflow_add-result-2 c = (let is = number_by_three c.args.bases.now c.args.digits.now c.told-bases c.told-digits c.requires.below in
+    omega (arith, is.number_is, is.number_low, c.requires.fits))
+
+pub returns : goal.returns
+returns c = (number_by_three c.args.bases.now c.args.digits.now c.told-bases c.told-digits c.requires.below).number_is

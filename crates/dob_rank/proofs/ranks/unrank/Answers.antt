@@ -1,21 +1,38 @@
 -- The position at the place of the rank has that rank.
 use Rattle.std.proofs.Common.{◌∙◌, sym, subst}
 use Rattle.dob_rank.specs.Order.{HasRank}
+use Rattle.dob_rank.specs.Numbers.{HasBlock}
+use Rattle.dob_rank.proofs.Blocks.{HasDigits-numbers}
+use Rattle.dob_rank.proofs.Found.{place_in, made_at_place}
 use Rattle.dob_rank.proofs.Numbering.{rank_of-block, rank_of-same, HasRank-rank_of}
 use Rattle.dob_rank.proofs.ranks.unrank.Goals as goal
 
+pub spot_at-requires : goal.spot_at-requires
+spot_at-requires c = record {
+  on_board = HasDigits-numbers c.args.set _ _ c.find_block-block.ensures.block c.numbers_in-on_board.ensures;
+  place = place_in c.args.set _ _ _ c.find_block-block.ensures.place c.numbers_in-on_board.ensures;
+}
+
+pub position_by-requires-clause-on_board : goal.position_by-requires-clause-on_board
+position_by-requires-clause-on_board c = HasDigits-numbers c.args.set _ _ c.find_block-block.ensures.block c.numbers_in-on_board.ensures
+
+found : (c : goal.After-position_by) → HasBlock c.args.set c.find_block-block.result.0 c.find_block-block.result.1 c.position_by.result.setup
+found c =
+    made_at_place c.args.set c.find_block-block.result.0 c.find_block-block.result.1 _ _ _ c.position_by.result.setup c.find_block-block.ensures.block
+    c.numbers_in-on_board.ensures c.spot_at.ensures.place c.position_by.ensures
+
 pub returns-clause-position : goal.returns-clause-position
-returns-clause-position c = c.position_at.ensures.position
+returns-clause-position c = c.position_by.ensures.position
 
 pub returns-clause-count : goal.returns-clause-count
 returns-clause-count c =
-    let rank = rank_of-block c.args.set _ _ c.position_at.result.setup c.position_at.ensures ∙ c.find_block-block.ensures.whole in
-    subst (HasRank c.args.set c.position_at.result.setup) rank (HasRank-rank_of c.args.set c.position_at.result.setup c.position_at.ensures.position)
+    let rank = rank_of-block c.args.set _ _ c.position_by.result.setup (found c) ∙ c.find_block-block.ensures.whole in
+    subst (HasRank c.args.set c.position_by.result.setup) rank (HasRank-rank_of c.args.set c.position_by.result.setup c.position_by.ensures.position)
 
 pub returns-clause-number : goal.returns-clause-number
-returns-clause-number c = rank_of-block c.args.set _ _ c.position_at.result.setup c.position_at.ensures ∙ c.find_block-block.ensures.whole
+returns-clause-number c = rank_of-block c.args.set _ _ c.position_by.result.setup (found c) ∙ c.find_block-block.ensures.whole
 
 pub returns-clause-only : goal.returns-clause-only
 returns-clause-only c = λ p is same.
-    let rank = rank_of-block c.args.set _ _ c.position_at.result.setup c.position_at.ensures ∙ c.find_block-block.ensures.whole in
-    rank_of-same c.args.set p c.position_at.result.setup is c.position_at.ensures.position (same ∙ sym rank)
+    let rank = rank_of-block c.args.set _ _ c.position_by.result.setup (found c) ∙ c.find_block-block.ensures.whole in
+    rank_of-same c.args.set p c.position_by.result.setup is c.position_by.ensures.position (same ∙ sym rank)

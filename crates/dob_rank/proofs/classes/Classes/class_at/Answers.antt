@@ -1,31 +1,23 @@
--- The position at the class's place is its representative.
+-- The position at the class's spot is its representative.
 use Rattle.std.proofs.Common.{arith}
-use Rattle.dob_rank.proofs.BlockTables.{classes_read, at_place}
+use Rattle.dob_rank.proofs.BlockTables.{classes_read, at_spot}
+use Rattle.dob_rank.proofs.ClassNumbers.{IsAtClass}
 use Rattle.dob_rank.proofs.classes.Classes.class_at.Goals as goal
 
-pub returns-clause-representative : goal.returns-clause-representative
-returns-clause-representative c =
+at_class : (c : goal.After-position_at) → IsAtClass c.args.self.now.set c.position_at.result.setup c.args.class
+at_class c =
     let classes = c.args.self.now in
     let block = c.index-block.result.now in
     let there = classes_read classes.set classes.blocks.items c.block_at.result block classes.table
     (omega (arith, c.block_at.ensures.block, classes.whole, classes.blocks.ok)) c.index-block.ensures in
-    (at_place classes.set c.block_at.result c.place_at.result c.args.class block c.position_at.result.setup there.is
-    c.place_at.ensures.place c.place_at.ensures.mark c.place_at.ensures.class c.position_at.ensures).representative
+    at_spot classes.set c.block_at.result c.spot_at.result.run c.spot_at.result.local c.args.class block c.position_at.result.setup there.is
+    c.spot_at.ensures.run c.spot_at.ensures.local c.spot_at.ensures.mark c.spot_at.ensures.class c.position_at.ensures
+
+pub returns-clause-representative : goal.returns-clause-representative
+returns-clause-representative c = (at_class c).representative
 
 pub returns-clause-class : goal.returns-clause-class
-returns-clause-class c =
-    let classes = c.args.self.now in
-    let block = c.index-block.result.now in
-    let there = classes_read classes.set classes.blocks.items c.block_at.result block classes.table
-    (omega (arith, c.block_at.ensures.block, classes.whole, classes.blocks.ok)) c.index-block.ensures in
-    (at_place classes.set c.block_at.result c.place_at.result c.args.class block c.position_at.result.setup there.is
-    c.place_at.ensures.place c.place_at.ensures.mark c.place_at.ensures.class c.position_at.ensures).before
+returns-clause-class c = (at_class c).before
 
 pub returns-clause-number : goal.returns-clause-number
-returns-clause-number c =
-    let classes = c.args.self.now in
-    let block = c.index-block.result.now in
-    let there = classes_read classes.set classes.blocks.items c.block_at.result block classes.table
-    (omega (arith, c.block_at.ensures.block, classes.whole, classes.blocks.ok)) c.index-block.ensures in
-    (at_place classes.set c.block_at.result c.place_at.result c.args.class block c.position_at.result.setup there.is
-    c.place_at.ensures.place c.place_at.ensures.mark c.place_at.ensures.class c.position_at.ensures).number_is
+returns-clause-number c = (at_class c).number_is

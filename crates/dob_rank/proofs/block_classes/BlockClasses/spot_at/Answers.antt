@@ -1,0 +1,17 @@
+-- In a run whose lions say first the place is found by subtraction, in another one by a search.
+use Rattle.std.proofs.Common.{sym, ◌∙◌}
+use Rattle.dob_rank.proofs.RunMarks.{first_spot}
+use Rattle.dob_rank.proofs.block_classes.BlockClasses.spot_at.Goals as goal
+
+pub returns-in-First : goal.returns-in-First
+returns-in-First c =
+    let block = c.args.self.now in
+    let found = first_spot block.set block.number c.run_at-run.result c.before_run.result c.args.class block.within
+    (record { run_below = c.run_at-run.ensures.run; low_is = c.run_at-run.ensures.low; high_is = c.run_at-run.ensures.high })
+    (sym c.kind_of.ensures ∙ c.in-First.is) c.before_run.ensures in
+    record { run = c.run_at-run.ensures.run; local = found.local_below; mark = found.mark_is; class = found.class_is }
+
+pub returns-in-Later : goal.returns-in-Later
+returns-in-Later c =
+    let found = c.search-local.ensures in
+    record { run = c.run_at-run.ensures.run; local = found.local; mark = found.mark; class = found.class }
