@@ -6,14 +6,15 @@ use Rattle.dob_pieces.specs.declared.piece_set.PieceSet.{PieceSet}
 use Rattle.dob_pieces.specs.declared.setup.Setup.{Setup}
 use Rattle.dob_rank.specs.declared.block_classes.BlockClasses.{BlockClasses}
 use Rattle.dob_rank.specs.Order.{IsPositionOf}
-use Rattle.dob_rank.specs.Numbers.{product, block_bases, block_of, block_size, start_of, rank_of, size_of}
-use Rattle.dob_rank.specs.Runs.{runs_in, run_size, run_start, run_of, local_of, IsInRun}
+use Rattle.dob_rank.specs.Numbers.{product, number_of, digits_of, HasDigits, block_bases, block_of, block_size, start_of, rank_of, size_of}
+use Rattle.dob_rank.specs.Runs.{run_bases, local_bases, runs_in, run_size, run_start, run_of, local_of, IsInRun}
 use Rattle.dob_rank.specs.Marks.{marks_below, marked, classes_of}
 use Rattle.dob_rank.specs.BlockTables.{IsBlock, AreBlocks}
 use Rattle.dob_rank.proofs.Sums.{sum_below-rises}
-use Rattle.dob_rank.proofs.Blocks.{sum_below_more}
+use Rattle.dob_rank.proofs.Blocks.{sum_below_more, HasDigits-numbers}
 use Rattle.dob_rank.proofs.Words.{marks_below_none}
 use Rattle.dob_rank.proofs.Numbering.{HasBlock, rank_of-block}
+use Rattle.dob_rank.proofs.Found.{made_in_block, run_in_bases, local_in_bases}
 use Rattle.dob_rank.proofs.RunPlaces.{place_in_run, run_start-is, spot_there}
 use Rattle.dob_rank.proofs.ClassNumbers.{IsAtClass, at_class}
 
@@ -123,14 +124,33 @@ place_below_size set block place within below =
     let upto = sum_below-rises (block_size set) block (product (block_bases set)) within in
     omega (arith, upto, below)
 
+-- a spot of the block that is read, by the numbers on its board
+pub record IsSpotIn (set : PieceSet) (block : BlockClasses) (run local : ℕ) : Type 0 where
+  pub on_board_has : HasDigits (block_bases set) block.on_board
+  pub run_below : run < product (run_bases set block.on_board)
+  pub local_below : local < product (local_bases block.on_board)
+
+pub spot_in : (set : PieceSet) (index run local : ℕ) (block : BlockClasses) → IsBlock set index block →
+    run < runs_in block.set block.number → local < run_size block.set block.number → IsSpotIn set block run local
+spot_in set index run local block is run_low local_low =
+    let within : block.number < product (block_bases set) = subst (λ q. block.number < product (block_bases q)) is.set_is block.within in
+    let numbers = subst (λ q. block.on_board ≡ digits_of (block_bases q) block.number) is.set_is block.numbers in
+    record {
+      on_board_has = HasDigits-numbers set block.number block.on_board within numbers;
+      run_below = run_in_bases set block.number run block.on_board numbers (subst (λ q. run < runs_in q block.number) is.set_is run_low);
+      local_below = local_in_bases set block.number local block.on_board numbers (subst (λ q. local < run_size q block.number) is.set_is local_low);
+    }
+
 -- the position at a marked spot is the representative of its class
 pub at_spot : (set : PieceSet) (index run local class : ℕ) (block : BlockClasses) (s : Setup) → IsBlock set index block →
     run < runs_in block.set block.number → local < run_size block.set block.number →
     marked block.set (run_start block.set block.number run + local) ≡ true →
     marks_below (marked block.set) (run_start block.set block.number run + local) ≡ class →
-    HasBlock set block.number (run * run_size set block.number + local) s → IsAtClass set s class
-at_spot set index run local class block s is run_low local_low on number there =
+    HasBlock set (number_of (block_bases set) block.on_board) (run * product (local_bases block.on_board) + local) s → IsAtClass set s class
+at_spot set index run local class block s is run_low local_low on number made =
     let within : block.number < product (block_bases set) = subst (λ q. block.number < product (block_bases q)) is.set_is block.within in
+    let numbers = subst (λ q. block.on_board ≡ digits_of (block_bases q) block.number) is.set_is block.numbers in
+    let there = made_in_block set block.number run local block.on_board s within numbers made in
     let in_run : IsInRun set block.number run local = record {
       block_below = within;
       run_below = subst (λ q. run < runs_in q block.number) is.set_is run_low;

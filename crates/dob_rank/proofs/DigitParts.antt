@@ -5,7 +5,7 @@ use Rattle.std.proofs.lemmas.Nat.{div_below, mod_below, div-add-mod', mul-le, on
 use Rattle.dob_pieces.specs.declared.piece_set.PieceSet.{PieceSet}
 use Rattle.dob_pieces.proofs.Boards.{all_below, all_below-at}
 use Rattle.dob_rank.specs.Numbers.{product, number_of, digits_of, HasDigits, choose, block_bases, bases_by, own_squares, enemy_squares, free_squares}
-use Rattle.dob_rank.specs.Runs.{run_bases, local_bases, form_bases, run_number, local_number, AreFewOnBoard, lion_pairs}
+use Rattle.dob_rank.specs.Runs.{run_bases, local_bases, square_bases, form_bases, run_number, local_number, AreFewOnBoard, lion_pairs}
 use Rattle.dob_rank.proofs.MixedRadix.{factor_positive, product-append, number_of-below, number_of-append, number_by_three}
 use Rattle.dob_rank.proofs.MixedRadix.{digits_of-append, digits_of-parts, digits_of-two, digits_of-three}
 use Rattle.dob_rank.proofs.Loops.{digit-at}
@@ -14,13 +14,6 @@ use Rattle.dob_rank.proofs.BlockStarts.{same_number}
 
 abbrev pub hand_bases : PieceSet → List ℕ → List ℕ
 hand_bases set ob = (set.chicks - slice_index ob 0 + 1) ∷ (set.elephants - slice_index ob 1 + 1) ∷ (set.giraffes - slice_index ob 2 + 1) ∷ []
-
-abbrev pub square_bases : List ℕ → List ℕ
-square_bases ob =
-    let i = slice_index ob 0 in
-    let j = slice_index ob 1 in
-    let k = slice_index ob 2 in
-    choose free_squares i ∷ choose (free_squares - i) j ∷ choose (free_squares - i - j) k ∷ []
 
 -- the numbers of a spot's parts, below the products of their bases, and the digits of the whole
 pub record AreParts (set : PieceSet) (ob : List ℕ) (run local forms : ℕ) : Type 0 where
@@ -110,34 +103,30 @@ pub bases_found : (set : PieceSet) (ob bs : List ℕ) → bs ≡ bases_by set ob
 bases_found set ob bs e = subst (AreBasesFound set ob) (sym e) (record { hands_are = refl; squares_are = refl })
 
 -- how many positions a run has, from the last factor on
-pub record AreFewInRun (ob : List ℕ) (one two three forms : ℕ) : Type 0 where
-  pub one_fits : three * forms ≤ most_choices * 256
-  pub two_fits : two * (three * forms) ≤ most_choices * (most_choices * 256)
-  pub three_fits : one * (two * (three * forms)) ≤ most_choices * (most_choices * (most_choices * 256))
-  pub size_is : one * (two * (three * forms)) ≡ product (local_bases ob)
+pub record AreFewInRun (ob cs : List ℕ) (forms : ℕ) : Type 0 where
+  pub one_fits : get_or cs 2 0 * forms ≤ most_choices * 256
+  pub two_fits : get_or cs 1 0 * (get_or cs 2 0 * forms) ≤ most_choices * (most_choices * 256)
+  pub three_fits : get_or cs 0 0 * (get_or cs 1 0 * (get_or cs 2 0 * forms)) ≤ most_choices * (most_choices * (most_choices * 256))
+  pub size_is : get_or cs 0 0 * (get_or cs 1 0 * (get_or cs 2 0 * forms)) ≡ product (local_bases ob)
 
-pub few_in_run : (ob : List ℕ) (one two three forms : ℕ) → AreFewOnBoard ob → one ≡ choose free_squares (slice_index ob 0) →
-    two ≡ choose (free_squares - slice_index ob 0) (slice_index ob 1) → three ≡ choose (free_squares - slice_index ob 0 - slice_index ob 1) (slice_index ob 2) →
-    forms ≡ product (form_bases ob) → AreFewInRun ob one two three forms
-few_in_run ob one two three forms few a b c f =
-    let most : forms ≤ 256 =
-    subst (λ (n : ℕ). n ≤ 256) (sym f) (forms_few (slice_index ob 0) (slice_index ob 1) (slice_index ob 2) few.chicks few.elephants few.giraffes) in
-    let first : one ≤ most_choices = subst (λ (n : ℕ). n ≤ most_choices) (sym a) (choose-small free_squares (slice_index ob 0) (omega arith) few.chicks) in
-    let second : two ≤ most_choices =
-    subst (λ (n : ℕ). n ≤ most_choices) (sym b) (choose-small (free_squares - slice_index ob 0) (slice_index ob 1) (omega arith) few.elephants) in
-    let third : three ≤ most_choices = subst (λ (n : ℕ). n ≤ most_choices) (sym c)
-    (choose-small (free_squares - slice_index ob 0 - slice_index ob 1) (slice_index ob 2) (omega arith) few.giraffes) in
-    let one_low : three * forms ≤ most_choices * 256 = mul-le three forms most_choices 256 third most in
-    let two_low : two * (three * forms) ≤ most_choices * (most_choices * 256) = mul-le two (three * forms) most_choices (most_choices * 256) second one_low in
-    record {
+pub few_in_run : (ob cs : List ℕ) (forms : ℕ) → AreFewOnBoard ob → cs ≡ square_bases ob → forms ≡ product (form_bases ob) → AreFewInRun ob cs forms
+few_in_run ob cs forms few chosen f =
+    let one = choose free_squares (slice_index ob 0) in
+    let two = choose (free_squares - slice_index ob 0) (slice_index ob 1) in
+    let three = choose (free_squares - slice_index ob 0 - slice_index ob 1) (slice_index ob 2) in
+    let all = product (form_bases ob) in
+    let most : all ≤ 256 = forms_few (slice_index ob 0) (slice_index ob 1) (slice_index ob 2) few.chicks few.elephants few.giraffes in
+    let first : one ≤ most_choices = choose-small free_squares (slice_index ob 0) (omega arith) few.chicks in
+    let second : two ≤ most_choices = choose-small (free_squares - slice_index ob 0) (slice_index ob 1) (omega arith) few.elephants in
+    let third : three ≤ most_choices = choose-small (free_squares - slice_index ob 0 - slice_index ob 1) (slice_index ob 2) (omega arith) few.giraffes in
+    let one_low : three * all ≤ most_choices * 256 = mul-le three all most_choices 256 third most in
+    let two_low : two * (three * all) ≤ most_choices * (most_choices * 256) = mul-le two (three * all) most_choices (most_choices * 256) second one_low in
+    subst (λ (n : ℕ). AreFewInRun ob cs n) (sym f) (subst (λ (xs : List ℕ). AreFewInRun ob xs (product (form_bases ob))) (sym chosen) (record {
       one_fits = one_low;
       two_fits = two_low;
-      three_fits = mul-le one (two * (three * forms)) most_choices (most_choices * (most_choices * 256)) first two_low;
-      size_is = ap (λ (n : ℕ). n * (two * (three * forms))) a ∙ ap (λ (n : ℕ). choose free_squares (slice_index ob 0) * (n * (three * forms))) b
-          ∙ ap (λ (n : ℕ). choose free_squares (slice_index ob 0) * (choose (free_squares - slice_index ob 0) (slice_index ob 1) * (n * forms))) c
-          ∙ ap (λ (n : ℕ). choose free_squares (slice_index ob 0) * (choose (free_squares - slice_index ob 0) (slice_index ob 1)
-          * (choose (free_squares - slice_index ob 0 - slice_index ob 1) (slice_index ob 2) * n))) f;
-    }
+      three_fits = mul-le one (two * (three * all)) most_choices (most_choices * (most_choices * 256)) first two_low;
+      size_is = refl;
+    }))
 
 -- a part of a place that a shift or a mask finds
 pub quotient_is : (local bits forms found : ℕ) → found ≡ local / 2 ^ bits → 2 ^ bits ≡ forms → found ≡ local / forms

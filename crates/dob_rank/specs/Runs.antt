@@ -24,6 +24,14 @@ local_bases on_board =
     let k = slice_index on_board 2 in
     choose free_squares i ∷ choose (free_squares - i) j ∷ choose (free_squares - i - j) k ∷ (4 ^ i) ∷ (2 ^ j) ∷ (2 ^ k) ∷ []
 
+-- the bases of the squares alone
+abbrev pub square_bases : List ℕ → List ℕ
+square_bases ob =
+    let i = slice_index ob 0 in
+    let j = slice_index ob 1 in
+    let k = slice_index ob 2 in
+    choose free_squares i ∷ choose (free_squares - i) j ∷ choose (free_squares - i - j) k ∷ []
+
 -- the bases of the forms alone
 abbrev pub form_bases : List ℕ → List ℕ
 form_bases on_board = (4 ^ slice_index on_board 0) ∷ (2 ^ slice_index on_board 1) ∷ (2 ^ slice_index on_board 2) ∷ []

@@ -3,7 +3,7 @@
 ghost use Rattle.std.specs.Prelude.{◌≡◌, ◌<◌, ◌≤◌, ◌+◌, ◌*◌, ◌^◌, slice_index};
 ghost use Rattle.dob_rank.specs.Numbers.{choose, product, HasDigits, number_of, digits_of, sum_below, bases_by, block_bases};
 ghost use Rattle.dob_rank.specs.Numbers.{block_size, size_of};
-ghost use Rattle.dob_rank.specs.Runs.{runs_in, run_size, run_bases, form_bases, local_bases, run_number, local_number, AreFewOnBoard};
+ghost use Rattle.dob_rank.specs.Runs.{runs_in, run_size, run_bases, square_bases, form_bases, local_bases, run_number, local_number, AreFewOnBoard};
 
 use crate::runs::{ENEMY_SQUARES, FREE_SQUARES, LIONS, OWN_SQUARES, Spot};
 use crate::{radix, starts};
@@ -68,9 +68,30 @@ pub(crate) fn bases_in(set: PieceSet, on_board: &EachKind) -> [u64; DIGITS]
     ]
 }
 
-/// The digits of a spot in the block of those numbers on the board.
-pub(crate) fn digits_in(set: PieceSet, on_board: &EachKind, spot: Spot) -> [u64; DIGITS]
+/// In how many ways the squares of each kind are chosen, for those numbers on the board.
+pub(crate) fn choices_in(on_board: &EachKind) -> EachKind
+    requires { AreFewOnBoard on_board.now }
+    ensures { result ≡ square_bases on_board.now }
+{
+    let chicks = on_board[0];
+    let elephants = on_board[1];
+    let giraffes = on_board[2];
+    [
+        choose(FREE_SQUARES, chicks),
+        choose(FREE_SQUARES - chicks, elephants),
+        choose(FREE_SQUARES - chicks - elephants, giraffes),
+    ]
+}
+
+/// The digits of a spot in the block of those numbers on the board and choices of squares.
+pub(crate) fn digits_in(
+    set: PieceSet,
+    on_board: &EachKind,
+    choices: &EachKind,
+    spot: Spot,
+) -> [u64; DIGITS]
     requires on_board { HasDigits (block_bases set) on_board.now }
+    requires choices { choices.now ≡ square_bases on_board.now }
     requires run { spot.run < product (run_bases set on_board.now) }
     requires local { spot.local < product (local_bases on_board.now) }
     ensures { result ≡ digits_of (bases_by set on_board.now) (spot.run * product (local_bases on_board.now) + spot.local) }
@@ -78,8 +99,8 @@ pub(crate) fn digits_in(set: PieceSet, on_board: &EachKind, spot: Spot) -> [u64;
     let bases = bases_in(set, on_board);
     let hands = radix::three_digits(&[bases[0], bases[1], bases[2]], spot.run / LIONS);
     let lions = spot.run % LIONS;
-    let (choices, form) = radix::split_by_power(spot.local, form_bits(on_board));
-    let squares = radix::three_digits(&[bases[5], bases[6], bases[7]], choices);
+    let (square, form) = radix::split_by_power(spot.local, form_bits(on_board));
+    let squares = radix::three_digits(choices, square);
     let forms = form_digits(on_board, form);
     [
         hands[0],
@@ -126,35 +147,33 @@ pub(crate) fn place_of(on_board: &EachKind, spot: Spot) -> u64
     requires local { spot.local < product (local_bases on_board.now) }
     ensures { result ≡ spot.run * product (local_bases on_board.now) + spot.local }
 {
-    spot.run * size_of_runs(on_board) + spot.local
+    spot.run * size_of_runs(on_board, &choices_in(on_board)) + spot.local
 }
 
-/// The spot that is at a place in the block of those numbers on the board.
-pub(crate) fn spot_at(set: PieceSet, on_board: &EachKind, place: u64) -> Spot
+/// The spot that is at a place in the block of those numbers on the board and choices of squares.
+pub(crate) fn spot_at(set: PieceSet, on_board: &EachKind, choices: &EachKind, place: u64) -> Spot
     requires on_board { HasDigits (block_bases set) on_board.now }
+    requires choices { choices.now ≡ square_bases on_board.now }
     requires place { place < product (bases_by set on_board.now) }
     ensures run { result.run < product (run_bases set on_board.now) }
     ensures local { result.local < product (local_bases on_board.now) }
     ensures place { result.run * product (local_bases on_board.now) + result.local ≡ place }
 {
-    let size = size_of_runs(on_board);
+    let size = size_of_runs(on_board, choices);
     Spot {
         run: place / size,
         local: place % size,
     }
 }
 
-/// How many positions each run of those numbers on the board has.
-fn size_of_runs(on_board: &EachKind) -> u64
-    requires { AreFewOnBoard on_board.now }
+/// How many positions each run of those numbers on the board and choices of squares has.
+fn size_of_runs(on_board: &EachKind, choices: &EachKind) -> u64
+    requires few { AreFewOnBoard on_board.now }
+    requires choices { choices.now ≡ square_bases on_board.now }
     ensures value { result ≡ product (local_bases on_board.now) }
     ensures bound { result ≤ 2 ^ 25 }
 {
-    let chicks = on_board[0];
-    let elephants = on_board[1];
-    let giraffes = on_board[2];
-    let for_giraffes = choose(FREE_SQUARES - chicks - elephants, giraffes) * forms_in(on_board);
-    choose(FREE_SQUARES, chicks) * (choose(FREE_SQUARES - chicks, elephants) * for_giraffes)
+    choices[0] * (choices[1] * (choices[2] * forms_in(on_board)))
 }
 
 /// How many forms the pieces of those numbers on the board have.
@@ -250,7 +269,8 @@ pub(crate) fn run_size_in(set: PieceSet, block: u64) -> u64
     ensures positive { 0 < result }
     ensures bound { result ≤ 2 ^ 36 }
 {
-    size_of_runs(&numbers_in(set, block))
+    let on_board = numbers_in(set, block);
+    size_of_runs(&on_board, &choices_in(&on_board))
 }
 
 /// The block in which a rank below the set's size lies, and the place there.

@@ -1,12 +1,12 @@
 // The classes of one block: for each of its runs the number of classes before it, and words of marks for the runs in
 // which the lions don't tell which positions are representatives.
 ghost use Rattle.std.specs.Prelude.{◌≡◌, true, ◌<◌, ◌≤◌, ◌+◌, ◌*◌, ◌++◌, IfOk, vec_len};
-ghost use Rattle.dob_rank.specs.Numbers.{product, block_bases, block_size, start_of};
+ghost use Rattle.dob_rank.specs.Numbers.{product, digits_of, block_bases, block_size, start_of};
 ghost use Rattle.dob_rank.specs.Marks.{marked, word_of, one_if, marks_below};
-ghost use Rattle.dob_rank.specs.Runs.{runs_in, run_size, run_start};
+ghost use Rattle.dob_rank.specs.Runs.{square_bases, runs_in, run_size, run_start};
 ghost use Rattle.dob_rank.specs.RunTables.{AreRuns, run_words, kept_words};
 
-use crate::block;
+use crate::block::{self, EachKind};
 use crate::ranks::{position_at, spot_of};
 use crate::runs::{LIONS, Run, RunKind, Spot, WORD, Word, kind_of};
 use dob_pieces::{Memory, PieceSet};
@@ -20,12 +20,17 @@ pub(crate) struct BlockClasses {
     /// How many classes stand before the block, and how many up to its end.
     pub(crate) before: u64,
     pub(crate) after: u64,
+    /// How many pieces of each kind stand on the board, and in how many ways their squares are chosen.
+    pub(crate) on_board: EachKind,
+    pub(crate) choices: EachKind,
     size: u64,
     runs: Vec<Run>,
     words: Vec<Word>,
     ghost within: { number < product (block_bases set) },
     ghost starts: { before ≡ marks_below (marked set) (start_of set number) },
     ghost ends: { after ≡ marks_below (marked set) (start_of set number + block_size set number) },
+    ghost numbers: { on_board ≡ digits_of (block_bases set) number },
+    ghost chosen: { choices ≡ square_bases on_board },
     ghost size_is: { size ≡ run_size set number },
     ghost whole: { vec_len runs ≡ runs_in set number },
     ghost table: { AreRuns set number (vec_len runs) runs.items words.items },
@@ -46,6 +51,8 @@ impl BlockClasses {
         ensures set { IfOk result (λ block. block.set ≡ set) }
         ensures number { IfOk result (λ block. block.number ≡ number) }
     {
+        let on_board = block::numbers_in(set, number);
+        let choices = block::choices_in(&on_board);
         let size = block::run_size_in(set, number);
         let mut runs = Vec::new(alloc);
         let mut words = Vec::new(alloc);
@@ -62,6 +69,8 @@ impl BlockClasses {
             number,
             before,
             after: count,
+            on_board,
+            choices,
             size,
             runs,
             words,

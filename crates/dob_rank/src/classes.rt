@@ -12,7 +12,7 @@ use crate::block_classes::BlockClasses;
 use crate::fault::Fault;
 use crate::limit::MOST_PIECES;
 use crate::masks::{Masks, masks_of};
-use crate::ranks::{position_at, spot_by};
+use crate::ranks::{position_by, spot_by};
 use dob_pieces::{PieceSet, Position};
 use std::alloc::Global;
 
@@ -108,7 +108,12 @@ impl Classes {
         ensures number { class_number self.now.set result.setup ≡ class }
     {
         let block = &self.blocks[self.block_at(class)];
-        position_at(self.set, block.number, block.spot_at(class))
+        position_by(
+            self.set,
+            &block.on_board,
+            &block.choices,
+            block.spot_at(class),
+        )
     }
 
     /// The block in which the representative of that class stands: the last one with no more classes before it.

@@ -6,7 +6,7 @@ ghost use Rattle.dob_rank.specs.Order.{IsPositionOf, HasSize, HasRank, Represent
 ghost use Rattle.dob_rank.specs.Numbers.{size_of, rank_of, product, number_of, block_bases, block_of};
 ghost use Rattle.dob_rank.specs.Numbers.{HasBlock, bases_by, on_board as on_board_of, digits as all_digits_of, setup_by, hands_by};
 ghost use Rattle.dob_rank.specs.Numbers.{HasDigits};
-ghost use Rattle.dob_rank.specs.Runs.{runs_in, run_size, run_bases, local_bases, run_of, local_of};
+ghost use Rattle.dob_rank.specs.Runs.{runs_in, run_size, run_bases, square_bases, local_bases, run_of, local_of};
 
 use crate::block::{self, DIGITS, EachKind};
 use crate::layers::Layer;
@@ -46,7 +46,9 @@ pub fn unrank(set: PieceSet, rank: u64) -> Position
 {
     let (block, place) = block::find_block(set, rank);
     let on_board = block::numbers_in(set, block);
-    position_by(set, &on_board, block::spot_at(set, &on_board, place))
+    let choices = block::choices_in(&on_board);
+    let spot = block::spot_at(set, &on_board, &choices, place);
+    position_by(set, &on_board, &choices, spot)
 }
 
 /// The number of the block of a position of the set, and the position's spot there.
@@ -116,17 +118,24 @@ pub(crate) fn position_at(set: PieceSet, block: u64, spot: Spot) -> Position
     requires local { spot.local < run_size set block }
     ensures { HasBlock set block (spot.run * run_size set block + spot.local) result.setup }
 {
-    position_by(set, &block::numbers_in(set, block), spot)
+    let on_board = block::numbers_in(set, block);
+    position_by(set, &on_board, &block::choices_in(&on_board), spot)
 }
 
-/// The position of the set at that spot of the block of those numbers on the board.
-fn position_by(set: PieceSet, on_board: &EachKind, spot: Spot) -> Position
+/// The position of the set at that spot of the block of those numbers on the board and choices of squares.
+pub(crate) fn position_by(
+    set: PieceSet,
+    on_board: &EachKind,
+    choices: &EachKind,
+    spot: Spot,
+) -> Position
     requires on_board { HasDigits (block_bases set) on_board.now }
+    requires choices { choices.now ≡ square_bases on_board.now }
     requires run { spot.run < product (run_bases set on_board.now) }
     requires local { spot.local < product (local_bases on_board.now) }
     ensures { HasBlock set (number_of (block_bases set) on_board.now) (spot.run * product (local_bases on_board.now) + spot.local) result.setup }
 {
-    let digits = block::digits_in(set, on_board, spot);
+    let digits = block::digits_in(set, on_board, choices, spot);
     Position::new(setup_of(set, on_board, &digits))
 }
 

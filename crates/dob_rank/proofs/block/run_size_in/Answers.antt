@@ -5,18 +5,21 @@ use Rattle.dob_rank.proofs.DigitParts.{AreFewOnBoard-digits}
 use Rattle.dob_rank.proofs.RunPlaces.{run_size-found, run_size-some, run_size-small}
 use Rattle.dob_rank.proofs.block.run_size_in.Goals as goal
 
-pub size_of_runs-requires : goal.size_of_runs-requires
-size_of_runs-requires c = AreFewOnBoard-digits c.args.set _ (HasDigits-numbers c.args.set c.args.block _ c.requires c.numbers_in.ensures)
+pub choices_in-requires : goal.choices_in-requires
+choices_in-requires c = AreFewOnBoard-digits c.args.set _ (HasDigits-numbers c.args.set c.args.block _ c.requires c.numbers_in-on_board.ensures)
+
+pub size_of_runs-requires-clause-few : goal.size_of_runs-requires-clause-few
+size_of_runs-requires-clause-few c = AreFewOnBoard-digits c.args.set _ (HasDigits-numbers c.args.set c.args.block _ c.requires c.numbers_in-on_board.ensures)
 
 pub returns-clause-value : goal.returns-clause-value
-returns-clause-value c = run_size-found c.args.set c.args.block _ _ c.numbers_in.ensures c.size_of_runs.ensures.value
+returns-clause-value c = run_size-found c.args.set c.args.block _ _ c.numbers_in-on_board.ensures c.size_of_runs.ensures.value
 
 pub returns-clause-positive : goal.returns-clause-positive
 returns-clause-positive c =
-    subst (λ (n : ℕ). 0 < n) (sym (run_size-found c.args.set c.args.block _ _ c.numbers_in.ensures c.size_of_runs.ensures.value))
+    subst (λ (n : ℕ). 0 < n) (sym (run_size-found c.args.set c.args.block _ _ c.numbers_in-on_board.ensures c.size_of_runs.ensures.value))
     (run_size-some c.args.set c.args.block c.requires)
 
 pub returns-clause-bound : goal.returns-clause-bound
 returns-clause-bound c =
-    subst (λ (n : ℕ). n ≤ 2 ^ 36) (sym (run_size-found c.args.set c.args.block _ _ c.numbers_in.ensures c.size_of_runs.ensures.value))
+    subst (λ (n : ℕ). n ≤ 2 ^ 36) (sym (run_size-found c.args.set c.args.block _ _ c.numbers_in-on_board.ensures c.size_of_runs.ensures.value))
     (run_size-small c.args.set c.args.block c.requires)

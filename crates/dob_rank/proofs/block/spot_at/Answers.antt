@@ -2,8 +2,8 @@
 use Rattle.dob_rank.proofs.DigitParts.{AreFewOnBoard-digits, split_place}
 use Rattle.dob_rank.proofs.block.spot_at.Goals as goal
 
-pub size_of_runs-size-requires : goal.size_of_runs-size-requires
-size_of_runs-size-requires c = AreFewOnBoard-digits c.args.set c.args.on_board.now c.requires.on_board
+pub size_of_runs-size-requires-clause-few : goal.size_of_runs-size-requires-clause-few
+size_of_runs-size-requires-clause-few c = AreFewOnBoard-digits c.args.set c.args.on_board.now c.requires.on_board
 
 pub nonzero_div-result : goal.nonzero_div-result
 nonzero_div-result c = (split_place c.args.set c.args.on_board.now c.args.place _ c.requires.place c.size_of_runs-size.ensures.value).some

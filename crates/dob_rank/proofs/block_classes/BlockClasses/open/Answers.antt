@@ -5,7 +5,13 @@ use Rattle.dob_rank.specs.Runs.{runs_in, run_start}
 use Rattle.dob_rank.specs.RunTables.{AreRuns}
 use Rattle.dob_rank.proofs.RunMarks.{run_start_first, run_start_end, run_marks_small}
 use Rattle.dob_rank.proofs.RunTables.{AreRuns-none, AreRuns-push}
+use Rattle.dob_rank.proofs.Blocks.{HasDigits-numbers}
+use Rattle.dob_rank.proofs.DigitParts.{AreFewOnBoard-digits}
 use Rattle.dob_rank.proofs.block_classes.BlockClasses.open.Goals as goal
+
+pub choices_in-choices-requires : goal.choices_in-choices-requires
+choices_in-choices-requires c =
+    AreFewOnBoard-digits c.args.set _ (HasDigits-numbers c.args.set c.args.number _ c.requires.within c.numbers_in-on_board.ensures)
 
 pub loop-run-init : goal.loop-run-init
 loop-run-init c = record {
@@ -38,6 +44,8 @@ invariant_of-result c =
       ends = c.loop-run.invariant.count_is
           ∙ ap (λ n. marks_below (marked c.args.set) (run_start c.args.set c.args.number n)) whole
           ∙ ap (marks_below (marked c.args.set)) (run_start_end c.args.set c.args.number);
+      numbers = c.numbers_in-on_board.ensures;
+      chosen = c.choices_in-choices.ensures;
       size_is = c.run_size_in-size.ensures.value;
       whole = long ∙ whole;
       table = subst (λ n. AreRuns c.args.set c.args.number n c.loop-run.runs.items c.loop-run.words.items) (sym long) c.loop-run.invariant.runs_are;
