@@ -1,5 +1,5 @@
 -- One node that owns all classes: the values that it shows, and its end.
-use Rattle.std.proofs.Common.{◌≡◌, ℕ, zero, suc, ◌+◌, ◌<◌, ◌⊎◌, inl, inr, refl, sym, ap, ◌∙◌, subst, arith, List, [], ◌∷◌, ◌++◌, length, slice_get, Some, lit<, ◌==◌, ◌%◌}
+use Rattle.std.proofs.Common.{◌≡◌, ℕ, zero, suc, ◌+◌, ◌<◌, ◌⊎◌, inl, inr, sym, ap, ◌∙◌, subst, arith, List, [], ◌∷◌, ◌++◌, length, slice_get, Some, lit<, ◌==◌, ◌%◌}
 use Rattle.std.proofs.lemmas.Bool.{cases_order}
 use Rattle.std.proofs.lemmas.List.{length-append, map-append, take_all, append-nil, get_or_push, get_or_append_left}
 use Rattle.std.proofs.lemmas.Option.{slice_get-get_or}
@@ -15,7 +15,6 @@ use Rattle.dob_value.specs.Codes.{value_of_code, values_of_codes}
 use Rattle.dob_value.specs.Follows.{IsEntry, IsValueTable}
 use Rattle.dob_unmove.specs.Edges.{predecessors}
 use Rattle.dob_share.specs.declared.news.Settlement.{Settlement}
-use Rattle.dob_share.specs.declared.news.Item.{Item}
 use Rattle.dob_share.specs.declared.opening.Opening.{Opening}
 use Rattle.dob_share.specs.Cells.{CellValue}
 use Rattle.dob_share.specs.Shares.{IsOwn, status_at, cell_at, IsValue, HasValueNow}
@@ -87,31 +86,12 @@ values_more history class codes new code v are is code_is shown = subst (λ xs. 
 
 -- ---- the end
 
-nothing_more : (xs ys : List Item) → xs ++ ys ≡ xs → ys ≡ []
-nothing_more xs [] is = refl
-nothing_more xs (y ∷ ys) is =
-    let sum : length (xs ++ y ∷ ys) ≡ length xs + length (y ∷ ys) = length-append xs (y ∷ ys) in
-    let same : length (xs ++ y ∷ ys) ≡ length xs = ap length is in
-    absurd (omega arith)
-
 -- not idle, it is under way
 pub under_way : (node : Node) (set : PieceSet) (limit steps : ℕ) → node.set ≡ set → HasMade steps node → (steps ≡ limit) ⊎ IsDone node →
     (IsDone node → ⊥) → IsUnderWay set limit
 under_way node set limit steps of made (inr idle) busy = absurd (busy idle)
-under_way node set limit steps of made (inl same) busy = subst (λ st. IsUnderWay st limit) of (record {
-  history = node.history.settlements;
-  applied = made.0;
-  expanded = node.expanded;
-  cell = cells_below (classes_of node.set) node.share;
-  lawful = made.1.lawful;
-  made = made.2 ∙ same;
-  told = (node.own.items, made.1.told);
-  left = λ all. busy (
-    all.0,
-    nothing_more made.0 node.own.items
-        (sym made.1.told ∙ ap (λ xs. sole_items node.set xs) (take_all node.expanded node.history.settlements (omega (arith, all.0))) ∙ all.1),
-  );
-})
+under_way node set limit steps of made (inl same) busy =
+    record { node = node; of = of; made = subst (λ (k : ℕ). HasMade k node) same made; left = busy }
 
 -- idle, it has the value table
 pub sole_right : (node : Node) (set : PieceSet) (steps count : ℕ) (openings : List Opening) (values : List Value) → node.set ≡ set →

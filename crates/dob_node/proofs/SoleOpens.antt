@@ -34,7 +34,7 @@ use Rattle.dob_node.specs.Lawful.{known_of, IsLawful}
 use Rattle.dob_node.specs.OpeningLists.{opening_value, opening_settlement, opening_settlements, status_in}
 use Rattle.dob_node.specs.declared.node.Node.{Node}
 use Rattle.dob_node.specs.Nodes.{IsSound, IsOpened}
-use Rattle.dob_node.specs.Sole.{sole_history, sole_applied, sole_items, cells_below, IsSole, HasMade}
+use Rattle.dob_node.specs.Sole.{sole_history, sole_applied, sole_items, cells_below, IsSole, HasCome, HasMade}
 use Rattle.dob_node.proofs.Settles.{chained_more, chained_none, value_of-more}
 use Rattle.dob_node.proofs.Takes.{SumsUp-same, CellValue-same}
 use Rattle.dob_node.proofs.Totals.{start_sums}
@@ -252,4 +252,9 @@ module _ (set : PieceSet) (openings : List Opening) (node : Node) (are : AreOpen
       at class low = subst (λ s. HasStatus (class_setup set class) s) (sym (opened.statuses class (own class low))) (is_opening class low).status
 
   pub made_none : HasMade 0 node
-  made_none = ([], sole_opened, ap (λ (k : ℕ). k + 0) opened.nothing.0)
+  made_none = (
+    [],
+    sole_opened,
+    ap (λ (k : ℕ). k + 0) opened.nothing.0,
+    subst (λ st. HasCome st 0 node) (sym opened.of.0) (openings, are, opened, sound),
+  )

@@ -1,5 +1,5 @@
 -- The steps of one node that owns all classes: it stays lawful, and makes one step more.
-use Rattle.std.proofs.Common.{◌≡◌, ℕ, ◌+◌, ◌<◌, ◌≤◌, sym, ap, ◌∙◌, subst, arith, add-one, append_assoc, List, [], ◌∷◌, ◌++◌, length, take, drop, slice_get, Some}
+use Rattle.std.proofs.Common.{◌≡◌, ℕ, ◌+◌, ◌<◌, ◌≤◌, inl, inr, sym, ap, ◌∙◌, subst, arith, add-one, append_assoc, List, [], ◌∷◌, ◌++◌, length, take, drop, slice_get, Some}
 use Rattle.std.proofs.Math.Seq.{take-suc}
 use Rattle.std.proofs.lemmas.List.{append-nil, length-append, take-append-drop, take-append-le}
 use Rattle.std.proofs.lemmas.Option.{slice_get_within, get_or_from_slice_get}
@@ -19,9 +19,14 @@ use Rattle.dob_node.specs.Lawful.{IsLawful}
 use Rattle.dob_node.specs.Takes.{AreKept, listed}
 use Rattle.dob_node.specs.declared.node.Node.{Node}
 use Rattle.dob_node.specs.Nodes.{IsSound, IsExpanded, HasApplied}
-use Rattle.dob_node.specs.Sole.{sole_history, sole_applied, sole_items, cells_below, IsSole, HasMade}
+use Rattle.dob_node.specs.Sole.{sole_history, sole_applied, sole_items, cells_below, IsSole, IsSoleStep, HasCome, HasMade}
 use Rattle.dob_node.proofs.Settles.{items_from-append}
 use Rattle.dob_node.proofs.Soles.{still_lawful}
+
+-- ---- steps
+
+one_further : (old new : Node) (steps : ℕ) → new.set ≡ old.set → HasCome old.set steps old → IsSoleStep old new → HasCome new.set (steps + 1) new
+one_further old new steps same come step = subst (λ st. HasCome st (steps + 1) new) (sym same) (rw add-one (old, come, step))
 
 -- ---- items
 
@@ -100,7 +105,7 @@ made_applied old new sound step steps made =
     let longer : length (made.0 ++ step.item ∷ []) ≡ length made.0 + 1 = length-append made.0 (step.item ∷ []) in
     let same : new.expanded ≡ old.expanded = step.same.3 in
     let count : old.expanded + length made.0 ≡ steps = made.2 in
-    (made.0 ++ step.item ∷ [], sole_after old new made.0 made.1 sound step, omega arith)
+    (made.0 ++ step.item ∷ [], sole_after old new made.0 made.1 sound step, omega arith, one_further old new steps step.same.0 made.3 (inl step))
 
 -- ---- a settlement expanded
 
@@ -133,8 +138,9 @@ module _ (old new : Node) (applied : List Item) (sole : IsSole old applied) (sou
         (value_of old.history.settlements)) (sym step.same.3) sole.lawful));
   }
 
-pub made_expanded : (old new : Node) → IsSound new → IsExpanded old new → (steps : ℕ) → HasMade steps old → HasMade (steps + 1) new
-made_expanded old new sound step steps made =
+pub made_expanded : (old new : Node) → IsSound new → old.own.items ≡ [] → IsExpanded old new → (steps : ℕ) → HasMade steps old →
+    HasMade (steps + 1) new
+made_expanded old new sound none step steps made =
     let same : new.expanded ≡ old.expanded + 1 = step.expanded in
     let count : old.expanded + length made.0 ≡ steps = made.2 in
-    (made.0, sole_expanded old new made.0 made.1 sound step, omega arith)
+    (made.0, sole_expanded old new made.0 made.1 sound step, omega arith, one_further old new steps step.same.0 made.3 (inr (none, step)))

@@ -1,5 +1,5 @@
 -- One node that owns all classes: where it stops, and when it has nothing left to do.
-use Rattle.std.proofs.Common.{◌≡◌, ℕ, ◌<◌, ◌%◌, lit<, inl, inr, sym, ap, ◌∙◌, subst, arith, List, [], ◌∷◌, ◌++◌, length, drop}
+use Rattle.std.proofs.Common.{◌≡◌, ℕ, ◌<◌, ◌%◌, lit<, inl, inr, refl, sym, ap, ◌∙◌, subst, arith, List, [], ◌∷◌, ◌++◌, length, drop}
 use Rattle.std.proofs.Math.ListN.{get_or-eq_default}
 use Rattle.std.proofs.lemmas.Bool.{cases_eq}
 use Rattle.dob_moves.specs.declared.position_status.Status.TheVariants.{Open}
@@ -9,9 +9,8 @@ use Rattle.dob_rank.specs.ClassRows.{class_setup}
 use Rattle.dob_pieces.specs.declared.piece_set.PieceSet.{PieceSet}
 use Rattle.dob_share.specs.declared.news.Settlement.{Settlement}
 use Rattle.dob_share.specs.declared.news.Item.{Item}
-use Rattle.dob_share.specs.Cells.{Takes, changed}
-use Rattle.dob_share.specs.Steps.{IsTooDeep}
-use Rattle.dob_share.specs.Shares.{status_at, Fits, GoesTooDeep}
+use Rattle.dob_share.specs.Cells.{Takes}
+use Rattle.dob_share.specs.Shares.{status_at, Fits}
 use Rattle.dob_update.specs.Batches.{OutboxView, empty_outbox}
 use Rattle.dob_node.specs.declared.cause.Cause.{Cause}
 use Rattle.dob_node.specs.declared.cause.Cause.TheVariants as cause
@@ -29,7 +28,7 @@ use Rattle.dob_node.proofs.Steps.{can_apply}
 
 -- ---- the item that it has to apply next
 
-module _ (node : Node) (steps limit : ℕ) (made : HasMade steps node) (low : steps < limit) (item : Item) (behind : List Item)
+module _ (node : Node) (steps : ℕ) (made : HasMade steps node) (item : Item) (behind : List Item)
     (first : node.own.items ≡ item ∷ behind) where
   abbrev pub h : List Settlement
   h = node.history.settlements
@@ -57,29 +56,11 @@ module _ (node : Node) (steps limit : ℕ) (made : HasMade steps node) (low : st
     subst (λ c. Takes item.was item.now c) (cell_below (classes_of node.set) node.share item.to can.below) can.takes,
   )
 
-  deep_there : GoesTooDeep node.share item → IsTooDeep (changed item.was item.now (cells_below (classes_of node.set) node.share item.to))
-  unfolding GoesTooDeep
-  deep_there deep = subst (λ c. IsTooDeep (changed item.was item.now c)) (sym (cell_below (classes_of node.set) node.share item.to can.below)) deep
-
-  -- it can only go too deep
-  pub deep_within : GoesTooDeep node.share item → IsTooDeepWithin node.set limit
-  deep_within deep = record {
-    history = h;
-    applied = made.0;
-    expanded = node.expanded;
-    cell = cells_below (classes_of node.set) node.share;
-    lawful = made.1.lawful;
-    made = subst (λ (k : ℕ). k < limit) (sym made.2) low;
-    item = item;
-    next = (behind, made.1.told ∙ ap (λ xs. made.0 ++ xs) first);
-    fits = can.takes;
-    deep = deep_there deep;
-  }
-
 pub stopped_sole : (node : Node) (steps limit : ℕ) (why : Cause) → HasMade steps node → steps < limit → HasRefused node why → HasStopped node.set limit why
-stopped_sole node steps limit cause.TooDeep made low refused = deep_within node steps limit made low refused.item refused.behind refused.first refused.refused.1
+stopped_sole node steps limit cause.TooDeep made low refused =
+    record { node = node; of = refl; steps = steps; few = low; made = made; refused = refused }
 stopped_sole node steps limit (cause.Contradiction class) made low refused =
-    refused.refused.1 (next_fits node steps limit made low refused.item refused.behind refused.first)
+    refused.refused.1 (next_fits node steps made refused.item refused.behind refused.first)
 stopped_sole node steps limit cause.Memory made low refused = tt
 stopped_sole node steps limit cause.Held made low refused = refused.refused
 stopped_sole node steps limit cause.Counts made low refused = refused.refused

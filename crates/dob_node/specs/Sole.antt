@@ -1,5 +1,5 @@
 -- One node that owns all classes, and its way to the value table.
-use Rattle.std.specs.Prelude.{◌≡◌, ℕ, zero, suc, ◌+◌, ◌<◌, nat_lt, cond, List, [], ◌++◌, length, take, slice_get, ◌∷◌, Some}
+use Rattle.std.specs.Prelude.{◌≡◌, ℕ, zero, suc, ◌+◌, ◌<◌, ◌≤◌, ◌⊎◌, nat_lt, cond, List, [], ◌++◌, length, take, slice_get, Some}
 use Rattle.dob_pieces.specs.declared.piece_set.PieceSet.{PieceSet}
 use Rattle.dob_moves.specs.Statuses.{HasStatus}
 use Rattle.dob_rank.specs.Marks.{classes_of}
@@ -8,17 +8,18 @@ use Rattle.dob_value.specs.declared.value.Value.{Value}
 use Rattle.dob_unmove.specs.Edges.{predecessors}
 use Rattle.dob_share.specs.declared.news.Settlement.{Settlement}
 use Rattle.dob_share.specs.declared.news.Item.{Item}
+use Rattle.dob_share.specs.declared.opening.Opening.{Opening}
 use Rattle.dob_share.specs.declared.share.Share.{Share}
-use Rattle.dob_share.specs.Cells.{Cell, Takes, changed, fresh}
-use Rattle.dob_share.specs.Steps.{IsTooDeep}
+use Rattle.dob_share.specs.Cells.{Cell, fresh}
 use Rattle.dob_share.specs.Shares.{status_at, cell_at}
 use Rattle.dob_update.specs.Items.{items_from}
 use Rattle.dob_node.specs.Histories.{value_of}
+use Rattle.dob_node.specs.Openings.{AreOpenings}
 use Rattle.dob_node.specs.Lawful.{IsLawful}
 use Rattle.dob_node.specs.declared.cause.Cause.{Cause}
 use Rattle.dob_node.specs.declared.cause.Cause.TheVariants.{TooDeep, Contradiction, Memory, Held, Counts}
 use Rattle.dob_node.specs.declared.node.Node.{Node}
-use Rattle.dob_node.specs.Nodes.{IsSound}
+use Rattle.dob_node.specs.Nodes.{IsSound, IsOpened, IsExpanded, HasApplied, HasRefused}
 
 -- the history of the one node, which is node 0
 abbrev pub sole_history : List Settlement → ℕ → List Settlement
@@ -49,9 +50,22 @@ pub record IsSole (node : Node) (applied : List Item) : Type 0 where
   pub lawful : IsLawful node.set 1 (sole_history node.history.settlements) (sole_applied applied)
       (cells_below (classes_of node.set) node.share) (value_of node.history.settlements)
 
--- the one node has made that many steps
+-- the one node as it is opened, before its first step
+abbrev pub IsBegun : PieceSet → Node → Type 0
+IsBegun set node = (openings : List Opening) × AreOpenings set openings × IsOpened openings set 0 1 node × IsSound node
+
+-- a step of the one node: it applies the first of its own items, or where it has none expands its next settlement
+abbrev pub IsSoleStep : Node → Node → Type 0
+IsSoleStep old new = HasApplied old new ⊎ ((old.own.items ≡ []) × IsExpanded old new)
+
+-- the one node has come from its beginning by that many steps
+abbrev pub HasCome : PieceSet → ℕ → Node → Type 0
+HasCome set zero node = IsBegun set node
+HasCome set (suc steps) node = (before : Node) × HasCome set steps before × IsSoleStep before node
+
+-- the one node has made that many steps, and is as said above
 abbrev pub HasMade : ℕ → Node → Type 0
-HasMade steps node = (applied : List Item) × IsSole node applied × (node.expanded + length applied ≡ steps)
+HasMade steps node = (applied : List Item) × IsSole node applied × (node.expanded + length applied ≡ steps) × HasCome node.set steps node
 
 -- the node has nothing to expand or to apply
 abbrev pub IsDone : Node → Type 0
@@ -62,31 +76,31 @@ pub record AreValues (history : List Settlement) (count : ℕ) (values : List Va
   pub whole : length values ≡ count
   pub each : (class : ℕ) → class < count → slice_get values class ≡ Some (value_of history class)
 
--- Some way of one node has come to that many steps, each an expansion or an item applied, and has not come to its end:
--- lawful cells and values, with that history and the items applied.
+-- The one node has something left to do after that many steps.
 pub record IsUnderWay (set : PieceSet) (steps : ℕ) : Type 0 where
-  pub history : List Settlement
-  pub applied : List Item
-  pub expanded : ℕ
-  pub cell : ℕ → Cell
-  pub lawful : IsLawful set 1 (sole_history history) (sole_applied applied) cell (value_of history)
-  pub made : expanded + length applied ≡ steps
-  pub told : (waiting : List Item) × (sole_items set (take expanded history) ≡ applied ++ waiting)
-  pub left : (expanded ≡ length history) × (sole_items set history ≡ applied) → ⊥
+  pub node : Node
+  pub of : node.set ≡ set
+  pub made : HasMade steps node
+  pub left : IsDone node → ⊥
 
--- Some way of one node has come to fewer than that many steps, lawful as above, and the item that it has to apply next
--- fits, but would give its class a value that is too deep.
+-- The one node has nothing left to do after at most that many steps.
+pub record IsDoneWithin (set : PieceSet) (limit : ℕ) : Type 0 where
+  pub node : Node
+  pub of : node.set ≡ set
+  pub steps : ℕ
+  pub few : steps ≤ limit
+  pub made : HasMade steps node
+  pub done : IsDone node
+
+-- The item that the one node has to apply next, after fewer than that many steps, fits, but would give its class a
+-- value that is too deep.
 pub record IsTooDeepWithin (set : PieceSet) (limit : ℕ) : Type 0 where
-  pub history : List Settlement
-  pub applied : List Item
-  pub expanded : ℕ
-  pub cell : ℕ → Cell
-  pub lawful : IsLawful set 1 (sole_history history) (sole_applied applied) cell (value_of history)
-  pub made : expanded + length applied < limit
-  pub item : Item
-  pub next : (waiting : List Item) × (sole_items set (take expanded history) ≡ applied ++ item ∷ waiting)
-  pub fits : Takes item.was item.now (cell item.to)
-  pub deep : IsTooDeep (changed item.was item.now (cell item.to))
+  pub node : Node
+  pub of : node.set ≡ set
+  pub steps : ℕ
+  pub few : steps < limit
+  pub made : HasMade steps node
+  pub refused : HasRefused node TooDeep
 
 -- Why the one node has stopped before that many steps: never that an item doesn't fit.
 abbrev pub HasStopped : PieceSet → ℕ → Cause → Type 0

@@ -7,7 +7,7 @@ ghost use Rattle.dob_value.specs.Codes.{values_of_codes};
 ghost use Rattle.dob_value.specs.Follows.{IsValueTable};
 ghost use Rattle.dob_node.specs.Nodes.{IsSound};
 ghost use Rattle.dob_node.specs.Causes.{IsFaultOf};
-ghost use Rattle.dob_node.specs.Sole.{HasMade, IsDone, IsUnderWay, HasStopped, IsTooDeepWithin, AreValues};
+ghost use Rattle.dob_node.specs.Sole.{HasMade, IsDone, IsUnderWay, IsDoneWithin, HasStopped, IsTooDeepWithin, AreValues};
 
 use crate::cause::{Cause, Fault};
 use crate::node::Node;
@@ -17,8 +17,8 @@ use dob_rank::Classes;
 use dob_value::{Table, code_of_value};
 use std::alloc::Global;
 
-/// The value table of a piece set, made by one node that owns all its classes in at most `limit` steps, each one
-/// expansion or one item applied. `None` where the node has something left to do after them.
+/// The value table of a piece set, made by one node that owns all its classes in at most `limit` steps: each applies the
+/// first of its own items, or where it has none is an expansion. `None` where the node has something left to do after them.
 ///
 /// Errors: `SetTooLarge` where the set has more than three pieces beside the lions; `TooDeep` where a class came to a
 /// value with a distance above the greatest that is kept; `Memory`. An item that doesn't fit its cell never comes.
@@ -29,6 +29,7 @@ pub fn alone(alloc: Global, set: PieceSet, limit: u64) -> Result<Option<Table>, 
     ensures set { IfOk result (λ given. IfSome given (λ table. table.set ≡ set)) }
     ensures table { IfOk result (λ given. IfSome given (λ table. IsValueTable set table.values)) }
     ensures none { result ≡ Ok None → IsUnderWay set limit }
+    ensures done { IfOk result (λ given. IfSome given (λ table. IsDoneWithin set limit)) }
 {
     let classes = Classes::open(alloc, set)?;
     let openings = opening(alloc, &classes)?;
@@ -78,7 +79,7 @@ fn run(node: &mut Node, classes: &Classes, limit: u64) -> Result<(), Cause>
     requires opened { HasMade 0 node.old }
     ensures set { OnOk result (node.new.set ≡ node.old.set) }
     ensures stopped { IfErr result (λ why. HasStopped node.old.set limit why) }
-    ensures made { OnOk result ((steps : ℕ) × HasMade steps node.new × ((steps ≡ limit) ⊎ IsDone node.new)) }
+    ensures made { OnOk result ((steps : ℕ) × (steps ≤ limit) × HasMade steps node.new × ((steps ≡ limit) ⊎ IsDone node.new)) }
 {
     for _step in 0..limit {
         if !step(node, classes)? {

@@ -1,5 +1,5 @@
 -- One step more is made.
-use Rattle.std.proofs.Common.{◌≡◌, ℕ, ◌<◌, Ok, ap, sym, subst}
+use Rattle.std.proofs.Common.{◌≡◌, ℕ, ◌<◌, [], Ok, ap, sym, subst}
 use Rattle.dob_node.specs.declared.node.Node.{Node}
 use Rattle.dob_node.specs.Sole.{HasMade, HasStopped}
 use Rattle.dob_node.proofs.SoleSteps.{made_applied, made_expanded}
@@ -22,4 +22,6 @@ returns-then-branch-clause-made c = λ is steps made.
 pub returns-clause-made : goal.returns-clause-made
 returns-clause-made c = λ is steps made.
     let same : c.apply_own.new.self ≡ c.args.node.now = c.in_ok-apply_own.ensures.nothing (ap Ok c.if-branch.false) in
-    made_expanded c.apply_own.new.self c.expand.new.self c.expand.ensures.sound (c.expand.ensures.expanded is) steps (subst (λ (node : Node). HasMade steps node) (sym same) made)
+    made_expanded c.apply_own.new.self c.expand.new.self c.expand.ensures.sound
+    (subst (λ (node : Node). node.own.items ≡ []) (sym same) (c.in_ok-apply_own.ensures.done.0 (ap Ok c.if-branch.false)))
+    (c.expand.ensures.expanded is) steps (subst (λ (node : Node). HasMade steps node) (sym same) made)
