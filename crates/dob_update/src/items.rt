@@ -1,5 +1,5 @@
 // The items that a settlement makes.
-ghost use Rattle.std.specs.Prelude.{◌≡◌, ◌<◌, ◌++◌, length, OnOk};
+ghost use Rattle.std.specs.Prelude.{◌≡◌, ◌<◌, ◌++◌, ℕ, length, take, OnOk, OnErr};
 ghost use Rattle.dob_share.specs.declared.news.Settlement.{Settlement as Settled};
 ghost use Rattle.dob_update.specs.Items.{item_for, items_of};
 
@@ -19,7 +19,7 @@ pub fn item_for(settlement: Settlement, to: u64) -> Item
 }
 
 /// Appends the settlement's items for the owner `to`, one of `n`: one for each of the predecessors of its class that are
-/// this owner's, in their order. After `Memory` some of them may be appended.
+/// this owner's, in their order. After `Memory` those for the first of the predecessors, however many, are appended.
 pub fn push_items(
     items: &mut Vec<Item>,
     settlement: Settlement,
@@ -28,7 +28,8 @@ pub fn push_items(
     to: usize,
 ) -> Result<(), Memory>
     requires { 0 < n }
-    ensures { OnOk result (items.new.items ≡ items.old.items ++ items_of (λ _. predecessors.now) n to settlement) }
+    ensures all { OnOk result (items.new.items ≡ items.old.items ++ items_of (λ _. predecessors.now) n to settlement) }
+    ensures first { OnErr result ((k : ℕ) × (items.new.items ≡ items.old.items ++ items_of (λ _. take k predecessors.now) n to settlement)) }
 {
     for class in predecessors {
         if owner(*class, n) == to {
