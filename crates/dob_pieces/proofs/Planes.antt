@@ -43,7 +43,7 @@ kinds_word cells =
     + 281474976710656 * mask_of (is_piece Mover Hen) cells
 
 abbrev pub kinds_table : List ℕ
-kinds_table = 1 ∷ 4096 ∷ 16777216 ∷ 68719476736 ∷ 281474976710656 ∷ 0 ∷ 0 ∷ 0 ∷ 0 ∷ 0 ∷ 0 ∷ []
+kinds_table = 0 ∷ 1 ∷ 4096 ∷ 16777216 ∷ 68719476736 ∷ 281474976710656 ∷ 0 ∷ 0 ∷ 0 ∷ 0 ∷ 0 ∷ []
 
 kinds_piece : (side : Side) (kind : Kind) (cells : List Cell)
     → kinds_word (Some (piece_of side kind) ∷ cells) ≡ 2 * kinds_word cells + get_or kinds_table (code_of (Some (piece_of side kind))) 0
@@ -74,7 +74,7 @@ others_word cells =
     + 68719476736 * mask_of (is_piece Enemy Lion) cells
 
 abbrev pub others_table : List ℕ
-others_table = 1 ∷ 1 ∷ 1 ∷ 1 ∷ 1 ∷ 68719476736 ∷ 4096 ∷ 4096 ∷ 4096 ∷ 4096 ∷ 16781312 ∷ []
+others_table = 16781312 ∷ 1 ∷ 1 ∷ 1 ∷ 1 ∷ 1 ∷ 68719476736 ∷ 4096 ∷ 4096 ∷ 4096 ∷ 4096 ∷ []
 
 others_piece : (side : Side) (kind : Kind) (cells : List Cell)
     → others_word (Some (piece_of side kind) ∷ cells) ≡ 2 * others_word cells + get_or others_table (code_of (Some (piece_of side kind))) 0

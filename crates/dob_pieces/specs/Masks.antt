@@ -85,7 +85,7 @@ abbrev pub side_place : Side → ℕ
 side_place Mover = 0
 side_place Enemy = 1
 
--- a number for what stands on a square: the mover's kinds, the enemy's, nothing
+-- a number for what stands on a square: nothing, the mover's kinds, the enemy's
 abbrev pub code_of : Cell → ℕ
-code_of None = 10
-code_of (Some piece) = kind_place piece.kind + 5 * side_place piece.side
+code_of None = 0
+code_of (Some piece) = 1 + kind_place piece.kind + 5 * side_place piece.side

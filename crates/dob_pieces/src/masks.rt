@@ -81,7 +81,8 @@ pub fn without_square(mask: u16, square: Square) -> u16
 }
 
 // By the code of a cell the lowest bit of each mask, first those of the mover's kinds, in the order of `Kind`, ..
-const KINDS: [u64; 11] = [
+const KINDS: [u64; CODES] = [
+    0,
     1,
     4096,
     16_777_216,
@@ -92,11 +93,11 @@ const KINDS: [u64; 11] = [
     0,
     0,
     0,
-    0,
 ];
 
 // .. and then those of the mover's pieces, the ends of steps, the empty squares and the enemy lion.
-const OTHERS: [u64; 11] = [
+const OTHERS: [u64; CODES] = [
+    16_781_312,
     1,
     1,
     1,
@@ -107,8 +108,10 @@ const OTHERS: [u64; 11] = [
     4096,
     4096,
     4096,
-    16_781_312,
 ];
+
+/// How many codes of cells there are.
+pub const CODES: usize = 11;
 
 // Stands for no piece where a piece has to be read.
 const NOBODY: Piece = Piece {
@@ -116,13 +119,14 @@ const NOBODY: Piece = Piece {
     kind: Kind::Lion,
 };
 
-// A number for what stands on a square: the mover's kinds, the enemy's kinds, nothing.
-fn code_of(cell: Option<Piece>) -> usize
+/// The code of a cell, below `CODES`: 0 for an empty one, then the mover's kinds in the order of `Kind`, then the enemy's.
+/// It is found without a branch on what stands there.
+pub fn code_of(cell: Option<Piece>) -> usize
     ensures code { result ≡ code_of cell }
     ensures bound { result < 11 }
 {
     let piece = cell.unwrap_or(NOBODY);
-    piece.kind as usize + 5 * (piece.side as usize) + 10 * (cell.is_none() as usize)
+    usize::from(cell.is_some()) + piece.kind as usize + 5 * (piece.side as usize)
 }
 
 // The mask whose lowest bit has that value in the word.

@@ -6,13 +6,7 @@ ghost use Rattle.dob_rank.specs.Masks.{layer_mask, from_mask, plane};
 
 use crate::forms::{base_of, form_of};
 use crate::layers::Layer;
-use dob_pieces::{Kind, Piece, Side, Square};
-
-/// The piece that is read where there is none.
-const ANY: Piece = Piece {
-    side: Side::Mover,
-    kind: Kind::Lion,
-};
+use dob_pieces::{CODES, Piece, Square, code_of};
 
 /// How many bits a plane has: one for each square. A word of planes has a plane for each layer of pieces.
 const PLANE: u64 = 12;
@@ -30,18 +24,9 @@ const GIRAFFES_PLANE: u64 = 1 << (4 * PLANE);
 
 const NO_PLANE: u64 = 0;
 
-/// How many kinds of pieces a side has.
-const KINDS: usize = 5;
-
-/// How many pieces differ by side or kind.
-const PIECES: usize = 2 * KINDS;
-
-/// What a cell can have: each of those pieces, or none.
-const CELLS: usize = PIECES + 1;
-
-/// For each kind of the mover's pieces, then of the enemy's, and last for an empty cell the first bit of its layer's
-/// plane.
-const PLANES: [u64; CELLS] = [
+/// By the code of a cell the first bit of its layer's plane.
+const PLANES: [u64; CODES] = [
+    NO_PLANE,
     OWN_LION_PLANE,
     GIRAFFES_PLANE,
     ELEPHANTS_PLANE,
@@ -52,7 +37,6 @@ const PLANES: [u64; CELLS] = [
     ELEPHANTS_PLANE,
     CHICKS_PLANE,
     CHICKS_PLANE,
-    NO_PLANE,
 ];
 
 /// All squares of the board: each bit of a plane.
@@ -121,9 +105,7 @@ fn plane_of(cell: Option<Piece>) -> u64
     ensures value { result ≡ plane (layer cell) }
     ensures bound { result ≤ GIRAFFES_PLANE }
 {
-    let is_empty = cell.is_none();
-    let piece = cell.unwrap_or(ANY);
-    PLANES[piece.kind as usize + KINDS * (piece.side as usize) + PIECES * usize::from(is_empty)]
+    PLANES[code_of(cell)]
 }
 
 /// How many squares a mask has.
