@@ -1,6 +1,6 @@
 -- Masks made in one pass over the board: several in one word, twelve bits each, which no sum carries over.
 use Rattle.std.proofs.Common.{◌≡◌, ℕ, suc, ◌+◌, ◌-◌, ◌*◌, ◌/◌, ◌%◌, ◌^◌, ◌<◌, ◌≤◌, Bool, false, cond, List, [], ◌∷◌, Some, None, map}
-use Rattle.std.proofs.Common.{length, get_or, drop, slice_index_or, ap, ◌∙◌, arith}
+use Rattle.std.proofs.Common.{length, drop, slice_index_or, ap, ◌∙◌, arith}
 use Rattle.std.specs.Simd.Lanes.{mask_l}
 use Rattle.std.proofs.Math.Pow.{pow_mono}
 use Rattle.std.proofs.Math.Seq.{drop-cons}
@@ -12,7 +12,8 @@ use Rattle.dob_pieces.specs.declared.kind.Side.{Side}
 use Rattle.dob_pieces.specs.declared.kind.Side.TheVariants.{Mover, Enemy}
 use Rattle.dob_pieces.specs.declared.setup.Setup.{Setup}
 use Rattle.dob_pieces.specs.Setups.{Cell, piece_of}
-use Rattle.dob_pieces.specs.Masks.{AreSquares, is_piece, is_own, is_end, is_empty, code_of}
+use Rattle.dob_pieces.specs.Masks.{AreSquares, is_piece, is_own, is_end, is_empty, entry_of}
+use Rattle.dob_pieces.specs.declared.masks.TheConstants.{KINDS, OTHERS}
 
 -- ---- one mask
 
@@ -42,11 +43,8 @@ kinds_word cells =
     + 68719476736 * mask_of (is_piece Mover Chick) cells
     + 281474976710656 * mask_of (is_piece Mover Hen) cells
 
-abbrev pub kinds_table : List ℕ
-kinds_table = 0 ∷ 1 ∷ 4096 ∷ 16777216 ∷ 68719476736 ∷ 281474976710656 ∷ 0 ∷ 0 ∷ 0 ∷ 0 ∷ 0 ∷ []
-
 kinds_piece : (side : Side) (kind : Kind) (cells : List Cell)
-    → kinds_word (Some (piece_of side kind) ∷ cells) ≡ 2 * kinds_word cells + get_or kinds_table (code_of (Some (piece_of side kind))) 0
+    → kinds_word (Some (piece_of side kind) ∷ cells) ≡ 2 * kinds_word cells + entry_of KINDS (Some (piece_of side kind))
 unfolding kinds_word
 kinds_piece Mover Lion cells = omega arith
 kinds_piece Mover Giraffe cells = omega arith
@@ -59,7 +57,7 @@ kinds_piece Enemy Elephant cells = omega arith
 kinds_piece Enemy Chick cells = omega arith
 kinds_piece Enemy Hen cells = omega arith
 
-kinds_cell : (cell : Cell) (cells : List Cell) → kinds_word (cell ∷ cells) ≡ 2 * kinds_word cells + get_or kinds_table (code_of cell) 0
+kinds_cell : (cell : Cell) (cells : List Cell) → kinds_word (cell ∷ cells) ≡ 2 * kinds_word cells + entry_of KINDS cell
 unfolding kinds_word
 kinds_cell None cells = omega arith
 kinds_cell (Some piece) cells = kinds_piece piece.side piece.kind cells
@@ -73,11 +71,8 @@ others_word cells =
     + 16777216 * mask_of is_empty cells
     + 68719476736 * mask_of (is_piece Enemy Lion) cells
 
-abbrev pub others_table : List ℕ
-others_table = 16781312 ∷ 1 ∷ 1 ∷ 1 ∷ 1 ∷ 1 ∷ 68719476736 ∷ 4096 ∷ 4096 ∷ 4096 ∷ 4096 ∷ []
-
 others_piece : (side : Side) (kind : Kind) (cells : List Cell)
-    → others_word (Some (piece_of side kind) ∷ cells) ≡ 2 * others_word cells + get_or others_table (code_of (Some (piece_of side kind))) 0
+    → others_word (Some (piece_of side kind) ∷ cells) ≡ 2 * others_word cells + entry_of OTHERS (Some (piece_of side kind))
 unfolding others_word
 others_piece Mover Lion cells = omega arith
 others_piece Mover Giraffe cells = omega arith
@@ -90,28 +85,26 @@ others_piece Enemy Elephant cells = omega arith
 others_piece Enemy Chick cells = omega arith
 others_piece Enemy Hen cells = omega arith
 
-others_cell : (cell : Cell) (cells : List Cell) → others_word (cell ∷ cells) ≡ 2 * others_word cells + get_or others_table (code_of cell) 0
+others_cell : (cell : Cell) (cells : List Cell) → others_word (cell ∷ cells) ≡ 2 * others_word cells + entry_of OTHERS cell
 unfolding others_word
 others_cell None cells = omega arith
 others_cell (Some piece) cells = others_piece piece.side piece.kind cells
 
 -- ---- one more square
 
-kinds_more : (board : List Cell) (i word code read : ℕ) → i < length board → word ≡ kinds_word (drop (suc i) board)
-    → code ≡ code_of (slice_index_or board i None) → read ≡ get_or kinds_table code 0 → 2 * word + read ≡ kinds_word (drop i board)
-kinds_more board i word code read lt w c r =
+kinds_more : (board : List Cell) (i word read : ℕ) → i < length board → word ≡ kinds_word (drop (suc i) board)
+    → read ≡ entry_of KINDS (slice_index_or board i None) → 2 * word + read ≡ kinds_word (drop i board)
+kinds_more board i word read lt w r =
     let cons = drop-cons board i None lt in
     let more = kinds_cell (slice_index_or board i None) (drop (suc i) board) in
-    let table : read ≡ get_or kinds_table (code_of (slice_index_or board i None)) 0 = r ∙ ap (λ (k : ℕ). get_or kinds_table k 0) c in
-    rw cons (omega (arith, more, table, w))
+    rw cons (omega (arith, more, r, w))
 
-others_more : (board : List Cell) (i word code read : ℕ) → i < length board → word ≡ others_word (drop (suc i) board)
-    → code ≡ code_of (slice_index_or board i None) → read ≡ get_or others_table code 0 → 2 * word + read ≡ others_word (drop i board)
-others_more board i word code read lt w c r =
+others_more : (board : List Cell) (i word read : ℕ) → i < length board → word ≡ others_word (drop (suc i) board)
+    → read ≡ entry_of OTHERS (slice_index_or board i None) → 2 * word + read ≡ others_word (drop i board)
+others_more board i word read lt w r =
     let cons = drop-cons board i None lt in
     let more = others_cell (slice_index_or board i None) (drop (suc i) board) in
-    let table : read ≡ get_or others_table (code_of (slice_index_or board i None)) 0 = r ∙ ap (λ (k : ℕ). get_or others_table k 0) c in
-    rw cons (omega (arith, more, table, w))
+    rw cons (omega (arith, more, r, w))
 
 -- ---- the masks in a word
 
@@ -182,22 +175,22 @@ pub record IsRead (word next bound : ℕ) (after : ℕ) : Type 0 where
   pub small_next : next < bound
   pub next_is : next ≡ after
 
-pub kinds_read : (board : List Cell) (square word code read : ℕ) → length board ≡ 12 → 0 < square → square ≤ 12 → word ≡ kinds_word (drop square board)
-    → code ≡ code_of (slice_index_or board (square - 1) None) → read ≡ get_or kinds_table code 0
+pub kinds_read : (board : List Cell) (square word read : ℕ) → length board ≡ 12 → 0 < square → square ≤ 12 → word ≡ kinds_word (drop square board)
+    → read ≡ entry_of KINDS (slice_index_or board (square - 1) None)
     → IsRead word (2 * word + read) (2 ^ 60) (kinds_word (drop (square - 1) board))
-kinds_read board square word code read twelve some le w c r =
+kinds_read board square word read twelve some le w r =
     let e : square ≡ suc (square - 1) = omega arith in
-    let next = kinds_more board (square - 1) word code read (omega arith) (w ∙ ap (λ (k : ℕ). kinds_word (drop k board)) e) c r in
+    let next = kinds_more board (square - 1) word read (omega arith) (w ∙ ap (λ (k : ℕ). kinds_word (drop k board)) e) r in
     let before = kinds_small (drop square board) (from_start board square twelve) in
     let after = kinds_small (drop (square - 1) board) (from_start board (square - 1) twelve) in
     record { small = rw w before; small_next = rw next after; next_is = next }
 
-pub others_read : (board : List Cell) (square word code read : ℕ) → length board ≡ 12 → 0 < square → square ≤ 12 → word ≡ others_word (drop square board)
-    → code ≡ code_of (slice_index_or board (square - 1) None) → read ≡ get_or others_table code 0
+pub others_read : (board : List Cell) (square word read : ℕ) → length board ≡ 12 → 0 < square → square ≤ 12 → word ≡ others_word (drop square board)
+    → read ≡ entry_of OTHERS (slice_index_or board (square - 1) None)
     → IsRead word (2 * word + read) (2 ^ 48) (others_word (drop (square - 1) board))
-others_read board square word code read twelve some le w c r =
+others_read board square word read twelve some le w r =
     let e : square ≡ suc (square - 1) = omega arith in
-    let next = others_more board (square - 1) word code read (omega arith) (w ∙ ap (λ (k : ℕ). others_word (drop k board)) e) c r in
+    let next = others_more board (square - 1) word read (omega arith) (w ∙ ap (λ (k : ℕ). others_word (drop k board)) e) r in
     let before = others_small (drop square board) (from_start board square twelve) in
     let after = others_small (drop (square - 1) board) (from_start board (square - 1) twelve) in
     record { small = rw w before; small_next = rw next after; next_is = next }

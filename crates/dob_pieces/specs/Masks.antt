@@ -1,5 +1,5 @@
 -- Sets of squares as the bits of a number, square 0 as the lowest.
-use Rattle.std.specs.Prelude.{◌≡◌, ℕ, ◌+◌, ◌*◌, ◌<◌, ◌&&◌, Bool, true, false, cond, Some, None}
+use Rattle.std.specs.Prelude.{◌≡◌, ℕ, ◌+◌, ◌<◌, ◌&&◌, Bool, true, false, cond, List, [], Some, None, slice_index_or}
 use Rattle.std.specs.Int.{bit_at}
 use Rattle.dob_pieces.specs.declared.kind.Kind.{Kind}
 use Rattle.dob_pieces.specs.declared.kind.Kind.TheVariants.{Lion, Giraffe, Elephant, Chick, Hen}
@@ -85,7 +85,15 @@ abbrev pub side_place : Side → ℕ
 side_place Mover = 0
 side_place Enemy = 1
 
--- a number for what stands on a square: nothing, the mover's kinds, the enemy's
-abbrev pub code_of : Cell → ℕ
-code_of None = 0
-code_of (Some piece) = 1 + kind_place piece.kind + 5 * side_place piece.side
+-- the numbers of what stands on a square: its kind, and whose it is, nobody's, the mover's or the enemy's
+abbrev pub kind_number : Cell → ℕ
+kind_number None = 0
+kind_number (Some piece) = kind_place piece.kind
+
+abbrev pub owner_number : Cell → ℕ
+owner_number None = 0
+owner_number (Some piece) = 1 + side_place piece.side
+
+-- what a table by these two numbers has for the cell
+abbrev pub entry_of : List (List ℕ) → Cell → ℕ
+entry_of table cell = slice_index_or (slice_index_or table (kind_number cell) []) (owner_number cell) 0

@@ -18,7 +18,7 @@ mod steps;
 pub use fault::PositionFault;
 pub use hand::{Hand, Hands};
 pub use kind::{HandKind, Kind, Piece, Side};
-pub use masks::{CODES, Masks, code_of, lowest_square, without_square};
+pub use masks::{CellTable, Masks, entry_of, lowest_square, without_square};
 pub use memory::Memory;
 pub use piece_set::{PieceSet, SetText};
 pub use position::Position;

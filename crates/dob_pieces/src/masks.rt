@@ -2,10 +2,10 @@
 // setup come from one pass over its board, without a branch on what stands there.
 ghost use Rattle.std.specs.Prelude.{◌≡◌, ◌<◌, ◌*◌, ◌/◌, ◌%◌, ◌^◌, bit_and};
 ghost use Rattle.std.specs.Int.{bit_not, trailing_zeros, w16};
-ghost use Rattle.dob_pieces.specs.Masks.{IsMask, AreMasks, attacks, code_of};
+ghost use Rattle.dob_pieces.specs.Masks.{IsMask, AreMasks, attacks, kind_number, owner_number, entry_of};
 ghost use Rattle.dob_pieces.specs.declared.setup.Setup.{Setup};
 
-use crate::kind::{Kind, Piece, Side};
+use crate::kind::{Kind, Piece};
 use crate::setup::Setup;
 use crate::square::Square;
 
@@ -33,9 +33,11 @@ impl Masks {
         let mut kinds: u64 = 0;
         let mut others: u64 = 0;
         for square in (0..Square::COUNT).rev() {
-            let code = code_of(setup.board[square]);
-            kinds = 2 * kinds + KINDS[code];
-            others = 2 * others + OTHERS[code];
+            let cell = setup.board[square];
+            let kind = entry_of(&KINDS, cell);
+            let other = entry_of(&OTHERS, cell);
+            kinds = 2 * kinds + kind;
+            others = 2 * others + other;
         }
         Masks {
             lion: plane(kinds, 1),
@@ -80,53 +82,57 @@ pub fn without_square(mask: u16, square: Square) -> u16
     mask & !(1 << square.index())
 }
 
-// By the code of a cell the lowest bit of each mask, first those of the mover's kinds, in the order of `Kind`, ..
-const KINDS: [u64; CODES] = [
-    0,
-    1,
-    4096,
-    16_777_216,
-    68_719_476_736,
-    281_474_976_710_656,
-    0,
-    0,
-    0,
-    0,
-    0,
+/// What each cell adds to a word of masks: by the kind of its piece, in the order of `Kind`, and then by its owner, who is
+/// nobody, the mover or the enemy. An empty cell has nobody's lion. No cell has the fourth owner: rows of four are found by
+/// a shift.
+pub type CellTable = [[u64; 4]; 5];
+
+// The lowest bit of each mask, first those of the mover's kinds, ..
+const KINDS: CellTable = [
+    [0, 1, 0, 0],
+    [0, 4096, 0, 0],
+    [0, 16_777_216, 0, 0],
+    [0, 68_719_476_736, 0, 0],
+    [0, 281_474_976_710_656, 0, 0],
 ];
 
 // .. and then those of the mover's pieces, the ends of steps, the empty squares and the enemy lion.
-const OTHERS: [u64; CODES] = [
-    16_781_312,
-    1,
-    1,
-    1,
-    1,
-    1,
-    68_719_476_736,
-    4096,
-    4096,
-    4096,
-    4096,
+const OTHERS: CellTable = [
+    [16_781_312, 1, 68_719_476_736, 0],
+    [0, 1, 4096, 0],
+    [0, 1, 4096, 0],
+    [0, 1, 4096, 0],
+    [0, 1, 4096, 0],
 ];
 
-/// How many codes of cells there are.
-pub const CODES: usize = 11;
-
-// Stands for no piece where a piece has to be read.
-const NOBODY: Piece = Piece {
-    side: Side::Mover,
-    kind: Kind::Lion,
-};
-
-/// The code of a cell, below `CODES`: 0 for an empty one, then the mover's kinds in the order of `Kind`, then the enemy's.
-/// It is found without a branch on what stands there.
-pub fn code_of(cell: Option<Piece>) -> usize
-    ensures code { result ≡ code_of cell }
-    ensures bound { result < 11 }
+/// What the table has for the cell, found without a branch on what stands there: kind and owner are two choices each of a
+/// number or 0, and one choice of a whole piece would become a jump.
+pub fn entry_of(table: &CellTable, cell: Option<Piece>) -> u64
+    ensures { result ≡ entry_of table.now cell }
 {
-    let piece = cell.unwrap_or(NOBODY);
-    usize::from(cell.is_some()) + piece.kind as usize + 5 * (piece.side as usize)
+    table[kind_number(cell)][owner_number(cell)]
+}
+
+// The place of the piece's kind in the order of `Kind`; 0 for an empty cell.
+fn kind_number(cell: Option<Piece>) -> usize
+    ensures value { result ≡ kind_number cell }
+    ensures bound { result < 5 }
+{
+    match cell {
+        Some(piece) => piece.kind as usize,
+        None => 0,
+    }
+}
+
+// 0 where nobody has a piece, 1 for the mover's, 2 for the enemy's.
+fn owner_number(cell: Option<Piece>) -> usize
+    ensures value { result ≡ owner_number cell }
+    ensures bound { result < 3 }
+{
+    match cell {
+        Some(piece) => 1 + piece.side as usize,
+        None => 0,
+    }
 }
 
 // The mask whose lowest bit has that value in the word.

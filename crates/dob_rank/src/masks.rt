@@ -6,7 +6,7 @@ ghost use Rattle.dob_rank.specs.Masks.{layer_mask, from_mask, plane};
 
 use crate::forms::{base_of, form_of};
 use crate::layers::Layer;
-use dob_pieces::{CODES, Piece, Square, code_of};
+use dob_pieces::{CellTable, Piece, Square, entry_of};
 
 /// How many bits a plane has: one for each square. A word of planes has a plane for each layer of pieces.
 const PLANE: u64 = 12;
@@ -24,19 +24,13 @@ const GIRAFFES_PLANE: u64 = 1 << (4 * PLANE);
 
 const NO_PLANE: u64 = 0;
 
-/// By the code of a cell the first bit of its layer's plane.
-const PLANES: [u64; CODES] = [
-    NO_PLANE,
-    OWN_LION_PLANE,
-    GIRAFFES_PLANE,
-    ELEPHANTS_PLANE,
-    CHICKS_PLANE,
-    CHICKS_PLANE,
-    ENEMY_LION_PLANE,
-    GIRAFFES_PLANE,
-    ELEPHANTS_PLANE,
-    CHICKS_PLANE,
-    CHICKS_PLANE,
+/// By a cell's kind and owner the first bit of its layer's plane.
+const PLANES: CellTable = [
+    [NO_PLANE, OWN_LION_PLANE, ENEMY_LION_PLANE, NO_PLANE],
+    [NO_PLANE, GIRAFFES_PLANE, GIRAFFES_PLANE, NO_PLANE],
+    [NO_PLANE, ELEPHANTS_PLANE, ELEPHANTS_PLANE, NO_PLANE],
+    [NO_PLANE, CHICKS_PLANE, CHICKS_PLANE, NO_PLANE],
+    [NO_PLANE, CHICKS_PLANE, CHICKS_PLANE, NO_PLANE],
 ];
 
 /// All squares of the board: each bit of a plane.
@@ -105,7 +99,7 @@ fn plane_of(cell: Option<Piece>) -> u64
     ensures value { result ≡ plane (layer cell) }
     ensures bound { result ≤ GIRAFFES_PLANE }
 {
-    PLANES[code_of(cell)]
+    entry_of(&PLANES, cell)
 }
 
 /// How many squares a mask has.

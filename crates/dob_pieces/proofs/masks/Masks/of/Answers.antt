@@ -1,5 +1,5 @@
 -- Each square adds its bits, and each plane of the words is one mask.
-use Rattle.std.proofs.Common.{◌≡◌, ◌≤◌, ◌/◌, ◌%◌, refl, ℕ, length, drop, ap, ◌∙◌, arith, rules}
+use Rattle.std.proofs.Common.{◌≡◌, ◌≤◌, ◌/◌, ◌%◌, ℕ, length, drop, ap, ◌∙◌, arith, rules}
 use Rattle.dob_pieces.specs.declared.kind.Kind.TheVariants.{Lion, Giraffe, Elephant, Chick, Hen}
 use Rattle.dob_pieces.specs.declared.kind.Side.TheVariants.{Mover, Enemy}
 use Rattle.dob_pieces.specs.Masks.{is_piece, is_own, is_end, is_empty}
@@ -13,38 +13,38 @@ loop-square-init c =
 
 pub overflow_mul-kinds : goal.overflow_mul-kinds
 overflow_mul-kinds c =
-    let here = kinds_read c.args.setup.now.board c.loop-square.square c.loop-square.kinds c.code_of-code.result _ (search rules) (omega arith) (omega arith)
-    c.loop-square.invariant.kinds_are c.code_of-code.ensures.code refl in
+    let here = kinds_read c.args.setup.now.board c.loop-square.square c.loop-square.kinds c.entry_of-kind.result (search rules) (omega arith) (omega arith)
+    c.loop-square.invariant.kinds_are c.entry_of-kind.ensures in
     let small = here.small in
     record { fits = omega (arith, small) }
 
 pub overflow_add-kinds : goal.overflow_add-kinds
 overflow_add-kinds c =
-    let here = kinds_read c.args.setup.now.board c.loop-square.square c.loop-square.kinds c.code_of-code.result _ (search rules) (omega arith) (omega arith)
-    c.loop-square.invariant.kinds_are c.code_of-code.ensures.code refl in
+    let here = kinds_read c.args.setup.now.board c.loop-square.square c.loop-square.kinds c.entry_of-kind.result (search rules) (omega arith) (omega arith)
+    c.loop-square.invariant.kinds_are c.entry_of-kind.ensures in
     let small = here.small_next in
     record { fits = omega (arith, small) }
 
 pub overflow_mul-others : goal.overflow_mul-others
 overflow_mul-others c =
-    let here = others_read c.args.setup.now.board c.loop-square.square c.loop-square.others c.code_of-code.result _ (search rules) (omega arith) (omega arith)
-    c.loop-square.invariant.others_are c.code_of-code.ensures.code refl in
+    let here = others_read c.args.setup.now.board c.loop-square.square c.loop-square.others c.entry_of-other.result (search rules) (omega arith) (omega arith)
+    c.loop-square.invariant.others_are c.entry_of-other.ensures in
     let small = here.small in
     record { fits = omega (arith, small) }
 
 pub overflow_add-others : goal.overflow_add-others
 overflow_add-others c =
-    let here = others_read c.args.setup.now.board c.loop-square.square c.loop-square.others c.code_of-code.result _ (search rules) (omega arith) (omega arith)
-    c.loop-square.invariant.others_are c.code_of-code.ensures.code refl in
+    let here = others_read c.args.setup.now.board c.loop-square.square c.loop-square.others c.entry_of-other.result (search rules) (omega arith) (omega arith)
+    c.loop-square.invariant.others_are c.entry_of-other.ensures in
     let small = here.small_next in
     record { fits = omega (arith, small) }
 
 pub loop-square-preserved : goal.loop-square-preserved
 loop-square-preserved c = record {
-  kinds_are = (kinds_read c.args.setup.now.board c.loop-square.square c.loop-square.kinds c.code_of-code.result _ (search rules) (omega arith) (omega arith)
-      c.loop-square.invariant.kinds_are c.code_of-code.ensures.code refl).next_is;
-  others_are = (others_read c.args.setup.now.board c.loop-square.square c.loop-square.others c.code_of-code.result _ (search rules) (omega arith) (omega arith)
-      c.loop-square.invariant.others_are c.code_of-code.ensures.code refl).next_is;
+  kinds_are = (kinds_read c.args.setup.now.board c.loop-square.square c.loop-square.kinds c.entry_of-kind.result (search rules) (omega arith) (omega arith)
+      c.loop-square.invariant.kinds_are c.entry_of-kind.ensures).next_is;
+  others_are = (others_read c.args.setup.now.board c.loop-square.square c.loop-square.others c.entry_of-other.result (search rules) (omega arith) (omega arith)
+      c.loop-square.invariant.others_are c.entry_of-other.ensures).next_is;
 }
 
 pub returns : goal.returns
