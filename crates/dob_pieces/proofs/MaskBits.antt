@@ -1,10 +1,10 @@
 -- Sets of squares as masks: what the operations on bits make of them.
-use Rattle.std.proofs.Common.{◌≡◌, ◌≢◌, ℕ, suc, ◌*◌, ◌/◌, ◌%◌, ◌^◌, ◌<◌, ◌≤◌, min, max, nat_eq, nat_le, bit_and, bit_or}
-use Rattle.std.proofs.Common.{Bool, true, false, true≢false, ◌&&◌, ◌||◌, cond, refl, sym, ap, ◌∙◌, arith, inl, inr, w16}
+use Rattle.std.proofs.Common.{◌≡◌, ◌≢◌, ℕ, suc, ◌-◌, ◌*◌, ◌/◌, ◌%◌, ◌^◌, ◌<◌, ◌≤◌, min, max, nat_eq, nat_le, bit_and, bit_or}
+use Rattle.std.proofs.Common.{Bool, true, false, true≢false, not, ◌&&◌, ◌||◌, cond, refl, sym, ap, ◌∙◌, arith, inl, inr, w16}
 use Rattle.std.specs.Int.{bit_at, bit_not, trailing_zeros}
 use Rattle.std.proofs.lemmas.Bool.{and_parts, cases_lt, cases_eq, le-leb, lt-leb, leb-true}
 use Rattle.std.proofs.lemmas.Nat.{and_le_l, or_lt}
-use Rattle.std.proofs.lemmas.Nat.Bits.{shr_and_one, bit_at_and, bit_at_or, bit_at-trailing_zeros, bit_at_clear_same, bit_at_clear_other}
+use Rattle.std.proofs.lemmas.Nat.Bits.{shr_and_one, bit_at_and, bit_at_or, bit_at_not, bit_at-trailing_zeros, bit_at_clear_same, bit_at_clear_other}
 use Rattle.std.proofs.lemmas.Nat.Bits.{bit_at_above, bit_at-zero}
 use Rattle.dob_pieces.specs.Masks.{IsMask}
 
@@ -50,6 +50,24 @@ IsMask-or f g a b is are = record {
   bits = λ square lt.
       bit_at_or a b square ∙ ap (λ (n : ℕ). max n (bit_at b square)) (is.bits square lt)
       ∙ ap (λ (n : ℕ). max (bit_if (f square)) n) (are.bits square lt) ∙ max-bits (f square) (g square);
+}
+
+without-bits : (a b : Bool) → min (bit_if a) (1 - bit_if b) ≡ bit_if (a && not b)
+without-bits true true = refl
+without-bits true false = refl
+without-bits false true = refl
+without-bits false false = refl
+
+-- the squares of the first that the second doesn't have
+pub IsMask-without : (f g : ℕ → Bool) (a b : ℕ) → IsMask f a → IsMask g b → IsMask (λ square. f square && not (g square)) (bit_and a (bit_not w16 b))
+IsMask-without f g a b is are = record {
+  within = let le = and_le_l a (bit_not w16 b) in let lt = is.within in omega (arith, le, lt);
+  bits = λ square lt.
+      let small = are.within in
+      bit_at_and a (bit_not w16 b) square
+      ∙ ap (λ (n : ℕ). min (bit_at a square) n) (bit_at_not w16 b square (omega (arith, small)) (omega (arith, lt)))
+      ∙ ap (λ (n : ℕ). min (bit_at a square) (1 - n)) (are.bits square lt)
+      ∙ ap (λ (n : ℕ). min n (1 - bit_if (g square))) (is.bits square lt) ∙ without-bits (f square) (g square);
 }
 
 -- a mask by a test that says the same

@@ -1,6 +1,9 @@
 -- Masks made in one pass over the board: several in one word, twelve bits each, which no sum carries over.
-use Rattle.std.proofs.Common.{◌≡◌, ℕ, suc, ◌+◌, ◌-◌, ◌*◌, ◌/◌, ◌%◌, ◌^◌, ◌<◌, ◌≤◌, Bool, false, cond, List, [], ◌∷◌, Some, None, map}
+use Rattle.std.proofs.Common.{◌≡◌, ℕ, suc, ◌+◌, ◌-◌, ◌*◌, ◌/◌, ◌%◌, ◌^◌, ◌<◌, ◌≤◌, Bool, true, false, cond, not, nat_eq, ◌&&◌, ◌||◌, sym, refl, bit_and, w16, List, [], ◌∷◌, Some, None, map}
 use Rattle.std.proofs.Common.{length, drop, slice_index_or, ap, ◌∙◌, arith}
+use Rattle.std.specs.Int.{bit_not, bit_at}
+use Rattle.std.proofs.lemmas.Bool.{eqb-true}
+use Rattle.dob_pieces.proofs.Boards.{all_below-at}
 use Rattle.std.specs.Simd.Lanes.{mask_l}
 use Rattle.std.proofs.Math.Pow.{pow_mono}
 use Rattle.std.proofs.Math.Seq.{drop-cons}
@@ -11,9 +14,10 @@ use Rattle.dob_pieces.specs.declared.kind.Kind.TheVariants.{Lion, Giraffe, Eleph
 use Rattle.dob_pieces.specs.declared.kind.Side.{Side}
 use Rattle.dob_pieces.specs.declared.kind.Side.TheVariants.{Mover, Enemy}
 use Rattle.dob_pieces.specs.declared.setup.Setup.{Setup}
-use Rattle.dob_pieces.specs.Setups.{Cell, piece_of}
-use Rattle.dob_pieces.specs.Masks.{AreSquares, is_piece, is_own, is_end, is_empty, entry_of}
-use Rattle.dob_pieces.specs.declared.masks.TheConstants.{KINDS, OTHERS}
+use Rattle.dob_pieces.specs.Setups.{Cell, piece_of, at}
+use Rattle.dob_pieces.specs.Masks.{AreSquares, is_piece, is_own, is_empty, kind_place, side_place, entry_of}
+use Rattle.dob_pieces.specs.declared.masks.TheConstants.{PLANES}
+use Rattle.dob_pieces.proofs.MaskBits.{IsMask-and, IsMask-without, IsMask-same}
 
 -- ---- one mask
 
@@ -33,77 +37,54 @@ are_squares setup test mask twelve e = rw e (record {
       ∙ ap (λ (b : Bool). cond b 1 0) (get_or-map test setup.board square None false (omega arith));
 })
 
--- ---- the masks of the mover's kinds in one word
+-- ---- five planes in one word
 
-unfoldable pub kinds_word : List Cell → ℕ
-kinds_word cells =
-    mask_of (is_piece Mover Lion) cells
-    + 4096 * mask_of (is_piece Mover Giraffe) cells
-    + 16777216 * mask_of (is_piece Mover Elephant) cells
-    + 68719476736 * mask_of (is_piece Mover Chick) cells
-    + 281474976710656 * mask_of (is_piece Mover Hen) cells
+abbrev pub is_lion : Cell → Bool
+is_lion cell = is_piece Mover Lion cell || is_piece Enemy Lion cell
 
-kinds_piece : (side : Side) (kind : Kind) (cells : List Cell)
-    → kinds_word (Some (piece_of side kind) ∷ cells) ≡ 2 * kinds_word cells + entry_of KINDS (Some (piece_of side kind))
-unfolding kinds_word
-kinds_piece Mover Lion cells = omega arith
-kinds_piece Mover Giraffe cells = omega arith
-kinds_piece Mover Elephant cells = omega arith
-kinds_piece Mover Chick cells = omega arith
-kinds_piece Mover Hen cells = omega arith
-kinds_piece Enemy Lion cells = omega arith
-kinds_piece Enemy Giraffe cells = omega arith
-kinds_piece Enemy Elephant cells = omega arith
-kinds_piece Enemy Chick cells = omega arith
-kinds_piece Enemy Hen cells = omega arith
+abbrev pub is_straight : Cell → Bool
+is_straight cell = is_piece Mover Giraffe cell || is_piece Mover Hen cell
 
-kinds_cell : (cell : Cell) (cells : List Cell) → kinds_word (cell ∷ cells) ≡ 2 * kinds_word cells + entry_of KINDS cell
-unfolding kinds_word
-kinds_cell None cells = omega arith
-kinds_cell (Some piece) cells = kinds_piece piece.side piece.kind cells
+abbrev pub is_aslant : Cell → Bool
+is_aslant cell = is_piece Mover Elephant cell || is_piece Mover Hen cell
 
--- ---- the other masks in one word
+abbrev pub is_chick_or_empty : Cell → Bool
+is_chick_or_empty cell = is_piece Mover Chick cell || is_empty cell
 
-unfoldable pub others_word : List Cell → ℕ
-others_word cells =
+unfoldable pub word_of : List Cell → ℕ
+word_of cells =
     mask_of is_own cells
-    + 4096 * mask_of is_end cells
-    + 16777216 * mask_of is_empty cells
-    + 68719476736 * mask_of (is_piece Enemy Lion) cells
+    + 4096 * mask_of is_lion cells
+    + 16777216 * mask_of is_straight cells
+    + 68719476736 * mask_of is_aslant cells
+    + 281474976710656 * mask_of is_chick_or_empty cells
 
-others_piece : (side : Side) (kind : Kind) (cells : List Cell)
-    → others_word (Some (piece_of side kind) ∷ cells) ≡ 2 * others_word cells + entry_of OTHERS (Some (piece_of side kind))
-unfolding others_word
-others_piece Mover Lion cells = omega arith
-others_piece Mover Giraffe cells = omega arith
-others_piece Mover Elephant cells = omega arith
-others_piece Mover Chick cells = omega arith
-others_piece Mover Hen cells = omega arith
-others_piece Enemy Lion cells = omega arith
-others_piece Enemy Giraffe cells = omega arith
-others_piece Enemy Elephant cells = omega arith
-others_piece Enemy Chick cells = omega arith
-others_piece Enemy Hen cells = omega arith
+word_piece : (side : Side) (kind : Kind) (cells : List Cell)
+    → word_of (Some (piece_of side kind) ∷ cells) ≡ 2 * word_of cells + entry_of PLANES (Some (piece_of side kind))
+unfolding word_of
+word_piece Mover Lion cells = omega arith
+word_piece Mover Giraffe cells = omega arith
+word_piece Mover Elephant cells = omega arith
+word_piece Mover Chick cells = omega arith
+word_piece Mover Hen cells = omega arith
+word_piece Enemy Lion cells = omega arith
+word_piece Enemy Giraffe cells = omega arith
+word_piece Enemy Elephant cells = omega arith
+word_piece Enemy Chick cells = omega arith
+word_piece Enemy Hen cells = omega arith
 
-others_cell : (cell : Cell) (cells : List Cell) → others_word (cell ∷ cells) ≡ 2 * others_word cells + entry_of OTHERS cell
-unfolding others_word
-others_cell None cells = omega arith
-others_cell (Some piece) cells = others_piece piece.side piece.kind cells
+word_cell : (cell : Cell) (cells : List Cell) → word_of (cell ∷ cells) ≡ 2 * word_of cells + entry_of PLANES cell
+unfolding word_of
+word_cell None cells = omega arith
+word_cell (Some piece) cells = word_piece piece.side piece.kind cells
 
 -- ---- one more square
 
-kinds_more : (board : List Cell) (i word read : ℕ) → i < length board → word ≡ kinds_word (drop (suc i) board)
-    → read ≡ entry_of KINDS (slice_index_or board i None) → 2 * word + read ≡ kinds_word (drop i board)
-kinds_more board i word read lt w r =
+word_more : (board : List Cell) (i word read : ℕ) → i < length board → word ≡ word_of (drop (suc i) board)
+    → read ≡ entry_of PLANES (slice_index_or board i None) → 2 * word + read ≡ word_of (drop i board)
+word_more board i word read lt w r =
     let cons = drop-cons board i None lt in
-    let more = kinds_cell (slice_index_or board i None) (drop (suc i) board) in
-    rw cons (omega (arith, more, r, w))
-
-others_more : (board : List Cell) (i word read : ℕ) → i < length board → word ≡ others_word (drop (suc i) board)
-    → read ≡ entry_of OTHERS (slice_index_or board i None) → 2 * word + read ≡ others_word (drop i board)
-others_more board i word read lt w r =
-    let cons = drop-cons board i None lt in
-    let more = others_cell (slice_index_or board i None) (drop (suc i) board) in
+    let more = word_cell (slice_index_or board i None) (drop (suc i) board) in
     rw cons (omega (arith, more, r, w))
 
 -- ---- the masks in a word
@@ -115,54 +96,31 @@ mask_of-small test cells le =
     let lt = mask_of-lt test cells in
     omega (arith, bound, lt)
 
-kinds_small : (cells : List Cell) → length cells ≤ 12 → kinds_word cells < 2 ^ 60
-unfolding kinds_word
-kinds_small cells le =
-    let a = mask_of-small (is_piece Mover Lion) cells le in
-    let b = mask_of-small (is_piece Mover Giraffe) cells le in
-    let c = mask_of-small (is_piece Mover Elephant) cells le in
-    let d = mask_of-small (is_piece Mover Chick) cells le in
-    let e = mask_of-small (is_piece Mover Hen) cells le in
+word_small : (cells : List Cell) → length cells ≤ 12 → word_of cells < 2 ^ 60
+unfolding word_of
+word_small cells le =
+    let a = mask_of-small is_own cells le in
+    let b = mask_of-small is_lion cells le in
+    let c = mask_of-small is_straight cells le in
+    let d = mask_of-small is_aslant cells le in
+    let e = mask_of-small is_chick_or_empty cells le in
     omega (arith, a, b, c, d, e)
 
-others_small : (cells : List Cell) → length cells ≤ 12 → others_word cells < 2 ^ 48
-unfolding others_word
-others_small cells le =
+-- by the unit of each plane its mask
+pub word_planes : (cells : List Cell) → length cells ≤ 12 →
+    (word_of cells / 1 % 4096 ≡ mask_of is_own cells)
+    × (word_of cells / 4096 % 4096 ≡ mask_of is_lion cells)
+    × (word_of cells / 16777216 % 4096 ≡ mask_of is_straight cells)
+    × (word_of cells / 68719476736 % 4096 ≡ mask_of is_aslant cells)
+    × (word_of cells / 281474976710656 % 4096 ≡ mask_of is_chick_or_empty cells)
+unfolding word_of
+word_planes cells le =
     let a = mask_of-small is_own cells le in
-    let b = mask_of-small is_end cells le in
-    let c = mask_of-small is_empty cells le in
-    let d = mask_of-small (is_piece Enemy Lion) cells le in
-    omega (arith, a, b, c, d)
-
--- by the unit of each of the mover's kinds its mask
-pub kinds_planes : (cells : List Cell) → length cells ≤ 12 →
-    (kinds_word cells / 1 % 4096 ≡ mask_of (is_piece Mover Lion) cells)
-    × (kinds_word cells / 4096 % 4096 ≡ mask_of (is_piece Mover Giraffe) cells)
-    × (kinds_word cells / 16777216 % 4096 ≡ mask_of (is_piece Mover Elephant) cells)
-    × (kinds_word cells / 68719476736 % 4096 ≡ mask_of (is_piece Mover Chick) cells)
-    × (kinds_word cells / 281474976710656 % 4096 ≡ mask_of (is_piece Mover Hen) cells)
-unfolding kinds_word
-kinds_planes cells le =
-    let a = mask_of-small (is_piece Mover Lion) cells le in
-    let b = mask_of-small (is_piece Mover Giraffe) cells le in
-    let c = mask_of-small (is_piece Mover Elephant) cells le in
-    let d = mask_of-small (is_piece Mover Chick) cells le in
-    let e = mask_of-small (is_piece Mover Hen) cells le in
+    let b = mask_of-small is_lion cells le in
+    let c = mask_of-small is_straight cells le in
+    let d = mask_of-small is_aslant cells le in
+    let e = mask_of-small is_chick_or_empty cells le in
     (omega arith, omega arith, omega arith, omega arith, omega arith)
-
--- and of each of the other masks
-pub others_planes : (cells : List Cell) → length cells ≤ 12 →
-    (others_word cells / 1 % 4096 ≡ mask_of is_own cells)
-    × (others_word cells / 4096 % 4096 ≡ mask_of is_end cells)
-    × (others_word cells / 16777216 % 4096 ≡ mask_of is_empty cells)
-    × (others_word cells / 68719476736 % 4096 ≡ mask_of (is_piece Enemy Lion) cells)
-unfolding others_word
-others_planes cells le =
-    let a = mask_of-small is_own cells le in
-    let b = mask_of-small is_end cells le in
-    let c = mask_of-small is_empty cells le in
-    let d = mask_of-small (is_piece Enemy Lion) cells le in
-    (omega arith, omega arith, omega arith, omega arith)
 
 -- ---- the pass over the board
 
@@ -175,28 +133,75 @@ pub record IsRead (word next bound : ℕ) (after : ℕ) : Type 0 where
   pub small_next : next < bound
   pub next_is : next ≡ after
 
-pub kinds_read : (board : List Cell) (square word read : ℕ) → length board ≡ 12 → 0 < square → square ≤ 12 → word ≡ kinds_word (drop square board)
-    → read ≡ entry_of KINDS (slice_index_or board (square - 1) None)
-    → IsRead word (2 * word + read) (2 ^ 60) (kinds_word (drop (square - 1) board))
-kinds_read board square word read twelve some le w r =
+pub word_read : (board : List Cell) (square word read : ℕ) → length board ≡ 12 → 0 < square → square ≤ 12 → word ≡ word_of (drop square board)
+    → read ≡ entry_of PLANES (slice_index_or board (square - 1) None)
+    → IsRead word (2 * word + read) (2 ^ 60) (word_of (drop (square - 1) board))
+word_read board square word read twelve some le w r =
     let e : square ≡ suc (square - 1) = omega arith in
-    let next = kinds_more board (square - 1) word read (omega arith) (w ∙ ap (λ (k : ℕ). kinds_word (drop k board)) e) r in
-    let before = kinds_small (drop square board) (from_start board square twelve) in
-    let after = kinds_small (drop (square - 1) board) (from_start board (square - 1) twelve) in
-    record { small = rw w before; small_next = rw next after; next_is = next }
-
-pub others_read : (board : List Cell) (square word read : ℕ) → length board ≡ 12 → 0 < square → square ≤ 12 → word ≡ others_word (drop square board)
-    → read ≡ entry_of OTHERS (slice_index_or board (square - 1) None)
-    → IsRead word (2 * word + read) (2 ^ 48) (others_word (drop (square - 1) board))
-others_read board square word read twelve some le w r =
-    let e : square ≡ suc (square - 1) = omega arith in
-    let next = others_more board (square - 1) word read (omega arith) (w ∙ ap (λ (k : ℕ). others_word (drop k board)) e) r in
-    let before = others_small (drop square board) (from_start board square twelve) in
-    let after = others_small (drop (square - 1) board) (from_start board (square - 1) twelve) in
+    let next = word_more board (square - 1) word read (omega arith) (w ∙ ap (λ (k : ℕ). word_of (drop k board)) e) r in
+    let before = word_small (drop square board) (from_start board square twelve) in
+    let after = word_small (drop (square - 1) board) (from_start board (square - 1) twelve) in
     record { small = rw w before; small_next = rw next after; next_is = next }
 
 -- nothing is read of no squares
-pub none_read : (board : List Cell) → length board ≡ 12 → (0 ≡ kinds_word (drop 12 board)) × (0 ≡ others_word (drop 12 board))
-unfolding kinds_word others_word
-none_read (a ∷ b ∷ c ∷ d ∷ e ∷ i ∷ j ∷ k ∷ l ∷ m ∷ n ∷ o ∷ []) twelve = (omega arith, omega arith)
+pub none_read : (board : List Cell) → length board ≡ 12 → 0 ≡ word_of (drop 12 board)
+unfolding word_of
+none_read (a ∷ b ∷ c ∷ d ∷ e ∷ i ∷ j ∷ k ∷ l ∷ m ∷ n ∷ o ∷ []) twelve = omega arith
 none_read board twelve = absurd (omega arith)
+
+-- ---- what the planes say of each cell
+
+abbrev pub all_cells : List Cell
+all_cells =
+    None
+    ∷ Some (piece_of Mover Lion) ∷ Some (piece_of Mover Giraffe) ∷ Some (piece_of Mover Elephant) ∷ Some (piece_of Mover Chick)
+    ∷ Some (piece_of Mover Hen)
+    ∷ Some (piece_of Enemy Lion) ∷ Some (piece_of Enemy Giraffe) ∷ Some (piece_of Enemy Elephant) ∷ Some (piece_of Enemy Chick)
+    ∷ Some (piece_of Enemy Hen) ∷ []
+
+abbrev place_of : Cell → ℕ
+place_of None = 0
+place_of (Some piece) = 1 + kind_place piece.kind + 5 * side_place piece.side
+
+abbrev told_at : (Cell → Bool) → Cell → Bool
+told_at test cell = slice_index_or (map test all_cells) (place_of cell) false
+
+told_piece : (test : Cell → Bool) (side : Side) (kind : Kind) → test (Some (piece_of side kind)) ≡ told_at test (Some (piece_of side kind))
+told_piece test Mover Lion = refl
+told_piece test Mover Giraffe = refl
+told_piece test Mover Elephant = refl
+told_piece test Mover Chick = refl
+told_piece test Mover Hen = refl
+told_piece test Enemy Lion = refl
+told_piece test Enemy Giraffe = refl
+told_piece test Enemy Elephant = refl
+told_piece test Enemy Chick = refl
+told_piece test Enemy Hen = refl
+
+told_cell : (test : Cell → Bool) (cell : Cell) → test cell ≡ told_at test cell
+told_cell test None = refl
+told_cell test (Some piece) = told_piece test piece.side piece.kind
+
+-- two tests that say the same of each kind of cell are one
+same_test : (f g : Cell → Bool) → map f all_cells ≡ map g all_cells → (cell : Cell) → f cell ≡ g cell
+same_test f g e cell =
+    told_cell f cell ∙ ap (λ (bits : List Bool). slice_index_or bits (place_of cell) false) e ∙ sym (told_cell g cell)
+
+-- every square of the board
+pub all_are : (setup : Setup) → AreSquares setup (λ cell. true) 4095
+all_are setup = record { within = omega arith; bits = λ square lt. eqb-true (bit_at 4095 square) 1 (all_below-at (λ s. nat_eq (bit_at 4095 s) 1) 12 square refl lt) }
+
+-- the masks of two planes
+pub of_both : (setup : Setup) (f g test : Cell → Bool) (a b : ℕ) → map (λ cell. f cell && g cell) all_cells ≡ map test all_cells
+    → AreSquares setup f a → AreSquares setup g b → AreSquares setup test (bit_and a b)
+of_both setup f g test a b e is are =
+    IsMask-same (λ square. f (at setup square) && g (at setup square)) (λ square. test (at setup square)) (bit_and a b)
+    (λ square lt. same_test (λ cell. f cell && g cell) test e (at setup square))
+    (IsMask-and (λ square. f (at setup square)) (λ square. g (at setup square)) a b is are)
+
+pub of_first : (setup : Setup) (f g test : Cell → Bool) (a b : ℕ) → map (λ cell. f cell && not (g cell)) all_cells ≡ map test all_cells
+    → AreSquares setup f a → AreSquares setup g b → AreSquares setup test (bit_and a (bit_not w16 b))
+of_first setup f g test a b e is are =
+    IsMask-same (λ square. f (at setup square) && not (g (at setup square))) (λ square. test (at setup square)) (bit_and a (bit_not w16 b))
+    (λ square lt. same_test (λ cell. f cell && not (g cell)) test e (at setup square))
+    (IsMask-without (λ square. f (at setup square)) (λ square. g (at setup square)) a b is are)

@@ -30,25 +30,26 @@ impl Masks {
     pub fn of(setup: &Setup) -> Masks
         ensures { AreMasks setup.now result }
     {
-        let mut kinds: u64 = 0;
-        let mut others: u64 = 0;
+        let mut planes: u64 = 0;
         for square in (0..Square::COUNT).rev() {
-            let cell = setup.board[square];
-            let kind = entry_of(&KINDS, cell);
-            let other = entry_of(&OTHERS, cell);
-            kinds = 2 * kinds + kind;
-            others = 2 * others + other;
+            let entry = entry_of(&PLANES, setup.board[square]);
+            planes = 2 * planes + entry;
         }
+        let own = plane(planes, 1);
+        let lions = plane(planes, 4096);
+        let straight = plane(planes, 16_777_216);
+        let aslant = plane(planes, 68_719_476_736);
+        let chicks_or_empty = plane(planes, 281_474_976_710_656);
         Masks {
-            lion: plane(kinds, 1),
-            giraffes: plane(kinds, 4096),
-            elephants: plane(kinds, 16_777_216),
-            chicks: plane(kinds, 68_719_476_736),
-            hens: plane(kinds, 281_474_976_710_656),
-            own: plane(others, 1),
-            ends: plane(others, 4096),
-            empty: plane(others, 16_777_216),
-            enemy_lion: plane(others, 68_719_476_736),
+            lion: lions & own,
+            giraffes: straight & !aslant,
+            elephants: aslant & !straight,
+            chicks: chicks_or_empty & own,
+            hens: straight & aslant,
+            own,
+            ends: ALL & !(own | lions),
+            empty: chicks_or_empty & !own,
+            enemy_lion: lions & !own,
         }
     }
 }
@@ -82,28 +83,23 @@ pub fn without_square(mask: u16, square: Square) -> u16
     mask & !(1 << square.index())
 }
 
-/// What each cell adds to a word of masks: by the kind of its piece, in the order of `Kind`, and then by its owner, who is
+/// What each cell adds to a word of planes: by the kind of its piece, in the order of `Kind`, and then by its owner, who is
 /// nobody, the mover or the enemy. An empty cell has nobody's lion. No cell has the fourth owner: rows of four are found by
 /// a shift.
 pub type CellTable = [[u64; 4]; 5];
 
-// The lowest bit of each mask, first those of the mover's kinds, ..
-const KINDS: CellTable = [
-    [0, 1, 0, 0],
-    [0, 4096, 0, 0],
-    [0, 16_777_216, 0, 0],
-    [0, 68_719_476_736, 0, 0],
-    [0, 281_474_976_710_656, 0, 0],
+// The lowest bits of five planes: the mover's pieces; the lions of both; the mover's giraffes and hens; the mover's elephants
+// and hens; and the mover's chicks and the empty squares.
+const PLANES: CellTable = [
+    [281_474_976_710_656, 4097, 4096, 0],
+    [0, 16_777_217, 0, 0],
+    [0, 68_719_476_737, 0, 0],
+    [0, 281_474_976_710_657, 0, 0],
+    [0, 68_736_253_953, 0, 0],
 ];
 
-// .. and then those of the mover's pieces, the ends of steps, the empty squares and the enemy lion.
-const OTHERS: CellTable = [
-    [16_781_312, 1, 68_719_476_736, 0],
-    [0, 1, 4096, 0],
-    [0, 1, 4096, 0],
-    [0, 1, 4096, 0],
-    [0, 1, 4096, 0],
-];
+// All squares of the board.
+const ALL: u16 = 4095;
 
 /// What the table has for the cell, found without a branch on what stands there: kind and owner are two choices each of a
 /// number or 0, and one choice of a whole piece would become a jump.

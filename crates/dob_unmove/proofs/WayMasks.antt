@@ -1,10 +1,9 @@
 -- The masks of the ways: where the lion may stand, where a move may have ended, from where a piece may have come.
-use Rattle.std.proofs.Common.{◌≡◌, ◌≢◌, ℕ, ◌-◌, ◌*◌, ◌%◌, ◌^◌, ◌<◌, ◌==◌, nat_lt, nat_eq, ◌&&◌, ◌||◌, min, not, Bool, true, false, cond, bit_and, refl, sym, ap}
-use Rattle.std.proofs.Common.{◌∙◌, arith, w16, Some, None, inl, inr}
+use Rattle.std.proofs.Common.{◌≡◌, ◌≢◌, ℕ, ◌*◌, ◌%◌, ◌^◌, ◌<◌, ◌==◌, nat_lt, nat_eq, ◌&&◌, ◌||◌, not, Bool, true, false, cond, bit_and, refl, sym, ap}
+use Rattle.std.proofs.Common.{◌∙◌, arith, Some, None, inl, inr}
 use Rattle.std.specs.Int.{bit_at}
 use Rattle.std.proofs.lemmas.Bool.{and_parts, cases_Bool, eqb-true, ltb-true, eq-eqb, ne_eqb}
-use Rattle.std.proofs.lemmas.Nat.{and_le_l}
-use Rattle.std.proofs.lemmas.Nat.Bits.{bit_at_and, bit_at_not, same_from_bits_below, bit_at-zero}
+use Rattle.std.proofs.lemmas.Nat.Bits.{same_from_bits_below, bit_at-zero}
 use Rattle.dob_pieces.specs.declared.kind.Kind.{Kind}
 use Rattle.dob_pieces.specs.declared.kind.Kind.TheVariants.{Lion, Giraffe, Elephant, Chick, Hen}
 use Rattle.dob_pieces.specs.declared.kind.Side.{Side}
@@ -21,24 +20,6 @@ use Rattle.dob_unmove.specs.declared.attackers.Threat.{Threat}
 use Rattle.dob_unmove.specs.declared.ways.TheConstants.{ALL, HOMES_ON_A, HOMES_ON_A_AND_B}
 use Rattle.dob_unmove.specs.Threats.{elsewhere}
 use Rattle.dob_unmove.specs.Ways.{is_home, TellsHome, may_end, comes_home}
-
--- the squares of the one mask that the other hasn't
-pub IsMask-without : (f g : ℕ → Bool) (a b : ℕ) → IsMask f a → IsMask g b → IsMask (λ s. f s && not (g s)) (bit_and a (2 ^ 16 - 1 - b))
-IsMask-without f g a b is are = record {
-  within = let le = and_le_l a (2 ^ 16 - 1 - b) in let lt = is.within in omega (arith, le, lt);
-  bits = λ s lt.
-      bit_at_and a (2 ^ 16 - 1 - b) s
-      ∙ ap (λ (n : ℕ). min n (bit_at (2 ^ 16 - 1 - b) s)) (is.bits s lt)
-      ∙ ap (λ (n : ℕ). min (cond (f s) 1 0) n)
-      (bit_at_not w16 b s (let low = are.within in omega (arith, low)) (omega (arith, lt)) ∙ ap (λ (n : ℕ). 1 - n) (are.bits s lt))
-      ∙ both (f s) (g s);
-}
-  where
-    both : (x y : Bool) → min (cond x 1 0) (1 - cond y 1 0) ≡ cond (x && not y) 1 0
-    both true true = refl
-    both true false = refl
-    both false true = refl
-    both false false = refl
 
 -- ---- masks of constants
 

@@ -1,72 +1,61 @@
--- Each square adds its bits, and each plane of the words is one mask.
-use Rattle.std.proofs.Common.{◌≡◌, ◌≤◌, ◌/◌, ◌%◌, ℕ, length, drop, ap, ◌∙◌, arith, rules}
+-- Each square adds its bits, and the masks are made of the planes of the word.
+use Rattle.std.proofs.Common.{◌≡◌, ◌≤◌, ◌/◌, ◌%◌, ◌||◌, true, refl, ℕ, length, drop, ap, ◌∙◌, arith, rules, bit_or}
 use Rattle.dob_pieces.specs.declared.kind.Kind.TheVariants.{Lion, Giraffe, Elephant, Chick, Hen}
 use Rattle.dob_pieces.specs.declared.kind.Side.TheVariants.{Mover, Enemy}
 use Rattle.dob_pieces.specs.Masks.{is_piece, is_own, is_end, is_empty}
-use Rattle.dob_pieces.proofs.Planes.{kinds_word, others_word, kinds_read, others_read, none_read, kinds_planes, others_planes, are_squares}
+use Rattle.dob_pieces.specs.Setups.{at}
+use Rattle.dob_pieces.proofs.MaskBits.{IsMask-or}
+use Rattle.dob_pieces.proofs.Planes.{word_of, word_read, none_read, word_planes, are_squares, all_are, of_both, of_first}
+use Rattle.dob_pieces.proofs.Planes.{is_lion, is_straight, is_aslant, is_chick_or_empty}
 use Rattle.dob_pieces.proofs.masks.Masks.of.Goals as goal
 
 pub loop-square-init : goal.loop-square-init
-loop-square-init c =
-    let none = none_read c.args.setup.now.board (search rules) in
-    record { kinds_are = none.0; others_are = none.1 }
+loop-square-init c = none_read c.args.setup.now.board (search rules)
 
-pub overflow_mul-kinds : goal.overflow_mul-kinds
-overflow_mul-kinds c =
-    let here = kinds_read c.args.setup.now.board c.loop-square.square c.loop-square.kinds c.entry_of-kind.result (search rules) (omega arith) (omega arith)
-    c.loop-square.invariant.kinds_are c.entry_of-kind.ensures in
+pub overflow_mul-planes : goal.overflow_mul-planes
+overflow_mul-planes c =
+    let here = word_read c.args.setup.now.board c.loop-square.square c.loop-square.planes c.entry_of-entry.result (search rules) (omega arith) (omega arith)
+    c.loop-square.invariant c.entry_of-entry.ensures in
     let small = here.small in
     record { fits = omega (arith, small) }
 
-pub overflow_add-kinds : goal.overflow_add-kinds
-overflow_add-kinds c =
-    let here = kinds_read c.args.setup.now.board c.loop-square.square c.loop-square.kinds c.entry_of-kind.result (search rules) (omega arith) (omega arith)
-    c.loop-square.invariant.kinds_are c.entry_of-kind.ensures in
-    let small = here.small_next in
-    record { fits = omega (arith, small) }
-
-pub overflow_mul-others : goal.overflow_mul-others
-overflow_mul-others c =
-    let here = others_read c.args.setup.now.board c.loop-square.square c.loop-square.others c.entry_of-other.result (search rules) (omega arith) (omega arith)
-    c.loop-square.invariant.others_are c.entry_of-other.ensures in
-    let small = here.small in
-    record { fits = omega (arith, small) }
-
-pub overflow_add-others : goal.overflow_add-others
-overflow_add-others c =
-    let here = others_read c.args.setup.now.board c.loop-square.square c.loop-square.others c.entry_of-other.result (search rules) (omega arith) (omega arith)
-    c.loop-square.invariant.others_are c.entry_of-other.ensures in
+pub overflow_add-planes : goal.overflow_add-planes
+overflow_add-planes c =
+    let here = word_read c.args.setup.now.board c.loop-square.square c.loop-square.planes c.entry_of-entry.result (search rules) (omega arith) (omega arith)
+    c.loop-square.invariant c.entry_of-entry.ensures in
     let small = here.small_next in
     record { fits = omega (arith, small) }
 
 pub loop-square-preserved : goal.loop-square-preserved
-loop-square-preserved c = record {
-  kinds_are = (kinds_read c.args.setup.now.board c.loop-square.square c.loop-square.kinds c.entry_of-kind.result (search rules) (omega arith) (omega arith)
-      c.loop-square.invariant.kinds_are c.entry_of-kind.ensures).next_is;
-  others_are = (others_read c.args.setup.now.board c.loop-square.square c.loop-square.others c.entry_of-other.result (search rules) (omega arith) (omega arith)
-      c.loop-square.invariant.others_are c.entry_of-other.ensures).next_is;
-}
+loop-square-preserved c =
+    (word_read c.args.setup.now.board c.loop-square.square c.loop-square.planes c.entry_of-entry.result (search rules) (omega arith) (omega arith)
+    c.loop-square.invariant c.entry_of-entry.ensures).next_is
 
 pub returns : goal.returns
 returns c =
-    let board = c.args.setup.now.board in
-    let twelve : length board ≡ 12 = search rules in
-    let le : length board ≤ 12 = omega arith in
+    let setup = c.args.setup.now in
+    let twelve : length c.args.setup.now.board ≡ 12 = search rules in
+    let le : length c.args.setup.now.board ≤ 12 = omega arith in
     let none : c.loop-square.square ≡ 0 = omega arith in
-    let kinds : c.loop-square.kinds ≡ kinds_word board = c.loop-square.invariant.kinds_are ∙ ap (λ (k : ℕ). kinds_word (drop k board)) none in
-    let others : c.loop-square.others ≡ others_word board = c.loop-square.invariant.others_are ∙ ap (λ (k : ℕ). others_word (drop k board)) none in
-    let a = kinds_planes board le in
-    let b = others_planes board le in
-    let kind = λ (unit : ℕ). ap (λ (word : ℕ). word / unit % 4096) kinds in
-    let other = λ (unit : ℕ). ap (λ (word : ℕ). word / unit % 4096) others in
+    let word : c.loop-square.planes ≡ word_of c.args.setup.now.board =
+    c.loop-square.invariant ∙ ap (λ (k : ℕ). word_of (drop k c.args.setup.now.board)) none in
+    let a = word_planes c.args.setup.now.board le in
+    let unit = λ (unit : ℕ). ap (λ (word : ℕ). word / unit % 4096) word in
+    let own = are_squares c.args.setup.now is_own c.plane-own.result twelve (c.plane-own.ensures ∙ unit 1 ∙ a.0) in
+    let lions = are_squares c.args.setup.now is_lion c.plane-lions.result twelve (c.plane-lions.ensures ∙ unit 4096 ∙ a.1) in
+    let straight = are_squares c.args.setup.now is_straight c.plane-straight.result twelve (c.plane-straight.ensures ∙ unit 16777216 ∙ a.2) in
+    let aslant = are_squares c.args.setup.now is_aslant c.plane-aslant.result twelve (c.plane-aslant.ensures ∙ unit 68719476736 ∙ a.3) in
+    let low = are_squares c.args.setup.now is_chick_or_empty c.plane-chicks_or_empty.result twelve (c.plane-chicks_or_empty.ensures ∙ unit 281474976710656 ∙ a.4) in
+    let taken = IsMask-or (λ square. is_own (at c.args.setup.now square)) (λ square. is_lion (at c.args.setup.now square)) c.plane-own.result c.plane-lions.result own lions in
     record {
-      lion_is = are_squares c.args.setup.now (is_piece Mover Lion) c.plane.result twelve (c.plane.ensures ∙ kind 1 ∙ a.0);
-      giraffes_are = are_squares c.args.setup.now (is_piece Mover Giraffe) c.plane-2.result twelve (c.plane-2.ensures ∙ kind 4096 ∙ a.1);
-      elephants_are = are_squares c.args.setup.now (is_piece Mover Elephant) c.plane-3.result twelve (c.plane-3.ensures ∙ kind 16777216 ∙ a.2);
-      chicks_are = are_squares c.args.setup.now (is_piece Mover Chick) c.plane-4.result twelve (c.plane-4.ensures ∙ kind 68719476736 ∙ a.3);
-      hens_are = are_squares c.args.setup.now (is_piece Mover Hen) c.plane-5.result twelve (c.plane-5.ensures ∙ kind 281474976710656 ∙ a.4);
-      own_are = are_squares c.args.setup.now is_own c.plane-6.result twelve (c.plane-6.ensures ∙ other 1 ∙ b.0);
-      ends_are = are_squares c.args.setup.now is_end c.plane-7.result twelve (c.plane-7.ensures ∙ other 4096 ∙ b.1);
-      empty_are = are_squares c.args.setup.now is_empty c.plane-8.result twelve (c.plane-8.ensures ∙ other 16777216 ∙ b.2);
-      enemy_lion_is = are_squares c.args.setup.now (is_piece Enemy Lion) c.plane-9.result twelve (c.plane-9.ensures ∙ other 68719476736 ∙ b.3);
+      lion_is = of_both c.args.setup.now is_lion is_own (is_piece Mover Lion) c.plane-lions.result c.plane-own.result refl lions own;
+      giraffes_are = of_first c.args.setup.now is_straight is_aslant (is_piece Mover Giraffe) c.plane-straight.result c.plane-aslant.result refl straight aslant;
+      elephants_are = of_first c.args.setup.now is_aslant is_straight (is_piece Mover Elephant) c.plane-aslant.result c.plane-straight.result refl aslant straight;
+      chicks_are = of_both c.args.setup.now is_chick_or_empty is_own (is_piece Mover Chick) c.plane-chicks_or_empty.result c.plane-own.result refl low own;
+      hens_are = of_both c.args.setup.now is_straight is_aslant (is_piece Mover Hen) c.plane-straight.result c.plane-aslant.result refl straight aslant;
+      own_are = own;
+      ends_are = of_first c.args.setup.now (λ cell. true) (λ cell. is_own cell || is_lion cell) is_end 4095 (bit_or c.plane-own.result c.plane-lions.result) refl
+          (all_are c.args.setup.now) taken;
+      empty_are = of_first c.args.setup.now is_chick_or_empty is_own is_empty c.plane-chicks_or_empty.result c.plane-own.result refl low own;
+      enemy_lion_is = of_first c.args.setup.now is_lion is_own (is_piece Enemy Lion) c.plane-lions.result c.plane-own.result refl lions own;
     }
