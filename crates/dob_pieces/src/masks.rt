@@ -35,11 +35,11 @@ impl Masks {
             let entry = entry_of(&PLANES, setup.board[square]);
             planes = 2 * planes + entry;
         }
-        let own = plane(planes, 1);
-        let lions = plane(planes, 4096);
-        let straight = plane(planes, 16_777_216);
-        let aslant = plane(planes, 68_719_476_736);
-        let chicks_or_empty = plane(planes, 281_474_976_710_656);
+        let own = plane(planes, OWN);
+        let lions = plane(planes, LIONS);
+        let straight = plane(planes, STRAIGHT);
+        let aslant = plane(planes, ASLANT);
+        let chicks_or_empty = plane(planes, CHICKS_OR_EMPTY);
         Masks {
             lion: lions & own,
             giraffes: straight & !aslant,
@@ -88,14 +88,27 @@ pub fn without_square(mask: u16, square: Square) -> u16
 /// a shift.
 pub type CellTable = [[u64; 4]; 5];
 
-// The lowest bits of five planes: the mover's pieces; the lions of both; the mover's giraffes and hens; the mover's elephants
-// and hens; and the mover's chicks and the empty squares.
+// The lowest bits of five planes: the mover's pieces, ..
+const OWN: u64 = 1;
+
+// .. the lions of both, ..
+const LIONS: u64 = 1 << 12;
+
+// .. the mover's giraffes and hens, ..
+const STRAIGHT: u64 = 1 << 24;
+
+// .. the mover's elephants and hens, ..
+const ASLANT: u64 = 1 << 36;
+
+// .. and the mover's chicks and the empty squares.
+const CHICKS_OR_EMPTY: u64 = 1 << 48;
+
 const PLANES: CellTable = [
-    [281_474_976_710_656, 4097, 4096, 0],
-    [0, 16_777_217, 0, 0],
-    [0, 68_719_476_737, 0, 0],
-    [0, 281_474_976_710_657, 0, 0],
-    [0, 68_736_253_953, 0, 0],
+    [CHICKS_OR_EMPTY, OWN + LIONS, LIONS, 0],
+    [0, OWN + STRAIGHT, 0, 0],
+    [0, OWN + ASLANT, 0, 0],
+    [0, OWN + CHICKS_OR_EMPTY, 0, 0],
+    [0, OWN + STRAIGHT + ASLANT, 0, 0],
 ];
 
 // All squares of the board.
