@@ -19,6 +19,3 @@ pub use board::{Board, Closed};
 pub use fault::{Fault, NotPosted};
 pub use halt::Halt;
 pub use seat::NodeSeat;
-
-#[cfg(test)]
-mod tests;

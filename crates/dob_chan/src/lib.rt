@@ -7,6 +7,3 @@ mod rule;
 
 pub use calls::{RejoinFault, Rejoined, pair, rejoin};
 pub use ends::{Full, SendEnd, TakeEnd};
-
-#[cfg(test)]
-mod tests;

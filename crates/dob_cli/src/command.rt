@@ -379,6 +379,3 @@ fn read_refusal<'a>(alloc: Global, error: &Error) -> Result<Reading<'a>, AllocEr
         _ => Ok(Reading::Usage(format!(in alloc; "{error}")?)),
     }
 }
-
-#[cfg(test)]
-mod tests;

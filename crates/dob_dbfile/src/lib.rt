@@ -20,6 +20,3 @@ pub use read::read_table;
 pub use std_device::{Lent, Std};
 pub use transfer::{put_all, read_full, write_all};
 pub use write::write_table;
-
-#[cfg(test)]
-mod tests;

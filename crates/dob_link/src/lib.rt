@@ -8,6 +8,3 @@ mod list_link;
 pub use laws::links_keep_order;
 pub use link::{Full, Link};
 pub use list_link::ListLink;
-
-#[cfg(test)]
-mod tests;

@@ -15,6 +15,3 @@ pub use dob_share::Opening;
 pub use lone::alone;
 pub use node::{MAX_BATCHES, Node, Part};
 pub use openings::{opening, opening_at};
-
-#[cfg(test)]
-mod tests;

@@ -25,6 +25,3 @@ pub use position::Position;
 pub use setup::Setup;
 pub use square::Square;
 pub use steps::Step;
-
-#[cfg(test)]
-mod tests;

@@ -13,6 +13,3 @@ pub use checks::check;
 pub use fault::{Fault, OtherSet};
 pub use lines::line;
 pub use probes::probe;
-
-#[cfg(test)]
-mod tests;

@@ -28,6 +28,3 @@ pub use fault::Fault;
 pub use limit::MOST_PIECES;
 pub use ranks::{rank, representative, size, unrank};
 pub use segmented::{Segments, SegmentsIter};
-
-#[cfg(test)]
-mod tests;

@@ -21,6 +21,10 @@ pub record Suits (set : PieceSet) (runner : Runner) : Type 0 where
 abbrev pub AllSuit : PieceSet → List Runner → Type 0
 AllSuit set runners = (k : ℕ) (runner : Runner) → slice_get runners k ≡ Some runner → Suits set runner
 
+-- until each runner has stopped
+abbrev pub until_stopped : Until
+until_stopped = Stopped
+
 -- the runner was to make turns for so long, and has
 abbrev pub IsThrough : Until → Runner → Type 0
 IsThrough (Turns count) runner = ⊤

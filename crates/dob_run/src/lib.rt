@@ -38,6 +38,3 @@ pub use mail::Mail;
 pub use runner::Runner;
 pub use runs::{Turned, Worker, run_turns};
 pub use scans::scan;
-
-#[cfg(test)]
-mod tests;

@@ -14,6 +14,3 @@ pub use event::RingEvent;
 pub use rules::{may_announce, passed};
 pub use token::Token;
 pub use word::{pack, unpack};
-
-#[cfg(test)]
-mod tests;

@@ -15,6 +15,3 @@ pub use news::{Item, Settlement};
 pub use opening::Opening;
 pub use owners::owner;
 pub use share::Share;
-
-#[cfg(test)]
-mod tests;

@@ -15,6 +15,8 @@ mod ranks;
 #[cfg(test)]
 mod shelves;
 #[cfg(test)]
+mod units;
+#[cfg(test)]
 mod unmoves;
 #[cfg(test)]
 mod values;

@@ -9,10 +9,7 @@ mod letters;
 mod parts;
 mod pushes;
 mod read_positions;
-mod setups;
-#[cfg(test)]
-mod tests;
-mod write_moves;
+mod setups;mod write_moves;
 mod write_positions;
 
 pub use fault::TextFault;

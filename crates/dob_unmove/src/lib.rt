@@ -11,10 +11,3 @@ mod walk;
 mod ways;
 
 pub use predecessors::{back, back_into};
-
-#[cfg(test)]
-mod plain_tests;
-#[cfg(test)]
-mod rules_tests;
-#[cfg(test)]
-mod tests;

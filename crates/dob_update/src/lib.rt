@@ -11,6 +11,3 @@ pub use batch::Batch;
 pub use items::{count_items, item_for, push_items};
 pub use outbox::Outbox;
 pub use part::Part;
-
-#[cfg(test)]
-mod tests;

@@ -16,6 +16,3 @@ pub use position_value::{sweep_table, sweep_value};
 pub use sweep::MAX_DISTANCE;
 pub use table::Table;
 pub use value::Value;
-
-#[cfg(test)]
-mod tests;

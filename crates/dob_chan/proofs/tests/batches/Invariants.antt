@@ -1,5 +1,0 @@
-use Rattle.std.proofs.Common.{◌≡◌}
-use Rattle.dob_chan.proofs.tests.batches.Given as goal
-
-abbrev pub invariant-loop-number : goal.invariant-loop-number
-invariant-loop-number g l = record { set : l.outbox.set ≡ l.classes.set; n : l.outbox.n ≡ 2; to : l.outbox.to ≡ 1 }

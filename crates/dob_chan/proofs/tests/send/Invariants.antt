@@ -1,5 +1,0 @@
-use Rattle.dob_chan.specs.Ends.{SendsOnSame}
-use Rattle.dob_chan.proofs.tests.send.Given as goal
-
-abbrev pub invariant-loop : goal.invariant-loop
-invariant-loop g l = SendsOnSame l.fn.end l.end

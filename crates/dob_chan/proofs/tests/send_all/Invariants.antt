@@ -1,8 +1,0 @@
-use Rattle.dob_chan.specs.Ends.{SendsOnSame}
-use Rattle.dob_chan.proofs.tests.send_all.Given as goal
-
-abbrev pub invariant-loop-batch : goal.invariant-loop-batch
-invariant-loop-batch g l = SendsOnSame l.fn.end l.end
-
-abbrev pub decreases-loop-batch : goal.decreases-loop-batch
-decreases-loop-batch g l = goal.left-loop-batch g l

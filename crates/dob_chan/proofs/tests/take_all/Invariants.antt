@@ -1,5 +1,0 @@
-use Rattle.dob_chan.specs.Ends.{TakesOnSame}
-use Rattle.dob_chan.proofs.tests.take_all.Given as goal
-
-abbrev pub invariant-loop-number : goal.invariant-loop-number
-invariant-loop-number g l = TakesOnSame l.fn.end l.end

@@ -1,9 +1,0 @@
--- Both runners keep their places so far.
-use Rattle.dob_run.specs.Runners.{KeepsRunner}
-use Rattle.dob_run.proofs.tests.turns.turn_to_the_end.Given as goal
-
-abbrev pub invariant-loop : goal.invariant-loop
-invariant-loop g l = record {
-  one : KeepsRunner l.fn.first l.first;
-  other : KeepsRunner l.fn.second l.second;
-}

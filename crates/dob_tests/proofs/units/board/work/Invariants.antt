@@ -1,0 +1,5 @@
+use Rattle.dob_board.specs.Seats.{IsSameSeat}
+use Rattle.dob_tests.proofs.units.board.work.Given as goal
+
+abbrev pub invariant-loop : goal.invariant-loop
+invariant-loop l = IsSameSeat l.fn.seat l.seat

@@ -1,0 +1,8 @@
+use Rattle.dob_chan.specs.Ends.{SendsOnSame}
+use Rattle.dob_tests.proofs.units.chan.send_all.Given as goal
+
+abbrev pub invariant-loop-batch : goal.invariant-loop-batch
+invariant-loop-batch g l = SendsOnSame l.fn.end l.end
+
+abbrev pub decreases-loop-batch : goal.decreases-loop-batch
+decreases-loop-batch g l = goal.left-loop-batch g l

@@ -1,0 +1,5 @@
+use Rattle.dob_chan.specs.Ends.{TakesOnSame}
+use Rattle.dob_tests.proofs.units.chan.take_all.Given as goal
+
+abbrev pub invariant-loop-number : goal.invariant-loop-number
+invariant-loop-number g l = TakesOnSame l.fn.end l.end

@@ -1,0 +1,12 @@
+-- The nodes are those of one set, and sound.
+use Rattle.std.proofs.Common.{◌≡◌}
+use Rattle.dob_node.specs.Nodes.{IsSound}
+use Rattle.dob_tests.proofs.units.node.run.Given as goal
+
+abbrev pub invariant-loop-round : goal.invariant-loop-round
+invariant-loop-round g l = record {
+  sound : IsSound l.first × IsSound l.second;
+  set : (l.first.set ≡ l.classes.set) × (l.second.set ≡ l.classes.set);
+  n : (l.first.n ≡ 2) × (l.second.n ≡ 2);
+  id : (l.first.id ≡ 0) × (l.second.id ≡ 1);
+}

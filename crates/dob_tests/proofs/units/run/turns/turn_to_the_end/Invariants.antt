@@ -1,0 +1,9 @@
+-- Both runners keep their places so far.
+use Rattle.dob_run.specs.Runners.{KeepsRunner}
+use Rattle.dob_tests.proofs.units.run.turns.turn_to_the_end.Given as goal
+
+abbrev pub invariant-loop : goal.invariant-loop
+invariant-loop g l = record {
+  one : KeepsRunner l.fn.first l.first;
+  other : KeepsRunner l.fn.second l.second;
+}

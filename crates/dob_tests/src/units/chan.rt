@@ -1,0 +1,210 @@
+// Channels of batches: what fits and comes out, what is left in the end, and two threads at their ends. The batches have the
+// five items of one settlement each, from owner 0 to owner 1 of the classes of lions alone, and are numbered from 0.
+ghost use Rattle.std.specs.Prelude.{◌≡◌, OnOk, IfOk};
+ghost use Rattle.dob_chan.specs.Ends.{ArePaired, SendsOnSame, TakesOnSame};
+
+use dob_chan::{SendEnd, TakeEnd, pair, rejoin};
+use dob_pieces::{Memory, PieceSet};
+use dob_rank::Classes;
+use dob_share::Settlement;
+use dob_unmove::back;
+use dob_update::{Batch, Outbox, push_items};
+use dob_value::Value;
+use std::alloc::Global;
+use std::process::Abort;
+use std::sync::Wait;
+use std::test::Fail;
+use std::thread;
+
+// A class that five moves of positions of owner 1 lead into.
+const CLASS: u64 = 16;
+
+// Adds a settlement of the class with its items.
+fn add(
+    rt: &impl Abort,
+    alloc: Global,
+    classes: &Classes,
+    outbox: &mut Outbox,
+    number: u64,
+) -> Result<(), Memory>
+    requires set { outbox.old.set ≡ classes.now.set }
+    requires n { outbox.old.n ≡ 2 }
+    requires to { outbox.old.to ≡ 1 }
+    ensures set { OnOk result (outbox.new.set ≡ classes.now.set) }
+    ensures n { OnOk result (outbox.new.n ≡ 2) }
+    ensures to { OnOk result (outbox.new.to ≡ 1) }
+{
+    assert!(rt; CLASS < classes.class_count());
+    let settlement = Settlement {
+        number,
+        class: CLASS,
+        was: Value::Draw,
+        now: Value::Win(7),
+    };
+    let predecessors = back(alloc, classes, CLASS)?;
+    let mut items = Vec::new(alloc);
+    push_items(&mut items, settlement, &predecessors, 2, 1)?;
+    outbox.add(settlement, &items)
+}
+
+// The next batch.
+fn cut(rt: &impl Abort, outbox: &mut Outbox) -> Result<Batch, Memory> {
+    assert!(rt; outbox.cut_count() < 1 << 40);
+    Ok(outbox.cut(5)?.expect(rt, "a batch"))
+}
+
+// So many batches, the last one first.
+fn batches(rt: &impl Abort, alloc: Global, count: u64) -> Result<Vec<Batch>, Memory> {
+    let set = PieceSet::read("000").expect(rt, "a set");
+    let classes = Classes::open(alloc, set).expect(rt, "classes");
+    let mut outbox = Outbox::new(alloc, set, 2, 0, 1);
+    for number in 0..count {
+        add(rt, alloc, &classes, &mut outbox, number)?;
+    }
+    let mut batches = Vec::new(alloc);
+    for _ in 0..count {
+        batches.push(cut(rt, &mut outbox)?)?;
+    }
+    batches.reverse();
+    Ok(batches)
+}
+
+// Offers the batch once. It comes back where the channel doesn't take it.
+fn offer<R: Wait>(rt: &R, end: &mut SendEnd, batch: Batch) -> Option<Batch>
+    ensures { SendsOnSame end.old end.new }
+{
+    if end.sent_count() >= 1 << 40 {
+        return Some(batch);
+    }
+    match end.offer(rt, batch) {
+        Ok(()) => None,
+        Err(full) => Some(full.batch),
+    }
+}
+
+// Offers the last batch of those once, and says whether the channel took it.
+fn offer_next<R: Wait>(rt: &R, end: &mut SendEnd, batches: &mut Vec<Batch>) -> bool
+    ensures { SendsOnSame end.old end.new }
+{
+    let Some(batch) = batches.pop() else {
+        return false;
+    };
+    offer(rt, end, batch).is_none()
+}
+
+// Offers the batch until the channel takes it.
+fn send<R: Wait>(rt: &R, end: &mut SendEnd, batch: Batch)
+    ensures { SendsOnSame end.old end.new }
+{
+    let mut held = Some(batch);
+    for _ in rt.forever() {
+        let Some(batch) = held.take() else {
+            break;
+        };
+        held = offer(rt, end, batch);
+        thread::yield_now();
+    }
+}
+
+// Sends the batches, the last one first.
+fn send_all<R: Wait>(rt: &R, mut end: SendEnd, mut batches: Vec<Batch>) -> SendEnd
+    ensures { SendsOnSame end result }
+{
+    while let Some(batch) = batches.pop() {
+        send(rt, &mut end, batch);
+    }
+    end
+}
+
+// Takes the next batch, when there is one.
+fn receive<R: Wait>(rt: &R, end: &mut TakeEnd) -> Option<Batch>
+    ensures { TakesOnSame end.old end.new }
+{
+    for _ in rt.forever() {
+        if let Some(batch) = end.next(rt) {
+            return Some(batch);
+        }
+        thread::yield_now();
+    }
+    None
+}
+
+// Takes so many batches, and says whether they came in order and whole.
+fn take_all<R: Wait>(rt: &R, mut end: TakeEnd, count: u64) -> (TakeEnd, bool)
+    ensures { TakesOnSame end result.0 }
+{
+    let mut in_order = true;
+    for number in 0..count {
+        let batch = receive(rt, &mut end);
+        in_order = in_order && is_numbered(&batch, number);
+    }
+    (end, in_order)
+}
+
+fn is_numbered(batch: &Option<Batch>, number: u64) -> bool {
+    let Some(batch) = batch else {
+        return false;
+    };
+    batch.number() == number && batch.items().len() == 5
+}
+
+#[test]
+fn one_batch_fits_into_a_channel_for_one(rt: HostRuntime) -> Result<(), Fail> {
+    let mut batches = batches(&rt, rt.alloc(), 3)?;
+    let (mut send, mut take) = pair(rt.alloc(), 1)?;
+    assert!(rt; take.next(&rt).is_none());
+    let first = batches.pop().expect(&rt, "a batch");
+    assert!(rt; offer(&rt, &mut send, first).is_none());
+    let second = batches.pop().expect(&rt, "a batch");
+    let back = offer(&rt, &mut send, second);
+    assert!(rt; is_numbered(&back, 1));
+    assert!(rt; is_numbered(&take.next(&rt), 0));
+    assert!(rt; take.next(&rt).is_none());
+    assert!(rt; offer(&rt, &mut send, back.expect(&rt, "a batch")).is_none());
+    assert!(rt; is_numbered(&take.next(&rt), 1));
+    assert_eq!(rt; (send.sent_count(), take.taken_count()), (2, 2));
+    Ok(())
+}
+
+#[test]
+fn what_waits_comes_back_in_order(rt: HostRuntime) -> Result<(), Fail> {
+    let mut batches = batches(&rt, rt.alloc(), 4)?;
+    let (mut send, mut take) = pair(rt.alloc(), 3)?;
+    assert!(rt; offer_next(&rt, &mut send, &mut batches));
+    assert!(rt; offer_next(&rt, &mut send, &mut batches));
+    assert!(rt; offer_next(&rt, &mut send, &mut batches));
+    assert!(rt; is_numbered(&take.next(&rt), 0));
+    assert!(rt; offer_next(&rt, &mut send, &mut batches));
+    let joined = rejoin(&rt, rt.alloc(), send, take);
+    let joined = joined.ok().expect(&rt, "the channel's end");
+    assert_eq!(rt; (joined.sent, joined.received), (4, 1));
+    let mut numbers = Vec::new(rt.alloc());
+    for batch in &joined.waiting {
+        numbers.push(batch.number())?;
+    }
+    assert_eq!(rt; numbers.as_slice(), [1, 2, 3].as_slice());
+    Ok(())
+}
+
+#[test]
+fn many_batches_between_two_threads(rt: HostRuntime) -> Result<(), Fail> {
+    for capacity in [1, 64] {
+        let batches = batches(&rt, rt.alloc(), 10_000)?;
+        let (send, take) = pair(rt.alloc(), capacity)?;
+        let (send, (take, in_order)) = thread::join(
+            &rt,
+            || -> SendEnd
+                ensures { SendsOnSame send result }
+            { send_all(&rt, send, batches) },
+            || -> (TakeEnd, bool)
+                ensures { TakesOnSame take result.0 }
+            { take_all(&rt, take, 10_000) },
+        );
+        assert!(rt; in_order, "at {capacity}");
+        let joined = rejoin(&rt, rt.alloc(), send, take);
+        let joined = joined.ok().expect(&rt, "the channel's end");
+        assert_eq!(rt; (joined.sent, joined.received), (10_000, 10_000));
+        assert_eq!(rt; joined.waiting.len(), 0);
+    }
+    Ok(())
+}

@@ -1,0 +1,195 @@
+// Files of the set of lions alone: what is in them, and what is read of files that are spoilt.
+use dob_dbfile::{Fault, MemSink, MemSource, Sink, Source, read_table, write_table};
+use dob_pieces::PieceSet;
+use dob_value::{Table, Value, sweep_table};
+use sha2::{Digest, Sha256};
+use std::process::Abort;
+
+/// How many bytes the file has.
+pub(super) const FILE_LEN: usize = 160;
+
+/// How many of them stand before the digest.
+const CONTENTS_LEN: usize = 128;
+
+/// The digest, as another program made it from values that others found.
+const DIGEST: [u8; 32] = [
+    0x09, 0x8b, 0xe5, 0x0e, 0xc1, 0xac, 0x90, 0x52, 0x85, 0x05, 0xba, 0x83, 0xd4, 0xea, 0x8f, 0xa4,
+    0x18, 0x13, 0x33, 0xf8, 0x61, 0x22, 0xef, 0x38, 0x42, 0x78, 0xd1, 0x0c, 0x81, 0x88, 0x30, 0x74,
+];
+
+pub(super) fn table(rt: &(impl Abort + AllocGlobal)) -> Table {
+    let set = PieceSet::read("000").expect(rt, "a set");
+    sweep_table(rt.alloc(), set).expect(rt, "a table")
+}
+
+pub(super) fn file(rt: &(impl Abort + AllocGlobal)) -> Vec<u8> {
+    let mut sink = MemSink::new(rt.alloc());
+    write_table(rt.alloc(), &table(rt), &mut sink).expect(rt, "a file");
+    sink.into_bytes()
+}
+
+// The file with all bits of the byte at that place turned.
+fn spoilt(rt: &(impl Abort + AllocGlobal), place: usize) -> Vec<u8> {
+    let mut bytes = file(rt);
+    if let Some(byte) = bytes.get_mut(place) {
+        *byte = !*byte;
+    }
+    bytes
+}
+
+// The file with other bytes at those places.
+fn changed(rt: &(impl Abort + AllocGlobal), places: &[usize], change: u8) -> Vec<u8> {
+    let mut bytes = file(rt);
+    for place in places {
+        if let Some(byte) = bytes.get_mut(*place) {
+            *byte = change;
+        }
+    }
+    bytes
+}
+
+// What reading the source answers in place of a table.
+fn fault_of(rt: &(impl Abort + AllocGlobal), mut source: MemSource) -> Option<Fault> {
+    if source.failed() {
+        return None;
+    }
+    read_table(rt.alloc(), &mut source).err()
+}
+
+#[test]
+fn the_bytes_of_the_file(rt: HostRuntime) {
+    let bytes = file(&rt);
+    assert!(rt; bytes.len() == FILE_LEN);
+    assert!(rt; bytes[8..20] == [0, 0, 0, 2, 54, 0, 0, 0, 0, 0, 0, 0]);
+    assert!(rt; bytes[20..30] == [2, 0, 1, 0, 2, 0, 2, 0, 3, 0]);
+    assert!(rt; bytes[CONTENTS_LEN..] == DIGEST[..]);
+}
+
+#[test]
+fn written_and_read_in_pieces(rt: HostRuntime) {
+    let table = table(&rt);
+    for longest in 1..9 {
+        let mut sink = MemSink::new(rt.alloc()).in_pieces(longest);
+        assert!(rt; write_table(rt.alloc(), &table, &mut sink) == Ok(()));
+        assert!(rt; sink.flushes() == [FILE_LEN].as_slice());
+        let mut source = MemSource::new(sink.into_bytes()).in_pieces(longest);
+        let again = read_table(rt.alloc(), &mut source).expect(&rt, "the table");
+        for class in 0..again.class_count().min(table.class_count()) {
+            assert!(rt; again.value(class) == table.value(class));
+        }
+    }
+}
+
+#[test]
+fn cut_to_each_length(rt: HostRuntime) {
+    for len in 0..FILE_LEN {
+        let mut bytes = file(&rt);
+        bytes.truncate(len);
+        assert!(rt; fault_of(&rt, MemSource::new(bytes)) == Some(Fault::Truncated));
+    }
+}
+
+#[test]
+fn each_byte_turned(rt: HostRuntime) {
+    for place in 0..FILE_LEN {
+        let expected = match place {
+            0..8 => Fault::Magic,
+            8..12 => Fault::SetByte,
+            12..20 => Fault::ClassCount,
+            _ => Fault::Digest,
+        };
+        let source = MemSource::new(spoilt(&rt, place));
+        assert!(rt; fault_of(&rt, source) == Some(expected));
+    }
+}
+
+#[test]
+fn other_sets(rt: HostRuntime) {
+    let other = changed(&rt, &[8], 1);
+    assert!(rt; fault_of(&rt, MemSource::new(other)) == Some(Fault::ClassCount));
+    let large = changed(&rt, &[8, 9, 10], 2);
+    assert!(rt; fault_of(&rt, MemSource::new(large)) == Some(Fault::SetTooLarge));
+}
+
+#[test]
+fn a_byte_added_and_a_record_changed(rt: HostRuntime) {
+    let mut bytes = spoilt(&rt, 20);
+    bytes.push(0).expect(&rt, "memory");
+    assert!(rt; fault_of(&rt, MemSource::new(bytes)) == Some(Fault::Trailing));
+}
+
+#[test]
+fn a_source_that_fails_at_each_place(rt: HostRuntime) {
+    for count in 0..FILE_LEN + 1 {
+        let source = MemSource::new(file(&rt)).failing_after(count);
+        assert!(rt; fault_of(&rt, source) == Some(Fault::Io(count as u64)));
+    }
+}
+
+#[test]
+fn what_is_told_before_a_failure(rt: HostRuntime) {
+    let magic = MemSource::new(spoilt(&rt, 0)).failing_after(30);
+    assert!(rt; fault_of(&rt, magic) == Some(Fault::Magic));
+    let digest = MemSource::new(spoilt(&rt, 140)).failing_after(FILE_LEN);
+    assert!(rt; fault_of(&rt, digest) == Some(Fault::Io(FILE_LEN as u64)));
+    let short = MemSource::new(file(&rt)).failing_after(19);
+    assert!(rt; fault_of(&rt, short) == Some(Fault::Io(19)));
+}
+
+#[test]
+fn a_sink_that_fails_at_each_place(rt: HostRuntime) {
+    let whole = file(&rt);
+    let table = table(&rt);
+    for count in 0..FILE_LEN {
+        let mut sink = MemSink::new(rt.alloc()).in_pieces(7).failing_after(count);
+        assert!(rt; write_table(rt.alloc(), &table, &mut sink) == Err(Fault::Io(count as u64)));
+        assert!(rt; sink.failed());
+        assert!(rt; Some(sink.bytes()) == whole.get(..count));
+    }
+}
+
+#[test]
+fn a_sink_that_fails_to_flush(rt: HostRuntime) {
+    let mut sink = MemSink::new(rt.alloc()).failing_at_flush();
+    assert!(rt; write_table(rt.alloc(), &table(&rt), &mut sink) == Err(Fault::Io(FILE_LEN as u64)));
+    assert!(rt; sink.bytes() == file(&rt).as_slice());
+    assert!(rt; sink.flushes().is_empty());
+}
+
+// The file with another record, and with the digest of that.
+fn forged(rt: &(impl Abort + AllocGlobal), place: usize, record: u8) -> Vec<u8> {
+    let mut bytes = changed(rt, &[place], record);
+    bytes.truncate(CONTENTS_LEN);
+    let digest = Sha256::digest(bytes.as_slice());
+    bytes.extend_from_slice(&digest).expect(rt, "memory");
+    bytes
+}
+
+#[test]
+fn a_wrong_record_is_read_as_it_is(rt: HostRuntime) {
+    let mut source = MemSource::new(forged(&rt, 20 + 2 * 17, 8));
+    let table = read_table(rt.alloc(), &mut source).expect(&rt, "a table");
+    assert!(rt; table.class_count() == 54);
+    if 17 < table.class_count() {
+        assert!(rt; table.value(17) == Value::Win(7));
+    }
+}
+
+#[test]
+fn faults_are_printed(rt: HostRuntime) {
+    let texts = [
+        (Fault::SetTooLarge, "E8 SetTooLarge"),
+        (Fault::Truncated, "E15 Truncated"),
+        (Fault::Magic, "E16 Magic"),
+        (Fault::SetByte, "E17 SetByte"),
+        (Fault::ClassCount, "E18 ClassCount"),
+        (Fault::Trailing, "E19 Trailing"),
+        (Fault::Digest, "E20 Digest"),
+        (Fault::Memory, "E23 Memory"),
+        (Fault::Io(30), "E24 Io"),
+    ];
+    for (fault, text) in texts {
+        let printed = format!(in rt.alloc(); "{fault}").expect(&rt, "memory");
+        assert!(rt; printed.as_str() == text);
+    }
+}

@@ -1,0 +1,344 @@
+// Nodes over lions alone, and over sets with one piece more, by values known from outside.
+ghost use Rattle.std.specs.Prelude.{◌≡◌, ◌<◌, ◌≤◌};
+ghost use Rattle.dob_node.specs.Nodes.{IsSound};
+
+use dob_moves::{Status, status_and_count};
+use dob_node::{Node, Opening, alone, opening};
+use dob_pieces::{Hand, Hands, Kind, Piece, PieceSet, Position, Side};
+use dob_rank::Classes;
+use dob_share::{Fault, Item, Share};
+use dob_update::Batch;
+use dob_value::{Value, sweep_table};
+use std::alloc::Global;
+use std::process::Abort;
+
+// Lions and so many chicks.
+fn with_chicks(chicks: u8) -> PieceSet
+    requires { chicks ≤ 2 }
+{
+    PieceSet {
+        chicks,
+        elephants: 0,
+        giraffes: 0,
+    }
+}
+
+fn classes_of<A: Abort>(rt: &A, alloc: Global, set: PieceSet) -> Classes {
+    Classes::open(alloc, set).expect(rt, "classes")
+}
+
+#[test]
+fn lions_alone_open(rt: HostRuntime) {
+    let classes = classes_of(&rt, rt.alloc(), with_chicks(0));
+    let openings = opening(rt.alloc(), &classes).expect(&rt, "openings");
+    assert_eq!(rt; openings.len(), 54);
+    let closed = openings
+        .iter()
+        .filter(|given| given.status != Status::Open)
+        .count();
+    assert_eq!(rt; closed, 33);
+    let open = openings[17];
+    assert!(rt; open.status == Status::Open);
+    assert_eq!(rt; open.moves, 5);
+}
+
+#[test]
+fn one_node_makes_the_table_of_lions_alone(rt: HostRuntime) {
+    let set = with_chicks(0);
+    let Ok(None) = alone(rt.alloc(), set, 0) else {
+        panic!(rt; "something is left to do at the opening");
+    };
+    let Ok(Some(table)) = alone(rt.alloc(), set, 100_000) else {
+        panic!(rt; "no table");
+    };
+    let Ok(swept) = sweep_table(rt.alloc(), set) else {
+        panic!(rt; "no table swept");
+    };
+    let count = table.class_count();
+    assert!(rt; count == 54);
+    let swept_count = swept.class_count();
+    assert!(rt; swept_count == count);
+    for class in 0..count {
+        let value = table.value(class);
+        assert!(rt; value == swept.value(class));
+    }
+}
+
+// A position with nothing in hand, of that piece of each square from a1 to c4.
+fn position_of<A: Abort>(rt: &A, board: [Option<Piece>; 12]) -> Position {
+    let nothing = Hand {
+        chicks: 0,
+        elephants: 0,
+        giraffes: 0,
+    };
+    let hands = Hands {
+        mover: nothing,
+        enemy: nothing,
+    };
+    Position::of(board, hands).expect(rt, "a position")
+}
+
+fn own(kind: Kind) -> Option<Piece> {
+    Some(Piece {
+        side: Side::Mover,
+        kind,
+    })
+}
+
+fn enemy_lion() -> Option<Piece> {
+    Some(Piece {
+        side: Side::Enemy,
+        kind: Kind::Lion,
+    })
+}
+
+// The cell of a class with that representative is settled as lost, and takes no item.
+fn is_lost_at_once<A: Abort>(rt: &A, alloc: Global, position: &Position) {
+    let (status, moves) = status_and_count(position);
+    assert!(rt; status == Status::Stuck);
+    assert_eq!(rt; moves, 0);
+    let list: [Opening; 1] = [Opening { status, moves }];
+    let mut share = Share::open(alloc, &list, 0, 1).expect(rt, "a share");
+    assert_eq!(rt; share.settled(), 1);
+    assert_eq!(rt; share.value(0), Value::Loss(0));
+    let item = Item {
+        number: 0,
+        to: 0,
+        was: Value::Draw,
+        now: Value::Win(1),
+    };
+    let Err(refused) = share.apply(item) else {
+        panic!(rt; "a stuck class takes an item");
+    };
+    assert_eq!(rt; refused, Fault::Contradiction(0));
+    assert_eq!(rt; share.value(0), Value::Loss(0));
+}
+
+// The only two positions in which the mover is stuck. They have six pieces besides the lions, so that no node has them.
+#[test]
+fn stuck_cells(rt: HostRuntime) {
+    let chick = own(Kind::Chick);
+    let elephant = own(Kind::Elephant);
+    let giraffe = own(Kind::Giraffe);
+    let lion = own(Kind::Lion);
+    let far = [
+        None,
+        None,
+        None,
+        chick,
+        chick,
+        None,
+        lion,
+        giraffe,
+        elephant,
+        giraffe,
+        elephant,
+        enemy_lion(),
+    ];
+    is_lost_at_once(&rt, rt.alloc(), &position_of(&rt, far));
+    let near = [
+        None,
+        None,
+        None,
+        chick,
+        chick,
+        enemy_lion(),
+        lion,
+        giraffe,
+        elephant,
+        giraffe,
+        elephant,
+        None,
+    ];
+    is_lost_at_once(&rt, rt.alloc(), &position_of(&rt, near));
+}
+
+// One of two nodes, at its opening.
+fn one_of_two<A: Abort>(rt: &A, alloc: Global, classes: &Classes, id: usize) -> Node
+    requires { id < 2 }
+    ensures sound { IsSound result }
+    ensures set { result.set ≡ classes.now.set }
+    ensures id { result.id ≡ id }
+    ensures n { result.n ≡ 2 }
+{
+    let openings = opening(alloc, classes).expect(rt, "openings");
+    Node::open(alloc, &openings, classes.set, id, 2).expect(rt, "a node")
+}
+
+// What a node sends of one class's settlements: the classes told, and how many items each batch leaves out.
+#[derive(Drop)]
+struct Log {
+    class: u64,
+    told: Vec<u64>,
+    skips: Vec<usize>,
+}
+
+impl Log {
+    fn add<A: Abort>(&mut self, rt: &A, batch: &Batch) {
+        if batch
+            .parts()
+            .iter()
+            .all(|part| part.settlement.class != self.class)
+        {
+            return;
+        }
+        self.skips.push(batch.skip()).expect(rt, "room");
+        for item in batch.items() {
+            self.told.push(item.to).expect(rt, "room");
+        }
+    }
+}
+
+// Sends a batch of at most `size` items to the node `to`. False where there was nothing to send.
+fn send<A: Abort>(
+    rt: &A,
+    node: &mut Node,
+    receiver: &mut Node,
+    to: usize,
+    size: usize,
+    log: &mut Log,
+) -> bool
+    requires to { to < 2 }
+    requires some { 0 < size }
+    requires at_most { size ≤ 4096 }
+    requires sound { IsSound node.old × IsSound receiver.old }
+    requires set { node.old.set ≡ receiver.old.set }
+    requires n { (node.old.n ≡ 2) × (receiver.old.n ≡ 2) }
+    requires id { receiver.old.id ≡ to }
+    ensures sound { IsSound node.new × IsSound receiver.new }
+    ensures set { (node.new.set ≡ node.old.set) × (receiver.new.set ≡ receiver.old.set) }
+    ensures n { (node.new.n ≡ 2) × (receiver.new.n ≡ 2) }
+    ensures id { (node.new.id ≡ node.old.id) × (receiver.new.id ≡ to) }
+{
+    let Some(batch) = node.cut_for(to, size).expect(rt, "a batch") else {
+        return false;
+    };
+    receiver.apply_batch(&batch).expect(rt, "items that fit");
+    log.add(rt, &batch);
+    true
+}
+
+// A step of a node, which sends before all else or only where it has nothing else to do. False where it did nothing.
+fn step<A: Abort>(
+    rt: &A,
+    classes: &Classes,
+    node: &mut Node,
+    receiver: &mut Node,
+    to: usize,
+    size: usize,
+    sends_first: bool,
+    log: &mut Log,
+) -> bool
+    requires to { to < 2 }
+    requires some { 0 < size }
+    requires at_most { size ≤ 4096 }
+    requires sound { IsSound node.old × IsSound receiver.old }
+    requires set { (node.old.set ≡ classes.now.set) × (receiver.old.set ≡ classes.now.set) }
+    requires n { (node.old.n ≡ 2) × (receiver.old.n ≡ 2) }
+    requires id { receiver.old.id ≡ to }
+    ensures sound { IsSound node.new × IsSound receiver.new }
+    ensures set { (node.new.set ≡ classes.now.set) × (receiver.new.set ≡ classes.now.set) }
+    ensures n { (node.new.n ≡ 2) × (receiver.new.n ≡ 2) }
+    ensures id { (node.new.id ≡ node.old.id) × (receiver.new.id ≡ to) }
+{
+    if sends_first {
+        if send(rt, node, receiver, to, size, log) {
+            return true;
+        }
+    }
+    if node.apply_own().expect(rt, "an item that fits") {
+        return true;
+    }
+    if node.expand(classes).expect(rt, "room") {
+        return true;
+    }
+    send(rt, node, receiver, to, size, log)
+}
+
+// Steps of two nodes in turn, until neither has anything to do.
+fn run<A: Abort>(
+    rt: &A,
+    classes: &Classes,
+    first: &mut Node,
+    second: &mut Node,
+    size: usize,
+    sends_first: bool,
+    log: &mut Log,
+)
+    requires some { 0 < size }
+    requires at_most { size ≤ 4096 }
+    requires sound { IsSound first.old × IsSound second.old }
+    requires set { (first.old.set ≡ classes.now.set) × (second.old.set ≡ classes.now.set) }
+    requires n { (first.old.n ≡ 2) × (second.old.n ≡ 2) }
+    requires id { (first.old.id ≡ 0) × (second.old.id ≡ 1) }
+    ensures sound { IsSound first.new × IsSound second.new }
+{
+    for _round in 0..1_000_000 {
+        let first_did = step(rt, classes, first, second, 1, size, sends_first, log);
+        let second_did = step(rt, classes, second, first, 0, size, sends_first, log);
+        if !first_did && !second_did {
+            return;
+        }
+    }
+    panic!(rt; "no end");
+}
+
+// Whether some settlement of the node improves a value that was settled before.
+fn improves(node: &Node) -> bool {
+    for number in 0..node.settled() {
+        if node.settlement(number).was != Value::Draw {
+            return true;
+        }
+    }
+    false
+}
+
+#[test]
+fn items_of_one_settlement_go_in_batches(rt: HostRuntime) {
+    let alloc = rt.alloc();
+    let classes = classes_of(&rt, alloc, with_chicks(0));
+    let mut first = one_of_two(&rt, alloc, &classes, 0);
+    let mut second = one_of_two(&rt, alloc, &classes, 1);
+    assert_eq!(rt; (first.settled(), second.settled()), (16, 17));
+    assert!(rt; !first.is_idle());
+    let mut log = Log {
+        class: 16,
+        told: Vec::new(alloc),
+        skips: Vec::new(alloc),
+    };
+    run(&rt, &classes, &mut first, &mut second, 2, true, &mut log);
+    assert_eq!(rt; log.told.as_slice(), [17, 17, 27, 35, 35].as_slice());
+    assert_eq!(rt; log.skips.as_slice(), [0, 2, 4].as_slice());
+    assert!(rt; first.is_idle() && second.is_idle());
+    assert!(rt; !improves(&first) && !improves(&second));
+}
+
+#[test]
+fn two_nodes_improve_values(rt: HostRuntime) {
+    let alloc = rt.alloc();
+    let set = with_chicks(1);
+    let classes = classes_of(&rt, alloc, set);
+    let mut first = one_of_two(&rt, alloc, &classes, 0);
+    let mut second = one_of_two(&rt, alloc, &classes, 1);
+    let mut log = Log {
+        class: 0,
+        told: Vec::new(alloc),
+        skips: Vec::new(alloc),
+    };
+    run(&rt, &classes, &mut first, &mut second, 1, false, &mut log);
+    assert!(rt; first.is_idle() && second.is_idle());
+    assert!(rt; improves(&first) || improves(&second));
+    let parts = [
+        first.into_part().expect(&rt, "a part").values,
+        second.into_part().expect(&rt, "a part").values,
+    ];
+    let swept = sweep_table(alloc, set).expect(&rt, "a table");
+    let count = swept.class_count();
+    assert!(rt; count == 2124);
+    for class in 0..count {
+        let values = &parts[(class % 2) as usize];
+        let place = (class / 2) as usize;
+        assert!(rt; place < values.len());
+        assert_eq!(rt; values[place], swept.value(class), "class {class}");
+    }
+}

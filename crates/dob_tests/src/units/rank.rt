@@ -1,0 +1,210 @@
+// Ranks and classes against values from outside (sizes, the classes of lions alone), and
+// against a plain program that walks whole sets.
+ghost use Rattle.std.specs.Prelude.{◌<◌};
+
+mod key;
+mod lists;
+mod plain;
+
+use self::key::{is_first, key};
+use self::plain::starts;
+use dob_pieces::{Kind, Piece, PieceSet, Position, Side};
+use dob_rank::{Classes, Fault, rank, representative, size, unrank};
+use std::alloc::Global;
+use std::process::Abort;
+use std::test::Fail;
+
+#[test]
+fn sets_have_their_sizes(rt: HostRuntime) {
+    for (text, want) in [
+        ("000", 99),
+        ("001", 2178),
+        ("010", 2178),
+        ("100", 4158),
+        ("002", 22077),
+        ("011", 43956),
+        ("110", 83556),
+        ("200", 79497),
+        ("012", 406494),
+        ("102", 768834),
+        ("111", 1529352),
+        ("210", 1447974),
+    ] {
+        let set = PieceSet::read(text).expect(&rt, "a set");
+        assert_eq!(rt; size(set), want, "of {text}");
+    }
+}
+
+// The squares of the mover's and of the enemy's lion in the classes of lions alone, in class order.
+const LIONS: [(usize, usize); 54] = [
+    (0, 1),
+    (0, 2),
+    (0, 3),
+    (0, 4),
+    (0, 5),
+    (0, 6),
+    (0, 7),
+    (0, 8),
+    (0, 9),
+    (0, 10),
+    (0, 11),
+    (1, 0),
+    (1, 3),
+    (1, 4),
+    (1, 6),
+    (1, 7),
+    (1, 9),
+    (1, 10),
+    (3, 0),
+    (3, 1),
+    (3, 2),
+    (3, 4),
+    (3, 5),
+    (3, 6),
+    (3, 7),
+    (3, 8),
+    (3, 9),
+    (3, 10),
+    (3, 11),
+    (4, 0),
+    (4, 1),
+    (4, 3),
+    (4, 6),
+    (4, 7),
+    (4, 9),
+    (4, 10),
+    (6, 0),
+    (6, 1),
+    (6, 2),
+    (6, 3),
+    (6, 4),
+    (6, 5),
+    (6, 7),
+    (6, 8),
+    (6, 9),
+    (6, 10),
+    (6, 11),
+    (7, 0),
+    (7, 1),
+    (7, 3),
+    (7, 4),
+    (7, 6),
+    (7, 9),
+    (7, 10),
+];
+
+// Whether that side's lion stands on the square.
+fn has_lion(position: &Position, square: usize, side: Side) -> bool
+    requires { square < 12 }
+{
+    let kind = Kind::Lion;
+    position.setup.board[square] == Some(Piece { side, kind })
+}
+
+#[test]
+fn classes_of_lions_alone(rt: HostRuntime) {
+    let set = PieceSet::read("000").expect(&rt, "a set");
+    let mut classes = 0;
+    for number in 0..size(set) {
+        let position = unrank(set, number);
+        if rank(&representative(&position)) == number {
+            assert!(rt; classes < LIONS.len());
+            let (mover, enemy) = LIONS[classes];
+            assert!(rt; mover < 12 && enemy < 12);
+            assert!(rt; has_lion(&position, mover, Side::Mover), "class {classes}");
+            assert!(rt; has_lion(&position, enemy, Side::Enemy), "class {classes}");
+            classes += 1;
+        }
+    }
+    assert_eq!(rt; classes, LIONS.len());
+}
+
+#[test]
+fn classes_are_counted(rt: HostRuntime) {
+    for (text, want) in [("000", 54), ("001", 1116), ("100", 2124), ("200", 39978)] {
+        let set = PieceSet::read(text).expect(&rt, "a set");
+        let classes = Classes::open(rt.alloc(), set).expect(&rt, "memory");
+        assert_eq!(rt; classes.class_count(), want, "classes of {text}");
+    }
+}
+
+#[test]
+fn sets_of_four_pieces_are_refused(rt: HostRuntime) {
+    for text in ["112", "220", "022", "222"] {
+        let set = PieceSet::read(text).expect(&rt, "a set");
+        let opened = Classes::open(rt.alloc(), set);
+        assert!(rt; matches!(opened, Err(Fault::SetTooLarge)), "{text}");
+    }
+}
+
+// Goes over the set as the plain program walks it. The keys must ascend, and each `step`-th position and
+// representative must have the number that it has in the walk.
+fn agrees_with_walk(rt: &impl Abort, alloc: Global, text: &str, step: u64) -> Result<(), Fail>
+    requires { 0 < step }
+{
+    let set = PieceSet::read(text)?;
+    let classes = Classes::open(alloc, set)?;
+    let mut last = Vec::new(alloc);
+    let mut walked = 0u64;
+    let mut representatives = 0u64;
+    for start in starts(alloc, set)? {
+        for position in start.positions(alloc)? {
+            let next = key(alloc, &position)?;
+            assert!(rt; last.as_slice() < next.as_slice(), "{walked} of {text}");
+            last = next;
+            if walked % step == 0 {
+                has_rank(rt, &position, set, walked);
+            }
+            if is_first(alloc, &position)? {
+                if representatives % step == 0 {
+                    has_class(rt, &position, &classes, representatives);
+                }
+                representatives = representatives.saturating_add(1);
+            }
+            walked = walked.saturating_add(1);
+        }
+    }
+    assert_eq!(rt; size(set), walked, "of {text}");
+    assert_eq!(rt; classes.class_count(), representatives, "of {text}");
+    Ok(())
+}
+
+// The position is the one of that rank.
+fn has_rank(rt: &impl Abort, position: &Position, set: PieceSet, number: u64) {
+    assert!(rt; number < size(set));
+    assert_eq!(rt; rank(position), number);
+    assert!(rt; unrank(set, number) == *position, "rank {number}");
+}
+
+// The position is the representative of that class, to which its mirror image belongs too.
+fn has_class(rt: &impl Abort, position: &Position, classes: &Classes, number: u64) {
+    assert!(rt; number < classes.class_count());
+    assert!(rt; classes.class_at(number) == *position, "class {number}");
+    for member in [*position, position.mirrored()] {
+        let earlier = representative(&member);
+        assert!(rt; earlier == *position, "class {number}");
+        let own = rank(&member);
+        assert!(rt; own < size(classes.set));
+        let ranked = unrank(classes.set, own);
+        assert_eq!(rt; classes.class_of(&ranked), number);
+        let named = if member == earlier {
+            Some(number)
+        } else {
+            None
+        };
+        assert_eq!(rt; classes.class_of_representative(&ranked), named);
+    }
+}
+
+#[test]
+fn small_sets_as_they_are_walked(rt: HostRuntime) -> Result<(), Fail> {
+    for text in ["000", "001", "010", "100", "002", "011", "020", "200"] {
+        agrees_with_walk(&rt, rt.alloc(), text, 1)?;
+    }
+    Ok(())
+}
+
+#[test]
+fn one_of_each_kind_as_it_is_walked(rt: HostRuntime) -> Result<(), Fail> {
+    agrees_with_walk(&rt, rt.alloc(), "111", 97)
+}

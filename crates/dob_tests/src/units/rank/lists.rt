@@ -1,0 +1,82 @@
+// Lists in short segments, and a refused growth of one, which leaves it as it was.
+ghost use Rattle.std.specs.Prelude.{◌≡◌, ◌≤◌, length};
+
+use dob_rank::Segments;
+use std::alloc::Global;
+use std::process::Abort;
+
+// Appends one number, and again where memory was refused: the list then has it once.
+fn append<A: Abort>(rt: &A, list: &mut Segments<u64>, number: u64) {
+    let before = list.len();
+    if list.push(number).is_err() {
+        assert_eq!(rt; list.len(), before);
+        assert!(rt; list.push(number).is_ok());
+    }
+    assert_eq!(rt; list.len(), before + 1);
+}
+
+// A list of 0, 10, 20, .. in segments of that shift.
+fn tens<A: Abort>(rt: &A, alloc: Global, shift: u32, count: u64) -> Segments<u64>
+    requires short { shift ≤ 20 }
+    requires few { count ≤ 100 }
+    ensures { length result ≡ count }
+{
+    let mut list = Segments::new(alloc, shift);
+    for number in 0..count {
+        append(rt, &mut list, 10 * number);
+    }
+    assert_eq!(rt; list.len(), count);
+    list
+}
+
+#[test]
+fn lists_in_short_segments(rt: HostRuntime) {
+    for shift in [0, 1, 3] {
+        let mut list = tens(&rt, rt.alloc(), shift, 20);
+        for number in 0..20 {
+            assert_eq!(rt;
+                list.get(number),
+                10 * number,
+                "at {number} of shift {shift}"
+            );
+        }
+        list[7] = 1;
+        list[19] = 2;
+        let mut walked = list.iter();
+        for number in 0..20 {
+            let want = changed_ten(number);
+            assert_eq!(rt; walked.next(), Some(want), "at {number} of shift {shift}");
+            assert_eq!(rt; list.get(number), want, "at {number} of shift {shift}");
+        }
+        assert_eq!(rt; walked.next(), None);
+    }
+}
+
+// What the list of tens has at a number once the places 7 and 19 are written.
+fn changed_ten(number: u64) -> u64
+    requires { number ≤ 100 }
+{
+    match number {
+        7 => 1,
+        19 => 2,
+        _ => 10 * number,
+    }
+}
+
+#[test]
+fn lists_of_one_item(rt: HostRuntime) {
+    for shift in [0, 1, 3] {
+        for count in [0, 1, 7, 8, 9] {
+            let mut found = Segments::filled(rt.alloc(), shift, count, 5);
+            if found.is_err() {
+                found = Segments::filled(rt.alloc(), shift, count, 5);
+            }
+            let list = found.expect(&rt, "a list");
+            assert_eq!(rt; list.len(), count);
+            assert_eq!(rt; list.is_empty(), count == 0);
+            for item in list.iter() {
+                assert_eq!(rt; item, 5);
+            }
+        }
+    }
+}

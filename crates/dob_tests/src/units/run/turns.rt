@@ -1,0 +1,152 @@
+// Runners that are turned by hand, one after the other, in one thread.
+ghost use Rattle.std.specs.Prelude.{◌≡◌, IsTrue, IfOk, ◌∷◌, []};
+ghost use Rattle.dob_rank.specs.Limits.{IsSmall};
+ghost use Rattle.dob_run.specs.Manned.{IsNewCrew};
+ghost use Rattle.dob_run.specs.Runners.{KeepsRunner};
+
+use super::{is_done, is_table_of_lions, lions};
+use dob_board::{Board, Halt};
+use dob_node::Cause;
+use dob_pieces::{Memory, PieceSet};
+use dob_rank::Classes;
+use dob_run::{Free, Gate, Runner, crew, finish};
+use std::alloc::Global;
+use std::process::Abort;
+use std::sync::Wait;
+use std::sync::atomic::{AtomicUsize, Ordering};
+use std::test::Fail;
+
+// The classes of lions alone, and a crew of two nodes that own them, with batches of one item and channels for one batch.
+fn two_runners(rt: &(impl Wait + Abort), alloc: Global) -> (Classes, Board, Runner, Runner)
+    ensures small { IsSmall result.0.set }
+    ensures crew { IsNewCrew result.0.set 2 1 1 result.1 (result.2 ∷ result.3 ∷ []) }
+{
+    let classes = Classes::open(alloc, lions(rt)).expect(rt, "classes");
+    let (board, mut runners) = crew(alloc, &classes, 2, 1, 1).expect(rt, "a crew");
+    let second = runners.pop().expect(rt, "the second runner");
+    let first = runners.pop().expect(rt, "the first runner");
+    assert!(rt; runners.is_empty());
+    (classes, board, first, second)
+}
+
+// The two in a list.
+fn both(alloc: Global, first: Runner, second: Runner) -> Result<Vec<Runner>, Memory>
+    ensures { IfOk result (λ runners. runners.items ≡ first ∷ second ∷ []) }
+{
+    let mut runners = Vec::with_capacity(alloc, 2)?;
+    runners.push(first)?;
+    runners.push(second)?;
+    Ok(runners)
+}
+
+// Whether the classes are those of the piece set.
+fn are_of(classes: &Classes, set: PieceSet) -> bool
+    ensures { IsTrue result → classes.now.set ≡ set }
+{
+    classes.set == set
+}
+
+// Turns a runner that hasn't stopped.
+fn turn_once<G: Gate>(
+    rt: &(impl Wait + Abort),
+    runner: &mut Runner,
+    classes: &Classes,
+    gate: &G,
+) -> Result<Halt, Cause>
+    ensures { KeepsRunner runner.old runner.new }
+{
+    assert!(rt; !runner.stopped());
+    if !are_of(classes, runner.piece_set()) {
+        panic!(rt; "the classes of another piece set")
+    }
+    runner.turn(rt, classes, gate)
+}
+
+// Turns the two runners one after the other, until the first one's turn announces the end. The other one was turned once less.
+fn turn_to_the_end(
+    rt: &(impl Wait + Abort),
+    first: &mut Runner,
+    second: &mut Runner,
+    classes: &Classes,
+)
+    ensures first { KeepsRunner first.old first.new }
+    ensures second { KeepsRunner second.old second.new }
+{
+    for _ in 0..20_000 {
+        let halt = turn_once(rt, first, classes, &Free);
+        if halt == Ok(Halt::Ended) {
+            return;
+        }
+        assert!(rt; halt == Ok(Halt::Running));
+        assert!(rt; turn_once(rt, second, classes, &Free) == Ok(Halt::Running));
+    }
+}
+
+#[test]
+fn turned_by_hand(rt: HostRuntime) -> Result<(), Fail> {
+    let (classes, board, mut first, mut second) = two_runners(&rt, rt.alloc());
+    turn_to_the_end(&rt, &mut first, &mut second, &classes);
+    assert!(rt; first.halt() == Halt::Ended);
+    assert!(rt; turn_once(&rt, &mut second, &classes, &Free) == Ok(Halt::Ended));
+    assert!(rt; first.is_idle());
+    assert!(rt; second.is_idle());
+    assert!(rt; first.stopped());
+    assert!(rt; second.stopped());
+    let runners = both(rt.alloc(), first, second)?;
+    let built = finish(&rt, rt.alloc(), board, runners).expect(&rt, "a table");
+    assert!(rt; is_done(&built, 2));
+    assert!(rt; is_table_of_lions(&built.table));
+    assert!(rt; built.links.len() == 4);
+    assert!(rt; built.links[1].sent >= 10);
+    assert!(rt; built.links[2].sent >= 10);
+    Ok(())
+}
+
+// Lets so many turns begin, and counts those that were asked for.
+#[derive(Drop)]
+struct Counting {
+    most: usize,
+    asked: AtomicUsize,
+}
+
+impl Gate for Counting {
+    fn enter(&self, _node: usize) -> bool {
+        self.asked.fetch_add(1, Ordering::SeqCst) < self.most
+    }
+}
+
+#[test]
+fn held_after_three_turns(rt: HostRuntime) -> Result<(), Fail> {
+    let (classes, _board, mut first, mut second) = two_runners(&rt, rt.alloc());
+    let gate = Counting {
+        most: 3,
+        asked: AtomicUsize::new(0),
+    };
+    assert!(rt; turn_once(&rt, &mut first, &classes, &gate) == Ok(Halt::Running));
+    assert!(rt; turn_once(&rt, &mut second, &classes, &gate) == Ok(Halt::Running));
+    assert!(rt; turn_once(&rt, &mut first, &classes, &gate) == Ok(Halt::Running));
+    assert!(rt; gate.asked.load(Ordering::SeqCst) == 3);
+    assert!(rt; turn_once(&rt, &mut second, &classes, &gate) == Err(Cause::Held));
+    assert!(rt; gate.asked.load(Ordering::SeqCst) == 4);
+    assert!(rt; second.stopped());
+    assert!(rt; second.halt() == Halt::Failed(1));
+    assert!(rt; turn_once(&rt, &mut first, &classes, &Free) == Ok(Halt::Failed(1)));
+    assert!(rt; first.failure().is_none());
+    assert!(rt; second.failure() == Some(Cause::Held));
+    Ok(())
+}
+
+#[test]
+fn held_after_the_end(rt: HostRuntime) -> Result<(), Fail> {
+    let (classes, _board, mut first, mut second) = two_runners(&rt, rt.alloc());
+    turn_to_the_end(&rt, &mut first, &mut second, &classes);
+    let gate = Counting {
+        most: 0,
+        asked: AtomicUsize::new(0),
+    };
+    assert!(rt; turn_once(&rt, &mut second, &classes, &gate) == Err(Cause::Held));
+    assert!(rt; second.halt() == Halt::Ended);
+    assert!(rt; second.failure() == Some(Cause::Held));
+    assert!(rt; second.is_idle());
+    Ok(())
+}

@@ -1,0 +1,168 @@
+// Shares of made-up classes: cell 17 has five moves, as the class of that number of lions alone; class 0 is caught.
+ghost use Rattle.std.specs.Prelude.{◌<◌, ◌≤◌};
+
+use dob_moves::Status;
+use dob_share::{Fault, Item, Opening, Share, owner};
+use dob_value::Value;
+use std::alloc::{AllocError, Global};
+use std::process::Abort;
+use std::test::Fail;
+
+// 54 classes: class 0 is caught, class 1 is stuck, all others are open with five moves.
+fn openings(alloc: Global) -> Result<Vec<Opening>, AllocError> {
+    let mut list = Vec::new(alloc);
+    for class in 0..54 {
+        let (status, moves) = match class {
+            0 => (Status::Caught, 0),
+            1 => (Status::Stuck, 0),
+            _ => (Status::Open, 5),
+        };
+        list.push(Opening { status, moves })?;
+    }
+    Ok(list)
+}
+
+// The share of that owner among n.
+fn share_of(alloc: Global, id: usize, n: usize) -> Result<Share, Fail>
+    requires owner { id < n }
+    requires owners { n ≤ 16 }
+{
+    let list = openings(alloc)?;
+    Ok(Share::open(alloc, &list, id, n)?)
+}
+
+// What the share answers to a change of one move of the class.
+fn answer<A: Abort>(
+    rt: &A,
+    share: &mut Share,
+    to: u64,
+    was: Value,
+    now: Value,
+) -> Result<Option<(Value, Value)>, Fault> {
+    assert!(rt; share.settled() < 1000);
+    match share.apply(Item {
+        number: 0,
+        to,
+        was,
+        now,
+    }) {
+        Ok(Some(settlement)) => {
+            assert_eq!(rt; settlement.class, to);
+            Ok(Some((settlement.was, settlement.now)))
+        }
+        Ok(None) => Ok(None),
+        Err(refused) => Err(refused),
+    }
+}
+
+#[test]
+fn shares_have_their_places(rt: HostRuntime) -> Result<(), Fail> {
+    for id in 0..16 {
+        let want = if id <= 5 { 4 } else { 3 };
+        assert_eq!(rt; share_of(rt.alloc(), id, 16)?.places(), want, "of {id}");
+    }
+    let share = share_of(rt.alloc(), 0, 1)?;
+    assert_eq!(rt; share.places(), 54);
+    assert_eq!(rt; share.settled(), 2);
+    assert_eq!(rt; owner(17, 16), 1);
+    Ok(())
+}
+
+#[test]
+fn items_that_do_not_fit(rt: HostRuntime) -> Result<(), Fail> {
+    let mut share = share_of(rt.alloc(), 0, 1)?;
+    assert_eq!(rt;
+        answer(&rt, &mut share, 17, Value::Win(7), Value::Win(5)),
+        Err(Fault::Contradiction(17))
+    );
+    assert_eq!(rt;
+        answer(&rt, &mut share, 0, Value::Draw, Value::Win(5)),
+        Err(Fault::Contradiction(0))
+    );
+    assert_eq!(rt;
+        answer(&rt, &mut share, 1, Value::Draw, Value::Win(5)),
+        Err(Fault::Contradiction(1))
+    );
+    assert_eq!(rt;
+        answer(&rt, &mut share, 54, Value::Draw, Value::Win(5)),
+        Err(Fault::Contradiction(54))
+    );
+    Ok(())
+}
+
+#[test]
+fn all_moves_lose(rt: HostRuntime) -> Result<(), Fail> {
+    let mut share = share_of(rt.alloc(), 1, 2)?;
+    for plies in [7, 7, 3, 9] {
+        assert_eq!(rt;
+            answer(&rt, &mut share, 17, Value::Draw, Value::Win(plies)),
+            Ok(None)
+        );
+    }
+    assert_eq!(rt;
+        answer(&rt, &mut share, 17, Value::Draw, Value::Win(5)),
+        Ok(Some((Value::Draw, Value::Loss(10))))
+    );
+    assert_eq!(rt;
+        answer(&rt, &mut share, 17, Value::Win(9), Value::Win(1)),
+        Ok(Some((Value::Loss(10), Value::Loss(8))))
+    );
+    assert_eq!(rt;
+        answer(&rt, &mut share, 17, Value::Win(7), Value::Win(5)),
+        Ok(None)
+    );
+    assert_eq!(rt;
+        answer(&rt, &mut share, 17, Value::Draw, Value::Win(5)),
+        Err(Fault::Contradiction(17))
+    );
+    Ok(())
+}
+
+#[test]
+fn distances_at_the_limit(rt: HostRuntime) -> Result<(), Fail> {
+    let mut share = share_of(rt.alloc(), 0, 1)?;
+    assert_eq!(rt;
+        answer(&rt, &mut share, 17, Value::Draw, Value::Loss(65534)),
+        Err(Fault::TooDeep)
+    );
+    assert_eq!(rt;
+        answer(&rt, &mut share, 17, Value::Draw, Value::Loss(3)),
+        Ok(Some((Value::Draw, Value::Win(4))))
+    );
+    assert_eq!(rt;
+        answer(&rt, &mut share, 17, Value::Draw, Value::Loss(65534)),
+        Ok(None)
+    );
+    Ok(())
+}
+
+#[test]
+fn values_of_classes(rt: HostRuntime) -> Result<(), Fail> {
+    let caught = Opening {
+        status: Status::Caught,
+        moves: 0,
+    };
+    let stuck = Opening {
+        status: Status::Stuck,
+        moves: 0,
+    };
+    let open = Opening {
+        status: Status::Open,
+        moves: 5,
+    };
+    let mut share = Share::open(rt.alloc(), &[caught, stuck, open], 0, 1)?;
+    assert_eq!(rt; share.value(0), Value::Win(1));
+    assert_eq!(rt; share.value(1), Value::Loss(0));
+    assert_eq!(rt; share.value(2), Value::Draw);
+    assert_eq!(rt; share.settled(), 2);
+    let item = Item {
+        number: 0,
+        to: 2,
+        was: Value::Draw,
+        now: Value::Loss(3),
+    };
+    assert!(rt; share.apply(item).is_ok());
+    assert_eq!(rt; share.value(2), Value::Win(4));
+    assert_eq!(rt; share.settled(), 3);
+    Ok(())
+}

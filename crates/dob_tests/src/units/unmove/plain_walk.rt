@@ -1,0 +1,38 @@
+// The walk by masks against the plain program, on whole small sets and on a part of a larger one.
+ghost use Rattle.std.specs.Prelude.{◌<◌};
+
+use dob_pieces::{Memory, PieceSet};
+use dob_rank::Classes;
+use dob_unmove::{back_into, plain};
+use std::alloc::Global;
+use std::process::Abort;
+
+// Both programs list the same predecessors of each class of the set of that name whose number the stride divides.
+fn agree_on_set(rt: &impl Abort, alloc: Global, name: &str, stride: u64) -> Result<(), Memory>
+    requires { 0 < stride }
+{
+    let set = PieceSet::read(name).expect(rt, "a set");
+    let classes = Classes::open(alloc, set).expect(rt, "classes");
+    let mut found = Vec::new(alloc);
+    let mut expected = Vec::new(alloc);
+    for class in 0..classes.class_count() {
+        if class % stride == 0 {
+            found = back_into(found, &classes, class)?;
+            expected = plain::back_into(expected, &classes, class)?;
+            assert!(rt; found.as_slice() == expected.as_slice(), "of {class}");
+        }
+    }
+    Ok(())
+}
+
+#[test]
+fn predecessors_of_small_sets_agree(rt: HostRuntime) -> Result<(), Memory> {
+    agree_on_set(&rt, rt.alloc(), "100", 1)?;
+    agree_on_set(&rt, rt.alloc(), "200", 1)?;
+    agree_on_set(&rt, rt.alloc(), "011", 1)
+}
+
+#[test]
+fn predecessors_of_three_pieces_agree(rt: HostRuntime) -> Result<(), Memory> {
+    agree_on_set(&rt, rt.alloc(), "111", 97)
+}
