@@ -18,6 +18,12 @@ use Rattle.dob_cli.proofs.Outcomes.{found_texts, none_missing, text_in_matches}
 
 module _ (f : Form) (texts : List Text) (met : Option (Text × List Row)) (found : Finds f texts met) (inner : ArgMatches)
     (kept : Some (rows_of (found_of inner)) ≡ option_map (λ p. p.1) met) where
+  -- they are what was found in the matches of the subcommand
+  pub found_inside : Finds f texts (Some (f.name, rows_of (found_of inner)))
+  found_inside =
+      let same : rows_of (found_of inner) ≡ found.0 = ap (λ (x : Option (List Row)). unwrap_or x []) (kept ∙ ap (option_map (λ p. p.1)) found.1) in
+      subst (Finds f texts) (found.1 ∙ ap (λ (rows : List Row). Some (f.name, rows)) (sym same)) found
+
   -- this is what the matches have for a label
   abbrev IsGot : Text → Option (Bor Text) → Type 0
   IsGot label o = option_map (λ s. s.now) o ≡ first_value (found_of inner) label

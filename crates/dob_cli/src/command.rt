@@ -3,8 +3,8 @@
 // A further subcommand, as `probe --db FILE POSITION`, has
 // - a form in specs/Forms.antt, also in `forms`, and the name of what it asks for at the end of specs/Words.antt;
 // - a variant of `Order` here, with its case in both functions of specs/Readings.antt;
-// - a function that makes its command, its options by `option_argument`, which `dobutsu_command` adds, and an arm and a
-//   clause in `order_of`;
+// - a function that makes its command, its options by `option_argument`, which `dobutsu_command` adds, a function in
+//   command/orders.rt that reads its matches, and an arm and a clause in `order_of`;
 // - a record in proofs/Taken.antt, proofs/AllWords.antt and proofs/Lines.antt, by `refl`, and a line each in `all_fit` and
 //   `all_known`;
 // - its cases in the answers of `dobutsu_command`, `order_of` and `read_words`, as those of `count`;
@@ -19,6 +19,8 @@ ghost use Rattle.dob_cli.specs.Lines.{IsAmong, IsLine};
 ghost use Rattle.dob_cli.specs.Words.{asks, is_version, meaning_of};
 ghost use Rattle.dob_cli.specs.Shapes.{Finds, HasShape, IsRead, bare_app, dobutsu_app, form_app, option_rule, text_rule};
 ghost use Rattle.dob_cli.specs.Readings.{ComesFromLine, IsOrder, IsReadingOf, IsReadingOfKind};
+
+mod orders;
 
 use clap::error::ErrorKind;
 use clap::{Arg, ArgMatches, Command, Error, value_parser};
@@ -349,22 +351,12 @@ fn order_of<'a>(matches: &ArgMatches<'a>) -> Option<Order<'a>>
 {
     let (name, inner) = matches.subcommand()?;
     match name {
-        "value" => Some(Order::Value(inner.get_str("POSITION")?)),
-        "count" => Some(Order::Count(inner.get_str("CEG")?)),
-        "build" => Some(Order::Build {
-            set: inner.get_str("CEG")?,
-            nodes: inner.get_str("N")?.parse().ok()?,
-            file: inner.get_str("FILE")?,
-        }),
-        "probe" => Some(Order::Probe {
-            file: inner.get_str("FILE")?,
-            position: inner.get_str("POSITION")?,
-        }),
-        "line" => Some(Order::Line {
-            file: inner.get_str("FILE")?,
-            position: inner.get_str("POSITION")?,
-        }),
-        "check" => Some(Order::Check(inner.get_str("FILE")?)),
+        "value" => orders::value_order(inner),
+        "count" => orders::count_order(inner),
+        "build" => orders::build_order(inner),
+        "probe" => orders::probe_order(inner),
+        "line" => orders::line_order(inner),
+        "check" => orders::check_order(inner),
         _ => None,
     }
 }

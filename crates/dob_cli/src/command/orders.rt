@@ -1,0 +1,67 @@
+// What the matches of each subcommand ask for.
+ghost use Rattle.std.specs.Prelude.{IsSomeAnd, List, Some, codes};
+ghost use Rattle.clap.specs.Words.{found_of, rows_of};
+ghost use Rattle.dob_cli.specs.Forms.{Text, build_form, check_form, count_form, line_form, probe_form, value_form};
+ghost use Rattle.dob_cli.specs.Shapes.{Finds};
+ghost use Rattle.dob_cli.specs.Readings.{IsOrder};
+
+use super::Order;
+use clap::ArgMatches;
+
+/// What the matches of `value` ask for.
+pub fn value_order<'a>(inner: &ArgMatches<'a>) -> Option<Order<'a>>
+    ensures { (texts : List Text) → Finds value_form texts (Some (codes "value", rows_of (found_of inner.now)))
+        → IsSomeAnd result (IsOrder (codes "value") texts) }
+{
+    Some(Order::Value(inner.get_str("POSITION")?))
+}
+
+/// What the matches of `count` ask for.
+pub fn count_order<'a>(inner: &ArgMatches<'a>) -> Option<Order<'a>>
+    ensures { (texts : List Text) → Finds count_form texts (Some (codes "count", rows_of (found_of inner.now)))
+        → IsSomeAnd result (IsOrder (codes "count") texts) }
+{
+    Some(Order::Count(inner.get_str("CEG")?))
+}
+
+/// What the matches of `build` ask for.
+pub fn build_order<'a>(inner: &ArgMatches<'a>) -> Option<Order<'a>>
+    ensures { (texts : List Text) → Finds build_form texts (Some (codes "build", rows_of (found_of inner.now)))
+        → IsSomeAnd result (IsOrder (codes "build") texts) }
+{
+    Some(Order::Build {
+        set: inner.get_str("CEG")?,
+        nodes: inner.get_str("N")?.parse().ok()?,
+        file: inner.get_str("FILE")?,
+    })
+}
+
+/// What the matches of `probe` ask for.
+pub fn probe_order<'a>(inner: &ArgMatches<'a>) -> Option<Order<'a>>
+    ensures { (texts : List Text) → Finds probe_form texts (Some (codes "probe", rows_of (found_of inner.now)))
+        → IsSomeAnd result (IsOrder (codes "probe") texts) }
+{
+    Some(Order::Probe {
+        file: inner.get_str("FILE")?,
+        position: inner.get_str("POSITION")?,
+    })
+}
+
+/// What the matches of `line` ask for.
+pub fn line_order<'a>(inner: &ArgMatches<'a>) -> Option<Order<'a>>
+    ensures { (texts : List Text) → Finds line_form texts (Some (codes "line", rows_of (found_of inner.now)))
+        → IsSomeAnd result (IsOrder (codes "line") texts) }
+{
+    Some(Order::Line {
+        file: inner.get_str("FILE")?,
+        position: inner.get_str("POSITION")?,
+    })
+}
+
+/// What the matches of `check` ask for.
+pub fn check_order<'a>(inner: &ArgMatches<'a>) -> Option<Order<'a>>
+    ensures { (texts : List Text) → Finds check_form texts (Some (codes "check", rows_of (found_of inner.now)))
+        → IsSomeAnd result (IsOrder (codes "check") texts) }
+{
+    Some(Order::Check(inner.get_str("FILE")?))
+}
