@@ -21,6 +21,7 @@ ghost use Rattle.dob_cli.specs.Shapes.{Finds, HasShape, IsRead, bare_app, dobuts
 ghost use Rattle.dob_cli.specs.Readings.{ComesFromLine, IsOrder, IsReadingOf, IsReadingOfKind};
 
 mod orders;
+mod stages;
 
 use clap::error::ErrorKind;
 use clap::{Arg, ArgMatches, Command, Error, value_parser};
@@ -200,11 +201,7 @@ fn asks_version(words: &[&str]) -> bool
 fn dobutsu_command<'a>(alloc: Global) -> Result<Command<'a>, AllocError>
     ensures { IfOk result (HasShape dobutsu_app) }
 {
-    bare_command(alloc)?
-        .subcommand(value_command(alloc)?)?
-        .subcommand(count_command(alloc)?)?
-        .subcommand(build_command(alloc)?)?
-        .subcommand(probe_command(alloc)?)?
+    stages::table_command(alloc)?
         .subcommand(line_command(alloc)?)?
         .subcommand(check_command(alloc)?)
 }

@@ -1,4 +1,4 @@
--- Each subcommand joins the program.
+-- The last subcommands join the program.
 use Rattle.std.proofs.lemmas.Result.{IfOk-weaker}
 use Rattle.clap.specs.Words.{App, with_subcommand}
 use Rattle.dob_cli.specs.Forms.{build_form, check_form, count_form, line_form, probe_form, value_form}
@@ -24,15 +24,7 @@ with_line = with_subcommand with_probe (form_app line_form).top
 
 pub returns : goal.returns
 returns c =
-    let first = subcommand_shape _ _ c.in_ok-subcommand.field-0 bare_app (form_app value_form) c.in_ok-bare_command.ensures c.in_ok-value_command.ensures
+    let first = subcommand_shape _ _ c.in_ok-subcommand.field-0 with_probe (form_app line_form) c.in_ok-table_command.ensures c.in_ok-line_command.ensures
     c.in_ok-subcommand.ensures in
-    let second = subcommand_shape _ _ c.in_ok-subcommand-2.field-0 with_value (form_app count_form) first c.in_ok-count_command.ensures
-    c.in_ok-subcommand-2.ensures in
-    let third = subcommand_shape _ _ c.in_ok-subcommand-3.field-0 with_count (form_app build_form) second c.in_ok-build_command.ensures
-    c.in_ok-subcommand-3.ensures in
-    let fourth = subcommand_shape _ _ c.in_ok-subcommand-4.field-0 with_build (form_app probe_form) third c.in_ok-probe_command.ensures
-    c.in_ok-subcommand-4.ensures in
-    let fifth = subcommand_shape _ _ c.in_ok-subcommand-5.field-0 with_probe (form_app line_form) fourth c.in_ok-line_command.ensures
-    c.in_ok-subcommand-5.ensures in
-    IfOk-weaker c.subcommand-6.result _ _
-    (λ r adds. subcommand_shape _ _ r with_line (form_app check_form) fifth c.in_ok-check_command.ensures adds) c.subcommand-6.ensures
+    IfOk-weaker c.subcommand-2.result _ _
+    (λ r adds. subcommand_shape _ _ r with_line (form_app check_form) first c.in_ok-check_command.ensures adds) c.subcommand-2.ensures
