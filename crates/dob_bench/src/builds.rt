@@ -83,13 +83,19 @@ fn apply_items<R: Print + Clock + AllocGlobal>(
     timed: bool,
 ) -> Result<()> {
     let items = items_of(rt.alloc(), classes, table)?;
-    let openings = opening(rt.alloc(), classes)?;
-    let mut share = Share::open(rt.alloc(), &openings, 0, 1)?;
+    let mut share = open_share(rt.alloc(), classes)?;
     let timer = Timer::start(rt, timed)?;
     let changes = apply_all(&mut share, &items);
     let count = items.len() as u64;
     println!(rt; "applied {count} items, which settled {changes} classes")?;
     timer.tell(rt, &[(count, "item")])
+}
+
+// The cells of one owner of all classes, of which nothing is known but the openings.
+fn open_share(alloc: Global, classes: &Classes) -> Result<Share> {
+    let openings = opening(alloc, classes)?;
+    let share = Share::open(alloc, &openings, 0, 1)?;
+    Ok(share)
 }
 
 /// How many of the items, applied in order, changed their class's value.

@@ -3,7 +3,7 @@ use dob_moves::moves;
 use dob_pieces::{Memory, PieceSet};
 use dob_probe::{Fault, line, probe};
 use dob_rank::{Classes, rank, size, unrank};
-use dob_unmove::back;
+use dob_unmove::{back, back_into};
 use dob_value::{Table, Value};
 use std::alloc::Global;
 
@@ -115,6 +115,17 @@ pub(crate) fn count_edges(alloc: Global, classes: &Classes) -> Result<Edges, Mem
         most,
         most_equal,
     })
+}
+
+/// How many edges there are by the lists of predecessors, each made in the place of the one before.
+pub(crate) fn edges_into_one_list(alloc: Global, classes: &Classes) -> Result<u64, Memory> {
+    let mut count: u64 = 0;
+    let mut found = Vec::new(alloc);
+    for class in 0..classes.class_count() {
+        found = back_into(found, classes, class)?;
+        count = count.saturating_add(found.len() as u64);
+    }
+    Ok(count)
 }
 
 // The length of the longest run of equal numbers.

@@ -32,14 +32,40 @@ pub(crate) fn run<R: Print + Clock + AllocGlobal + Files + Threads + Wait + Sync
     tell_built(rt, &built.table, nodes)?;
     tell_seconds(rt, seconds, &[(built.table.class_count(), "class")])?;
     watch.tell(rt, seconds)?;
+    tell_costs(rt, &built)?;
+    measure_parts(rt, set, &built.table, nodes, seconds)
+}
+
+// What the build held and sent, and its table's file.
+fn tell_costs<R: Print + Clock + AllocGlobal + Files>(rt: &R, built: &Built) -> Result<()> {
     tell_memory(rt)?;
-    tell_links(rt, &built)?;
+    tell_links(rt, built)?;
     measure::write(rt, &built.table, true)?;
+    Ok(())
+}
+
+// The parts of a build that gave the table in so many seconds.
+fn measure_parts<R: Print + Clock + AllocGlobal + Threads + Sync>(
+    rt: &R,
+    set: PieceSet,
+    table: &Table,
+    nodes: usize,
+    seconds: f64,
+) -> Result<()> {
     let classes = measure::open(rt, set, true)?;
     list_openings(rt, &classes)?;
-    tell_needed(rt, &classes, &built.table, nodes)?;
+    tell_needed(rt, &classes, table, nodes)?;
+    tell_ratio(rt, &classes, seconds)
+}
+
+// All predecessors, and how often their time goes into so many seconds.
+fn tell_ratio<R: Print + Clock + AllocGlobal>(
+    rt: &R,
+    classes: &Classes,
+    seconds: f64,
+) -> Result<()> {
     let start = Instant::now(rt)?;
-    measure::list_predecessors(rt, &classes, true)?;
+    measure::list_predecessors(rt, classes, true)?;
     let ratio = seconds / start.elapsed(rt)?.as_secs_f64();
     println!(rt; "the build took {ratio:.2} times as long as all predecessors")?;
     Ok(())

@@ -15,6 +15,9 @@ mod watch;
 use anyhow::{Result, bail};
 use dob_pieces::PieceSet;
 use dob_rank::MOST_PIECES;
+use std::rt::{Clock, Files};
+use std::sync::Wait;
+use std::thread::Threads;
 
 const LIONS_ALONE: PieceSet = PieceSet {
     chicks: 0,
@@ -27,28 +30,53 @@ const USAGE: &str = "usage: dob_bench [CEG [FILE | --plain] | build CEG NODES]";
 fn main(rt: HostRuntime) -> Result<()> {
     let words: Vec<String> = std::env::args(&rt)?.skip(1).collect(rt.alloc())?;
     match words.as_slice() {
-        [] => {
-            measure::run(&rt, LIONS_ALONE, false)?;
-        }
-        [text] => {
-            measure::run(&rt, small_set(text.as_str())?, true)?;
-        }
-        [text, word] if word.as_str() == "--plain" => {
-            plain::run(&rt, small_set(text.as_str())?)?;
-        }
-        [text, name] => {
-            let bytes = measure::run(&rt, small_set(text.as_str())?, true)?;
-            std::fs::write(&rt, name.as_str(), &bytes)?;
-        }
+        [] => measure_lions(&rt),
+        [text] => measure_set(&rt, text.as_str()),
+        [text, word] if word.as_str() == "--plain" => plain::run(&rt, small_set(text.as_str())?),
+        [text, name] => write_table(&rt, text.as_str(), name.as_str()),
         [word, text, nodes] if word.as_str() == "build" => {
-            let Ok(nodes) = nodes.parse::<usize>() else {
-                bail!("no number of nodes\n{USAGE}");
-            };
-            crews::run(&rt, small_set(text.as_str())?, nodes)?;
+            measure_build(&rt, text.as_str(), nodes.as_str())
         }
         _ => bail!("other words\n{USAGE}"),
     }
+}
+
+// Measures lions alone, and prints no times.
+fn measure_lions<R: Print + Clock + AllocGlobal + Files + Threads + Sync>(rt: &R) -> Result<()> {
+    measure::run(rt, LIONS_ALONE, false)?;
     Ok(())
+}
+
+// Measures the set of that text.
+fn measure_set<R: Print + Clock + AllocGlobal + Files + Threads + Sync>(
+    rt: &R,
+    text: &str,
+) -> Result<()> {
+    measure::run(rt, small_set(text)?, true)?;
+    Ok(())
+}
+
+// Measures the set of that text, and writes its table to the file of that name.
+fn write_table<R: Print + Clock + AllocGlobal + Files + Threads + Sync>(
+    rt: &R,
+    text: &str,
+    name: &str,
+) -> Result<()> {
+    let bytes = measure::run(rt, small_set(text)?, true)?;
+    std::fs::write(rt, name, &bytes)?;
+    Ok(())
+}
+
+// Measures a build of the set of that text by as many nodes as the other text says.
+fn measure_build<R: Print + Clock + AllocGlobal + Files + Threads + Wait + Sync>(
+    rt: &R,
+    text: &str,
+    nodes: &str,
+) -> Result<()> {
+    let Ok(nodes) = nodes.parse::<usize>() else {
+        bail!("no number of nodes\n{USAGE}");
+    };
+    crews::run(rt, small_set(text)?, nodes)
 }
 
 // The piece set of that text, which is to have at most `MOST_PIECES` pieces besides the lions.

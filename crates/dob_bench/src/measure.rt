@@ -18,19 +18,47 @@ pub(crate) fn run<R: Print + Clock + AllocGlobal + Files + Threads + Sync>(
     set: PieceSet,
     timed: bool,
 ) -> Result<Vec<u8>> {
+    measure_classes(rt, set, timed)?;
+    let swept = sweep(rt, set, timed)?;
+    let bytes = write(rt, &swept, timed)?;
+    let table = read(rt, bytes.clone()?, timed)?;
+    measure_table(rt, &table, timed)?;
+    Ok(bytes)
+}
+
+// What needs no table.
+fn measure_classes<R: Print + Clock + AllocGlobal + Files>(
+    rt: &R,
+    set: PieceSet,
+    timed: bool,
+) -> Result<()> {
     let classes = open(rt, set, timed)?;
     find_ranks(rt, set, timed)?;
     find_classes(rt, &classes, timed)?;
     list_moves(rt, &classes, timed)?;
     builds::run(rt, &classes, timed)?;
-    list_predecessors(rt, &classes, timed)?;
-    let swept = sweep(rt, set, timed)?;
-    let bytes = write(rt, &swept, timed)?;
-    let table = read(rt, bytes.clone()?, timed)?;
-    check_table(rt, &table, timed)?;
-    probe_classes(rt, &table, timed)?;
-    list_lines(rt, &table, timed)?;
-    Ok(bytes)
+    list_edges(rt, &classes, timed)
+}
+
+// The predecessors of each class, in lists of their own and in one list.
+fn list_edges<R: Print + Clock + AllocGlobal>(
+    rt: &R,
+    classes: &Classes,
+    timed: bool,
+) -> Result<()> {
+    list_predecessors(rt, classes, timed)?;
+    list_into_one(rt, classes, timed)
+}
+
+// What is asked of the table.
+fn measure_table<R: Print + Clock + AllocGlobal + Threads + Sync>(
+    rt: &R,
+    table: &Table,
+    timed: bool,
+) -> Result<()> {
+    check_table(rt, table, timed)?;
+    probe_classes(rt, table, timed)?;
+    list_lines(rt, table, timed)
 }
 
 /// Opens the classes of the set.
@@ -91,6 +119,18 @@ pub(crate) fn list_predecessors<R: Print + Clock + AllocGlobal>(
         "listed {in_all} edges, at most {most} into one class, at most {most_equal} from one class into one"
     )?;
     timer.tell(rt, &[(classes.class_count(), "class"), (in_all, "edge")])
+}
+
+// The predecessors of each class in one list that is kept, as a build asks for them.
+fn list_into_one<R: Print + Clock + AllocGlobal>(
+    rt: &R,
+    classes: &Classes,
+    timed: bool,
+) -> Result<()> {
+    let timer = Timer::start(rt, timed)?;
+    let count = counts::edges_into_one_list(rt.alloc(), classes)?;
+    println!(rt; "listed {count} edges into one list")?;
+    timer.tell(rt, &[(classes.class_count(), "class"), (count, "edge")])
 }
 
 // The values of all classes.

@@ -1,4 +1,5 @@
 // What the bodies by masks save: each beside the plain program of the same promise, in one run.
+use crate::counts;
 use crate::timer::Timer;
 use anyhow::Result;
 use dob_moves::{Status, plain as plain_rules};
@@ -45,7 +46,7 @@ fn compare_moves<R: Print + Clock + AllocGlobal>(rt: &R, classes: &Classes) -> R
 // The predecessors of the classes.
 fn compare_predecessors<R: Print + Clock + AllocGlobal>(rt: &R, classes: &Classes) -> Result<()> {
     let timer = Timer::start(rt, true)?;
-    let edges = count_edges(rt.alloc(), classes)?;
+    let edges = counts::edges_into_one_list(rt.alloc(), classes)?;
     println!(rt; "listed {edges} edges")?;
     timer.tell(rt, &[(edges, "edge")])?;
     let timer = Timer::start(rt, true)?;
@@ -95,16 +96,6 @@ fn count_plain_moves(alloc: Global, classes: &Classes) -> Result<u64, Memory> {
 }
 
 // How many edges lead into the classes.
-fn count_edges(alloc: Global, classes: &Classes) -> Result<u64, Memory> {
-    let mut count: u64 = 0;
-    let mut found = Vec::new(alloc);
-    for class in 0..classes.class_count() {
-        found = dob_unmove::back_into(found, classes, class)?;
-        count = count.saturating_add(found.len() as u64);
-    }
-    Ok(count)
-}
-
 fn count_plain_edges(alloc: Global, classes: &Classes) -> Result<u64, Memory> {
     let mut count: u64 = 0;
     let mut found = Vec::new(alloc);
