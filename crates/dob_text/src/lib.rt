@@ -9,7 +9,8 @@ mod letters;
 mod parts;
 mod pushes;
 mod read_positions;
-mod setups;mod write_moves;
+mod setups;
+mod write_moves;
 mod write_positions;
 
 pub use fault::TextFault;
