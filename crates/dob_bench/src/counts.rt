@@ -1,5 +1,4 @@
 // What is counted over a whole piece set.
-use dob_moves::moves;
 use dob_pieces::{Memory, PieceSet};
 use dob_probe::{Fault, line, probe};
 use dob_rank::{Classes, rank, size, unrank};
@@ -27,26 +26,6 @@ pub(crate) fn classes_found(classes: &Classes) -> u64 {
         }
     }
     found
-}
-
-/// How many moves the representatives of the classes have.
-#[derive(Clone, Copy)]
-pub(crate) struct Moves {
-    pub(crate) in_all: u64,
-    /// The most of one representative.
-    pub(crate) most: u64,
-}
-
-/// The moves of the representatives.
-pub(crate) fn count_moves(alloc: Global, classes: &Classes) -> Result<Moves, Memory> {
-    let mut in_all: u64 = 0;
-    let mut most = 0;
-    for number in 0..classes.class_count() {
-        let count = moves(alloc, &classes.class_at(number))?.len() as u64;
-        in_all = in_all.saturating_add(count);
-        most = most.max(count);
-    }
-    Ok(Moves { in_all, most })
 }
 
 /// How many classes are won, lost and drawn, and in how many plies the longest win is.

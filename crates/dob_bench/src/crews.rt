@@ -65,8 +65,15 @@ fn tell_ratio<R: Print + Clock + AllocGlobal>(
     seconds: f64,
 ) -> Result<()> {
     let start = Instant::now(rt)?;
-    measure::list_predecessors(rt, classes, true)?;
-    let ratio = seconds / start.elapsed(rt)?.as_secs_f64();
+    let edges = counts::count_edges(rt.alloc(), classes)?.in_all;
+    let all = start.elapsed(rt)?.as_secs_f64();
+    println!(rt; "listed {edges} edges")?;
+    tell_seconds(
+        rt,
+        all,
+        &[(classes.class_count(), "class"), (edges, "edge")],
+    )?;
+    let ratio = seconds / all;
     println!(rt; "the build took {ratio:.2} times as long as all predecessors")?;
     Ok(())
 }

@@ -1,7 +1,8 @@
-// Measures what the builder rests on, and prints what it did and seconds. The words are a piece set, as `111`, and the name
-// of a file for its table, or neither; with no word it goes over lions alone and prints no times, so that what it prints is
-// the same on each machine. With `--plain` in place of a file's name it measures the plain programs of the rules and of the
-// predecessors, each beside the body that goes by masks. `build`, a piece set and a number of nodes measure a build by threads.
+// Measures what the builder rests on, and prints what it did and seconds, for short work those of the fastest of four rounds. The
+// words are a piece set, as `111`, and the name of a file for its table, or neither; with no word it goes over lions alone and
+// prints no times, so that what it prints is the same on each machine. With `--plain` in place of a file's name it measures the
+// plain programs of the rules and of the predecessors, each beside the body that goes by masks. `build`, a piece set and a number
+// of nodes measure a build by threads.
 #![tactic(auto)]
 
 mod builds;
@@ -9,6 +10,7 @@ mod counts;
 mod crews;
 mod measure;
 mod plain;
+mod rules;
 mod timer;
 mod watch;
 

@@ -1,8 +1,8 @@
 // What is measured of one piece set, a function for each thing. Each prints what was done and then, where `timed`, how
 // long it took.
-use crate::builds;
-use crate::counts::{self, Edges, Lines, Moves, Outcomes};
-use crate::timer::Timer;
+use crate::counts::{self, Edges, Lines, Outcomes};
+use crate::timer::{Rounds, Timer};
+use crate::{builds, rules};
 use anyhow::Result;
 use dob_dbfile::{MemSink, MemSource, read_table, write_table};
 use dob_pieces::PieceSet;
@@ -35,7 +35,7 @@ fn measure_classes<R: Print + Clock + AllocGlobal + Files>(
     let classes = open(rt, set, timed)?;
     find_ranks(rt, set, timed)?;
     find_classes(rt, &classes, timed)?;
-    list_moves(rt, &classes, timed)?;
+    rules::run(rt, &classes, timed)?;
     builds::run(rt, &classes, timed)?;
     list_edges(rt, &classes, timed)
 }
@@ -77,60 +77,50 @@ pub(crate) fn open<R: Print + Clock + AllocGlobal>(
 
 // From each rank to its position and back.
 fn find_ranks<R: Print + Clock>(rt: &R, set: PieceSet, timed: bool) -> Result<()> {
-    let timer = Timer::start(rt, timed)?;
-    let found = counts::ranks_found(set);
-    println!(rt; "found {found} ranks again")?;
-    timer.tell(rt, &[(found, "rank")])
+    let rounds = Rounds::of(rt, timed, || Ok(counts::ranks_found(set)))?;
+    println!(rt; "found {} ranks again", rounds.found)?;
+    rounds.tell(rt, &[(rounds.found, "rank")])
 }
 
 // From each class to its representative and back.
 fn find_classes<R: Print + Clock>(rt: &R, classes: &Classes, timed: bool) -> Result<()> {
-    let timer = Timer::start(rt, timed)?;
-    let found = counts::classes_found(classes);
-    println!(rt; "found {found} classes again")?;
-    timer.tell(rt, &[(found, "class")])
+    let rounds = Rounds::of(rt, timed, || Ok(counts::classes_found(classes)))?;
+    println!(rt; "found {} classes again", rounds.found)?;
+    rounds.tell(rt, &[(rounds.found, "class")])
 }
 
-// The moves of each class's representative.
-fn list_moves<R: Print + Clock + AllocGlobal>(
+// The predecessors of each class, in a list of its own.
+fn list_predecessors<R: Print + Clock + AllocGlobal>(
     rt: &R,
     classes: &Classes,
     timed: bool,
 ) -> Result<()> {
-    let timer = Timer::start(rt, timed)?;
-    let Moves { in_all, most } = counts::count_moves(rt.alloc(), classes)?;
-    println!(rt; "listed {in_all} moves, at most {most} of one position")?;
-    timer.tell(rt, &[(classes.class_count(), "class"), (in_all, "move")])
-}
-
-/// The predecessors of each class.
-pub(crate) fn list_predecessors<R: Print + Clock + AllocGlobal>(
-    rt: &R,
-    classes: &Classes,
-    timed: bool,
-) -> Result<()> {
-    let timer = Timer::start(rt, timed)?;
+    let rounds = Rounds::of(rt, timed, || Ok(counts::count_edges(rt.alloc(), classes)?))?;
     let Edges {
         in_all,
         most,
         most_equal,
-    } = counts::count_edges(rt.alloc(), classes)?;
+    } = rounds.found;
     println!(rt;
         "listed {in_all} edges, at most {most} into one class, at most {most_equal} from one class into one"
     )?;
-    timer.tell(rt, &[(classes.class_count(), "class"), (in_all, "edge")])
+    rounds.tell(rt, &[(classes.class_count(), "class"), (in_all, "edge")])
 }
 
-// The predecessors of each class in one list that is kept, as a build asks for them.
-fn list_into_one<R: Print + Clock + AllocGlobal>(
+/// The predecessors of each class in one list that is kept, as a build asks for them.
+pub(crate) fn list_into_one<R: Print + Clock + AllocGlobal>(
     rt: &R,
     classes: &Classes,
     timed: bool,
 ) -> Result<()> {
-    let timer = Timer::start(rt, timed)?;
-    let count = counts::edges_into_one_list(rt.alloc(), classes)?;
-    println!(rt; "listed {count} edges into one list")?;
-    timer.tell(rt, &[(classes.class_count(), "class"), (count, "edge")])
+    let rounds = Rounds::of(rt, timed, || {
+        Ok(counts::edges_into_one_list(rt.alloc(), classes)?)
+    })?;
+    println!(rt; "listed {} edges into one list", rounds.found)?;
+    rounds.tell(
+        rt,
+        &[(classes.class_count(), "class"), (rounds.found, "edge")],
+    )
 }
 
 // The values of all classes.

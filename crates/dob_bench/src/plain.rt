@@ -1,9 +1,9 @@
 // What the bodies by masks save: each beside the plain program of the same promise, in one run.
-use crate::counts;
-use crate::timer::Timer;
+use crate::timer::{Rounds, Timer};
+use crate::{measure, rules};
 use anyhow::Result;
 use dob_moves::{Status, plain as plain_rules};
-use dob_pieces::{Memory, PieceSet};
+use dob_pieces::{Memory, PieceSet, Position};
 use dob_rank::Classes;
 use dob_unmove::plain as plain_back;
 use std::alloc::Global;
@@ -12,84 +12,61 @@ use std::rt::Clock;
 /// Measures both over the classes of the set.
 pub(crate) fn run<R: Print + Clock + AllocGlobal>(rt: &R, set: PieceSet) -> Result<()> {
     let classes = Classes::open(rt.alloc(), set)?;
-    compare_statuses(rt, &classes)?;
-    compare_moves(rt, &classes)?;
-    compare_predecessors(rt, &classes)
+    compare_rules(rt, &classes)?;
+    measure::list_into_one(rt, &classes, true)?;
+    list_plain_edges(rt, &classes)
 }
 
-// The statuses of the representatives.
-fn compare_statuses<R: Print + Clock>(rt: &R, classes: &Classes) -> Result<()> {
-    let count = classes.class_count();
-    let timer = Timer::start(rt, true)?;
-    println!(rt; "found {} open classes", open_classes(classes))?;
-    timer.tell(rt, &[(count, "class")])?;
-    let timer = Timer::start(rt, true)?;
+// The statuses and the moves of the representatives.
+fn compare_rules<R: Print + Clock + AllocGlobal>(rt: &R, classes: &Classes) -> Result<()> {
+    let positions = rules::representatives(rt.alloc(), classes)?;
+    rules::find_open(rt, &positions, true)?;
+    find_plain_open(rt, &positions)?;
+    rules::list_into_one(rt, &positions, true)?;
+    rules::list(rt, &positions, true)?;
+    list_plain_moves(rt, &positions)
+}
+
+fn find_plain_open<R: Print + Clock>(rt: &R, positions: &[Position]) -> Result<()> {
+    let rounds = Rounds::of(rt, true, || Ok(plain_open_positions(positions)))?;
     println!(rt;
-        "found {} open classes by the plain program",
-        plain_open_classes(classes)
+        "found {} open positions by the plain program",
+        rounds.found
     )?;
-    timer.tell(rt, &[(count, "class")])
+    rounds.tell(rt, &[(positions.len() as u64, "position")])
 }
 
-// The moves of the representatives.
-fn compare_moves<R: Print + Clock + AllocGlobal>(rt: &R, classes: &Classes) -> Result<()> {
-    let timer = Timer::start(rt, true)?;
-    let moves = count_moves(rt.alloc(), classes)?;
-    println!(rt; "listed {moves} moves")?;
-    timer.tell(rt, &[(moves, "move")])?;
-    let timer = Timer::start(rt, true)?;
-    let moves = count_plain_moves(rt.alloc(), classes)?;
-    println!(rt; "listed {moves} moves by the plain program")?;
-    timer.tell(rt, &[(moves, "move")])
+fn list_plain_moves<R: Print + Clock + AllocGlobal>(rt: &R, positions: &[Position]) -> Result<()> {
+    let rounds = Rounds::of(rt, true, || Ok(count_plain_moves(rt.alloc(), positions)?))?;
+    println!(rt; "listed {} moves by the plain program", rounds.found)?;
+    let count = positions.len() as u64;
+    rounds.tell(rt, &[(count, "position"), (rounds.found, "move")])
 }
 
-// The predecessors of the classes.
-fn compare_predecessors<R: Print + Clock + AllocGlobal>(rt: &R, classes: &Classes) -> Result<()> {
-    let timer = Timer::start(rt, true)?;
-    let edges = counts::edges_into_one_list(rt.alloc(), classes)?;
-    println!(rt; "listed {edges} edges")?;
-    timer.tell(rt, &[(edges, "edge")])?;
+// Once, since it takes so long.
+fn list_plain_edges<R: Print + Clock + AllocGlobal>(rt: &R, classes: &Classes) -> Result<()> {
     let timer = Timer::start(rt, true)?;
     let edges = count_plain_edges(rt.alloc(), classes)?;
     println!(rt; "listed {edges} edges by the plain program")?;
-    timer.tell(rt, &[(edges, "edge")])
+    timer.tell(rt, &[(classes.class_count(), "class"), (edges, "edge")])
 }
 
-// How many representatives are open.
-fn open_classes(classes: &Classes) -> u64 {
+// How many of the positions are open.
+fn plain_open_positions(positions: &[Position]) -> u64 {
     let mut found: u64 = 0;
-    for class in 0..classes.class_count() {
-        if dob_moves::status(&classes.class_at(class)) == Status::Open {
+    for position in positions {
+        if plain_rules::status(position) == Status::Open {
             found = found.saturating_add(1);
         }
     }
     found
 }
 
-fn plain_open_classes(classes: &Classes) -> u64 {
-    let mut found: u64 = 0;
-    for class in 0..classes.class_count() {
-        if plain_rules::status(&classes.class_at(class)) == Status::Open {
-            found = found.saturating_add(1);
-        }
-    }
-    found
-}
-
-// How many moves the representatives have.
-fn count_moves(alloc: Global, classes: &Classes) -> Result<u64, Memory> {
+// How many moves the positions have, by lists of their own.
+fn count_plain_moves(alloc: Global, positions: &[Position]) -> Result<u64, Memory> {
     let mut count: u64 = 0;
-    for class in 0..classes.class_count() {
-        let listed = dob_moves::moves(alloc, &classes.class_at(class))?;
-        count = count.saturating_add(listed.len() as u64);
-    }
-    Ok(count)
-}
-
-fn count_plain_moves(alloc: Global, classes: &Classes) -> Result<u64, Memory> {
-    let mut count: u64 = 0;
-    for class in 0..classes.class_count() {
-        let listed = plain_rules::moves(alloc, &classes.class_at(class))?;
+    for position in positions {
+        let listed = plain_rules::moves(alloc, position)?;
         count = count.saturating_add(listed.len() as u64);
     }
     Ok(count)
