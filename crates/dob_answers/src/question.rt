@@ -58,64 +58,77 @@ impl<'a> Question<'a> {
     pub(crate) fn read(line: &'a str) -> Option<Question<'a>> {
         let (word, rest) = line.split_once(' ')?;
         match word {
-            "moves" => Some(Question::Position(OfPosition::Moves, rest)),
-            "catch" => Some(Question::Position(OfPosition::Catch, rest)),
-            "value" => Some(Question::Position(OfPosition::Value, rest)),
-            "rank" => Some(Question::Position(OfPosition::Rank, rest)),
-            "class" => Some(Question::Position(OfPosition::Class, rest)),
-            "after" => {
-                let (number, text) = rest.split_once(' ')?;
-                let number = number.parse::<usize>().ok()?;
-                Some(Question::Position(OfPosition::After(number), text))
+            "moves" | "after" | "catch" | "value" | "rank" | "class" => {
+                let (matter, text) = OfPosition::read(word, rest)?;
+                Some(Question::Position(matter, text))
             }
-            "size" => Some(Question::Set(OfSet::Size, rest)),
-            "unrank" => {
-                let (set, rank) = set_and_number(rest)?;
-                Some(Question::Set(OfSet::Unrank(rank), set))
+            "size" | "unrank" | "classat" | "back" | "edges" => {
+                let (matter, set) = OfSet::read(word, rest)?;
+                Some(Question::Set(matter, set))
             }
-            "classat" => {
-                let (set, class) = set_and_number(rest)?;
-                Some(Question::Set(OfSet::ClassAt(class), set))
-            }
-            "back" => {
-                let (set, class) = set_and_number(rest)?;
-                Some(Question::Set(OfSet::Back(class), set))
-            }
-            "edges" => {
-                let (set, classes) = rest.split_once(' ')?;
-                let (from, into) = two_numbers(classes)?;
-                Some(Question::Set(OfSet::Edges { from, into }, set))
-            }
+            "apply" | "alone" | "built" | "drive" | "events" => Question::read_of_values(
+                word, rest,
+            ),
+            _ => Some(Question::Token(OfToken::read(word, rest)?)),
+        }
+    }
+
+    // The question with that first word about how the values of a piece set are found, which its other words begin with; none
+    // where there is no such question.
+    fn read_of_values(word: &str, rest: &'a str) -> Option<Question<'a>> {
+        let (set, rest) = rest.split_once(' ')?;
+        match word {
             "apply" => {
-                let (set, rest) = rest.split_once(' ')?;
                 let (class, changes) = rest.split_once(' ')?;
-                let class = class.parse::<u64>().ok()?;
-                Some(Question::Cell(class, set, changes))
+                Some(Question::Cell(class.parse::<u64>().ok()?, set, changes))
             }
-            "alone" => {
-                let (set, limit) = set_and_number(rest)?;
-                Some(Question::Build(set, limit))
-            }
-            "built" => {
-                let (set, nodes) = rest.split_once(' ')?;
-                let nodes = nodes.parse::<usize>().ok()?;
-                Some(Question::Crew(set, nodes))
-            }
-            "drive" | "events" => {
-                let (set, rest) = rest.split_once(' ')?;
+            "alone" => Some(Question::Build(set, rest.parse::<u64>().ok()?)),
+            "built" => Some(Question::Crew(set, rest.parse::<usize>().ok()?)),
+            _ => {
                 let (sizes, matter) = OfWorld::read(word, rest)?;
                 Some(Question::World(set, sizes, matter))
             }
-            _ => Some(Question::Token(OfToken::read(word, rest)?)),
         }
     }
 }
 
-/// A piece set's text, a space and a number.
-fn set_and_number(text: &str) -> Option<(&str, u64)> {
-    let (set, number) = text.split_once(' ')?;
-    let number = number.parse::<u64>().ok()?;
-    Some((set, number))
+impl OfPosition {
+    // The question with that first word, and the text of its position; none where there is no such question.
+    fn read<'a>(word: &str, rest: &'a str) -> Option<(OfPosition, &'a str)> {
+        match word {
+            "moves" => Some((OfPosition::Moves, rest)),
+            "after" => {
+                let (number, text) = rest.split_once(' ')?;
+                Some((OfPosition::After(number.parse::<usize>().ok()?), text))
+            }
+            "catch" => Some((OfPosition::Catch, rest)),
+            "value" => Some((OfPosition::Value, rest)),
+            "rank" => Some((OfPosition::Rank, rest)),
+            "class" => Some((OfPosition::Class, rest)),
+            _ => None,
+        }
+    }
+}
+
+impl OfSet {
+    // The question with that first word, and the text of its piece set; none where there is no such question.
+    fn read<'a>(word: &str, rest: &'a str) -> Option<(OfSet, &'a str)> {
+        if word == "size" {
+            return Some((OfSet::Size, rest));
+        }
+        let (set, rest) = rest.split_once(' ')?;
+        if word == "edges" {
+            let (from, into) = two_numbers(rest)?;
+            return Some((OfSet::Edges { from, into }, set));
+        }
+        let number = rest.parse::<u64>().ok()?;
+        match word {
+            "unrank" => Some((OfSet::Unrank(number), set)),
+            "classat" => Some((OfSet::ClassAt(number), set)),
+            "back" => Some((OfSet::Back(number), set)),
+            _ => None,
+        }
+    }
 }
 
 /// Two numbers with a space between them.
