@@ -35,8 +35,9 @@ fn measure_classes<R: Print + Clock + AllocGlobal + Files>(
     let classes = open(rt, set, timed)?;
     find_ranks(rt, set, timed)?;
     find_classes(rt, &classes, timed)?;
-    rules::run(rt, &classes, timed)?;
+    // before the positions are listed, since it tells of the most memory held so far
     builds::run(rt, &classes, timed)?;
+    rules::run(rt, &classes, timed)?;
     list_edges(rt, &classes, timed)
 }
 
