@@ -7,7 +7,7 @@ use crate::runner::Runner;
 
 impl Runner {
     /// Whether it has nothing to expand, to apply or to send, and no batch in a hand.
-    pub fn is_idle(&self) -> bool
+    pub(crate) fn is_idle(&self) -> bool
         ensures { IsTrue result → IsAtRest self.now }
     {
         if !self.node.is_idle() {

@@ -163,8 +163,8 @@ fn workers_of(
 }
 
 impl Runner {
-    /// Why the runner has failed, if it has.
-    pub fn failure(&self) -> Option<Cause>
+    // Why the runner has failed, if it has.
+    fn failure(&self) -> Option<Cause>
         ensures { result ≡ self.now.failed }
     {
         self.failed

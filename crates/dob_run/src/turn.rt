@@ -37,20 +37,6 @@ impl Runner {
         }
     }
 
-    /// The piece set whose classes the nodes own.
-    pub fn piece_set(&self) -> PieceSet
-        ensures { result ≡ self.now.set }
-    {
-        self.set
-    }
-
-    /// What the runner's seat has seen of the end.
-    pub fn halt(&self) -> Halt
-        ensures { result ≡ self.now.mail.seat.halt }
-    {
-        self.mail.seat.halt
-    }
-
     /// Whether the runner's seat has seen that the run ended or failed.
     pub fn stopped(&self) -> bool
         ensures { IsTrue result ↔ (self.now.mail.seat.halt ≢ Running) }
