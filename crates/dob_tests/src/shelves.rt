@@ -1,7 +1,6 @@
-// Files that are made, kept and found again, in memory and on a disk.
-use dob_cli::{DiskShelf, MemShelf, Shelf};
+// Files that are made, kept and found again on a disk.
+use dob_cli::{DiskShelf, Shelf};
 use dob_dbfile::{Sink, put_all, read_full};
-use std::alloc::{AllocError, Global};
 use std::fs;
 use std::process::Abort;
 
@@ -15,24 +14,6 @@ pub(crate) fn put<S: Shelf>(shelf: &mut S, name: &str, bytes: &[u8]) -> bool {
     let is_whole = put_all(&mut sink, bytes).is_ok() && !sink.failed();
     shelf.keep(name, sink);
     is_whole
-}
-
-// The bytes that the shelf has under the name, at most 8000; none where it hasn't the name.
-pub(crate) fn read_all<S: Shelf>(
-    alloc: Global,
-    shelf: &mut S,
-    name: &str,
-) -> Result<Vec<u8>, AllocError> {
-    let mut room = vec![in alloc; 0; 8000]?;
-    let Some(mut source) = shelf.find(name) else {
-        return Ok(Vec::new(alloc));
-    };
-    let count = match read_full(&mut source, &mut room) {
-        Ok(count) => count,
-        Err(_failed) => 0,
-    };
-    room.truncate(count);
-    Ok(room)
 }
 
 // Whether the shelf has just these bytes under the name, at most seven.
@@ -61,13 +42,6 @@ fn keeps_files<S: Shelf>(rt: &impl Abort, shelf: &mut S, other: &str) {
     assert!(rt; made.is_some());
     assert!(rt; has(shelf, NAME, b""));
     assert!(rt; has(shelf, other, b"other"));
-}
-
-#[test]
-fn files_in_memory(rt: HostRuntime) {
-    let mut shelf = MemShelf::new(rt.alloc());
-    assert!(rt; shelf.find(NAME).is_none());
-    keeps_files(&rt, &mut shelf, "other");
 }
 
 #[test]
