@@ -1,5 +1,5 @@
 // Runners that are turned by hand, one after the other, in one thread.
-ghost use Rattle.std.specs.Prelude.{◌≡◌, IsTrue, IfOk, ◌∷◌, []};
+ghost use Rattle.std.specs.Prelude.{◌≡◌, IfOk, ◌∷◌, []};
 ghost use Rattle.dob_rank.specs.Limits.{IsSmall};
 ghost use Rattle.dob_run.specs.Manned.{IsNewCrew};
 ghost use Rattle.dob_run.specs.Runners.{KeepsRunner};
@@ -7,7 +7,7 @@ ghost use Rattle.dob_run.specs.Runners.{KeepsRunner};
 use super::{is_done, is_table_of_lions, lions};
 use dob_board::{Board, Halt};
 use dob_node::Cause;
-use dob_pieces::{Memory, PieceSet};
+use dob_pieces::Memory;
 use dob_rank::Classes;
 use dob_run::{Free, Gate, Runner, crew, finish};
 use std::alloc::Global;
@@ -19,6 +19,8 @@ use std::test::Fail;
 // The classes of lions alone, and a crew of two nodes that own them, with batches of one item and channels for one batch.
 fn two_runners(rt: &(impl Wait + Abort), alloc: Global) -> (Classes, Board, Runner, Runner)
     ensures small { IsSmall result.0.set }
+    ensures first { result.0.set ≡ result.2.set }
+    ensures second { result.0.set ≡ result.3.set }
     ensures crew { IsNewCrew result.0.set 2 1 1 result.1 (result.2 ∷ result.3 ∷ []) }
 {
     let classes = Classes::open(alloc, lions(rt)).expect(rt, "classes");
@@ -39,13 +41,6 @@ fn both(alloc: Global, first: Runner, second: Runner) -> Result<Vec<Runner>, Mem
     Ok(runners)
 }
 
-// Whether the classes are those of the piece set.
-fn are_of(classes: &Classes, set: PieceSet) -> bool
-    ensures { IsTrue result → classes.now.set ≡ set }
-{
-    classes.set == set
-}
-
 // Turns a runner that hasn't stopped.
 fn turn_once<G: Gate>(
     rt: &(impl Wait + Abort),
@@ -53,12 +48,11 @@ fn turn_once<G: Gate>(
     classes: &Classes,
     gate: &G,
 ) -> Result<Halt, Cause>
-    ensures { KeepsRunner runner.old runner.new }
+    requires { classes.now.set ≡ runner.old.set }
+    ensures keeps { KeepsRunner runner.old runner.new }
+    ensures set { classes.now.set ≡ runner.new.set }
 {
     assert!(rt; !runner.stopped());
-    if !are_of(classes, runner.piece_set()) {
-        panic!(rt; "the classes of another piece set")
-    }
     runner.turn(rt, classes, gate)
 }
 
@@ -69,8 +63,11 @@ fn turn_to_the_end(
     second: &mut Runner,
     classes: &Classes,
 )
+    requires first { classes.now.set ≡ first.old.set }
+    requires second { classes.now.set ≡ second.old.set }
     ensures first { KeepsRunner first.old first.new }
     ensures second { KeepsRunner second.old second.new }
+    ensures set { classes.now.set ≡ second.new.set }
 {
     for _ in 0..20_000 {
         let halt = turn_once(rt, first, classes, &Free);
@@ -86,10 +83,7 @@ fn turn_to_the_end(
 fn turned_by_hand(rt: HostRuntime) -> Result<(), Fail> {
     let (classes, board, mut first, mut second) = two_runners(&rt, rt.alloc());
     turn_to_the_end(&rt, &mut first, &mut second, &classes);
-    assert!(rt; first.halt() == Halt::Ended);
     assert!(rt; turn_once(&rt, &mut second, &classes, &Free) == Ok(Halt::Ended));
-    assert!(rt; first.is_idle());
-    assert!(rt; second.is_idle());
     assert!(rt; first.stopped());
     assert!(rt; second.stopped());
     let runners = both(rt.alloc(), first, second)?;
@@ -129,10 +123,7 @@ fn held_after_three_turns(rt: HostRuntime) -> Result<(), Fail> {
     assert!(rt; turn_once(&rt, &mut second, &classes, &gate) == Err(Cause::Held));
     assert!(rt; gate.asked.load(Ordering::SeqCst) == 4);
     assert!(rt; second.stopped());
-    assert!(rt; second.halt() == Halt::Failed(1));
     assert!(rt; turn_once(&rt, &mut first, &classes, &Free) == Ok(Halt::Failed(1)));
-    assert!(rt; first.failure().is_none());
-    assert!(rt; second.failure() == Some(Cause::Held));
     Ok(())
 }
 
@@ -145,8 +136,5 @@ fn held_after_the_end(rt: HostRuntime) -> Result<(), Fail> {
         asked: AtomicUsize::new(0),
     };
     assert!(rt; turn_once(&rt, &mut second, &classes, &gate) == Err(Cause::Held));
-    assert!(rt; second.halt() == Halt::Ended);
-    assert!(rt; second.failure() == Some(Cause::Held));
-    assert!(rt; second.is_idle());
     Ok(())
 }

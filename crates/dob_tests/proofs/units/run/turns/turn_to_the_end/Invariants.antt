@@ -1,4 +1,5 @@
--- Both runners keep their places so far.
+-- Both runners keep their places so far, and are of the classes' set.
+use Rattle.std.proofs.Common.{◌≡◌}
 use Rattle.dob_run.specs.Runners.{KeepsRunner}
 use Rattle.dob_tests.proofs.units.run.turns.turn_to_the_end.Given as goal
 
@@ -6,4 +7,5 @@ abbrev pub invariant-loop : goal.invariant-loop
 invariant-loop g l = record {
   one : KeepsRunner l.fn.first l.first;
   other : KeepsRunner l.fn.second l.second;
+  sets : (l.classes.set ≡ l.first.set) × (l.classes.set ≡ l.second.set);
 }

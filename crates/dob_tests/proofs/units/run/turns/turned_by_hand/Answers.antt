@@ -31,8 +31,8 @@ ran g c =
     let first : Runner = c.turn_to_the_end.new.first in
     let second : Runner = c.turn_once.new.runner in
     two_ran made.result.0.set made.result.1 made.result.2 made.result.3 first second c.in_ok-runners.runners.items made.ensures.small made.ensures.crew
-    c.turn_to_the_end.ensures.first (runner_trans made.result.3 c.turn_to_the_end.new.second second c.turn_to_the_end.ensures.second c.turn_once.ensures)
-    (c.stopped.ensures.0 c.if-assert-5.false) (c.stopped-2.ensures.0 c.if-assert-6.false) c.in_ok-runners.ensures
+    c.turn_to_the_end.ensures.first (runner_trans made.result.3 c.turn_to_the_end.new.second second c.turn_to_the_end.ensures.second c.turn_once.ensures.keeps)
+    (c.stopped.ensures.0 c.if-assert-2.false) (c.stopped-2.ensures.0 c.if-assert-3.false) c.in_ok-runners.ensures
 
 pub finish-requires-clause-crew : goal.finish-requires-clause-crew
 finish-requires-clause-crew g c =
