@@ -9,7 +9,7 @@ use super::Order;
 use clap::ArgMatches;
 
 /// What the matches of `value` ask for.
-pub fn value_order<'a>(inner: &ArgMatches<'a>) -> Option<Order<'a>>
+pub(super) fn value_order<'a>(inner: &ArgMatches<'a>) -> Option<Order<'a>>
     ensures { (texts : List Text) → Finds value_form texts (Some (codes "value", rows_of (found_of inner.now)))
         → IsSomeAnd result (IsOrder (codes "value") texts) }
 {
@@ -17,7 +17,7 @@ pub fn value_order<'a>(inner: &ArgMatches<'a>) -> Option<Order<'a>>
 }
 
 /// What the matches of `count` ask for.
-pub fn count_order<'a>(inner: &ArgMatches<'a>) -> Option<Order<'a>>
+pub(super) fn count_order<'a>(inner: &ArgMatches<'a>) -> Option<Order<'a>>
     ensures { (texts : List Text) → Finds count_form texts (Some (codes "count", rows_of (found_of inner.now)))
         → IsSomeAnd result (IsOrder (codes "count") texts) }
 {
@@ -25,7 +25,7 @@ pub fn count_order<'a>(inner: &ArgMatches<'a>) -> Option<Order<'a>>
 }
 
 /// What the matches of `build` ask for.
-pub fn build_order<'a>(inner: &ArgMatches<'a>) -> Option<Order<'a>>
+pub(super) fn build_order<'a>(inner: &ArgMatches<'a>) -> Option<Order<'a>>
     ensures { (texts : List Text) → Finds build_form texts (Some (codes "build", rows_of (found_of inner.now)))
         → IsSomeAnd result (IsOrder (codes "build") texts) }
 {
@@ -37,7 +37,7 @@ pub fn build_order<'a>(inner: &ArgMatches<'a>) -> Option<Order<'a>>
 }
 
 /// What the matches of `probe` ask for.
-pub fn probe_order<'a>(inner: &ArgMatches<'a>) -> Option<Order<'a>>
+pub(super) fn probe_order<'a>(inner: &ArgMatches<'a>) -> Option<Order<'a>>
     ensures { (texts : List Text) → Finds probe_form texts (Some (codes "probe", rows_of (found_of inner.now)))
         → IsSomeAnd result (IsOrder (codes "probe") texts) }
 {
@@ -48,7 +48,7 @@ pub fn probe_order<'a>(inner: &ArgMatches<'a>) -> Option<Order<'a>>
 }
 
 /// What the matches of `line` ask for.
-pub fn line_order<'a>(inner: &ArgMatches<'a>) -> Option<Order<'a>>
+pub(super) fn line_order<'a>(inner: &ArgMatches<'a>) -> Option<Order<'a>>
     ensures { (texts : List Text) → Finds line_form texts (Some (codes "line", rows_of (found_of inner.now)))
         → IsSomeAnd result (IsOrder (codes "line") texts) }
 {
@@ -59,7 +59,7 @@ pub fn line_order<'a>(inner: &ArgMatches<'a>) -> Option<Order<'a>>
 }
 
 /// What the matches of `check` ask for.
-pub fn check_order<'a>(inner: &ArgMatches<'a>) -> Option<Order<'a>>
+pub(super) fn check_order<'a>(inner: &ArgMatches<'a>) -> Option<Order<'a>>
     ensures { (texts : List Text) → Finds check_form texts (Some (codes "check", rows_of (found_of inner.now)))
         → IsSomeAnd result (IsOrder (codes "check") texts) }
 {

@@ -9,7 +9,7 @@ use clap::Command;
 use std::alloc::{AllocError, Global};
 
 /// The program's command with `value` and `count`, which take no file.
-pub fn fileless_command<'a>(alloc: Global) -> Result<Command<'a>, AllocError>
+pub(super) fn fileless_command<'a>(alloc: Global) -> Result<Command<'a>, AllocError>
     ensures { IfOk result (HasShape (with_subcommand (with_subcommand bare_app (form_app value_form).top)
         (form_app count_form).top)) }
 {
@@ -19,7 +19,7 @@ pub fn fileless_command<'a>(alloc: Global) -> Result<Command<'a>, AllocError>
 }
 
 /// The program's command with `value`, `count`, `build` and `probe`.
-pub fn table_command<'a>(alloc: Global) -> Result<Command<'a>, AllocError>
+pub(super) fn table_command<'a>(alloc: Global) -> Result<Command<'a>, AllocError>
     ensures { IfOk result (HasShape (with_subcommand (with_subcommand (with_subcommand (with_subcommand bare_app
         (form_app value_form).top) (form_app count_form).top) (form_app build_form).top) (form_app probe_form).top)) }
 {
