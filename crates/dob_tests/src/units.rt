@@ -5,6 +5,7 @@ mod chan;
 mod dbfile;
 mod link;
 mod node;
+mod outboxes;
 mod pieces;
 mod probe;
 mod rank;

@@ -3,13 +3,11 @@
 ghost use Rattle.std.specs.Prelude.{◌≡◌, OnOk, IfOk};
 ghost use Rattle.dob_chan.specs.Ends.{ArePaired, SendsOnSame, TakesOnSame};
 
+use super::outboxes::{add, won};
 use dob_chan::{SendEnd, TakeEnd, pair, rejoin};
 use dob_pieces::{Memory, PieceSet};
 use dob_rank::Classes;
-use dob_share::Settlement;
-use dob_unmove::back;
-use dob_update::{Batch, Outbox, push_items};
-use dob_value::Value;
+use dob_update::{Batch, Outbox};
 use std::alloc::Global;
 use std::process::Abort;
 use std::sync::Wait;
@@ -18,34 +16,6 @@ use std::thread;
 
 // A class that five moves of positions of owner 1 lead into.
 const CLASS: u64 = 16;
-
-// Adds a settlement of the class with its items.
-fn add(
-    rt: &impl Abort,
-    alloc: Global,
-    classes: &Classes,
-    outbox: &mut Outbox,
-    number: u64,
-) -> Result<(), Memory>
-    requires set { outbox.old.set ≡ classes.now.set }
-    requires n { outbox.old.n ≡ 2 }
-    requires to { outbox.old.to ≡ 1 }
-    ensures set { OnOk result (outbox.new.set ≡ classes.now.set) }
-    ensures n { OnOk result (outbox.new.n ≡ 2) }
-    ensures to { OnOk result (outbox.new.to ≡ 1) }
-{
-    assert!(rt; CLASS < classes.class_count());
-    let settlement = Settlement {
-        number,
-        class: CLASS,
-        was: Value::Draw,
-        now: Value::Win(7),
-    };
-    let predecessors = back(alloc, classes, CLASS)?;
-    let mut items = Vec::new(alloc);
-    push_items(&mut items, settlement, &predecessors, 2, 1)?;
-    outbox.add(settlement, &items)
-}
 
 // The next batch.
 fn cut(rt: &impl Abort, outbox: &mut Outbox) -> Result<Batch, Memory> {
@@ -59,7 +29,7 @@ fn batches(rt: &impl Abort, alloc: Global, count: u64) -> Result<Vec<Batch>, Mem
     let classes = Classes::open(alloc, set).expect(rt, "classes");
     let mut outbox = Outbox::new(alloc, set, 2, 0, 1);
     for number in 0..count {
-        add(rt, alloc, &classes, &mut outbox, number)?;
+        add(rt, alloc, &classes, &mut outbox, won(number, CLASS))?;
     }
     let mut batches = Vec::new(alloc);
     for _ in 0..count {

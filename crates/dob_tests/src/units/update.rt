@@ -3,6 +3,7 @@ ghost use Rattle.std.specs.Prelude.{◌≡◌, OnOk};
 ghost use Rattle.dob_pieces.specs.declared.piece_set.PieceSet.{PieceSet as Set};
 ghost use Rattle.dob_update.specs.Batches.{OutboxView};
 
+use super::outboxes::{add, won};
 use dob_pieces::{Memory, PieceSet};
 use dob_rank::Classes;
 use dob_share::Settlement;
@@ -16,38 +17,6 @@ use std::process::Abort;
 fn lion_classes(rt: &impl Abort, alloc: Global) -> Classes {
     let set = PieceSet::read("000").expect(rt, "a set");
     Classes::open(alloc, set).expect(rt, "classes")
-}
-
-// The settlement of a class that turns from a draw to a win in 7 plies.
-fn won(number: u64, class: u64) -> Settlement {
-    Settlement {
-        number,
-        class,
-        was: Value::Draw,
-        now: Value::Win(7),
-    }
-}
-
-// Adds the settlement with its items.
-fn add(
-    rt: &impl Abort,
-    alloc: Global,
-    classes: &Classes,
-    outbox: &mut Outbox,
-    settlement: Settlement,
-) -> Result<(), Memory>
-    requires set { outbox.old.set ≡ classes.now.set }
-    requires n { outbox.old.n ≡ 2 }
-    requires to { outbox.old.to ≡ 1 }
-    ensures set { OnOk result (outbox.new.set ≡ classes.now.set) }
-    ensures n { OnOk result (outbox.new.n ≡ 2) }
-    ensures to { OnOk result (outbox.new.to ≡ 1) }
-{
-    assert!(rt; settlement.class < classes.class_count());
-    let predecessors = back(alloc, classes, settlement.class)?;
-    let mut items = Vec::new(alloc);
-    push_items(&mut items, settlement, &predecessors, 2, 1)?;
-    outbox.add(settlement, &items)
 }
 
 // Adds the settlement with its items, and takes it back.

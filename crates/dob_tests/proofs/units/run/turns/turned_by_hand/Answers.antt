@@ -1,5 +1,5 @@
 -- The crew is closed as one whose runners have stopped.
-use Rattle.std.proofs.Common.{◌≡◌, ◌≢◌, List, [], ◌∷◌, sym, subst, arith}
+use Rattle.std.proofs.Common.{◌≡◌, ◌≢◌, List, [], ◌∷◌, sym, subst, arith, rules}
 use Rattle.std.specs.List.{AllZip}
 use Rattle.dob_pieces.specs.declared.piece_set.PieceSet.{PieceSet}
 use Rattle.dob_rank.specs.Limits.{IsSmall}
@@ -32,7 +32,7 @@ ran g c =
     let second : Runner = c.turn_once.new.runner in
     two_ran made.result.0.set made.result.1 made.result.2 made.result.3 first second c.in_ok-runners.runners.items made.ensures.small made.ensures.crew
     c.turn_to_the_end.ensures.first (runner_trans made.result.3 c.turn_to_the_end.new.second second c.turn_to_the_end.ensures.second c.turn_once.ensures.keeps)
-    (c.stopped.ensures.0 c.if-assert-2.false) (c.stopped-2.ensures.0 c.if-assert-3.false) c.in_ok-runners.ensures
+    (search rules) (search rules) c.in_ok-runners.ensures
 
 pub finish-requires-clause-crew : goal.finish-requires-clause-crew
 finish-requires-clause-crew g c =
