@@ -1,5 +1,5 @@
--- A set whose classes were opened is small.
-use Rattle.std.proofs.Common.{◌≡◌, ◌↔◌, Result, Ok, Err, inl, inr, sym, ◌∙◌, subst}
+-- A set whose classes were opened is small, and the runners of a new crew are of it.
+use Rattle.std.proofs.Common.{◌≡◌, ◌↔◌, Result, Ok, Err, inl, inr, sym, ◌∙◌, subst, [], ◌∷◌, refl, rules}
 use Rattle.std.specs.Prelude.{IfOk}
 use Rattle.std.specs.Result.{IsErrOf}
 use Rattle.std.proofs.lemmas.Bool.{cases_lt}
@@ -10,6 +10,9 @@ use Rattle.dob_rank.specs.declared.limit.TheConstants.{MOST_PIECES}
 use Rattle.dob_rank.specs.declared.classes.Classes.{Classes}
 use Rattle.dob_rank.specs.declared.fault.Fault.{Fault as RankFault}
 use Rattle.dob_rank.specs.declared.fault.Fault.TheVariants as rank
+use Rattle.dob_board.specs.declared.board.Board.{Board}
+use Rattle.dob_run.specs.declared.runner.Runner.{Runner}
+use Rattle.dob_run.specs.Manned.{IsNewCrew}
 use Rattle.dob_tests.proofs.units.run.turns.two_runners.Goals as goal
 
 opened_small : (set : PieceSet) (result : Result Classes RankFault) (classes : Classes) → result ≡ Ok classes → IfOk result (λ c. c.set ≡ set) →
@@ -21,3 +24,16 @@ opened_small set result classes is same large = elim (cases_lt MOST_PIECES (piec
 
 pub returns-clause-small : goal.returns-clause-small
 returns-clause-small g c = opened_small c.lions.result c.open.result c.expect-classes.result c.expect-classes.ensures c.open.ensures.set c.open.ensures.too_large
+
+are_of : (set : PieceSet) (board : Board) (one other : Runner) → IsNewCrew set 2 1 1 board (one ∷ other ∷ []) → (set ≡ one.set) × (set ≡ other.set)
+are_of set board one other new = (sym (new.each 0 one refl).set_is, sym (new.each 1 other refl).set_is)
+
+pub returns-clause-first : goal.returns-clause-first
+returns-clause-first g c =
+    let new : IsNewCrew c.expect-classes.result.set 2 1 1 c.expect-board.result.0 (c.expect-first.result ∷ c.expect-second.result ∷ []) = search rules in
+    (are_of c.expect-classes.result.set c.expect-board.result.0 c.expect-first.result c.expect-second.result new).0
+
+pub returns-clause-second : goal.returns-clause-second
+returns-clause-second g c =
+    let new : IsNewCrew c.expect-classes.result.set 2 1 1 c.expect-board.result.0 (c.expect-first.result ∷ c.expect-second.result ∷ []) = search rules in
+    (are_of c.expect-classes.result.set c.expect-board.result.0 c.expect-first.result c.expect-second.result new).1
