@@ -155,7 +155,7 @@ image_before set p s e is own other low_s low_e less =
     (six_before (counts_first (mirrored p)) (counts_first p) (mirrored_square s) (mirrored_square e) s e (rest_of (mirrored p)) (rest_of p)
     (counts_first-mirrored p is.legal.squares) less))
 
-either_true : (a b : Bool) → (a || b) ≡ true → (a ≡ true) ⊎ (b ≡ true)
+pub either_true : (a b : Bool) → (a || b) ≡ true → (a ≡ true) ⊎ (b ≡ true)
 either_true true b h = inl refl
 either_true false b h = inr h
 

@@ -16,6 +16,7 @@ pub mod Edges  -- the predecessors are that one list
 -- Ways that are skipped.
 pub mod Threats  -- who could catch the enemy lion before the move
 pub mod Homes  -- where the mover's lion of a representative stands
+pub mod LionsBefore  -- and where it stood before the ways that are gone through
 pub mod Gathered  -- what the ways add, one list after the other
 pub mod Dead  -- ways that lead back to no open representative
 pub mod Standing  -- which ways a piece can have made

@@ -32,11 +32,11 @@ use Rattle.dob_unmove.proofs.Undone.{Goes-from_undo}
 use Rattle.dob_pieces.specs.Masks.{attacks_by, attacks}
 use Rattle.dob_unmove.specs.Threats.{elsewhere, stood_before, AreAttackers, IsThreat}
 
-abbrev side_of : Cell → Side
+abbrev pub side_of : Cell → Side
 side_of None = Enemy
 side_of (Some piece) = piece.side
 
-abbrev kind_of : Cell → Kind
+abbrev pub kind_of : Cell → Kind
 kind_of None = Hen
 kind_of (Some piece) = piece.kind
 
@@ -196,7 +196,7 @@ module _ (after : Setup) (threat : Threat) (t : IsTurned IsLegal after) (h : IsT
         (let low = can.on_board in
         let twelve = turned_squares after t in let same = length-set after.board to (enemy_cell caught) in omega (arith, low, twelve, same))
 
-    at_to : at before to ≡ enemy_cell caught
+    pub at_to : at before to ≡ enemy_cell caught
     unfolding earlier
     at_to =
         get_or-set_other (set after.board to (enemy_cell caught)) from to (Some (piece_of Mover kind)) None to_from
@@ -258,7 +258,7 @@ module _ (after : Setup) (threat : Threat) (t : IsTurned IsLegal after) (h : IsT
     abbrev undropped : Setup
     undropped = earlier after (Unput kind to)
 
-    at_drop : at undropped to ≡ None
+    pub at_drop : at undropped to ≡ None
     unfolding earlier
     at_drop = get_or-set_same after.board to None None (within-from_piece after to (piece_of Mover (kind_on_board kind)) can)
 

@@ -1,5 +1,5 @@
 -- Which ways to take a move back can lead to an open representative, as sets of squares.
-use Rattle.std.specs.Prelude.{◌≡◌, ℕ, ◌==◌, ◌&&◌, ◌||◌, nat_lt, not, Bool, true, Some}
+use Rattle.std.specs.Prelude.{◌≡◌, ℕ, ◌⊎◌, ◌==◌, ◌&&◌, ◌||◌, nat_lt, not, Bool, true, Some}
 use Rattle.dob_pieces.specs.declared.kind.Kind.{Kind}
 use Rattle.dob_pieces.specs.declared.kind.Kind.TheVariants.{Lion}
 use Rattle.dob_pieces.specs.declared.kind.Side.TheVariants.{Mover}
@@ -23,6 +23,10 @@ is_home lion square = nat_lt square 9 && ((column square == 0) || ((column squar
 -- the mover's lion stands on such a square, or it doesn't
 abbrev pub TellsHome : Setup → ℕ → Bool → Type 0
 TellsHome after lion stays = (square : ℕ) → at after square ≡ Some (piece_of Mover Lion) → is_home lion square ≡ stays
+
+-- the mover's lion stands on such a square, or it is what the last move took there
+abbrev pub HasLionHome : Setup → ℕ → ℕ → Type 0
+HasLionHome after lion to = (square : ℕ) → at after square ≡ Some (piece_of Mover Lion) → (square ≡ to) ⊎ (is_home lion square ≡ true)
 
 -- The last move may have ended there: a piece of the mover stands there, no other one attacks the enemy lion, and the mover's
 -- lion stood on such a square before.

@@ -2,7 +2,7 @@
 ghost use Rattle.std.specs.Prelude.{◌≡◌, ◌↔◌, true, false, ◌<◌, ℕ, ◌∷◌, [], Some, IsTrue, IfOk, OnOk};
 ghost use Rattle.dob_pieces.specs.declared.setup.Setup.{Setup};
 ghost use Rattle.dob_pieces.specs.Pieces.{kind_on_board};
-ghost use Rattle.dob_pieces.specs.Setups.{at, piece_of, turned, mirrored};
+ghost use Rattle.dob_pieces.specs.Setups.{at, piece_of, turned, mirrored, HasLionOffFarRow};
 ghost use Rattle.dob_pieces.specs.declared.kind.Kind.{Kind};
 ghost use Rattle.dob_pieces.specs.declared.kind.Side.TheVariants.{Mover};
 ghost use Rattle.dob_rank.specs.Marks.{classes_of};
@@ -14,9 +14,9 @@ ghost use Rattle.dob_unmove.specs.Classes.{IsFirstIn};
 ghost use Rattle.dob_unmove.specs.Gathers.{Finds, Gathers};
 ghost use Rattle.dob_unmove.specs.Threats.{elsewhere, stood_before};
 ghost use Rattle.dob_unmove.specs.Walks.{stands, uncatch, unsteps_from, unsteps, unputs, undoes_at, undoes};
-ghost use Rattle.dob_unmove.specs.Ways.{may_come, AreWays, CanWalk};
+ghost use Rattle.dob_unmove.specs.Ways.{HasLionHome, may_come, AreWays, CanWalk};
 
-use crate::earlier::open_before;
+use crate::earlier::position_before;
 use crate::images::mirrored_masks;
 use crate::plain::class_of_first;
 use crate::undo::Undo;
@@ -58,6 +58,7 @@ fn gather_at(
 ) -> Result<(), Memory>
     requires walk { CanWalk classes.now.set after.now ways.now }
     requires calm { elsewhere ways.now.threat.attackers to ≡ false }
+    requires home { HasLionHome after.now ways.now.threat.lion to }
     ensures { OnOk result (Gathers (IsFirstIn classes.now.set) after.now (undoes_at after.now to) found.old.items found.new.items) }
 {
     let Some(piece) = after.at(to) else {
@@ -80,6 +81,7 @@ fn gather_kind(
 ) -> Result<(), Memory>
     requires walk { CanWalk classes.now.set after.now ways.now }
     requires calm { elsewhere ways.now.threat.attackers to ≡ false }
+    requires home { HasLionHome after.now ways.now.threat.lion to }
     requires stands { at after.now to ≡ Some (piece_of Mover kind) }
     ensures { OnOk result (Gathers (IsFirstIn classes.now.set) after.now (undoes_at after.now to) found.old.items found.new.items) }
 {
@@ -109,6 +111,7 @@ fn gather_chick(
 ) -> Result<(), Memory>
     requires walk { CanWalk classes.now.set after.now ways.now }
     requires calm { elsewhere ways.now.threat.attackers to ≡ false }
+    requires home { HasLionHome after.now ways.now.threat.lion to }
     requires stands { at after.now to ≡ Some (piece_of Mover Kind.Chick) }
     ensures { OnOk result (Gathers (IsFirstIn classes.now.set) after.now (undoes_at after.now to) found.old.items found.new.items) }
 {
@@ -128,6 +131,7 @@ fn gather_hen(
 ) -> Result<(), Memory>
     requires walk { CanWalk classes.now.set after.now ways.now }
     requires calm { elsewhere ways.now.threat.attackers to ≡ false }
+    requires home { HasLionHome after.now ways.now.threat.lion to }
     requires stands { at after.now to ≡ Some (piece_of Mover Kind.Hen) }
     ensures { OnOk result (Gathers (IsFirstIn classes.now.set) after.now (undoes_at after.now to) found.old.items found.new.items) }
 {
@@ -148,6 +152,7 @@ fn gather_steps(
 ) -> Result<(), Memory>
     requires walk { CanWalk classes.now.set after.now ways.now }
     requires calm { elsewhere ways.now.threat.attackers to ≡ false }
+    requires home { HasLionHome after.now ways.now.threat.lion to }
     requires stands { stands (at after.now to) (arrival kind to) ≡ true }
     ensures { OnOk result (Gathers (IsFirstIn classes.now.set) after.now (unsteps after.now kind to) found.old.items found.new.items) }
 {
@@ -173,6 +178,7 @@ fn gather_steps_from(
 ) -> Result<(), Memory>
     requires walk { CanWalk classes.now.set after.now ways.now }
     requires calm { elsewhere ways.now.threat.attackers to ≡ false }
+    requires home { HasLionHome after.now ways.now.threat.lion to }
     requires stands { stands (at after.now to) (arrival kind to) ≡ true }
     requires comes { may_come after.now ways.now.threat.lion kind to from ≡ true }
     ensures { OnOk result (Gathers (IsFirstIn classes.now.set) after.now (unsteps_from after.now kind to from) found.old.items found.new.items) }
@@ -205,6 +211,8 @@ fn gather_catch(
     requires walk { CanWalk classes.now.set after.now ways.now }
     requires step { CanUndo after.now (Undo.Unstep kind from to None) }
     requires calm { stood_before ways.now.threat (Undo.Unstep kind from to None) ≡ false }
+    requires home { HasLionHome after.now ways.now.threat.lion to }
+    requires comes { may_come after.now ways.now.threat.lion kind to from ≡ true }
     ensures { OnOk result (Gathers (IsFirstIn classes.now.set) after.now (uncatch after.now kind from to caught) found.old.items found.new.items) }
 {
     if !holds_caught(&after.hands.mover, caught) {
@@ -230,6 +238,7 @@ fn gather_put(
 ) -> Result<(), Memory>
     requires walk { CanWalk classes.now.set after.now ways.now }
     requires calm { elsewhere ways.now.threat.attackers to ≡ false }
+    requires home { HasLionHome after.now ways.now.threat.lion to }
     requires stands { at after.now to ≡ Some (piece_of Mover (kind_on_board kind)) }
     ensures { OnOk result (Gathers (IsFirstIn classes.now.set) after.now (unputs after.now kind to) found.old.items found.new.items) }
 {
@@ -247,6 +256,7 @@ fn gather_one(
     requires walk { CanWalk classes.now.set after.now ways.now }
     requires can { CanUndo after.now undo }
     requires calm { stood_before ways.now.threat undo ≡ false }
+    requires home { HasLionOffFarRow (earlier after.now undo) }
     ensures { OnOk result (Gathers (IsFirstIn classes.now.set) after.now (undo ∷ []) found.old.items found.new.items) }
 {
     if let Some(class) = class_before(classes, after, ways, undo) {
@@ -260,12 +270,10 @@ fn class_before(classes: &Classes, after: &Setup, ways: &Ways, undo: Undo) -> Op
     requires walk { CanWalk classes.now.set after.now ways.now }
     requires can { CanUndo after.now undo }
     requires calm { stood_before ways.now.threat undo ≡ false }
+    requires home { HasLionOffFarRow (earlier after.now undo) }
     ensures { Finds (IsFirstIn classes.now.set) (earlier after.now undo) result }
 {
-    match open_before(after, undo) {
-        None => None,
-        Some(position) => class_of_first(classes, &position),
-    }
+    class_of_first(classes, &position_before(after, undo))
 }
 
 /// Whether the representative is its own mirror image. What is known of the turned setup says mostly that it isn't.

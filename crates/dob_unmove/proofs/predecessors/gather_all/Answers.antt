@@ -5,6 +5,9 @@ use Rattle.dob_unmove.specs.Walks.{undoes_at, undoes}
 use Rattle.dob_unmove.specs.Ways.{may_end}
 use Rattle.dob_unmove.proofs.Gathered.{gathered_start, gathered_less, passes_lowest, gathered_next, gathered_end}
 use Rattle.dob_unmove.proofs.Dead.{ends_dead, calm_end}
+use Rattle.dob_unmove.proofs.Kept.{legal_turned}
+use Rattle.dob_unmove.proofs.LionsBefore.{end_home}
+use Rattle.dob_unmove.proofs.Threats.{turned_lions}
 use Rattle.dob_unmove.proofs.predecessors.gather_all.Goals as goal
 
 pub loop-left-init : goal.loop-left-init
@@ -25,6 +28,15 @@ pub gather_at-requires-clause-calm : goal.gather_at-requires-clause-calm
 gather_at-requires-clause-calm c =
     let w = c.requires in
     calm_end c.args.after.now c.args.ways.now.threat w.ways_are.stays c.lowest_square-to.result
+    (passes_lowest (IsFirstIn c.args.classes.now.set) c.args.after.now (may_end c.args.after.now c.args.ways.now.threat w.ways_are.stays)
+    (undoes_at c.args.after.now)
+    c.loop-left.left c.lowest_square-to.result _ _ (c.loop-left.invariant w) (omega arith) c.lowest_square-to.ensures)
+
+pub gather_at-requires-clause-home : goal.gather_at-requires-clause-home
+gather_at-requires-clause-home c =
+    let w = c.requires in
+    end_home c.args.after.now c.args.ways.now.threat w.ways_are.stays c.lowest_square-to.result
+    (turned_lions c.args.after.now (legal_turned c.args.classes.now.set c.args.after.now w.of_set)) w.ways_are.home_is
     (passes_lowest (IsFirstIn c.args.classes.now.set) c.args.after.now (may_end c.args.after.now c.args.ways.now.threat w.ways_are.stays)
     (undoes_at c.args.after.now)
     c.loop-left.left c.lowest_square-to.result _ _ (c.loop-left.invariant w) (omega arith) c.lowest_square-to.ensures)

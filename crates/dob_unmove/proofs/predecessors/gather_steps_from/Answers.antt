@@ -1,8 +1,17 @@
 -- The step without a catch, and then each catch.
+use Rattle.std.proofs.Common.{None, rules}
 use Rattle.std.proofs.lemmas.Result.{on_ok_weaker}
 use Rattle.dob_unmove.specs.Classes.{IsFirstIn}
 use Rattle.dob_unmove.proofs.Dead.{comes_between, steps_from}
+use Rattle.dob_unmove.proofs.Kept.{legal_turned}
+use Rattle.dob_unmove.proofs.LionsBefore.{step_home}
 use Rattle.dob_unmove.proofs.predecessors.gather_steps_from.Goals as goal
+
+pub gather_one-requires-clause-home : goal.gather_one-requires-clause-home
+gather_one-requires-clause-home c =
+    let w = c.requires.walk in
+    step_home c.args.after.now c.args.ways.now.threat (legal_turned c.args.classes.now.set c.args.after.now w.of_set) w.ways_are.threat_is
+    c.args.kind c.args.from c.args.to None (search rules) c.requires.home c.requires.comes
 
 pub returns : goal.returns
 returns c =

@@ -1,0 +1,91 @@
+-- Before each way that is gone through the mover's lion stood off row 4: it moved from a home, or it stands on one.
+use Rattle.std.proofs.Common.{◌≡◌, ◌≢◌, ℕ, ◌≤◌, nat_lt, ◌&&◌, ◌||◌, Bool, true, Option, Some, None, refl, sym, ap, ◌∙◌, inl, inr, arith}
+use Rattle.std.proofs.lemmas.Bool.{and_parts, ltb-true, cases_eq}
+use Rattle.std.proofs.lemmas.List.{get_or-set_other}
+use Rattle.dob_pieces.specs.declared.kind.Kind.{Kind}
+use Rattle.dob_pieces.specs.declared.kind.Kind.TheVariants.{Lion, Giraffe, Elephant, Chick, Hen}
+use Rattle.dob_pieces.specs.declared.kind.HandKind.{HandKind}
+use Rattle.dob_pieces.specs.declared.kind.Side.{Side}
+use Rattle.dob_pieces.specs.declared.kind.Side.TheVariants.{Mover, Enemy}
+use Rattle.dob_pieces.specs.declared.setup.Setup.{Setup}
+use Rattle.dob_pieces.specs.Masks.{is_kind, is_piece}
+use Rattle.dob_pieces.specs.Pieces.{is_side}
+use Rattle.dob_pieces.specs.Setups.{Cell, at, piece_of, HasLions, HasLionOffFarRow, IsLegal}
+use Rattle.dob_pieces.proofs.Boards.{one_lion}
+use Rattle.dob_unmove.specs.declared.attackers.Threat.{Threat}
+use Rattle.dob_unmove.specs.declared.undo.Undo.TheVariants.{Unstep, Unput}
+use Rattle.dob_unmove.specs.Classes.{IsTurned}
+use Rattle.dob_unmove.specs.Threats.{IsThreat}
+use Rattle.dob_unmove.specs.Undoes.{enemy_cell, earlier, CanUndo, CanUnstep}
+use Rattle.dob_unmove.specs.Ways.{is_home, comes_home, may_end, may_come, TellsHome, HasLionHome}
+use Rattle.dob_unmove.proofs.Homes.{either_true}
+use Rattle.dob_unmove.proofs.Threats.{side_of, kind_of, at_from, at_to, at_others, at_drop}
+
+off_far_row : (lion square : ℕ) → 9 ≤ square → is_home lion square ≡ true → ⊥
+off_far_row lion square far home =
+    let low = ltb-true square 9 (and_parts (nat_lt square 9) _ home).0 in
+    absurd (omega (arith, low, far))
+
+lion_parts : (side : Side) (kind : Kind) → (is_side Mover side && is_kind Lion kind) ≡ true → (side ≡ Mover) × (kind ≡ Lion)
+lion_parts Mover Lion e = (refl, refl)
+lion_parts Mover Giraffe e = cc
+lion_parts Mover Elephant e = cc
+lion_parts Mover Chick e = cc
+lion_parts Mover Hen e = cc
+lion_parts Enemy kind e = cc
+
+is_own_lion : (cell : Cell) → is_piece Mover Lion cell ≡ true → cell ≡ Some (piece_of Mover Lion)
+is_own_lion None e = cc
+is_own_lion (Some piece) e = let parts = lion_parts piece.side piece.kind e in λ i. Some (piece_of (parts.0 i) (parts.1 i))
+
+-- where a move may have ended
+pub end_home : (after : Setup) (threat : Threat) (stays : Bool) (to : ℕ) → HasLions after → TellsHome after threat.lion stays
+    → may_end after threat stays to ≡ true → HasLionHome after threat.lion to
+end_home after threat stays to lions tells on square there =
+    let last = and_parts _ (stays || is_piece Mover Lion (at after to)) on in
+    elim (either_true stays (is_piece Mover Lion (at after to)) last.1) [
+      | inl at_home ↦ inr (tells square there ∙ at_home)
+      | inr moved ↦ inl (one_lion Mover after square to lions there (is_own_lion (at after to) moved))
+    ]
+
+no_enemy : (caught : Option Kind) → enemy_cell caught ≢ Some (piece_of Mover Lion)
+no_enemy None e = cc
+no_enemy (Some kind) e = let sides : Enemy ≡ Mover = ap side_of e in cc
+
+-- a lion comes from a home
+from_home : (after : Setup) (lion : ℕ) (kind : Kind) (from to : ℕ) → may_come after lion kind to from ≡ true → kind ≡ Lion → is_home lion from ≡ true
+from_home after lion kind from to on same =
+    ap (λ (k : Kind). comes_home k lion from) (sym same) ∙ (and_parts _ (comes_home kind lion from) on).1
+
+module _ (after : Setup) (threat : Threat) (t : IsTurned IsLegal after) (h : IsThreat after threat) where
+  pub step_home : (kind : Kind) (from to : ℕ) (caught : Option Kind) → CanUnstep after kind from to caught → HasLionHome after threat.lion to
+      → may_come after threat.lion kind to from ≡ true
+      → HasLionOffFarRow (earlier after (Unstep kind from to caught))
+  step_home kind from to caught can home comes square far there =
+      let before = earlier after (Unstep kind from to caught) in
+      elim (cases_eq square from) [
+        | inl same ↦
+            (let own = sym (at_from after threat t h kind from to caught can) ∙ ap (at before) (sym same) ∙ there in
+            let lion : kind ≡ Lion = ap kind_of own in
+            off_far_row threat.lion square far (ap (is_home threat.lion) same ∙ from_home after threat.lion kind from to comes lion))
+        | inr away ↦ elim (cases_eq square to) [
+          | inl same ↦ no_enemy caught (sym (at_to after threat t h kind from to caught can) ∙ ap (at before) (sym same) ∙ there)
+          | inr apart ↦ elim (home square (sym (at_others after threat t h kind from to caught can square away apart) ∙ there)) [
+            | inl same ↦ apart same
+            | inr at_home ↦ off_far_row threat.lion square far at_home
+          ]
+        ]
+      ]
+
+  pub drop_home : (kind : HandKind) (to : ℕ) → CanUndo after (Unput kind to) → HasLionHome after threat.lion to
+      → HasLionOffFarRow (earlier after (Unput kind to))
+  unfolding earlier
+  drop_home kind to can home square far there =
+      let before = earlier after (Unput kind to) in
+      elim (cases_eq square to) [
+        | inl same ↦ (let none : at before square ≡ None = ap (at before) same ∙ at_drop after threat t h kind to can in cc)
+        | inr apart ↦ elim (home square (sym (get_or-set_other after.board to square None None apart) ∙ there)) [
+          | inl same ↦ apart same
+          | inr at_home ↦ off_far_row threat.lion square far at_home
+        ]
+      ]
