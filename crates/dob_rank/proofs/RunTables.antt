@@ -146,6 +146,7 @@ IsRun-more : (set : PieceSet) (block run : ℕ) (words more : List Word) (entry 
     → IsRun set block run words entry → IsRun set block run (words ++ more) entry
 IsRun-more set block run words more entry is = record {
   before_is = is.before_is;
+  kind_is = is.kind_is;
   words_are = λ kind number other low.
       let old = is.words_are kind number other low in (
         (let long = length-append words more in let inside = old.0 in omega (arith, long, inside)),
@@ -153,8 +154,8 @@ IsRun-more set block run words more entry is = record {
       );
 }
 
-abbrev make_run : ℕ → ℕ → Run
-make_run before word = record { before = before; word = word }
+abbrev make_run : ℕ → ℕ → RunKind → Run
+make_run before word kind = record { before = before; word = word; kind = kind }
 
 run_words-are : (set : PieceSet) (block run : ℕ) → run_words set block run
     ≡ map (run_word set block run) (range_with_len 0 ((run_size set block + (word_len - 1)) / word_len))
@@ -162,10 +163,11 @@ unfolding run_words
 run_words-are set block run = refl
 
 -- the entry of a run whose words have just been added
-IsRun-new : (set : PieceSet) (block run before : ℕ) (words : List Word) → before ≡ marks_below (marked set) (run_start set block run) →
-    IsRun set block run (words ++ kept_words set block run) (make_run before (length words))
-IsRun-new set block run before words before_is = record {
+IsRun-new : (set : PieceSet) (block run before : ℕ) (entry : RunKind) (words : List Word) → before ≡ marks_below (marked set) (run_start set block run) →
+    entry ≡ run_kind (run % lion_pairs) → IsRun set block run (words ++ kept_words set block run) (make_run before (length words) entry)
+IsRun-new set block run before entry words before_is kind_is = record {
   before_is = before_is;
+  kind_is = kind_is;
   words_are = λ kind number other low.
       let kept : kept_words set block run ≡ run_words set block run = kept_by set block run Mixed kind in
       let here = word_in set block run number other low in (
@@ -191,23 +193,23 @@ IsRun-new set block run before words before_is = record {
         )
 
 -- one more run
-pub AreRuns-push : (set : PieceSet) (block run before word : ℕ) (runs news : List Run) (words longer : List Word) → AreRuns set block run runs words →
-    before ≡ marks_below (marked set) (run_start set block run) → word ≡ length words → longer ≡ words ++ kept_words set block run →
-    news ≡ runs ++ make_run before word ∷ [] → AreRuns set block (run + 1) news longer
-AreRuns-push set block run before word runs news words longer are before_is word_is longer_is news_are =
+pub AreRuns-push : (set : PieceSet) (block run before word : ℕ) (kind : RunKind) (runs news : List Run) (words longer : List Word) → AreRuns set block run runs words →
+    before ≡ marks_below (marked set) (run_start set block run) → kind ≡ run_kind (run % lion_pairs) → word ≡ length words → longer ≡ words ++ kept_words set block run →
+    news ≡ runs ++ make_run before word kind ∷ [] → AreRuns set block (run + 1) news longer
+AreRuns-push set block run before word kind runs news words longer are before_is kind_is word_is longer_is news_are =
     subst (λ ws. AreRuns set block (run + 1) news ws) (sym longer_is)
     (subst (λ rs. AreRuns set block (run + 1) rs (words ++ kept_words set block run))
-    (sym (news_are ∙ ap (λ n. runs ++ make_run before n ∷ []) word_is)) (record {
-      long = length_push runs (make_run before (length words)) ∙ ap (λ n. n + 1) are.long;
+    (sym (news_are ∙ ap (λ n. runs ++ make_run before n kind ∷ []) word_is)) (record {
+      long = length_push runs (make_run before (length words) kind) ∙ ap (λ n. n + 1) are.long;
       each = λ k other below. elim (cases_lt k run) [
         | inl earlier ↦ subst (IsRun set block k (words ++ kept_words set block run))
-            (sym (get_or_append_left runs (make_run before (length words) ∷ []) other k (let long = are.long in omega arith)))
+            (sym (get_or_append_left runs (make_run before (length words) kind ∷ []) other k (let long = are.long in omega arith)))
             (IsRun-more set block k words (kept_words set block run) _ (are.each k other earlier))
         | inr later ↦
             let same : k ≡ run = omega arith in
-            subst (λ n. IsRun set block n (words ++ kept_words set block run) (slice_index_or (runs ++ make_run before (length words) ∷ []) n other)) (sym same)
-            (subst (IsRun set block run (words ++ kept_words set block run)) (sym (get_or_push runs (make_run before (length words)) other run are.long))
-            (IsRun-new set block run before words before_is))
+            subst (λ n. IsRun set block n (words ++ kept_words set block run) (slice_index_or (runs ++ make_run before (length words) kind ∷ []) n other)) (sym same)
+            (subst (IsRun set block run (words ++ kept_words set block run)) (sym (get_or_push runs (make_run before (length words) kind) other run are.long))
+            (IsRun-new set block run before kind words before_is kind_is))
       ];
     }))
 

@@ -33,9 +33,10 @@ words_by_kind _ words = []
 abbrev pub kept_words : PieceSet → ℕ → ℕ → List Word
 kept_words set block run = words_by_kind (run_kind (run % lion_pairs)) (run_words set block run)
 
--- the entry of a run: how many marks are before it, and where its words begin if its kind is mixed
+-- the entry of a run: how many marks are before it, its kind, and where its words begin if that is mixed
 pub record IsRun (set : PieceSet) (block run : ℕ) (words : List Word) (entry : Run) : Type 0 where
   pub before_is : entry.before ≡ marks_below (marked set) (run_start set block run)
+  pub kind_is : entry.kind ≡ run_kind (run % lion_pairs)
   pub words_are : run_kind (run % lion_pairs) ≡ Mixed → (number : ℕ) (other : Word) → word_len * number < run_size set block →
       (entry.word + number < length words) × (slice_index_or words (entry.word + number) other ≡ run_word set block run number)
 

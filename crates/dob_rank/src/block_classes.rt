@@ -1,9 +1,9 @@
 // The classes of one block: for each of its runs the number of classes before it, and words of marks for the runs in
 // which the lions don't tell which positions are representatives.
-ghost use Rattle.std.specs.Prelude.{◌≡◌, true, ◌<◌, ◌≤◌, ◌+◌, ◌*◌, ◌++◌, IfOk, vec_len};
+ghost use Rattle.std.specs.Prelude.{◌≡◌, true, ◌<◌, ◌≤◌, ◌+◌, ◌*◌, ◌%◌, ◌++◌, IfOk, vec_len};
 ghost use Rattle.dob_rank.specs.Numbers.{product, digits_of, block_bases, block_size, start_of};
 ghost use Rattle.dob_rank.specs.Marks.{marked, word_of, one_if, marks_below};
-ghost use Rattle.dob_rank.specs.Runs.{square_bases, runs_in, run_size, run_start};
+ghost use Rattle.dob_rank.specs.Runs.{square_bases, runs_in, run_size, run_start, run_kind};
 ghost use Rattle.dob_rank.specs.RunTables.{AreRuns, run_words, kept_words};
 
 use crate::block::{self, EachKind};
@@ -61,6 +61,7 @@ impl BlockClasses {
             runs.push(Run {
                 before: count,
                 word: words.len(),
+                kind: kind_of(run % LIONS),
             })?;
             count += push_marks(set, number, run, size, &mut words, count)?;
         }
@@ -85,7 +86,7 @@ impl BlockClasses {
         ensures before { result.1 ≡ marks_below (marked self.now.set) (run_start self.now.set self.now.number spot.run + spot.local) }
     {
         let run = self.runs[spot.run as usize];
-        match kind_of(spot.run % LIONS) {
+        match self.kind_of(spot.run) {
             RunKind::First => (true, run.before + spot.local),
             RunKind::Later => (false, run.before),
             RunKind::Mixed => {
@@ -104,7 +105,7 @@ impl BlockClasses {
         ensures class { marks_below (marked self.now.set) (run_start self.now.set self.now.number result.run + result.local) ≡ class }
     {
         let run = self.run_at(class);
-        let local = match kind_of(run % LIONS) {
+        let local = match self.kind_of(run) {
             RunKind::First => class - self.before_run(run),
             RunKind::Later | RunKind::Mixed => self.search(run, class),
         };
@@ -138,6 +139,14 @@ impl BlockClasses {
         ensures { result ≡ marks_below (marked self.now.set) (run_start self.now.set self.now.number run) }
     {
         self.runs[run as usize].before
+    }
+
+    /// The kind of a run.
+    fn kind_of(&self, run: u64) -> RunKind
+        requires { run < runs_in self.now.set self.now.number }
+        ensures { result ≡ run_kind (run % LIONS) }
+    {
+        self.runs[run as usize].kind
     }
 
     /// The place of that representative in its run.

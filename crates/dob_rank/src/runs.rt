@@ -67,11 +67,13 @@ impl Spot {
     }
 }
 
-/// A run of positions: the number of classes before it, and, where its kind is mixed, where its words of marks begin.
+/// A run of positions: the number of classes before it, where its words of marks begin if its kind is mixed, and that kind,
+/// so that a look-up needs no division for it.
 #[derive(Clone, Copy, Debug)]
 pub(crate) struct Run {
     pub(crate) before: u64,
     pub(crate) word: usize,
+    pub(crate) kind: RunKind,
 }
 
 /// How many marks a word has at most.
