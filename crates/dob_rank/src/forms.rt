@@ -4,7 +4,7 @@ ghost use Rattle.dob_rank.specs.Order.{form};
 ghost use Rattle.dob_rank.specs.Numbers.{order, base_of, cell_of};
 
 use crate::layers::Layer;
-use dob_pieces::{Kind, Piece, Side};
+use dob_pieces::{CellTable, Kind, Piece, Side, entry_of};
 
 /// How many forms a piece of that layer has.
 pub(crate) fn base_of(layer: Layer) -> u64
@@ -19,23 +19,22 @@ pub(crate) fn base_of(layer: Layer) -> u64
     }
 }
 
+/// By a cell's kind and owner the form of its piece.
+const FORMS: CellTable = [
+    [0, 0, 0, 0],
+    [0, 0, 1, 0],
+    [0, 0, 1, 0],
+    [0, 0, 2, 0],
+    [0, 1, 3, 0],
+];
+
 /// The form of a cell's piece: own chick 0, own hen 1, enemy chick 2, enemy hen 3; of the other kinds own 0 and
-/// enemy 1.
+/// enemy 1. It is found without a branch on the owner, which no processor can foretell.
 pub(crate) fn form_of(cell: Option<Piece>) -> u64
     ensures value { result ≡ form cell }
     ensures bound { result ≤ 3 }
 {
-    let Some(piece) = cell else {
-        return 0;
-    };
-    match (piece.side, piece.kind) {
-        (Side::Mover, Kind::Hen) => 1,
-        (Side::Mover, _) => 0,
-        (Side::Enemy, Kind::Chick) => 2,
-        (Side::Enemy, Kind::Hen) => 3,
-        (Side::Enemy, Kind::Elephant | Kind::Giraffe) => 1,
-        (Side::Enemy, Kind::Lion) => 0,
-    }
+    entry_of(&FORMS, cell)
 }
 
 /// The cell of that layer and form.

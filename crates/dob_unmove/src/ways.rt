@@ -56,7 +56,9 @@ fn calm_ends(attackers: Attackers) -> u16
 }
 
 impl Ways {
-    /// What tells of the ways that lead to the setup.
+    /// What tells of the ways that lead to the setup. It is a call of its own, since mixed with the turning of the board it
+    /// keeps half of that on the stack.
+    #[inline(never)]
     pub(crate) fn of(after: &Setup) -> Ways
         requires { IsTurned IsLegal after.now }
         ensures { AreWays after.now result }
