@@ -14,7 +14,8 @@ use dob_pieces::{
 };
 use std::alloc::Global;
 
-// Room that a list of moves is given at once, so that most lists grow no further; a set of three pieces has up to 38.
+// Room that the list of an open position is given at once, so that most lists grow no further; a set of three pieces has
+// up to 38 moves. Other positions have none, and cost no memory.
 const ROOM: usize = 40;
 
 /// Appends the steps of a piece of that kind on that square, other than onto the enemy lion.
@@ -117,6 +118,7 @@ pub fn moves_into(moves: &mut Vec<Move>, position: &Position) -> Result<Status, 
     let masks = Masks::of(&position.setup);
     match status_by(position, &masks) {
         Status::Open => {
+            moves.reserve(ROOM)?;
             push_steps(moves, &position.setup, &masks)?;
             push_drops(moves, &position.setup, &masks)?;
             Ok(Status::Open)
@@ -131,7 +133,6 @@ pub fn moves(alloc: Global, position: &Position) -> Result<Vec<Move>, Memory>
     ensures { IfOk result (λ v. AreMoves position.now.setup v.items) }
 {
     let mut moves = Vec::new(alloc);
-    moves.reserve(ROOM)?;
     moves_into(&mut moves, position)?;
     Ok(moves)
 }

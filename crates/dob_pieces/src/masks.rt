@@ -26,7 +26,8 @@ pub struct Masks {
 }
 
 impl Masks {
-    /// The masks of the setup.
+    /// The masks of the setup. Within its callers, since most read a few of them and go on.
+    #[inline(always)]
     pub fn of(setup: &Setup) -> Masks
         ensures { AreMasks setup.now result }
     {
