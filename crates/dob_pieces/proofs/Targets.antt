@@ -1,11 +1,12 @@
 -- The masks of the tables are the steps of the kinds: computed for each kind and each two squares.
-use Rattle.std.proofs.Common.{◌≡◌, ℕ, ◌<◌, ltb, eqb, ◌&&◌, Bool, true, cond, List, [], ◌∷◌, get_or, refl, sym, subst}
+use Rattle.std.proofs.Common.{◌≡◌, ℕ, ◌<◌, ltb, eqb, ◌&&◌, Bool, true, cond, List, [], ◌∷◌, get_or, slice_index_or, refl, subst}
 use Rattle.std.specs.Int.{bit_at}
 use Rattle.std.proofs.lemmas.Bool.{and_parts, ltb-true, eqb-true}
 use Rattle.dob_pieces.specs.declared.kind.Kind.{Kind}
 use Rattle.dob_pieces.specs.declared.kind.Kind.TheVariants.{Lion, Giraffe, Elephant, Chick, Hen}
 use Rattle.dob_pieces.specs.Pieces.{leads}
-use Rattle.dob_pieces.specs.Masks.{IsMask}
+use Rattle.dob_pieces.specs.Masks.{IsMask, kind_place}
+use Rattle.dob_pieces.specs.declared.steps.TheConstants.{TARGETS, SOURCES}
 use Rattle.dob_pieces.proofs.Boards.{all_below, all_below-at}
 
 -- the mask has just the squares that pass the test
@@ -74,18 +75,31 @@ sources_computed Chick = refl
 sources_computed Hen = refl
 
 -- a mask read from the table of targets
-pub target_mask : (kind self : Kind) (from index : ℕ) → self ≡ kind → index ≡ from → index < 12 → IsMask (leads self from) (get_or (targets_of kind) index 0)
-target_mask kind self from index is at low =
+target_mask : (kind : Kind) (from index : ℕ) → index ≡ from → index < 12 → IsMask (leads kind from) (get_or (targets_of kind) index 0)
+target_mask kind from index at low =
     let mask = is_mask (leads kind index) (get_or (targets_of kind) index 0)
     (all_below-at (λ from. has_bits (leads kind from) (get_or (targets_of kind) from 0)) 12 index (targets_computed kind) low) in
-    subst (λ (k : Kind). IsMask (leads k from) (get_or (targets_of kind) index 0)) (sym is)
-    (subst (λ (i : ℕ). IsMask (leads kind i) (get_or (targets_of kind) index 0)) at mask)
+    subst (λ (i : ℕ). IsMask (leads kind i) (get_or (targets_of kind) index 0)) at mask
+
+pub target_read : (kind : Kind) (row from index : ℕ) → row ≡ kind_place kind → index ≡ from → index < 12
+    → IsMask (leads kind from) (slice_index_or (slice_index_or TARGETS row []) index 0)
+target_read Lion row from index is at low = rw is (target_mask Lion from index at low)
+target_read Giraffe row from index is at low = rw is (target_mask Giraffe from index at low)
+target_read Elephant row from index is at low = rw is (target_mask Elephant from index at low)
+target_read Chick row from index is at low = rw is (target_mask Chick from index at low)
+target_read Hen row from index is at low = rw is (target_mask Hen from index at low)
 
 -- and from that of sources
-pub source_mask : (kind self : Kind) (to index : ℕ) → self ≡ kind → index ≡ to → index < 12
-    → IsMask (λ from. leads self from to) (get_or (sources_of kind) index 0)
-source_mask kind self to index is at low =
+source_mask : (kind : Kind) (to index : ℕ) → index ≡ to → index < 12 → IsMask (λ from. leads kind from to) (get_or (sources_of kind) index 0)
+source_mask kind to index at low =
     let mask = is_mask (λ from. leads kind from index) (get_or (sources_of kind) index 0)
     (all_below-at (λ to. has_bits (λ from. leads kind from to) (get_or (sources_of kind) to 0)) 12 index (sources_computed kind) low) in
-    subst (λ (k : Kind). IsMask (λ from. leads k from to) (get_or (sources_of kind) index 0)) (sym is)
-    (subst (λ (i : ℕ). IsMask (λ from. leads kind from i) (get_or (sources_of kind) index 0)) at mask)
+    subst (λ (i : ℕ). IsMask (λ from. leads kind from i) (get_or (sources_of kind) index 0)) at mask
+
+pub source_read : (kind : Kind) (row to index : ℕ) → row ≡ kind_place kind → index ≡ to → index < 12
+    → IsMask (λ from. leads kind from to) (slice_index_or (slice_index_or SOURCES row []) index 0)
+source_read Lion row to index is at low = rw is (source_mask Lion to index at low)
+source_read Giraffe row to index is at low = rw is (source_mask Giraffe to index at low)
+source_read Elephant row to index is at low = rw is (source_mask Elephant to index at low)
+source_read Chick row to index is at low = rw is (source_mask Chick to index at low)
+source_read Hen row to index is at low = rw is (source_mask Hen to index at low)

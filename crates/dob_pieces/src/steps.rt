@@ -1,7 +1,7 @@
 // Where the steps of a kind lead: the one table of steps.
-ghost use Rattle.std.specs.Prelude.{◌≡◌};
+ghost use Rattle.std.specs.Prelude.{◌≡◌, ◌<◌};
 ghost use Rattle.dob_pieces.specs.Pieces.{leads, square_after, steps_of};
-ghost use Rattle.dob_pieces.specs.Masks.{IsMask};
+ghost use Rattle.dob_pieces.specs.Masks.{IsMask, kind_place};
 
 use crate::kind::Kind;
 use crate::square::Square;
@@ -50,7 +50,32 @@ const CHICK_SOURCES: Targets = [0, 0, 0, 1, 2, 4, 8, 16, 32, 64, 128, 256];
 
 const HEN_SOURCES: Targets = [10, 21, 34, 83, 175, 278, 664, 1400, 2224, 1216, 3008, 1408];
 
+/// The rows of all kinds, in the order of `Kind`: a row found by the kind's number takes no jump.
+const TARGETS: [Targets; 5] = [
+    LION_TARGETS,
+    GIRAFFE_TARGETS,
+    ELEPHANT_TARGETS,
+    CHICK_TARGETS,
+    HEN_TARGETS,
+];
+
+const SOURCES: [Targets; 5] = [
+    LION_TARGETS,
+    GIRAFFE_TARGETS,
+    ELEPHANT_TARGETS,
+    CHICK_SOURCES,
+    HEN_SOURCES,
+];
+
 impl Kind {
+    // The kind's place in the order of `Kind`.
+    fn place(self) -> usize
+        ensures value { result ≡ kind_place self }
+        ensures bound { result < 5 }
+    {
+        self as usize
+    }
+
     /// The kind's steps, in the order of the squares to which they lead.
     pub fn steps(self) -> &'static [Step]
         ensures { result.now ≡ steps_of self }
@@ -68,26 +93,14 @@ impl Kind {
     pub fn targets(self, from: Square) -> u16
         ensures { IsMask (leads self from) result }
     {
-        match self {
-            Kind::Lion => LION_TARGETS[from.index()],
-            Kind::Giraffe => GIRAFFE_TARGETS[from.index()],
-            Kind::Elephant => ELEPHANT_TARGETS[from.index()],
-            Kind::Chick => CHICK_TARGETS[from.index()],
-            Kind::Hen => HEN_TARGETS[from.index()],
-        }
+        TARGETS[self.place()][from.index()]
     }
 
     /// The squares from which the kind's steps lead to the square, as a mask.
     pub fn sources(self, to: Square) -> u16
         ensures { IsMask (λ from. leads self from to) result }
     {
-        match self {
-            Kind::Lion => LION_TARGETS[to.index()],
-            Kind::Giraffe => GIRAFFE_TARGETS[to.index()],
-            Kind::Elephant => ELEPHANT_TARGETS[to.index()],
-            Kind::Chick => CHICK_SOURCES[to.index()],
-            Kind::Hen => HEN_SOURCES[to.index()],
-        }
+        SOURCES[self.place()][to.index()]
     }
 
     /// Whether one of the kind's steps leads from the one square to the other.

@@ -1,21 +1,6 @@
 -- the row of the kind has the mask at the square
-use Rattle.dob_pieces.specs.declared.kind.Kind.TheVariants.{Lion, Giraffe, Elephant, Chick, Hen}
-use Rattle.dob_pieces.proofs.Targets.{source_mask}
+use Rattle.dob_pieces.proofs.Targets.{source_read}
 use Rattle.dob_pieces.proofs.kind.Kind.sources.Goals as goal
 
-pub returns-in-Lion : goal.returns-in-Lion
-returns-in-Lion c = source_mask Lion c.args.self c.args.to c.index.result c.in-Lion.is c.index.ensures.value c.index.ensures.bound
-
-pub returns-in-Giraffe : goal.returns-in-Giraffe
-returns-in-Giraffe c = source_mask Giraffe c.args.self c.args.to c.index-in-Giraffe.result c.in-Giraffe.is
-    c.index-in-Giraffe.ensures.value c.index-in-Giraffe.ensures.bound
-
-pub returns-in-Elephant : goal.returns-in-Elephant
-returns-in-Elephant c = source_mask Elephant c.args.self c.args.to c.index-in-Elephant.result c.in-Elephant.is
-    c.index-in-Elephant.ensures.value c.index-in-Elephant.ensures.bound
-
-pub returns-in-Chick : goal.returns-in-Chick
-returns-in-Chick c = source_mask Chick c.args.self c.args.to c.index-in-Chick.result c.in-Chick.is c.index-in-Chick.ensures.value c.index-in-Chick.ensures.bound
-
-pub returns-in-Hen : goal.returns-in-Hen
-returns-in-Hen c = source_mask Hen c.args.self c.args.to c.index-in-Hen.result c.in-Hen.is c.index-in-Hen.ensures.value c.index-in-Hen.ensures.bound
+pub returns : goal.returns
+returns c = source_read c.args.self c.place.result c.args.to c.index.result c.place.ensures.value c.index.ensures.value c.index.ensures.bound
