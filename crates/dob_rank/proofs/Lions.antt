@@ -1,19 +1,20 @@
 -- What the lions' squares say of a position and its mirror image.
-use Rattle.std.proofs.Common.{◌≡◌, ℕ, zero, suc, ◌+◌, ◌*◌, ◌/◌, ◌%◌, ◌<◌, Bool, true, eqb, ltb, List, [], ◌∷◌, None, length, map, replicate}
+use Rattle.std.proofs.Common.{◌≡◌, ℕ, ◌+◌, ◌*◌, ◌/◌, ◌%◌, ◌<◌, Bool, true, ◌&&◌, cond, eqb, ltb, List, [], ◌∷◌, Some, None, length, map, replicate}
 use Rattle.std.proofs.Common.{slice_index_or, refl, sym, ap, ◌∙◌, subst, arith}
 use Rattle.std.specs.List.{range_with_len}
-use Rattle.std.proofs.lemmas.Bool.{ltb-true}
-use Rattle.std.proofs.lemmas.List.{length-map}
+use Rattle.std.proofs.lemmas.Bool.{and_parts, eqb-true, ltb-true}
 use Rattle.dob_pieces.specs.declared.piece_set.PieceSet.{PieceSet}
 use Rattle.dob_pieces.specs.declared.setup.Setup.{Setup}
+use Rattle.dob_pieces.specs.declared.kind.Kind.TheVariants.{Lion}
+use Rattle.dob_pieces.specs.declared.kind.Side.TheVariants.{Mover, Enemy}
 use Rattle.dob_pieces.specs.Squares.{mirrored_square}
-use Rattle.dob_pieces.specs.Setups.{Cell, board_by, mirrored}
+use Rattle.dob_pieces.specs.Setups.{Cell, piece_of, board_by, mirrored}
 use Rattle.dob_pieces.proofs.Boards.{all_below, all_below-at}
 use Rattle.dob_rank.specs.declared.runs.RunKind.{RunKind}
 use Rattle.dob_rank.specs.declared.runs.RunKind.TheVariants.{First, Later, Mixed}
 use Rattle.dob_rank.specs.Order.{IsPositionOf}
-use Rattle.dob_rank.specs.Numbers.{layer, choice, settle, own_squares, enemy_squares, order, empty_layers}
-use Rattle.dob_rank.specs.Runs.{lions_of, run_kind, lion_pairs}
+use Rattle.dob_rank.specs.Numbers.{layer, count, choice, settle, own_squares, enemy_squares, order, empty_layers}
+use Rattle.dob_rank.specs.Runs.{lions_of, enemy_square, run_kind, lion_pairs}
 use Rattle.dob_rank.specs.declared.layers.Layer.TheVariants.{OwnLion, EnemyLion, Chicks, Empty}
 use Rattle.dob_rank.proofs.Settled.{hide, AreLayers, hide-hide, settle-choice, choice_hide_next}
 use Rattle.dob_rank.proofs.FormDigits.{AreLayers-map}
@@ -59,35 +60,53 @@ lions_in-hide ls =
     let enemy : choice (order EnemyLion) (hide (order Chicks) ls) ≡ choice (order EnemyLion) ls = choice_hide_next (order EnemyLion) ls (omega arith) in
     ap (λ n. n * enemy_squares + choice (order EnemyLion) (hide (order Chicks) ls)) own ∙ ap (λ n. choice (order OwnLion) ls * enemy_squares + n) enemy
 
--- a position's lions are on the squares of their number
-lions_layers-of : (set : PieceSet) (s : Setup) → IsPositionOf set s → lions_layers (lions_of s) ≡ hide (order Chicks) (map layer s.board)
-lions_layers-of set s p =
-    let h : HasParts set s = HasParts-from_position set s p in
-    let ls = map layer s.board in
-    let below : choice (order EnemyLion) ls < enemy_squares = (HasDigits-digits set s h).1.1.1.1.0 in
-    let own : lions_of s / enemy_squares ≡ choice (order OwnLion) ls = omega arith in
-    let enemy : lions_of s % enemy_squares ≡ choice (order EnemyLion) ls = omega arith in
-    let ok : AreLayers ls = AreLayers-map s.board in
+-- a list of layers that has both lions, on the squares of their number
+record HasPair (ls : List ℕ) : Type 0 where
+  squares : length ls ≡ 12
+  layers : AreLayers ls
+  own_lion : count (order OwnLion) ls ≡ 1
+  enemy_lion : count (order EnemyLion) ls ≡ 1
+  below : choice (order EnemyLion) ls < enemy_squares
+
+lions_layers-of : (ls : List ℕ) → HasPair ls → lions_layers (lions_in ls) ≡ hide (order Chicks) ls
+lions_layers-of ls h =
+    let below : choice (order EnemyLion) ls < enemy_squares = h.below in
+    let own : lions_in ls / enemy_squares ≡ choice (order OwnLion) ls = omega arith in
+    let enemy : lions_in ls % enemy_squares ≡ choice (order EnemyLion) ls = omega arith in
     let start : empty_layers ≡ hide (order OwnLion) ls = sym (hide_zero ls ∙ ap (λ (n : ℕ). replicate n (order Empty)) h.squares) in
     let first : settle (order OwnLion) 1 (choice (order OwnLion) ls) empty_layers ≡ hide (order EnemyLion) ls
     = ap (settle (order OwnLion) 1 (choice (order OwnLion) ls)) start
     ∙ ap (λ (n : ℕ). settle (order OwnLion) n (choice (order OwnLion) ls) (hide (order OwnLion) ls)) (sym h.own_lion)
-    ∙ settle-choice (order OwnLion) ls (omega arith) ok in
+    ∙ settle-choice (order OwnLion) ls (omega arith) h.layers in
     let second : settle (order EnemyLion) 1 (choice (order EnemyLion) ls) (hide (order EnemyLion) ls) ≡ hide (order Chicks) ls
-    = ap (λ (n : ℕ). settle (order EnemyLion) n (choice (order EnemyLion) ls) (hide (order EnemyLion) ls)) (sym h.other_lion)
-    ∙ settle-choice (order EnemyLion) ls (omega arith) ok in
-    ap (λ n. settle (order EnemyLion) 1 (lions_of s % enemy_squares) (settle (order OwnLion) 1 n empty_layers)) own
+    = ap (λ (n : ℕ). settle (order EnemyLion) n (choice (order EnemyLion) ls) (hide (order EnemyLion) ls)) (sym h.enemy_lion)
+    ∙ settle-choice (order EnemyLion) ls (omega arith) h.layers in
+    ap (λ n. settle (order EnemyLion) 1 (lions_in ls % enemy_squares) (settle (order OwnLion) 1 n empty_layers)) own
     ∙ ap (λ n. settle (order EnemyLion) 1 n (settle (order OwnLion) 1 (choice (order OwnLion) ls) empty_layers)) enemy
     ∙ ap (settle (order EnemyLion) 1 (choice (order EnemyLion) ls)) first ∙ second
 
+-- the number of its mirrored lions
+image-of_pair : (ls : List ℕ) → HasPair ls → lions_in (mirror_layers ls) ≡ image_lions (lions_in ls)
+image-of_pair ls h =
+    sym (lions_in-hide (mirror_layers ls))
+    ∙ ap lions_in (hide-mirror (order Chicks) ls h.squares)
+    ∙ ap (λ xs. lions_in (mirror_layers xs)) (sym (lions_layers-of ls h))
+
+-- so has each position
+HasPair-from_position : (set : PieceSet) (s : Setup) → IsPositionOf set s → HasPair (map layer s.board)
+HasPair-from_position set s p =
+    let h : HasParts set s = HasParts-from_position set s p in
+    record {
+      squares = h.squares;
+      layers = AreLayers-map s.board;
+      own_lion = h.own_lion;
+      enemy_lion = h.other_lion;
+      below = (HasDigits-digits set s h).1.1.1.1.0;
+    }
+
 pub lions_of-mirrored : (set : PieceSet) (s : Setup) → IsPositionOf set s → lions_of (mirrored s) ≡ image_lions (lions_of s)
 lions_of-mirrored set s p =
-    let ls = map layer s.board in
-    let twelve : length ls ≡ 12 = length-map s.board layer ∙ p.legal.squares in
-    ap lions_in (layers-mirrored s p.legal.squares)
-    ∙ sym (lions_in-hide (mirror_layers ls))
-    ∙ ap lions_in (hide-mirror (order Chicks) ls twelve)
-    ∙ ap (λ xs. lions_in (mirror_layers xs)) (sym (lions_layers-of set s p))
+    ap lions_in (layers-mirrored s p.legal.squares) ∙ image-of_pair (map layer s.board) (HasPair-from_position set s p)
 
 pub lions_of-below : (set : PieceSet) (s : Setup) → IsPositionOf set s → lions_of s < lion_pairs
 lions_of-below set s p =
@@ -104,59 +123,58 @@ tells First lions image = ltb lions image
 tells Later lions image = ltb image lions
 tells Mixed lions image = eqb lions image
 
-abbrev told : ℕ → Bool
-told lions = tells (run_kind lions) lions (image_lions lions)
+-- the cells of a board with the lions alone, on these squares
+abbrev pair_cell : ℕ → ℕ → ℕ → Cell
+pair_cell own enemy k = cond (eqb k own) (Some (piece_of Mover Lion)) (cond (eqb k enemy) (Some (piece_of Enemy Lion)) None)
 
--- so it does with the mover's lion on one square and the enemy's on each other one
-abbrev row_told : ℕ → Bool
-row_told own = all_below (λ enemy. told (own * enemy_squares + enemy)) enemy_squares
+-- their layers, by the lions' numbers; no list is settled here, since `settle` computes both of its ways at each square
+abbrev pair_layers : ℕ → ℕ → List ℕ
+pair_layers own enemy = map layer (board_by (pair_cell own (enemy_square own enemy)))
 
-row_0 : row_told 0 ≡ true
-row_0 = refl
+abbrev has_pair : ℕ → ℕ → List ℕ → Bool
+has_pair own enemy ls =
+    (eqb (count (order OwnLion) ls) 1 && eqb (count (order EnemyLion) ls) 1)
+    && (eqb (choice (order OwnLion) ls) own && eqb (choice (order EnemyLion) ls) enemy)
 
-row_1 : row_told 1 ≡ true
-row_1 = refl
+abbrev told : ℕ → ℕ → Bool
+told own enemy =
+    has_pair own enemy (pair_layers own enemy)
+    && tells (run_kind (own * enemy_squares + enemy)) (own * enemy_squares + enemy) (lions_in (mirror_layers (pair_layers own enemy)))
 
-row_2 : row_told 2 ≡ true
-row_2 = refl
+all_told : all_below (λ own. all_below (told own) enemy_squares) own_squares ≡ true
+all_told = refl
 
-row_3 : row_told 3 ≡ true
-row_3 = refl
-
-row_4 : row_told 4 ≡ true
-row_4 = refl
-
-row_5 : row_told 5 ≡ true
-row_5 = refl
-
-row_6 : row_told 6 ≡ true
-row_6 = refl
-
-row_7 : row_told 7 ≡ true
-row_7 = refl
-
-row_8 : row_told 8 ≡ true
-row_8 = refl
-
-told_row : (own : ℕ) → own < own_squares → row_told own ≡ true
-told_row zero below = row_0
-told_row (suc zero) below = row_1
-told_row (suc (suc zero)) below = row_2
-told_row (suc (suc (suc zero))) below = row_3
-told_row (suc (suc (suc (suc zero)))) below = row_4
-told_row (suc (suc (suc (suc (suc zero))))) below = row_5
-told_row (suc (suc (suc (suc (suc (suc zero)))))) below = row_6
-told_row (suc (suc (suc (suc (suc (suc (suc zero))))))) below = row_7
-told_row (suc (suc (suc (suc (suc (suc (suc (suc zero)))))))) below = row_8
-told_row (suc (suc (suc (suc (suc (suc (suc (suc (suc own))))))))) below = absurd (omega arith)
+-- so it does with the mover's lion on one square and the enemy's on another one
+tells_pair : (own enemy : ℕ) → own < own_squares → enemy < enemy_squares
+    → tells (run_kind (own * enemy_squares + enemy)) (own * enemy_squares + enemy) (image_lions (own * enemy_squares + enemy)) ≡ true
+tells_pair own enemy first second =
+    let ls = pair_layers own enemy in
+    let lions = own * enemy_squares + enemy in
+    let row : all_below (told own) enemy_squares ≡ true
+    = all_below-at (λ n. all_below (told n) enemy_squares) own_squares own all_told first in
+    let here : told own enemy ≡ true = all_below-at (told own) enemy_squares enemy row second in
+    let parts = and_parts (has_pair own enemy ls) (tells (run_kind lions) lions (lions_in (mirror_layers ls))) here in
+    let has = and_parts (eqb (count (order OwnLion) ls) 1 && eqb (count (order EnemyLion) ls) 1)
+    (eqb (choice (order OwnLion) ls) own && eqb (choice (order EnemyLion) ls) enemy) parts.0 in
+    let counts = and_parts (eqb (count (order OwnLion) ls) 1) (eqb (count (order EnemyLion) ls) 1) has.0 in
+    let choices = and_parts (eqb (choice (order OwnLion) ls) own) (eqb (choice (order EnemyLion) ls) enemy) has.1 in
+    let own_is : choice (order OwnLion) ls ≡ own = eqb-true (choice (order OwnLion) ls) own choices.0 in
+    let enemy_is : choice (order EnemyLion) ls ≡ enemy = eqb-true (choice (order EnemyLion) ls) enemy choices.1 in
+    let h : HasPair ls = record {
+      squares = refl;
+      layers = AreLayers-map (board_by (pair_cell own (enemy_square own enemy)));
+      own_lion = eqb-true (count (order OwnLion) ls) 1 counts.0;
+      enemy_lion = eqb-true (count (order EnemyLion) ls) 1 counts.1;
+      below = subst (λ n. n < enemy_squares) (sym enemy_is) second;
+    } in
+    let number : lions_in ls ≡ lions = ap (λ n. n * enemy_squares + choice (order EnemyLion) ls) own_is ∙ ap (λ n. own * enemy_squares + n) enemy_is in
+    subst (λ n. tells (run_kind lions) lions n ≡ true) (image-of_pair ls h ∙ ap image_lions number) parts.1
 
 tells_at : (lions : ℕ) (kind : RunKind) → lions < lion_pairs → run_kind lions ≡ kind → tells kind lions (image_lions lions) ≡ true
 tells_at lions kind below is =
-    let row = told_row (lions / enemy_squares) (omega arith) in
     let whole : lions / enemy_squares * enemy_squares + lions % enemy_squares ≡ lions = omega arith in
-    let here : told (lions / enemy_squares * enemy_squares + lions % enemy_squares) ≡ true =
-    all_below-at (λ enemy. told (lions / enemy_squares * enemy_squares + enemy)) enemy_squares (lions % enemy_squares) row (omega arith) in
-    subst (λ k. tells k lions (image_lions lions) ≡ true) is (subst (λ n. told n ≡ true) whole here)
+    let here = tells_pair (lions / enemy_squares) (lions % enemy_squares) (omega arith) (omega arith) in
+    subst (λ k. tells k lions (image_lions lions) ≡ true) is (subst (λ n. tells (run_kind n) n (image_lions n) ≡ true) whole here)
 
 pub first_lions : (lions : ℕ) → lions < lion_pairs → run_kind lions ≡ First → lions < image_lions lions
 first_lions lions below is = ltb-true lions (image_lions lions) (tells_at lions First below is)
