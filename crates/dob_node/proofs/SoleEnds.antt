@@ -23,7 +23,7 @@ use Rattle.dob_node.specs.Histories.{value_of}
 use Rattle.dob_node.specs.Openings.{AreOpenings}
 use Rattle.dob_node.specs.Lawful.{IsLawful}
 use Rattle.dob_node.specs.declared.node.Node.{Node}
-use Rattle.dob_node.specs.Sole.{sole_history, sole_applied, sole_items, cells_below, HasMade, IsDone, AreValues, IsUnderWay}
+use Rattle.dob_node.specs.Sole.{sole_history, sole_applied, sole_items, cells_below, HasCome, HasMade, IsDone, AreValues, IsUnderWay}
 use Rattle.dob_node.proofs.Kept.{last_now-entry}
 use Rattle.dob_node.proofs.Soles.{one_value, one_owner, cell_below}
 use Rattle.dob_node.proofs.Ends.{lawful_is_right}
@@ -93,17 +93,21 @@ under_way node set limit steps of made (inr idle) busy = absurd (busy idle)
 under_way node set limit steps of made (inl same) busy =
     record { node = node; of = of; made = subst (λ (k : ℕ). HasMade k node) same made; left = busy }
 
+-- the openings that it has begun with
+openings_of : (set : PieceSet) (steps : ℕ) (node : Node) → HasCome set steps node → (openings : List Opening) × AreOpenings set openings
+openings_of set zero node come = (come.0, come.1)
+openings_of set (suc steps) node come = openings_of set steps come.0 come.1
+
 -- idle, it has the value table
-pub sole_right : (node : Node) (set : PieceSet) (steps count : ℕ) (openings : List Opening) (values : List Value) → node.set ≡ set →
-    HasMade steps node → IsDone node → AreOpenings set openings → AreValues node.history.settlements count values → count ≡ classes_of set →
-    IsValueTable set values
-sole_right node set steps count openings values of made idle are listed count_is = subst (λ st. IsValueTable st values) of
-    (lawful_is_right node.set 1 (sole_history node.history.settlements) (sole_applied made.0) (cells_below (classes_of node.set) node.share)
-    (value_of node.history.settlements) openings values (lit< tt) (subst (λ st. AreOpenings st openings) (sym of) are) made.1.lawful all
-    (listed.whole ∙ number) (λ class low. listed.each class (subst (λ (k : ℕ). class < k) (sym number) low)))
+pub sole_right : (node : Node) (steps count : ℕ) (values : List Value) → HasMade steps node → IsDone node →
+    AreValues node.history.settlements count values → count ≡ classes_of node.set → IsValueTable node.set values
+sole_right node steps count values made idle listed number =
+    lawful_is_right node.set 1 (sole_history node.history.settlements) (sole_applied made.0) (cells_below (classes_of node.set) node.share)
+    (value_of node.history.settlements) begun.0 values (lit< tt) begun.1 made.1.lawful all
+    (listed.whole ∙ number) (λ class low. listed.each class (subst (λ (k : ℕ). class < k) (sym number) low))
   where
-    number : count ≡ classes_of node.set
-    number = count_is ∙ ap (λ st. classes_of st) (sym of)
+    begun : (openings : List Opening) × AreOpenings node.set openings
+    begun = openings_of node.set steps node made.3
 
     done : sole_items node.set node.history.settlements ≡ made.0
     done = ap (λ xs. sole_items node.set xs) (sym (take_all node.expanded node.history.settlements (omega (arith, idle.0)))) ∙ made.1.told

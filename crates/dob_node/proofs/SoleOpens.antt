@@ -1,5 +1,5 @@
 -- One node that owns all classes, as it is opened: it is lawful.
-use Rattle.std.proofs.Common.{◌≡◌, ◌≢◌, ℕ, zero, suc, ◌+◌, ◌*◌, ◌%◌, ◌<◌, ◌≤◌, inl, inr, eqb, Bool, true, false, cond, refl, sym, ap, ◌∙◌, subst, arith, List, [], ◌++◌, length, take, get_or, Option, None, Some, lit≤}
+use Rattle.std.proofs.Common.{◌≡◌, ◌≢◌, ℕ, zero, suc, ◌+◌, ◌*◌, ◌%◌, ◌<◌, ◌≤◌, inl, inr, eqb, Bool, true, false, cond, refl, sym, ap, ◌∙◌, subst, arith, List, [], ◌++◌, length, take, get_or, Option, None, Some, Result, Ok, Err, IfOk, lit≤}
 use Rattle.std.specs.List.{All}
 use Rattle.std.proofs.lemmas.Bool.{cases_order}
 use Rattle.std.proofs.lemmas.Bool.Decides.{nat_tests}
@@ -258,3 +258,9 @@ module _ (set : PieceSet) (openings : List Opening) (node : Node) (are : AreOpen
     ap (λ (k : ℕ). k + 0) opened.nothing.0,
     subst (λ st. HasCome st 0 node) (sym opened.of.0) (openings, are, opened, sound),
   )
+
+-- it is so of the node that an opening gives, where it gives one
+pub made_none_ok : {E : Type 0} (set : PieceSet) (openings : List Opening) (given : Result Node E) → AreOpenings set openings →
+    IfOk given (λ node. IsOpened openings set 0 1 node) → IfOk given (λ node. IsSound node) → IfOk given (λ node. HasMade 0 node)
+made_none_ok set openings (Ok node) are opened sound = made_none set openings node are opened sound
+made_none_ok set openings (Err why) are opened sound = tt

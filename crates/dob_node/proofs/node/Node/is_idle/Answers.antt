@@ -6,6 +6,9 @@ use Rattle.dob_update.specs.Batches.{OutboxView}
 use Rattle.dob_node.proofs.Sends.{all_empty, empty_all}
 use Rattle.dob_node.proofs.node.Node.is_idle.Goals as goal
 
+pub returns-then-not-is_empty : goal.returns-then-not-is_empty
+returns-then-not-is_empty c = (λ no. absurd cc, λ idle. let none = idle.applied in grind (arith, common_steps, c.if-not-is_empty.ensures, none))
+
 pub returns : goal.returns
 returns c =
     let node = c.args.self.now in
