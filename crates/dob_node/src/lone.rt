@@ -1,5 +1,5 @@
 // One node that owns all classes of a piece set, and makes its value table alone.
-ghost use Rattle.std.specs.Prelude.{◌≡◌, ℕ, ◌+◌, ◌<◌, ◌≤◌, ◌↔◌, ◌⊎◌, true, false, All, Ok, Err, IfOk, IfErr, IfSome, OnOk, IsErrOf};
+ghost use Rattle.std.specs.Prelude.{◌≡◌, ℕ, ◌+◌, ◌<◌, ◌≤◌, ◌↔◌, ◌⊎◌, true, false, All, Err, IfOk, IfErr, IfSome, OnOk, IsErrOf};
 ghost use Rattle.dob_pieces.specs.declared.piece_set.PieceSet.{PieceSet as Set};
 ghost use Rattle.dob_rank.specs.Marks.{classes_of};
 ghost use Rattle.dob_rank.specs.Limits.{IsTooLarge};
@@ -32,11 +32,11 @@ pub fn alone(alloc: Global, set: PieceSet, limit: u64) -> Result<Option<Table>, 
     ensures done { IfOk result (λ given. IfSome given (λ table. IsDoneWithin set limit)) }
 {
     let classes = Classes::open(alloc, set)?;
-    let mut node = begin(alloc, &classes, set)?;
-    if !finish(&mut node, &classes, limit)? {
+    let node = begin(alloc, &classes, set)?;
+    let Some(ended) = finish(node, &classes, limit)? else {
         return Ok(None);
-    }
-    let table = table_of(alloc, &node, classes)?;
+    };
+    let table = table_of(alloc, ended, classes)?;
     Ok(Some(table))
 }
 
@@ -50,32 +50,36 @@ fn begin(alloc: Global, classes: &Classes, set: PieceSet) -> Result<Node, Memory
     Node::open(alloc, &openings, set, 0, 1)
 }
 
-// Steps of the node until it has nothing left to do, up to that many. False where it has something left after them.
-fn finish(node: &mut Node, classes: &Classes, limit: u64) -> Result<bool, Fault>
-    requires set { classes.now.set ≡ node.old.set }
-    requires begun { HasMade 0 node.old }
+// The node when it has nothing left to do, after steps up to that many. `None` where it has something left after them.
+fn finish(mut node: Node, classes: &Classes, limit: u64) -> Result<Option<Node>, Fault>
+    requires set { classes.now.set ≡ node.set }
+    requires begun { HasMade 0 node }
     ensures too_large { ¬ (result ≡ Err Fault.SetTooLarge) }
-    ensures too_deep { result ≡ Err Fault.TooDeep → IsTooDeepWithin node.old.set limit }
+    ensures too_deep { result ≡ Err Fault.TooDeep → IsTooDeepWithin node.set limit }
     ensures fits { (class : ℕ) → ¬ (result ≡ Err (Fault.Contradiction class)) }
-    ensures set { OnOk result (node.new.set ≡ node.old.set) }
-    ensures done { result ≡ Ok true → (steps : ℕ) × (steps ≤ limit) × HasMade steps node.new × IsDone node.new }
-    ensures left { result ≡ Ok false → IsUnderWay node.old.set limit }
+    ensures set { IfOk result (λ given. IfSome given (λ ended. ended.set ≡ node.set)) }
+    ensures done { IfOk result (λ given. IfSome given (λ ended. (steps : ℕ) × (steps ≤ limit) × HasMade steps ended × IsDone ended)) }
+    ensures left { result ≡ Ok None → IsUnderWay node.set limit }
 {
-    match run(node, classes, limit) {
-        Ok(()) => Ok(node.is_idle()),
-        Err(why) => Err(fault_of(why)),
+    match run(&mut node, classes, limit) {
+        Ok(()) => {}
+        Err(why) => return Err(fault_of(why)),
     }
+    if !node.is_idle() {
+        return Ok(None);
+    }
+    Ok(Some(node))
 }
 
 // The table of the values that the node has come to.
-fn table_of(alloc: Global, node: &Node, classes: Classes) -> Result<Table, Memory>
-    requires set { classes.set ≡ node.now.set }
-    requires made { (steps : ℕ) × HasMade steps node.now }
-    requires done { IsDone node.now }
-    ensures set { IfOk result (λ table. table.set ≡ node.now.set) }
-    ensures table { IfOk result (λ table. IsValueTable node.now.set table.values) }
+fn table_of(alloc: Global, node: Node, classes: Classes) -> Result<Table, Memory>
+    requires set { classes.set ≡ node.set }
+    requires made { (steps : ℕ) × HasMade steps node }
+    requires done { IsDone node }
+    ensures set { IfOk result (λ table. table.set ≡ node.set) }
+    ensures table { IfOk result (λ table. IsValueTable node.set table.values) }
 {
-    let codes = codes_of(alloc, node, classes.class_count())?;
+    let codes = codes_of(alloc, &node, classes.class_count())?;
     Ok(Table::new(classes, codes))
 }
 

@@ -1,25 +1,29 @@
 -- What is so of the node is so of its set.
-use Rattle.std.proofs.Common.{Ok, ap, subst, ◌∙◌}
+use Rattle.std.proofs.Common.{◌≡◌, ℕ, ◌≤◌, Option, Ok, IfSome, ap, subst, ◌∙◌}
 use Rattle.std.proofs.lemmas.Result.{err_from_is_err_and}
 use Rattle.dob_pieces.specs.declared.piece_set.PieceSet.{PieceSet}
-use Rattle.dob_node.specs.Sole.{IsTooDeepWithin, IsUnderWay}
+use Rattle.dob_node.specs.declared.node.Node.{Node}
+use Rattle.dob_node.specs.Sole.{HasMade, IsDone, IsTooDeepWithin, IsUnderWay}
 use Rattle.dob_node.proofs.lone.alone.Goals as goal
 
-pub returns-in_err-finish-clause-too_deep : goal.returns-in_err-finish-clause-too_deep
-returns-in_err-finish-clause-too_deep c = λ same.
-    let given = err_from_is_err_and c.from_residual-in_err-finish.result c.from_residual-in_err-finish.ensures.1 in
-    subst (λ (set : PieceSet). IsTooDeepWithin set c.args.limit) c.in_ok-node.ensures.set (c.in_err-finish.ensures.too_deep (cc))
+pub returns-in_err-ended-clause-too_deep : goal.returns-in_err-ended-clause-too_deep
+returns-in_err-ended-clause-too_deep c = λ same.
+    let given = err_from_is_err_and c.from_residual-in_err-ended.result c.from_residual-in_err-ended.ensures.1 in
+    subst (λ (set : PieceSet). IsTooDeepWithin set c.args.limit) c.in_ok-node.ensures.set (c.in_err-ended.ensures.too_deep (cc))
 
-pub returns-then-not-branch-clause-none : goal.returns-then-not-branch-clause-none
-returns-then-not-branch-clause-none c = λ is.
-    subst (λ (set : PieceSet). IsUnderWay set c.args.limit) c.in_ok-node.ensures.set (c.in_ok-finish.ensures.left (ap Ok c.if-not-branch.true))
+pub returns-in_default-clause-none : goal.returns-in_default-clause-none
+returns-in_default-clause-none c = λ is.
+    subst (λ (set : PieceSet). IsUnderWay set c.args.limit) c.in_ok-node.ensures.set (c.in_ok-ended.ensures.left (ap Ok c.in_default.is))
 
 pub returns-clause-done : goal.returns-clause-done
 returns-clause-done c =
-    let done = c.in_ok-finish.ensures.done (ap Ok c.if-not-branch.false) in
+    let out = c.in_ok-ended.ensures in
+    let same = subst (λ (given : Option Node). IfSome given (λ ended. ended.set ≡ c.in_ok-node.node.set)) c.in-Some.is out.set in
+    let done = subst (λ (given : Option Node). IfSome given (λ ended. (steps : ℕ) × (steps ≤ c.args.limit) × HasMade steps ended × IsDone ended))
+    c.in-Some.is out.done in
     record {
-      node = c.finish.new.node;
-      of = c.in_ok-finish.ensures.set ∙ c.in_ok-node.ensures.set;
+      node = c.in-Some.ended;
+      of = same ∙ c.in_ok-node.ensures.set;
       steps = done.0;
       few = done.1;
       made = done.2;
