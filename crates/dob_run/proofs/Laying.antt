@@ -87,14 +87,6 @@ module _ {Y Z : Type 0} (capacity n : ℕ) where
     laid = row_laid i rows old new row so_far laid;
   }
 
--- one column more without inlets
-pub column_more : {Y : Type 0} → (k : ℕ) (columns : List (Vec Inlet Y)) (column : Vec Inlet Y) → AreRows k 0 columns → length column.items ≡ 0 →
-    AreRows (k + 1) 0 (columns ++ column ∷ [])
-column_more {Y} k columns column are empty = record {
-  count = omega (arith, length-append columns (column ∷ []), are.count);
-  each = each_more (λ (j : ℕ) (other : Vec Inlet Y). length other.items ≡ 0) columns (columns ++ column ∷ []) column k are.count refl are.each empty;
-}
-
 -- the ends of a new channel, each with an empty hand
 pub laid_of : (capacity : ℕ) (outlet : Outlet) (inlet : Inlet) (send : SendEnd) (take : TakeEnd) → outlet.end ≡ send → inlet.end ≡ take →
     outlet.hand ≡ None → inlet.hand ≡ None → ArePaired send take → capacity_of send ≡ capacity → (sent_by send ≡ []) × (taken_by take ≡ []) →

@@ -1,7 +1,9 @@
 -- What stands where in a list, also after one thing more, after one was exchanged, and in a function of all its things.
-use Rattle.std.proofs.Common.{◌≡◌, ◌≢◌, ℕ, zero, suc, ◌+◌, ◌<◌, ◌≤◌, ◌⊎◌, inl, inr, List, [], ◌∷◌, ◌++◌, length, map, drop, Some, refl, sym, ap, ◌∙◌, subst, arith, ⊎_elim, append_assoc}
+use Rattle.std.proofs.Common.{◌≡◌, ◌≢◌, ℕ, zero, suc, ◌+◌, ◌<◌, ◌≤◌, ◌⊎◌, inl, inr, List, [], ◌∷◌, ◌++◌, length, map, drop, take, Some, refl, sym, ap, ◌∙◌, subst, arith, ⊎_elim, append_assoc, length-append}
 use Rattle.std.proofs.lemmas.List.{append-nil}
 use Rattle.std.specs.Prelude.{slice_get}
+use Rattle.std.specs.declared.vec.Vec.{Vec}
+use Rattle.dob_run.specs.Rows.{StandsAt, AreRows}
 
 pub at_end : {A : Type 0} → (l : List A) (a b : A) (j : ℕ) → slice_get (l ++ a ∷ []) j ≡ Some b → (slice_get l j ≡ Some b) ⊎ ((j ≡ length l) × (a ≡ b))
 at_end [] a b zero e = inr (refl, (cc))
@@ -19,6 +21,17 @@ each_more {A} Q l more a k long is each here j b e = elim (at_end l a b j (ap (�
   | inl before ↦ each j b before
   | inr last ↦ subst (λ (p : ℕ × A). Q p.0 p.1) (λ i. ((sym long ∙ sym last.0) i, last.1 i)) here
 ]
+
+-- no rows, and one row more without things
+pub no_rows : {X Z : Type 0} → (n : ℕ) (rows : List (Vec X Z)) → rows ≡ [] → AreRows 0 n rows
+no_rows n rows none = record { count = ap length none; each = λ i row at. none_at rows i row none at }
+
+pub row_added : {X Z : Type 0} → (k : ℕ) (rows new : List (Vec X Z)) (row : Vec X Z) → AreRows k 0 rows → new ≡ rows ++ row ∷ [] →
+    length row.items ≡ 0 → AreRows (k + 1) 0 new
+row_added {X} {Z} k rows new row are is empty = record {
+  count = omega (arith, ap length is, length-append rows (row ∷ []), are.count);
+  each = each_more (λ (j : ℕ) (other : Vec X Z). length other.items ≡ 0) rows new row k are.count is are.each empty;
+}
 
 pub get_last : {A : Type 0} → (l : List A) (a : A) → slice_get (l ++ a ∷ []) (length l) ≡ Some a
 get_last [] a = refl
@@ -41,6 +54,10 @@ pub get_front : {A : Type 0} → (l m : List A) (b : A) (j : ℕ) → slice_get 
 get_front [] m b j e = absurd (cc)
 get_front (x ∷ xs) m b zero e = e
 get_front (x ∷ xs) m b (suc j) e = get_front xs m b j e
+
+-- nothing stands in empty rows
+pub none_stands : {X Z L : Type 0} → (m i j : ℕ) (rows : List (Vec X Z)) (x : X) → AreRows m 0 rows → StandsAt rows i j x → L
+none_stands m i j rows x are there = absurd (let low = inside there.0.items x j there.2 in omega (arith, low, are.each i there.0 there.1))
 
 -- what a function of a thing at a place is
 pub get_map : {A B : Type 0} → (f : A → B) (xs : List A) (k : ℕ) (x : A) → slice_get xs k ≡ Some x → slice_get (map f xs) k ≡ Some (f x)
@@ -105,3 +122,15 @@ module _ {A B : Type 0} (f : A → B) where
   pub ends_up : (all done : List B) (rest : List A) → all ≡ done ++ map f rest → length rest ≡ 0 → done ≡ all
   ends_up all done [] so_far none = sym (so_far ∙ append-nil done)
   ends_up all done (x ∷ xs) so_far none = absurd (omega (arith, none))
+
+  take_next : (xs : List A) (k : ℕ) (x : A) → slice_get xs k ≡ Some x → map f (take (suc k) xs) ≡ map f (take k xs) ++ f x ∷ []
+  take_next [] k x e = absurd (cc)
+  take_next (y ∷ xs) zero x e = ap (λ (z : A). f z ∷ []) (one_thing y x e)
+  take_next (y ∷ xs) (suc k) x e = ap (λ (l : List B). f y ∷ l) (take_next xs k x e)
+
+  -- a function of the first things, and of one more
+  pub takes_next : (xs : List A) (k : ℕ) (x : A) (done grown : List B) → slice_get xs k ≡ Some x → done ≡ map f (take k xs) →
+      grown ≡ done ++ f x ∷ [] → grown ≡ map f (take (k + 1) xs)
+  takes_next xs k x done grown at so_far is =
+      let one_more : suc k ≡ k + 1 = omega arith in
+      is ∙ ap (λ (l : List B). l ++ f x ∷ []) so_far ∙ sym (take_next xs k x at) ∙ ap (λ (m : ℕ). map f (take m xs)) one_more

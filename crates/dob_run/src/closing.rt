@@ -1,11 +1,11 @@
 // How the mails of a crew are closed: the seats go back to the board, and the ends of each channel come together again.
 ghost use Rattle.std.specs.Prelude.{◌≡◌, ℕ, Some, IfOk, OnOk, slice_get, vec_len, length, []};
-ghost use Rattle.dob_run.specs.Rows.{AreRows};
 ghost use Rattle.dob_run.specs.Closing.{IsCrew, HasAdded, ArePartsOf, HasEnded};
 
 use crate::hands::{Inlet, Outlet};
 use crate::mail::Mail;
 use crate::rejoin::{deal, part_inlets, part_outlets, rejoin_all};
+use crate::rows::empty_rows;
 use dob_board::{Board, Closed, NodeSeat};
 use dob_chan::{Rejoined, SendEnd, TakeEnd};
 use dob_pieces::Memory;
@@ -86,17 +86,6 @@ fn no_parts(alloc: Global, count: usize) -> Result<Parts, Memory>
         sending: Vec::with_capacity(alloc, count)?,
         taking: Vec::with_capacity(alloc, count)?,
     })
-}
-
-// So many empty rows.
-fn empty_rows(alloc: Global, count: usize) -> Result<Vec<Vec<TakeEnd>>, Memory>
-    ensures { IfOk result (λ rows. AreRows count 0 rows.items) }
-{
-    let mut rows = Vec::with_capacity(alloc, count)?;
-    for _ in 0..count {
-        rows.push(Vec::new(alloc))?;
-    }
-    Ok(rows)
 }
 
 impl Mail {

@@ -1,9 +1,9 @@
 // How the channels of a crew are laid: one from each node to each, itself included.
 ghost use Rattle.std.specs.Prelude.{◌≡◌, ◌<◌, ◌∷◌, [], ◌++◌, IfOk, OnOk, vec_len};
 ghost use Rattle.dob_run.specs.Laid.{IsLaid, IsRowLaid, AreLaid};
-ghost use Rattle.dob_run.specs.Rows.{AreRows};
 
 use crate::hands::{Inlet, Outlet};
+use crate::rows::empty_rows;
 use dob_chan::pair;
 use dob_pieces::Memory;
 use std::alloc::Global;
@@ -20,24 +20,13 @@ pub(crate) fn lay(
     requires { 0 < capacity }
     ensures { IfOk result (λ laid. AreLaid capacity n laid.0.items laid.1.items) }
 {
-    let mut columns = empty_columns(alloc, n)?;
+    let mut columns = empty_rows(alloc, n)?;
     let mut rows = Vec::with_capacity(alloc, n)?;
     for _ in 0..n {
         let row = lay_row(alloc, capacity, &mut columns)?;
         rows.push(row)?;
     }
     Ok((rows, columns))
-}
-
-// So many columns without inlets.
-fn empty_columns(alloc: Global, n: usize) -> Result<Vec<Vec<Inlet>>, Memory>
-    ensures { IfOk result (λ columns. AreRows n 0 columns.items) }
-{
-    let mut columns = Vec::with_capacity(alloc, n)?;
-    for _ in 0..n {
-        columns.push(Vec::new(alloc))?;
-    }
-    Ok(columns)
 }
 
 // The outlets of one node more. Each node's column gets the inlet of its channel.

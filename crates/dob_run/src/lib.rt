@@ -17,6 +17,7 @@ mod mail;
 mod rejoin;
 mod ring;
 mod rounds;
+mod rows;
 mod runner;
 mod runs;
 mod scans;

@@ -1,5 +1,0 @@
-use Rattle.dob_run.specs.Rows.{AreRows}
-use Rattle.dob_run.proofs.closing.empty_rows.Given as goal
-
-abbrev pub invariant-loop : goal.invariant-loop
-invariant-loop l = AreRows l.counter 0 l.rows.items

@@ -1,0 +1,5 @@
+use Rattle.dob_run.specs.Rows.{AreRows}
+use Rattle.dob_run.proofs.rows.empty_rows.Given as goal
+
+abbrev pub invariant-loop : goal.invariant-loop
+invariant-loop g l = AreRows l.counter 0 l.rows.items
