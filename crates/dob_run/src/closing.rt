@@ -111,12 +111,12 @@ impl Parts {
         ensures { OnOk result (HasAdded self.old mail self.new) }
     {
         let (seat, outlets, inlets) = mail.parts();
-        let (sends, sending) = part_outlets(alloc, outlets)?;
-        let (takes, taking) = part_inlets(alloc, inlets)?;
-        deal(takes, &mut self.takes)?;
         self.seats.push(seat)?;
+        let (sends, sending) = part_outlets(alloc, outlets)?;
         self.sends.push(sends)?;
         self.sending.push(sending)?;
+        let (takes, taking) = part_inlets(alloc, inlets)?;
+        deal(takes, &mut self.takes)?;
         self.taking.push(taking)?;
         Ok(())
     }
