@@ -2,7 +2,6 @@
 ghost use Rattle.std.specs.Prelude.{◌≡◌, ℕ, Some, IfOk, OnOk, slice_get, vec_len, length, []};
 ghost use Rattle.dob_run.specs.Closing.{IsCrew, HasAdded, ArePartsOf, HasEnded};
 
-use crate::hands::{Inlet, Outlet};
 use crate::mail::Mail;
 use crate::rejoin::{deal, part_inlets, part_outlets, rejoin_all};
 use crate::rows::empty_rows;
@@ -88,29 +87,17 @@ fn no_parts(alloc: Global, count: usize) -> Result<Parts, Memory>
     })
 }
 
-impl Mail {
-    // The seat, the outlets and the inlets.
-    fn parts(self) -> (NodeSeat, Vec<Outlet>, Vec<Inlet>)
-        ensures seat { result.0 ≡ self.seat }
-        ensures outlets { result.1 ≡ self.outlets }
-        ensures inlets { result.2 ≡ self.inlets }
-    {
-        let Mail {
-            seat,
-            outlets,
-            inlets,
-        } = self;
-        (seat, outlets, inlets)
-    }
-}
-
 impl Parts {
     // Takes one mail more apart.
     fn add(&mut self, alloc: Global, mail: Mail) -> Result<(), Memory>
         requires { mail.seat.nodes ≡ vec_len self.old.takes }
         ensures { OnOk result (HasAdded self.old mail self.new) }
     {
-        let (seat, outlets, inlets) = mail.parts();
+        let Mail {
+            seat,
+            outlets,
+            inlets,
+        } = mail;
         self.seats.push(seat)?;
         let (sends, sending) = part_outlets(alloc, outlets)?;
         self.sends.push(sends)?;

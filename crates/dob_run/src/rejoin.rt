@@ -11,28 +11,6 @@ use dob_update::Batch;
 use std::alloc::Global;
 use std::sync::Wait;
 
-impl Outlet {
-    // The end and the hand.
-    fn parts(self) -> (SendEnd, Option<Batch>)
-        ensures end { result.0 ≡ self.end }
-        ensures hand { result.1 ≡ self.hand }
-    {
-        let Outlet { end, hand } = self;
-        (end, hand)
-    }
-}
-
-impl Inlet {
-    // The end and the hand.
-    fn parts(self) -> (TakeEnd, Option<Batch>)
-        ensures end { result.0 ≡ self.end }
-        ensures hand { result.1 ≡ self.hand }
-    {
-        let Inlet { end, hand } = self;
-        (end, hand)
-    }
-}
-
 /// The ends of a node's outlets, and what is in their hands.
 ///
 /// Error: `Memory`.
@@ -46,7 +24,7 @@ pub(crate) fn part_outlets(
     let mut ends = Vec::with_capacity(alloc, outlets.len())?;
     let mut hands = Vec::with_capacity(alloc, outlets.len())?;
     for outlet in outlets {
-        let (end, hand) = outlet.parts();
+        let Outlet { end, hand } = outlet;
         ends.push(end)?;
         hands.push(hand)?;
     }
@@ -66,7 +44,7 @@ pub(crate) fn part_inlets(
     let mut ends = Vec::with_capacity(alloc, inlets.len())?;
     let mut hands = Vec::with_capacity(alloc, inlets.len())?;
     for inlet in inlets {
-        let (end, hand) = inlet.parts();
+        let Inlet { end, hand } = inlet;
         ends.push(end)?;
         hands.push(hand)?;
     }

@@ -125,7 +125,7 @@ pub(crate) fn part_runners(
     let mut nodes = Vec::with_capacity(alloc, runners.len())?;
     let mut mails = Vec::with_capacity(alloc, runners.len())?;
     for runner in runners {
-        let (node, mail) = runner.parts();
+        let Runner { node, mail, .. } = runner;
         nodes.push(node)?;
         mails.push(mail)?;
     }
@@ -168,14 +168,5 @@ impl Runner {
         ensures { result ≡ self.now.failed }
     {
         self.failed
-    }
-
-    // The node and the mail.
-    fn parts(self) -> (Node, Mail)
-        ensures node { result.0 ≡ self.node }
-        ensures mail { result.1 ≡ self.mail }
-    {
-        let Runner { node, mail, .. } = self;
-        (node, mail)
     }
 }

@@ -1,4 +1,4 @@
-use Rattle.std.proofs.Common.{rules}
+use Rattle.std.proofs.Common.{rules, refl}
 use Rattle.dob_run.specs.Ending.{outlet_end, outlet_hand}
 use Rattle.dob_run.proofs.Places.{moves_on, ends_up}
 use Rattle.dob_run.proofs.rejoin.part_outlets.Goals as goal
@@ -7,8 +7,8 @@ pub loop-outlet-preserved : goal.loop-outlet-preserved
 loop-outlet-preserved c =
     let inv = c.loop-outlet.invariant in
     let step = c.in-Some.ensures.steps in record {
-      ends_are = moves_on outlet_end _ _ _ _ _ _ _ inv.ends_are step.0 c.parts-end.ensures.end c.in_ok-push.ensures.items;
-      hands_are = moves_on outlet_hand _ _ _ _ _ _ _ inv.hands_are step.0 c.parts-end.ensures.hand c.in_ok-push-2.ensures.items;
+      ends_are = moves_on outlet_end _ _ _ _ _ _ _ inv.ends_are step.0 refl c.in_ok-push.ensures.items;
+      hands_are = moves_on outlet_hand _ _ _ _ _ _ _ inv.hands_are step.0 refl c.in_ok-push-2.ensures.items;
     }
 
 pub returns-clause-ends : goal.returns-clause-ends

@@ -1,4 +1,4 @@
-use Rattle.std.proofs.Common.{rules}
+use Rattle.std.proofs.Common.{rules, refl}
 use Rattle.dob_run.specs.Manned.{mail_of, node_of}
 use Rattle.dob_run.proofs.Places.{moves_on, ends_up}
 use Rattle.dob_run.proofs.runs.part_runners.Goals as goal
@@ -7,8 +7,8 @@ pub loop-runner-preserved : goal.loop-runner-preserved
 loop-runner-preserved c =
     let inv = c.loop-runner.invariant in
     let step = c.in-Some.ensures.steps in record {
-      nodes_are = moves_on node_of _ _ _ _ _ _ _ inv.nodes_are step.0 c.parts-node.ensures.node c.in_ok-push.ensures.items;
-      mails_are = moves_on mail_of _ _ _ _ _ _ _ inv.mails_are step.0 c.parts-node.ensures.mail c.in_ok-push-2.ensures.items;
+      nodes_are = moves_on node_of _ _ _ _ _ _ _ inv.nodes_are step.0 refl c.in_ok-push.ensures.items;
+      mails_are = moves_on mail_of _ _ _ _ _ _ _ inv.mails_are step.0 refl c.in_ok-push-2.ensures.items;
     }
 
 pub returns-clause-nodes : goal.returns-clause-nodes
