@@ -20,13 +20,13 @@ use Rattle.dob_unmove.specs.declared.undo.Undo.{Undo}
 use Rattle.dob_unmove.specs.declared.undo.Undo.TheVariants.{Unstep, Unput}
 use Rattle.dob_unmove.specs.declared.ways.Ways.{Ways}
 use Rattle.dob_unmove.specs.Classes.{IsTurned}
-use Rattle.dob_unmove.specs.Undoes.{arrives_at, earlier, CanUndo}
+use Rattle.dob_unmove.specs.Undoes.{arrives_at, earlier, CanUndo, CanUnstep}
 use Rattle.dob_unmove.specs.Threats.{elsewhere, stood_before}
 use Rattle.dob_unmove.specs.Walks.{stands, uncatch, unsteps_between, unsteps_from, unsteps, undoes_at}
 use Rattle.dob_unmove.specs.Ways.{is_home, may_end, comes_home, may_come, CanWalk}
 use Rattle.dob_unmove.proofs.Kept.{legal_turned}
 use Rattle.dob_unmove.proofs.Homes.{first_home}
-use Rattle.dob_unmove.proofs.Listed.{at_sound, from_sound, stands-true}
+use Rattle.dob_unmove.proofs.Listed.{at_sound, from_sound, stands-true, free_step}
 use Rattle.dob_unmove.proofs.Shapes.{ends_on, undoes_end, from_step}
 use Rattle.dob_unmove.proofs.Threats.{turned_squares, turned_lions, was_not_open, at_from, at_others, here, at_rest, lion_not_beyond, lion_not_dropped}
 use Rattle.dob_unmove.specs.Gathers.{Gathers}
@@ -197,6 +197,11 @@ module _ (after : Setup) (threat : Threat) (kind : Kind) (from to : ℕ) (there 
       let empty : not (is_some (at after from)) ≡ true = ap (λ (c : Cell). not (is_some c)) (empty_there (at after from) parts.1) in
       ap (λ b. cond (b && leads kind from to) (unsteps_between after kind from to) []) empty
       ∙ ap (λ b. cond b (unsteps_between after kind from to) []) parts.0
+
+  -- and the step may have been made
+  pub comes_step : from < 12 → CanUnstep after kind from to None
+  comes_step on_board =
+      free_step after kind from to there (ap (λ (c : Cell). is_some c) (empty_there (at after from) parts.1)) parts.0 on_board
 
 -- ---- the steps to a square
 

@@ -1,5 +1,5 @@
 -- The list of the ways has each way that can undo the last move, once, and no other.
-use Rattle.std.proofs.Common.{◌≡◌, ℕ, ◌<◌, ◌&&◌, Bool, true, not, List, [], ◌∷◌, ◌++◌, Option, Some, None, length, refl, ap, ◌∙◌, subst, inl, inr, Contains}
+use Rattle.std.proofs.Common.{◌≡◌, ℕ, ◌<◌, ◌&&◌, Bool, true, false, not, List, [], ◌∷◌, ◌++◌, Option, Some, None, length, refl, ap, ◌∙◌, subst, inl, inr, Contains}
 use Rattle.std.specs.Option.{is_some}
 use Rattle.std.proofs.lemmas.Bool.{and_parts, ltb-true, lt-ltb}
 use Rattle.std.proofs.lemmas.List.Elements.{Contains-append_left, Contains-append_right, Contains-append_cases}
@@ -87,6 +87,12 @@ no_lion_back h g = cc
 empty-true : (cell : Cell) → not (is_some cell) ≡ true → cell ≡ None
 empty-true None e = refl
 empty-true (Some piece) e = cc
+
+-- a step to where the piece stands, from a free square
+pub free_step : (after : Setup) (kind : Kind) (from to : ℕ) → stands (at after to) (arrives_at kind to) ≡ true → is_some (at after from) ≡ false
+    → leads kind from to ≡ true → from < 12 → CanUnstep after kind from to None
+free_step after kind from to there empty leads on_board =
+    record { stands = stands-true (at after to) (arrives_at kind to) there; on_board = on_board; empty = empty-true (at after from) (ap (λ b. not b) empty); leads = leads; in_hand = tt }
 
 -- ---- the way alone, if a test is met
 

@@ -1,8 +1,8 @@
--- The step without a catch, and then each catch.
+-- The step without a catch, which may have been made, and then each catch.
 use Rattle.std.proofs.Common.{None, rules}
 use Rattle.std.proofs.lemmas.Result.{on_ok_weaker}
 use Rattle.dob_unmove.specs.Classes.{IsFirstIn}
-use Rattle.dob_unmove.proofs.Dead.{comes_between, steps_from}
+use Rattle.dob_unmove.proofs.Dead.{comes_between, comes_step, steps_from}
 use Rattle.dob_unmove.proofs.Kept.{legal_turned}
 use Rattle.dob_unmove.proofs.LionsBefore.{step_home}
 use Rattle.dob_unmove.proofs.predecessors.gather_steps_from.Goals as goal
@@ -23,3 +23,18 @@ returns c =
     (comes_between c.args.after.now c.args.ways.now.threat c.args.kind c.args.from c.args.to c.requires.stands c.requires.comes)
     c.in_ok-gather_one.ensures c.in_ok-gather_catch.ensures c.in_ok-gather_catch-2.ensures c.in_ok-gather_catch-3.ensures last)
     c.gather_catch-4.ensures
+
+pub gather_one-requires-clause-can : goal.gather_one-requires-clause-can
+gather_one-requires-clause-can c = comes_step c.args.after.now c.args.ways.now.threat c.args.kind c.args.from c.args.to c.requires.stands c.requires.comes (search rules)
+
+pub gather_catch-requires-clause-step : goal.gather_catch-requires-clause-step
+gather_catch-requires-clause-step c = comes_step c.args.after.now c.args.ways.now.threat c.args.kind c.args.from c.args.to c.requires.stands c.requires.comes (search rules)
+
+pub gather_catch-requires-2-clause-step : goal.gather_catch-requires-2-clause-step
+gather_catch-requires-2-clause-step c = comes_step c.args.after.now c.args.ways.now.threat c.args.kind c.args.from c.args.to c.requires.stands c.requires.comes (search rules)
+
+pub gather_catch-requires-3-clause-step : goal.gather_catch-requires-3-clause-step
+gather_catch-requires-3-clause-step c = comes_step c.args.after.now c.args.ways.now.threat c.args.kind c.args.from c.args.to c.requires.stands c.requires.comes (search rules)
+
+pub gather_catch-requires-4-clause-step : goal.gather_catch-requires-4-clause-step
+gather_catch-requires-4-clause-step c = comes_step c.args.after.now c.args.ways.now.threat c.args.kind c.args.from c.args.to c.requires.stands c.requires.comes (search rules)
