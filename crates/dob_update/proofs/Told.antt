@@ -6,6 +6,7 @@ use Rattle.std.proofs.lemmas.Bool.{cases_lt, cases_eq}
 use Rattle.std.proofs.lemmas.List.{append_assoc, append-nil, length-map, map-append, take-append-le, drop-append-le, take_all, take-take, take-append-drop, drop-take, drop-drop, take_at, drop_at, drop_all, drop_more, map_more, get_or-drop, nil_from_length}
 use Rattle.dob_share.specs.declared.news.Settlement.{Settlement}
 use Rattle.dob_share.specs.declared.news.Item.{Item}
+use Rattle.dob_value.specs.declared.value.Value.TheVariants.{Win}
 use Rattle.dob_update.specs.declared.part.Part.{Part}
 use Rattle.dob_pieces.specs.declared.piece_set.PieceSet.{PieceSet}
 use Rattle.dob_share.specs.Owners.{owner_of}
@@ -160,6 +161,10 @@ telling_none parts classes list within none = record { so_far = ap (λ (xs : Lis
 
 next_part : (parts : List Part) (index : ℕ) (part : Part) → index < length parts → part ≡ get_or parts index part → drop index parts ≡ part ∷ drop (index + 1) parts
 next_part parts index part there read = drop_more parts index part there ∙ ap (λ (p : Part). p ∷ drop (index + 1) parts) (sym read)
+
+-- a part's place beyond the end
+abbrev pub no_part : Part
+no_part = record { settlement = record { number = 0; class = 0; was = Win 0; now = Win 0 }; items = 0 }
 
 -- the next part's classes are there
 pub telling_within : (parts : List Part) (classes : List ℕ) (index next : ℕ) (list : List Item) (part : Part) → index < length parts → part ≡ get_or parts index part
