@@ -104,3 +104,7 @@ returns-clause-settled c = (
       (cell_in c.apply_at.new.slots c.apply_at.new.pool c.in-Some.place) c.in-Ok.values.0 c.in-Ok.values.1 c.in-Ok.ensures.takes c.in-Ok.ensures.cell
       c.in-Ok.ensures.before c.in-Ok.ensures.after (c.is_same.ensures.no c.if-is_same.false),
 )
+
+pub returns-in-Err-clause-others : goal.returns-in-Err-clause-others
+returns-in-Err-clause-others c =
+    others_kept c.args.self.now c.args.item c.in-Some.place c.in-Some.ensures.0 c.in-Some.ensures.1 _ refl refl c.apply_at.ensures.others
