@@ -3,7 +3,7 @@ use Rattle.std.proofs.Common.{◌≡◌, ◌<◌, subst, arith, ◌∙◌}
 use Rattle.dob_rank.specs.Marks.{classes_of}
 use Rattle.dob_rank.proofs.Marks.{HasClasses-classes_of}
 use Rattle.dob_value.specs.ClassRows.{class_setup}
-use Rattle.dob_value.specs.Graphs.{ClassStandsFor, IsNode}
+use Rattle.dob_value.specs.Graphs.{AreNodes, ClassStandsFor, IsNode}
 use Rattle.dob_value.proofs.Nodes.{nodes_grown}
 use Rattle.dob_value.proofs.Rows.{class_setup_only}
 use Rattle.dob_value.proofs.graph.graph_of.Goals as goal
@@ -23,3 +23,12 @@ loop-number-preserved c =
     nodes_grown set number c.loop-number.statuses.items c.loop-number.starts.items c.loop-number.successors.items status found.0
     _ _ _ _ c.loop-number.invariant known c.in_ok-push-2.ensures.items c.in_ok-push-3.ensures.items
     (c.len.ensures ∙ c.push_successors.new.successors.ok.0) found.1
+
+pub push_successors-requires : goal.push_successors-requires
+push_successors-requires c = c.class_at-position.ensures.representative.0
+
+pub returns-clause-graph : goal.returns-clause-graph
+returns-clause-graph c =
+    let all : c.loop-number.number ≡ classes_of c.args.classes.now.set =
+    omega (arith, c.class_count-number-end.ensures.number, c.loop-number-test.false, c.loop-number.auto.number-end) in
+    subst (λ n. AreNodes c.args.classes.now.set n c.loop-number.statuses.items c.loop-number.starts.items c.loop-number.successors.items) all c.loop-number.invariant
