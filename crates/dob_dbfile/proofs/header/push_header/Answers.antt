@@ -1,0 +1,14 @@
+-- The three pieces, one after the other.
+use Rattle.std.proofs.Common.{◌≡◌, ◌∙◌, ◌++◌, List, ℕ, ap, append_assoc, rules}
+use Rattle.dob_dbfile.specs.Format.{title, set_bytes, count_bytes}
+use Rattle.dob_dbfile.proofs.header.push_header.Goals as goal
+
+pieces : (old first second now a b c : List ℕ) → first ≡ old ++ a → second ≡ first ++ b → now ≡ second ++ c → now ≡ old ++ (a ++ (b ++ c))
+pieces old first second now a b c e f g =
+    g ∙ ap (λ xs. xs ++ c) (f ∙ ap (λ xs. xs ++ b) e ∙ append_assoc old a b) ∙ append_assoc old (a ++ b) c ∙ ap (λ xs. old ++ xs) (append_assoc a b c)
+
+pub returns : goal.returns
+returns c =
+    pieces c.args.bytes.now.items c.extend_from_slice.new.self.items c.extend_from_slice-2.new.self.items c.extend_from_slice-3.new.self.items
+    title (set_bytes c.args.set) (count_bytes c.args.count)
+    c.in_ok-extend_from_slice.ensures.items c.in_ok-extend_from_slice-2.ensures.items (search rules)
