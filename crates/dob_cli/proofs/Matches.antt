@@ -1,18 +1,23 @@
--- The texts of a subcommand that takes one, two or three, from its own matches.
-use Rattle.std.proofs.Common.{◌≡◌, ◌∙◌, ◌&&◌, ◌++◌, ℕ, Bool, true, false, ap, sym, subst, refl, true≢false, map, List, [], ◌∷◌, Option, Some, None, is_some}
-use Rattle.std.specs.Prelude.{Result, option_map, slice_get, unwrap_or}
+-- The texts of a subcommand that takes one, two or three, from its own matches, and which form's matches they are.
+use Rattle.std.proofs.Common.{◌≡◌, ◌∙◌, ◌&&◌, ◌++◌, ℕ, Bool, true, false, cond, inl, inr, ap, sym, subst, refl, true≢false, map, List, [], ◌∷◌, Option, Some, None, is_some}
+use Rattle.std.specs.Prelude.{IsSomeAnd, Result, option_map, slice_get, unwrap_or}
 use Rattle.std.specs.Result.{result_ok}
-use Rattle.std.specs.List.{list_all}
+use Rattle.std.specs.List.{filter, list_all}
+use Rattle.std.specs.Str.{bytes_eq}
 use Rattle.std.specs.Str.Parse.{ParsesUnsigned}
 use Rattle.std.proofs.lemmas.Result.{Ok-from_Ok_iff}
+use Rattle.std.proofs.lemmas.Slice.Eq.{bytes_eq-Decides}
 use Rattle.std.specs.Borrow.{Bor}
-use Rattle.clap.specs.Words.{Row, first_of, first_value, found_of, rows_of}
+use Rattle.clap.specs.Words.{Row, first_of, first_value, found_of, rows_of, subcommand_name_of, subcommand_rows_of}
 use Rattle.clap.specs.declared.parser.ArgMatches.{ArgMatches}
 use Rattle.clap.specs.declared.builder.value_parser.ValueParser.TheVariants.{Unsigned}
 use Rattle.clap.proofs.ValueTestLemmas.{accepts-Accepts}
-use Rattle.dob_cli.specs.Forms.{Form, Text, labels}
+use Rattle.dob_cli.specs.Forms.{Form, Text, forms, labels}
+use Rattle.dob_cli.specs.Lines.{IsAmong}
 use Rattle.dob_cli.specs.Words.{fits, is_number, number_of}
 use Rattle.dob_cli.specs.Shapes.{AreFit, Finds}
+use Rattle.dob_cli.specs.Readings.{IsOrder}
+use Rattle.dob_cli.specs.declared.command.Order.{Order}
 use Rattle.dob_cli.proofs.Texts.{taken_number}
 use Rattle.dob_cli.proofs.Outcomes.{found_texts, none_missing, text_in_matches}
 
@@ -106,3 +111,36 @@ none_read n o some none = true≢false (sym (ap is_some some) ∙ ap is_some non
 
 pub some_read : (n m : ℕ) (o : Option ℕ) → o ≡ Some n → o ≡ Some m → m ≡ n
 some_read n m o some is = ap (λ (x : Option ℕ). unwrap_or x 0) (sym is ∙ some)
+
+-- ---- the subcommand that was met
+
+-- the name that was met, on its own
+name_met : {A : Type 0} (name : A → Text) (rows : A → List Row) (o : Option A) (n : Text) (rs : List Row)
+    → option_map {U = Text × List Row} (λ a. (name a, rows a)) o ≡ Some (n, rs) → option_map name o ≡ Some n
+name_met name rows None n rs e = ap (option_map (λ (p : Text × List Row). p.0)) e
+name_met name rows (Some a) n rs e = ap (option_map (λ (p : Text × List Row). p.0)) e
+
+-- a form of this name is among those of the name
+among_named : (n : Text) (form : Form) (fs : List Form) → IsAmong form fs → form.name ≡ n → IsAmong form (filter (λ f. bytes_eq f.name n) fs)
+among_named n form [] among named = among
+among_named n form (f ∷ fs) (inl is) named = rw ((bytes_eq-Decides f.name n).1 (ap (λ (g : Form). g.name) (sym is) ∙ named)) (inl is)
+among_named n form (f ∷ fs) (inr more) named = kept (bytes_eq f.name n) _ (among_named n form fs more named)
+  where
+    kept : (b : Bool) (gs : List Form) → IsAmong form gs → IsAmong form (cond b (f ∷ gs) gs)
+    kept true gs h = inr h
+    kept false gs h = h
+
+-- where just one form has the name, what is read of its matches is the order of each form that was met
+pub order_found : (this : Form) → filter (λ f. bytes_eq f.name this.name) forms ≡ this ∷ [] → (m inner : ArgMatches) (name : Text) → name ≡ this.name
+    → Some name ≡ subcommand_name_of m → Some (rows_of (found_of inner)) ≡ option_map (λ p. p.1) (subcommand_rows_of m) → (o : Option Order)
+    → ((texts : List Text) → Finds this texts (Some (this.name, rows_of (found_of inner))) → IsSomeAnd o (IsOrder this.name texts))
+    → (form : Form) (texts : List Text) → IsAmong form forms → Finds form texts (subcommand_rows_of m) → IsSomeAnd o (IsOrder form.name texts)
+order_found this alone m inner name is named kept o reads form texts among found =
+    let same : form.name ≡ this.name = ap (λ (x : Option Text). unwrap_or x []) (sym (name_met _ _ _ form.name found.0 found.1) ∙ sym named) ∙ is in
+    let only : form ≡ this = sole (subst (IsAmong form) alone (among_named this.name form forms among same)) in
+    let found_this : Finds this texts (subcommand_rows_of m) = subst (λ (f : Form). Finds f texts (subcommand_rows_of m)) only found in
+    subst (λ (f : Form). IsSomeAnd o (IsOrder f.name texts)) (sym only) (reads texts (found_inside this texts (subcommand_rows_of m) found_this inner kept))
+  where
+    sole : IsAmong form (this ∷ []) → form ≡ this
+    sole (inl e) = e
+    sole (inr none) = absurd none

@@ -13,6 +13,7 @@ use Rattle.clap.specs.declared.error.ErrorKind.TheVariants as kind
 use Rattle.clap.specs.declared.parser.ArgMatches.{ArgMatches}
 use Rattle.clap.proofs.WalkLemmas.{both, first_value-rows}
 use Rattle.dob_cli.specs.Forms.{Form, Text, forms}
+use Rattle.dob_cli.specs.Lines.{IsAmong as IsAmongForms}
 use Rattle.dob_cli.specs.Words.{Meaning, asks, help, is_version, meaning_of, meaning_of_command, topic, usage, version}
 use Rattle.dob_cli.specs.Shapes.{Finds, HasShape, dobutsu_app}
 use Rattle.dob_cli.specs.Readings.{IsOrder, IsReadingOf, IsReadingOfKind}
@@ -82,31 +83,27 @@ asked_by_matches app words m is kinds matches =
     subst (λ k. Fits (meaning_of_command words) k (subcommand_of dobutsu_app words)) clean (words_fit words) in
     asked_for words (meaning_of_command words) (subcommand_rows_of m) refl (subst (Fits (meaning_of_command words) []) (sym rows) fits)
 
--- what is known for each form
-abbrev pub EachForm : (Form → Type 0) → List Form → Type 0
-EachForm P [] = Unit {0}
-EachForm P (f ∷ fs) = P f × (EachForm P fs)
-
 -- so there is an order
 pub order_is_there : {X : Type 0} (words : List Text) (met : Option (Text × List Row)) → IsAsked words met
-    → EachForm (λ f. (texts : List Text) → Finds f texts met → X) forms → X
+    → ((form : Form) (texts : List Text) → IsAmongForms form forms → Finds form texts met → X) → X
 order_is_there {X} words met is each = go forms each is.found
   where
-    go : (fs : List Form) → EachForm (λ f. (texts : List Text) → Finds f texts met → X) fs → IsMet fs is.name is.texts met → X
+    go : (fs : List Form) → ((form : Form) (texts : List Text) → IsAmongForms form fs → Finds form texts met → X) → IsMet fs is.name is.texts met → X
     go [] each found = absurd found
-    go (f ∷ fs) each (inl h) = each.0 is.texts h.1
-    go (f ∷ fs) each (inr h) = go fs each.1 h
+    go (f ∷ fs) each (inl h) = each f is.texts (inl refl) h.1
+    go (f ∷ fs) each (inr h) = go fs (λ form texts among. each form texts (inr among)) h
 
 -- and it is what the words ask for
 pub order_is_meant : (words : List Text) (met : Option (Text × List Row)) (o : Order) → IsAsked words met
-    → EachForm (λ f. (texts : List Text) → Finds f texts met → IsOrder f.name texts o) forms → IsReadingOf (meaning_of_command words) (reading.Order o)
+    → ((form : Form) (texts : List Text) → IsAmongForms form forms → Finds form texts met → IsOrder form.name texts o)
+    → IsReadingOf (meaning_of_command words) (reading.Order o)
 order_is_meant words met o is each = subst (λ m. IsReadingOf m (reading.Order o)) (sym is.meant) (go forms each is.found)
   where
-    go : (fs : List Form) → EachForm (λ f. (texts : List Text) → Finds f texts met → IsOrder f.name texts o) fs → IsMet fs is.name is.texts met
-        → IsOrder is.name is.texts o
+    go : (fs : List Form) → ((form : Form) (texts : List Text) → IsAmongForms form fs → Finds form texts met → IsOrder form.name texts o)
+        → IsMet fs is.name is.texts met → IsOrder is.name is.texts o
     go [] each found = absurd found
-    go (f ∷ fs) each (inl h) = subst (λ n. IsOrder n is.texts o) h.0 (each.0 is.texts h.1)
-    go (f ∷ fs) each (inr h) = go fs each.1 h
+    go (f ∷ fs) each (inl h) = subst (λ n. IsOrder n is.texts o) h.0 (each f is.texts (inl refl) h.1)
+    go (f ∷ fs) each (inr h) = go fs (λ form texts among. each form texts (inr among)) h
 
 -- an order that was read is the one that the words ask for
 pub asked_order : (m : Meaning) (name : Text) (texts : List Text) (r : Reading) (o : Order) → r ≡ reading.Order o → m ≡ asks name texts → IsReadingOf m r

@@ -4,15 +4,15 @@
 // - a form in specs/Forms.antt, also in `forms`, and the name of what it asks for at the end of specs/Words.antt;
 // - a variant of `Order` here, with its case in both functions of specs/Readings.antt;
 // - a function that makes its command, its options by `option_argument`, which `dobutsu_command` adds, a function in
-//   command/orders.rt that reads its matches, and an arm and a clause in `order_of`;
+//   command/orders.rt that reads its matches, and an arm in `order_of`;
 // - a record in proofs/Taken.antt, proofs/AllWords.antt and proofs/Lines.antt, by `refl`, and a line each in `all_fit` and
 //   `all_known`;
-// - its cases in the answers of `dobutsu_command`, `order_of` and `read_words`, as those of `count`;
+// - its cases in the answers of `dobutsu_command` and `order_of`, as those of `count`;
 // - what it owes by a definition like `AnswersCount`, a case in each definition of specs/Orders.antt and a field of `Ran` in
 //   specs/Runs.antt;
 // - in program.rt an arm of `answer`, and its cases in proofs/Orders.antt and proofs/Runs.antt.
 ghost use Rattle.std.specs.Prelude.{◌≡◌, ◌∷◌, [], IfOk, IsSomeAnd, List, codes, map};
-ghost use Rattle.clap.specs.Words.{kind_of, subcommand_rows_of};
+ghost use Rattle.clap.specs.Words.{App, kind_of, subcommand_rows_of, with_subcommand};
 ghost use Rattle.dob_cli.specs.Forms.{Form, Text, build_form, check_form, count_form, forms, line_form, probe_form, value_form};
 ghost use Rattle.dob_cli.specs.Forms.{file_option, nodes_option, out_option, set_option};
 ghost use Rattle.dob_cli.specs.Lines.{IsAmong, IsLine};
@@ -21,7 +21,6 @@ ghost use Rattle.dob_cli.specs.Shapes.{Finds, HasShape, IsRead, bare_app, dobuts
 ghost use Rattle.dob_cli.specs.Readings.{ComesFromLine, IsOrder, IsReadingOf, IsReadingOfKind};
 
 mod orders;
-mod stages;
 
 use clap::error::ErrorKind;
 use clap::{Arg, ArgMatches, Command, Error, value_parser};
@@ -201,9 +200,25 @@ fn asks_version(words: &[&str]) -> bool
 fn dobutsu_command<'a>(alloc: Global) -> Result<Command<'a>, AllocError>
     ensures { IfOk result (HasShape dobutsu_app) }
 {
-    stages::table_command(alloc)?
-        .subcommand(line_command(alloc)?)?
-        .subcommand(check_command(alloc)?)
+    let command = bare_command(alloc);
+    let command = add_subcommand(command, value_command(alloc));
+    let command = add_subcommand(command, count_command(alloc));
+    let command = add_subcommand(command, build_command(alloc));
+    let command = add_subcommand(command, probe_command(alloc));
+    let command = add_subcommand(command, line_command(alloc));
+    add_subcommand(command, check_command(alloc))
+}
+
+// The command with the subcommand, where memory was left for both. It takes their results, since a chain of `?` is slow
+// to prove.
+fn add_subcommand<'a>(
+    command: Result<Command<'a>, AllocError>,
+    subcommand: Result<Command<'a>, AllocError>,
+) -> Result<Command<'a>, AllocError>
+    ensures { (outer inner : App) → IfOk command.entry (HasShape outer) → IfOk subcommand.entry (HasShape inner)
+        → IfOk result (HasShape (with_subcommand outer inner.top)) }
+{
+    command?.subcommand(subcommand?)
 }
 
 // The program's command without its subcommands.
@@ -333,18 +348,8 @@ fn position_argument<'a>(alloc: Global) -> Arg<'a>
 
 // What the matches of the program's command ask for.
 fn order_of<'a>(matches: &ArgMatches<'a>) -> Option<Order<'a>>
-    ensures value { (texts : List Text) → Finds value_form texts (subcommand_rows_of matches.now)
-        → IsSomeAnd result (IsOrder (codes "value") texts) }
-    ensures count { (texts : List Text) → Finds count_form texts (subcommand_rows_of matches.now)
-        → IsSomeAnd result (IsOrder (codes "count") texts) }
-    ensures build { (texts : List Text) → Finds build_form texts (subcommand_rows_of matches.now)
-        → IsSomeAnd result (IsOrder (codes "build") texts) }
-    ensures probe { (texts : List Text) → Finds probe_form texts (subcommand_rows_of matches.now)
-        → IsSomeAnd result (IsOrder (codes "probe") texts) }
-    ensures line { (texts : List Text) → Finds line_form texts (subcommand_rows_of matches.now)
-        → IsSomeAnd result (IsOrder (codes "line") texts) }
-    ensures check { (texts : List Text) → Finds check_form texts (subcommand_rows_of matches.now)
-        → IsSomeAnd result (IsOrder (codes "check") texts) }
+    ensures { (form : Form) (texts : List Text) → IsAmong form forms → Finds form texts (subcommand_rows_of matches.now)
+        → IsSomeAnd result (IsOrder form.name texts) }
 {
     let (name, inner) = matches.subcommand()?;
     match name {

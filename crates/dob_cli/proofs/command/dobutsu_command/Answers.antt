@@ -1,9 +1,7 @@
--- The last subcommands join the program.
-use Rattle.std.proofs.lemmas.Result.{IfOk-weaker}
+-- The subcommands join the program, one after the other.
 use Rattle.clap.specs.Words.{App, with_subcommand}
 use Rattle.dob_cli.specs.Forms.{build_form, check_form, count_form, line_form, probe_form, value_form}
 use Rattle.dob_cli.specs.Shapes.{bare_app, form_app}
-use Rattle.dob_cli.proofs.Outcomes.{subcommand_shape}
 use Rattle.dob_cli.proofs.command.dobutsu_command.Goals as goal
 
 -- the program with its first subcommands
@@ -24,7 +22,9 @@ with_line = with_subcommand with_probe (form_app line_form).top
 
 pub returns : goal.returns
 returns c =
-    let first = subcommand_shape _ _ c.in_ok-subcommand.field-0 with_probe (form_app line_form) c.in_ok-table_command.ensures c.in_ok-line_command.ensures
-    c.in_ok-subcommand.ensures in
-    IfOk-weaker c.subcommand-2.result _ _
-    (λ r adds. subcommand_shape _ _ r with_line (form_app check_form) first c.in_ok-check_command.ensures adds) c.subcommand-2.ensures
+    let value = c.add_subcommand-command.ensures bare_app (form_app value_form) c.bare_command-command.ensures c.value_command.ensures in
+    let count = c.add_subcommand-command-2.ensures with_value (form_app count_form) value c.count_command.ensures in
+    let build = c.add_subcommand-command-3.ensures with_count (form_app build_form) count c.build_command.ensures in
+    let probe = c.add_subcommand-command-4.ensures with_build (form_app probe_form) build c.probe_command.ensures in
+    let line = c.add_subcommand-command-5.ensures with_probe (form_app line_form) probe c.line_command.ensures in
+    c.add_subcommand.ensures with_line (form_app check_form) line c.check_command.ensures

@@ -1,28 +1,35 @@
--- Each subcommand's own matches are those that were found.
+-- Each subcommand's own matches are those that were found, and no other form has its name.
+use Rattle.std.proofs.Common.{refl}
 use Rattle.dob_cli.specs.Forms.{build_form, check_form, count_form, line_form, probe_form, value_form}
-use Rattle.dob_cli.proofs.Matches.{found_inside}
+use Rattle.dob_cli.proofs.Matches.{order_found}
 use Rattle.dob_cli.proofs.command.order_of.Goals as goal
 
-pub returns-in-value-clause-value : goal.returns-in-value-clause-value
-returns-in-value-clause-value c = λ texts found.
-    c.value_order.ensures texts (found_inside value_form texts _ found c.in_ok-name.inner.now c.in_ok-name.ensures.rows)
+pub returns-in-value : goal.returns-in-value
+returns-in-value c =
+    order_found value_form refl c.args.matches.now c.in_ok-name.inner.now c.in_ok-name.name.now c.in-value.is c.in_ok-name.ensures.name
+    c.in_ok-name.ensures.rows c.value_order.result c.value_order.ensures
 
-pub returns-in-count-clause-count : goal.returns-in-count-clause-count
-returns-in-count-clause-count c = λ texts found.
-    c.count_order.ensures texts (found_inside count_form texts _ found c.in_ok-name.inner.now c.in_ok-name.ensures.rows)
+pub returns-in-count : goal.returns-in-count
+returns-in-count c =
+    order_found count_form refl c.args.matches.now c.in_ok-name.inner.now c.in_ok-name.name.now c.in-count.is c.in_ok-name.ensures.name
+    c.in_ok-name.ensures.rows c.count_order.result c.count_order.ensures
 
-pub returns-in-build-clause-build : goal.returns-in-build-clause-build
-returns-in-build-clause-build c = λ texts found.
-    c.build_order.ensures texts (found_inside build_form texts _ found c.in_ok-name.inner.now c.in_ok-name.ensures.rows)
+pub returns-in-build : goal.returns-in-build
+returns-in-build c =
+    order_found build_form refl c.args.matches.now c.in_ok-name.inner.now c.in_ok-name.name.now c.in-build.is c.in_ok-name.ensures.name
+    c.in_ok-name.ensures.rows c.build_order.result c.build_order.ensures
 
-pub returns-in-probe-clause-probe : goal.returns-in-probe-clause-probe
-returns-in-probe-clause-probe c = λ texts found.
-    c.probe_order.ensures texts (found_inside probe_form texts _ found c.in_ok-name.inner.now c.in_ok-name.ensures.rows)
+pub returns-in-probe : goal.returns-in-probe
+returns-in-probe c =
+    order_found probe_form refl c.args.matches.now c.in_ok-name.inner.now c.in_ok-name.name.now c.in-probe.is c.in_ok-name.ensures.name
+    c.in_ok-name.ensures.rows c.probe_order.result c.probe_order.ensures
 
-pub returns-in-line-clause-line : goal.returns-in-line-clause-line
-returns-in-line-clause-line c = λ texts found.
-    c.line_order.ensures texts (found_inside line_form texts _ found c.in_ok-name.inner.now c.in_ok-name.ensures.rows)
+pub returns-in-line : goal.returns-in-line
+returns-in-line c =
+    order_found line_form refl c.args.matches.now c.in_ok-name.inner.now c.in_ok-name.name.now c.in-line.is c.in_ok-name.ensures.name
+    c.in_ok-name.ensures.rows c.line_order.result c.line_order.ensures
 
-pub returns-in-check-clause-check : goal.returns-in-check-clause-check
-returns-in-check-clause-check c = λ texts found.
-    c.check_order.ensures texts (found_inside check_form texts _ found c.in_ok-name.inner.now c.in_ok-name.ensures.rows)
+pub returns-in-check : goal.returns-in-check
+returns-in-check c =
+    order_found check_form refl c.args.matches.now c.in_ok-name.inner.now c.in_ok-name.name.now c.in-check.is c.in_ok-name.ensures.name
+    c.in_ok-name.ensures.rows c.check_order.result c.check_order.ensures

@@ -12,22 +12,7 @@ pub unreachable-requires : goal.unreachable-requires
 unreachable-requires c =
     order_is_there (map (λ w. w.now) c.args.words.now) _
     (asked_by_matches (app_of c.in_ok-dobutsu_command.field-0) (map (λ w. w.now) c.args.words.now) c.in-Ok.matches
-    c.in_ok-dobutsu_command.ensures.0 c.in-Ok.ensures.kinds c.in-Ok.ensures.matches) (
-      c.in-None.ensures.value,
-      (
-        c.in-None.ensures.count,
-        (
-          c.in-None.ensures.build,
-          (
-            c.in-None.ensures.probe,
-            (
-              c.in-None.ensures.line,
-              (c.in-None.ensures.check, tt),
-            ),
-          ),
-        ),
-      ),
-    )
+    c.in_ok-dobutsu_command.ensures.0 c.in-Ok.ensures.kinds c.in-Ok.ensures.matches) c.in-None.ensures
 
 pub returns-in-Some-clause-meaning : goal.returns-in-Some-clause-meaning
 returns-in-Some-clause-meaning c =
@@ -35,22 +20,7 @@ returns-in-Some-clause-meaning c =
     (command_meaning (map (λ w. w.now) c.args.words.now) (sym c.asks_version.ensures ∙ c.if-asks_version.false))
     (order_is_meant (map (λ w. w.now) c.args.words.now) _ c.in-Some.order
     (asked_by_matches (app_of c.in_ok-dobutsu_command.field-0) (map (λ w. w.now) c.args.words.now) c.in-Ok.matches
-    c.in_ok-dobutsu_command.ensures.0 c.in-Ok.ensures.kinds c.in-Ok.ensures.matches) (
-      c.in-Some.ensures.value,
-      (
-        c.in-Some.ensures.count,
-        (
-          c.in-Some.ensures.build,
-          (
-            c.in-Some.ensures.probe,
-            (
-              c.in-Some.ensures.line,
-              (c.in-Some.ensures.check, tt),
-            ),
-          ),
-        ),
-      ),
-    ))
+    c.in_ok-dobutsu_command.ensures.0 c.in-Ok.ensures.kinds c.in-Ok.ensures.matches) c.in-Some.ensures)
 
 pub returns-in-Some-clause-sound : goal.returns-in-Some-clause-sound
 returns-in-Some-clause-sound c = order_from_line _ (reading.Order c.in-Some.order) (returns-in-Some-clause-meaning c)
