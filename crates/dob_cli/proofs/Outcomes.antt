@@ -4,8 +4,9 @@ use Rattle.std.proofs.Common.{true≢false}
 use Rattle.std.specs.Prelude.{option_map, slice_get, unwrap_or}
 use Rattle.std.specs.List.{list_all}
 use Rattle.std.specs.Borrow.{Bor}
-use Rattle.clap.specs.Words.{AddsSubcommand, App, HasKind, IsAmong, Kinds, Row, fault_of, first_of, first_value, found_of, is_simple, is_simple_and_free}
-use Rattle.clap.specs.Words.{kind_of, rows_of, subcommand_of, subcommand_rows_of, with_subcommand}
+use Rattle.clap.specs.Words.{AddsArg, AddsSubcommand, App, HasKind, IsAmong, Kinds, Row, fault_of, first_of, first_value, found_of, is_simple, is_simple_and_free}
+use Rattle.clap.specs.Words.{Rule, kind_of, rows_of, subcommand_of, subcommand_rows_of, with_rule, with_subcommand}
+use Rattle.clap.specs.declared.builder.Arg.{Arg}
 use Rattle.clap.specs.declared.builder.Command.{Command}
 use Rattle.clap.specs.declared.Error.{Error}
 use Rattle.clap.specs.declared.error.ErrorKind.{ErrorKind}
@@ -15,7 +16,7 @@ use Rattle.clap.proofs.WalkLemmas.{both, first_value-rows}
 use Rattle.dob_cli.specs.Forms.{Form, Text, forms}
 use Rattle.dob_cli.specs.Lines.{IsAmong as IsAmongForms}
 use Rattle.dob_cli.specs.Words.{Meaning, asks, help, is_version, meaning_of, meaning_of_command, topic, usage, version}
-use Rattle.dob_cli.specs.Shapes.{Finds, HasShape, dobutsu_app}
+use Rattle.dob_cli.specs.Shapes.{Finds, HasShape, IsRead, dobutsu_app}
 use Rattle.dob_cli.specs.Readings.{IsOrder, IsReadingOf, IsReadingOfKind}
 use Rattle.dob_cli.specs.declared.command.Order.{Order}
 use Rattle.dob_cli.specs.declared.command.Reading.{Reading}
@@ -28,6 +29,12 @@ pub subcommand_shape : (old sub new : Command) (a b : App) → HasShape a old �
     → HasShape (with_subcommand a b.top) new
 subcommand_shape old sub new a b first second adds =
     (adds.shape second.1 ∙ ap₂ (λ (x y : App). with_subcommand x y.top) first.0 second.0, adds.globals ∙ ap₂ (λ (x y : Bool). x || y) first.1 second.1)
+
+-- a command with one more argument
+pub argument_shape : (old : Command) (arg : Arg) (new : Command) (a : App) (r : Rule) → HasShape a old → IsRead r arg → AddsArg old arg new
+    → HasShape (with_rule a r) new
+argument_shape old arg new a r first read adds =
+    (adds.shape read.1 ∙ ap₂ with_rule first.0 read.0, adds.globals ∙ ap₂ (λ (x y : Bool). x || y) first.1 read.1)
 
 -- the text that the subcommand's own matches have for a label is the one that was found
 pub text_in_matches : (label : Text) (f : Form) (texts : List Text) (met : Option (Text × List Row)) (found : Finds f texts met) (inner : ArgMatches)

@@ -12,7 +12,7 @@
 //   specs/Runs.antt;
 // - in program.rt an arm of `answer`, and its cases in proofs/Orders.antt and proofs/Runs.antt.
 ghost use Rattle.std.specs.Prelude.{◌≡◌, ◌∷◌, [], IfOk, IsSomeAnd, List, codes, map};
-ghost use Rattle.clap.specs.Words.{App, kind_of, subcommand_rows_of, with_subcommand};
+ghost use Rattle.clap.specs.Words.{App, Rule, kind_of, subcommand_rows_of, with_rule, with_subcommand};
 ghost use Rattle.dob_cli.specs.Forms.{Form, Text, build_form, check_form, count_form, forms, line_form, probe_form, value_form};
 ghost use Rattle.dob_cli.specs.Forms.{file_option, nodes_option, out_option, set_option};
 ghost use Rattle.dob_cli.specs.Lines.{IsAmong, IsLine};
@@ -258,36 +258,36 @@ fn count_command<'a>(alloc: Global) -> Result<Command<'a>, AllocError>
 fn build_command<'a>(alloc: Global) -> Result<Command<'a>, AllocError>
     ensures { IfOk result (HasShape (form_app build_form)) }
 {
-    Command::new(alloc, "build")
+    let command = Command::new(alloc, "build")
         .about(
             "Builds the database file of a piece set, as `build --set 100 --nodes 2 --out 100.db`",
         )
         .after_help(BUILD_HELP)
-        .arg(set_argument(alloc))?
-        .arg(nodes_argument(alloc))?
-        .arg(out_argument(alloc))
+        .arg(set_argument(alloc));
+    let command = add_argument(command, nodes_argument(alloc));
+    add_argument(command, out_argument(alloc))
 }
 
 // The subcommand `probe`.
 fn probe_command<'a>(alloc: Global) -> Result<Command<'a>, AllocError>
     ensures { IfOk result (HasShape (form_app probe_form)) }
 {
-    Command::new(alloc, "probe")
+    let command = Command::new(alloc, "probe")
         .about("Prints the value of a position by a database file")
         .after_help(PROBE_HELP)
-        .arg(file_argument(alloc))?
-        .arg(position_argument(alloc))
+        .arg(file_argument(alloc));
+    add_argument(command, position_argument(alloc))
 }
 
 // The subcommand `line`.
 fn line_command<'a>(alloc: Global) -> Result<Command<'a>, AllocError>
     ensures { IfOk result (HasShape (form_app line_form)) }
 {
-    Command::new(alloc, "line")
+    let command = Command::new(alloc, "line")
         .about("Prints the best play from a position by a database file")
         .after_help(LINE_HELP)
-        .arg(file_argument(alloc))?
-        .arg(position_argument(alloc))
+        .arg(file_argument(alloc));
+    add_argument(command, position_argument(alloc))
 }
 
 // The subcommand `check`.
@@ -298,6 +298,17 @@ fn check_command<'a>(alloc: Global) -> Result<Command<'a>, AllocError>
         .about("Tells whether a database file is right, without trusting who made it")
         .after_help(CHECK_HELP)
         .arg(file_argument(alloc))
+}
+
+// The command with a further argument, where memory was left for it so far. It takes a result, as `add_subcommand` does.
+fn add_argument<'a>(
+    command: Result<Command<'a>, AllocError>,
+    argument: Arg<'a>,
+) -> Result<Command<'a>, AllocError>
+    ensures { (app : App) (rule : Rule) → IfOk command.entry (HasShape app) → IsRead rule argument.entry
+        → IfOk result (HasShape (with_rule app rule)) }
+{
+    command?.arg(argument)
 }
 
 // The option `--set CEG`.
