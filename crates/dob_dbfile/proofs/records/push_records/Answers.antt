@@ -1,6 +1,6 @@
 -- The record of a class more is appended.
-use Rattle.std.proofs.Common.{◌∙◌, ◌++◌, ◌<◌, ◌≤◌, List, ℕ, arith, ap, sym, append_assoc, take, length}
-use Rattle.std.proofs.lemmas.List.{append-nil, take_all}
+use Rattle.std.proofs.Common.{◌∙◌, ◌++◌, ◌<◌, List, ℕ, arith, ap, sym, append_assoc, take, length}
+use Rattle.std.proofs.lemmas.List.{append-nil}
 use Rattle.byteorder.specs.Endian.{little_bytes}
 use Rattle.dob_value.specs.Codes.{code_of_value}
 use Rattle.dob_dbfile.specs.Format.{records}
@@ -18,14 +18,6 @@ loop-class-preserved c =
     ∙ ap (λ (front : List ℕ). front ++ little_bytes 2 (code_of_value value)) c.loop-class.invariant
     ∙ append_assoc c.args.bytes.now.items (records (take class values)) (little_bytes 2 (code_of_value value))
     ∙ ap (λ (back : List ℕ). c.args.bytes.now.items ++ back) (sym (records_more values class value below c.value.ensures))
-
-pub value-requires : goal.value-requires
-value-requires c = omega (arith, c.class_count-class-end.ensures.length, c.loop-class-test.true)
-
-pub returns : goal.returns
-returns c =
-    let all : length c.args.table.now.values ≤ c.loop-class.class = omega (arith, c.class_count-class-end.ensures.length, c.loop-class-test.false) in
-    c.loop-class.invariant ∙ ap (λ values. c.args.bytes.now.items ++ records values) (take_all c.loop-class.class c.args.table.now.values all)
 
 pub loop-class-init : goal.loop-class-init
 loop-class-init c = sym (append-nil c.args.bytes.now.items)
