@@ -36,8 +36,11 @@ fn list_openings<R: Print + Clock + AllocGlobal>(
 ) -> Result<()> {
     let timer = Timer::start(rt, timed)?;
     let count = opening(rt.alloc(), classes)?.len() as u64;
-    println!(rt; "listed {count} openings")?;
-    timer.tell(rt, &[(count, "class")])
+    timer.tell(
+        rt,
+        format_args!("listed {count} openings"),
+        &[(count, "class")],
+    )
 }
 
 // The table of the set, by one node.
@@ -56,8 +59,11 @@ fn build<R: Print + Clock + AllocGlobal + Files>(
         draws,
         ..
     } = counts::count_outcomes(&table);
-    println!(rt; "built {wins} wins, {losses} losses, {draws} draws")?;
-    timer.tell(rt, &[(table.class_count(), "class")])?;
+    timer.tell(
+        rt,
+        format_args!("built {wins} wins, {losses} losses, {draws} draws"),
+        &[(table.class_count(), "class")],
+    )?;
     if timed {
         tell_memory(rt)?;
     }
@@ -87,8 +93,11 @@ fn apply_items<R: Print + Clock + AllocGlobal>(
     let timer = Timer::start(rt, timed)?;
     let changes = apply_all(&mut share, &items);
     let count = items.len() as u64;
-    println!(rt; "applied {count} items, which settled {changes} classes")?;
-    timer.tell(rt, &[(count, "item")])
+    timer.tell(
+        rt,
+        format_args!("applied {count} items, which settled {changes} classes"),
+        &[(count, "item")],
+    )
 }
 
 // The cells of one owner of all classes, of which nothing is known but the openings.

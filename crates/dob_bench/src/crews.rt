@@ -109,8 +109,11 @@ fn list_openings<R: Print + Clock + AllocGlobal + Threads + Sync>(
 ) -> Result<()> {
     let timer = Timer::start(rt, true)?;
     let count = scan(rt, rt.alloc(), classes)?.len() as u64;
-    println!(rt; "listed {count} openings by threads")?;
-    timer.tell(rt, &[(count, "class")])
+    timer.tell(
+        rt,
+        format_args!("listed {count} openings by threads"),
+        &[(count, "class")],
+    )
 }
 
 // The items that tell of the table's wins and losses.

@@ -71,23 +71,32 @@ pub(crate) fn open<R: Print + Clock + AllocGlobal>(
     let timer = Timer::start(rt, timed)?;
     let classes = Classes::open(rt.alloc(), set)?;
     let (positions, count) = (size(set), classes.class_count());
-    println!(rt; "opened {count} classes of {positions} positions")?;
-    timer.tell(rt, &[(positions, "position")])?;
+    timer.tell(
+        rt,
+        format_args!("opened {count} classes of {positions} positions"),
+        &[(positions, "position")],
+    )?;
     Ok(classes)
 }
 
 // From each rank to its position and back.
 fn find_ranks<R: Print + Clock>(rt: &R, set: PieceSet, timed: bool) -> Result<()> {
     let rounds = Rounds::of(rt, timed, || Ok(counts::ranks_found(set)))?;
-    println!(rt; "found {} ranks again", rounds.found)?;
-    rounds.tell(rt, &[(rounds.found, "rank")])
+    rounds.tell(
+        rt,
+        format_args!("found {} ranks again", rounds.found),
+        &[(rounds.found, "rank")],
+    )
 }
 
 // From each class to its representative and back.
 fn find_classes<R: Print + Clock>(rt: &R, classes: &Classes, timed: bool) -> Result<()> {
     let rounds = Rounds::of(rt, timed, || Ok(counts::classes_found(classes)))?;
-    println!(rt; "found {} classes again", rounds.found)?;
-    rounds.tell(rt, &[(rounds.found, "class")])
+    rounds.tell(
+        rt,
+        format_args!("found {} classes again", rounds.found),
+        &[(rounds.found, "class")],
+    )
 }
 
 // The predecessors of each class, in a list of its own.
@@ -102,10 +111,13 @@ fn list_predecessors<R: Print + Clock + AllocGlobal>(
         most,
         most_equal,
     } = rounds.found;
-    println!(rt;
-        "listed {in_all} edges, at most {most} into one class, at most {most_equal} from one class into one"
-    )?;
-    rounds.tell(rt, &[(classes.class_count(), "class"), (in_all, "edge")])
+    rounds.tell(
+        rt,
+        format_args!(
+            "listed {in_all} edges, at most {most} into one class, at most {most_equal} from one class into one"
+        ),
+        &[(classes.class_count(), "class"), (in_all, "edge")],
+    )
 }
 
 /// The predecessors of each class in one list that is kept, as a build asks for them.
@@ -117,9 +129,9 @@ pub(crate) fn list_into_one<R: Print + Clock + AllocGlobal>(
     let rounds = Rounds::of(rt, timed, || {
         Ok(counts::edges_into_one_list(rt.alloc(), classes)?)
     })?;
-    println!(rt; "listed {} edges into one list", rounds.found)?;
     rounds.tell(
         rt,
+        format_args!("listed {} edges into one list", rounds.found),
         &[(classes.class_count(), "class"), (rounds.found, "edge")],
     )
 }
@@ -134,10 +146,13 @@ fn sweep<R: Print + Clock + AllocGlobal>(rt: &R, set: PieceSet, timed: bool) -> 
         draws,
         longest_win,
     } = counts::count_outcomes(&table);
-    println!(rt;
-        "swept {wins} wins, {losses} losses, {draws} draws, the longest win {longest_win} plies"
+    timer.tell(
+        rt,
+        format_args!(
+            "swept {wins} wins, {losses} losses, {draws} draws, the longest win {longest_win} plies"
+        ),
+        &[(table.class_count(), "class")],
     )?;
-    timer.tell(rt, &[(table.class_count(), "class")])?;
     Ok(table)
 }
 
@@ -149,8 +164,11 @@ fn check_table<R: Print + Clock + AllocGlobal + Threads + Sync>(
 ) -> Result<()> {
     let timer = Timer::start(rt, timed)?;
     check(rt, rt.alloc(), table)?;
-    println!(rt; "checked {} classes", table.class_count())?;
-    timer.tell(rt, &[(table.class_count(), "class")])
+    timer.tell(
+        rt,
+        format_args!("checked {} classes", table.class_count()),
+        &[(table.class_count(), "class")],
+    )
 }
 
 /// The table's file, in memory.
@@ -163,8 +181,11 @@ pub(crate) fn write<R: Print + Clock + AllocGlobal>(
     let mut sink = MemSink::new(rt.alloc());
     write_table(rt.alloc(), table, &mut sink)?;
     let bytes = sink.into_bytes();
-    println!(rt; "wrote {} bytes", bytes.len())?;
-    timer.tell(rt, &[(table.class_count(), "class")])?;
+    timer.tell(
+        rt,
+        format_args!("wrote {} bytes", bytes.len()),
+        &[(table.class_count(), "class")],
+    )?;
     Ok(bytes)
 }
 
@@ -173,8 +194,11 @@ fn read<R: Print + Clock + AllocGlobal>(rt: &R, bytes: Vec<u8>, timed: bool) -> 
     let timer = Timer::start(rt, timed)?;
     let mut source = MemSource::new(bytes);
     let table = read_table(rt.alloc(), &mut source)?;
-    println!(rt; "read {} classes", table.class_count())?;
-    timer.tell(rt, &[(table.class_count(), "class")])?;
+    timer.tell(
+        rt,
+        format_args!("read {} classes", table.class_count()),
+        &[(table.class_count(), "class")],
+    )?;
     Ok(table)
 }
 
@@ -182,14 +206,20 @@ fn read<R: Print + Clock + AllocGlobal>(rt: &R, bytes: Vec<u8>, timed: bool) -> 
 fn probe_classes<R: Print + Clock>(rt: &R, table: &Table, timed: bool) -> Result<()> {
     let timer = Timer::start(rt, timed)?;
     let found = counts::values_found(table);
-    println!(rt; "probed {found} classes")?;
-    timer.tell(rt, &[(found, "class")])
+    timer.tell(
+        rt,
+        format_args!("probed {found} classes"),
+        &[(found, "class")],
+    )
 }
 
 // The line of each class's representative.
 fn list_lines<R: Print + Clock + AllocGlobal>(rt: &R, table: &Table, timed: bool) -> Result<()> {
     let timer = Timer::start(rt, timed)?;
     let Lines { in_all, longest } = counts::count_lines(rt.alloc(), table)?;
-    println!(rt; "listed lines of {in_all} moves, the longest of {longest}")?;
-    timer.tell(rt, &[(table.class_count(), "line"), (in_all, "move")])
+    timer.tell(
+        rt,
+        format_args!("listed lines of {in_all} moves, the longest of {longest}"),
+        &[(table.class_count(), "line"), (in_all, "move")],
+    )
 }

@@ -29,26 +29,32 @@ fn compare_rules<R: Print + Clock + AllocGlobal>(rt: &R, classes: &Classes) -> R
 
 fn find_plain_open<R: Print + Clock>(rt: &R, positions: &[Position]) -> Result<()> {
     let rounds = Rounds::of(rt, true, || Ok(plain_open_positions(positions)))?;
-    println!(rt;
-        "found {} open positions by the plain program",
-        rounds.found
-    )?;
-    rounds.tell(rt, &[(positions.len() as u64, "position")])
+    rounds.tell(
+        rt,
+        format_args!("found {} open positions by the plain program", rounds.found),
+        &[(positions.len() as u64, "position")],
+    )
 }
 
 fn list_plain_moves<R: Print + Clock + AllocGlobal>(rt: &R, positions: &[Position]) -> Result<()> {
     let rounds = Rounds::of(rt, true, || Ok(count_plain_moves(rt.alloc(), positions)?))?;
-    println!(rt; "listed {} moves by the plain program", rounds.found)?;
     let count = positions.len() as u64;
-    rounds.tell(rt, &[(count, "position"), (rounds.found, "move")])
+    rounds.tell(
+        rt,
+        format_args!("listed {} moves by the plain program", rounds.found),
+        &[(count, "position"), (rounds.found, "move")],
+    )
 }
 
 // Once, since it takes so long.
 fn list_plain_edges<R: Print + Clock + AllocGlobal>(rt: &R, classes: &Classes) -> Result<()> {
     let timer = Timer::start(rt, true)?;
     let edges = count_plain_edges(rt.alloc(), classes)?;
-    println!(rt; "listed {edges} edges by the plain program")?;
-    timer.tell(rt, &[(classes.class_count(), "class"), (edges, "edge")])
+    timer.tell(
+        rt,
+        format_args!("listed {edges} edges by the plain program"),
+        &[(classes.class_count(), "class"), (edges, "edge")],
+    )
 }
 
 // How many of the positions are open.

@@ -37,15 +37,21 @@ pub(crate) fn find_open<R: Print + Clock>(
     timed: bool,
 ) -> Result<()> {
     let rounds = Rounds::of(rt, timed, || Ok(open_positions(positions)))?;
-    println!(rt; "found {} open positions", rounds.found)?;
-    rounds.tell(rt, &[(positions.len() as u64, "position")])
+    rounds.tell(
+        rt,
+        format_args!("found {} open positions", rounds.found),
+        &[(positions.len() as u64, "position")],
+    )
 }
 
 /// The numbers of the positions' moves, of which no list is made.
 pub(crate) fn count<R: Print + Clock>(rt: &R, positions: &[Position], timed: bool) -> Result<()> {
     let rounds = Rounds::of(rt, timed, || Ok(moves_counted(positions)))?;
-    println!(rt; "counted {} moves", rounds.found)?;
-    rounds.tell(rt, &[(positions.len() as u64, "position")])
+    rounds.tell(
+        rt,
+        format_args!("counted {} moves", rounds.found),
+        &[(positions.len() as u64, "position")],
+    )
 }
 
 /// The positions' moves, in one list that is kept.
@@ -59,8 +65,11 @@ pub(crate) fn list_into_one<R: Print + Clock + AllocGlobal>(
         timed,
         || Ok(moves_into_one_list(rt.alloc(), positions)?),
     )?;
-    println!(rt; "listed {} moves in one list", rounds.found)?;
-    rounds.tell(rt, &[(positions.len() as u64, "position")])
+    rounds.tell(
+        rt,
+        format_args!("listed {} moves in one list", rounds.found),
+        &[(positions.len() as u64, "position")],
+    )
 }
 
 /// The positions' moves, in a new list for each position.
@@ -71,9 +80,9 @@ pub(crate) fn list<R: Print + Clock + AllocGlobal>(
 ) -> Result<()> {
     let rounds = Rounds::of(rt, timed, || Ok(moves_listed(rt.alloc(), positions)?))?;
     let Moves { in_all, most } = rounds.found;
-    println!(rt; "listed {in_all} moves, at most {most} of one position")?;
     rounds.tell(
         rt,
+        format_args!("listed {in_all} moves, at most {most} of one position"),
         &[(positions.len() as u64, "position"), (in_all, "move")],
     )
 }

@@ -1,5 +1,6 @@
 // Times, told only where they are asked for, since they differ from run to run.
 use anyhow::Result;
+use std::fmt::Display;
 use std::num::nearest_u64_to_f64;
 use std::rt::Clock;
 use std::time::Instant;
@@ -28,8 +29,15 @@ impl Timer {
         }
     }
 
-    /// Prints the seconds since the start, and the nanoseconds for each thing of the kinds given by number and name.
-    pub(crate) fn tell<R: Print + Clock>(&self, rt: &R, shares: &[(u64, &str)]) -> Result<()> {
+    /// Prints what was done, the seconds since the start, and the nanoseconds for each thing of the kinds given by number and
+    /// name.
+    pub(crate) fn tell<R: Print + Clock, D: Display + Drop>(
+        &self,
+        rt: &R,
+        done: D,
+        shares: &[(u64, &str)],
+    ) -> Result<()> {
+        rt.println(done)?;
         match self.seconds(rt)? {
             Some(seconds) => tell_seconds(rt, seconds, shares),
             None => Ok(()),
@@ -66,8 +74,15 @@ impl<T: Copy> Rounds<T> {
         Ok(Rounds { found, least })
     }
 
-    /// Prints the seconds of the fastest round, and the nanoseconds for each thing of the kinds given by number and name.
-    pub(crate) fn tell<R: Print>(&self, rt: &R, shares: &[(u64, &str)]) -> Result<()> {
+    /// Prints what was done, the seconds of the fastest round, and the nanoseconds for each thing of the kinds given by number
+    /// and name.
+    pub(crate) fn tell<R: Print, D: Display + Drop>(
+        &self,
+        rt: &R,
+        done: D,
+        shares: &[(u64, &str)],
+    ) -> Result<()> {
+        rt.println(done)?;
         let Some(seconds) = self.least else {
             return Ok(());
         };
