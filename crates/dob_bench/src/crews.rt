@@ -29,11 +29,22 @@ pub(crate) fn run<R: Print + Clock + AllocGlobal + Files + Threads + Wait + Sync
     let watch = Watch::new(rt, start);
     let built = run_nodes(rt, rt.alloc(), set, nodes, BATCH, CAPACITY, &watch)?;
     let seconds = start.elapsed(rt)?.as_secs_f64();
+    tell_build(rt, &built, nodes, &watch, seconds)?;
+    measure_parts(rt, set, &built.table, nodes, seconds)
+}
+
+// What the build by so many nodes found, the seconds that it took and what it cost.
+fn tell_build<R: Print + Clock + AllocGlobal + Files>(
+    rt: &R,
+    built: &Built,
+    nodes: usize,
+    watch: &Watch<'_, R>,
+    seconds: f64,
+) -> Result<()> {
     tell_built(rt, &built.table, nodes)?;
     tell_seconds(rt, seconds, &[(built.table.class_count(), "class")])?;
     watch.tell(rt, seconds)?;
-    tell_costs(rt, &built)?;
-    measure_parts(rt, set, &built.table, nodes, seconds)
+    tell_costs(rt, built)
 }
 
 // What the build held and sent, and its table's file.
