@@ -7,6 +7,7 @@ use dob_rank::rank;
 use dob_text::{write_move, write_position};
 use dob_value::{Fault, Value};
 use std::alloc::{AllocError, Global};
+use std::fmt::Write;
 
 /// What is asked about the position. An error is that of opening or sweeping its piece set, or no memory was left.
 pub(crate) fn about_position(
@@ -43,8 +44,7 @@ fn tell_moves(alloc: Global, position: &Position) -> Result<String, Memory> {
     let choices = moves(alloc, position)?;
     for choice in &choices {
         let word = write_move(alloc, *choice, false)?;
-        text.push(' ')?;
-        text.push_str(word.as_str())?;
+        write!(text, " {word}")?;
     }
     Ok(text)
 }

@@ -1,6 +1,6 @@
 // Answers about a piece set. Where the set has no such rank or class, the answer is `none`.
 use crate::opened::Opened;
-use crate::question::OfSet;
+use crate::question::{OfClasses, OfSet};
 use dob_pieces::{Memory, PieceSet};
 use dob_rank::{Classes, size, unrank};
 use dob_text::write_position;
@@ -18,19 +18,20 @@ pub(crate) fn about_set(
 ) -> Result<String, Fault> {
     match matter {
         OfSet::Unrank(rank) => Ok(tell_unranked(alloc, set, rank)?),
-        OfSet::Size => Ok(tell_size(alloc, opened.classes_of(alloc, set)?)?),
-        OfSet::ClassAt(class) => {
+        OfSet::Classes(matter) => {
             let classes = opened.classes_of(alloc, set)?;
-            Ok(tell_class_at(alloc, classes, class)?)
+            Ok(about_classes(alloc, classes, matter)?)
         }
-        OfSet::Back(class) => {
-            let classes = opened.classes_of(alloc, set)?;
-            Ok(tell_back(alloc, classes, class)?)
-        }
-        OfSet::Edges { from, into } => {
-            let classes = opened.classes_of(alloc, set)?;
-            Ok(tell_edges(alloc, classes, from, into)?)
-        }
+    }
+}
+
+/// What is asked about the classes.
+fn about_classes(alloc: Global, classes: &Classes, matter: OfClasses) -> Result<String, Memory> {
+    match matter {
+        OfClasses::Size => Ok(tell_size(alloc, classes)?),
+        OfClasses::ClassAt(class) => tell_class_at(alloc, classes, class),
+        OfClasses::Back(class) => tell_back(alloc, classes, class),
+        OfClasses::Edges { from, into } => tell_edges(alloc, classes, from, into),
     }
 }
 

@@ -9,49 +9,81 @@ const SUM_LIMIT: i64 = 1 << 48;
 /// What is asked about tokens.
 #[derive(Clone, Copy)]
 pub(crate) enum OfToken {
-    /// Which token it is after a pass by a node with that counter and colour in a ring of so many nodes.
-    Passed(Token, i64, bool, usize),
-    /// Whether a node with that counter and colour, idle or not, may announce the end.
-    MayAnnounce(Token, i64, bool, bool),
+    /// Which token it is after a pass by the node in a ring of so many nodes.
+    Passed(Visit, usize),
+    /// Whether the node, idle or not, may announce the end.
+    MayAnnounce(Visit, bool),
     /// Which word it has.
     Pack(Token),
     /// Which token has that word.
     Unpack(u64),
 }
 
+/// A token at a node with that counter and colour.
+#[derive(Clone, Copy)]
+pub(crate) struct Visit {
+    token: Token,
+    counter: i64,
+    black: bool,
+}
+
 impl OfToken {
     /// The question with that first word; none where there is no such question.
     pub(crate) fn read(word: &str, rest: &str) -> Option<OfToken> {
         let mut words = rest.split_whitespace();
-        if word == "unpack" {
-            return Some(OfToken::Unpack(words.next()?.parse::<u64>().ok()?));
-        }
-        let token = read_token(&mut words)?;
-        if word == "pack" {
-            return Some(OfToken::Pack(token));
-        }
-        let counter = words.next()?.parse::<i64>().ok()?;
-        let black = is_black(words.next()?)?;
-        let last = words.next()?;
         match word {
-            "passed" => Some(OfToken::Passed(token, counter, black, last.parse::<usize>().ok()?)),
-            "mayannounce" => Some(OfToken::MayAnnounce(token, counter, black, last == "idle")),
+            "passed" => read_passed(&mut words),
+            "mayannounce" => read_may_announce(&mut words),
+            "pack" => Some(OfToken::Pack(read_token(&mut words)?)),
+            "unpack" => Some(OfToken::Unpack(words.next()?.parse::<u64>().ok()?)),
             _ => None,
         }
     }
 }
 
+fn read_passed(words: &mut SplitWhitespace<'_>) -> Option<OfToken> {
+    let visit = read_visit(words)?;
+    Some(OfToken::Passed(visit, read_index(words)?))
+}
+
+fn read_may_announce(words: &mut SplitWhitespace<'_>) -> Option<OfToken> {
+    let visit = read_visit(words)?;
+    Some(OfToken::MayAnnounce(visit, words.next()? == "idle"))
+}
+
+/// The token of the next three words at the node of the two after them.
+fn read_visit(words: &mut SplitWhitespace<'_>) -> Option<Visit> {
+    let token = read_token(words)?;
+    let counter = read_sum(words)?;
+    let black = read_black(words)?;
+    Some(Visit {
+        token,
+        counter,
+        black,
+    })
+}
+
 /// The token of the next three words.
 fn read_token(words: &mut SplitWhitespace<'_>) -> Option<Token> {
-    let at = words.next()?.parse::<usize>().ok()?;
-    let black = is_black(words.next()?)?;
-    let sum = words.next()?.parse::<i64>().ok()?;
+    let at = read_index(words)?;
+    let black = read_black(words)?;
+    let sum = read_sum(words)?;
     Some(Token { at, black, sum })
 }
 
-/// Whether the colour of that name is black; none where it is no colour.
-fn is_black(colour: &str) -> Option<bool> {
-    match colour {
+/// The node, or the number of nodes, of the next word.
+fn read_index(words: &mut SplitWhitespace<'_>) -> Option<usize> {
+    words.next()?.parse::<usize>().ok()
+}
+
+/// The sum or the counter of the next word.
+fn read_sum(words: &mut SplitWhitespace<'_>) -> Option<i64> {
+    words.next()?.parse::<i64>().ok()
+}
+
+/// Whether the colour of the next word is black; none where it is no colour.
+fn read_black(words: &mut SplitWhitespace<'_>) -> Option<bool> {
+    match words.next()? {
         "black" => Some(true),
         "white" => Some(false),
         _ => None,
@@ -61,14 +93,12 @@ fn is_black(colour: &str) -> Option<bool> {
 /// What is asked about the token; `none` where there is no such token, word or pass.
 pub(crate) fn about_token(alloc: Global, matter: OfToken) -> Result<String, AllocError> {
     match matter {
-        OfToken::Passed(token, counter, black, nodes) => match pass_of(
-            token, counter, black, nodes,
-        ) {
+        OfToken::Passed(visit, nodes) => match pass_of(visit, nodes) {
             Some(token) => tell_token(alloc, token),
             None => none(alloc),
         },
-        OfToken::MayAnnounce(token, counter, black, idle) => {
-            may_announce(token, counter, black, idle).to_string(alloc)
+        OfToken::MayAnnounce(visit, idle) => {
+            may_announce(visit.token, visit.counter, visit.black, idle).to_string(alloc)
         }
         OfToken::Pack(token) => match word_of(token) {
             Some(word) => word.to_string(alloc),
@@ -82,7 +112,12 @@ pub(crate) fn about_token(alloc: Global, matter: OfToken) -> Result<String, Allo
 }
 
 /// The token after the pass, if the ring has 1 to 16 nodes and the sum stays in its bounds.
-fn pass_of(token: Token, counter: i64, black: bool, nodes: usize) -> Option<Token> {
+fn pass_of(visit: Visit, nodes: usize) -> Option<Token> {
+    let Visit {
+        token,
+        counter,
+        black,
+    } = visit;
     let sum = token.sum.checked_add(counter)?;
     if nodes == 0 || nodes > 16 || sum < -SUM_LIMIT || sum > SUM_LIMIT {
         return None;

@@ -7,7 +7,7 @@ use crate::about_set::about_set;
 use crate::about_token::about_token;
 use crate::about_world::about_world;
 use crate::opened::Opened;
-use crate::question::Question;
+use crate::question::{OfValues, Question};
 use dob_pieces::{Memory, PieceSet};
 use dob_text::read_position;
 use dob_value::Fault;
@@ -33,23 +33,31 @@ pub(crate) fn reply<R: Threads + Wait + Sync>(
             Err(fault) => fault_line(alloc, fault),
             Ok(set) => told(alloc, about_set(alloc, opened, matter, set)),
         },
-        Some(Question::Cell(class, text, changes)) => match PieceSet::read(text) {
+        Some(Question::Values(matter, text)) => match PieceSet::read(text) {
             Err(fault) => fault_line(alloc, fault),
-            Ok(set) => told(alloc, about_cell(alloc, opened, set, class, changes)),
-        },
-        Some(Question::Build(text, limit)) => match PieceSet::read(text) {
-            Err(fault) => fault_line(alloc, fault),
-            Ok(set) => told_build(alloc, about_build(alloc, set, limit)),
-        },
-        Some(Question::Crew(text, nodes)) => match PieceSet::read(text) {
-            Err(fault) => fault_line(alloc, fault),
-            Ok(set) => told_crew(alloc, about_crew(rt, alloc, set, nodes)),
-        },
-        Some(Question::World(text, sizes, matter)) => match PieceSet::read(text) {
-            Err(fault) => fault_line(alloc, fault),
-            Ok(set) => told_world(alloc, about_world(alloc, set, sizes, matter)),
+            Ok(set) => about_values(rt, alloc, opened, matter, set),
         },
         Some(Question::Token(matter)) => Ok(about_token(alloc, matter)?),
+    }
+}
+
+/// What is asked about how the set's values are found.
+fn about_values<R: Threads + Wait + Sync>(
+    rt: &R,
+    alloc: Global,
+    opened: &mut Opened,
+    matter: OfValues<'_>,
+    set: PieceSet,
+) -> Result<String, Memory> {
+    match matter {
+        OfValues::Cell(class, changes) => {
+            told(alloc, about_cell(alloc, opened, set, class, changes))
+        }
+        OfValues::Build(limit) => told_build(alloc, about_build(alloc, set, limit)),
+        OfValues::Crew(nodes) => told_crew(alloc, about_crew(rt, alloc, set, nodes)),
+        OfValues::World(sizes, matter) => {
+            told_world(alloc, about_world(alloc, set, sizes, matter))
+        }
     }
 }
 

@@ -9,14 +9,8 @@ pub(crate) enum Question<'a> {
     Position(OfPosition, &'a str),
     /// Something about the piece set of that text.
     Set(OfSet, &'a str),
-    /// What the cell of the class of that number, in the piece set of that text, answers to these changes.
-    Cell(u64, &'a str, &'a str),
-    /// Which values one node alone finds for the piece set of that text in so many steps.
-    Build(&'a str, u64),
-    /// Which values so many nodes, each in a thread of its own, find for the piece set of that text.
-    Crew(&'a str, usize),
-    /// What comes of something in a world of the piece set of that text with those sizes.
-    World(&'a str, Sizes, OfWorld<'a>),
+    /// Something about how the values of the piece set of that text are found.
+    Values(OfValues<'a>, &'a str),
     /// Something about tokens of the ring.
     Token(OfToken),
 }
@@ -41,16 +35,36 @@ pub(crate) enum OfPosition {
 /// What is asked about a piece set.
 #[derive(Clone, Copy)]
 pub(crate) enum OfSet {
-    /// How many positions and classes it has.
-    Size,
     /// Which position has that rank.
     Unrank(u64),
+    /// Something about its classes.
+    Classes(OfClasses),
+}
+
+/// What is asked about the classes of a piece set.
+#[derive(Clone, Copy)]
+pub(crate) enum OfClasses {
+    /// How many there are, and how many positions.
+    Size,
     /// Which position is the representative of that class.
     ClassAt(u64),
     /// From which classes moves lead into that class.
     Back(u64),
     /// How many moves lead from one class into another.
     Edges { from: u64, into: u64 },
+}
+
+/// What is asked about how the values of a piece set are found.
+#[derive(Clone, Copy)]
+pub(crate) enum OfValues<'a> {
+    /// What the cell of the class of that number answers to these changes.
+    Cell(u64, &'a str),
+    /// Which values one node alone finds in so many steps.
+    Build(u64),
+    /// Which values so many nodes, each in a thread of its own, find.
+    Crew(usize),
+    /// What comes of something in a world with those sizes.
+    World(Sizes, OfWorld<'a>),
 }
 
 impl<'a> Question<'a> {
@@ -66,28 +80,11 @@ impl<'a> Question<'a> {
                 let (matter, set) = OfSet::read(word, rest)?;
                 Some(Question::Set(matter, set))
             }
-            "apply" | "alone" | "built" | "drive" | "events" => Question::read_of_values(
-                word, rest,
-            ),
+            "apply" | "alone" | "built" | "drive" | "events" => {
+                let (set, rest) = rest.split_once(' ')?;
+                Some(Question::Values(OfValues::read(word, rest)?, set))
+            }
             _ => Some(Question::Token(OfToken::read(word, rest)?)),
-        }
-    }
-
-    // The question with that first word about how the values of a piece set are found, which its other words begin with; none
-    // where there is no such question.
-    fn read_of_values(word: &str, rest: &'a str) -> Option<Question<'a>> {
-        let (set, rest) = rest.split_once(' ')?;
-        match word {
-            "apply" => {
-                let (class, changes) = rest.split_once(' ')?;
-                Some(Question::Cell(class.parse::<u64>().ok()?, set, changes))
-            }
-            "alone" => Some(Question::Build(set, rest.parse::<u64>().ok()?)),
-            "built" => Some(Question::Crew(set, rest.parse::<usize>().ok()?)),
-            _ => {
-                let (sizes, matter) = OfWorld::read(word, rest)?;
-                Some(Question::World(set, sizes, matter))
-            }
         }
     }
 }
@@ -114,19 +111,37 @@ impl OfSet {
     // The question with that first word, and the text of its piece set; none where there is no such question.
     fn read<'a>(word: &str, rest: &'a str) -> Option<(OfSet, &'a str)> {
         if word == "size" {
-            return Some((OfSet::Size, rest));
+            return Some((OfSet::Classes(OfClasses::Size), rest));
         }
         let (set, rest) = rest.split_once(' ')?;
         if word == "edges" {
             let (from, into) = two_numbers(rest)?;
-            return Some((OfSet::Edges { from, into }, set));
+            return Some((OfSet::Classes(OfClasses::Edges { from, into }), set));
         }
         let number = rest.parse::<u64>().ok()?;
         match word {
             "unrank" => Some((OfSet::Unrank(number), set)),
-            "classat" => Some((OfSet::ClassAt(number), set)),
-            "back" => Some((OfSet::Back(number), set)),
+            "classat" => Some((OfSet::Classes(OfClasses::ClassAt(number)), set)),
+            "back" => Some((OfSet::Classes(OfClasses::Back(number)), set)),
             _ => None,
+        }
+    }
+}
+
+impl<'a> OfValues<'a> {
+    // The question with that first word, whose piece set was read; none where there is no such question.
+    fn read(word: &str, rest: &'a str) -> Option<OfValues<'a>> {
+        match word {
+            "apply" => {
+                let (class, changes) = rest.split_once(' ')?;
+                Some(OfValues::Cell(class.parse::<u64>().ok()?, changes))
+            }
+            "alone" => Some(OfValues::Build(rest.parse::<u64>().ok()?)),
+            "built" => Some(OfValues::Crew(rest.parse::<usize>().ok()?)),
+            _ => {
+                let (sizes, matter) = OfWorld::read(word, rest)?;
+                Some(OfValues::World(sizes, matter))
+            }
         }
     }
 }

@@ -118,11 +118,19 @@ pub(crate) fn show(alloc: Global, world: &World, nodes: usize) -> Result<String,
     };
     let announced = world.announced();
     let mut text = format!(in alloc; "steps {steps} announced {announced} {outcomes}")?;
-    write!(text, " longest {} improved {}", told.longest, told.improved)?;
-    write!(text, " sent {} settled", told.sent)?;
+    let Told {
+        longest,
+        improved,
+        sent,
+        digest,
+    } = told;
+    write!(
+        text,
+        " longest {longest} improved {improved} sent {sent} settled"
+    )?;
     for node in 0..nodes {
         write!(text, " {}", world.history(node).count())?;
     }
-    write!(text, " digest {:016x}", told.digest.0)?;
+    write!(text, " digest {:016x}", digest.0)?;
     Ok(text)
 }
