@@ -5,6 +5,7 @@ ghost use Rattle.dob_board.specs.Seats.{IsSameSeat, IsSeatOf};
 use dob_board::{Board, Closed, Fault, Halt, NodeSeat, NotPosted};
 use dob_safra::Token;
 use std::alloc::{AllocError, Global};
+use std::process::Abort;
 use std::thread;
 
 const ROUNDS: u32 = 100_000;
@@ -27,6 +28,17 @@ fn take_if_it_may(seat: &mut NodeSeat, from: usize) -> Result<(), NotPosted>
     seat.take(from)
 }
 
+// How many batches the seat sees posted by that other node.
+fn look_if_it_may(seat: &mut NodeSeat, from: usize) -> u64
+    ensures { IsSameSeat seat.old seat.new }
+{
+    if from < seat.nodes {
+        seat.look(from)
+    } else {
+        0
+    }
+}
+
 // Posts a batch to the other node and takes one of it, many times.
 fn work(mut seat: NodeSeat, other: usize) -> NodeSeat
     ensures { IsSameSeat seat result }
@@ -38,21 +50,32 @@ fn work(mut seat: NodeSeat, other: usize) -> NodeSeat
     seat
 }
 
+// Opens a board of so many nodes, which there are none of.
+fn is_refused(alloc: Global, nodes: usize) -> bool {
+    matches!(Board::open(alloc, nodes), Err(Fault::Nodes))
+}
+
+#[test]
+fn sizes_of_no_boards(rt: HostRuntime) {
+    assert!(rt; is_refused(rt.alloc(), 0));
+    assert!(rt; is_refused(rt.alloc(), 17));
+}
+
+// A board of so many nodes has a seat for each, and its words are those of its opening.
+fn is_opened(rt: &impl Abort, alloc: Global, nodes: usize) -> Result<(), Fault> {
+    let (board, seats) = Board::open(alloc, nodes)?;
+    assert!(rt; seats.len() == nodes);
+    let words = board.close(seats).words;
+    assert!(rt; words.len() == 3 + 2 * nodes * nodes);
+    assert!(rt; words[..2] == [nodes as u64, 1407374883553280]);
+    Ok(())
+}
+
 #[test]
 fn sizes_of_boards(rt: HostRuntime) -> Result<(), Fault> {
-    for nodes in [0, 17] {
-        let refused = matches!(Board::open(rt.alloc(), nodes), Err(Fault::Nodes));
-        assert!(rt; refused, "of {nodes} nodes");
-    }
-    for nodes in [1, 2, 16] {
-        let (board, seats) = Board::open(rt.alloc(), nodes)?;
-        assert_eq!(rt; seats.len(), nodes);
-        let closed = board.close(seats);
-        assert_eq!(rt; closed.words.len(), 3 + 2 * nodes * nodes);
-        assert_eq!(rt; closed.words[0], nodes as u64);
-        assert_eq!(rt; closed.words[1], 1407374883553280);
-    }
-    Ok(())
+    is_opened(&rt, rt.alloc(), 1)?;
+    is_opened(&rt, rt.alloc(), 2)?;
+    is_opened(&rt, rt.alloc(), 16)
 }
 
 #[test]
@@ -61,13 +84,20 @@ fn one_batch_is_posted_seen_and_taken(rt: HostRuntime) -> Result<(), Fault> {
     let (Some(mut second), Some(mut first)) = (seats.pop(), seats.pop()) else {
         return Ok(());
     };
-    post_if_it_may(&mut first, 1);
-    assert_eq!(rt; first.posted[1], 1);
-    let seen = if second.nodes > 0 { second.look(0) } else { 0 };
-    assert_eq!(rt; seen, 1);
-    assert_eq!(rt; take_if_it_may(&mut second, 0), Ok(()));
-    assert_eq!(rt; take_if_it_may(&mut second, 0), Err(NotPosted { seen: 1 }));
+    sees_a_post(&rt, &mut first, &mut second);
     Ok(())
+}
+
+// The second seat sees and takes the batch that the first one posts.
+fn sees_a_post(rt: &impl Abort, first: &mut NodeSeat, second: &mut NodeSeat)
+    ensures first { IsSameSeat first.old first.new }
+    ensures second { IsSameSeat second.old second.new }
+{
+    post_if_it_may(first, 1);
+    assert!(rt; first.posted.get(1) == Some(&1));
+    assert!(rt; look_if_it_may(second, 0) == 1);
+    assert!(rt; take_if_it_may(second, 0).is_ok());
+    assert!(rt; take_if_it_may(second, 0) == Err(NotPosted { seen: 1 }));
 }
 
 // A board of two nodes, and its seats.
@@ -117,20 +147,12 @@ fn two_threads_post_and_take(rt: HostRuntime) -> Result<(), Fault> {
             ensures { IsSameSeat second result }
         { work(second, 0) },
     );
-    let counts = [
-        first.posted[1],
-        second.posted[0],
-        second.taken[0],
-        first.taken[1],
-    ];
-    assert_eq!(rt; counts[0], u64::from(ROUNDS));
-    assert_eq!(rt; counts[1], u64::from(ROUNDS));
-    let closed = close_two(rt.alloc(), board, first, second)?;
-    let words = closed.words.as_slice();
-    assert_eq!(rt; words[4], counts[0]);
-    assert_eq!(rt; words[5], counts[1]);
-    assert_eq!(rt; words[8], counts[2]);
-    assert_eq!(rt; words[9], counts[3]);
+    let posted = [first.posted[1], second.posted[0]];
+    let taken = [second.taken[0], first.taken[1]];
+    assert!(rt; posted == [u64::from(ROUNDS); 2]);
+    let words = close_two(rt.alloc(), board, first, second)?.words;
+    assert!(rt; words[4..6] == posted[..]);
+    assert!(rt; words[8..10] == taken[..]);
     Ok(())
 }
 
@@ -163,47 +185,68 @@ const BLACK: bool = true;
 
 const WHITE: bool = false;
 
+// The token of an opening goes once round the ring, with which a count isn't even yet.
+fn sees_the_token(rt: &impl Abort, first: &mut NodeSeat, second: &mut NodeSeat)
+    ensures first { IsSameSeat first.old first.new }
+    ensures second { IsSameSeat second.old second.new }
+{
+    assert!(rt; first.token() == token(0, BLACK, 0));
+    assert!(rt; second.token() == token(0, BLACK, 0));
+    assert!(rt; announce_if_it_may(first) == Halt::Running);
+    pass_if_it_may(first);
+    assert!(rt; second.token() == token(1, WHITE, 0));
+    assert!(rt; first.token() == token(1, WHITE, 0));
+    pass_if_it_may(second);
+    assert!(rt; first.token() == token(0, BLACK, -1));
+    assert!(rt; announce_if_it_may(first) == Halt::Running);
+}
+
+// The token goes round once more, and then the end is announced.
+fn sees_the_end(rt: &impl Abort, first: &mut NodeSeat, second: &mut NodeSeat)
+    ensures first { IsSameSeat first.old first.new }
+    ensures second { IsSameSeat second.old second.new }
+{
+    pass_if_it_may(first);
+    assert!(rt; second.token() == token(1, WHITE, 0));
+    pass_if_it_may(second);
+    assert!(rt; first.token() == token(0, WHITE, -1));
+    assert!(rt; first.counter() == 1);
+    assert!(rt; second.halted() == Halt::Running);
+    assert!(rt; announce_if_it_may(first) == Halt::Ended);
+    assert!(rt; second.halted() == Halt::Ended);
+}
+
 // One seat reads what the other wrote: counts, the token on two rounds of the ring, and the end.
 #[test]
 fn board_reads_back(rt: HostRuntime) -> Result<(), Fault> {
     let (board, mut first, mut second) = open_two(rt.alloc())?;
-    post_if_it_may(&mut first, 1);
-    assert_eq!(rt; second.look(0), 1);
-    assert_eq!(rt; take_if_it_may(&mut second, 0), Ok(()));
-    assert_eq!(rt; take_if_it_may(&mut second, 0), Err(NotPosted { seen: 1 }));
-    assert_eq!(rt; first.token(), token(0, BLACK, 0));
-    assert_eq!(rt; second.token(), token(0, BLACK, 0));
-    assert_eq!(rt; announce_if_it_may(&mut first), Halt::Running);
-    pass_if_it_may(&mut first);
-    assert_eq!(rt; second.token(), token(1, WHITE, 0));
-    assert_eq!(rt; first.token(), token(1, WHITE, 0));
-    pass_if_it_may(&mut second);
-    assert_eq!(rt; first.token(), token(0, BLACK, -1));
-    assert_eq!(rt; announce_if_it_may(&mut first), Halt::Running);
-    pass_if_it_may(&mut first);
-    assert_eq!(rt; second.token(), token(1, WHITE, 0));
-    pass_if_it_may(&mut second);
-    assert_eq!(rt; first.token(), token(0, WHITE, -1));
-    assert_eq!(rt; first.counter(), 1);
-    assert_eq!(rt; second.halted(), Halt::Running);
-    assert_eq!(rt; announce_if_it_may(&mut first), Halt::Ended);
-    assert_eq!(rt; second.halted(), Halt::Ended);
-    let closed = close_two(rt.alloc(), board, first, second)?;
-    assert_eq!(rt; closed.words.as_slice()[2], 1);
+    sees_a_post(&rt, &mut first, &mut second);
+    sees_the_token(&rt, &mut first, &mut second);
+    sees_the_end(&rt, &mut first, &mut second);
+    let words = close_two(rt.alloc(), board, first, second)?.words;
+    assert!(rt; words[2] == 1);
     Ok(())
+}
+
+// The first of two failures is what both seats see.
+fn sees_the_failure(rt: &impl Abort, first: &mut NodeSeat, second: &mut NodeSeat)
+    ensures first { IsSameSeat first.old first.new }
+    ensures second { IsSameSeat second.old second.new }
+{
+    assert!(rt; first.halted() == Halt::Running);
+    assert!(rt; second.fail() == Halt::Failed(1));
+    assert!(rt; first.halted() == Halt::Failed(1));
+    assert!(rt; first.fail() == Halt::Failed(1));
+    assert!(rt; second.halted() == Halt::Failed(1));
 }
 
 // The first of two failures stays, and no end is announced after it.
 #[test]
 fn halts_stay(rt: HostRuntime) -> Result<(), Fault> {
     let (board, mut first, mut second) = open_two(rt.alloc())?;
-    assert_eq!(rt; first.halted(), Halt::Running);
-    assert_eq!(rt; second.fail(), Halt::Failed(1));
-    assert_eq!(rt; first.halted(), Halt::Failed(1));
-    assert_eq!(rt; first.fail(), Halt::Failed(1));
-    assert_eq!(rt; second.halted(), Halt::Failed(1));
-    let closed = close_two(rt.alloc(), board, first, second)?;
-    assert_eq!(rt; closed.words.as_slice()[2], 3);
+    sees_the_failure(&rt, &mut first, &mut second);
+    let words = close_two(rt.alloc(), board, first, second)?.words;
+    assert!(rt; words[2] == 3);
     Ok(())
 }
 
@@ -214,12 +257,17 @@ fn one_node_ends_alone(rt: HostRuntime) -> Result<(), Fault> {
     let Some(mut seat) = seats.pop() else {
         return Ok(());
     };
-    assert_eq!(rt; seat.token(), token(0, BLACK, 0));
-    assert_eq!(rt; announce_if_it_may(&mut seat), Halt::Running);
-    pass_if_it_may(&mut seat);
-    assert_eq!(rt; seat.token, Some(token(0, WHITE, 0)));
-    assert_eq!(rt; seat.token(), token(0, WHITE, 0));
-    assert_eq!(rt; announce_if_it_may(&mut seat), Halt::Ended);
-    assert_eq!(rt; seat.fail(), Halt::Ended);
+    ends_alone(&rt, &mut seat);
     Ok(())
+}
+
+// The token comes back white at once, and a failure after the end doesn't change it.
+fn ends_alone(rt: &impl Abort, seat: &mut NodeSeat) {
+    assert!(rt; seat.token() == token(0, BLACK, 0));
+    assert!(rt; announce_if_it_may(seat) == Halt::Running);
+    pass_if_it_may(seat);
+    assert!(rt; seat.token == Some(token(0, WHITE, 0)));
+    assert!(rt; seat.token() == token(0, WHITE, 0));
+    assert!(rt; announce_if_it_may(seat) == Halt::Ended);
+    assert!(rt; seat.fail() == Halt::Ended);
 }
