@@ -1,7 +1,7 @@
 // What fills the outbox of owner 0 of two for owner 1, in the set of lions alone.
 ghost use Rattle.std.specs.Prelude.{◌≡◌, OnOk};
 
-use dob_pieces::Memory;
+use dob_pieces::{Memory, PieceSet};
 use dob_rank::Classes;
 use dob_share::Settlement;
 use dob_unmove::back;
@@ -9,6 +9,12 @@ use dob_update::{Outbox, push_items};
 use dob_value::Value;
 use std::alloc::Global;
 use std::process::Abort;
+
+/// The classes of the set of lions alone.
+pub(super) fn lion_classes(rt: &impl Abort, alloc: Global) -> Classes {
+    let set = PieceSet::read("000").expect(rt, "a set");
+    Classes::open(alloc, set).expect(rt, "classes")
+}
 
 /// The settlement of a class that turns from a draw to a win in 7 plies.
 pub(super) fn won(number: u64, class: u64) -> Settlement {
@@ -40,4 +46,12 @@ pub(super) fn add(
     let mut items = Vec::new(alloc);
     push_items(&mut items, settlement, &predecessors, 2, 1)?;
     outbox.add(settlement, &items)
+}
+
+/// An outbox with the five items of one settlement.
+pub(super) fn filled(rt: &impl Abort, alloc: Global) -> Result<Outbox, Memory> {
+    let classes = lion_classes(rt, alloc);
+    let mut outbox = Outbox::new(alloc, classes.set, 2, 0, 1);
+    add(rt, alloc, &classes, &mut outbox, won(0, 16))?;
+    Ok(outbox)
 }
