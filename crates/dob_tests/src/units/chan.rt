@@ -3,10 +3,9 @@
 ghost use Rattle.std.specs.Prelude.{◌≡◌, OnOk, IfOk};
 ghost use Rattle.dob_chan.specs.Ends.{ArePaired, SendsOnSame, TakesOnSame};
 
-use super::outboxes::{add, won};
+use super::outboxes::{add, lion_classes, won};
 use dob_chan::{SendEnd, TakeEnd, pair, rejoin};
-use dob_pieces::{Memory, PieceSet};
-use dob_rank::Classes;
+use dob_pieces::Memory;
 use dob_update::{Batch, Outbox};
 use std::alloc::Global;
 use std::process::Abort;
@@ -25,9 +24,8 @@ fn cut(rt: &impl Abort, outbox: &mut Outbox) -> Result<Batch, Memory> {
 
 // So many batches, the last one first.
 fn batches(rt: &impl Abort, alloc: Global, count: u64) -> Result<Vec<Batch>, Memory> {
-    let set = PieceSet::read("000").expect(rt, "a set");
-    let classes = Classes::open(alloc, set).expect(rt, "classes");
-    let mut outbox = Outbox::new(alloc, set, 2, 0, 1);
+    let classes = lion_classes(rt, alloc);
+    let mut outbox = Outbox::new(alloc, classes.set, 2, 0, 1);
     for number in 0..count {
         add(rt, alloc, &classes, &mut outbox, won(number, CLASS))?;
     }
@@ -99,6 +97,13 @@ fn receive<R: Wait>(rt: &R, end: &mut TakeEnd) -> Option<Batch>
     None
 }
 
+// Takes once, and says whether the batch of that number came, whole.
+fn takes<R: Wait>(rt: &R, end: &mut TakeEnd, number: u64) -> bool
+    ensures { TakesOnSame end.old end.new }
+{
+    is_numbered(&end.next(rt), number)
+}
+
 // Takes so many batches, and says whether they came in order and whole.
 fn take_all<R: Wait>(rt: &R, mut end: TakeEnd, count: u64) -> (TakeEnd, bool)
     ensures { TakesOnSame end result.0 }
@@ -118,49 +123,73 @@ fn is_numbered(batch: &Option<Batch>, number: u64) -> bool {
     batch.number() == number && batch.items().len() == 5
 }
 
+// A batch that has no room comes back, and is taken when the one before it is out.
+fn waits_for_room<R: Wait + Abort>(rt: &R, send: &mut SendEnd, take: &mut TakeEnd, batch: Batch) {
+    let back = offer(rt, send, batch);
+    assert!(rt; is_numbered(&back, 1));
+    assert!(rt; takes(rt, take, 0));
+    assert!(rt; take.next(rt).is_none());
+    let batch = back.expect(rt, "a batch");
+    assert!(rt; offer(rt, send, batch).is_none());
+    assert!(rt; takes(rt, take, 1));
+}
+
 #[test]
 fn one_batch_fits_into_a_channel_for_one(rt: HostRuntime) -> Result<(), Fail> {
     let mut batches = batches(&rt, rt.alloc(), 3)?;
     let (mut send, mut take) = pair(rt.alloc(), 1)?;
     assert!(rt; take.next(&rt).is_none());
-    let first = batches.pop().expect(&rt, "a batch");
-    assert!(rt; offer(&rt, &mut send, first).is_none());
+    assert!(rt; offer_next(&rt, &mut send, &mut batches));
     let second = batches.pop().expect(&rt, "a batch");
-    let back = offer(&rt, &mut send, second);
-    assert!(rt; is_numbered(&back, 1));
-    assert!(rt; is_numbered(&take.next(&rt), 0));
-    assert!(rt; take.next(&rt).is_none());
-    assert!(rt; offer(&rt, &mut send, back.expect(&rt, "a batch")).is_none());
-    assert!(rt; is_numbered(&take.next(&rt), 1));
-    assert_eq!(rt; (send.sent_count(), take.taken_count()), (2, 2));
+    waits_for_room(&rt, &mut send, &mut take, second);
+    assert!(rt; (send.sent_count(), take.taken_count()) == (2, 2));
     Ok(())
+}
+
+// Sends three batches, takes one and sends one more.
+fn leaves_three<R: Wait + Abort>(
+    rt: &R,
+    send: &mut SendEnd,
+    take: &mut TakeEnd,
+    batches: &mut Vec<Batch>,
+)
+    ensures send { SendsOnSame send.old send.new }
+    ensures take { TakesOnSame take.old take.new }
+{
+    assert!(rt; offer_next(rt, send, batches));
+    assert!(rt; offer_next(rt, send, batches));
+    assert!(rt; offer_next(rt, send, batches));
+    assert!(rt; takes(rt, take, 0));
+    assert!(rt; offer_next(rt, send, batches));
+}
+
+// The numbers of the batches.
+fn numbers_of(alloc: Global, batches: &[Batch]) -> Result<Vec<u64>, Memory> {
+    let mut numbers = Vec::new(alloc);
+    for batch in batches {
+        numbers.push(batch.number())?;
+    }
+    Ok(numbers)
 }
 
 #[test]
 fn what_waits_comes_back_in_order(rt: HostRuntime) -> Result<(), Fail> {
     let mut batches = batches(&rt, rt.alloc(), 4)?;
     let (mut send, mut take) = pair(rt.alloc(), 3)?;
-    assert!(rt; offer_next(&rt, &mut send, &mut batches));
-    assert!(rt; offer_next(&rt, &mut send, &mut batches));
-    assert!(rt; offer_next(&rt, &mut send, &mut batches));
-    assert!(rt; is_numbered(&take.next(&rt), 0));
-    assert!(rt; offer_next(&rt, &mut send, &mut batches));
+    leaves_three(&rt, &mut send, &mut take, &mut batches);
     let joined = rejoin(&rt, rt.alloc(), send, take);
     let joined = joined.ok().expect(&rt, "the channel's end");
-    assert_eq!(rt; (joined.sent, joined.received), (4, 1));
-    let mut numbers = Vec::new(rt.alloc());
-    for batch in &joined.waiting {
-        numbers.push(batch.number())?;
-    }
-    assert_eq!(rt; numbers.as_slice(), [1, 2, 3].as_slice());
+    assert!(rt; (joined.sent, joined.received) == (4, 1));
+    let numbers = numbers_of(rt.alloc(), &joined.waiting)?;
+    assert!(rt; numbers.as_slice() == [1, 2, 3].as_slice());
     Ok(())
 }
 
 #[test]
 fn many_batches_between_two_threads(rt: HostRuntime) -> Result<(), Fail> {
-    for capacity in [1, 64] {
+    for capacity in &[1, 64] {
         let batches = batches(&rt, rt.alloc(), 10_000)?;
-        let (send, take) = pair(rt.alloc(), capacity)?;
+        let (send, take) = pair(rt.alloc(), *capacity)?;
         let (send, (take, in_order)) = thread::join(
             &rt,
             || -> SendEnd
@@ -173,8 +202,8 @@ fn many_batches_between_two_threads(rt: HostRuntime) -> Result<(), Fail> {
         assert!(rt; in_order, "at {capacity}");
         let joined = rejoin(&rt, rt.alloc(), send, take);
         let joined = joined.ok().expect(&rt, "the channel's end");
-        assert_eq!(rt; (joined.sent, joined.received), (10_000, 10_000));
-        assert_eq!(rt; joined.waiting.len(), 0);
+        assert!(rt; (joined.sent, joined.received) == (10_000, 10_000));
+        assert!(rt; joined.waiting.is_empty());
     }
     Ok(())
 }
