@@ -50,7 +50,7 @@ fn work(mut seat: NodeSeat, other: usize) -> NodeSeat
     seat
 }
 
-// Opens a board of so many nodes, which there are none of.
+// Whether no board of so many nodes is opened.
 fn is_refused(alloc: Global, nodes: usize) -> bool {
     matches!(Board::open(alloc, nodes), Err(Fault::Nodes))
 }
@@ -185,7 +185,7 @@ const BLACK: bool = true;
 
 const WHITE: bool = false;
 
-// The token of an opening goes once round the ring, with which a count isn't even yet.
+// The token goes round the ring once, which ends nothing yet.
 fn sees_the_token(rt: &impl Abort, first: &mut NodeSeat, second: &mut NodeSeat)
     ensures first { IsSameSeat first.old first.new }
     ensures second { IsSameSeat second.old second.new }
