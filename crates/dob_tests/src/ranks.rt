@@ -2,45 +2,63 @@
 ghost use Rattle.std.specs.Prelude.{◌<◌};
 
 use crate::positions::position;
-use dob_pieces::PieceSet;
+use dob_pieces::{PieceSet, Position};
 use dob_rank::{Classes, rank, representative, size, unrank};
-use std::test::Fail;
+use std::alloc::Global;
+use std::process::Abort;
 
-#[test]
-fn positions_of_ranks(rt: HostRuntime) -> Result<(), Fail> {
-    let rows = [
-        ("001", 994, ".G./.l./L../... - -"),
-        ("010", 1829, ".../eL./.l./... - -"),
-        ("100", 1816, ".../..l/L.c/... - -"),
-        ("100", 729, ".../.../lh./.L. - -"),
-        ("002", 1471, "G../.../l.L/... - g"),
-        ("011", 4570, "..l/..E/.../L.. - g"),
-        ("020", 17547, ".E./L.l/..e/... - -"),
-        ("101", 80865, ".../glL/.../..c - -"),
-        ("110", 46583, ".../e.H/lL./... - -"),
-        ("200", 22732, "hl./.../.../CL. - -"),
-        ("012", 337983, ".l./Lg./.../G.E - -"),
-        ("021", 390410, "G../..L/.El/..e - -"),
-        ("102", 129933, ".../..H/.lg/L.. G -"),
-        ("111", 300642, ".l./LE./.H./... - g"),
-        ("111", 248440, "..C/.E./l../L.. - g"),
-        ("111", 1245683, "lg./L.e/c../... - -"),
-        ("120", 31997, ".l./.e./e../..L C -"),
-        ("201", 317120, ".H./Gh./.../Ll. - -"),
-        ("210", 526857, "l.e/.../H../CL. - -"),
-    ];
-    for (name, number, text) in rows {
-        let set = PieceSet::read(name)?;
-        assert!(rt; number < size(set));
-        let seen = position(&rt, text);
-        assert!(rt; unrank(set, number) == seen, "{text}");
-        assert_eq!(rt; rank(&seen), number, "{text}");
-    }
-    Ok(())
+// Sets, ranks in them, and the positions that have them.
+const RANKS: [(&str, u64, &str); 19] = [
+    ("001", 994, ".G./.l./L../... - -"),
+    ("010", 1829, ".../eL./.l./... - -"),
+    ("100", 1816, ".../..l/L.c/... - -"),
+    ("100", 729, ".../.../lh./.L. - -"),
+    ("002", 1471, "G../.../l.L/... - g"),
+    ("011", 4570, "..l/..E/.../L.. - g"),
+    ("020", 17547, ".E./L.l/..e/... - -"),
+    ("101", 80865, ".../glL/.../..c - -"),
+    ("110", 46583, ".../e.H/lL./... - -"),
+    ("200", 22732, "hl./.../.../CL. - -"),
+    ("012", 337983, ".l./Lg./.../G.E - -"),
+    ("021", 390410, "G../..L/.El/..e - -"),
+    ("102", 129933, ".../..H/.lg/L.. G -"),
+    ("111", 300642, ".l./LE./.H./... - g"),
+    ("111", 248440, "..C/.E./l../L.. - g"),
+    ("111", 1245683, "lg./L.e/c../... - -"),
+    ("120", 31997, ".l./.e./e../..L C -"),
+    ("201", 317120, ".H./Gh./.../Ll. - -"),
+    ("210", 526857, "l.e/.../H../CL. - -"),
+];
+
+// The position has that rank in the set of that name.
+fn has_rank(rt: &impl Abort, name: &str, number: u64, text: &str) {
+    let set = PieceSet::read(name).expect(rt, "a set");
+    assert!(rt; number < size(set));
+    let seen = position(rt, text);
+    assert!(rt; unrank(set, number) == seen, "{text}");
+    assert!(rt; rank(&seen) == number, "{text}");
 }
 
 #[test]
-fn classes_of_positions(rt: HostRuntime) -> Result<(), Fail> {
+fn positions_of_ranks(rt: HostRuntime) {
+    for (name, number, text) in &RANKS {
+        has_rank(&rt, *name, *number, *text);
+    }
+}
+
+// The position is of that class of its set.
+fn is_of_class(rt: &impl Abort, alloc: Global, seen: &Position, number: u64) {
+    let classes = Classes::open(alloc, seen.piece_set()).expect(rt, "classes");
+    assert!(rt; classes.class_of(seen) == number, "class {number}");
+    assert!(rt; number < classes.class_count());
+    assert!(rt;
+        classes.class_at(number) == representative(seen),
+        "class {number}"
+    );
+}
+
+#[test]
+fn classes_of_positions(rt: HostRuntime) {
     let rows = [
         (0, ".../.../.../Ll. - -"),
         (9, ".l./.../.../L.. - -"),
@@ -51,15 +69,7 @@ fn classes_of_positions(rt: HostRuntime) -> Result<(), Fail> {
     ];
     for (number, text) in rows {
         let seen = position(&rt, text);
-        for image in [seen, seen.mirrored()] {
-            let classes = Classes::open(rt.alloc(), image.piece_set())?;
-            assert_eq!(rt; classes.class_of(&image), number, "{text}");
-            assert!(rt; number < classes.class_count());
-            assert!(rt;
-                classes.class_at(number) == representative(&image),
-                "{text}"
-            );
-        }
+        is_of_class(&rt, rt.alloc(), &seen, number);
+        is_of_class(&rt, rt.alloc(), &seen.mirrored(), number);
     }
-    Ok(())
 }
