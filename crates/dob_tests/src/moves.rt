@@ -4,7 +4,36 @@ use dob_moves::{Status, apply, first_catch, moves, status};
 use dob_pieces::{Memory, Position};
 use dob_text::{write_move, write_position};
 use std::alloc::Global;
-use std::test::Fail;
+use std::process::Abort;
+
+// Positions, their statuses and the texts of their moves.
+const MOVES: [(&str, Status, &str); 9] = [
+    // drops follow steps
+    (
+        "..l/.../.../L.. C -",
+        Status::Open,
+        " La1-b1 La1-a2 La1-b2 C*b1 C*c1 C*a2 C*b2 C*c2 C*a3 C*b3 C*c3 C*a4 C*b4",
+    ),
+    // a hen has no steps back to the sides
+    (
+        "H../.l./.../L.. - -",
+        Status::Open,
+        " La1-b1 La1-a2 La1-b2 Ha4-a3 Ha4-b4",
+    ),
+    // a chick catches and becomes a hen
+    (
+        "g.l/C../.../L.. - -",
+        Status::Open,
+        " La1-b1 La1-a2 La1-b2 Ca3xa4+",
+    ),
+    // a chick on its far row stays there
+    ("C.l/.../.../L.. - -", Status::Open, " La1-b1 La1-a2 La1-b2"),
+    ("GEl/LGE/CC./... - -", Status::Stuck, ""),
+    ("GE./LGE/CCl/... - -", Status::Stuck, ""),
+    (".../L../.../..l - -", Status::Tried, ""),
+    (".../.../.L./..l - -", Status::Caught, ""),
+    (".../.l./.H./L.. - -", Status::Caught, ""),
+];
 
 // The texts of the position's moves, in their order, each with a space before it.
 fn moves_text(alloc: Global, position: &Position) -> Result<String, Memory> {
@@ -18,53 +47,29 @@ fn moves_text(alloc: Global, position: &Position) -> Result<String, Memory> {
     Ok(text)
 }
 
-#[test]
-fn moves_of_positions(rt: HostRuntime) -> Result<(), Fail> {
-    let rows = [
-        // drops follow steps
-        (
-            "..l/.../.../L.. C -",
-            Status::Open,
-            " La1-b1 La1-a2 La1-b2 C*b1 C*c1 C*a2 C*b2 C*c2 C*a3 C*b3 C*c3 C*a4 C*b4",
-        ),
-        // a hen has no steps back to the sides
-        (
-            "H../.l./.../L.. - -",
-            Status::Open,
-            " La1-b1 La1-a2 La1-b2 Ha4-a3 Ha4-b4",
-        ),
-        // a chick catches and becomes a hen
-        (
-            "g.l/C../.../L.. - -",
-            Status::Open,
-            " La1-b1 La1-a2 La1-b2 Ca3xa4+",
-        ),
-        // a chick on its far row stays there
-        ("C.l/.../.../L.. - -", Status::Open, " La1-b1 La1-a2 La1-b2"),
-        ("GEl/LGE/CC./... - -", Status::Stuck, ""),
-        ("GE./LGE/CCl/... - -", Status::Stuck, ""),
-        (".../L../.../..l - -", Status::Tried, ""),
-        (".../.../.L./..l - -", Status::Caught, ""),
-        (".../.l./.H./L.. - -", Status::Caught, ""),
-    ];
-    for (text, found, choices) in rows {
-        let position = position(&rt, text);
-        assert_eq!(rt; status(&position), found, "{text}");
-        let told = moves_text(rt.alloc(), &position)?;
-        assert_eq!(rt; told.as_str(), choices, "{text}");
-    }
-    Ok(())
+// The position has that status and those moves.
+fn has_moves(rt: &impl Abort, alloc: Global, text: &str, found: Status, choices: &str) {
+    let position = position(rt, text);
+    assert!(rt; status(&position) == found, "{text}");
+    let told = moves_text(alloc, &position).expect(rt, "memory");
+    assert!(rt; told.as_str() == choices, "{text}");
 }
 
 #[test]
-fn first_catch_is_by_square(rt: HostRuntime) -> Result<(), Fail> {
+fn moves_of_positions(rt: HostRuntime) {
+    for (text, found, choices) in &MOVES {
+        has_moves(&rt, rt.alloc(), *text, *found, *choices);
+    }
+}
+
+#[test]
+fn first_catch_is_by_square(rt: HostRuntime) {
     let Some(catch) = first_catch(&position(&rt, ".../.l./H.H/L.. - -")) else {
         panic!(rt; "no catch");
     };
-    let told = write_move(rt.alloc(), catch, false)?;
-    assert_eq!(rt; told.as_str(), "Ha2xb3");
+    let told = write_move(rt.alloc(), catch, false).expect(&rt, "memory");
+    assert!(rt; told.as_str() == "Ha2xb3");
     assert!(rt; first_catch(&position(&rt, "..l/.../.../L.. - -")).is_none());
-    Ok(())
 }
 
 // What the move of that number leads to, seen from the side to move then.
@@ -77,8 +82,16 @@ fn outcome(alloc: Global, number: usize, position: &Position) -> Result<Option<P
     Ok(Some(after))
 }
 
+// The move of that number leads from the one position to the other.
+fn leads_to(rt: &impl Abort, alloc: Global, text: &str, number: usize, expected: &str) {
+    let led = outcome(alloc, number, &position(rt, text)).expect(rt, "memory");
+    let after = led.expect(rt, "a move of that number");
+    let told = write_position(alloc, &after).expect(rt, "memory");
+    assert!(rt; told.as_str() == expected, "{text}");
+}
+
 #[test]
-fn outcomes_of_moves(rt: HostRuntime) -> Result<(), Fail> {
+fn outcomes_of_moves(rt: HostRuntime) {
     let rows = [
         // La1xa2: a caught hen is a chick in hand
         ("..l/.../h../L.. - -", 1, ".../..l/.../L.. - c"),
@@ -88,11 +101,6 @@ fn outcomes_of_moves(rt: HostRuntime) -> Result<(), Fail> {
         ("..l/.../.../L.. C -", 6, "..l/.c./.../L.. - -"),
     ];
     for (text, number, expected) in rows {
-        let Some(after) = outcome(rt.alloc(), number, &position(&rt, text))? else {
-            panic!(rt; "no such move");
-        };
-        let told = write_position(rt.alloc(), &after)?;
-        assert_eq!(rt; told.as_str(), expected, "{text}");
+        leads_to(&rt, rt.alloc(), text, number, expected);
     }
-    Ok(())
 }
