@@ -28,20 +28,28 @@ fn has<S: Shelf>(shelf: &mut S, name: &str, bytes: &[u8]) -> bool {
     }
 }
 
-// A file is found as it was kept, and made anew it is empty until it is kept; the other files stay.
-fn keeps_files<S: Shelf>(rt: &impl Abort, shelf: &mut S, other: &str) {
-    assert!(rt; put(shelf, other, b"other"));
-    assert!(rt; put(shelf, NAME, b"first"));
-    assert!(rt; has(shelf, NAME, b"first"));
-    assert!(rt; put(shelf, NAME, b"2nd"));
-    assert!(rt; has(shelf, NAME, b"2nd"));
-    assert!(rt; put(shelf, NAME, b""));
-    assert!(rt; has(shelf, NAME, b""));
-    assert!(rt; has(shelf, other, b"other"));
+// A file is found as it was kept.
+fn keeps_file<S: Shelf>(rt: &impl Abort, shelf: &mut S, name: &str, bytes: &[u8]) {
+    assert!(rt; put(shelf, name, bytes));
+    assert!(rt; has(shelf, name, bytes));
+}
+
+// A file made anew is empty until it is kept; the other one stays.
+fn empties_file<S: Shelf>(rt: &impl Abort, shelf: &mut S, other: &str) {
     let made = shelf.make(NAME);
     assert!(rt; made.is_some());
     assert!(rt; has(shelf, NAME, b""));
     assert!(rt; has(shelf, other, b"other"));
+}
+
+// Files are found as they were kept, also one that is kept again, and the other one stays.
+fn keeps_files<S: Shelf>(rt: &impl Abort, shelf: &mut S, other: &str) {
+    keeps_file(rt, shelf, other, b"other");
+    keeps_file(rt, shelf, NAME, b"first");
+    keeps_file(rt, shelf, NAME, b"2nd");
+    keeps_file(rt, shelf, NAME, b"");
+    assert!(rt; has(shelf, other, b"other"));
+    empties_file(rt, shelf, other);
 }
 
 #[test]
