@@ -45,8 +45,6 @@ fn a_full_disk(rt: HostRuntime) {
             room,
         };
         let told = run_on(&rt, rt.alloc(), &mut shelf, &words);
-        assert_eq!(rt; told.err.bytes(), b"dobutsu: E24 Io\n".as_slice());
-        assert_eq!(rt; told.status, 3);
-        assert!(rt; told.out.bytes().is_empty());
+        assert!(rt; told.is(3, b"", b"dobutsu: E24 Io\n"));
     }
 }

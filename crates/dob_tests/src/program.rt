@@ -32,6 +32,13 @@ pub(crate) struct Told {
     pub(crate) err: MemSink,
 }
 
+impl Told {
+    /// Whether the program ended with that status and wrote that.
+    pub(crate) fn is(&self, status: u8, out: &[u8], err: &[u8]) -> bool {
+        self.status == status && self.out.bytes() == out && self.err.bytes() == err
+    }
+}
+
 // A shelf whose one file has those bytes.
 fn shelf_with(alloc: Global, bytes: &[u8]) -> Result<MemShelf, AllocError> {
     let mut shelf = MemShelf::new(alloc);
@@ -53,6 +60,18 @@ pub(crate) fn run_on<S: Shelf>(
     let mut err = MemSink::new(alloc);
     let status = run_over(rt, alloc, words, shelf, &mut out, &mut err);
     Told { status, out, err }
+}
+
+// What the program answers to the words over those streams, where there are no files.
+fn run_into<O: Write, E: Write>(
+    rt: &(impl Threads + Wait + Sync),
+    alloc: Global,
+    words: &[&str],
+    out: &mut O,
+    err: &mut E,
+) -> u8 {
+    let mut shelf = MemShelf::new(alloc);
+    run_words(rt, alloc, words, &mut shelf, out, err)
 }
 
 /// A stream that takes so many bytes and then fails.
@@ -79,7 +98,7 @@ impl Write for Narrow {
 }
 
 #[test]
-fn standard_output_that_fails(rt: HostRuntime) -> Result<(), Fail> {
+fn standard_output_that_fails(rt: HostRuntime) {
     for room in 0..6 {
         let mut out = Narrow {
             room,
@@ -87,31 +106,27 @@ fn standard_output_that_fails(rt: HostRuntime) -> Result<(), Fail> {
         };
         let mut err = Vec::new(rt.alloc());
         let words = ["value", "..l/.../L../... - -"];
-        let mut shelf = MemShelf::new(rt.alloc());
-        let status = run_words(&rt, rt.alloc(), &words, &mut shelf, &mut out, &mut err);
-        assert_eq!(rt; status, 3);
-        assert_eq!(rt; out.taken.as_slice(), &b"win 3\n"[..room]);
-        assert_eq!(rt; err.as_slice(), b"dobutsu: E24 Io\n".as_slice());
+        assert!(rt; run_into(&rt, rt.alloc(), &words, &mut out, &mut err) == 3);
+        assert!(rt; out.taken.as_slice() == &b"win 3\n"[..room], "{room}");
+        assert!(rt; err.as_slice() == b"dobutsu: E24 Io\n".as_slice());
     }
-    Ok(())
 }
 
 #[test]
-fn standard_error_that_fails(rt: HostRuntime) -> Result<(), Fail> {
+fn standard_error_that_fails(rt: HostRuntime) {
     for room in 0..8 {
         let mut out = Vec::new(rt.alloc());
         let mut err = Narrow {
             room,
             taken: Vec::new(rt.alloc()),
         };
-        let mut shelf = MemShelf::new(rt.alloc());
-        let words = ["value", ""];
-        let status = run_words(&rt, rt.alloc(), &words, &mut shelf, &mut out, &mut err);
-        assert_eq!(rt; status, 1);
+        assert!(rt; run_into(&rt, rt.alloc(), &["value", ""], &mut out, &mut err) == 1);
         assert!(rt; out.is_empty());
-        assert_eq!(rt; err.taken.as_slice(), &b"dobutsu: E1 Shape\n"[..room]);
+        assert!(rt;
+            err.taken.as_slice() == &b"dobutsu: E1 Shape\n"[..room],
+            "{room}"
+        );
     }
-    Ok(())
 }
 
 /// A stream that takes every byte and can't be flushed.
@@ -132,18 +147,15 @@ impl Write for Unflushed {
 }
 
 #[test]
-fn standard_output_that_cannot_be_flushed(rt: HostRuntime) -> Result<(), Fail> {
+fn standard_output_that_cannot_be_flushed(rt: HostRuntime) {
     let mut out = Unflushed {
         taken: Vec::new(rt.alloc()),
     };
     let mut err = Vec::new(rt.alloc());
     let words = ["value", "..l/.../L../... - -"];
-    let mut shelf = MemShelf::new(rt.alloc());
-    let status = run_words(&rt, rt.alloc(), &words, &mut shelf, &mut out, &mut err);
-    assert_eq!(rt; status, 3);
-    assert_eq!(rt; out.taken.as_slice(), b"win 3\n".as_slice());
-    assert_eq!(rt; err.as_slice(), b"dobutsu: E24 Io\n".as_slice());
-    Ok(())
+    assert!(rt; run_into(&rt, rt.alloc(), &words, &mut out, &mut err) == 3);
+    assert!(rt; out.taken.as_slice() == b"win 3\n".as_slice());
+    assert!(rt; err.as_slice() == b"dobutsu: E24 Io\n".as_slice());
 }
 
 /// What the program does with arguments that can't be had for this cause.
@@ -161,20 +173,18 @@ fn without_arguments(
 }
 
 #[test]
-fn arguments_that_cannot_be_had(rt: HostRuntime) -> Result<(), Fail> {
-    let unread = without_arguments(&rt, rt.alloc(), ErrorKind::InvalidData)?;
-    assert_eq!(rt; unread.status, 2);
-    assert!(rt; unread.out.bytes().is_empty());
-    assert!(rt;
-        unread
-            .err
-            .bytes()
-            .starts_with(b"error: an argument is not UTF-8\n")
-    );
-    let refused = without_arguments(&rt, rt.alloc(), ErrorKind::OutOfMemory)?;
-    assert_eq!(rt; refused.status, 3);
-    assert_eq!(rt; refused.err.bytes(), b"dobutsu: E23 Memory\n".as_slice());
-    Ok(())
+fn arguments_that_are_no_text(rt: HostRuntime) {
+    let told = without_arguments(&rt, rt.alloc(), ErrorKind::InvalidData).expect(&rt, "memory");
+    let line = b"error: an argument is not UTF-8\n";
+    assert!(rt; told.status == 2 && told.out.bytes().is_empty());
+    assert!(rt; told.err.bytes().starts_with(line));
+}
+
+#[test]
+fn arguments_without_memory(rt: HostRuntime) {
+    let told = without_arguments(&rt, rt.alloc(), ErrorKind::OutOfMemory).expect(&rt, "memory");
+    assert!(rt; told.status == 3);
+    assert!(rt; told.err.bytes() == b"dobutsu: E23 Memory\n".as_slice());
 }
 
 // The file of the table of lions alone, with another code for one class.
@@ -226,7 +236,7 @@ fn lines_by_wrong_values(rt: HostRuntime) -> Result<(), Fail> {
     for (class, code, text, line) in rows {
         let words = ["line", "--db", FILE, text];
         let told = run_with(&rt, rt.alloc(), class, code, &words)?;
-        assert_eq!(rt; told.out.bytes(), line.as_bytes(), "{class} as {code}");
+        assert!(rt; told.out.bytes() == line.as_bytes(), "{class} as {code}");
     }
     Ok(())
 }
@@ -243,9 +253,7 @@ fn no_line_by_wrong_values(rt: HostRuntime) -> Result<(), Fail> {
     for (class, code, text, line) in rows {
         let words = ["line", "--db", FILE, text];
         let told = run_with(&rt, rt.alloc(), class, code, &words)?;
-        assert_eq!(rt; told.err.bytes(), line.as_bytes(), "{class} as {code}");
-        assert_eq!(rt; told.status, 1);
-        assert!(rt; told.out.bytes().is_empty());
+        assert!(rt; told.is(1, b"", line.as_bytes()), "{class} as {code}");
     }
     Ok(())
 }
@@ -254,7 +262,7 @@ fn no_line_by_wrong_values(rt: HostRuntime) -> Result<(), Fail> {
 fn a_wrong_value_is_told(rt: HostRuntime) -> Result<(), Fail> {
     let words = ["probe", "--db", FILE, LONG];
     let told = run_with(&rt, rt.alloc(), 17, 8, &words)?;
-    assert_eq!(rt; told.out.bytes(), b"win 7\n".as_slice());
+    assert!(rt; told.out.bytes() == b"win 7\n".as_slice());
     Ok(())
 }
 
@@ -276,8 +284,10 @@ fn the_first_break_of_a_file(rt: HostRuntime) -> Result<(), Fail> {
     for (class, code, broken) in rows {
         let told = run_with(&rt, rt.alloc(), class, code, &["check", "--db", FILE])?;
         let line = format!(in rt.alloc(); "dobutsu: E21 Inconsistent class {broken}\n")?;
-        assert_eq!(rt; told.err.bytes(), line.as_str().as_bytes(), "{class}");
-        assert_eq!(rt; told.status, 1);
+        assert!(rt;
+            told.status == 1 && told.err.bytes() == line.as_str().as_bytes(),
+            "{class}"
+        );
     }
     Ok(())
 }
