@@ -6,7 +6,6 @@ use dob_share::{Fault, Item, Opening, Share, owner};
 use dob_value::Value;
 use std::alloc::{AllocError, Global};
 use std::process::Abort;
-use std::test::Fail;
 
 // 54 classes: class 0 is caught, class 1 is stuck, all others are open with five moves.
 fn openings(alloc: Global) -> Result<Vec<Opening>, AllocError> {
@@ -23,12 +22,12 @@ fn openings(alloc: Global) -> Result<Vec<Opening>, AllocError> {
 }
 
 // The share of that owner among n.
-fn share_of(alloc: Global, id: usize, n: usize) -> Result<Share, Fail>
+fn share_of(rt: &impl Abort, alloc: Global, id: usize, n: usize) -> Share
     requires owner { id < n }
     requires owners { n ≤ 16 }
 {
-    let list = openings(alloc)?;
-    Ok(Share::open(alloc, &list, id, n)?)
+    let list = openings(alloc).expect(rt, "memory");
+    Share::open(alloc, &list, id, n).expect(rt, "a share")
 }
 
 // What the share answers to a change of one move of the class.
@@ -47,7 +46,7 @@ fn answer<A: Abort>(
         now,
     }) {
         Ok(Some(settlement)) => {
-            assert_eq!(rt; settlement.class, to);
+            assert!(rt; settlement.class == to);
             Ok(Some((settlement.was, settlement.now)))
         }
         Ok(None) => Ok(None),
@@ -55,89 +54,141 @@ fn answer<A: Abort>(
     }
 }
 
+// The share answers that.
+fn answers<A: Abort>(
+    rt: &A,
+    share: &mut Share,
+    to: u64,
+    was: Value,
+    now: Value,
+    expected: Result<Option<(Value, Value)>, Fault>,
+) {
+    assert_eq!(rt; answer(rt, share, to, was, now), expected);
+}
+
 #[test]
-fn shares_have_their_places(rt: HostRuntime) -> Result<(), Fail> {
+fn shares_have_their_places(rt: HostRuntime) {
     for id in 0..16 {
         let want = if id <= 5 { 4 } else { 3 };
-        assert_eq!(rt; share_of(rt.alloc(), id, 16)?.places(), want, "of {id}");
-    }
-    let share = share_of(rt.alloc(), 0, 1)?;
-    assert_eq!(rt; share.places(), 54);
-    assert_eq!(rt; share.settled(), 2);
-    assert_eq!(rt; owner(17, 16), 1);
-    Ok(())
-}
-
-#[test]
-fn items_that_do_not_fit(rt: HostRuntime) -> Result<(), Fail> {
-    let mut share = share_of(rt.alloc(), 0, 1)?;
-    assert_eq!(rt;
-        answer(&rt, &mut share, 17, Value::Win(7), Value::Win(5)),
-        Err(Fault::Contradiction(17))
-    );
-    assert_eq!(rt;
-        answer(&rt, &mut share, 0, Value::Draw, Value::Win(5)),
-        Err(Fault::Contradiction(0))
-    );
-    assert_eq!(rt;
-        answer(&rt, &mut share, 1, Value::Draw, Value::Win(5)),
-        Err(Fault::Contradiction(1))
-    );
-    assert_eq!(rt;
-        answer(&rt, &mut share, 54, Value::Draw, Value::Win(5)),
-        Err(Fault::Contradiction(54))
-    );
-    Ok(())
-}
-
-#[test]
-fn all_moves_lose(rt: HostRuntime) -> Result<(), Fail> {
-    let mut share = share_of(rt.alloc(), 1, 2)?;
-    for plies in [7, 7, 3, 9] {
-        assert_eq!(rt;
-            answer(&rt, &mut share, 17, Value::Draw, Value::Win(plies)),
-            Ok(None)
+        assert!(rt;
+            share_of(&rt, rt.alloc(), id, 16).places() == want,
+            "of {id}"
         );
     }
-    assert_eq!(rt;
-        answer(&rt, &mut share, 17, Value::Draw, Value::Win(5)),
-        Ok(Some((Value::Draw, Value::Loss(10))))
-    );
-    assert_eq!(rt;
-        answer(&rt, &mut share, 17, Value::Win(9), Value::Win(1)),
-        Ok(Some((Value::Loss(10), Value::Loss(8))))
-    );
-    assert_eq!(rt;
-        answer(&rt, &mut share, 17, Value::Win(7), Value::Win(5)),
-        Ok(None)
-    );
-    assert_eq!(rt;
-        answer(&rt, &mut share, 17, Value::Draw, Value::Win(5)),
-        Err(Fault::Contradiction(17))
-    );
-    Ok(())
+    let share = share_of(&rt, rt.alloc(), 0, 1);
+    assert!(rt; share.places() == 54);
+    assert!(rt; share.settled() == 2);
+    assert!(rt; owner(17, 16) == 1);
 }
 
 #[test]
-fn distances_at_the_limit(rt: HostRuntime) -> Result<(), Fail> {
-    let mut share = share_of(rt.alloc(), 0, 1)?;
-    assert_eq!(rt;
-        answer(&rt, &mut share, 17, Value::Draw, Value::Loss(65534)),
-        Err(Fault::TooDeep)
+fn items_that_do_not_fit(rt: HostRuntime) {
+    let mut share = share_of(&rt, rt.alloc(), 0, 1);
+    answers(
+        &rt,
+        &mut share,
+        17,
+        Value::Win(7),
+        Value::Win(5),
+        Err(Fault::Contradiction(17)),
     );
-    assert_eq!(rt;
-        answer(&rt, &mut share, 17, Value::Draw, Value::Loss(3)),
-        Ok(Some((Value::Draw, Value::Win(4))))
+    answers(
+        &rt,
+        &mut share,
+        0,
+        Value::Draw,
+        Value::Win(5),
+        Err(Fault::Contradiction(0)),
     );
-    assert_eq!(rt;
-        answer(&rt, &mut share, 17, Value::Draw, Value::Loss(65534)),
-        Ok(None)
+    answers(
+        &rt,
+        &mut share,
+        1,
+        Value::Draw,
+        Value::Win(5),
+        Err(Fault::Contradiction(1)),
     );
-    Ok(())
+    answers(
+        &rt,
+        &mut share,
+        54,
+        Value::Draw,
+        Value::Win(5),
+        Err(Fault::Contradiction(54)),
+    );
 }
 
 #[test]
-fn values_of_classes(rt: HostRuntime) -> Result<(), Fail> {
+fn all_moves_lose(rt: HostRuntime) {
+    let mut share = share_of(&rt, rt.alloc(), 1, 2);
+    for plies in [7, 7, 3, 9] {
+        answers(
+            &rt,
+            &mut share,
+            17,
+            Value::Draw,
+            Value::Win(plies),
+            Ok(None),
+        );
+    }
+    answers(
+        &rt,
+        &mut share,
+        17,
+        Value::Draw,
+        Value::Win(5),
+        Ok(Some((Value::Draw, Value::Loss(10)))),
+    );
+    answers(
+        &rt,
+        &mut share,
+        17,
+        Value::Win(9),
+        Value::Win(1),
+        Ok(Some((Value::Loss(10), Value::Loss(8)))),
+    );
+    answers(&rt, &mut share, 17, Value::Win(7), Value::Win(5), Ok(None));
+    answers(
+        &rt,
+        &mut share,
+        17,
+        Value::Draw,
+        Value::Win(5),
+        Err(Fault::Contradiction(17)),
+    );
+}
+
+#[test]
+fn distances_at_the_limit(rt: HostRuntime) {
+    let mut share = share_of(&rt, rt.alloc(), 0, 1);
+    answers(
+        &rt,
+        &mut share,
+        17,
+        Value::Draw,
+        Value::Loss(65534),
+        Err(Fault::TooDeep),
+    );
+    answers(
+        &rt,
+        &mut share,
+        17,
+        Value::Draw,
+        Value::Loss(3),
+        Ok(Some((Value::Draw, Value::Win(4)))),
+    );
+    answers(
+        &rt,
+        &mut share,
+        17,
+        Value::Draw,
+        Value::Loss(65534),
+        Ok(None),
+    );
+}
+
+#[test]
+fn values_of_classes(rt: HostRuntime) {
     let caught = Opening {
         status: Status::Caught,
         moves: 0,
@@ -150,11 +201,11 @@ fn values_of_classes(rt: HostRuntime) -> Result<(), Fail> {
         status: Status::Open,
         moves: 5,
     };
-    let mut share = Share::open(rt.alloc(), &[caught, stuck, open], 0, 1)?;
-    assert_eq!(rt; share.value(0), Value::Win(1));
-    assert_eq!(rt; share.value(1), Value::Loss(0));
-    assert_eq!(rt; share.value(2), Value::Draw);
-    assert_eq!(rt; share.settled(), 2);
+    let mut share = Share::open(rt.alloc(), &[caught, stuck, open], 0, 1).expect(&rt, "a share");
+    assert!(rt; share.value(0) == Value::Win(1));
+    assert!(rt; share.value(1) == Value::Loss(0));
+    assert!(rt; share.value(2) == Value::Draw);
+    assert!(rt; share.settled() == 2);
     let item = Item {
         number: 0,
         to: 2,
@@ -162,7 +213,6 @@ fn values_of_classes(rt: HostRuntime) -> Result<(), Fail> {
         now: Value::Loss(3),
     };
     assert!(rt; share.apply(item).is_ok());
-    assert_eq!(rt; share.value(2), Value::Win(4));
-    assert_eq!(rt; share.settled(), 3);
-    Ok(())
+    assert!(rt; share.value(2) == Value::Win(4));
+    assert!(rt; share.settled() == 3);
 }
