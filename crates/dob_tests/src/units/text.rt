@@ -1,11 +1,12 @@
 // Texts that are read and written back, texts that are refused, and moves as text.
+ghost use Rattle.std.specs.Prelude.{◌<◌};
+
 use dob_moves::Move;
-use dob_pieces::{HandKind, Kind, Memory, Piece, Side, Square};
+use dob_pieces::{Hand, HandKind, Kind, Memory, Piece, Side, Square};
 use dob_text::{TextFault, read_position, write_move, write_position};
 use std::alloc::Global;
 use std::process::Abort;
 use std::str;
-use std::test::Fail;
 
 const START: &str = "gle/.c./.C./ELG - -";
 
@@ -193,54 +194,88 @@ fn long_hand(
     Ok(text)
 }
 
-/// The text of a step.
-fn step(
+/// The text with that many of a letter in a hand is refused so.
+fn refuses_long_hand(
+    rt: &impl Abort,
+    alloc: Global,
+    front: &str,
+    letter: char,
+    count: u32,
+    back: &str,
+    fault: TextFault,
+) {
+    let text = long_hand(alloc, front, letter, count, back).expect(rt, "memory");
+    refuses(rt, text.as_str(), fault);
+}
+
+/// The text of the start with another byte in its board is refused so.
+fn refuses_spoilt(rt: &impl Abort, place: usize, byte: u8, fault: TextFault)
+    requires { place < 15 }
+{
+    let mut bytes = *b"gle/.c./.C./ELG - -";
+    bytes[place] = byte;
+    let text = str::from_utf8(&bytes).expect(rt, "a text");
+    refuses(rt, text, fault);
+}
+
+/// The text is read, and written back as it was.
+fn is_written_back(rt: &impl Abort, alloc: Global, text: &str) {
+    let position = read_position(text).expect(rt, "a position's text");
+    let written = write_position(alloc, &position).expect(rt, "memory");
+    assert_eq!(rt; written.as_str(), text);
+}
+
+/// The move is written so.
+fn writes(rt: &impl Abort, alloc: Global, choice: Move, second: bool, text: &str) {
+    let written = write_move(alloc, choice, second).expect(rt, "memory");
+    assert_eq!(rt; written.as_str(), text);
+}
+
+/// The step is written so.
+fn writes_step(
+    rt: &impl Abort,
     alloc: Global,
     kind: Kind,
     squares: (usize, usize),
     signs: (bool, bool),
     second: bool,
-) -> Result<String, Memory> {
+    text: &str,
+) {
     let (from, to) = (Square::new(squares.0 % 12), Square::new(squares.1 % 12));
     let (catch, grows) = signs;
-    write_move(
-        alloc,
-        Move::Step {
-            kind,
-            from,
-            to,
-            catch,
-            grows,
-        },
-        second,
-    )
+    let choice = Move::Step {
+        kind,
+        from,
+        to,
+        catch,
+        grows,
+    };
+    writes(rt, alloc, choice, second, text);
 }
 
-/// The text of a drop.
-fn put(alloc: Global, kind: HandKind, to: usize, second: bool) -> Result<String, Memory> {
-    write_move(
-        alloc,
-        Move::Put {
-            kind,
-            to: Square::new(to % 12),
-        },
-        second,
-    )
+/// The drop is written so.
+fn writes_drop(
+    rt: &impl Abort,
+    alloc: Global,
+    kind: HandKind,
+    to: usize,
+    second: bool,
+    text: &str,
+) {
+    let to = Square::new(to % 12);
+    writes(rt, alloc, Move::Put { kind, to }, second, text);
 }
 
 #[test]
-fn reads_and_writes_back(rt: HostRuntime) -> Result<(), Fail> {
+fn reads_and_writes_back(rt: HostRuntime) {
     for text in READ {
-        let position = read_position(text)?;
-        let written = write_position(rt.alloc(), &position)?;
-        assert_eq!(rt; written.as_str(), text);
+        is_written_back(&rt, rt.alloc(), text);
     }
-    Ok(())
 }
 
 #[test]
-fn reads_the_start(rt: HostRuntime) -> Result<(), Fail> {
-    let setup = read_position(START)?.setup;
+fn reads_the_start(rt: HostRuntime) {
+    let setup = read_position(START).expect(&rt, "the start").setup;
     let mover = |kind| Some(Piece {
         side: Side::Mover,
         kind,
@@ -264,24 +299,24 @@ fn reads_the_start(rt: HostRuntime) -> Result<(), Fail> {
         enemy(Kind::Elephant),
     ];
     assert!(rt; setup.board == board);
-    let hands = read_position("..l/.../.../L.. CEEG cg")?.setup.hands;
-    assert_eq!(rt;
-        (
-            hands.mover.chicks,
-            hands.mover.elephants,
-            hands.mover.giraffes
-        ),
-        (1, 2, 1)
-    );
-    assert_eq!(rt;
-        (
-            hands.enemy.chicks,
-            hands.enemy.elephants,
-            hands.enemy.giraffes
-        ),
-        (1, 0, 1)
-    );
-    Ok(())
+}
+
+#[test]
+fn reads_hands(rt: HostRuntime) {
+    let position = read_position("..l/.../.../L.. CEEG cg").expect(&rt, "a position's text");
+    let hands = position.setup.hands;
+    let mover = Hand {
+        chicks: 1,
+        elephants: 2,
+        giraffes: 1,
+    };
+    let enemy = Hand {
+        chicks: 1,
+        elephants: 0,
+        giraffes: 1,
+    };
+    assert!(rt; hands.mover == mover);
+    assert!(rt; hands.enemy == enemy);
 }
 
 #[test]
@@ -295,106 +330,153 @@ fn refuses_texts(rt: HostRuntime) {
 }
 
 #[test]
-fn refuses_spoilt_boards(rt: HostRuntime) -> Result<(), Fail> {
-    for i in 0..15 {
-        let mut bytes = *b"gle/.c./.C./ELG - -";
-        bytes[i] = b'x';
-        let fault = if i % 4 == 3 {
+fn refuses_spoilt_boards(rt: HostRuntime) {
+    for place in 0..15 {
+        let fault = if place % 4 == 3 {
             TextFault::Shape
         } else {
             TextFault::Letter
         };
-        refuses(&rt, str::from_utf8(&bytes)?, fault);
-        bytes[i] = if i % 4 == 3 { b'.' } else { b'/' };
-        refuses(&rt, str::from_utf8(&bytes)?, TextFault::Shape);
-        bytes[i] = b' ';
-        refuses(&rt, str::from_utf8(&bytes)?, TextFault::Shape);
+        let other = if place % 4 == 3 { b'.' } else { b'/' };
+        refuses_spoilt(&rt, place, b'x', fault);
+        refuses_spoilt(&rt, place, other, TextFault::Shape);
+        refuses_spoilt(&rt, place, b' ', TextFault::Shape);
     }
-    Ok(())
 }
 
 #[test]
-fn refuses_long_hands(rt: HostRuntime) -> Result<(), Fail> {
+fn refuses_long_hands(rt: HostRuntime) {
+    let alloc = rt.alloc();
+    let mover = "..l/.../.../L.. ";
+    let enemy = "L../.../.../..l - ";
     for count in [3, 4, 255, 256, 257, 258, 300, 65536, 65537] {
-        let mover = long_hand(rt.alloc(), "..l/.../.../L.. ", 'C', count, " -")?;
-        refuses(&rt, mover.as_str(), TextFault::Count);
-        let enemy = long_hand(rt.alloc(), "L../.../.../..l - ", 'g', count, "")?;
-        refuses(&rt, enemy.as_str(), TextFault::Count);
-        let mixed = long_hand(rt.alloc(), "..l/.../.../L.. ", 'E', count, "C -")?;
-        refuses(&rt, mixed.as_str(), TextFault::Hand);
+        refuses_long_hand(&rt, alloc, mover, 'C', count, " -", TextFault::Count);
+        refuses_long_hand(&rt, alloc, enemy, 'g', count, "", TextFault::Count);
+        refuses_long_hand(&rt, alloc, mover, 'E', count, "C -", TextFault::Hand);
     }
-    Ok(())
 }
 
 #[test]
-fn writes_steps_of_the_first_player(rt: HostRuntime) -> Result<(), Fail> {
+fn writes_steps_of_the_first_player(rt: HostRuntime) {
     let alloc = rt.alloc();
-    assert_eq!(rt;
-        step(alloc, Kind::Chick, (4, 7), (true, false), false)?.as_str(),
-        "Cb2xb3"
+    writes_step(
+        &rt,
+        alloc,
+        Kind::Chick,
+        (4, 7),
+        (true, false),
+        false,
+        "Cb2xb3",
     );
-    assert_eq!(rt;
-        step(alloc, Kind::Lion, (1, 3), (false, false), false)?.as_str(),
-        "Lb1-a2"
+    writes_step(
+        &rt,
+        alloc,
+        Kind::Lion,
+        (1, 3),
+        (false, false),
+        false,
+        "Lb1-a2",
     );
-    assert_eq!(rt;
-        step(alloc, Kind::Chick, (6, 9), (false, true), false)?.as_str(),
-        "Ca3-a4+"
+    writes_step(
+        &rt,
+        alloc,
+        Kind::Chick,
+        (6, 9),
+        (false, true),
+        false,
+        "Ca3-a4+",
     );
-    assert_eq!(rt;
-        step(alloc, Kind::Chick, (7, 10), (true, true), false)?.as_str(),
-        "Cb3xb4+"
+    writes_step(
+        &rt,
+        alloc,
+        Kind::Chick,
+        (7, 10),
+        (true, true),
+        false,
+        "Cb3xb4+",
     );
-    assert_eq!(rt;
-        step(alloc, Kind::Hen, (11, 10), (false, false), false)?.as_str(),
-        "Hc4-b4"
+    writes_step(
+        &rt,
+        alloc,
+        Kind::Hen,
+        (11, 10),
+        (false, false),
+        false,
+        "Hc4-b4",
     );
-    Ok(())
 }
 
 #[test]
-fn writes_steps_of_the_second_player(rt: HostRuntime) -> Result<(), Fail> {
+fn writes_steps_of_the_second_player(rt: HostRuntime) {
     let alloc = rt.alloc();
-    assert_eq!(rt;
-        step(alloc, Kind::Chick, (4, 7), (true, false), true)?.as_str(),
-        "cb3xb2"
+    writes_step(
+        &rt,
+        alloc,
+        Kind::Chick,
+        (4, 7),
+        (true, false),
+        true,
+        "cb3xb2",
     );
-    assert_eq!(rt;
-        step(alloc, Kind::Lion, (1, 3), (false, false), true)?.as_str(),
-        "lb4-c3"
+    writes_step(
+        &rt,
+        alloc,
+        Kind::Lion,
+        (1, 3),
+        (false, false),
+        true,
+        "lb4-c3",
     );
-    assert_eq!(rt;
-        step(alloc, Kind::Chick, (6, 9), (false, true), true)?.as_str(),
-        "cc2-c1+"
+    writes_step(
+        &rt,
+        alloc,
+        Kind::Chick,
+        (6, 9),
+        (false, true),
+        true,
+        "cc2-c1+",
     );
-    assert_eq!(rt;
-        step(alloc, Kind::Hen, (11, 10), (false, false), true)?.as_str(),
-        "ha1-b1"
+    writes_step(
+        &rt,
+        alloc,
+        Kind::Hen,
+        (11, 10),
+        (false, false),
+        true,
+        "ha1-b1",
     );
-    assert_eq!(rt;
-        step(alloc, Kind::Giraffe, (2, 5), (false, false), true)?.as_str(),
-        "ga4-a3"
+    writes_step(
+        &rt,
+        alloc,
+        Kind::Giraffe,
+        (2, 5),
+        (false, false),
+        true,
+        "ga4-a3",
     );
-    assert_eq!(rt;
-        step(alloc, Kind::Elephant, (0, 4), (true, false), true)?.as_str(),
-        "ec4xb3"
+    writes_step(
+        &rt,
+        alloc,
+        Kind::Elephant,
+        (0, 4),
+        (true, false),
+        true,
+        "ec4xb3",
     );
-    Ok(())
 }
 
 #[test]
-fn writes_drops(rt: HostRuntime) -> Result<(), Fail> {
+fn writes_drops(rt: HostRuntime) {
     let alloc = rt.alloc();
-    assert_eq!(rt; put(alloc, HandKind::Chick, 4, false)?.as_str(), "C*b2");
-    assert_eq!(rt; put(alloc, HandKind::Chick, 4, true)?.as_str(), "c*b3");
-    assert_eq!(rt; put(alloc, HandKind::Elephant, 9, false)?.as_str(), "E*a4");
-    assert_eq!(rt; put(alloc, HandKind::Elephant, 9, true)?.as_str(), "e*c1");
-    assert_eq!(rt; put(alloc, HandKind::Giraffe, 8, true)?.as_str(), "g*a2");
-    Ok(())
+    writes_drop(&rt, alloc, HandKind::Chick, 4, false, "C*b2");
+    writes_drop(&rt, alloc, HandKind::Chick, 4, true, "c*b3");
+    writes_drop(&rt, alloc, HandKind::Elephant, 9, false, "E*a4");
+    writes_drop(&rt, alloc, HandKind::Elephant, 9, true, "e*c1");
+    writes_drop(&rt, alloc, HandKind::Giraffe, 8, true, "g*a2");
 }
 
 #[test]
-fn prints_faults(rt: HostRuntime) -> Result<(), Fail> {
+fn prints_faults(rt: HostRuntime) {
     let faults = [
         (TextFault::Shape, "E1 Shape"),
         (TextFault::Letter, "E2 Letter"),
@@ -404,7 +486,7 @@ fn prints_faults(rt: HostRuntime) -> Result<(), Fail> {
         (TextFault::FarLion, "E6 FarLion"),
     ];
     for (fault, text) in faults {
-        assert_eq!(rt; format!(in rt.alloc(); "{fault}")?.as_str(), text);
+        let printed = format!(in rt.alloc(); "{fault}").expect(&rt, "memory");
+        assert!(rt; printed.as_str() == text, "{text}");
     }
-    Ok(())
 }
