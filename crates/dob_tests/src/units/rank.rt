@@ -10,7 +10,7 @@ use self::key::{is_first, key};
 use self::plain::starts;
 use dob_pieces::{Kind, Piece, PieceSet, Position, Side};
 use dob_rank::{Classes, Fault, rank, representative, size, unrank};
-use std::alloc::Global;
+use std::alloc::{AllocError, Global};
 use std::process::Abort;
 use std::test::Fail;
 
@@ -31,7 +31,7 @@ fn sets_have_their_sizes(rt: HostRuntime) {
         ("210", 1447974),
     ] {
         let set = PieceSet::read(text).expect(&rt, "a set");
-        assert_eq!(rt; size(set), want, "of {text}");
+        assert!(rt; size(set) == want, "of {text}");
     }
 }
 
@@ -101,22 +101,27 @@ fn has_lion(position: &Position, square: usize, side: Side) -> bool
     position.setup.board[square] == Some(Piece { side, kind })
 }
 
+// The lions stand as in that class of lions alone.
+fn has_lions_of(rt: &impl Abort, position: &Position, class: usize) {
+    assert!(rt; class < LIONS.len());
+    let (mover, enemy) = LIONS[class];
+    assert!(rt; mover < 12 && enemy < 12);
+    assert!(rt; has_lion(position, mover, Side::Mover), "class {class}");
+    assert!(rt; has_lion(position, enemy, Side::Enemy), "class {class}");
+}
+
 #[test]
 fn classes_of_lions_alone(rt: HostRuntime) {
     let set = PieceSet::read("000").expect(&rt, "a set");
-    let mut classes = 0;
+    let mut classes = 0usize;
     for number in 0..size(set) {
         let position = unrank(set, number);
         if rank(&representative(&position)) == number {
-            assert!(rt; classes < LIONS.len());
-            let (mover, enemy) = LIONS[classes];
-            assert!(rt; mover < 12 && enemy < 12);
-            assert!(rt; has_lion(&position, mover, Side::Mover), "class {classes}");
-            assert!(rt; has_lion(&position, enemy, Side::Enemy), "class {classes}");
-            classes += 1;
+            has_lions_of(&rt, &position, classes);
+            classes = classes.saturating_add(1);
         }
     }
-    assert_eq!(rt; classes, LIONS.len());
+    assert!(rt; classes == LIONS.len());
 }
 
 #[test]
@@ -124,7 +129,7 @@ fn classes_are_counted(rt: HostRuntime) {
     for (text, want) in [("000", 54), ("001", 1116), ("100", 2124), ("200", 39978)] {
         let set = PieceSet::read(text).expect(&rt, "a set");
         let classes = Classes::open(rt.alloc(), set).expect(&rt, "memory");
-        assert_eq!(rt; classes.class_count(), want, "classes of {text}");
+        assert!(rt; classes.class_count() == want, "classes of {text}");
     }
 }
 
@@ -144,35 +149,66 @@ fn agrees_with_walk(rt: &impl Abort, alloc: Global, text: &str, step: u64) -> Re
 {
     let set = PieceSet::read(text)?;
     let classes = Classes::open(alloc, set)?;
-    let mut last = Vec::new(alloc);
-    let mut walked = 0u64;
-    let mut representatives = 0u64;
+    let mut walk = Walk {
+        last: Vec::new(alloc),
+        walked: 0,
+        representatives: 0,
+    };
     for start in starts(alloc, set)? {
         for position in start.positions(alloc)? {
-            let next = key(alloc, &position)?;
-            assert!(rt; last.as_slice() < next.as_slice(), "{walked} of {text}");
-            last = next;
-            if walked % step == 0 {
-                has_rank(rt, &position, set, walked);
-            }
-            if is_first(alloc, &position)? {
-                if representatives % step == 0 {
-                    has_class(rt, &position, &classes, representatives);
-                }
-                representatives = representatives.saturating_add(1);
-            }
-            walked = walked.saturating_add(1);
+            walk.pass(rt, alloc, &classes, &position, step)?;
         }
     }
-    assert_eq!(rt; size(set), walked, "of {text}");
-    assert_eq!(rt; classes.class_count(), representatives, "of {text}");
+    assert!(rt; size(set) == walk.walked, "of {text}");
+    assert!(rt; classes.class_count() == walk.representatives, "of {text}");
     Ok(())
+}
+
+/// How far a walk over a set has come: the last key, how many positions were passed and how many of them represent a class.
+#[derive(Drop)]
+struct Walk {
+    last: Vec<u8>,
+    walked: u64,
+    representatives: u64,
+}
+
+impl Walk {
+    // Passes the next position.
+    fn pass(
+        &mut self,
+        rt: &impl Abort,
+        alloc: Global,
+        classes: &Classes,
+        position: &Position,
+        step: u64,
+    ) -> Result<(), AllocError>
+        requires { 0 < step }
+    {
+        let next = key(alloc, position)?;
+        assert!(rt;
+            self.last.as_slice() < next.as_slice(),
+            "position {}",
+            self.walked
+        );
+        self.last = next;
+        if self.walked % step == 0 {
+            has_rank(rt, position, classes.set, self.walked);
+        }
+        self.walked = self.walked.saturating_add(1);
+        if is_first(alloc, position)? {
+            if self.representatives % step == 0 {
+                has_class(rt, position, classes, self.representatives);
+            }
+            self.representatives = self.representatives.saturating_add(1);
+        }
+        Ok(())
+    }
 }
 
 // The position is the one of that rank.
 fn has_rank(rt: &impl Abort, position: &Position, set: PieceSet, number: u64) {
     assert!(rt; number < size(set));
-    assert_eq!(rt; rank(position), number);
+    assert!(rt; rank(position) == number);
     assert!(rt; unrank(set, number) == *position, "rank {number}");
 }
 
@@ -180,20 +216,29 @@ fn has_rank(rt: &impl Abort, position: &Position, set: PieceSet, number: u64) {
 fn has_class(rt: &impl Abort, position: &Position, classes: &Classes, number: u64) {
     assert!(rt; number < classes.class_count());
     assert!(rt; classes.class_at(number) == *position, "class {number}");
-    for member in [*position, position.mirrored()] {
-        let earlier = representative(&member);
-        assert!(rt; earlier == *position, "class {number}");
-        let own = rank(&member);
-        assert!(rt; own < size(classes.set));
-        let ranked = unrank(classes.set, own);
-        assert_eq!(rt; classes.class_of(&ranked), number);
-        let named = if member == earlier {
-            Some(number)
-        } else {
-            None
-        };
-        assert_eq!(rt; classes.class_of_representative(&ranked), named);
-    }
+    has_member(rt, position, classes, number, position);
+    has_member(rt, position, classes, number, &position.mirrored());
+}
+
+// The member is of the class of that number, whose representative is the position.
+fn has_member(
+    rt: &impl Abort,
+    position: &Position,
+    classes: &Classes,
+    number: u64,
+    member: &Position,
+) {
+    assert!(rt; representative(member) == *position, "class {number}");
+    let own = rank(member);
+    assert!(rt; own < size(classes.set));
+    let ranked = unrank(classes.set, own);
+    assert!(rt; classes.class_of(&ranked) == number);
+    let named = if member == position {
+        Some(number)
+    } else {
+        None
+    };
+    assert!(rt; classes.class_of_representative(&ranked) == named);
 }
 
 #[test]

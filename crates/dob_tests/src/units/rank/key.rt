@@ -9,20 +9,10 @@ pub(super) const KINDS: [HandKind; 3] = [HandKind::Chick, HandKind::Elephant, Ha
 /// The key of a position. Those of one piece set are compared word by word.
 pub(super) fn key(alloc: Global, position: &Position) -> Result<Vec<u8>, AllocError> {
     let mut key = Vec::new(alloc);
-    for kind in KINDS {
-        key.push(number_on_board(position, kind))?;
-    }
-    for kind in KINDS {
-        key.push(position.setup.hands.mover.count(kind))?;
-    }
+    push_numbers(&mut key, position)?;
     push_lion(&mut key, position, Side::Mover)?;
     push_lion(&mut key, position, Side::Enemy)?;
-    for kind in KINDS {
-        push_squares(&mut key, position, kind)?;
-    }
-    for kind in KINDS {
-        push_forms(&mut key, position, kind)?;
-    }
+    push_pieces(&mut key, position)?;
     Ok(key)
 }
 
@@ -52,6 +42,17 @@ fn number_on_board(position: &Position, kind: HandKind) -> u8 {
     number
 }
 
+// Adds how many of each kind stand on the board, and how many of each the mover has in hand.
+fn push_numbers(key: &mut Vec<u8>, position: &Position) -> Result<(), AllocError> {
+    for kind in KINDS {
+        key.push(number_on_board(position, kind))?;
+    }
+    for kind in KINDS {
+        key.push(position.setup.hands.mover.count(kind))?;
+    }
+    Ok(())
+}
+
 // Adds the square of a lion.
 fn push_lion(key: &mut Vec<u8>, position: &Position, side: Side) -> Result<(), AllocError> {
     let kind = Kind::Lion;
@@ -59,6 +60,17 @@ fn push_lion(key: &mut Vec<u8>, position: &Position, side: Side) -> Result<(), A
         if position.setup.board[square] == Some(Piece { side, kind }) {
             key.push(square as u8)?;
         }
+    }
+    Ok(())
+}
+
+// Adds the squares of each kind, and then the forms of each.
+fn push_pieces(key: &mut Vec<u8>, position: &Position) -> Result<(), AllocError> {
+    for kind in KINDS {
+        push_squares(key, position, kind)?;
+    }
+    for kind in KINDS {
+        push_forms(key, position, kind)?;
     }
     Ok(())
 }

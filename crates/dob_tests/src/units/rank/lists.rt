@@ -9,10 +9,10 @@ use std::process::Abort;
 fn append<A: Abort>(rt: &A, list: &mut Segments<u64>, number: u64) {
     let before = list.len();
     if list.push(number).is_err() {
-        assert_eq!(rt; list.len(), before);
+        assert!(rt; list.len() == before);
         assert!(rt; list.push(number).is_ok());
     }
-    assert_eq!(rt; list.len(), before + 1);
+    assert!(rt; list.len() == before + 1);
 }
 
 // A list of 0, 10, 20, .. in segments of that shift.
@@ -25,30 +25,40 @@ fn tens<A: Abort>(rt: &A, alloc: Global, shift: u32, count: u64) -> Segments<u64
     for number in 0..count {
         append(rt, &mut list, 10 * number);
     }
-    assert_eq!(rt; list.len(), count);
+    assert!(rt; list.len() == count);
     list
+}
+
+// The list has the tens.
+fn has_tens<A: Abort>(rt: &A, list: &Segments<u64>)
+    requires { length list.now ≡ 20 }
+{
+    for number in 0..20 {
+        assert!(rt; list.get(number) == 10 * number, "at {number}");
+    }
+}
+
+// The list has the tens but for the places 7 and 19, and its walk has the same.
+fn has_changed_tens<A: Abort>(rt: &A, list: &Segments<u64>)
+    requires { length list.now ≡ 20 }
+{
+    let mut walked = list.iter();
+    for number in 0..20 {
+        let want = changed_ten(number);
+        assert!(rt; walked.next() == Some(want), "at {number}");
+        assert!(rt; list.get(number) == want, "at {number}");
+    }
+    assert!(rt; walked.next().is_none());
 }
 
 #[test]
 fn lists_in_short_segments(rt: HostRuntime) {
     for shift in [0, 1, 3] {
         let mut list = tens(&rt, rt.alloc(), shift, 20);
-        for number in 0..20 {
-            assert_eq!(rt;
-                list.get(number),
-                10 * number,
-                "at {number} of shift {shift}"
-            );
-        }
+        has_tens(&rt, &list);
         list[7] = 1;
         list[19] = 2;
-        let mut walked = list.iter();
-        for number in 0..20 {
-            let want = changed_ten(number);
-            assert_eq!(rt; walked.next(), Some(want), "at {number} of shift {shift}");
-            assert_eq!(rt; list.get(number), want, "at {number} of shift {shift}");
-        }
-        assert_eq!(rt; walked.next(), None);
+        has_changed_tens(&rt, &list);
     }
 }
 
@@ -63,6 +73,15 @@ fn changed_ten(number: u64) -> u64
     }
 }
 
+// The list has so many fives.
+fn has_fives<A: Abort>(rt: &A, list: &Segments<u64>, count: u64) {
+    assert!(rt; list.len() == count);
+    assert!(rt; list.is_empty() == (count == 0));
+    for item in list.iter() {
+        assert!(rt; item == 5);
+    }
+}
+
 #[test]
 fn lists_of_one_item(rt: HostRuntime) {
     for shift in [0, 1, 3] {
@@ -71,12 +90,7 @@ fn lists_of_one_item(rt: HostRuntime) {
             if found.is_err() {
                 found = Segments::filled(rt.alloc(), shift, count, 5);
             }
-            let list = found.expect(&rt, "a list");
-            assert_eq!(rt; list.len(), count);
-            assert_eq!(rt; list.is_empty(), count == 0);
-            for item in list.iter() {
-                assert_eq!(rt; item, 5);
-            }
+            has_fives(&rt, &found.expect(&rt, "a list"), count);
         }
     }
 }

@@ -21,7 +21,7 @@ const FORMS: [(Side, Kind); 8] = [
 ];
 
 /// The first words of a key: the numbers on the board, what is in hand, and the squares of the lions.
-#[derive(Clone, Copy, Debug)]
+#[derive(Clone, Copy)]
 pub(super) struct Start {
     on_board: Hand,
     hands: Hands,
@@ -41,18 +41,28 @@ pub(super) fn starts(alloc: Global, set: PieceSet) -> Result<Vec<Start>, AllocEr
         let held = rest(all, on_board);
         for mover in hands_up_to(alloc, held)? {
             let enemy = rest(held, mover);
-            let hands = Hands { mover, enemy };
-            for index in 0..boards.len() {
-                let lions = boards[index];
-                starts.push(Start {
-                    on_board,
-                    hands,
-                    lions,
-                })?;
-            }
+            push_starts(&mut starts, &boards, on_board, Hands { mover, enemy })?;
         }
     }
     Ok(starts)
+}
+
+// Adds the first words with each board of lions.
+fn push_starts(
+    starts: &mut Vec<Start>,
+    boards: &Vec<Board>,
+    on_board: Hand,
+    hands: Hands,
+) -> Result<(), AllocError> {
+    for index in 0..boards.len() {
+        let lions = boards[index];
+        starts.push(Start {
+            on_board,
+            hands,
+            lions,
+        })?;
+    }
+    Ok(())
 }
 
 // What is left of each kind when some are taken.
@@ -104,6 +114,18 @@ fn piece(side: Side, kind: Kind) -> Option<Piece> {
 impl Start {
     /// The positions whose keys begin with these words, in the order of their keys.
     pub(super) fn positions(&self, alloc: Global) -> Result<Vec<Position>, AllocError> {
+        let boards = with_all_forms(alloc, self.boards(alloc)?)?;
+        let mut positions = Vec::new(alloc);
+        for index in 0..boards.len() {
+            if let Ok(position) = Position::of(boards[index], self.hands) {
+                positions.push(position)?;
+            }
+        }
+        Ok(positions)
+    }
+
+    // The boards with the lions and the pieces, each piece in its first form.
+    fn boards(&self, alloc: Global) -> Result<Vec<Board>, AllocError> {
         let mut boards = Vec::new(alloc);
         boards.push(self.lions)?;
         for kind in KINDS {
@@ -111,18 +133,7 @@ impl Start {
                 boards = with_one_more(alloc, &boards, kind)?;
             }
         }
-        for kind in KINDS {
-            for square in 0..Square::COUNT {
-                boards = with_forms(alloc, &boards, kind, square)?;
-            }
-        }
-        let mut positions = Vec::new(alloc);
-        for board in boards {
-            if let Ok(position) = Position::of(board, self.hands) {
-                positions.push(position)?;
-            }
-        }
-        Ok(positions)
+        Ok(boards)
     }
 }
 
@@ -151,6 +162,17 @@ fn takes_next(board: &Board, square: usize, kind: HandKind) -> bool
     requires { square < 12 }
 {
     board[square].is_none() && !board[square..].iter().any(|cell| is_of_kind(*cell, kind))
+}
+
+// Each board with each form of each of its pieces.
+fn with_all_forms(alloc: Global, boards: Vec<Board>) -> Result<Vec<Board>, AllocError> {
+    let mut formed = boards;
+    for kind in KINDS {
+        for square in 0..Square::COUNT {
+            formed = with_forms(alloc, &formed, kind, square)?;
+        }
+    }
+    Ok(formed)
 }
 
 // Each board with each form of the piece on the square, where that counts as the kind.
