@@ -71,7 +71,7 @@ fn has_predecessors(
     for (class, expected) in table {
         assert!(rt; *class < classes.class_count());
         let found = back(alloc, &classes, *class)?;
-        assert_eq!(rt; found.as_slice(), *expected, "of {class}");
+        assert!(rt; found.as_slice() == *expected, "of {class}");
     }
     Ok(())
 }
@@ -158,8 +158,8 @@ fn caught_piece_was_a_chick_or_a_hen(rt: HostRuntime) -> Result<(), Memory> {
     let hen = class_of(&rt, &classes, b"..l/.../h../L..", EMPTY, EMPTY);
     assert!(rt; after < classes.class_count());
     let found = back(rt.alloc(), &classes, after)?;
-    assert_eq!(rt; found.iter().filter(|class| **class == chick).count(), 1);
-    assert_eq!(rt; found.iter().filter(|class| **class == hen).count(), 1);
+    assert!(rt; found.iter().filter(|class| **class == chick).count() == 1);
+    assert!(rt; found.iter().filter(|class| **class == hen).count() == 1);
     Ok(())
 }
 
@@ -213,10 +213,10 @@ fn pairs_taken_back(alloc: Global, classes: &Classes) -> Result<Vec<(u64, u64)>,
 // All moves of the set of that name and so many classes are taken back, each once, and nothing else.
 fn takes_all_back(rt: &impl Abort, alloc: Global, name: &str, count: u64) -> Result<(), Memory> {
     let classes = classes_of(rt, alloc, name);
-    assert_eq!(rt; classes.class_count(), count);
+    assert!(rt; classes.class_count() == count);
     let made = pairs_made(rt, alloc, &classes)?;
     let taken_back = pairs_taken_back(alloc, &classes)?;
-    assert_eq!(rt; taken_back.as_slice(), made.as_slice(), "of {name}");
+    assert!(rt; taken_back.as_slice() == made.as_slice(), "of {name}");
     Ok(())
 }
 

@@ -1,7 +1,7 @@
 // The rules by masks against the plain program of the rules, on whole small sets and on a part of a larger one.
 ghost use Rattle.std.specs.Prelude.{◌<◌};
 
-use dob_moves::{count_moves, first_catch, moves, moves_into, plain, status};
+use dob_moves::{Move, count_moves, first_catch, moves, moves_into, plain, status};
 use dob_pieces::{Memory, PieceSet, Position};
 use dob_rank::Classes;
 use std::alloc::Global;
@@ -12,14 +12,18 @@ fn agree_on(rt: &impl Abort, alloc: Global, position: &Position) -> Result<(), M
     assert!(rt; status(position) == plain::status(position));
     assert!(rt; first_catch(position) == plain::first_catch(position));
     let expected = plain::moves(alloc, position)?;
-    let listed = moves(alloc, position)?;
-    assert!(rt; listed.as_slice() == expected.as_slice());
-    assert!(rt; usize::from(count_moves(position)) == expected.len());
-    let mut kept = listed;
-    let found = moves_into(&mut kept, position)?;
+    let mut listed = moves(alloc, position)?;
+    has_moves(rt, position, &listed, &expected);
+    let found = moves_into(&mut listed, position)?;
     assert!(rt; found == status(position));
-    assert!(rt; kept.as_slice() == expected.as_slice());
+    has_moves(rt, position, &listed, &expected);
     Ok(())
+}
+
+// What was listed are the moves that were expected, and so many are counted.
+fn has_moves(rt: &impl Abort, position: &Position, listed: &[Move], expected: &[Move]) {
+    assert!(rt; listed == expected);
+    assert!(rt; usize::from(count_moves(position)) == expected.len());
 }
 
 // On each of the classes of the set of that name whose number the stride divides.
