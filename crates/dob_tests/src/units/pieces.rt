@@ -182,28 +182,15 @@ fn pieces_and_squares(rt: HostRuntime) {
 
 #[test]
 fn faults_are_printed(rt: HostRuntime) {
-    assert_eq!(rt;
-        format!(in rt.alloc(); "{}", PositionFault::Lions)
-            .expect(&rt, "memory")
-            .as_str(),
-        "E4 Lions"
-    );
-    assert_eq!(rt;
-        format!(in rt.alloc(); "{}", PositionFault::Count)
-            .expect(&rt, "memory")
-            .as_str(),
-        "E5 Count"
-    );
-    assert_eq!(rt;
-        format!(in rt.alloc(); "{}", PositionFault::FarLion)
-            .expect(&rt, "memory")
-            .as_str(),
-        "E6 FarLion"
-    );
-    assert_eq!(rt;
-        format!(in rt.alloc(); "{}", SetText)
-            .expect(&rt, "memory")
-            .as_str(),
-        "E25 SetText"
-    );
+    let texts = [
+        (PositionFault::Lions, "E4 Lions"),
+        (PositionFault::Count, "E5 Count"),
+        (PositionFault::FarLion, "E6 FarLion"),
+    ];
+    for (fault, text) in texts {
+        let printed = format!(in rt.alloc(); "{fault}").expect(&rt, "memory");
+        assert!(rt; printed.as_str() == text, "{text}");
+    }
+    let printed = format!(in rt.alloc(); "{}", SetText).expect(&rt, "memory");
+    assert!(rt; printed.as_str() == "E25 SetText");
 }
