@@ -14,7 +14,7 @@ use Rattle.dob_value.specs.declared.value.Value.{Value}
 use Rattle.dob_value.specs.declared.value.Value.TheVariants.{Draw}
 use Rattle.dob_value.specs.Follows.{IsEntry}
 use Rattle.dob_unmove.specs.Edges.{predecessors}
-use Rattle.dob_unmove.proofs.Edges.{first_below}
+use Rattle.dob_unmove.proofs.Edges.{representative_below}
 use Rattle.dob_share.specs.declared.news.Settlement.{Settlement}
 use Rattle.dob_share.specs.declared.news.Item.{Item}
 use Rattle.dob_share.specs.declared.opening.Opening.{Opening}
@@ -62,7 +62,7 @@ module _ (set : PieceSet) (n : ℕ) (histories : ℕ → List Settlement) (appli
         ap (λ h. items_from (predecessors set) n j h) (sym (take_all (length (histories i)) (histories i) (omega arith)));
     nothing_waits = all;
     values = λ p class first.
-        let below = first_below set p class first in
+        let below = representative_below set p class first in
         let given = some_opening set openings class are below in
         let same = class_setup_only set p class (classes_of set) (HasClasses-classes_of set) below first.0 first.1 in (
           given.0.status,

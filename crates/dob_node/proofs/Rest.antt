@@ -20,10 +20,10 @@ use Rattle.dob_value.specs.declared.value.Value.TheVariants.{Win, Loss, Draw}
 use Rattle.dob_value.specs.Follows.{HasInTable, HasSuccessor, FollowsFromSuccessors, FollowsAt, IsConsistent}
 use Rattle.dob_value.specs.ClassRows.{class_setup}
 use Rattle.dob_value.proofs.Successors.{moves_keep_the_set}
-use Rattle.dob_value.proofs.ClassNumbers.{has_entry, one_entry, first_is}
+use Rattle.dob_value.proofs.ClassNumbers.{has_entry, one_entry, representative_is}
 use Rattle.dob_value.proofs.Rows.{class_setup_is}
 use Rattle.dob_value.proofs.Consistency.{consistent_is_right}
-use Rattle.dob_unmove.specs.Classes.{IsFirstIn}
+use Rattle.dob_unmove.specs.Classes.{RepresentsIn}
 use Rattle.dob_unmove.specs.Edges.{predecessors}
 use Rattle.dob_unmove.proofs.Edges.{ArePredecessors-predecessors}
 use Rattle.dob_unmove.specs.Unmoves.{ArePredecessors, IsEither, LeadsInto}
@@ -49,7 +49,7 @@ below_owner n class some = omega arith
 
 -- each class has its predecessors as targets
 abbrev pub AreTargets : PieceSet → (ℕ → List ℕ) → Type 0
-AreTargets set targets = (q : Setup) (class : ℕ) → IsFirstIn set q class → ArePredecessors (IsFirstIn set) q (targets class)
+AreTargets set targets = (q : Setup) (class : ℕ) → RepresentsIn set q class → ArePredecessors (RepresentsIn set) q (targets class)
 
 module _ (set : PieceSet) (targets : ℕ → List ℕ) (n : ℕ) (histories : ℕ → List Settlement) (expanded : ℕ → ℕ)
     (sent applied : ℕ → ℕ → List Item) (values : List Value) (some : 0 < n) (are_targets : AreTargets set targets)
@@ -91,11 +91,11 @@ module _ (set : PieceSet) (targets : ℕ → List ℕ) (n : ℕ) (histories : �
       (below, same_Some u (value q) (sym entry ∙ gathered.each q below))
 
   -- a class with an edge is that of a successor
-  successor : (p : Setup) (a : ℕ) → IsFirstIn set p a → (q : ℕ) (u : Value) → q < classes_of set → 0 < copies targets a q → u ≡ value q →
+  successor : (p : Setup) (a : ℕ) → RepresentsIn set p a → (q : ℕ) (u : Value) → q < classes_of set → 0 < copies targets a q → u ≡ value q →
       HasSuccessor Has p u
   successor p a first q u below above same =
       let rep = class_setup set q in
-      let is : IsFirstIn set rep q = class_setup_is set q (classes_of set) (HasClasses-classes_of set) below in
+      let is : RepresentsIn set rep q = class_setup_is set q (classes_of set) (HasClasses-classes_of set) below in
       let edge = (are_targets rep q is).counts.edges p a first in
       let move = some_of edge.moves (copies targets a q) edge.counted above in
       let leads = edge.sound move.0 move.1 in
@@ -117,7 +117,7 @@ module _ (set : PieceSet) (targets : ℕ → List ℕ) (n : ℕ) (histories : �
       ]
 
   -- what a copy knows is the value of a successor
-  heard : (p : Setup) (a : ℕ) → IsFirstIn set p a → (u : Value) → Contains (knows a) u → HasSuccessor Has p u
+  heard : (p : Setup) (a : ℕ) → RepresentsIn set p a → (u : Value) → Contains (knows a) u → HasSuccessor Has p u
   unfolding all_known
   heard p a first u there =
       let at = from_each_below (λ (q : ℕ). each_below (λ (copy : ℕ). copy_of a q copy ∷ []) (copies targets a q)) (classes_of set) u there in
@@ -128,7 +128,7 @@ module _ (set : PieceSet) (targets : ℕ → List ℕ) (n : ℕ) (histories : �
       successor p a first q u at.1 (omega arith) (sym is ∙ copy_knows a q row.0 below)
 
   -- and the value of each successor is known to a copy
-  told : (p : Setup) (a : ℕ) → IsFirstIn set p a → HasStatus p Open → (move : Move) (o : Setup) → Goes p move o → (u : Value) → Has o u →
+  told : (p : Setup) (a : ℕ) → RepresentsIn set p a → HasStatus p Open → (move : Move) (o : Setup) → Goes p move o → (u : Value) → Has o u →
       Contains (knows a) u
   unfolding all_known
   told p a first goes_on move o goes u has =
@@ -136,7 +136,7 @@ module _ (set : PieceSet) (targets : ℕ → List ℕ) (n : ℕ) (histories : �
       let there = value_there q u has.entry in
       let rep = has.number.first in
       let position = moves_keep_the_set set p move o first.0.0 goes_on goes in
-      let is_rep = first_is set o rep position has.number.representative in
+      let is_rep = representative_is set o rep position has.number.representative in
       let edge = (are_targets rep q (is_rep, has.number.before)).counts.edges p a first in
       let leads : LeadsInto p rep move = (goes_on, (o, goes, turn rep o is_rep.0 position has.number.representative.0)) in
       let above : 0 < copies targets a q = none_of edge.moves (copies targets a q) move edge.counted (edge.whole move leads) in
@@ -150,7 +150,7 @@ module _ (set : PieceSet) (targets : ℕ → List ℕ) (n : ℕ) (histories : �
         | inr image ↦ inr (sym (mirrored-mirrored o position.legal.squares) ∙ ap mirrored (sym image))
       ]
 
-  follows_known : (p : Setup) (a : ℕ) → IsFirstIn set p a → HasStatus p Open → (v : Value) → FollowsFromKnown (knows a) v →
+  follows_known : (p : Setup) (a : ℕ) → RepresentsIn set p a → HasStatus p Open → (v : Value) → FollowsFromKnown (knows a) v →
       FollowsFromSuccessors Has p v
   follows_known p a first goes_on (Win plies) follows = (
     follows.0,
@@ -176,7 +176,7 @@ module _ (set : PieceSet) (targets : ℕ → List ℕ) (n : ℕ) (histories : �
         (win.0, one_entry set values next.1 u (Win win.0) (moves_keep_the_set set p next.0 next.1 first.0.0 goes_on next.2) next.3 win.1)),
   )
 
-  at_status : (p : Setup) (a : ℕ) → IsFirstIn set p a → (status : Status) → HasStatus p status → (v : Value) →
+  at_status : (p : Setup) (a : ℕ) → RepresentsIn set p a → (status : Status) → HasStatus p status → (v : Value) →
       FollowsAtStatus status (knows a) v → FollowsAt Has p status v
   at_status p a first Caught is v follows = follows
   at_status p a first Tried is v follows = follows

@@ -7,7 +7,7 @@ use Rattle.dob_pieces.specs.declared.piece_set.PieceSet.{PieceSet}
 use Rattle.dob_pieces.specs.declared.setup.Setup.{Setup}
 use Rattle.dob_moves.specs.declared.position_status.Status.TheVariants.{Open}
 use Rattle.dob_moves.specs.Statuses.{HasStatus}
-use Rattle.dob_rank.specs.Order.{IsFirstIn}
+use Rattle.dob_rank.specs.Order.{RepresentsIn}
 use Rattle.dob_rank.specs.Marks.{classes_of}
 use Rattle.dob_rank.specs.ClassRows.{class_setup}
 use Rattle.dob_rank.proofs.Marks.{HasClasses-classes_of}
@@ -15,7 +15,7 @@ use Rattle.dob_rank.proofs.Representatives.{class_setup_is}
 use Rattle.dob_value.specs.declared.value.Value.{Value}
 use Rattle.dob_value.specs.Follows.{IsEntry}
 use Rattle.dob_unmove.specs.Edges.{predecessors}
-use Rattle.dob_unmove.proofs.Edges.{ArePredecessors-predecessors, first_below}
+use Rattle.dob_unmove.proofs.Edges.{ArePredecessors-predecessors, representative_below}
 use Rattle.dob_share.specs.declared.news.Settlement.{Settlement}
 use Rattle.dob_share.specs.declared.news.Item.{Item}
 use Rattle.dob_share.specs.Owners.{owner_of}
@@ -41,13 +41,13 @@ use Rattle.dob_node.proofs.Takes.{value_follows, SumsUp-same, CellValue-same}
 open_class : (set : PieceSet) (p q : ℕ) → q < classes_of set → 0 < copies (predecessors set) p q →
     (p < classes_of set) × HasStatus (class_setup set p) Open
 open_class set p q below above =
-    let rep : IsFirstIn set (class_setup set q) q = class_setup_is set q (classes_of set) (HasClasses-classes_of set) below in
+    let rep : RepresentsIn set (class_setup set q) q = class_setup_is set q (classes_of set) (HasClasses-classes_of set) below in
     let are = ArePredecessors-predecessors set (class_setup set q) q rep in
     let there = counted (λ to. eqb to p) (predecessors set q) above in
     let same : there.0 ≡ p = eqb-true there.0 p there.2 in
-    let known = All-contains (λ (class : ℕ). (s : Setup) × IsFirstIn set s class) (predecessors set q) there.0 are.counts.known there.1 in
-    let low : p < classes_of set = subst (λ k. k < classes_of set) same (first_below set known.0 there.0 known.1) in
-    let first : IsFirstIn set (class_setup set p) p = class_setup_is set p (classes_of set) (HasClasses-classes_of set) low in
+    let known = All-contains (λ (class : ℕ). (s : Setup) × RepresentsIn set s class) (predecessors set q) there.0 are.counts.known there.1 in
+    let low : p < classes_of set = subst (λ k. k < classes_of set) same (representative_below set known.0 there.0 known.1) in
+    let first : RepresentsIn set (class_setup set p) p = class_setup_is set p (classes_of set) (HasClasses-classes_of set) low in
     let edge = are.counts.edges (class_setup set p) p first in
     let move = some_of edge.moves (copies (predecessors set) p q) edge.counted above in
     (low, (edge.sound move.0 move.1).0)

@@ -17,7 +17,7 @@ use Rattle.dob_moves.specs.Outcomes.{moved}
 use Rattle.dob_moves.specs.Statuses.{HasStatus}
 use Rattle.dob_moves.proofs.MoveLists.{AreMoves-moves_of}
 use Rattle.dob_moves.proofs.Outcomes.{Goes-moved}
-use Rattle.dob_rank.specs.Order.{IsFirstIn}
+use Rattle.dob_rank.specs.Order.{RepresentsIn}
 use Rattle.dob_rank.specs.Numbers.{sum_below}
 use Rattle.dob_rank.specs.Marks.{classes_of, class_number}
 use Rattle.dob_rank.specs.ClassRows.{class_setup}
@@ -109,7 +109,7 @@ module _ (set : PieceSet) (p : ℕ) (low : p < classes_of set) where
   abbrev setup : Setup
   setup = class_setup set p
 
-  is_first : IsFirstIn set setup p
+  is_first : RepresentsIn set setup p
   is_first = class_setup_is set p (classes_of set) (HasClasses-classes_of set) low
 
   lead_within : All (λ (m : Move). class_number set (turned (moved setup m)) < classes_of set) (moves_of setup)

@@ -9,7 +9,7 @@ use Rattle.dob_rank.specs.Marks.{classes_of}
 use Rattle.dob_value.specs.declared.value.Value.{Value}
 use Rattle.dob_value.specs.declared.value.Value.TheVariants.{Win, Loss, Draw}
 use Rattle.dob_value.specs.Follows.{IsEntry, IsValueTable}
-use Rattle.dob_unmove.specs.Classes.{IsFirstIn}
+use Rattle.dob_unmove.specs.Classes.{RepresentsIn}
 use Rattle.dob_unmove.specs.Edges.{predecessors}
 use Rattle.dob_share.specs.declared.news.Settlement.{Settlement}
 use Rattle.dob_share.specs.declared.news.Item.{Item}
@@ -45,7 +45,7 @@ pub record IsQuiet (set : PieceSet) (targets : ℕ → List ℕ) (n : ℕ) (hist
   pub nothing_to_expand : (i : ℕ) → i < n → expanded i ≡ length (histories i)
   pub nothing_to_send : (i j : ℕ) → i < n → j < n → sent i j ≡ items_from targets n j (take (expanded i) (histories i))
   pub nothing_waits : (i j : ℕ) → i < n → j < n → applied i j ≡ sent i j
-  pub values : (p : Setup) (class : ℕ) → IsFirstIn set p class → (status : Status) × HasStatus p status
+  pub values : (p : Setup) (class : ℕ) → RepresentsIn set p class → (status : Status) × HasStatus p status
       × FollowsAtStatus status (all_known targets (classes_of set) n histories (λ i. applied i (owner_of n class)) class)
       (value_of (histories (owner_of n class)) class)
 

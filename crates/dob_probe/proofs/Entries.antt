@@ -6,7 +6,7 @@ use Rattle.dob_pieces.specs.declared.setup.Setup.{Setup}
 use Rattle.dob_rank.specs.Order.{IsPositionOf, IsRepresentative, Before, HasClass, IsInClass}
 use Rattle.dob_value.specs.declared.value.Value.{Value}
 use Rattle.dob_value.specs.Follows.{ClassTable, IsEntry, IsTable}
-use Rattle.dob_value.proofs.ClassNumbers.{one_count, one_first, one_entry}
+use Rattle.dob_value.proofs.ClassNumbers.{one_count, same_representative, one_entry}
 use Rattle.dob_probe.specs.Lines.{GivenBy}
 
 -- an entry that was read has the property of all
@@ -29,6 +29,6 @@ module _ (table : ClassTable) where
 pub one_class : (set : PieceSet) (p : Setup) (class other : ℕ) → IsPositionOf set p → IsInClass set p class → IsInClass set p other →
     class ≡ other
 one_class set p class other is a b =
-    let same_first : b.first ≡ a.first = one_first set p b.first a.first is b.representative a.representative in
+    let same_first : b.first ≡ a.first = same_representative set p b.first a.first is b.representative a.representative in
     one_count (λ q. IsRepresentative set q × Before q a.first) class other a.before
     (subst (λ q. HasClass set q other) same_first b.before)

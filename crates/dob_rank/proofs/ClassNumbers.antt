@@ -154,8 +154,8 @@ pub record IsAtClass (set : PieceSet) (s : Setup) (class : ℕ) : Type 0 where
   pub number_is : class_number set s ≡ class
 
 -- a representative's class number is the number of marks below its rank
-pub class_number-first : (set : PieceSet) (s : Setup) → IsPositionOf set s → IsFirstOfTwo s → class_number set s ≡ marks_below (marked set) (rank_of set s)
-class_number-first set s p first =
+pub class_number-representative : (set : PieceSet) (s : Setup) → IsPositionOf set s → IsFirstOfTwo s → class_number set s ≡ marks_below (marked set) (rank_of set s)
+class_number-representative set s p first =
     class_number-is set s ∙ ap (marks_below (marked set))
     (elim (cases_lt (rank_of set (mirrored s)) (rank_of set s)) [
       | inl lt ↦ absurd (first (Before-from_rank set (mirrored s) s (IsPositionOf-mirrored set s p) p lt))
@@ -171,7 +171,7 @@ at_class set s rank class p e h on n =
     record {
       representative = (p, first);
       before = subst (HasClass set s) number (HasClass-marked set s p);
-      number_is = class_number-first set s p first ∙ number;
+      number_is = class_number-representative set s p first ∙ number;
     }
 
 -- the position of a rank without a mark is later than its mirror image

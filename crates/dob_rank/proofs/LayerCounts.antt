@@ -4,16 +4,15 @@ use Rattle.std.proofs.Common.{get_or, refl, sym, ap, ◌∙◌, subst, inl, inr,
 use Rattle.std.specs.List.{count_by}
 use Rattle.std.proofs.lemmas.Bool.{cases_order, cases_lt, cases_eq}
 use Rattle.std.proofs.lemmas.List.Recursion.{is_count_by}
-use Rattle.dob_pieces.specs.declared.kind.Kind.{Kind}
-use Rattle.dob_pieces.specs.declared.kind.Kind.TheVariants.{Lion, Giraffe, Elephant, Chick, Hen}
+use Rattle.dob_pieces.specs.declared.kind.Kind.TheVariants.{Lion}
 use Rattle.dob_pieces.specs.declared.kind.HandKind.{HandKind}
 use Rattle.dob_pieces.specs.declared.kind.HandKind.TheVariants as hand
-use Rattle.dob_pieces.specs.declared.kind.Side.{Side}
 use Rattle.dob_pieces.specs.declared.kind.Side.TheVariants.{Mover, Enemy}
 use Rattle.dob_pieces.specs.Setups.{Cell, piece_of, holds_lion, holds_kind}
 use Rattle.dob_rank.specs.Order.{squares_from}
-use Rattle.dob_rank.specs.Numbers.{order, layer, layer_of, count, count_from, with_first, choice, settle}
+use Rattle.dob_rank.specs.Numbers.{order, layer, count, count_from, with_first, choice, settle}
 use Rattle.dob_rank.specs.declared.layers.Layer.TheVariants.{OwnLion, Empty, EnemyLion, Chicks, Elephants, Giraffes}
+use Rattle.dob_rank.proofs.EachCell.{of_cell}
 use Rattle.dob_rank.proofs.Choices.{count_same, count_other, count_from_lower, count_from_later, choice_later, choice_not_later, layer_squares}
 use Rattle.dob_rank.proofs.Settled.{AreShown, AreLayers, settle_kept, settle_taken, settle_left}
 
@@ -126,36 +125,10 @@ lion_only (suc l ∷ ls) (suc k) h e =
 -- ---- layers and the tests of the key
 
 pub holds_mover_lion : (cell : Cell) → holds_lion Mover cell ≡ eqb (layer cell) (order OwnLion)
-holds_mover_lion None = refl
-holds_mover_lion (Some piece) = of_piece piece.side piece.kind
-  where
-    of_piece : (s : Side) (k : Kind) → holds_lion Mover (Some (piece_of s k)) ≡ eqb (order (layer_of s k)) (order OwnLion)
-    of_piece Mover Lion = refl
-    of_piece Mover Giraffe = refl
-    of_piece Mover Elephant = refl
-    of_piece Mover Chick = refl
-    of_piece Mover Hen = refl
-    of_piece Enemy Lion = refl
-    of_piece Enemy Giraffe = refl
-    of_piece Enemy Elephant = refl
-    of_piece Enemy Chick = refl
-    of_piece Enemy Hen = refl
+holds_mover_lion = of_cell (λ cell. holds_lion Mover cell ≡ eqb (layer cell) (order OwnLion)) refl (refl, refl, refl, refl, refl) (refl, refl, refl, refl, refl)
 
 pub holds_enemy_lion : (cell : Cell) → holds_lion Enemy cell ≡ eqb (layer cell) (order EnemyLion)
-holds_enemy_lion None = refl
-holds_enemy_lion (Some piece) = of_piece piece.side piece.kind
-  where
-    of_piece : (s : Side) (k : Kind) → holds_lion Enemy (Some (piece_of s k)) ≡ eqb (order (layer_of s k)) (order EnemyLion)
-    of_piece Mover Lion = refl
-    of_piece Mover Giraffe = refl
-    of_piece Mover Elephant = refl
-    of_piece Mover Chick = refl
-    of_piece Mover Hen = refl
-    of_piece Enemy Lion = refl
-    of_piece Enemy Giraffe = refl
-    of_piece Enemy Elephant = refl
-    of_piece Enemy Chick = refl
-    of_piece Enemy Hen = refl
+holds_enemy_lion = of_cell (λ cell. holds_lion Enemy cell ≡ eqb (layer cell) (order EnemyLion)) refl (refl, refl, refl, refl, refl) (refl, refl, refl, refl, refl)
 
 -- the layer of a kind of piece that can lie in a hand
 abbrev pub layer_of_kind : HandKind → ℕ
@@ -164,42 +137,9 @@ layer_of_kind hand.Elephant = order Elephants
 layer_of_kind hand.Giraffe = order Giraffes
 
 pub holds_kind-layer : (kind : HandKind) (cell : Cell) → holds_kind kind cell ≡ eqb (layer cell) (layer_of_kind kind)
-holds_kind-layer hand.Chick None = refl
-holds_kind-layer hand.Elephant None = refl
-holds_kind-layer hand.Giraffe None = refl
-holds_kind-layer kind (Some piece) = of_piece kind piece.side piece.kind
-  where
-    of_piece : (kind : HandKind) (s : Side) (k : Kind) → holds_kind kind (Some (piece_of s k)) ≡ eqb (order (layer_of s k)) (layer_of_kind kind)
-    of_piece hand.Chick Mover Lion = refl
-    of_piece hand.Chick Mover Giraffe = refl
-    of_piece hand.Chick Mover Elephant = refl
-    of_piece hand.Chick Mover Chick = refl
-    of_piece hand.Chick Mover Hen = refl
-    of_piece hand.Chick Enemy Lion = refl
-    of_piece hand.Chick Enemy Giraffe = refl
-    of_piece hand.Chick Enemy Elephant = refl
-    of_piece hand.Chick Enemy Chick = refl
-    of_piece hand.Chick Enemy Hen = refl
-    of_piece hand.Elephant Mover Lion = refl
-    of_piece hand.Elephant Mover Giraffe = refl
-    of_piece hand.Elephant Mover Elephant = refl
-    of_piece hand.Elephant Mover Chick = refl
-    of_piece hand.Elephant Mover Hen = refl
-    of_piece hand.Elephant Enemy Lion = refl
-    of_piece hand.Elephant Enemy Giraffe = refl
-    of_piece hand.Elephant Enemy Elephant = refl
-    of_piece hand.Elephant Enemy Chick = refl
-    of_piece hand.Elephant Enemy Hen = refl
-    of_piece hand.Giraffe Mover Lion = refl
-    of_piece hand.Giraffe Mover Giraffe = refl
-    of_piece hand.Giraffe Mover Elephant = refl
-    of_piece hand.Giraffe Mover Chick = refl
-    of_piece hand.Giraffe Mover Hen = refl
-    of_piece hand.Giraffe Enemy Lion = refl
-    of_piece hand.Giraffe Enemy Giraffe = refl
-    of_piece hand.Giraffe Enemy Elephant = refl
-    of_piece hand.Giraffe Enemy Chick = refl
-    of_piece hand.Giraffe Enemy Hen = refl
+holds_kind-layer hand.Chick = of_cell (λ cell. holds_kind hand.Chick cell ≡ eqb (layer cell) (order Chicks)) refl (refl, refl, refl, refl, refl) (refl, refl, refl, refl, refl)
+holds_kind-layer hand.Elephant = of_cell (λ cell. holds_kind hand.Elephant cell ≡ eqb (layer cell) (order Elephants)) refl (refl, refl, refl, refl, refl) (refl, refl, refl, refl, refl)
+holds_kind-layer hand.Giraffe = of_cell (λ cell. holds_kind hand.Giraffe cell ≡ eqb (layer cell) (order Giraffes)) refl (refl, refl, refl, refl, refl) (refl, refl, refl, refl, refl)
 
 -- what passes a test that tells a layer is as many as the layer has, on the squares of the layer
 pub count-layer : (test : Cell → Bool) (t : ℕ) → ((cell : Cell) → test cell ≡ eqb (layer cell) t)
@@ -222,20 +162,9 @@ squares-layer test t h from (cell ∷ cells) =
 
 -- a cell of the first layer is the mover's lion
 pub mover_lion : (cell : Cell) → layer cell ≡ order OwnLion → cell ≡ Some (piece_of Mover Lion)
-mover_lion None h = absurd (let five : order Empty ≡ order OwnLion = h in omega arith)
-mover_lion (Some piece) h = of_piece piece.side piece.kind h
-  where
-    of_piece : (s : Side) (k : Kind) → order (layer_of s k) ≡ order OwnLion → Some (piece_of s k) ≡ Some (piece_of Mover Lion)
-    of_piece Mover Lion e = refl
-    of_piece Mover Giraffe e = absurd (omega arith)
-    of_piece Mover Elephant e = absurd (omega arith)
-    of_piece Mover Chick e = absurd (omega arith)
-    of_piece Mover Hen e = absurd (omega arith)
-    of_piece Enemy Lion e = absurd (omega arith)
-    of_piece Enemy Giraffe e = absurd (omega arith)
-    of_piece Enemy Elephant e = absurd (omega arith)
-    of_piece Enemy Chick e = absurd (omega arith)
-    of_piece Enemy Hen e = absurd (omega arith)
+mover_lion = of_cell (λ cell. layer cell ≡ order OwnLion → cell ≡ Some (piece_of Mover Lion)) (λ e. absurd (omega arith))
+    (λ e. refl, λ e. absurd (omega arith), λ e. absurd (omega arith), λ e. absurd (omega arith), λ e. absurd (omega arith))
+    (λ e. absurd (omega arith), λ e. absurd (omega arith), λ e. absurd (omega arith), λ e. absurd (omega arith), λ e. absurd (omega arith))
 
 -- the layer on a square
 pub layer-at : (cells : List Cell) (k : ℕ) → get_or (map layer cells) k (order Empty) ≡ layer (get_or cells k None)

@@ -9,6 +9,7 @@ pub mod Choices  -- the numbers of choices of squares
 pub mod Settled  -- a choice settles its layer again
 pub mod FormDigits  -- forms as digits
 pub mod EmptySquares  -- pieces placed on the squares that are left
+pub mod EachCell  -- what holds of each side's piece of each kind
 pub mod LayerCounts  -- what the layers of a position count
 pub mod KeyParts  -- squares and forms, layer by layer
 -- Ranks.

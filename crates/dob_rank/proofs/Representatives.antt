@@ -7,7 +7,7 @@ use Rattle.dob_pieces.specs.declared.setup.Setup.{Setup}
 use Rattle.dob_pieces.specs.Setups.{mirrored}
 use Rattle.dob_pieces.proofs.Symmetries.{mirrored-mirrored}
 use Rattle.dob_rank.specs.Order.{IsPositionOf, Before, key, IsFirstOfTwo, IsEither, IsRepresentative, RepresentativeOf, HasRank, HasClass}
-use Rattle.dob_rank.specs.Order.{HasClasses, IsFirstIn, IsInClass}
+use Rattle.dob_rank.specs.Order.{HasClasses, RepresentsIn, IsInClass}
 use Rattle.dob_rank.specs.Numbers.{size_of, rank_of, nth}
 use Rattle.dob_rank.specs.Marks.{one_if, marks_below, is_first}
 use Rattle.dob_rank.specs.ClassRows.{marked_place, class_setup}
@@ -38,8 +38,8 @@ rank_of_first set p is first = elim (cases_lt (rank_of set (mirrored p)) (rank_o
 ]
 
 -- each position of a set has a representative
-pub has_first : (set : PieceSet) (p : Setup) → IsPositionOf set p → (first : Setup) × RepresentativeOf p first
-has_first set p is =
+pub has_representative : (set : PieceSet) (p : Setup) → IsPositionOf set p → (first : Setup) × RepresentativeOf p first
+has_representative set p is =
     let image = IsPositionOf-mirrored set p is in
     let back = mirrored-mirrored p is.legal.squares in
     elim (cases_lt (rank_of set (mirrored p)) (rank_of set p)) [
@@ -55,8 +55,8 @@ has_first set p is =
     ]
 
 -- which is a representative of the set
-pub first_is : (set : PieceSet) (p first : Setup) → IsPositionOf set p → RepresentativeOf p first → IsRepresentative set first
-first_is set p first is represents = elim represents.0 [
+pub representative_is : (set : PieceSet) (p first : Setup) → IsPositionOf set p → RepresentativeOf p first → IsRepresentative set first
+representative_is set p first is represents = elim represents.0 [
   | inl same ↦ (subst (IsPositionOf set) (sym same) is, represents.1)
   | inr image ↦ (subst (IsPositionOf set) (sym image) (IsPositionOf-mirrored set p is), represents.1)
 ]
@@ -79,8 +79,8 @@ one_of_either set p q is_p is_q either = elim either [
 ]
 
 -- a position of a set has one representative
-pub one_first : (set : PieceSet) (p a b : Setup) → IsPositionOf set p → RepresentativeOf p a → RepresentativeOf p b → a ≡ b
-one_first set p a b is at_a at_b = elim at_a.0 [
+pub same_representative : (set : PieceSet) (p a b : Setup) → IsPositionOf set p → RepresentativeOf p a → RepresentativeOf p b → a ≡ b
+same_representative set p a b is at_a at_b = elim at_a.0 [
   | inl a_same ↦ elim at_b.0 [
     | inl b_same ↦ a_same ∙ sym b_same
     | inr b_image ↦ a_same
@@ -94,8 +94,8 @@ one_first set p a b is at_a at_b = elim at_a.0 [
 ]
 
 -- a representative is its own
-pub first_of_itself : (set : PieceSet) (p : Setup) → IsRepresentative set p → RepresentativeOf p p
-first_of_itself set p is = (inl refl, is.1)
+pub represents_itself : (set : PieceSet) (p : Setup) → IsRepresentative set p → RepresentativeOf p p
+represents_itself set p is = (inl refl, is.1)
 
 -- ---- class numbers
 
@@ -142,9 +142,9 @@ one_number set p q a b at_p at_q same =
 pub one_class : (set : PieceSet) (p : Setup) (a b : ℕ) → IsInClass set p a → IsInClass set p b → a ≡ b
 one_class set p a b at_a at_b =
     one_number set at_a.first at_b.first a b at_a.before at_b.before
-    (one_first set p at_b.first at_a.first at_a.position at_b.representative at_a.representative)
+    (same_representative set p at_b.first at_a.first at_a.position at_b.representative at_a.representative)
 
-pub one_representative : (set : PieceSet) (p q : Setup) (class : ℕ) → IsFirstIn set p class → IsFirstIn set q class → p ≡ q
+pub one_representative : (set : PieceSet) (p q : Setup) (class : ℕ) → RepresentsIn set p class → RepresentsIn set q class → p ≡ q
 one_representative set p q class at_p at_q = one_of_class set p q class at_p.0 at_q.0 at_p.1 at_q.1
 
 pub ranks_keep_order : (set : PieceSet) (p q : Setup) (a b : ℕ) → IsPositionOf set p → IsPositionOf set q →
@@ -156,7 +156,7 @@ ranks_keep_order set p q a b is_p is_q at_p at_q =
       λ below. Before-from_rank set p q is_p is_q (omega arith),
     )
 
-pub classes_keep_order : (set : PieceSet) (p q : Setup) (a b : ℕ) → IsFirstIn set p a → IsFirstIn set q b → (Before p q ↔ (a < b))
+pub classes_keep_order : (set : PieceSet) (p q : Setup) (a b : ℕ) → RepresentsIn set p a → RepresentsIn set q b → (Before p q ↔ (a < b))
 classes_keep_order set p q a b at_p at_q = (
   λ before. class_rises set p q a b at_p.0 at_q.0 at_p.1 at_q.1 (rank_of-rises set p q at_p.0.0 at_q.0.0 before),
   λ below. elim (cases_order (rank_of set p) (rank_of set q)) [
@@ -210,7 +210,7 @@ place_found mark number (suc n) below =
     (let more = marks_below_more mark n in omega (arith, more, below)) (place_found mark number n)
 
 -- the representative of each class number
-pub class_setup_is : (set : PieceSet) (class classes : ℕ) → HasClasses set classes → class < classes → IsFirstIn set (class_setup set class) class
+pub class_setup_is : (set : PieceSet) (class classes : ℕ) → HasClasses set classes → class < classes → RepresentsIn set (class_setup set class) class
 unfolding class_setup
 class_setup_is set class classes all below =
     let count : classes ≡ marks_below (is_first set) (size_of set) =

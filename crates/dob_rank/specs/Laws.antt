@@ -2,7 +2,7 @@
 use Rattle.std.specs.Prelude.{◌≡◌, ℕ, ◌<◌, ◌↔◌}
 use Rattle.dob_pieces.specs.declared.piece_set.PieceSet.{PieceSet}
 use Rattle.dob_pieces.specs.declared.setup.Setup.{Setup}
-use Rattle.dob_rank.specs.Order.{IsPositionOf, Before, HasRank, IsFirstIn, IsInClass}
+use Rattle.dob_rank.specs.Order.{IsPositionOf, Before, HasRank, RepresentsIn, IsInClass}
 
 -- a position has one class number
 abbrev pub OneClass : Type 0
@@ -10,7 +10,7 @@ OneClass = (set : PieceSet) (p : Setup) (a b : ℕ) → IsInClass set p a → Is
 
 -- a class number has one representative
 abbrev pub OneRepresentative : Type 0
-OneRepresentative = (set : PieceSet) (p q : Setup) (class : ℕ) → IsFirstIn set p class → IsFirstIn set q class → p ≡ q
+OneRepresentative = (set : PieceSet) (p q : Setup) (class : ℕ) → RepresentsIn set p class → RepresentsIn set q class → p ≡ q
 
 -- the rank of an earlier position is the lower one
 abbrev pub RanksKeepOrder : Type 0
@@ -19,5 +19,5 @@ RanksKeepOrder = (set : PieceSet) (p q : Setup) (a b : ℕ) → IsPositionOf set
 
 -- the class number of an earlier representative is the lower one
 abbrev pub ClassesKeepOrder : Type 0
-ClassesKeepOrder = (set : PieceSet) (p q : Setup) (a b : ℕ) → IsFirstIn set p a → IsFirstIn set q b →
+ClassesKeepOrder = (set : PieceSet) (p q : Setup) (a b : ℕ) → RepresentsIn set p a → RepresentsIn set q b →
     (Before p q ↔ (a < b))

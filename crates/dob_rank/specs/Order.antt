@@ -123,8 +123,8 @@ abbrev pub HasClass : PieceSet → Setup → ℕ → Type 0
 HasClass set setup number = HasCount (λ (p : Setup). IsRepresentative set p × Before p setup) number
 
 -- the setup is the representative of the class with that number
-abbrev pub IsFirstIn : PieceSet → Setup → ℕ → Type 0
-IsFirstIn set setup number = IsRepresentative set setup × HasClass set setup number
+abbrev pub RepresentsIn : PieceSet → Setup → ℕ → Type 0
+RepresentsIn set setup number = IsRepresentative set setup × HasClass set setup number
 
 -- the position of the set is in the class of that number: so many representatives stand before its own
 pub record IsInClass (set : PieceSet) (setup : Setup) (number : ℕ) : Type 0 where

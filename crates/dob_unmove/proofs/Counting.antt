@@ -69,18 +69,18 @@ all_gathered classes found first t (u ∷ us) old new h =
     let later = subst (λ c. Gathers (first c) t us (found h.0) (found new)) kept rest.1 in
     (rest.0 ∙ kept, (h.1.1.0, h.1.1.1, subst (λ (xs : List ℕ). Gathers (first (classes old)) t us xs (found new)) more later))
 
-module _ (IsFirst : Setup → ℕ → Type 0) (n : IsNumbering IsFirst) where
-  known_more : (p : Setup) (found : Option ℕ) (old : List ℕ) → Finds IsFirst p found → All (λ class. (p : Setup) × IsFirst p class) old
-      → All (λ class. (p : Setup) × IsFirst p class) (old ++ option_to_list found)
-  known_more p None old f h = subst (All (λ class. (p : Setup) × IsFirst p class)) (sym (append-nil old)) h
-  known_more p (Some class) old f h = All-push (λ class. (p : Setup) × IsFirst p class) old class h (p, f.0)
+module _ (Represents : Setup → ℕ → Type 0) (n : IsNumbering Represents) where
+  known_more : (p : Setup) (found : Option ℕ) (old : List ℕ) → Finds Represents p found → All (λ class. (p : Setup) × Represents p class) old
+      → All (λ class. (p : Setup) × Represents p class) (old ++ option_to_list found)
+  known_more p None old f h = subst (All (λ class. (p : Setup) × Represents p class)) (sym (append-nil old)) h
+  known_more p (Some class) old f h = All-push (λ class. (p : Setup) × Represents p class) old class h (p, f.0)
 
-  pub gathered_known : (t : Setup) (us : List Undo) (old new : List ℕ) → Gathers IsFirst t us old new → All (λ class. (p : Setup) × IsFirst p class) old
-      → All (λ class. (p : Setup) × IsFirst p class) new
-  gathered_known t [] old new e h = subst (All (λ class. (p : Setup) × IsFirst p class)) e h
+  pub gathered_known : (t : Setup) (us : List Undo) (old new : List ℕ) → Gathers Represents t us old new → All (λ class. (p : Setup) × Represents p class) old
+      → All (λ class. (p : Setup) × Represents p class) new
+  gathered_known t [] old new e h = subst (All (λ class. (p : Setup) × Represents p class)) e h
   gathered_known t (u ∷ us) old new g h = gathered_known t us _ new g.2 (known_more (earlier t u) g.0 old g.1 h)
 
-  module _ (p : Setup) (class : ℕ) (is_first : IsFirst p class) where
+  module _ (p : Setup) (class : ℕ) (is_first : Represents p class) where
     abbrev number_of : List ℕ → ℕ
     number_of xs = count_by (λ x. x == class) xs
 
@@ -104,8 +104,8 @@ module _ (IsFirst : Setup → ℕ → Type 0) (n : IsNumbering IsFirst) where
     module _ (q : Setup) (twelve : length q.board ≡ 12) where
       -- the moves of the ways that lead back to the class's representative
       record Selects (us : List Undo) (ms : List Move) : Type 0 where
-        sound : (m : Move) → Contains ms m → (u : Undo) × Contains us u × (choice u ≡ m) × IsOpenFirst IsFirst (earlier (turned q) u) class
-        whole : (u : Undo) → Contains us u → IsOpenFirst IsFirst (earlier (turned q) u) class → Contains ms (choice u)
+        sound : (m : Move) → Contains ms m → (u : Undo) × Contains us u × (choice u ≡ m) × IsOpenFirst Represents (earlier (turned q) u) class
+        whole : (u : Undo) → Contains us u → IsOpenFirst Represents (earlier (turned q) u) class → Contains ms (choice u)
         once : AllPairs (λ (a b : Move). a ≢ b) ms
 
       selects_none : Selects [] []
@@ -116,12 +116,12 @@ module _ (IsFirst : Setup → ℕ → Type 0) (n : IsNumbering IsFirst) where
       }
 
       -- a way that doesn't lead back there
-      selects_passed : (u : Undo) (us : List Undo) (ms : List Move) → ¬ IsOpenFirst IsFirst (earlier (turned q) u) class → Selects us ms → Selects (u ∷ us) ms
+      selects_passed : (u : Undo) (us : List Undo) (ms : List Move) → ¬ IsOpenFirst Represents (earlier (turned q) u) class → Selects us ms → Selects (u ∷ us) ms
       selects_passed u us ms other s = record {
         sound = λ m h. let w = s.sound m h in (w.0, Contains-append_right (u ∷ []) us w.0 w.1, w.2, w.3);
         whole = λ v h first.
             elim (cons_cases u us v h) [
-              | inl e ↦ absurd (other (subst (λ (x : Undo). IsOpenFirst IsFirst (earlier (turned q) x) class) (sym e) first))
+              | inl e ↦ absurd (other (subst (λ (x : Undo). IsOpenFirst Represents (earlier (turned q) x) class) (sym e) first))
               | inr later ↦ s.whole v later first
             ];
         once = s.once;
@@ -129,7 +129,7 @@ module _ (IsFirst : Setup → ℕ → Type 0) (n : IsNumbering IsFirst) where
 
       -- a way that does
       selects_taken : (u : Undo) (us : List Undo) (ms : List Move) → CanUndo (turned q) u → All (CanUndo (turned q)) us → All (λ (v : Undo). u ≢ v) us
-          → IsOpenFirst IsFirst (earlier (turned q) u) class → Selects us ms → Selects (u ∷ us) (choice u ∷ ms)
+          → IsOpenFirst Represents (earlier (turned q) u) class → Selects us ms → Selects (u ∷ us) (choice u ∷ ms)
       selects_taken u us ms can all_can apart first s = record {
         sound = λ m h.
             elim (cons_cases (choice u) ms m h) [
@@ -145,7 +145,7 @@ module _ (IsFirst : Setup → ℕ → Type 0) (n : IsNumbering IsFirst) where
             (λ k d lt e.
             let w = s.sound (get_or ms k d) (k, lt, get_or_default ms k _ d lt) in
             let same : u ≡ w.0 =
-            same_undo q u w.0 twelve can (All-contains (CanUndo (turned q)) us w.0 all_can w.1) (e ∙ sym w.2) (n.one_first _ _ class first.0 w.3.0) in
+            same_undo q u w.0 twelve can (All-contains (CanUndo (turned q)) us w.0 all_can w.1) (e ∙ sym w.2) (n.one_represents _ _ class first.0 w.3.0) in
             All-contains (λ (v : Undo). u ≢ v) us w.0 apart w.1 same)
             s.once;
       }
@@ -156,13 +156,13 @@ module _ (IsFirst : Setup → ℕ → Type 0) (n : IsNumbering IsFirst) where
 
       select_step : (u : Undo) (us : List Undo) (old new : List ℕ) (found : Option ℕ) → CanUndo (turned q) u → All (CanUndo (turned q)) us
           → All (λ (v : Undo). u ≢ v) us
-          → Finds IsFirst (earlier (turned q) u) found → Counted us (old ++ option_to_list found) new → Counted (u ∷ us) old new
+          → Finds Represents (earlier (turned q) u) found → Counted us (old ++ option_to_list found) new → Counted (u ∷ us) old new
       select_step u us old new None can all_can apart none c =
           (c.0, selects_passed u us c.0 (λ first. none (class, first)) c.1, c.2 ∙ ap (λ k. k + length c.0) (count_none old))
       select_step u us old new (Some found) can all_can apart is c =
           elim (cases_eq found class) [
             | inl same ↦
-                let first : IsOpenFirst IsFirst (earlier (turned q) u) class = subst (IsOpenFirst IsFirst (earlier (turned q) u)) same is in
+                let first : IsOpenFirst Represents (earlier (turned q) u) class = subst (IsOpenFirst Represents (earlier (turned q) u)) same is in
                 (choice u ∷ c.0, selects_taken u us c.0 can all_can apart first c.1, omega (arith, c.2, count_same old found same))
             | inr other ↦ (
               c.0,
@@ -171,7 +171,7 @@ module _ (IsFirst : Setup → ℕ → Type 0) (n : IsNumbering IsFirst) where
             )
           ]
 
-      select : (us : List Undo) (old new : List ℕ) → All (CanUndo (turned q)) us → AllPairs (λ (u v : Undo). u ≢ v) us → Gathers IsFirst (turned q) us old new
+      select : (us : List Undo) (old new : List ℕ) → All (CanUndo (turned q)) us → AllPairs (λ (u v : Undo). u ≢ v) us → Gathers Represents (turned q) us old new
           → Counted us old new
       select [] old new can once e = ([], selects_none, ap number_of (sym e) ∙ omega arith)
       select (u ∷ us) old new can once g =
@@ -189,7 +189,7 @@ module _ (IsFirst : Setup → ℕ → Type 0) (n : IsNumbering IsFirst) where
       leading_from ms s = record {
         sound = λ m h.
             let w = s.sound m h in
-            let back = n.one_first _ p class w.3.0 is_first in
+            let back = n.one_represents _ p class w.3.0 is_first in
             let goes = Goes-from_undo q w.0 twelve (undoes_sound (turned q) w.0 w.1) in (
               subst (λ (x : Setup). HasStatus x Open) back w.3.1,
               subst (λ (x : Setup). Goes x m q) back (subst (λ (x : Move). Goes (earlier (turned q) w.0) x q) w.2 goes),
@@ -198,8 +198,8 @@ module _ (IsFirst : Setup → ℕ → Type 0) (n : IsNumbering IsFirst) where
             let w = undo_from_Goes p m q (n.legal p class is_first).squares goes in
             let listed = undoes_whole (turned q) w.0 (length-turned q) w.1.0 in
             let back = sym w.1.2 in
-            let first : IsOpenFirst IsFirst (earlier (turned q) w.0) class =
-            (subst (λ (x : Setup). IsFirst x class) back is_first, subst (λ (x : Setup). HasStatus x Open) back can) in
+            let first : IsOpenFirst Represents (earlier (turned q) w.0) class =
+            (subst (λ (x : Setup). Represents x class) back is_first, subst (λ (x : Setup). HasStatus x Open) back can) in
             subst (Contains ms) w.1.1 (s.whole w.0 listed first);
         once = s.once;
       }
@@ -207,7 +207,7 @@ module _ (IsFirst : Setup → ℕ → Type 0) (n : IsNumbering IsFirst) where
       can_all : All (CanUndo (turned q)) (undoes (turned q))
       can_all k d lt = undoes_sound (turned q) (get_or (undoes (turned q)) k d) (k, lt, get_or_default (undoes (turned q)) k _ d lt)
 
-      counted_leading : (old new : List ℕ) → Gathers IsFirst (turned q) (undoes (turned q)) old new
+      counted_leading : (old new : List ℕ) → Gathers Represents (turned q) (undoes (turned q)) old new
           → (ms : List Move) × Leading ms × (number_of new ≡ number_of old + length ms)
       counted_leading old new g =
           let c = select (undoes (turned q)) old new can_all (undoes_once (turned q)) g in
@@ -217,7 +217,7 @@ module _ (IsFirst : Setup → ℕ → Type 0) (n : IsNumbering IsFirst) where
     one_outcome p m a b g h = Goes-is p m a g ∙ sym (Goes-is p m b h)
 
     -- the walk over a position that is its own mirror image counts the moves into its class
-    edges_alone : (q : Setup) (new : List ℕ) → length q.board ≡ 12 → mirrored q ≡ q → Gathers IsFirst (turned q) (undoes (turned q)) [] new
+    edges_alone : (q : Setup) (new : List ℕ) → length q.board ≡ 12 → mirrored q ≡ q → Gathers Represents (turned q) (undoes (turned q)) [] new
         → HasEdges p q (number_of new)
     edges_alone q new twelve own g =
         let c = counted_leading q twelve [] new g in
@@ -232,8 +232,8 @@ module _ (IsFirst : Setup → ℕ → Type 0) (n : IsNumbering IsFirst) where
         }
 
     -- and else the walks over both
-    edges_both : (q : Setup) (mid new : List ℕ) → length q.board ≡ 12 → mirrored q ≢ q → Gathers IsFirst (turned q) (undoes (turned q)) [] mid
-        → Gathers IsFirst (turned (mirrored q)) (undoes (turned (mirrored q))) mid new → HasEdges p q (number_of new)
+    edges_both : (q : Setup) (mid new : List ℕ) → length q.board ≡ 12 → mirrored q ≢ q → Gathers Represents (turned q) (undoes (turned q)) [] mid
+        → Gathers Represents (turned (mirrored q)) (undoes (turned (mirrored q))) mid new → HasEdges p q (number_of new)
     edges_both q mid new twelve other g h =
         let c = counted_leading q twelve [] mid g in
         let d = counted_leading (mirrored q) (length-mirrored q) mid new h in
@@ -257,18 +257,18 @@ module _ (IsFirst : Setup → ℕ → Type 0) (n : IsNumbering IsFirst) where
           counted = omega (arith, c.2, d.2, length-append c.0 d.0);
         }
 
-  nothing_known : All (λ class. (p : Setup) × IsFirst p class) []
-  nothing_known = All-nil (λ class. (p : Setup) × IsFirst p class)
+  nothing_known : All (λ class. (p : Setup) × Represents p class) []
+  nothing_known = All-nil (λ class. (p : Setup) × Represents p class)
 
-  pub counts_alone : (q : Setup) (new : List ℕ) → length q.board ≡ 12 → mirrored q ≡ q → Gathers IsFirst (turned q) (undoes (turned q)) [] new
-      → CountEdges IsFirst q new
+  pub counts_alone : (q : Setup) (new : List ℕ) → length q.board ≡ 12 → mirrored q ≡ q → Gathers Represents (turned q) (undoes (turned q)) [] new
+      → CountEdges Represents q new
   counts_alone q new twelve own g = record {
     known = gathered_known (turned q) (undoes (turned q)) [] new g nothing_known;
     edges = λ p class is_first. edges_alone p class is_first q new twelve own g;
   }
 
-  pub counts_both : (q : Setup) (mid new : List ℕ) → length q.board ≡ 12 → mirrored q ≢ q → Gathers IsFirst (turned q) (undoes (turned q)) [] mid
-      → Gathers IsFirst (turned (mirrored q)) (undoes (turned (mirrored q))) mid new → CountEdges IsFirst q new
+  pub counts_both : (q : Setup) (mid new : List ℕ) → length q.board ≡ 12 → mirrored q ≢ q → Gathers Represents (turned q) (undoes (turned q)) [] mid
+      → Gathers Represents (turned (mirrored q)) (undoes (turned (mirrored q))) mid new → CountEdges Represents q new
   counts_both q mid new twelve other g h = record {
     known =
         gathered_known (turned (mirrored q)) (undoes (turned (mirrored q))) mid new h (gathered_known (turned q) (undoes (turned q)) [] mid g nothing_known);

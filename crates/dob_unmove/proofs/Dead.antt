@@ -14,7 +14,7 @@ use Rattle.dob_pieces.specs.Setups.{Cell, at, piece_of, IsLegal}
 use Rattle.dob_pieces.specs.Masks.{is_own, is_empty, is_piece}
 use Rattle.dob_pieces.proofs.Attacks.{lion_at}
 use Rattle.dob_pieces.proofs.Boards.{within-from_piece}
-use Rattle.dob_rank.specs.Order.{IsFirstIn}
+use Rattle.dob_rank.specs.Order.{RepresentsIn}
 use Rattle.dob_unmove.specs.declared.attackers.Threat.{Threat}
 use Rattle.dob_unmove.specs.declared.undo.Undo.{Undo}
 use Rattle.dob_unmove.specs.declared.undo.Undo.TheVariants.{Unstep, Unput}
@@ -44,7 +44,7 @@ module _ (set : PieceSet) (after : Setup) (ways : Ways) (w : CanWalk set after w
   legal = legal_turned set after w.of_set
 
   abbrev Dead : Undo → Type 0
-  Dead u = IsDead (IsFirstIn set) after u
+  Dead u = IsDead (RepresentsIn set) after u
 
   dead_stood : (u : Undo) → CanUndo after u → stood_before threat u ≡ true → Dead u
   dead_stood u can stood = λ found. was_not_open after threat legal w.ways_are.threat_is u can stood found.1.1
@@ -109,7 +109,7 @@ module _ (set : PieceSet) (after : Setup) (ways : Ways) (w : CanWalk set after w
   last_fails true true c d e f off = cc
   last_fails false b c d e f off = cc
 
-  pub ends_dead : AreDead (IsFirstIn set) after (may_end after threat w.ways_are.stays) (undoes_at after)
+  pub ends_dead : AreDead (RepresentsIn set) after (may_end after threat w.ways_are.stays) (undoes_at after)
   ends_dead k lt off u inside =
       let can = at_sound after k u inside in
       let on : ends_on u ≡ k = undoes_end after k u inside in
@@ -150,7 +150,7 @@ module _ (set : PieceSet) (after : Setup) (ways : Ways) (w : CanWalk set after w
       (at_from after threat legal w.ways_are.threat_is kind from to caught can ∙ ap (λ (k : Kind). Some (piece_of Mover k)) lion.0) lion.1
 
   pub comes_dead : (kind : Kind) (to : ℕ) → stands (at after to) (arrives_at kind to) ≡ true
-      → AreDead (IsFirstIn set) after (may_come after threat.lion kind to) (unsteps_from after kind to)
+      → AreDead (RepresentsIn set) after (may_come after threat.lion kind to) (unsteps_from after kind to)
   comes_dead kind to there k lt off u inside =
       let f = from_step after kind to k u inside in
       let parts = and_parts (not (is_some (at after k))) (leads kind k to) f.test in
@@ -205,21 +205,21 @@ module _ (after : Setup) (threat : Threat) (kind : Kind) (from to : ℕ) (there 
 
 -- ---- the steps to a square
 
-pub all_steps : (IsFirst : Setup → ℕ → Type 0) (after : Setup) (kind : Kind) (to : ℕ) (xs ys : List ℕ) → stands (at after to) (arrives_at kind to) ≡ true
-    → Gathers IsFirst after (each_below (unsteps_from after kind to) 12) xs ys → Gathers IsFirst after (unsteps after kind to) xs ys
+pub all_steps : (Represents : Setup → ℕ → Type 0) (after : Setup) (kind : Kind) (to : ℕ) (xs ys : List ℕ) → stands (at after to) (arrives_at kind to) ≡ true
+    → Gathers Represents after (each_below (unsteps_from after kind to) 12) xs ys → Gathers Represents after (unsteps after kind to) xs ys
 unfolding unsteps
-all_steps IsFirst after kind to xs ys there h =
-    subst (λ b. Gathers IsFirst after (cond b (each_below (unsteps_from after kind to) 12) []) xs ys) (sym there) h
+all_steps Represents after kind to xs ys there h =
+    subst (λ b. Gathers Represents after (cond b (each_below (unsteps_from after kind to) 12) []) xs ys) (sym there) h
 
 -- a step without a catch, and with each
-pub steps_from : (IsFirst : Setup → ℕ → Type 0) (after : Setup) (kind : Kind) (from to : ℕ) (a b c d e f : List ℕ)
+pub steps_from : (Represents : Setup → ℕ → Type 0) (after : Setup) (kind : Kind) (from to : ℕ) (a b c d e f : List ℕ)
     → unsteps_from after kind to from ≡ unsteps_between after kind from to
-    → Gathers IsFirst after (Unstep kind from to None ∷ []) a b → Gathers IsFirst after (uncatch after kind from to Giraffe) b c
-    → Gathers IsFirst after (uncatch after kind from to Elephant) c d → Gathers IsFirst after (uncatch after kind from to Chick) d e
-    → Gathers IsFirst after (uncatch after kind from to Hen) e f → Gathers IsFirst after (unsteps_from after kind to from) a f
-steps_from IsFirst after kind from to a b c d e f same none giraffe elephant chick hen =
-    subst (λ (us : List Undo). Gathers IsFirst after us a f) (sym same)
-    (gathers_cons IsFirst after (Unstep kind from to None) _ a b f none
-    (gathers_append IsFirst after (uncatch after kind from to Giraffe) _ b c f giraffe
-    (gathers_append IsFirst after (uncatch after kind from to Elephant) _ c d f elephant
-    (gathers_append IsFirst after (uncatch after kind from to Chick) (uncatch after kind from to Hen) d e f chick hen))))
+    → Gathers Represents after (Unstep kind from to None ∷ []) a b → Gathers Represents after (uncatch after kind from to Giraffe) b c
+    → Gathers Represents after (uncatch after kind from to Elephant) c d → Gathers Represents after (uncatch after kind from to Chick) d e
+    → Gathers Represents after (uncatch after kind from to Hen) e f → Gathers Represents after (unsteps_from after kind to from) a f
+steps_from Represents after kind from to a b c d e f same none giraffe elephant chick hen =
+    subst (λ (us : List Undo). Gathers Represents after us a f) (sym same)
+    (gathers_cons Represents after (Unstep kind from to None) _ a b f none
+    (gathers_append Represents after (uncatch after kind from to Giraffe) _ b c f giraffe
+    (gathers_append Represents after (uncatch after kind from to Elephant) _ c d f elephant
+    (gathers_append Represents after (uncatch after kind from to Chick) (uncatch after kind from to Hen) d e f chick hen))))

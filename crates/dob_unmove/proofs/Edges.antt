@@ -18,12 +18,12 @@ use Rattle.dob_moves.specs.declared.position_status.Status.TheVariants.{Open}
 use Rattle.dob_moves.specs.Statuses.{HasStatus, AreMoves}
 use Rattle.dob_moves.proofs.MoveLists.{AreMoves-moves_of}
 use Rattle.dob_moves.proofs.Outcomes.{Goes-is, Goes-moved, IsLegal-Goes, total-Goes}
-use Rattle.dob_rank.specs.Order.{IsPositionOf, HasClass, IsEither, IsFirstIn}
+use Rattle.dob_rank.specs.Order.{IsPositionOf, HasClass, IsEither, RepresentsIn}
 use Rattle.dob_rank.specs.ClassRows.{class_setup}
 use Rattle.dob_rank.specs.Marks.{classes_of, class_number}
 use Rattle.dob_rank.proofs.Counted.{no_longer}
 use Rattle.dob_rank.proofs.Marks.{HasClass-marked, HasClasses-classes_of}
-use Rattle.dob_rank.proofs.ClassNumbers.{class_number-below, class_number-first, class_number-mirrored, class_once}
+use Rattle.dob_rank.proofs.ClassNumbers.{class_number-below, class_number-representative, class_number-mirrored, class_once}
 use Rattle.dob_rank.proofs.Representatives.{class_setup_is}
 use Rattle.dob_unmove.specs.Unmoves.{LeadsInto, HasEdges, CountEdges, ArePredecessors}
 use Rattle.dob_unmove.specs.Edges.{leads_into, edges, predecessors}
@@ -32,23 +32,23 @@ use Rattle.dob_unmove.proofs.Ascending.{times, ascending_same, each-below, each-
 
 -- ---- class numbers
 
-pub IsFirstIn-class_setup : (set : PieceSet) (class : ℕ) → class < classes_of set → IsFirstIn set (class_setup set class) class
-IsFirstIn-class_setup set class below = class_setup_is set class (classes_of set) (HasClasses-classes_of set) below
+pub RepresentsIn-class_setup : (set : PieceSet) (class : ℕ) → class < classes_of set → RepresentsIn set (class_setup set class) class
+RepresentsIn-class_setup set class below = class_setup_is set class (classes_of set) (HasClasses-classes_of set) below
 
 -- the representative's number is that of its class
-number_of_first : (set : PieceSet) (q : Setup) (class : ℕ) → IsFirstIn set q class → class_number set q ≡ class
-number_of_first set q class is =
-    let own : IsFirstIn set q (class_number set q) =
-    (is.0, subst (HasClass set q) (sym (class_number-first set q is.0.0 is.0.1)) (HasClass-marked set q is.0.0)) in
+number_of_representative : (set : PieceSet) (q : Setup) (class : ℕ) → RepresentsIn set q class → class_number set q ≡ class
+number_of_representative set q class is =
+    let own : RepresentsIn set q (class_number set q) =
+    (is.0, subst (HasClass set q) (sym (class_number-representative set q is.0.0 is.0.1)) (HasClass-marked set q is.0.0)) in
     (IsNumbering-classes set).one_number q q (class_number set q) class own is (inl refl)
 
-pub first_below : (set : PieceSet) (q : Setup) (class : ℕ) → IsFirstIn set q class → class < classes_of set
-first_below set q class is = subst (λ n. n < classes_of set) (number_of_first set q class is) (class_number-below set q is.0.0)
+pub representative_below : (set : PieceSet) (q : Setup) (class : ℕ) → RepresentsIn set q class → class < classes_of set
+representative_below set q class is = subst (λ n. n < classes_of set) (number_of_representative set q class is) (class_number-below set q is.0.0)
 
 -- it is the one that stands for the class
-first_is : (set : PieceSet) (q : Setup) (class : ℕ) → IsFirstIn set q class → class_setup set class ≡ q
-first_is set q class is =
-    (IsNumbering-classes set).one_first (class_setup set class) q class (IsFirstIn-class_setup set class (first_below set q class is)) is
+representative_is : (set : PieceSet) (q : Setup) (class : ℕ) → RepresentsIn set q class → class_setup set class ≡ q
+representative_is set q class is =
+    (IsNumbering-classes set).one_represents (class_setup set class) q class (RepresentsIn-class_setup set class (representative_below set q class is)) is
 
 -- ---- the moves into a class
 
@@ -69,16 +69,16 @@ position_after set p m q is open_to_move goes = record {
 }
 
 -- of two positions of one class each is the other or its mirror image
-same_class : (set : PieceSet) (s q : Setup) (class : ℕ) → IsPositionOf set s → IsFirstIn set q class → class_number set s ≡ class → IsEither q s
-same_class set s q class is first e = class_once set s q is first.0.0 (e ∙ sym (number_of_first set q class first))
+same_class : (set : PieceSet) (s q : Setup) (class : ℕ) → IsPositionOf set s → RepresentsIn set q class → class_number set s ≡ class → IsEither q s
+same_class set s q class is first e = class_once set s q is first.0.0 (e ∙ sym (number_of_representative set q class first))
 
-class_of_either : (set : PieceSet) (s q : Setup) (class : ℕ) → IsFirstIn set q class → IsEither q s → class_number set s ≡ class
+class_of_either : (set : PieceSet) (s q : Setup) (class : ℕ) → RepresentsIn set q class → IsEither q s → class_number set s ≡ class
 class_of_either set s q class first either = elim either [
-  | inl e ↦ ap (class_number set) e ∙ number_of_first set q class first
-  | inr e ↦ ap (class_number set) e ∙ class_number-mirrored set q first.0.0 ∙ number_of_first set q class first
+  | inl e ↦ ap (class_number set) e ∙ number_of_representative set q class first
+  | inr e ↦ ap (class_number set) e ∙ class_number-mirrored set q first.0.0 ∙ number_of_representative set q class first
 ]
 
-module _ (set : PieceSet) (p q : Setup) (from class : ℕ) (is_p : IsFirstIn set p from) (is_q : IsFirstIn set q class) where
+module _ (set : PieceSet) (p q : Setup) (from class : ℕ) (is_p : RepresentsIn set p from) (is_q : RepresentsIn set q class) where
   are : AreMoves p (moves_of p)
   are = AreMoves-moves_of p is_p.0.0.legal.squares
 
@@ -124,7 +124,7 @@ module _ (set : PieceSet) (p q : Setup) (from class : ℕ) (is_p : IsFirstIn set
     whole = leading_whole;
     once = leading_once;
     counted = length-filter (leads_into set p class) (moves_of p)
-        ∙ ap (λ (s : Setup). count_by (leads_into set s class) (moves_of s)) (sym (first_is set p from is_p));
+        ∙ ap (λ (s : Setup). count_by (leads_into set s class) (moves_of s)) (sym (representative_is set p from is_p));
   }
 
 -- two numbers of the moves from one to another are one
@@ -136,7 +136,7 @@ same_edges p q m n a b =
 
 -- ---- the list
 
-module _ (set : PieceSet) (q : Setup) (class : ℕ) (is_q : IsFirstIn set q class) where
+module _ (set : PieceSet) (q : Setup) (class : ℕ) (is_q : RepresentsIn set q class) where
   abbrev number : ℕ → ℕ
   number from = edges set from class
 
@@ -153,26 +153,26 @@ module _ (set : PieceSet) (q : Setup) (class : ℕ) (is_q : IsFirstIn set q clas
   predecessors-ascends = each-ascends number (classes_of set)
 
   -- The list counts the moves into the class, and ascends.
-  pub ArePredecessors-predecessors : ArePredecessors (IsFirstIn set) q (predecessors set class)
+  pub ArePredecessors-predecessors : ArePredecessors (RepresentsIn set) q (predecessors set class)
   ArePredecessors-predecessors = record {
     counts = record {
-      known = All-weaker (λ (x : ℕ). x < classes_of set) (λ (from : ℕ). (p : Setup) × IsFirstIn set p from)
-          (λ from below. (class_setup set from, IsFirstIn-class_setup set from below)) (predecessors set class) predecessors-below;
-      edges = λ p from is_p. subst (HasEdges p q) (sym (times-predecessors from (first_below set p from is_p))) (HasEdges-edges set p q from class is_p is_q);
+      known = All-weaker (λ (x : ℕ). x < classes_of set) (λ (from : ℕ). (p : Setup) × RepresentsIn set p from)
+          (λ from below. (class_setup set from, RepresentsIn-class_setup set from below)) (predecessors set class) predecessors-below;
+      edges = λ p from is_p. subst (HasEdges p q) (sym (times-predecessors from (representative_below set p from is_p))) (HasEdges-edges set p q from class is_p is_q);
     };
     ascending = predecessors-ascends;
   }
 
-  known_below : (xs : List ℕ) → CountEdges (IsFirstIn set) q xs → All (λ (x : ℕ). x < classes_of set) xs
+  known_below : (xs : List ℕ) → CountEdges (RepresentsIn set) q xs → All (λ (x : ℕ). x < classes_of set) xs
   known_below xs counts =
-      All-weaker (λ (from : ℕ). (p : Setup) × IsFirstIn set p from) (λ (x : ℕ). x < classes_of set)
-      (λ from is. first_below set is.0 from is.1) xs counts.known
+      All-weaker (λ (from : ℕ). (p : Setup) × RepresentsIn set p from) (λ (x : ℕ). x < classes_of set)
+      (λ from is. representative_below set is.0 from is.1) xs counts.known
 
-  same_times : (xs : List ℕ) → CountEdges (IsFirstIn set) q xs → (from : ℕ) → times from xs ≡ times from (predecessors set class)
+  same_times : (xs : List ℕ) → CountEdges (RepresentsIn set) q xs → (from : ℕ) → times from xs ≡ times from (predecessors set class)
   same_times xs counts from = elim (cases_lt from (classes_of set)) [
     | inl below ↦
         let p = class_setup set from in
-        let is_p = IsFirstIn-class_setup set from below in
+        let is_p = RepresentsIn-class_setup set from below in
         same_edges p q (times from xs) (times from (predecessors set class)) (counts.edges p from is_p)
         (ArePredecessors-predecessors.counts.edges p from is_p)
     | inr above ↦
@@ -181,6 +181,6 @@ module _ (set : PieceSet) (q : Setup) (class : ℕ) (is_q : IsFirstIn set q clas
   ]
 
   -- No other list does.
-  pub same_predecessors : (xs : List ℕ) → ArePredecessors (IsFirstIn set) q xs → xs ≡ predecessors set class
+  pub same_predecessors : (xs : List ℕ) → ArePredecessors (RepresentsIn set) q xs → xs ≡ predecessors set class
   same_predecessors xs are =
       ascending_same xs (predecessors set class) are.ascending predecessors-ascends (same_times xs are.counts)

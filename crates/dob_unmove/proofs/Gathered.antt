@@ -13,79 +13,79 @@ use Rattle.dob_unmove.specs.declared.undo.Undo.{Undo}
 use Rattle.dob_unmove.specs.Undoes.{earlier}
 use Rattle.dob_unmove.specs.Gathers.{IsOpenFirst, Finds, Gathers}
 
-pub gathers_none : (IsFirst : Setup → ℕ → Type 0) (after : Setup) (xs : List ℕ) → Gathers IsFirst after [] xs xs
-gathers_none IsFirst after xs = refl
+pub gathers_none : (Represents : Setup → ℕ → Type 0) (after : Setup) (xs : List ℕ) → Gathers Represents after [] xs xs
+gathers_none Represents after xs = refl
 
-pub gathers_one : (IsFirst : Setup → ℕ → Type 0) (after : Setup) (u : Undo) (found : Option ℕ) (xs ys : List ℕ) → Finds IsFirst (earlier after u) found
-    → ys ≡ xs ++ option_to_list found → Gathers IsFirst after (u ∷ []) xs ys
-gathers_one IsFirst after u found xs ys finds e = (found, finds, sym e)
+pub gathers_one : (Represents : Setup → ℕ → Type 0) (after : Setup) (u : Undo) (found : Option ℕ) (xs ys : List ℕ) → Finds Represents (earlier after u) found
+    → ys ≡ xs ++ option_to_list found → Gathers Represents after (u ∷ []) xs ys
+gathers_one Represents after u found xs ys finds e = (found, finds, sym e)
 
-pub gathers_append : (IsFirst : Setup → ℕ → Type 0) (after : Setup) (us vs : List Undo) (xs ys zs : List ℕ) → Gathers IsFirst after us xs ys
-    → Gathers IsFirst after vs ys zs
-    → Gathers IsFirst after (us ++ vs) xs zs
-gathers_append IsFirst after [] vs xs ys zs first second = subst (λ (l : List ℕ). Gathers IsFirst after vs l zs) (sym first) second
-gathers_append IsFirst after (u ∷ us) vs xs ys zs first second =
-    (first.0, first.1, gathers_append IsFirst after us vs (xs ++ option_to_list first.0) ys zs first.2 second)
+pub gathers_append : (Represents : Setup → ℕ → Type 0) (after : Setup) (us vs : List Undo) (xs ys zs : List ℕ) → Gathers Represents after us xs ys
+    → Gathers Represents after vs ys zs
+    → Gathers Represents after (us ++ vs) xs zs
+gathers_append Represents after [] vs xs ys zs first second = subst (λ (l : List ℕ). Gathers Represents after vs l zs) (sym first) second
+gathers_append Represents after (u ∷ us) vs xs ys zs first second =
+    (first.0, first.1, gathers_append Represents after us vs (xs ++ option_to_list first.0) ys zs first.2 second)
 
-pub gathers_cons : (IsFirst : Setup → ℕ → Type 0) (after : Setup) (u : Undo) (us : List Undo) (xs ys zs : List ℕ) → Gathers IsFirst after (u ∷ []) xs ys
-    → Gathers IsFirst after us ys zs
-    → Gathers IsFirst after (u ∷ us) xs zs
-gathers_cons IsFirst after u us xs ys zs first second = gathers_append IsFirst after (u ∷ []) us xs ys zs first second
+pub gathers_cons : (Represents : Setup → ℕ → Type 0) (after : Setup) (u : Undo) (us : List Undo) (xs ys zs : List ℕ) → Gathers Represents after (u ∷ []) xs ys
+    → Gathers Represents after us ys zs
+    → Gathers Represents after (u ∷ us) xs zs
+gathers_cons Represents after u us xs ys zs first second = gathers_append Represents after (u ∷ []) us xs ys zs first second
 
 pub ruleset gathers = (gathers_none, gathers_append, gathers_cons)
 
 -- the way leads back to no open representative
 abbrev pub IsDead : (Setup → ℕ → Type 0) → Setup → Undo → Type 0
-IsDead IsFirst after u = ¬ ((class : ℕ) × IsOpenFirst IsFirst (earlier after u) class)
+IsDead Represents after u = ¬ ((class : ℕ) × IsOpenFirst Represents (earlier after u) class)
 
-pub gathers_dead : (IsFirst : Setup → ℕ → Type 0) (after : Setup) (us : List Undo) (xs : List ℕ) → ((u : Undo) → Contains us u → IsDead IsFirst after u)
-    → Gathers IsFirst after us xs xs
-gathers_dead IsFirst after [] xs dead = refl
-gathers_dead IsFirst after (u ∷ us) xs dead =
-    let rest = gathers_dead IsFirst after us xs (λ v inside. dead v (Contains-append_right (u ∷ []) us v inside)) in
-    (None, dead u (head_in u us), subst (λ (l : List ℕ). Gathers IsFirst after us l xs) (sym (append-nil xs)) rest)
+pub gathers_dead : (Represents : Setup → ℕ → Type 0) (after : Setup) (us : List Undo) (xs : List ℕ) → ((u : Undo) → Contains us u → IsDead Represents after u)
+    → Gathers Represents after us xs xs
+gathers_dead Represents after [] xs dead = refl
+gathers_dead Represents after (u ∷ us) xs dead =
+    let rest = gathers_dead Represents after us xs (λ v inside. dead v (Contains-append_right (u ∷ []) us v inside)) in
+    (None, dead u (head_in u us), subst (λ (l : List ℕ). Gathers Represents after us l xs) (sym (append-nil xs)) rest)
 
 -- ---- walks over the squares of a mask
 
 -- where the test fails the ways are dead
 abbrev pub AreDead : (Setup → ℕ → Type 0) → Setup → (ℕ → Bool) → (ℕ → List Undo) → Type 0
-AreDead IsFirst after test g = (k : ℕ) → k < 12 → test k ≡ false → (u : Undo) → Contains (g k) u → IsDead IsFirst after u
+AreDead Represents after test g = (k : ℕ) → k < 12 → test k ≡ false → (u : Undo) → Contains (g k) u → IsDead Represents after u
 
 -- the squares that are left of a mask, and what was added so far
-pub record IsGathered (IsFirst : Setup → ℕ → Type 0) (after : Setup) (test : ℕ → Bool) (g : ℕ → List Undo) (left : ℕ) (before items : List ℕ) : Type 0 where
+pub record IsGathered (Represents : Setup → ℕ → Type 0) (after : Setup) (test : ℕ → Bool) (g : ℕ → List Undo) (left : ℕ) (before items : List ℕ) : Type 0 where
   pub upto : ℕ
   pub bound : upto ≤ 12
   pub left_are : IsLeft test upto left
-  pub gathered : Gathers IsFirst after (each_below g upto) before items
+  pub gathered : Gathers Represents after (each_below g upto) before items
 
-module _ (IsFirst : Setup → ℕ → Type 0) (after : Setup) (test : ℕ → Bool) (g : ℕ → List Undo) where
-  dead_between : AreDead IsFirst after test g → (from n : ℕ) (xs ys : List ℕ) → from ≤ n → n ≤ 12 → ((k : ℕ) → from ≤ k → k < n → test k ≡ false)
-      → Gathers IsFirst after (each_below g from) xs ys → Gathers IsFirst after (each_below g n) xs ys
+module _ (Represents : Setup → ℕ → Type 0) (after : Setup) (test : ℕ → Bool) (g : ℕ → List Undo) where
+  dead_between : AreDead Represents after test g → (from n : ℕ) (xs ys : List ℕ) → from ≤ n → n ≤ 12 → ((k : ℕ) → from ≤ k → k < n → test k ≡ false)
+      → Gathers Represents after (each_below g from) xs ys → Gathers Represents after (each_below g n) xs ys
   dead_between dead from zero xs ys le within between h =
-      let e : from ≡ zero = omega arith in subst (λ (m : ℕ). Gathers IsFirst after (each_below g m) xs ys) e h
+      let e : from ≡ zero = omega arith in subst (λ (m : ℕ). Gathers Represents after (each_below g m) xs ys) e h
   dead_between dead from (suc n) xs ys le within between h = elim (cases_lt n from) [
-    | inl last ↦ (let e : from ≡ suc n = omega arith in subst (λ (m : ℕ). Gathers IsFirst after (each_below g m) xs ys) e h)
+    | inl last ↦ (let e : from ≡ suc n = omega arith in subst (λ (m : ℕ). Gathers Represents after (each_below g m) xs ys) e h)
     | inr more ↦
-        gathers_append IsFirst after (each_below g n) (g n) xs ys ys
+        gathers_append Represents after (each_below g n) (g n) xs ys ys
         (dead_between dead from n xs ys more (omega arith) (λ k ge lt. between k ge (omega (arith, lt))) h)
-        (gathers_dead IsFirst after (g n) ys (dead n (omega arith) (between n more (omega arith))))
+        (gathers_dead Represents after (g n) ys (dead n (omega arith) (between n more (omega arith))))
   ]
 
-  pub gathered_start : (mask : ℕ) (before : List ℕ) → IsMask test mask → IsGathered IsFirst after test g mask before before
+  pub gathered_start : (mask : ℕ) (before : List ℕ) → IsMask test mask → IsGathered Represents after test g mask before before
   gathered_start mask before is = record { upto = 0; bound = omega arith; left_are = all_left test mask is; gathered = refl }
 
-  pub gathered_less : (left place rest : ℕ) (before items : List ℕ) → IsGathered IsFirst after test g left before items
+  pub gathered_less : (left place rest : ℕ) (before items : List ℕ) → IsGathered Represents after test g left before items
       → 0 < left → place ≡ trailing_zeros w16 left → rest ≡ without left place → rest < left
   gathered_less left place rest before items w some e gone = rw gone (next_left test w.upto left place w.left_are some e).less
 
   -- the lowest square passes the test
-  pub passes_lowest : (left place : ℕ) (before items : List ℕ) → IsGathered IsFirst after test g left before items
+  pub passes_lowest : (left place : ℕ) (before items : List ℕ) → IsGathered Represents after test g left before items
       → 0 < left → place ≡ trailing_zeros w16 left → test place ≡ true
   passes_lowest left place before items w some e = (next_left test w.upto left place w.left_are some e).passes
 
-  pub gathered_next : AreDead IsFirst after test g → (left place rest : ℕ) (before items new : List ℕ) → IsGathered IsFirst after test g left before items
-      → 0 < left → place ≡ trailing_zeros w16 left → rest ≡ without left place → Gathers IsFirst after (g place) items new
-      → IsGathered IsFirst after test g rest before new
+  pub gathered_next : AreDead Represents after test g → (left place rest : ℕ) (before items new : List ℕ) → IsGathered Represents after test g left before items
+      → 0 < left → place ≡ trailing_zeros w16 left → rest ≡ without left place → Gathers Represents after (g place) items new
+      → IsGathered Represents after test g rest before new
   gathered_next dead left place rest before items new w some e gone more =
       let it = next_left test w.upto left place w.left_are some e in
       let lt = it.on_board in
@@ -93,11 +93,11 @@ module _ (IsFirst : Setup → ℕ → Type 0) (after : Setup) (test : ℕ → Bo
         upto = suc place;
         bound = omega (arith, lt);
         left_are = it.left;
-        gathered = gathers_append IsFirst after (each_below g place) (g place) before items new
+        gathered = gathers_append Represents after (each_below g place) (g place) before items new
             (dead_between dead w.upto place before items it.not_before (omega (arith, lt)) it.between w.gathered) more;
       })
 
-  pub gathered_end : AreDead IsFirst after test g → (left : ℕ) (before items : List ℕ) → IsGathered IsFirst after test g left before items
-      → left ≡ 0 → Gathers IsFirst after (each_below g 12) before items
+  pub gathered_end : AreDead Represents after test g → (left : ℕ) (before items : List ℕ) → IsGathered Represents after test g left before items
+      → left ≡ 0 → Gathers Represents after (each_below g 12) before items
   gathered_end dead left before items w none =
       dead_between dead w.upto 12 before items w.bound (omega arith) (none_left test w.upto left w.left_are none) w.gathered

@@ -17,36 +17,36 @@ use Rattle.dob_pieces.proofs.Symmetries.{turned-mirrored}
 use Rattle.dob_unmove.proofs.Counting.{all_gathered, counts_alone, counts_both}
 
 -- the answer of the numbering, at the position before the move
-pub finds_from : (IsFirst : Setup → ℕ → Type 0) (p s : Setup) (o : Option ℕ) → p ≡ s → HasStatus p Open
-    → MatchOption o (¬ ((class : ℕ) × IsFirst p class)) (IsFirst p) → Finds IsFirst s o
-finds_from IsFirst p s None e has h = λ w. h (w.0, subst (λ (x : Setup). IsFirst x w.0) (sym e) w.1.0)
-finds_from IsFirst p s (Some class) e has h = (subst (λ (x : Setup). IsFirst x class) e h, subst (λ (x : Setup). HasStatus x Open) e has)
+pub finds_from : (Represents : Setup → ℕ → Type 0) (p s : Setup) (o : Option ℕ) → p ≡ s → HasStatus p Open
+    → MatchOption o (¬ ((class : ℕ) × Represents p class)) (Represents p) → Finds Represents s o
+finds_from Represents p s None e has h = λ w. h (w.0, subst (λ (x : Setup). Represents x w.0) (sym e) w.1.0)
+finds_from Represents p s (Some class) e has h = (subst (λ (x : Setup). Represents x class) e h, subst (λ (x : Setup). HasStatus x Open) e has)
 
 -- the walk found no open position, so none that is a representative
-pub finds_none : (IsFirst : Setup → ℕ → Type 0) (s : Setup) → IsNumbering IsFirst → ¬ IsOpenPosition s → Finds IsFirst s None
-finds_none IsFirst s n closed w = closed (record { legal = n.legal s w.0 w.1.0; open_to_move = w.1.1 })
+pub finds_none : (Represents : Setup → ℕ → Type 0) (s : Setup) → IsNumbering Represents → ¬ IsOpenPosition s → Finds Represents s None
+finds_none Represents s n closed w = closed (record { legal = n.legal s w.0 w.1.0; open_to_move = w.1.1 })
 
 -- the mirror image is a representative exactly where it is the position itself
-pub own_image : (IsFirst : Setup → ℕ → Type 0) (q image : Setup) (o : Option ℕ) → IsNumbering IsFirst
-    → ((class : ℕ) × IsFirst q class) → image ≡ mirrored q
-    → MatchOption o (¬ ((class : ℕ) × IsFirst image class)) (IsFirst image) → is_some o ≡ true → mirrored q ≡ q
-own_image IsFirst q image None n w e h some = cc
-own_image IsFirst q image (Some class) n w e h some =
+pub own_image : (Represents : Setup → ℕ → Type 0) (q image : Setup) (o : Option ℕ) → IsNumbering Represents
+    → ((class : ℕ) × Represents q class) → image ≡ mirrored q
+    → MatchOption o (¬ ((class : ℕ) × Represents image class)) (Represents image) → is_some o ≡ true → mirrored q ≡ q
+own_image Represents q image None n w e h some = cc
+own_image Represents q image (Some class) n w e h some =
     let same : w.0 ≡ class = n.one_number q image w.0 class w.1 h (inr e) in
-    sym e ∙ sym (n.one_first q image class (subst (IsFirst q) same w.1) h)
+    sym e ∙ sym (n.one_represents q image class (subst (Represents q) same w.1) h)
 
-pub other_image : (IsFirst : Setup → ℕ → Type 0) (q image : Setup) (o : Option ℕ)
-    → ((class : ℕ) × IsFirst q class) → image ≡ mirrored q
-    → MatchOption o (¬ ((class : ℕ) × IsFirst image class)) (IsFirst image) → is_some o ≡ false → mirrored q ≢ q
-other_image IsFirst q image None w e h none own = h (w.0, subst (λ (x : Setup). IsFirst x w.0) (sym own ∙ sym e) w.1)
-other_image IsFirst q image (Some class) w e h none own = cc
+pub other_image : (Represents : Setup → ℕ → Type 0) (q image : Setup) (o : Option ℕ)
+    → ((class : ℕ) × Represents q class) → image ≡ mirrored q
+    → MatchOption o (¬ ((class : ℕ) × Represents image class)) (Represents image) → is_some o ≡ false → mirrored q ≢ q
+other_image Represents q image None w e h none own = h (w.0, subst (λ (x : Setup). Represents x w.0) (sym own ∙ sym e) w.1)
+other_image Represents q image (Some class) w e h none own = cc
 
 -- sorting keeps the counts
-pub sorted_counts : (IsFirst : Setup → ℕ → Type 0) (q : Setup) (xs ys : List ℕ) → CountEdges IsFirst q xs → IsPermutation xs ys
-    → IsNonDecreasingBy (λ (x : ℕ). x) ys → ArePredecessors IsFirst q ys
-sorted_counts IsFirst q xs ys c moved rises = record {
+pub sorted_counts : (Represents : Setup → ℕ → Type 0) (q : Setup) (xs ys : List ℕ) → CountEdges Represents q xs → IsPermutation xs ys
+    → IsNonDecreasingBy (λ (x : ℕ). x) ys → ArePredecessors Represents q ys
+sorted_counts Represents q xs ys c moved rises = record {
   counts = record {
-    known = All-permutation (λ (class : ℕ). (p : Setup) × IsFirst p class) xs ys moved c.known;
+    known = All-permutation (λ (class : ℕ). (p : Setup) × Represents p class) xs ys moved c.known;
     edges = λ p class first. subst (HasEdges p q) (sym (sum_by-IsPermutation _ xs ys moved)) (c.edges p class first);
   };
   ascending = λ i j d lt within. rises i j d (omega arith) within;

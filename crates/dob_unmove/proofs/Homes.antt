@@ -16,7 +16,7 @@ use Rattle.dob_pieces.specs.Squares.{mirrored_square}
 use Rattle.dob_pieces.specs.Setups.{Cell, at, held, piece_of, holds_lion, holds_kind, total, mirrored}
 use Rattle.dob_pieces.proofs.Boards.{all_below, all_below-at, at-mirrored, within-from_piece, total-mirrored}
 use Rattle.dob_pieces.proofs.Symmetries.{mirrored_square_bound, mirrored_square_twice}
-use Rattle.dob_rank.specs.Order.{squares_from, squares, forms, each_kind, key, Precedes, Before, IsPositionOf, IsFirstIn}
+use Rattle.dob_rank.specs.Order.{squares_from, squares, forms, each_kind, key, Precedes, Before, IsPositionOf, RepresentsIn}
 use Rattle.dob_rank.proofs.Found.{IsPositionOf-mirrored}
 use Rattle.dob_unmove.specs.Ways.{is_home}
 
@@ -166,7 +166,7 @@ tells_before s e = is_home e s || (nat_lt 8 s || (nat_lt (mirrored_square s) s |
 all_tell : all_below (λ s. all_below (tells_before s) 12) 12 ≡ true
 all_tell = refl
 
-pub first_home : (set : PieceSet) (p : Setup) (class s e : ℕ) → IsFirstIn set p class → at p s ≡ Some (piece_of Mover Lion)
+pub first_home : (set : PieceSet) (p : Setup) (class s e : ℕ) → RepresentsIn set p class → at p s ≡ Some (piece_of Mover Lion)
     → at p e ≡ Some (piece_of Enemy Lion)
     → is_home e s ≡ true
 first_home set p class s e first own other =

@@ -132,11 +132,11 @@ module _ (after : Setup) (to : ℕ) where
 
 -- ---- what such lists add
 
-module _ (IsFirst : Setup → ℕ → Type 0) (after : Setup) (all us : List Undo) where
-  pub gathers_same : (xs ys : List ℕ) → all ≡ us → Gathers IsFirst after us xs ys → Gathers IsFirst after all xs ys
-  gathers_same xs ys same h = subst (λ (l : List Undo). Gathers IsFirst after l xs ys) (sym same) h
+module _ (Represents : Setup → ℕ → Type 0) (after : Setup) (all us : List Undo) where
+  pub gathers_same : (xs ys : List ℕ) → all ≡ us → Gathers Represents after us xs ys → Gathers Represents after all xs ys
+  gathers_same xs ys same h = subst (λ (l : List Undo). Gathers Represents after l xs ys) (sym same) h
 
-  pub gathers_both : (vs : List Undo) (xs ys zs : List ℕ) → all ≡ us ++ vs → Gathers IsFirst after us xs ys → Gathers IsFirst after vs ys zs
-      → Gathers IsFirst after all xs zs
+  pub gathers_both : (vs : List Undo) (xs ys zs : List ℕ) → all ≡ us ++ vs → Gathers Represents after us xs ys → Gathers Represents after vs ys zs
+      → Gathers Represents after all xs zs
   gathers_both vs xs ys zs same first second =
-      subst (λ (l : List Undo). Gathers IsFirst after l xs zs) (sym same) (gathers_append IsFirst after us vs xs ys zs first second)
+      subst (λ (l : List Undo). Gathers Represents after l xs zs) (sym same) (gathers_append Represents after us vs xs ys zs first second)

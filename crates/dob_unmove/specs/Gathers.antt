@@ -9,18 +9,18 @@ use Rattle.dob_unmove.specs.Undoes.{earlier}
 
 -- the setup is an open position, and the representative of that class
 abbrev pub IsOpenFirst : (Setup → ℕ → Type 0) → Setup → ℕ → Type 0
-IsOpenFirst IsFirst p class = IsFirst p class × HasStatus p Open
+IsOpenFirst Represents p class = Represents p class × HasStatus p Open
 
 -- the class of which the setup is the representative, if it is an open position and one
 abbrev pub Finds : (Setup → ℕ → Type 0) → Setup → Option ℕ → Type 0
-Finds IsFirst p found = MatchOption found (¬ ((class : ℕ) × IsOpenFirst IsFirst p class)) (IsOpenFirst IsFirst p)
+Finds Represents p found = MatchOption found (¬ ((class : ℕ) × IsOpenFirst Represents p class)) (IsOpenFirst Represents p)
 
 -- what taking one way back adds to the list of numbers
 abbrev pub Adds : (Setup → ℕ → Type 0) → Setup → Undo → List ℕ → List ℕ → Type 0
-Adds IsFirst after undo old new = (found : Option ℕ) × Finds IsFirst (earlier after undo) found × (new ≡ old ++ option_to_list found)
+Adds Represents after undo old new = (found : Option ℕ) × Finds Represents (earlier after undo) found × (new ≡ old ++ option_to_list found)
 
 -- the numbers added by the ways, one after the other
 abbrev pub Gathers : (Setup → ℕ → Type 0) → Setup → List Undo → List ℕ → List ℕ → Type 0
-Gathers IsFirst after [] old new = old ≡ new
-Gathers IsFirst after (undo ∷ undoes) old new =
-    (found : Option ℕ) × Finds IsFirst (earlier after undo) found × Gathers IsFirst after undoes (old ++ option_to_list found) new
+Gathers Represents after [] old new = old ≡ new
+Gathers Represents after (undo ∷ undoes) old new =
+    (found : Option ℕ) × Finds Represents (earlier after undo) found × Gathers Represents after undoes (old ++ option_to_list found) new

@@ -28,18 +28,18 @@ pub record HasEdges (p q : Setup) (number : ℕ) : Type 0 where
   pub counted : length moves ≡ number
 
 -- Each class stands in the list as often as moves of its representative lead to q or its mirror image, and no other
--- number does. `IsFirst p class` says that p is the representative of the class with that number.
-pub record CountEdges (IsFirst : Setup → ℕ → Type 0) (q : Setup) (numbers : List ℕ) : Type 0 where
-  pub known : All (λ (class : ℕ). (p : Setup) × IsFirst p class) numbers
-  pub edges : (p : Setup) (class : ℕ) → IsFirst p class → HasEdges p q (count_by (λ number. number == class) numbers)
+-- number does. `Represents p class` says that p is the representative of the class with that number.
+pub record CountEdges (Represents : Setup → ℕ → Type 0) (q : Setup) (numbers : List ℕ) : Type 0 where
+  pub known : All (λ (class : ℕ). (p : Setup) × Represents p class) numbers
+  pub edges : (p : Setup) (class : ℕ) → Represents p class → HasEdges p q (count_by (λ number. number == class) numbers)
 
 -- so it does, and the list ascends
-pub record ArePredecessors (IsFirst : Setup → ℕ → Type 0) (q : Setup) (numbers : List ℕ) : Type 0 where
-  pub counts : CountEdges IsFirst q numbers
+pub record ArePredecessors (Represents : Setup → ℕ → Type 0) (q : Setup) (numbers : List ℕ) : Type 0 where
+  pub counts : CountEdges Represents q numbers
   pub ascending : AllPairs (λ (a b : ℕ). a ≤ b) numbers
 
 -- Representatives are positions; equal ones and mirror images have one number, and a number has one representative.
-pub record IsNumbering (IsFirst : Setup → ℕ → Type 0) : Type 0 where
-  pub legal : (p : Setup) (class : ℕ) → IsFirst p class → IsLegal p
-  pub one_number : (p q : Setup) (a b : ℕ) → IsFirst p a → IsFirst q b → IsEither p q → a ≡ b
-  pub one_first : (p q : Setup) (class : ℕ) → IsFirst p class → IsFirst q class → p ≡ q
+pub record IsNumbering (Represents : Setup → ℕ → Type 0) : Type 0 where
+  pub legal : (p : Setup) (class : ℕ) → Represents p class → IsLegal p
+  pub one_number : (p q : Setup) (a b : ℕ) → Represents p a → Represents q b → IsEither p q → a ≡ b
+  pub one_represents : (p q : Setup) (class : ℕ) → Represents p class → Represents q class → p ≡ q

@@ -8,7 +8,7 @@ ghost use Rattle.dob_unmove.specs.declared.undo.Undo.{Undo};
 ghost use Rattle.dob_unmove.specs.Undoes.{CanUndo, earlier};
 ghost use Rattle.dob_unmove.specs.Unmoves.{CountEdges, ArePredecessors};
 ghost use Rattle.dob_unmove.specs.Edges.{predecessors};
-ghost use Rattle.dob_unmove.specs.Classes.{IsTurned, IsFirstIn};
+ghost use Rattle.dob_unmove.specs.Classes.{IsTurned, RepresentsIn};
 ghost use Rattle.dob_unmove.specs.Gathers.{Finds, Adds};
 ghost use Rattle.dob_unmove.specs.Threats.{IsThreat};
 
@@ -30,7 +30,7 @@ struct Gathered<'a> {
 impl Taker for Gathered<'_> {
     ghost suits = { λ after gathered. IsTurned (IsPositionOf gathered.classes.now.set) after × IsThreat after gathered.threat };
 
-    ghost takes = { λ after old undo new. (new.classes ≡ old.classes) × Adds (IsFirstIn old.classes.now.set) after undo old.found.items new.found.items };
+    ghost takes = { λ after old undo new. (new.classes ≡ old.classes) × Adds (RepresentsIn old.classes.now.set) after undo old.found.items new.found.items };
 
     fn take(&mut self, after: &Setup, undo: Undo) -> Result<(), Memory> {
         if let Some(class) = class_before(self.classes, after, &self.threat, undo) {
@@ -45,42 +45,42 @@ fn class_before(classes: &Classes, after: &Setup, threat: &Threat, undo: Undo) -
     requires can { CanUndo after.now undo }
     requires of_set { IsTurned (IsPositionOf classes.now.set) after.now }
     requires threat { IsThreat after.now threat.now }
-    ensures { Finds (IsFirstIn classes.now.set) (earlier after.now undo) result }
+    ensures { Finds (RepresentsIn classes.now.set) (earlier after.now undo) result }
 {
     if threat.stood_before(&undo) {
         return None;
     }
     match open_before(after, undo) {
         None => None,
-        Some(position) => class_of_first(classes, &position),
+        Some(position) => class_if_representative(classes, &position),
     }
 }
 
 // The class whose representative the position of the set is; `None` where it is none.
-pub(crate) fn class_of_first(classes: &Classes, position: &Position) -> Option<u64>
+pub(crate) fn class_if_representative(classes: &Classes, position: &Position) -> Option<u64>
     requires { IsPositionOf classes.now.set position.now.setup }
-    ensures { MatchOption result (¬ ((class : ℕ) × IsFirstIn classes.now.set position.now.setup class)) (IsFirstIn classes.now.set position.now.setup) }
+    ensures { MatchOption result (¬ ((class : ℕ) × RepresentsIn classes.now.set position.now.setup class)) (RepresentsIn classes.now.set position.now.setup) }
 {
     classes.class_of_representative(position)
 }
 
 // The classes from which moves lead to the representative of a class or to its mirror image, in the order of the walk, in
 // the room of that list.
-fn gather(room: Vec<u64>, classes: &Classes, first: &Position) -> Result<Vec<u64>, Memory>
-    requires { (class : ℕ) × IsFirstIn classes.now.set first.now.setup class }
-    ensures { IfOk result (λ list. CountEdges (IsFirstIn classes.now.set) first.now.setup list.items) }
+fn gather(room: Vec<u64>, classes: &Classes, representative: &Position) -> Result<Vec<u64>, Memory>
+    requires { (class : ℕ) × RepresentsIn classes.now.set representative.now.setup class }
+    ensures { IfOk result (λ list. CountEdges (RepresentsIn classes.now.set) representative.now.setup list.items) }
 {
     let mut found = room;
     found.clear();
-    let after = first.turned();
+    let after = representative.turned();
     let mut gathered = Gathered {
         classes,
         threat: Threat::of(&after),
         found,
     };
     take_all(&mut gathered, &after)?;
-    let image = first.mirrored();
-    if class_of_first(classes, &image).is_some() {
+    let image = representative.mirrored();
+    if class_if_representative(classes, &image).is_some() {
         return Ok(gathered.found);
     }
     let after = image.turned();
@@ -93,7 +93,7 @@ fn gather(room: Vec<u64>, classes: &Classes, first: &Position) -> Result<Vec<u64
 /// there, in the room of a list; what it held is gone. Err where no memory was left for it to grow.
 pub fn back_into(room: Vec<u64>, classes: &Classes, class: u64) -> Result<Vec<u64>, Memory>
     requires { class < classes_of classes.now.set }
-    ensures counts { IfOk result (λ list. (q : Setup) → IsFirstIn classes.now.set q class → ArePredecessors (IsFirstIn classes.now.set) q list.items) }
+    ensures counts { IfOk result (λ list. (q : Setup) → RepresentsIn classes.now.set q class → ArePredecessors (RepresentsIn classes.now.set) q list.items) }
     ensures list { IfOk result (λ list. list.items ≡ predecessors classes.now.set class) }
 {
     let mut numbers = gather(room, classes, &classes.class_at(class))?;

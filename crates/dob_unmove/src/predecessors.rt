@@ -10,7 +10,7 @@ ghost use Rattle.dob_unmove.specs.declared.undo.Undo.{Undo};
 ghost use Rattle.dob_unmove.specs.Undoes.{arrives_at as arrival, CanUndo, earlier};
 ghost use Rattle.dob_unmove.specs.Unmoves.{CountEdges, ArePredecessors};
 ghost use Rattle.dob_unmove.specs.Edges.{predecessors};
-ghost use Rattle.dob_unmove.specs.Classes.{IsFirstIn};
+ghost use Rattle.dob_unmove.specs.Classes.{RepresentsIn};
 ghost use Rattle.dob_unmove.specs.Gathers.{Finds, Gathers};
 ghost use Rattle.dob_unmove.specs.Threats.{elsewhere, stood_before};
 ghost use Rattle.dob_unmove.specs.Walks.{stands, uncatch, unsteps_from, unsteps, unputs, undoes_at, undoes};
@@ -18,7 +18,7 @@ ghost use Rattle.dob_unmove.specs.Ways.{HasLionHome, may_come, AreWays, CanWalk}
 
 use crate::earlier::position_before;
 use crate::images::mirrored_masks;
-use crate::plain::class_of_first;
+use crate::plain::class_if_representative;
 use crate::undo::Undo;
 use crate::walk::holds_caught;
 use crate::ways::Ways;
@@ -37,7 +37,7 @@ fn gather_all(
     found: &mut Vec<u64>,
 ) -> Result<(), Memory>
     requires { CanWalk classes.now.set after.now ways.now }
-    ensures { OnOk result (Gathers (IsFirstIn classes.now.set) after.now (undoes after.now) found.old.items found.new.items) }
+    ensures { OnOk result (Gathers (RepresentsIn classes.now.set) after.now (undoes after.now) found.old.items found.new.items) }
 {
     let mut left = ways.ends;
     while left != 0 {
@@ -59,7 +59,7 @@ fn gather_at(
     requires walk { CanWalk classes.now.set after.now ways.now }
     requires calm { elsewhere ways.now.threat.attackers to ≡ false }
     requires home { HasLionHome after.now ways.now.threat.lion to }
-    ensures { OnOk result (Gathers (IsFirstIn classes.now.set) after.now (undoes_at after.now to) found.old.items found.new.items) }
+    ensures { OnOk result (Gathers (RepresentsIn classes.now.set) after.now (undoes_at after.now to) found.old.items found.new.items) }
 {
     let Some(piece) = after.at(to) else {
         return Ok(());
@@ -83,7 +83,7 @@ fn gather_kind(
     requires calm { elsewhere ways.now.threat.attackers to ≡ false }
     requires home { HasLionHome after.now ways.now.threat.lion to }
     requires stands { at after.now to ≡ Some (piece_of Mover kind) }
-    ensures { OnOk result (Gathers (IsFirstIn classes.now.set) after.now (undoes_at after.now to) found.old.items found.new.items) }
+    ensures { OnOk result (Gathers (RepresentsIn classes.now.set) after.now (undoes_at after.now to) found.old.items found.new.items) }
 {
     match kind {
         Kind::Lion => gather_steps(classes, after, ways, Kind::Lion, to, found),
@@ -113,7 +113,7 @@ fn gather_chick(
     requires calm { elsewhere ways.now.threat.attackers to ≡ false }
     requires home { HasLionHome after.now ways.now.threat.lion to }
     requires stands { at after.now to ≡ Some (piece_of Mover Kind.Chick) }
-    ensures { OnOk result (Gathers (IsFirstIn classes.now.set) after.now (undoes_at after.now to) found.old.items found.new.items) }
+    ensures { OnOk result (Gathers (RepresentsIn classes.now.set) after.now (undoes_at after.now to) found.old.items found.new.items) }
 {
     if to.row() != 3 {
         gather_steps(classes, after, ways, Kind::Chick, to, found)?;
@@ -133,7 +133,7 @@ fn gather_hen(
     requires calm { elsewhere ways.now.threat.attackers to ≡ false }
     requires home { HasLionHome after.now ways.now.threat.lion to }
     requires stands { at after.now to ≡ Some (piece_of Mover Kind.Hen) }
-    ensures { OnOk result (Gathers (IsFirstIn classes.now.set) after.now (undoes_at after.now to) found.old.items found.new.items) }
+    ensures { OnOk result (Gathers (RepresentsIn classes.now.set) after.now (undoes_at after.now to) found.old.items found.new.items) }
 {
     if to.row() == 3 {
         gather_steps(classes, after, ways, Kind::Chick, to, found)?;
@@ -154,7 +154,7 @@ fn gather_steps(
     requires calm { elsewhere ways.now.threat.attackers to ≡ false }
     requires home { HasLionHome after.now ways.now.threat.lion to }
     requires stands { stands (at after.now to) (arrival kind to) ≡ true }
-    ensures { OnOk result (Gathers (IsFirstIn classes.now.set) after.now (unsteps after.now kind to) found.old.items found.new.items) }
+    ensures { OnOk result (Gathers (RepresentsIn classes.now.set) after.now (unsteps after.now kind to) found.old.items found.new.items) }
 {
     let mut left = ways.sources(kind, to);
     while left != 0 {
@@ -181,7 +181,7 @@ fn gather_steps_from(
     requires home { HasLionHome after.now ways.now.threat.lion to }
     requires stands { stands (at after.now to) (arrival kind to) ≡ true }
     requires comes { may_come after.now ways.now.threat.lion kind to from ≡ true }
-    ensures { OnOk result (Gathers (IsFirstIn classes.now.set) after.now (unsteps_from after.now kind to from) found.old.items found.new.items) }
+    ensures { OnOk result (Gathers (RepresentsIn classes.now.set) after.now (unsteps_from after.now kind to from) found.old.items found.new.items) }
 {
     let undo = Undo::Unstep {
         kind,
@@ -213,7 +213,7 @@ fn gather_catch(
     requires calm { stood_before ways.now.threat (Undo.Unstep kind from to None) ≡ false }
     requires home { HasLionHome after.now ways.now.threat.lion to }
     requires comes { may_come after.now ways.now.threat.lion kind to from ≡ true }
-    ensures { OnOk result (Gathers (IsFirstIn classes.now.set) after.now (uncatch after.now kind from to caught) found.old.items found.new.items) }
+    ensures { OnOk result (Gathers (RepresentsIn classes.now.set) after.now (uncatch after.now kind from to caught) found.old.items found.new.items) }
 {
     if !holds_caught(&after.hands.mover, caught) {
         return Ok(());
@@ -240,7 +240,7 @@ fn gather_put(
     requires calm { elsewhere ways.now.threat.attackers to ≡ false }
     requires home { HasLionHome after.now ways.now.threat.lion to }
     requires stands { at after.now to ≡ Some (piece_of Mover (kind_on_board kind)) }
-    ensures { OnOk result (Gathers (IsFirstIn classes.now.set) after.now (unputs after.now kind to) found.old.items found.new.items) }
+    ensures { OnOk result (Gathers (RepresentsIn classes.now.set) after.now (unputs after.now kind to) found.old.items found.new.items) }
 {
     gather_one(classes, after, ways, Undo::Unput { kind, to }, found)
 }
@@ -257,7 +257,7 @@ fn gather_one(
     requires can { CanUndo after.now undo }
     requires calm { stood_before ways.now.threat undo ≡ false }
     requires home { HasLionOffFarRow (earlier after.now undo) }
-    ensures { OnOk result (Gathers (IsFirstIn classes.now.set) after.now (undo ∷ []) found.old.items found.new.items) }
+    ensures { OnOk result (Gathers (RepresentsIn classes.now.set) after.now (undo ∷ []) found.old.items found.new.items) }
 {
     if let Some(class) = class_before(classes, after, ways, undo) {
         found.push(class)?;
@@ -271,35 +271,35 @@ fn class_before(classes: &Classes, after: &Setup, ways: &Ways, undo: Undo) -> Op
     requires can { CanUndo after.now undo }
     requires calm { stood_before ways.now.threat undo ≡ false }
     requires home { HasLionOffFarRow (earlier after.now undo) }
-    ensures { Finds (IsFirstIn classes.now.set) (earlier after.now undo) result }
+    ensures { Finds (RepresentsIn classes.now.set) (earlier after.now undo) result }
 {
-    class_of_first(classes, &position_before(after, undo))
+    class_if_representative(classes, &position_before(after, undo))
 }
 
 /// Whether the representative is its own mirror image. What is known of the turned setup says mostly that it isn't.
-fn is_own_image(classes: &Classes, first: &Position, ways: &Ways) -> bool
-    requires first { (class : ℕ) × IsFirstIn classes.now.set first.now.setup class }
-    requires ways { AreWays (turned first.now.setup) ways.now }
-    ensures { IsTrue result ↔ (mirrored first.now.setup ≡ first.now.setup) }
+fn is_own_image(classes: &Classes, representative: &Position, ways: &Ways) -> bool
+    requires representative { (class : ℕ) × RepresentsIn classes.now.set representative.now.setup class }
+    requires ways { AreWays (turned representative.now.setup) ways.now }
+    ensures { IsTrue result ↔ (mirrored representative.now.setup ≡ representative.now.setup) }
 {
     if ways.has_lions_on_b() {
-        return class_of_first(classes, &first.mirrored()).is_some();
+        return class_if_representative(classes, &representative.mirrored()).is_some();
     }
     false
 }
 
 /// The classes from which moves lead to the representative of a class or to its mirror image, in the order of the walk, in
 /// the room of that list.
-fn gather(room: Vec<u64>, classes: &Classes, first: &Position) -> Result<Vec<u64>, Memory>
-    requires { (class : ℕ) × IsFirstIn classes.now.set first.now.setup class }
-    ensures { IfOk result (λ list. CountEdges (IsFirstIn classes.now.set) first.now.setup list.items) }
+fn gather(room: Vec<u64>, classes: &Classes, representative: &Position) -> Result<Vec<u64>, Memory>
+    requires { (class : ℕ) × RepresentsIn classes.now.set representative.now.setup class }
+    ensures { IfOk result (λ list. CountEdges (RepresentsIn classes.now.set) representative.now.setup list.items) }
 {
     let mut found = room;
     found.clear();
-    let after = first.turned();
+    let after = representative.turned();
     let ways = Ways::of(&after);
     gather_all(classes, &after, &ways, &mut found)?;
-    if is_own_image(classes, first, &ways) {
+    if is_own_image(classes, representative, &ways) {
         return Ok(found);
     }
     let image = after.mirrored();
@@ -312,7 +312,7 @@ fn gather(room: Vec<u64>, classes: &Classes, first: &Position) -> Result<Vec<u64
 /// there. Err where no memory was left for the list.
 pub fn back(alloc: Global, classes: &Classes, class: u64) -> Result<Vec<u64>, Memory>
     requires { class < classes_of classes.now.set }
-    ensures counts { IfOk result (λ list. (q : Setup) → IsFirstIn classes.now.set q class → ArePredecessors (IsFirstIn classes.now.set) q list.items) }
+    ensures counts { IfOk result (λ list. (q : Setup) → RepresentsIn classes.now.set q class → ArePredecessors (RepresentsIn classes.now.set) q list.items) }
     ensures list { IfOk result (λ list. list.items ≡ predecessors classes.now.set class) }
 {
     back_into(Vec::new(alloc), classes, class)
@@ -322,7 +322,7 @@ pub fn back(alloc: Global, classes: &Classes, class: u64) -> Result<Vec<u64>, Me
 /// left for it to grow, and then the list is gone too.
 pub fn back_into(room: Vec<u64>, classes: &Classes, class: u64) -> Result<Vec<u64>, Memory>
     requires { class < classes_of classes.now.set }
-    ensures counts { IfOk result (λ list. (q : Setup) → IsFirstIn classes.now.set q class → ArePredecessors (IsFirstIn classes.now.set) q list.items) }
+    ensures counts { IfOk result (λ list. (q : Setup) → RepresentsIn classes.now.set q class → ArePredecessors (RepresentsIn classes.now.set) q list.items) }
     ensures list { IfOk result (λ list. list.items ≡ predecessors classes.now.set class) }
 {
     let mut numbers = gather(room, classes, &classes.class_at(class))?;

@@ -8,7 +8,7 @@ use Rattle.dob_rank.specs.Numbers.{rank_of}
 use Rattle.dob_rank.specs.Marks.{marks_below, is_first}
 use Rattle.dob_rank.proofs.Marks.{HasClass-marks}
 pub use Rattle.dob_rank.proofs.Counted.{no_longer, one_count}
-pub use Rattle.dob_rank.proofs.Representatives.{not_before_itself, class_within, one_of_class, has_first, first_is, one_first, first_of_itself, one_class}
+pub use Rattle.dob_rank.proofs.Representatives.{not_before_itself, class_within, one_of_class, has_representative, representative_is, same_representative, represents_itself, one_class}
 use Rattle.dob_value.specs.declared.value.Value.{Value}
 use Rattle.dob_value.specs.Depths.{SameOutlook}
 use Rattle.dob_value.specs.Follows.{HasInTable}
@@ -30,8 +30,8 @@ first_outlook set p first is represents = elim represents.0 [
 pub has_entry : (set : PieceSet) (values : List Value) (p : Setup) → HasClasses set (length values) → IsPositionOf set p →
     (v : Value) × HasInTable set values p v
 has_entry set values p classes is =
-    let first = has_first set p is in
-    let represents = first_is set p first.0 is first.1 in
+    let first = has_representative set p is in
+    let represents = representative_is set p first.0 is first.1 in
     let class = marks_below (is_first set) (rank_of set first.0) in
     let number = HasClass-marks set first.0 represents.0 in
     let within : class < length values = class_within set first.0 class (length values) represents number classes in

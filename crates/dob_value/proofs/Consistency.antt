@@ -16,7 +16,7 @@ use Rattle.dob_value.specs.Depths.{SameOutlook}
 use Rattle.dob_value.proofs.Successors.{moves_keep_the_set}
 use Rattle.dob_value.specs.Follows.{HasInTable, FollowsFromSuccessors, FollowsAt, Follows, IsConsistent, ConsistentIsRight}
 use Rattle.dob_value.proofs.Depths.{won_stays}
-use Rattle.dob_value.proofs.ClassNumbers.{has_entry, one_entry, first_is, first_outlook}
+use Rattle.dob_value.proofs.ClassNumbers.{has_entry, one_entry, representative_is, first_outlook}
 
 -- the value is a win, or a loss, in at most so many plies
 abbrev pub IsWinWithin : ℕ → Value → Type 0
@@ -90,10 +90,10 @@ module _ (set : PieceSet) (values : List Value) (consistent : IsConsistent set v
   entry_follows : (p : Setup) (v : Value) → IsPositionOf set p → (has : HasInTable set values p v) →
       Follows (HasInTable set values) has.number.first v
   entry_follows p v is has =
-      consistent.follows has.number.first has.class v (first_is set p has.number.first is has.number.representative) has.number.before has.entry
+      consistent.follows has.number.first has.class v (representative_is set p has.number.first is has.number.representative) has.number.before has.entry
 
   first_member : (p : Setup) (v : Value) → IsPositionOf set p → (has : HasInTable set values p v) → IsPositionOf set has.number.first
-  first_member p v is has = (first_is set p has.number.first is has.number.representative).0
+  first_member p v is has = (representative_is set p has.number.first is has.number.representative).0
 
   outlook : (p : Setup) (v : Value) → IsPositionOf set p → (has : HasInTable set values p v) → SameOutlook p has.number.first
   outlook p v is has = first_outlook set p has.number.first is has.number.representative

@@ -19,13 +19,13 @@ use Rattle.dob_value.specs.Graphs.{AreValues}
 use Rattle.dob_value.specs.Codes.{value_of_code, values_of_codes}
 use Rattle.dob_value.specs.Follows.{IsEntry, IsValueTable}
 use Rattle.dob_value.proofs.Tables.{value_same}
-use Rattle.dob_value.proofs.ClassNumbers.{first_is, first_outlook, has_entry}
+use Rattle.dob_value.proofs.ClassNumbers.{representative_is, first_outlook, has_entry}
 
 -- a position has the outlook of what stands at its class number
 pub class_outlook : (set : PieceSet) (p first : Setup) (class classes : ℕ) → HasClasses set classes → class < classes → IsPositionOf set p →
     RepresentativeOf p first → HasClass set first class → SameOutlook p (class_setup set class)
 class_outlook set p first class classes all below is represents number =
-    subst (SameOutlook p) (class_setup_only set first class classes all below (first_is set p first is represents) number)
+    subst (SameOutlook p) (class_setup_only set first class classes all below (representative_is set p first is represents) number)
     (first_outlook set p first is represents)
 
 -- ---- tables in the order of the row

@@ -1,50 +1,16 @@
 -- The table has the bit of each cell's layer, and none for an empty cell.
-use Rattle.std.proofs.Common.{◌≡◌, ◌≤◌, ℕ, Some, None, refl, subst, sym, ◌∙◌, arith}
-use Rattle.dob_pieces.specs.declared.kind.Kind.{Kind}
-use Rattle.dob_pieces.specs.declared.kind.Kind.TheVariants.{Lion, Giraffe, Elephant, Chick, Hen}
-use Rattle.dob_pieces.specs.declared.kind.Side.{Side}
-use Rattle.dob_pieces.specs.declared.kind.Side.TheVariants.{Mover, Enemy}
+use Rattle.std.proofs.Common.{◌≡◌, ◌≤◌, ℕ, refl, subst, sym, ◌∙◌, arith}
 use Rattle.dob_pieces.specs.Masks.{entry_of}
-use Rattle.dob_pieces.specs.Setups.{Cell, piece_of}
 use Rattle.dob_rank.specs.declared.masks.TheConstants.{PLANES, GIRAFFES_PLANE}
-use Rattle.dob_rank.specs.Numbers.{order, layer, layer_of}
+use Rattle.dob_rank.specs.Numbers.{layer}
 use Rattle.dob_rank.specs.Masks.{plane}
+use Rattle.dob_rank.proofs.EachCell.{of_cell}
 use Rattle.dob_rank.proofs.masks.plane_of.Goals as goal
 
-of_piece : (side : Side) (kind : Kind) → entry_of PLANES (Some (piece_of side kind)) ≡ plane (order (layer_of side kind))
-of_piece Mover Lion = refl
-of_piece Mover Giraffe = refl
-of_piece Mover Elephant = refl
-of_piece Mover Chick = refl
-of_piece Mover Hen = refl
-of_piece Enemy Lion = refl
-of_piece Enemy Giraffe = refl
-of_piece Enemy Elephant = refl
-of_piece Enemy Chick = refl
-of_piece Enemy Hen = refl
-
-of_cell : (cell : Cell) → entry_of PLANES cell ≡ plane (layer cell)
-of_cell None = refl
-of_cell (Some found) = of_piece found.side found.kind
-
-small_piece : (side : Side) (kind : Kind) → entry_of PLANES (Some (piece_of side kind)) ≤ GIRAFFES_PLANE
-small_piece Mover Lion = omega arith
-small_piece Mover Giraffe = omega arith
-small_piece Mover Elephant = omega arith
-small_piece Mover Chick = omega arith
-small_piece Mover Hen = omega arith
-small_piece Enemy Lion = omega arith
-small_piece Enemy Giraffe = omega arith
-small_piece Enemy Elephant = omega arith
-small_piece Enemy Chick = omega arith
-small_piece Enemy Hen = omega arith
-
-small_cell : (cell : Cell) → entry_of PLANES cell ≤ GIRAFFES_PLANE
-small_cell None = omega arith
-small_cell (Some found) = small_piece found.side found.kind
-
 pub returns-clause-value : goal.returns-clause-value
-returns-clause-value c = c.entry_of.ensures ∙ of_cell c.args.cell
+returns-clause-value c = c.entry_of.ensures
+    ∙ of_cell (λ cell. entry_of PLANES cell ≡ plane (layer cell)) refl (refl, refl, refl, refl, refl) (refl, refl, refl, refl, refl) c.args.cell
 
 pub returns-clause-bound : goal.returns-clause-bound
-returns-clause-bound c = subst (λ (n : ℕ). n ≤ GIRAFFES_PLANE) (sym c.entry_of.ensures) (small_cell c.args.cell)
+returns-clause-bound c = subst (λ (n : ℕ). n ≤ GIRAFFES_PLANE) (sym c.entry_of.ensures) (of_cell (λ cell. entry_of PLANES cell ≤ GIRAFFES_PLANE) (omega arith)
+    (omega arith, omega arith, omega arith, omega arith, omega arith) (omega arith, omega arith, omega arith, omega arith, omega arith) c.args.cell)

@@ -1,7 +1,7 @@
 -- The position before the move is the one that was asked for.
 use Rattle.std.proofs.Common.{sym, ◌∙◌}
 use Rattle.dob_unmove.specs.Undoes.{earlier}
-use Rattle.dob_unmove.specs.Classes.{IsFirstIn}
+use Rattle.dob_unmove.specs.Classes.{RepresentsIn}
 use Rattle.dob_unmove.proofs.Classes.{IsNumbering-classes}
 use Rattle.dob_unmove.proofs.Gathering.{finds_none, finds_from}
 use Rattle.dob_unmove.proofs.Kept.{legal_turned, position_before}
@@ -23,14 +23,14 @@ open_before-requires-clause-legal c = legal_turned c.args.classes.now.set c.args
 
 pub returns-in-None : goal.returns-in-None
 returns-in-None c =
-    finds_none (IsFirstIn c.args.classes.now.set) (earlier c.args.after.now c.args.undo) (IsNumbering-classes c.args.classes.now.set) c.in-None.ensures
+    finds_none (RepresentsIn c.args.classes.now.set) (earlier c.args.after.now c.args.undo) (IsNumbering-classes c.args.classes.now.set) c.in-None.ensures
 
-pub class_of_first-requires : goal.class_of_first-requires
-class_of_first-requires c =
+pub class_if_representative-requires : goal.class_if_representative-requires
+class_if_representative-requires c =
     let p = c.in-Some.position in
     position_before c.args.classes.now.set c.args.after.now p.setup c.args.undo c.requires.can c.requires.of_set c.in-Some.ensures.0 p.legal
 
 pub returns-in-Some : goal.returns-in-Some
 returns-in-Some c =
-    finds_from (IsFirstIn c.args.classes.now.set) c.in-Some.position.setup (earlier c.args.after.now c.args.undo)
-    c.class_of_first.result c.in-Some.ensures.0 c.in-Some.ensures.1 c.class_of_first.ensures
+    finds_from (RepresentsIn c.args.classes.now.set) c.in-Some.position.setup (earlier c.args.after.now c.args.undo)
+    c.class_if_representative.result c.in-Some.ensures.0 c.in-Some.ensures.1 c.class_if_representative.ensures

@@ -3,21 +3,21 @@ use Rattle.std.proofs.Common.{true≢false, sym, ap, ◌∙◌, subst}
 use Rattle.dob_pieces.specs.declared.setup.Setup.{Setup}
 use Rattle.dob_pieces.specs.Masks.{AreMasks}
 use Rattle.dob_pieces.specs.Setups.{mirrored}
-use Rattle.dob_unmove.specs.Classes.{IsFirstIn}
+use Rattle.dob_unmove.specs.Classes.{RepresentsIn}
 use Rattle.dob_unmove.proofs.Classes.{IsNumbering-classes}
 use Rattle.dob_unmove.proofs.Gathering.{alone_found, both_found}
 use Rattle.dob_unmove.proofs.Kept.{turned_legal, turned_position}
 use Rattle.dob_unmove.proofs.predecessors.gather.Goals as goal
 
 pub of-ways-requires : goal.of-ways-requires
-of-ways-requires c = (c.args.first.now.setup, c.args.first.now.legal, c.turned-after.ensures)
+of-ways-requires c = (c.args.representative.now.setup, c.args.representative.now.legal, c.turned-after.ensures)
 
 pub gather_all-requires : goal.gather_all-requires
-gather_all-requires c = record { of_set = (c.args.first.now.setup, c.requires.1.0.0, c.turned-after.ensures); ways_are = c.of-ways.ensures }
+gather_all-requires c = record { of_set = (c.args.representative.now.setup, c.requires.1.0.0, c.turned-after.ensures); ways_are = c.of-ways.ensures }
 
 pub by-image_ways-requires-clause-legal : goal.by-image_ways-requires-clause-legal
 by-image_ways-requires-clause-legal c =
-    turned_legal c.args.first.now.setup c.mirrored-image.result c.args.first.now.legal (c.mirrored-image.ensures ∙ ap mirrored c.turned-after.ensures)
+    turned_legal c.args.representative.now.setup c.mirrored-image.result c.args.representative.now.legal (c.mirrored-image.ensures ∙ ap mirrored c.turned-after.ensures)
 
 pub by-image_ways-requires-clause-masks : goal.by-image_ways-requires-clause-masks
 by-image_ways-requires-clause-masks c =
@@ -27,26 +27,26 @@ by-image_ways-requires-clause-masks c =
 pub gather_all-requires-2 : goal.gather_all-requires-2
 gather_all-requires-2 c = record {
   of_set =
-      turned_position c.args.classes.now.set c.args.first.now.setup c.mirrored-image.result c.requires.1.0.0
+      turned_position c.args.classes.now.set c.args.representative.now.setup c.mirrored-image.result c.requires.1.0.0
       (c.mirrored-image.ensures ∙ ap mirrored c.turned-after.ensures);
   ways_are = c.by-image_ways.ensures;
 }
 
 pub returns-then-is_own_image : goal.returns-then-is_own_image
 returns-then-is_own_image c =
-    let first = IsFirstIn c.args.classes.now.set in
+    let first = RepresentsIn c.args.classes.now.set in
     let n = IsNumbering-classes c.args.classes.now.set in
-    let q = c.args.first.now.setup in
-    alone_found first n q c.turned-after.result _ c.gather_all.new.found.items c.args.first.now.legal
+    let q = c.args.representative.now.setup in
+    alone_found first n q c.turned-after.result _ c.gather_all.new.found.items c.args.representative.now.legal
     (c.is_own_image.ensures.0 c.if-is_own_image.true) c.turned-after.ensures
     c.clear.ensures.items c.in_ok-gather_all.ensures
 
 pub returns : goal.returns
 returns c =
-    let first = IsFirstIn c.args.classes.now.set in
+    let first = RepresentsIn c.args.classes.now.set in
     let n = IsNumbering-classes c.args.classes.now.set in
-    let q = c.args.first.now.setup in
-    both_found first n q c.turned-after.result c.mirrored-image.result _ c.gather_all.new.found.items c.gather_all-2.new.found.items c.args.first.now.legal
+    let q = c.args.representative.now.setup in
+    both_found first n q c.turned-after.result c.mirrored-image.result _ c.gather_all.new.found.items c.gather_all-2.new.found.items c.args.representative.now.legal
     (λ own. true≢false (sym (c.is_own_image.ensures.1 own) ∙ c.if-is_own_image.false))
     c.turned-after.ensures (c.mirrored-image.ensures ∙ ap mirrored c.turned-after.ensures) c.clear.ensures.items c.in_ok-gather_all.ensures
     c.in_ok-gather_all-2.ensures

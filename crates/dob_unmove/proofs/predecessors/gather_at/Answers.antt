@@ -2,7 +2,7 @@
 use Rattle.std.proofs.Common.{◌&&◌, sym, ap, ◌∙◌}
 use Rattle.dob_pieces.specs.declared.kind.Side.{Side}
 use Rattle.dob_pieces.specs.Setups.{Cell}
-use Rattle.dob_unmove.specs.Classes.{IsFirstIn}
+use Rattle.dob_unmove.specs.Classes.{RepresentsIn}
 use Rattle.dob_unmove.specs.Walks.{is_kind, is_movers, stands}
 use Rattle.dob_unmove.proofs.Gathered.{gathers_none}
 use Rattle.dob_unmove.proofs.Standing.{ways_of_none, gathers_same}
@@ -10,14 +10,14 @@ use Rattle.dob_unmove.proofs.predecessors.gather_at.Goals as goal
 
 pub returns-in_default : goal.returns-in_default
 returns-in_default c =
-    let first = IsFirstIn c.args.classes.now.set in
+    let first = RepresentsIn c.args.classes.now.set in
     gathers_same first c.args.after.now _ _ c.args.found.now.items c.args.found.now.items
     (ways_of_none c.args.after.now c.args.to (λ kind. ap (λ (cell : Cell). stands cell kind) (sym c.at.ensures ∙ c.in_default.is)))
     (gathers_none first c.args.after.now c.args.found.now.items)
 
 pub returns-in-Enemy : goal.returns-in-Enemy
 returns-in-Enemy c =
-    let first = IsFirstIn c.args.classes.now.set in
+    let first = RepresentsIn c.args.classes.now.set in
     gathers_same first c.args.after.now _ _ c.args.found.now.items c.args.found.now.items
     (ways_of_none c.args.after.now c.args.to
     (λ kind. ap (λ (cell : Cell). stands cell kind) (sym c.at.ensures ∙ c.in-Some.is)

@@ -1,6 +1,6 @@
 -- A position of the set is a representative exactly where it is the earlier of its two.
 use Rattle.dob_unmove.proofs.Classes.{first_of_two}
-use Rattle.dob_unmove.proofs.plain.class_of_first.Goals as goal
+use Rattle.dob_unmove.proofs.plain.class_if_representative.Goals as goal
 
 pub returns : goal.returns
 returns c =
