@@ -18,12 +18,12 @@ of_cell Holds empty mover enemy (Some found) = of_piece found.side found.kind
   where
     of_piece : (side : Side) (kind : Kind) → Holds (Some (piece_of side kind))
     of_piece Mover Lion = mover.0
-    of_piece Mover Giraffe = mover.1.0
-    of_piece Mover Elephant = mover.1.1.0
-    of_piece Mover Chick = mover.1.1.1.0
-    of_piece Mover Hen = mover.1.1.1.1
+    of_piece Mover Giraffe = mover.1
+    of_piece Mover Elephant = mover.2
+    of_piece Mover Chick = mover.3
+    of_piece Mover Hen = mover.4
     of_piece Enemy Lion = enemy.0
-    of_piece Enemy Giraffe = enemy.1.0
-    of_piece Enemy Elephant = enemy.1.1.0
-    of_piece Enemy Chick = enemy.1.1.1.0
-    of_piece Enemy Hen = enemy.1.1.1.1
+    of_piece Enemy Giraffe = enemy.1
+    of_piece Enemy Elephant = enemy.2
+    of_piece Enemy Chick = enemy.3
+    of_piece Enemy Hen = enemy.4

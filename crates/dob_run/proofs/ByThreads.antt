@@ -23,7 +23,7 @@ use Rattle.dob_run.specs.Turned.{IsTurned, AreUnfailed, IsFirstFailed, HasLeft, 
 use Rattle.dob_run.specs.Turns.{Ends, HasRun}
 use Rattle.dob_run.proofs.Leaving.{for_kept, turned_is}
 use Rattle.dob_run.proofs.Manned.{zip_at, crew_low, crew_kept}
-use Rattle.dob_run.proofs.Refusals.{stops_so}
+use Rattle.dob_run.proofs.RunFaults.{stops_so}
 use Rattle.dob_run.proofs.Threaded.{all_kept}
 
 module _ (until : Until) (set : PieceSet) (n size capacity : ℕ) (board : Board) (ended : List Runner) (ran : HasRun until set n size capacity board ended) where

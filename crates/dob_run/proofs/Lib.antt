@@ -14,7 +14,7 @@ pub mod Openings
 pub mod Parting
 pub mod Places
 pub mod Planned
-pub mod Refusals
+pub mod RunFaults
 pub mod Rejoining
 pub mod Scanned
 pub mod Seated

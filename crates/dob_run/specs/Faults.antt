@@ -1,4 +1,4 @@
--- What each refusal of a run by threads is called.
+-- What each fault of a run by threads is called.
 use Rattle.std.specs.Prelude.{ℕ, List, ◌++◌, codes}
 use Rattle.std.specs.Fmt.{decimal}
 use Rattle.dob_pieces.specs.Faults.{memory_text}
@@ -10,7 +10,7 @@ use Rattle.dob_board.specs.declared.fault.Fault.TheVariants as board
 use Rattle.dob_run.specs.declared.fault.Fault.{Fault}
 use Rattle.dob_run.specs.declared.fault.Fault.TheVariants.{SetTooLarge, Nodes, Sizes, Stopped, Memory}
 
--- the refusal's number and name, and of a stopped node which one and why
+-- the fault's number and name, and of a stopped node which one and why
 abbrev pub fault_text : Fault → List ℕ
 fault_text SetTooLarge = rank_texts.fault_text rank.SetTooLarge
 fault_text Nodes = board_texts.fault_text board.Nodes

@@ -78,7 +78,7 @@ IsFirstFailed runners Nodes = ⊥
 IsFirstFailed runners Sizes = ⊥
 IsFirstFailed runners Memory = ⊥
 
--- A new crew's runners made turns, and the refusal names what stopped them.
+-- A new crew's runners made turns, and the fault names what stopped them.
 pub record HasStopped (Names : List Runner → Fault → Type 0) (set : PieceSet) (n size capacity : ℕ) (fault : Fault) : Type 0 where
   pub board : Board
   pub old : List Runner

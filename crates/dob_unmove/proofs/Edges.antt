@@ -2,6 +2,7 @@
 use Rattle.std.proofs.Common.{◌≡◌, ℕ, ◌<◌, ◌≤◌, ◌⊎◌, Bool, true, false, cond, List, [], ◌∷◌, refl, sym, ap, ◌∙◌, subst, inl, inr, arith, All, AllPairs}
 use Rattle.std.proofs.Common.{Contains}
 use Rattle.std.specs.List.{count_by, filter}
+use Rattle.std.specs.List.Sorted.{IsPermutation, IsNonDecreasingBy}
 use Rattle.std.proofs.lemmas.Bool.{cases_lt, eqb-true, eq-eqb}
 use Rattle.std.proofs.lemmas.List.Elements.{All-contains, All-weaker, All-filter, All-contains_itself, Contains-append_right, filter_passes}
 use Rattle.std.proofs.lemmas.List.Kept.{AllPairs-filter}
@@ -28,6 +29,7 @@ use Rattle.dob_rank.proofs.Representatives.{class_setup_is}
 use Rattle.dob_unmove.specs.Unmoves.{LeadsInto, HasEdges, CountEdges, ArePredecessors}
 use Rattle.dob_unmove.specs.Edges.{leads_into, edges, predecessors}
 use Rattle.dob_unmove.proofs.Classes.{IsNumbering-classes}
+use Rattle.dob_unmove.proofs.Gathering.{sorted_counts}
 use Rattle.dob_unmove.proofs.Ascending.{times, ascending_same, each-below, each-ascends, times-each, times-absent}
 
 -- ---- class numbers
@@ -184,3 +186,18 @@ module _ (set : PieceSet) (q : Setup) (class : ℕ) (is_q : RepresentsIn set q c
   pub same_predecessors : (xs : List ℕ) → ArePredecessors (RepresentsIn set) q xs → xs ≡ predecessors set class
   same_predecessors xs are =
       ascending_same xs (predecessors set class) are.ascending predecessors-ascends (same_times xs are.counts)
+
+-- ---- numbers that count the moves into the representative, once they are sorted
+
+module _ (set : PieceSet) (class : ℕ) (representative : Setup) (numbers sorted : List ℕ) (is : RepresentsIn set representative class)
+    (counts : CountEdges (RepresentsIn set) representative numbers) (moved : IsPermutation numbers sorted)
+    (rises : IsNonDecreasingBy (λ (x : ℕ). x) sorted) where
+  pub sorted_predecessors : (q : Setup) → RepresentsIn set q class → ArePredecessors (RepresentsIn set) q sorted
+  sorted_predecessors q is_q =
+      let same = (IsNumbering-classes set).one_represents representative q class is is_q in
+      sorted_counts (RepresentsIn set) q numbers sorted (subst (λ (p : Setup). CountEdges (RepresentsIn set) p numbers) same counts) moved rises
+
+  pub sorted_list : class < classes_of set → sorted ≡ predecessors set class
+  sorted_list below =
+      let is_q = RepresentsIn-class_setup set class below in
+      same_predecessors set (class_setup set class) class is_q sorted (sorted_predecessors (class_setup set class) is_q)

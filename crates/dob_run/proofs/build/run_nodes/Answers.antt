@@ -3,7 +3,7 @@ use Rattle.dob_run.specs.Finishing.{IsFailureOf}
 use Rattle.dob_run.specs.Refused.{IsRefused}
 use Rattle.dob_run.specs.Turned.{StopsSo}
 use Rattle.dob_run.proofs.ByThreads.{still_crew, have_stopped, is_built, is_within, is_refused, is_stopped}
-use Rattle.dob_run.proofs.Refusals.{handed_on, unbegun_refused, unbegun_stops}
+use Rattle.dob_run.proofs.RunFaults.{handed_on, unbegun_refused, unbegun_stops}
 use Rattle.dob_run.proofs.build.run_nodes.Goals as goal
 
 pub returns-in_err-board-clause-refused : goal.returns-in_err-board-clause-refused

@@ -1,4 +1,4 @@
-use Rattle.dob_run.proofs.Refusals.{outside_none}
+use Rattle.dob_run.proofs.RunFaults.{outside_none}
 use Rattle.dob_run.proofs.crews.crew.Goals as goal
 
 pub returns-in-Some-clause-refused : goal.returns-in-Some-clause-refused

@@ -1,5 +1,5 @@
 use Rattle.std.proofs.Common.{arith}
-use Rattle.dob_run.proofs.Refusals.{outside_none, none_begun}
+use Rattle.dob_run.proofs.RunFaults.{outside_none, none_begun}
 use Rattle.dob_run.proofs.limits.classes_within.Goals as goal
 
 pub returns-in-Some-clause-refused : goal.returns-in-Some-clause-refused

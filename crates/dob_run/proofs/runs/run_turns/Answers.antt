@@ -4,7 +4,7 @@ use Rattle.dob_run.specs.declared.turns.Until.TheVariants.{Turns}
 use Rattle.dob_run.specs.Refused.{IsRefused}
 use Rattle.dob_run.specs.Turned.{AreUnfailed, IsFirstFailed, StopsSo}
 use Rattle.dob_run.proofs.ByThreads.{still_crew, first_refused, first_stops, has_turned}
-use Rattle.dob_run.proofs.Refusals.{handed_on, unbegun_refused, unbegun_stops}
+use Rattle.dob_run.proofs.RunFaults.{handed_on, unbegun_refused, unbegun_stops}
 use Rattle.dob_run.proofs.runs.run_turns.Goals as goal
 
 pub returns-in_err-board-clause-refused : goal.returns-in_err-board-clause-refused

@@ -1,4 +1,4 @@
--- Refusals, from the ones that limits give to the ones that a crew gives.
+-- Faults, from the ones that limits give to the ones that a crew gives.
 use Rattle.std.proofs.Common.{◌≡◌, ℕ, List, Result, sym, subst}
 use Rattle.std.specs.Prelude.{IfErr}
 use Rattle.std.specs.Result.{IsErrAnd}
