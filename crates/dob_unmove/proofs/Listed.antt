@@ -11,6 +11,7 @@ use Rattle.dob_pieces.specs.declared.kind.Side.{Side}
 use Rattle.dob_pieces.specs.declared.kind.Side.TheVariants.{Mover, Enemy}
 use Rattle.dob_pieces.specs.declared.hand.Hand.{Hand}
 use Rattle.dob_pieces.specs.declared.setup.Setup.{Setup}
+use Rattle.dob_pieces.specs.Masks.{is_kind}
 use Rattle.dob_pieces.specs.Pieces.{leads, kind_in_hand, kind_on_board}
 use Rattle.dob_pieces.specs.Setups.{Cell, at, held, piece_of}
 use Rattle.dob_pieces.proofs.Lists.{none_in_empty, head_in, cons_cases, cond_sound, cond_whole, each_sound, each_whole}
@@ -18,7 +19,7 @@ use Rattle.dob_pieces.proofs.Boards.{within-from_piece, leads-to_board}
 use Rattle.dob_unmove.specs.declared.undo.Undo.{Undo}
 use Rattle.dob_unmove.specs.declared.undo.Undo.TheVariants.{Unstep, Unput}
 use Rattle.dob_unmove.specs.Undoes.{arrives_at, CanGiveBack, CanUnstep, CanUndo}
-use Rattle.dob_unmove.specs.Walks.{if_so, is_kind, is_movers, stands, holds_any, holds_caught, uncatch, unsteps_between, unsteps_from, unsteps, unputs}
+use Rattle.dob_unmove.specs.Walks.{if_so, is_movers, stands, holds_any, holds_caught, uncatch, unsteps_between, unsteps_from, unsteps, unputs}
 use Rattle.dob_unmove.specs.Walks.{undoes_at, undoes}
 
 -- ---- the tests

@@ -7,6 +7,7 @@ use Rattle.dob_pieces.specs.declared.kind.HandKind.TheVariants as hand
 use Rattle.dob_pieces.specs.declared.kind.Side.TheVariants.{Mover}
 use Rattle.dob_pieces.specs.declared.setup.Setup.{Setup}
 use Rattle.dob_pieces.specs.Lists.{each_below}
+use Rattle.dob_pieces.specs.Masks.{is_kind}
 use Rattle.dob_pieces.specs.Pieces.{kind_on_board}
 use Rattle.dob_pieces.specs.Setups.{Cell, at, piece_of}
 use Rattle.dob_pieces.specs.Squares.{row}
@@ -14,7 +15,7 @@ use Rattle.dob_unmove.specs.declared.undo.Undo.{Undo}
 use Rattle.dob_unmove.specs.declared.undo.Undo.TheVariants.{Unput}
 use Rattle.dob_unmove.specs.Gathers.{Gathers}
 use Rattle.dob_unmove.specs.Undoes.{arrives_at}
-use Rattle.dob_unmove.specs.Walks.{is_kind, stands, if_so, unsteps_from, unsteps, unputs, undoes_at}
+use Rattle.dob_unmove.specs.Walks.{stands, if_so, unsteps_from, unsteps, unputs, undoes_at}
 use Rattle.dob_unmove.proofs.Gathered.{gathers_append}
 use Rattle.dob_unmove.proofs.Listed.{stands-from}
 

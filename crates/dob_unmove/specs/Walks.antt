@@ -10,6 +10,7 @@ use Rattle.dob_pieces.specs.declared.kind.Side.TheVariants.{Mover, Enemy}
 use Rattle.dob_pieces.specs.declared.hand.Hand.{Hand}
 use Rattle.dob_pieces.specs.declared.setup.Setup.{Setup}
 use Rattle.dob_pieces.specs.Lists.{each_below}
+use Rattle.dob_pieces.specs.Masks.{is_kind}
 use Rattle.dob_pieces.specs.Pieces.{leads, kind_in_hand, kind_on_board}
 use Rattle.dob_pieces.specs.Setups.{Cell, at, held}
 use Rattle.dob_unmove.specs.declared.undo.Undo.{Undo}
@@ -24,14 +25,6 @@ TakesAll {S} R old (undo ∷ undoes) new = (next : S) × R old undo next × Take
 -- the way alone, if the test is met
 abbrev pub if_so : Bool → Undo → List Undo
 if_so test undo = cond test (undo ∷ []) []
-
-abbrev pub is_kind : Kind → Kind → Bool
-is_kind Lion Lion = true
-is_kind Giraffe Giraffe = true
-is_kind Elephant Elephant = true
-is_kind Chick Chick = true
-is_kind Hen Hen = true
-is_kind _ _ = false
 
 abbrev pub is_movers : Side → Bool
 is_movers Mover = true

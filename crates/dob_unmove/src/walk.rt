@@ -2,11 +2,12 @@
 ghost use Rattle.std.specs.Prelude.{◌≡◌, true};
 ghost use Rattle.std.specs.Result.{OnOk};
 ghost use Rattle.dob_pieces.specs.declared.setup.Setup.{Setup};
+ghost use Rattle.dob_pieces.specs.Masks.{is_kind};
 ghost use Rattle.dob_pieces.specs.Pieces.{leads};
 ghost use Rattle.dob_pieces.specs.Setups.{at};
 ghost use Rattle.dob_unmove.specs.declared.undo.Undo.{Undo};
 ghost use Rattle.dob_unmove.specs.Undoes.{arrives_at, CanUndo};
-ghost use Rattle.dob_unmove.specs.Walks.{TakesAll, stands, is_kind, holds_caught, uncatch, unsteps_from, unsteps, unputs, undoes_at, undoes};
+ghost use Rattle.dob_unmove.specs.Walks.{TakesAll, stands, holds_caught, uncatch, unsteps_from, unsteps, unputs, undoes_at, undoes};
 
 use crate::undo::Undo;
 use dob_pieces::{Hand, HandKind, Kind, Memory, Piece, Setup, Side, Square};

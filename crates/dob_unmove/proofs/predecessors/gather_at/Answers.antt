@@ -1,9 +1,10 @@
 -- nothing where no piece of the mover stands
 use Rattle.std.proofs.Common.{◌&&◌, sym, ap, ◌∙◌}
 use Rattle.dob_pieces.specs.declared.kind.Side.{Side}
+use Rattle.dob_pieces.specs.Masks.{is_kind}
 use Rattle.dob_pieces.specs.Setups.{Cell}
 use Rattle.dob_unmove.specs.Classes.{RepresentsIn}
-use Rattle.dob_unmove.specs.Walks.{is_kind, is_movers, stands}
+use Rattle.dob_unmove.specs.Walks.{is_movers, stands}
 use Rattle.dob_unmove.proofs.Gathered.{gathers_none}
 use Rattle.dob_unmove.proofs.Standing.{ways_of_none, gathers_same}
 use Rattle.dob_unmove.proofs.predecessors.gather_at.Goals as goal
