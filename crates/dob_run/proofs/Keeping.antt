@@ -128,17 +128,6 @@ mail_trans a b c one two = record {
 
 -- ---- halts
 
-pub same_halt : (a b : Halt) → halt_word a ≡ halt_word b → a ≡ b
-same_halt Running Running e = refl
-same_halt Running Ended e = absurd (omega (arith, e))
-same_halt Running (Failed j) e = absurd (omega (arith, e))
-same_halt Ended Running e = absurd (omega (arith, e))
-same_halt Ended Ended e = refl
-same_halt Ended (Failed j) e = absurd (omega (arith, e))
-same_halt (Failed i) Running e = absurd (omega (arith, e))
-same_halt (Failed i) Ended e = absurd (omega (arith, e))
-same_halt (Failed i) (Failed j) e = ap Failed (omega (arith, e))
-
 -- a seat that knew a halt knew the end, where it finds the end
 pub ended_before : (old new : Halt) → (old ≢ Running → new ≡ old) → new ≡ Ended → (old ≡ Running) ⊎ (old ≡ Ended)
 ended_before Running new stays ended = inl refl

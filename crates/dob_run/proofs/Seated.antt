@@ -10,6 +10,7 @@ use Rattle.dob_board.specs.declared.view.Stand.{Stand}
 use Rattle.dob_board.specs.Rule.{fresh}
 use Rattle.dob_board.specs.declared.halt.Halt.TheVariants.{Running}
 use Rattle.dob_board.specs.Seats.{AreSeats, IsSeatOf, stand_of}
+use Rattle.dob_board.proofs.Halting.{same_halt}
 use Rattle.dob_chan.specs.Ends.{ArePaired}
 use Rattle.dob_run.specs.declared.hands.Outlet.{Outlet}
 use Rattle.dob_run.specs.declared.hands.Inlet.{Inlet}
@@ -21,7 +22,6 @@ use Rattle.dob_run.specs.Laid.{IsLaid, AreLaid}
 use Rattle.dob_run.specs.Closing.{AreLinked, seat_in}
 use Rattle.dob_run.specs.Opening.{AreNewMails}
 use Rattle.dob_run.specs.Seating.{CanSeat, CanSeatAll, IsSeated, AreSeated}
-use Rattle.dob_run.proofs.Keeping.{same_halt}
 use Rattle.dob_run.proofs.Places.{each_more, none_at, inside, one_thing, get_map, map_got, some_at, next_is, then_left, gone_all}
 
 -- So many seats have their mails, and these seats, rows and columns are left.

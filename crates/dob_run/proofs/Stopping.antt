@@ -14,6 +14,7 @@ use Rattle.dob_board.specs.declared.board.Closed.{Closed}
 use Rattle.dob_board.specs.declared.halt.Halt.TheVariants.{Running, Ended, Failed}
 use Rattle.dob_board.specs.Words.{posted_word, halt_word}
 use Rattle.dob_board.specs.Seats.{AreWords}
+use Rattle.dob_board.proofs.Halting.{same_halt}
 use Rattle.dob_chan.specs.declared.calls.Rejoined.{Rejoined}
 use Rattle.dob_chan.specs.Ends.{sent_by, taken_by}
 use Rattle.dob_node.specs.declared.cause.Cause.{Cause}
@@ -38,7 +39,6 @@ use Rattle.dob_run.specs.Built.{needed, IsDone, IsBuilt}
 use Rattle.dob_run.specs.Finished.{AreJoinedBy, AreFinished, AreShown}
 use Rattle.dob_run.specs.Finishing.{HaveStopped, IsFailure, IsFailureOf, failed_of, IsOwner, AreOwners, AreShownBelow}
 use Rattle.dob_run.proofs.Finished.{nothing_of, finished_right}
-use Rattle.dob_run.proofs.Keeping.{same_halt}
 use Rattle.dob_run.proofs.Manned.{seat_there, are_linked, seat_at, crew_many, crew_low, outlet_at, inlet_at}
 use Rattle.dob_run.proofs.Needed.{needed_fits}
 use Rattle.dob_run.proofs.Openings.{some_openings}
