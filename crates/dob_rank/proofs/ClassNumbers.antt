@@ -154,7 +154,8 @@ pub record IsAtClass (set : PieceSet) (s : Setup) (class : ℕ) : Type 0 where
   pub number_is : class_number set s ≡ class
 
 -- a representative's class number is the number of marks below its rank
-pub class_number-representative : (set : PieceSet) (s : Setup) → IsPositionOf set s → IsFirstOfTwo s → class_number set s ≡ marks_below (marked set) (rank_of set s)
+pub class_number-representative : (set : PieceSet) (s : Setup) → IsPositionOf set s → IsFirstOfTwo s
+    → class_number set s ≡ marks_below (marked set) (rank_of set s)
 class_number-representative set s p first =
     class_number-is set s ∙ ap (marks_below (marked set))
     (elim (cases_lt (rank_of set (mirrored s)) (rank_of set s)) [

@@ -125,10 +125,12 @@ lion_only (suc l ∷ ls) (suc k) h e =
 -- ---- layers and the tests of the key
 
 pub holds_mover_lion : (cell : Cell) → holds_lion Mover cell ≡ eqb (layer cell) (order OwnLion)
-holds_mover_lion = of_cell (λ cell. holds_lion Mover cell ≡ eqb (layer cell) (order OwnLion)) refl (refl, refl, refl, refl, refl) (refl, refl, refl, refl, refl)
+holds_mover_lion = of_cell (λ cell. holds_lion Mover cell ≡ eqb (layer cell) (order OwnLion)) refl
+    (refl, refl, refl, refl, refl) (refl, refl, refl, refl, refl)
 
 pub holds_enemy_lion : (cell : Cell) → holds_lion Enemy cell ≡ eqb (layer cell) (order EnemyLion)
-holds_enemy_lion = of_cell (λ cell. holds_lion Enemy cell ≡ eqb (layer cell) (order EnemyLion)) refl (refl, refl, refl, refl, refl) (refl, refl, refl, refl, refl)
+holds_enemy_lion = of_cell (λ cell. holds_lion Enemy cell ≡ eqb (layer cell) (order EnemyLion)) refl
+    (refl, refl, refl, refl, refl) (refl, refl, refl, refl, refl)
 
 -- the layer of a kind of piece that can lie in a hand
 abbrev pub layer_of_kind : HandKind → ℕ
@@ -137,9 +139,12 @@ layer_of_kind hand.Elephant = order Elephants
 layer_of_kind hand.Giraffe = order Giraffes
 
 pub holds_kind-layer : (kind : HandKind) (cell : Cell) → holds_kind kind cell ≡ eqb (layer cell) (layer_of_kind kind)
-holds_kind-layer hand.Chick = of_cell (λ cell. holds_kind hand.Chick cell ≡ eqb (layer cell) (order Chicks)) refl (refl, refl, refl, refl, refl) (refl, refl, refl, refl, refl)
-holds_kind-layer hand.Elephant = of_cell (λ cell. holds_kind hand.Elephant cell ≡ eqb (layer cell) (order Elephants)) refl (refl, refl, refl, refl, refl) (refl, refl, refl, refl, refl)
-holds_kind-layer hand.Giraffe = of_cell (λ cell. holds_kind hand.Giraffe cell ≡ eqb (layer cell) (order Giraffes)) refl (refl, refl, refl, refl, refl) (refl, refl, refl, refl, refl)
+holds_kind-layer hand.Chick = of_cell (λ cell. holds_kind hand.Chick cell ≡ eqb (layer cell) (order Chicks)) refl
+    (refl, refl, refl, refl, refl) (refl, refl, refl, refl, refl)
+holds_kind-layer hand.Elephant = of_cell (λ cell. holds_kind hand.Elephant cell ≡ eqb (layer cell) (order Elephants)) refl
+    (refl, refl, refl, refl, refl) (refl, refl, refl, refl, refl)
+holds_kind-layer hand.Giraffe = of_cell (λ cell. holds_kind hand.Giraffe cell ≡ eqb (layer cell) (order Giraffes)) refl
+    (refl, refl, refl, refl, refl) (refl, refl, refl, refl, refl)
 
 -- what passes a test that tells a layer is as many as the layer has, on the squares of the layer
 pub count-layer : (test : Cell → Bool) (t : ℕ) → ((cell : Cell) → test cell ≡ eqb (layer cell) t)

@@ -193,8 +193,9 @@ IsRun-new set block run before entry words before_is kind_is = record {
         )
 
 -- one more run
-pub AreRuns-push : (set : PieceSet) (block run before word : ℕ) (kind : RunKind) (runs news : List Run) (words longer : List Word) → AreRuns set block run runs words →
-    before ≡ marks_below (marked set) (run_start set block run) → kind ≡ run_kind (run % lion_pairs) → word ≡ length words → longer ≡ words ++ kept_words set block run →
+pub AreRuns-push : (set : PieceSet) (block run before word : ℕ) (kind : RunKind) (runs news : List Run) (words longer : List Word) →
+    AreRuns set block run runs words → before ≡ marks_below (marked set) (run_start set block run) → kind ≡ run_kind (run % lion_pairs) →
+    word ≡ length words → longer ≡ words ++ kept_words set block run →
     news ≡ runs ++ make_run before word kind ∷ [] → AreRuns set block (run + 1) news longer
 AreRuns-push set block run before word kind runs news words longer are before_is kind_is word_is longer_is news_are =
     subst (λ ws. AreRuns set block (run + 1) news ws) (sym longer_is)
@@ -207,7 +208,8 @@ AreRuns-push set block run before word kind runs news words longer are before_is
             (IsRun-more set block k words (kept_words set block run) _ (are.each k other earlier))
         | inr later ↦
             let same : k ≡ run = omega arith in
-            subst (λ n. IsRun set block n (words ++ kept_words set block run) (slice_index_or (runs ++ make_run before (length words) kind ∷ []) n other)) (sym same)
+            subst (λ n. IsRun set block n (words ++ kept_words set block run)
+                (slice_index_or (runs ++ make_run before (length words) kind ∷ []) n other)) (sym same)
             (subst (IsRun set block run (words ++ kept_words set block run)) (sym (get_or_push runs (make_run before (length words) kind) other run are.long))
             (IsRun-new set block run before kind words before_is kind_is))
       ];

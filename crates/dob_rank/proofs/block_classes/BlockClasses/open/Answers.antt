@@ -27,7 +27,8 @@ overflow_add-count c =
 
 pub loop-run-preserved : goal.loop-run-preserved
 loop-run-preserved c = record {
-  runs_are = AreRuns-push c.args.set c.args.number c.loop-run.run c.loop-run.count c.len.result c.kind_of.result c.loop-run.runs.items _ c.loop-run.words.items _
+  runs_are = AreRuns-push c.args.set c.args.number c.loop-run.run c.loop-run.count c.len.result c.kind_of.result c.loop-run.runs.items _
+      c.loop-run.words.items _
       c.loop-run.invariant.runs_are c.loop-run.invariant.count_is c.kind_of.ensures (c.len.ensures ∙ c.loop-run.words.ok.0) c.in_ok-count.ensures.words
       c.in_ok-push.ensures.items;
   count_is = c.in_ok-count.ensures.count;
