@@ -1,6 +1,9 @@
 -- One more settlement of a history: what it leaves, and what it makes.
-use Rattle.std.proofs.Common.{◌≡◌, ◌≢◌, ℕ, ◌+◌, ◌⊎◌, ◌&&◌, inl, inr, eqb, ltb, cond, refl, sym, subst, ap, ◌∙◌, arith, List, [], ◌∷◌, ◌++◌, length, append_assoc}
+use Rattle.std.proofs.Common.{◌≡◌, ◌≢◌, ℕ, ◌+◌, ◌≤◌, ◌⊎◌, ◌&&◌, inl, inr, eqb, ltb, cond, refl, sym, subst, ap, ◌∙◌, arith, add-one, List, [], ◌∷◌, ◌++◌, length, append_assoc, take, drop, slice_get, Some}
+use Rattle.std.proofs.Math.Seq.{take-suc}
 use Rattle.std.proofs.lemmas.Bool.{cases_eq, le-ltb, and_right}
+use Rattle.std.proofs.lemmas.List.{append-nil, take-append-drop, take-append-le}
+use Rattle.std.proofs.lemmas.Option.{slice_get_within, get_or_from_slice_get}
 use Rattle.dob_pieces.specs.Lists.{each_below}
 use Rattle.dob_value.specs.declared.value.Value.TheVariants.{Draw}
 use Rattle.dob_share.specs.declared.news.Settlement.{Settlement}
@@ -71,6 +74,31 @@ pub still_begun : (targets : ℕ → List ℕ) (n node : ℕ) (xs ys : List Sett
 still_begun targets n node xs ys applied rest is =
     items_from-append targets n node xs ys ∙ ap (λ items. items ++ items_from targets n node ys) is
     ∙ append_assoc applied rest (items_from targets n node ys)
+
+-- ---- items of the settlements before a place of a history
+
+-- of one settlement more
+pub told_more : (targets : ℕ → List ℕ) (n node : ℕ) (h : List Settlement) (e : ℕ) (s : Settlement) → slice_get h e ≡ Some s →
+    items_from targets n node (take (e + 1) h) ≡ items_from targets n node (take e h) ++ items_of targets n node s
+told_more targets n node h e s there =
+    ap (λ xs. items_from targets n node xs) (rw add-one (take-suc h e s (slice_get_within h e s there)
+    ∙ ap (λ x. take e h ++ x ∷ []) (get_or_from_slice_get h e s s there)))
+    ∙ items_from-append targets n node (take e h) (s ∷ [])
+    ∙ ap (λ xs. items_from targets n node (take e h) ++ xs) (append-nil (items_of targets n node s))
+
+-- where the history goes on
+pub told_grown : (targets : ℕ → List ℕ) (n node : ℕ) (h more g : List Settlement) (e : ℕ) → e ≤ length h → g ≡ h ++ more →
+    items_from targets n node (take e g) ≡ items_from targets n node (take e h)
+told_grown targets n node h more g e within is =
+    ap (λ xs. items_from targets n node (take e xs)) is ∙ ap (λ xs. items_from targets n node xs) (take-append-le e h more within)
+
+-- those and the others are all
+pub told_all : (targets : ℕ → List ℕ) (n node : ℕ) (h : List Settlement) (e : ℕ) →
+    items_from targets n node h ≡ items_from targets n node (take e h) ++ items_from targets n node (drop e h)
+told_all targets n node h e =
+    ap (λ xs. items_from targets n node xs) (sym (take-append-drop e h)) ∙ items_from-append targets n node (take e h) (drop e h)
+
+-- ---- what the copies of an edge know
 
 -- no item applied is of a settlement that comes next
 none_yet : (targets : ℕ → List ℕ) (classes n i j : ℕ) (history : List Settlement) (s : Settlement) (applied rest : List Item) (p : ℕ) →

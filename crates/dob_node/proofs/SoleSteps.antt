@@ -1,8 +1,6 @@
 -- The steps of one node that owns all classes: it stays lawful, and makes one step more.
 use Rattle.std.proofs.Common.{◌≡◌, ℕ, ◌+◌, ◌<◌, ◌≤◌, inl, inr, sym, ap, ◌∙◌, subst, arith, add-one, append_assoc, List, [], ◌∷◌, ◌++◌, length, take, drop, slice_get, Some}
-use Rattle.std.proofs.Math.Seq.{take-suc}
-use Rattle.std.proofs.lemmas.List.{append-nil, length-append, take-append-drop, take-append-le}
-use Rattle.std.proofs.lemmas.Option.{slice_get_within, get_or_from_slice_get}
+use Rattle.std.proofs.lemmas.List.{length-append}
 use Rattle.dob_pieces.specs.declared.piece_set.PieceSet.{PieceSet}
 use Rattle.dob_moves.specs.Statuses.{HasStatus}
 use Rattle.dob_rank.specs.Marks.{classes_of}
@@ -20,7 +18,7 @@ use Rattle.dob_node.specs.Takes.{AreKept, listed}
 use Rattle.dob_node.specs.declared.node.Node.{Node}
 use Rattle.dob_node.specs.Nodes.{IsSound, IsExpanded, HasApplied}
 use Rattle.dob_node.specs.Sole.{sole_history, sole_applied, sole_items, cells_below, IsSole, IsSoleStep, HasCome, HasMade}
-use Rattle.dob_node.proofs.Settles.{items_from-append}
+use Rattle.dob_node.proofs.Settles.{told_more, told_grown, told_all}
 use Rattle.dob_node.proofs.Soles.{still_lawful}
 
 -- ---- steps
@@ -34,8 +32,7 @@ one_further old new steps same come step = subst (λ st. HasCome st (steps + 1) 
 pub all_items : (set : PieceSet) (h : List Settlement) (expanded : ℕ) (applied own : List Item) →
     sole_items set (take expanded h) ≡ applied ++ own → sole_items set h ≡ applied ++ (own ++ sole_items set (drop expanded h))
 all_items set h expanded applied own told =
-    ap (λ xs. sole_items set xs) (sym (take-append-drop expanded h))
-    ∙ items_from-append (predecessors set) 1 0 (take expanded h) (drop expanded h)
+    told_all (predecessors set) 1 0 h expanded
     ∙ ap (λ xs. xs ++ sole_items set (drop expanded h)) told
     ∙ append_assoc applied own (sole_items set (drop expanded h))
 
@@ -44,11 +41,8 @@ more_items : (set : PieceSet) (h : List Settlement) (expanded : ℕ) (s : Settle
     slice_get h expanded ≡ Some s → sole_items set (take expanded h) ≡ applied ++ own → new ≡ own ++ items_of (predecessors set) 1 0 s →
     sole_items set (take (expanded + 1) h) ≡ applied ++ new
 more_items set h expanded s applied own new there told is =
-    ap (λ xs. sole_items set xs) (rw add-one (take-suc h expanded s (slice_get_within h expanded s there)
-    ∙ ap (λ x. take expanded h ++ x ∷ []) (get_or_from_slice_get h expanded s s there)))
-    ∙ items_from-append (predecessors set) 1 0 (take expanded h) (s ∷ [])
-    ∙ ap (λ xs. xs ++ sole_items set (s ∷ [])) told
-    ∙ ap (λ xs. (applied ++ own) ++ xs) (append-nil (items_of (predecessors set) 1 0 s))
+    told_more (predecessors set) 1 0 h expanded s there
+    ∙ ap (λ xs. xs ++ items_of (predecessors set) 1 0 s) told
     ∙ append_assoc applied own (items_of (predecessors set) 1 0 s)
     ∙ ap (λ xs. applied ++ xs) (sym is)
 
@@ -58,8 +52,7 @@ same_told : (set : PieceSet) (h grown more : List Settlement) (expanded : ℕ) (
     grown ≡ h ++ more → own ≡ item ∷ new → sole_items set (take expanded h) ≡ applied ++ own →
     sole_items set (take expanded grown) ≡ (applied ++ item ∷ []) ++ new
 same_told set h grown more expanded item applied own new low is first told =
-    ap (λ xs. sole_items set (take expanded xs)) is
-    ∙ ap (λ xs. sole_items set xs) (take-append-le expanded h more low)
+    told_grown (predecessors set) 1 0 h more grown expanded low is
     ∙ told
     ∙ ap (λ xs. applied ++ xs) first
     ∙ sym (append_assoc applied (item ∷ []) new)

@@ -18,6 +18,7 @@ use Rattle.dob_node.specs.declared.node.Node.{Node}
 use Rattle.dob_node.specs.Takes.{HasEntries, listed}
 use Rattle.dob_node.specs.Nodes.{outbox_to, IsSound, IsIdle, IsExpanded, HasApplied, HasTaken, HasCut}
 use Rattle.dob_node.specs.Outboxes.{outbox_in}
+use Rattle.dob_node.proofs.Settles.{told_more, told_grown}
 use Rattle.dob_run.specs.declared.hands.Outlet.{Outlet}
 use Rattle.dob_run.specs.declared.hands.Inlet.{Inlet}
 use Rattle.dob_run.specs.declared.mail.Mail.{Mail}
@@ -30,7 +31,7 @@ use Rattle.dob_run.proofs.Applied.{own_less, own_more, own_still, applied_here, 
 use Rattle.dob_run.proofs.Knowing.{taken_one, knows_same, taken_all}
 use Rattle.dob_run.proofs.Opened.{knows_opened}
 use Rattle.dob_run.proofs.Keeping.{each_after}
-use Rattle.dob_run.proofs.Planned.{told_more, told_grown, history_grown, last_more, last_less, items_in_more, each_more}
+use Rattle.dob_run.proofs.Planned.{history_grown, last_more, last_less, items_in_more, each_more}
 
 -- ---- the mail alone changed
 

@@ -1,33 +1,14 @@
--- What a node planned, after it has expanded a settlement, and after its history went on.
-use Rattle.std.proofs.Common.{◌≡◌, ℕ, zero, suc, ◌+◌, ◌-◌, ◌≤◌, sym, ap, ◌∙◌, subst, arith, add-one, append_assoc, List, [], ◌∷◌, ◌++◌, length, length-append, length-drop, take, drop, slice_get, Some}
-use Rattle.std.proofs.Math.Seq.{take-suc}
+-- How a history goes on with the items taken, the last of a list of items, and lists of batches.
+use Rattle.std.proofs.Common.{◌≡◌, ℕ, zero, suc, ◌+◌, ◌-◌, sym, ap, ◌∙◌, subst, arith, append_assoc, List, [], ◌∷◌, ◌++◌, length, length-append, length-drop, drop, slice_get, Some}
 use Rattle.std.proofs.lemmas.Grind.{flat_map-append}
-use Rattle.std.proofs.lemmas.List.{append-nil, take-append-le, drop-append-le}
-use Rattle.std.proofs.lemmas.Option.{slice_get_within, get_or_from_slice_get}
+use Rattle.std.proofs.lemmas.List.{append-nil, drop-append-le}
 use Rattle.dob_share.specs.declared.news.Settlement.{Settlement}
 use Rattle.dob_share.specs.declared.news.Item.{Item}
 use Rattle.dob_share.specs.declared.share.Share.{Share}
-use Rattle.dob_update.specs.Items.{items_of, items_from}
 use Rattle.dob_update.specs.Batches.{BatchView}
 use Rattle.dob_node.specs.Stores.{HistoryView}
 use Rattle.dob_node.specs.Takes.{AreTaken, listed}
-use Rattle.dob_node.proofs.Settles.{items_from-append}
 use Rattle.dob_run.specs.Workers.{AreLast, items_in}
-
--- with one settlement more
-pub told_more : (targets : ℕ → List ℕ) (n node : ℕ) (h : List Settlement) (e : ℕ) (s : Settlement) → slice_get h e ≡ Some s →
-    items_from targets n node (take (e + 1) h) ≡ items_from targets n node (take e h) ++ items_of targets n node s
-told_more targets n node h e s there =
-    ap (λ xs. items_from targets n node xs) (rw add-one (take-suc h e s (slice_get_within h e s there)
-    ∙ ap (λ x. take e h ++ x ∷ []) (get_or_from_slice_get h e s s there)))
-    ∙ items_from-append targets n node (take e h) (s ∷ [])
-    ∙ ap (λ xs. items_from targets n node (take e h) ++ xs) (append-nil (items_of targets n node s))
-
--- where the history goes on
-pub told_grown : (targets : ℕ → List ℕ) (n node : ℕ) (h more g : List Settlement) (e : ℕ) → e ≤ length h → g ≡ h ++ more →
-    items_from targets n node (take e g) ≡ items_from targets n node (take e h)
-told_grown targets n node h more g e within is =
-    ap (λ xs. items_from targets n node (take e xs)) is ∙ ap (λ xs. items_from targets n node xs) (take-append-le e h more within)
 
 -- items that are taken make a history that goes on
 pub history_grown : (items : List Item) (share after : Share) (history grown : HistoryView) → AreTaken items share after history grown →

@@ -4,13 +4,14 @@ use Rattle.dob_unmove.specs.Edges.{predecessors}
 use Rattle.dob_share.specs.declared.news.Item.{Item}
 use Rattle.dob_update.specs.Items.{items_from}
 use Rattle.dob_update.specs.Batches.{BatchView}
+use Rattle.dob_node.proofs.Settles.{told_all}
 use Rattle.dob_world.specs.declared.event.Event.TheVariants.{Expand, Own, Post, Take, Pass, Announce}
 use Rattle.dob_world.specs.Worlds.{Setting, World, State, items_in, items_of_batches, AreLawful, IsLinked}
 use Rattle.dob_world.specs.Events.{Expands, AppliesOwn, Posts, TakesBatch}
 use Rattle.dob_world.specs.Laws.{HappeningKeepsAll, EventsKeepAll, ListsAreBeginnings, OwnItemFits, TakenItemFits}
 use Rattle.dob_world.proofs.Places.{lawful_stay}
 use Rattle.dob_world.proofs.Applied.{next_fits, lawful_step, step_grows, next_after, all_applied}
-use Rattle.dob_world.proofs.Linked.{told_all, linked_expanded, linked_own, linked_posted, linked_taken}
+use Rattle.dob_world.proofs.Linked.{linked_expanded, linked_own, linked_posted, linked_taken}
 
 -- ---- what comes next on a node's way to itself and on a link
 

@@ -1,42 +1,17 @@
 -- Each event leaves a linked world linked.
-use Rattle.std.proofs.Common.{◌≡◌, ◌≢◌, ℕ, ◌+◌, ◌<◌, ◌≤◌, ◌⊎◌, inl, inr, sym, ap, ◌∙◌, arith, add-one, append_assoc, List, [], ◌∷◌, ◌++◌, length, take, drop, slice_get, Some}
-use Rattle.std.proofs.Math.Seq.{take-suc}
+use Rattle.std.proofs.Common.{◌≡◌, ◌≢◌, ℕ, ◌+◌, ◌<◌, ◌≤◌, ◌⊎◌, inl, inr, sym, ap, ◌∙◌, arith, append_assoc, List, [], ◌∷◌, ◌++◌, length, take, drop}
 use Rattle.std.proofs.lemmas.Grind.{flat_map-append}
-use Rattle.std.proofs.lemmas.List.{append-nil, length-append, take-append-drop, take-append-le}
-use Rattle.std.proofs.lemmas.Option.{slice_get_within, get_or_from_slice_get}
+use Rattle.std.proofs.lemmas.List.{append-nil, length-append, take-append-drop}
+use Rattle.std.proofs.lemmas.Option.{slice_get_within}
 use Rattle.dob_unmove.specs.Edges.{predecessors}
-use Rattle.dob_share.specs.declared.news.Settlement.{Settlement}
 use Rattle.dob_share.specs.declared.news.Item.{Item}
 use Rattle.dob_update.specs.Items.{items_of, items_from}
 use Rattle.dob_update.specs.Batches.{BatchView}
-use Rattle.dob_node.proofs.Settles.{items_from-append}
+use Rattle.dob_node.proofs.Settles.{told_more, told_grown}
 use Rattle.dob_world.specs.Worlds.{Setting, World, told_in, items_of_batches, IsLinked}
 use Rattle.dob_world.specs.Events.{Expands, AppliesOwn, Posts, TakesBatch}
 use Rattle.dob_world.proofs.Places.{at_node, at_link}
 use Rattle.dob_world.proofs.Applied.{Grows}
-
--- ---- items of the settlements expanded
-
--- of one settlement more
-pub told_more : (targets : ℕ → List ℕ) (n node : ℕ) (h : List Settlement) (e : ℕ) (s : Settlement) → slice_get h e ≡ Some s →
-    items_from targets n node (take (e + 1) h) ≡ items_from targets n node (take e h) ++ items_of targets n node s
-told_more targets n node h e s there =
-    ap (λ xs. items_from targets n node xs) (rw add-one (take-suc h e s (slice_get_within h e s there)
-    ∙ ap (λ x. take e h ++ x ∷ []) (get_or_from_slice_get h e s s there)))
-    ∙ items_from-append targets n node (take e h) (s ∷ [])
-    ∙ ap (λ xs. items_from targets n node (take e h) ++ xs) (append-nil (items_of targets n node s))
-
--- where the history goes on
-pub told_grown : (targets : ℕ → List ℕ) (n node : ℕ) (h more g : List Settlement) (e : ℕ) → e ≤ length h → g ≡ h ++ more →
-    items_from targets n node (take e g) ≡ items_from targets n node (take e h)
-told_grown targets n node h more g e within is =
-    ap (λ xs. items_from targets n node (take e xs)) is ∙ ap (λ xs. items_from targets n node xs) (take-append-le e h more within)
-
--- those and the others are all
-pub told_all : (targets : ℕ → List ℕ) (n node : ℕ) (h : List Settlement) (e : ℕ) →
-    items_from targets n node h ≡ items_from targets n node (take e h) ++ items_from targets n node (drop e h)
-told_all targets n node h e =
-    ap (λ xs. items_from targets n node xs) (sym (take-append-drop e h)) ∙ items_from-append targets n node (take e h) (drop e h)
 
 -- ---- a settlement expanded
 
