@@ -1,10 +1,14 @@
-pub mod Places
-pub mod Kept
-pub mod Steps
-pub mod Allowed
-pub mod Done
-pub mod Takings
-pub mod Passing
-pub mod Halting
-pub mod Starts
-pub mod Ends
+-- The lemmas, in the order in which they are read. First the words and the rule.
+pub mod Places  -- which word is which, and what a write to one leaves of the others
+pub mod Kept  -- a step of one node's seat keeps the rule
+-- Posts, looks and takes.
+pub mod Steps  -- what the steps of a seat make of the words
+pub mod Allowed  -- what the steps ask of the table, and what they tell
+pub mod Done  -- what a seat's fields are after its steps
+pub mod Takings  -- a take is a look and an event
+-- The token and the halt.
+pub mod Passing  -- the token's word, a look at it, and a pass
+pub mod Halting  -- a look at the halt, a failure, and the announcement of the end
+-- The start and the end of a board.
+pub mod Starts  -- the start of a board, and how the view of all nodes is split
+pub mod Ends  -- how seats come back, and what is read at the end

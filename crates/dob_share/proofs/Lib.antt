@@ -1,10 +1,14 @@
-pub mod Tallies
-pub mod Changing
-pub mod Keeping
-pub mod Applied
-pub mod Growing
-pub mod Owning
-pub mod Opened
-pub mod OwnOpened
-pub mod Learning
-pub mod Sums
+-- The lemmas, in the order in which they are read. First runs of the pool.
+pub mod Tallies  -- sums over a run of the pool, and after a write
+pub mod Keeping  -- one cell is written: the others and the order of the pool stay
+-- Items at cells.
+pub mod Changing  -- when an item is refused at a cell, and what its slot becomes
+pub mod Growing  -- an item that fits never makes the cell's value worse
+pub mod Applied  -- what the steps of the code give of an item at one place
+pub mod Owning  -- what an item at one place is for the share's classes
+-- Shares as they are opened.
+pub mod Opened  -- what has been opened grows by a slot with its run
+pub mod OwnOpened  -- what an opened share owns, and knows of each class
+-- Cells that sum up what is known.
+pub mod Learning  -- what such a cell takes next
+pub mod Sums  -- such a cell still sums up after a change for the better

@@ -1,3 +1,4 @@
+-- The wins, the losses and the draws so far are each no more than the classes gone over.
 use Rattle.std.proofs.Common.{◌≤◌}
 use Rattle.dob_answers.proofs.about_build.tell_outcomes.Given as goal
 

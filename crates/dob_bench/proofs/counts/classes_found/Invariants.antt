@@ -1,3 +1,4 @@
+-- The classes found so far are no more than the numbers gone over.
 use Rattle.std.proofs.Common.{◌≤◌}
 use Rattle.dob_bench.proofs.counts.classes_found.Given as goal
 

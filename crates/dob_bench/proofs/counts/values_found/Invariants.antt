@@ -1,3 +1,4 @@
+-- The values found so far are no more than the classes gone over.
 use Rattle.std.proofs.Common.{◌≤◌}
 use Rattle.dob_bench.proofs.counts.values_found.Given as goal
 

@@ -1,3 +1,4 @@
+-- One seat less is left: the last one's stand comes before those of the rest, on the same board.
 use Rattle.std.proofs.Common.{map, ◌∙◌}
 use Rattle.dob_board.specs.Seats.{stand_of}
 use Rattle.dob_board.proofs.Ends.{one_less}

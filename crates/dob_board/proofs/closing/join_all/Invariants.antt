@@ -1,3 +1,4 @@
+-- The seats that are left and the rest stand for all nodes together; there are fewer seats each time.
 use Rattle.std.proofs.Common.{◌≡◌, map}
 use Rattle.dob_board.specs.Seats.{stand_of}
 use Rattle.dob_board.proofs.Ends.{AreLeft}

@@ -1,3 +1,4 @@
+-- A read keeps the rule and changes no view, and one word more is as the stands of all nodes say.
 use Rattle.std.proofs.Common.{rules, arith, ℕ, List, ap, subst, ◌∙◌}
 use Rattle.dob_board.specs.declared.view.Stand.{Stand}
 use Rattle.dob_board.specs.Boards.{IsWord}

@@ -1,3 +1,4 @@
+-- The words below the index are read as the stands of all nodes say, and the rest's view is what it was.
 use Rattle.std.proofs.Common.{◌≡◌, ◌<◌, ℕ, get_or, vec_len}
 use Rattle.dob_board.specs.Boards.{IsWord}
 use Rattle.dob_board.proofs.closing.read_all.Given as goal

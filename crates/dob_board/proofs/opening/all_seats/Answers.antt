@@ -1,3 +1,4 @@
+-- One node more has its seat, fresh and at its place, and the rest stands for the nodes behind it.
 use Rattle.std.proofs.Common.{◌≡◌, ℕ, suc, ◌+◌, [], arith, ap, subst, ◌∙◌}
 use Rattle.atomic_table.specs.Seated.{TableId}
 use Rattle.dob_board.specs.Boards.{behind}

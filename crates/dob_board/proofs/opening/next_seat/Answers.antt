@@ -1,3 +1,4 @@
+-- The first node of the rest may be split off, and the rest stands for the nodes behind it.
 use Rattle.std.proofs.Common.{rules, arith, ap, ◌∙◌, []}
 use Rattle.dob_board.specs.declared.view.View.{View}
 use Rattle.dob_board.specs.Plays.{others_of}

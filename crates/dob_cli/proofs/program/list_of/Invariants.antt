@@ -1,3 +1,4 @@
+-- The arguments in the list, and then those that are left, are all arguments.
 use Rattle.std.proofs.Common.{◌≡◌, ◌++◌}
 use Rattle.std.specs.Vec.Iter.{into_iter_items}
 use Rattle.dob_cli.proofs.program.list_of.Given as goal

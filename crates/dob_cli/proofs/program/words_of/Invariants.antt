@@ -1,3 +1,4 @@
+-- The words in the list are the texts of the words gone over, in order.
 use Rattle.std.proofs.Common.{◌≡◌, map, string_bytes, take}
 use Rattle.dob_cli.proofs.program.words_of.Given as goal
 

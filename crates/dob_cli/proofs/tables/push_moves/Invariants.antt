@@ -1,3 +1,4 @@
+-- The line so far, and then the text of the moves that are left, is the text of all moves; fewer are left each time.
 use Rattle.std.proofs.Common.{◌≡◌, ◌++◌, false, length, string_bytes}
 use Rattle.dob_cli.specs.Tables.{moves_text}
 use Rattle.dob_cli.proofs.tables.push_moves.Given as goal

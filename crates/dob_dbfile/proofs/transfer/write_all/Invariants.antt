@@ -1,3 +1,4 @@
+-- As many first bytes as are done have gone into the same sink, unflushed and unfailed; fewer are left each time.
 use Rattle.std.proofs.Common.{length, take, ◌-◌, ◌≤◌}
 use Rattle.dob_dbfile.specs.Sinks.{IsNotFlushed, IsSame, Takes, Works, change}
 use Rattle.dob_dbfile.proofs.transfer.write_all.Given as goal

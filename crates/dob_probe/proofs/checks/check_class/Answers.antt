@@ -1,3 +1,4 @@
+-- A class's entry follows where it is the value that follows for its representative, and breaks where it isn't.
 use Rattle.std.proofs.Common.{◌≡◌, rules, refl, subst}
 use Rattle.dob_pieces.specs.declared.piece_set.PieceSet.{PieceSet}
 use Rattle.dob_rank.specs.Order.{IsRepresentative, HasClass}

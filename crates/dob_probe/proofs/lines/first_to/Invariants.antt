@@ -1,3 +1,4 @@
+-- No move below the index leads to the value that is wanted.
 use Rattle.dob_probe.specs.Lines.{GivenBy}
 use Rattle.dob_probe.proofs.Ways.{NoneBelow}
 use Rattle.dob_probe.proofs.lines.first_to.Given as goal

@@ -1,3 +1,4 @@
+-- A line goes on by the first move to the value wanted, and ends with a catch, with no value wanted, or with a fault.
 use Rattle.std.proofs.Common.{List, refl, sym, subst, ◌∙◌}
 use Rattle.std.proofs.lemmas.Result.{err_from_is_err_and}
 use Rattle.dob_moves.specs.declared.game_move.Move.{Move}

@@ -1,3 +1,4 @@
+-- The moves so far begin the line and lead to a position with that value, whose distance falls.
 use Rattle.dob_probe.proofs.Ways.{IsOnLine, distance}
 use Rattle.dob_probe.proofs.lines.line_from.Given as goal
 

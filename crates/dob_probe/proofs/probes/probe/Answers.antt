@@ -1,3 +1,4 @@
+-- The value of a position of the set is its class's entry, and by a consistent table it is the right one.
 use Rattle.std.proofs.Common.{refl, subst}
 use Rattle.dob_pieces.specs.declared.piece_set.PieceSet.{PieceSet}
 use Rattle.dob_rank.specs.Order.{IsPositionOf}

@@ -1,3 +1,4 @@
+-- The successors' values by the moves so far are summed up in what is kept.
 use Rattle.std.proofs.Common.{List}
 use Rattle.dob_value.specs.declared.value.Value.{Value}
 use Rattle.dob_value.proofs.Successors.{AreSuccessorsBelow}

@@ -1,3 +1,4 @@
+-- The position that a move of an open position leads to is of the table's set.
 use Rattle.dob_value.proofs.Successors.{moves_keep_the_set}
 use Rattle.dob_probe.proofs.successors.value_to.Goals as goal
 

@@ -1,3 +1,4 @@
+-- The crew that was run has stopped: it leaves a table within the limits, or the fault says why it leaves nothing.
 use Rattle.dob_run.specs.declared.turns.Until.TheVariants.{Stopped}
 use Rattle.dob_run.specs.Finishing.{IsFailureOf}
 use Rattle.dob_run.specs.Refused.{IsRefused}

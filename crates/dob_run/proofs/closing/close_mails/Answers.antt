@@ -1,3 +1,4 @@
+-- A crew's mails are closed: the words are what the seats counted, and each link stands in its sender's row.
 use Rattle.std.proofs.Common.{◌≡◌, ℕ, arith, sym, subst, List, vec_len}
 use Rattle.dob_board.specs.declared.seat.NodeSeat.{NodeSeat}
 use Rattle.dob_board.specs.Seats.{AreSeats, AreWords}

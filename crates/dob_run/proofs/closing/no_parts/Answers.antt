@@ -1,3 +1,4 @@
+-- The parts of no mails: no seats, no sending ends, no hands, and a row without taking ends for each node.
 use Rattle.std.proofs.Common.{List, Vec, Global, Option, map, ap}
 use Rattle.dob_update.specs.Batches.{BatchView}
 use Rattle.dob_chan.specs.declared.ends.SendEnd.{SendEnd}

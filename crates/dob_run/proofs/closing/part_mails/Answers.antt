@@ -1,3 +1,4 @@
+-- Each mail goes behind the parts of those before it, and when none is left they are the parts of all the mails.
 use Rattle.std.proofs.Common.{◌≡◌, ℕ, rules, arith, subst, [], length, vec_len}
 use Rattle.dob_run.specs.Closing.{ArePartsOf}
 use Rattle.dob_run.proofs.Parting.{parting_begins, parting_goes_on, one_of, all_parted}

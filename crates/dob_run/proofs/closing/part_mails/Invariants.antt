@@ -1,3 +1,4 @@
+-- The parts are those of the mails gone over, and the other mails are left.
 use Rattle.std.proofs.Common.{vec_len}
 use Rattle.std.specs.Vec.Iter.{into_iter_items}
 use Rattle.dob_run.proofs.Parting.{AreParting}

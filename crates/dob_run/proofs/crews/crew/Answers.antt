@@ -1,3 +1,4 @@
+-- Sizes outside their limits are why no crew is opened.
 use Rattle.dob_run.proofs.RunFaults.{outside_none}
 use Rattle.dob_run.proofs.crews.crew.Goals as goal
 

@@ -1,3 +1,4 @@
+-- The crew's mails are its runners' own, and each runner is for the set and the size, unfailed and before any step.
 use Rattle.std.proofs.Common.{sym, subst, List}
 use Rattle.dob_run.specs.declared.mail.Mail.{Mail}
 use Rattle.dob_run.specs.Closing.{IsCrew}

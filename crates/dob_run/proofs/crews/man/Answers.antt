@@ -1,3 +1,4 @@
+-- The runner has the mail and a node just opened, which has made no step, and nothing has gone over its links.
 use Rattle.std.proofs.Common.{sym, subst}
 use Rattle.dob_node.specs.declared.node.Node.{Node}
 use Rattle.dob_run.specs.declared.mail.Mail.{Mail}

@@ -1,3 +1,4 @@
+-- Each mail gets its runner, in order, and when no mail is left each has one.
 use Rattle.std.proofs.Common.{rules}
 use Rattle.dob_run.specs.Manned.{IsRunnerOf}
 use Rattle.dob_run.proofs.Threaded.{going_begins, goes_on, all_went, next_one}

@@ -1,3 +1,4 @@
+-- Each mail gone over has its runner, in order, and the other mails are left.
 use Rattle.std.specs.Vec.Iter.{into_iter_items}
 use Rattle.dob_run.specs.Manned.{IsRunnerOf}
 use Rattle.dob_run.proofs.Threaded.{AreGoing}

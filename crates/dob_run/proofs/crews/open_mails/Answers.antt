@@ -1,3 +1,4 @@
+-- The seats and the channels that were laid make a crew of n new mails, whose outlets and inlets are paired.
 use Rattle.std.proofs.Common.{◌≡◌, ℕ, arith, sym, subst, vec_len, map}
 use Rattle.dob_board.specs.Seats.{AreSeats}
 use Rattle.dob_run.specs.Seating.{AreSeated}

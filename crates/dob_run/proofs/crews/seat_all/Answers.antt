@@ -1,3 +1,4 @@
+-- While a seat is left so are a row and a column, of its size and with its counts, and they become its mail.
 use Rattle.std.proofs.Common.{◌≡◌, ℕ, rules, arith, ap, subst, length, Vec, Global, vec_len}
 use Rattle.dob_run.specs.declared.hands.Outlet.{Outlet}
 use Rattle.dob_run.specs.declared.hands.Inlet.{Inlet}

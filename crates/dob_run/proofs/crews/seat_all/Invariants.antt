@@ -1,3 +1,4 @@
+-- The seats gone over have their mails, and as many rows and columns are used up.
 use Rattle.std.specs.Vec.Iter.{into_iter_items}
 use Rattle.dob_run.proofs.Seated.{IsSeating}
 use Rattle.dob_run.proofs.crews.seat_all.Given as goal

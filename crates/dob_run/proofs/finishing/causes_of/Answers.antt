@@ -1,3 +1,4 @@
+-- The cause of the next runner goes behind those of the runners before it.
 use Rattle.std.proofs.Common.{refl}
 use Rattle.std.proofs.lemmas.Option.{slice_get_read}
 use Rattle.dob_run.specs.Finishing.{failed_of}

@@ -1,3 +1,4 @@
+-- The causes are those of the runners below the index, in order.
 use Rattle.std.proofs.Common.{◌≡◌, map, take}
 use Rattle.dob_run.specs.Finishing.{failed_of}
 use Rattle.dob_run.proofs.finishing.causes_of.Given as goal

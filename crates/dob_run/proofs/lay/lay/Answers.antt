@@ -1,3 +1,4 @@
+-- One row more is laid: the outlets of one node more are of one channel each with the inlets at their other ends.
 use Rattle.std.proofs.Common.{◌≡◌, ◌+◌, ℕ, List, Vec, Global, vec_len, rules, sym, subst}
 use Rattle.dob_run.specs.declared.hands.Outlet.{Outlet}
 use Rattle.dob_run.specs.Laid.{IsRowLaid, AreLaidUpto}

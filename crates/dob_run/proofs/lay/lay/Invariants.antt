@@ -1,3 +1,4 @@
+-- The nodes below the counter have their outlets to all n, and the inlets of these channels stand in the columns.
 use Rattle.dob_run.specs.Laid.{AreLaidUpto}
 use Rattle.dob_run.proofs.lay.lay.Given as goal
 

@@ -1,3 +1,4 @@
+-- The new channel's ends go last in the row and the column, with nothing sent or taken and both hands empty.
 use Rattle.dob_run.proofs.Laying.{laid_of}
 use Rattle.dob_run.proofs.lay.lay_one.Goals as goal
 

@@ -1,3 +1,4 @@
+-- One channel more is laid for the next node: its outlet ends the row, and its inlet ends that node's column.
 use Rattle.std.proofs.Common.{◌≡◌, ◌+◌, ℕ, List, Some, set, rules, sym, subst}
 use Rattle.std.specs.Prelude.{slice_get}
 use Rattle.dob_run.specs.declared.hands.Outlet.{Outlet}

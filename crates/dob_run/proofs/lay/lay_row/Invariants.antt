@@ -1,3 +1,4 @@
+-- The row has outlets for the nodes below the index, whose columns end with the inlets; later columns are unchanged.
 use Rattle.dob_run.specs.Laid.{IsRowLaid}
 use Rattle.dob_run.proofs.lay.lay_row.Given as goal
 

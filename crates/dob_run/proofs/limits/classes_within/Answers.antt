@@ -1,3 +1,4 @@
+-- A size that passes its limit, of a small set, is why no crew is begun.
 use Rattle.std.proofs.Common.{arith}
 use Rattle.dob_run.proofs.RunFaults.{outside_none, none_begun}
 use Rattle.dob_run.proofs.limits.classes_within.Goals as goal

@@ -1,3 +1,4 @@
+-- The next end goes last in the row at its own place, and after the last row all ends are dealt.
 use Rattle.std.proofs.Common.{◌≡◌, ℕ, Some, rules, sym, subst, ◌∙◌}
 use Rattle.std.specs.Prelude.{slice_get}
 use Rattle.dob_run.specs.Ending.{AreDealt}

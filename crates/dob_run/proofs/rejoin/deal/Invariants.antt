@@ -1,3 +1,4 @@
+-- The ends left are those from the place on, and those before it stand at the ends of their rows.
 use Rattle.std.proofs.Common.{◌≡◌, drop}
 use Rattle.std.specs.Vec.Iter.{into_iter_items}
 use Rattle.dob_run.specs.Ending.{AreDealt}

@@ -1,3 +1,4 @@
+-- The next inlet's end and hand go last in their lists, which in the end are those of all the inlets.
 use Rattle.std.proofs.Common.{rules, refl}
 use Rattle.dob_run.specs.Ending.{inlet_end, inlet_hand}
 use Rattle.dob_run.proofs.Places.{moves_on, ends_up}

@@ -1,3 +1,4 @@
+-- The ends and the hands so far, followed by those of the inlets that are left, are those of all the inlets.
 use Rattle.std.proofs.Common.{◌≡◌, ◌++◌, map}
 use Rattle.std.specs.Vec.Iter.{into_iter_items}
 use Rattle.dob_run.specs.Ending.{inlet_end, inlet_hand}

@@ -1,3 +1,4 @@
+-- The next outlet's end and hand go last in their lists, which in the end are those of all the outlets.
 use Rattle.std.proofs.Common.{rules, refl}
 use Rattle.dob_run.specs.Ending.{outlet_end, outlet_hand}
 use Rattle.dob_run.proofs.Places.{moves_on, ends_up}

@@ -1,3 +1,4 @@
+-- While a row is left so is its column, of the same length and paired end by end, and its links go behind the others.
 use Rattle.std.proofs.Common.{◌≡◌, ℕ, rules, sym, subst, List, Vec, Global, length, vec_len, ◌∙◌}
 use Rattle.dob_chan.specs.declared.ends.SendEnd.{SendEnd}
 use Rattle.dob_chan.specs.declared.ends.TakeEnd.{TakeEnd}

@@ -1,3 +1,4 @@
+-- The channels of the rows gone over are ended, their links stand row by row, and the other rows are left.
 use Rattle.std.proofs.Common.{vec_len}
 use Rattle.std.specs.Vec.Iter.{into_iter_items}
 use Rattle.dob_run.proofs.Rejoining.{AreOn}

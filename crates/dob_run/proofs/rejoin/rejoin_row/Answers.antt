@@ -1,3 +1,4 @@
+-- While a sending end is left so is the taking end of its channel, and their link goes behind the others.
 use Rattle.std.proofs.Common.{◌≡◌, ℕ, rules, sym, subst, List, length, vec_len, ◌∙◌}
 use Rattle.std.proofs.lemmas.List.{append-nil}
 use Rattle.dob_chan.specs.declared.ends.SendEnd.{SendEnd}

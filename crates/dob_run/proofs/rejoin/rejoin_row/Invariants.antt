@@ -1,3 +1,4 @@
+-- So many ends of the row are joined, and their links stand behind those that were there before.
 use Rattle.std.specs.Vec.Iter.{into_iter_items}
 use Rattle.dob_run.proofs.Rejoining.{IsRowOn}
 use Rattle.dob_run.proofs.rejoin.rejoin_row.Given as goal

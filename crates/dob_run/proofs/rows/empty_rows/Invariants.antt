@@ -1,3 +1,4 @@
+-- There are as many rows so far as were counted, and each is empty.
 use Rattle.dob_run.specs.Rows.{AreRows}
 use Rattle.dob_run.proofs.rows.empty_rows.Given as goal
 

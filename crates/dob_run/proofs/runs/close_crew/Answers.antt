@@ -1,3 +1,4 @@
+-- The mails are a crew's, each node has its rows of hands, and the closed parts are what the runners leave.
 use Rattle.std.proofs.Common.{refl, sym, subst, List}
 use Rattle.dob_run.specs.declared.mail.Mail.{Mail}
 use Rattle.dob_run.specs.Closing.{IsCrew, hands_out, hands_in}

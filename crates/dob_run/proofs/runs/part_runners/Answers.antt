@@ -1,3 +1,4 @@
+-- The node and the mail of each runner are put behind the others, until the lists are those of all runners.
 use Rattle.std.proofs.Common.{rules, refl}
 use Rattle.dob_run.specs.Manned.{mail_of, node_of}
 use Rattle.dob_run.proofs.Places.{moves_on, ends_up}

@@ -1,3 +1,4 @@
+-- The nodes and mails so far, with those of the runners left, are those of all runners.
 use Rattle.std.proofs.Common.{◌≡◌, ◌++◌, map}
 use Rattle.std.specs.Vec.Iter.{into_iter_items}
 use Rattle.dob_run.specs.Manned.{mail_of, node_of}

@@ -1,3 +1,4 @@
+-- A crew that isn't opened or has a failed runner is refused with that cause; else its runners are closed as a crew.
 use Rattle.std.proofs.Common.{List, subst}
 use Rattle.dob_run.specs.declared.runner.Runner.{Runner}
 use Rattle.dob_run.specs.declared.turns.Until.TheVariants.{Turns}

@@ -1,3 +1,4 @@
+-- Each node finds a row of sending and one of taking hands left, those at its place, until all are workers.
 use Rattle.std.proofs.Common.{rules, refl}
 use Rattle.dob_run.proofs.Leaving.{manning_begins, manning_goes_on, all_manned}
 use Rattle.dob_run.proofs.Places.{thing_left}

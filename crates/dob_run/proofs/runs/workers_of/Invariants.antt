@@ -1,3 +1,4 @@
+-- So many nodes have their hands and are workers, and the other nodes and rows of hands are left.
 use Rattle.std.specs.Vec.Iter.{into_iter_items}
 use Rattle.dob_run.proofs.Leaving.{IsManning}
 use Rattle.dob_run.proofs.runs.workers_of.Given as goal

@@ -1,3 +1,4 @@
+-- The threads go over each class number below the count, and the list has the opening of each class, in order.
 use Rattle.std.proofs.Common.{◌≡◌, ℕ, ◌-◌, ◌<◌, ap, sym, subst, ◌∙◌, arith, List}
 use Rattle.std.specs.List.{AllZip, range_with_len}
 use Rattle.rayon.specs.Numbers.{nat_range}

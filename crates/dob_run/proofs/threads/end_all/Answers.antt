@@ -1,3 +1,4 @@
+-- Each runner that ended is the end of the started one at its place, one by one, until none is left.
 use Rattle.std.proofs.Common.{rules}
 use Rattle.dob_run.specs.Started.{IsEndOf}
 use Rattle.dob_run.proofs.Threaded.{going_begins, goes_on, all_went}

@@ -1,3 +1,4 @@
+-- The runners of a new crew suit the classes of its piece set, so they have run, of sizes within the limits.
 use Rattle.std.proofs.Common.{rules}
 use Rattle.dob_run.specs.Turns.{AllSuit}
 use Rattle.dob_run.proofs.Manned.{all_suit}

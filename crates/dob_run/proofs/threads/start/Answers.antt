@@ -1,3 +1,4 @@
+-- A runner for which no thread can be made keeps its place when it is handed back, and has failed for want of memory.
 use Rattle.std.proofs.Common.{◌≡◌, subst}
 use Rattle.dob_node.specs.declared.cause.Cause.TheVariants.{Memory}
 use Rattle.dob_run.specs.declared.runner.Runner.{Runner}

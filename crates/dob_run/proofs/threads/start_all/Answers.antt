@@ -1,3 +1,4 @@
+-- Each runner that is left suits the classes, and what is started is its start, one by one, until none is left.
 use Rattle.std.proofs.Common.{rules}
 use Rattle.dob_run.specs.Turns.{Suits}
 use Rattle.dob_run.specs.Started.{IsStartOf}

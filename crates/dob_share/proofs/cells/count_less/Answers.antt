@@ -1,3 +1,4 @@
+-- With one move less at an entry of that distance, the run counts one win less there and one move less in all.
 use Rattle.std.proofs.Common.{arith}
 use Rattle.dob_share.proofs.Tallies.{counted_entry, wins_less, total_less}
 use Rattle.dob_share.proofs.cells.count_less.Goals as goal

@@ -1,3 +1,4 @@
+-- The entry has room for a move more, and the run counts one win more in that distance and one move more in all.
 use Rattle.std.proofs.Common.{◌+◌, ◌<◌, arith}
 use Rattle.dob_share.proofs.Tallies.{few_moves, fits_entry, wins_more, total_more}
 use Rattle.dob_share.proofs.cells.count_more.Goals as goal

@@ -1,3 +1,4 @@
+-- The entries of the run so far count no win in that distance.
 use Rattle.std.proofs.Common.{◌≡◌}
 use Rattle.dob_share.specs.Pools.{tally, moves_at}
 use Rattle.dob_share.proofs.cells.counted_place.Given as goal

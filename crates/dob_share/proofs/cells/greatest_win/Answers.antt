@@ -1,3 +1,4 @@
+-- At the run's end, the greatest distance so far is the greatest that the whole run counts.
 use Rattle.std.proofs.Common.{◌≡◌, ℕ, subst, arith}
 use Rattle.dob_share.specs.Cells.{IsGreatestIn}
 use Rattle.dob_share.specs.Pools.{tally, moves_at}

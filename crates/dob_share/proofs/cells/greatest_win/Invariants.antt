@@ -1,3 +1,4 @@
+-- The greatest distance so far is the greatest that the entries so far count, or they count none.
 use Rattle.dob_share.specs.Cells.{IsGreatestIn}
 use Rattle.dob_share.specs.Pools.{tally, moves_at}
 use Rattle.dob_share.proofs.cells.greatest_win.Given as goal

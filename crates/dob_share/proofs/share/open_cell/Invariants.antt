@@ -1,3 +1,4 @@
+-- The pool is longer by the entries so far, and every entry of it is free.
 use Rattle.std.proofs.Common.{◌≡◌, ℕ, ◌+◌, length, get_or}
 use Rattle.dob_share.specs.Pools.{vacant}
 use Rattle.dob_share.proofs.share.open_cell.Given as goal

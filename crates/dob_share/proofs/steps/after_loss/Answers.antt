@@ -1,3 +1,4 @@
+-- A first loss of the enemy is too deep where no loss is known and its distance leaves no room for a win after it.
 use Rattle.std.proofs.Common.{◌≤◌, ◌<◌, ◌≡◌, arith}
 use Rattle.dob_share.specs.Pools.{wins_in}
 use Rattle.dob_share.proofs.Changing.{loss_deep}

@@ -1,3 +1,4 @@
+-- The last move's first news, a win of the enemy, is too deep where no loss is known and the greatest win is too far.
 use Rattle.dob_share.specs.Pools.{wins_in}
 use Rattle.dob_share.proofs.Changing.{win_deep}
 use Rattle.dob_share.proofs.steps.after_win.Goals as goal

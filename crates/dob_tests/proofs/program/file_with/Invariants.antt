@@ -1,3 +1,4 @@
+-- Each code so far is below 2 to the 16th.
 use Rattle.std.proofs.Common.{◌<◌, All}
 use Rattle.dob_tests.proofs.program.file_with.Given as goal
 

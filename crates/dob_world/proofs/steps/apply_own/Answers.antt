@@ -1,3 +1,4 @@
+-- No own item is left where the answer is false; else the first one is applied, and the lane lists it.
 use Rattle.std.proofs.Common.{refl, sym, ap, ◌∙◌, Ok, inl, inr, ◌++◌, ◌∷◌, []}
 use Rattle.std.proofs.lemmas.Bool.{cases_Bool}
 use Rattle.dob_node.specs.Nodes.{HasApplied}

@@ -1,3 +1,4 @@
+-- The batch cut is the last that waits on the lane, whose link has room, and its items are listed as sent.
 use Rattle.std.proofs.Common.{◌≡◌, ◌≤◌, refl, ap, ◌∙◌, subst, IfSome, ◌++◌, ◌∷◌, [], length}
 use Rattle.dob_update.specs.Batches.{BatchView}
 use Rattle.dob_link.specs.Links.{link_of}

@@ -1,3 +1,4 @@
+-- The lane's first batch is one for the node, which takes and lists its items, or stops at one of them.
 use Rattle.std.proofs.Common.{refl, sym, ap, ◌∙◌, subst, inr, ◌++◌, ◌∷◌}
 use Rattle.std.specs.List.{All}
 use Rattle.std.proofs.lemmas.List.Elements.{All-head}

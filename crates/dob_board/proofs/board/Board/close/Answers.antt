@@ -1,3 +1,4 @@
+-- Once all seats are joined, the words that are read are those that the seats of all nodes counted.
 use Rattle.std.proofs.Common.{ap, subst, List}
 use Rattle.dob_board.specs.declared.view.Stand.{Stand}
 use Rattle.dob_board.specs.Boards.{AreRead}

@@ -1,3 +1,4 @@
+-- The words at the start, with the first token's, keep the rule under one view of all nodes.
 use Rattle.std.proofs.Common.{arith, ℕ, List, [], ◌∷◌, sym, subst, ◌∙◌}
 use Rattle.dob_board.specs.Rule.{IsHeld, whole}
 use Rattle.dob_board.proofs.Starts.{begins}

@@ -1,3 +1,4 @@
+-- Announcing keeps the rule: the seat makes the event, or finds the halt that came before, and holds what it found.
 use Rattle.std.proofs.Common.{rules, refl, arith, ◌∙◌}
 use Rattle.dob_board.specs.Views.{stand_from}
 use Rattle.dob_board.proofs.Halting.{announces_call, announces_tell, found_done, knew_done, announced_done}

@@ -1,3 +1,4 @@
+-- To count a batch that was seen keeps the rule: the count stays in bounds, and the seat makes the event of a take.
 use Rattle.std.proofs.Common.{rules, arith}
 use Rattle.dob_board.specs.Views.{stand_from}
 use Rattle.dob_board.proofs.Allowed.{takes_call, same_default}

@@ -1,3 +1,4 @@
+-- A failure keeps the rule: the seat holds the halt that it finds, and to a black node that is no end.
 use Rattle.std.proofs.Common.{rules, refl, arith, ◌∙◌}
 use Rattle.dob_board.specs.Views.{stand_from}
 use Rattle.dob_board.proofs.Halting.{fails_call, fails_tell, found_done, black_hears, heard_halt}

@@ -1,3 +1,4 @@
+-- A look at the halt keeps the rule: what is found stays, is no end to a black node, and no own failure that is new.
 use Rattle.std.proofs.Common.{rules, refl, arith}
 use Rattle.dob_board.specs.Views.{stand_from}
 use Rattle.dob_board.proofs.Halting.{halts_call, halts_tell, found_done, knew_done, black_hears, heard_halt}

@@ -1,3 +1,4 @@
+-- A look at what a node posted keeps the rule: the number is no less than what was seen and what is taken.
 use Rattle.std.proofs.Common.{rules}
 use Rattle.dob_board.specs.Views.{stand_from}
 use Rattle.dob_board.proofs.Allowed.{looks_call, looks_tell}

@@ -1,3 +1,4 @@
+-- The token passed has a word, and to store it keeps the rule and makes the event; one that comes again is in bounds.
 use Rattle.std.proofs.Common.{◌≡◌, ℤ, to_z, of_z, w64, rules, arith, ap, sym, subst, ◌∙◌, Option, false}
 use Rattle.std.proofs.lemmas.Int.{ints, to_z-of_z}
 use Rattle.dob_safra.specs.declared.token.Token.{Token}

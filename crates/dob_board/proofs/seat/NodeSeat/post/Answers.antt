@@ -1,3 +1,4 @@
+-- To post a batch keeps the rule: the count stays in bounds, and the seat makes the event of a post.
 use Rattle.std.proofs.Common.{rules}
 use Rattle.dob_board.specs.Views.{stand_from}
 use Rattle.dob_board.proofs.Allowed.{posts_call}

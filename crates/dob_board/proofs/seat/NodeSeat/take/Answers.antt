@@ -1,3 +1,4 @@
+-- A look that shows more than is taken, and then the count, take one batch.
 use Rattle.std.proofs.Common.{rules, arith, ap}
 use Rattle.dob_board.specs.declared.view.Stand.{Stand}
 use Rattle.dob_board.proofs.Done.{read_there}

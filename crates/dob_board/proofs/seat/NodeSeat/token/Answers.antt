@@ -1,3 +1,4 @@
+-- A look at the token's word keeps the rule of the board.
 use Rattle.std.proofs.Common.{rules, arith}
 use Rattle.dob_board.specs.Views.{stand_from}
 use Rattle.dob_board.proofs.Passing.{meets_call}

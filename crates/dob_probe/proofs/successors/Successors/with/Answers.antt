@@ -1,3 +1,4 @@
+-- One value more: the greatest win, the least loss and the draw that are kept are those of the longer list.
 use Rattle.std.proofs.Common.{◌≡◌, ◌++◌, ◌∷◌, [], true, Some, ℕ, sym, subst, List}
 use Rattle.dob_value.specs.declared.value.Value.{Value}
 use Rattle.dob_value.specs.declared.value.Value.TheVariants.{Win, Loss}

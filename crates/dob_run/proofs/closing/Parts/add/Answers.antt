@@ -1,3 +1,4 @@
+-- One mail more is taken apart: its seat, sending ends and hands go last, and each taking end to its sender's row.
 use Rattle.std.proofs.Common.{◌≡◌, ℕ, rules, sym, subst, ap, List, length, vec_len, ◌∙◌, map}
 use Rattle.std.proofs.lemmas.List.{length-map}
 use Rattle.dob_chan.specs.declared.ends.TakeEnd.{TakeEnd}

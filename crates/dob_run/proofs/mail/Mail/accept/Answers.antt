@@ -1,3 +1,4 @@
+-- The accepted batch is one more of the inlet's worked ones and of the seat's count, and the other links are kept.
 use Rattle.std.proofs.Common.{◌≡◌, ◌≢◌, ℕ, ◌<◌, suc, List, ◌∷◌, [], ◌++◌, length, Option, Some, None, rules, arith, refl, sym, ap, ◌∙◌, subst, length-append}
 use Rattle.std.specs.Prelude.{slice_get, slice_set, IfSome}
 use Rattle.dob_update.specs.Batches.{BatchView}

@@ -1,3 +1,4 @@
+-- An offer leaves the counts and the offered batches, at most 2^40, as they were, and empty hands stay empty.
 use Rattle.std.proofs.Common.{◌≡◌, ◌≤◌, ◌^◌, ◌⊎◌, inl, inr, ◌∙◌, length, Some, None, rules, arith, refl, ap}
 use Rattle.std.specs.Prelude.{slice_get}
 use Rattle.dob_run.specs.declared.hands.Outlet.{Outlet}

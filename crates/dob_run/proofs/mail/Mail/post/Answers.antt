@@ -1,3 +1,4 @@
+-- The posted batch is one more of the outlet's offered ones and of the seat's count, and the other links are kept.
 use Rattle.std.proofs.Common.{◌≡◌, suc, List, ℕ, [], ◌∷◌, length, Some, rules, arith, refl, sym, ap, ◌∙◌, subst, length-append}
 use Rattle.std.specs.Prelude.{slice_get, slice_set}
 use Rattle.dob_board.specs.declared.view.Stand.{Stand}

@@ -1,3 +1,4 @@
+-- What is received into the hand isn't worked yet: the counts and the worked batches stay, and the rest is kept.
 use Rattle.std.proofs.Common.{◌≡◌, length, Some, rules, refl, ap}
 use Rattle.std.specs.Prelude.{slice_get}
 use Rattle.dob_run.specs.Links.{worked, KeepsOutlet, KeepsInlet}

@@ -1,3 +1,4 @@
+-- The own items applied so far and the next make one step of the runner, which fails where the next is refused.
 use Rattle.dob_run.proofs.Keeping.{goes_trans, carried_on}
 use Rattle.dob_run.proofs.runner.Runner.apply_all.Goals as goal
 

@@ -1,3 +1,4 @@
+-- The runner stays lawful where its first own item is applied, and is as it was where it has none.
 use Rattle.std.proofs.Common.{Ok, ap, sym, subst, inl, inr}
 use Rattle.std.proofs.lemmas.Bool.{cases_Bool}
 use Rattle.dob_node.specs.declared.node.Node.{Node}

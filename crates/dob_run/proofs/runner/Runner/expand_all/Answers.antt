@@ -1,3 +1,4 @@
+-- The settlements expanded so far and the next make one step, over classes of the same piece set, or a failed one.
 use Rattle.std.proofs.Common.{sym, ◌∙◌}
 use Rattle.dob_run.proofs.Keeping.{goes_trans, carried_on}
 use Rattle.dob_run.proofs.runner.Runner.expand_all.Goals as goal

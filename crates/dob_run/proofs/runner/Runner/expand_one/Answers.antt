@@ -1,3 +1,4 @@
+-- An expanded settlement leaves the runner lawful; one that fails finds no end, as its seat was black.
 use Rattle.std.proofs.Common.{◌≡◌, Bool, false, Result, Ok, Err, ap, sym, subst, inl, inr}
 use Rattle.std.proofs.lemmas.Bool.{cases_Bool}
 use Rattle.dob_node.specs.declared.cause.Cause.{Cause}

@@ -1,3 +1,4 @@
+-- A runner that gives up has a cause; where its seat finds the end announced it is lawful, as it was before.
 use Rattle.std.proofs.Common.{◌≡◌, sym, ap, ◌∙◌, inl, inr}
 use Rattle.dob_board.specs.declared.halt.Halt.TheVariants.{Ended}
 use Rattle.dob_run.specs.Workers.{IsLawful}

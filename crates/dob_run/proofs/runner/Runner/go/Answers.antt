@@ -1,3 +1,4 @@
+-- The runner keeps its place and its piece set through the turns so far and the next, also where the next fails.
 use Rattle.std.proofs.Common.{sym, ◌∙◌}
 use Rattle.dob_run.proofs.Keeping.{goes_trans, runner_trans}
 use Rattle.dob_run.proofs.Threaded.{steps_keep}

@@ -1,3 +1,4 @@
+-- A runner that looks for the halt stays lawful, and its seat finds its own failure only where it knew of it.
 use Rattle.std.proofs.Common.{sym, ap, ◌∙◌, inl}
 use Rattle.dob_run.proofs.Keeping.{own_before}
 use Rattle.dob_run.proofs.Lawfuls.{recoloured, same_inlets}

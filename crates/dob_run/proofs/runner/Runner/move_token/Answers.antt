@@ -1,3 +1,4 @@
+-- A runner at rest stays lawful without the token, when it announces the end, and when it passes the token on.
 use Rattle.std.proofs.Common.{sym, ap, ◌∙◌, inl}
 use Rattle.dob_run.proofs.Keeping.{own_before, own_still}
 use Rattle.dob_run.proofs.Lawfuls.{recoloured, same_inlets}

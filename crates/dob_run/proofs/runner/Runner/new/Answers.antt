@@ -1,3 +1,4 @@
+-- A node that was opened and a mail that nothing has gone over make a lawful runner, which hasn't failed.
 use Rattle.std.proofs.Common.{refl}
 use Rattle.dob_run.proofs.Lawfuls.{begun}
 use Rattle.dob_run.proofs.runner.Runner.new.Goals as goal

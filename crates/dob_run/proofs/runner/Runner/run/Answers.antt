@@ -1,3 +1,4 @@
+-- Each turn finds the classes of the runner's piece set, and keeps the runner's place whatever its answer.
 use Rattle.std.proofs.Common.{sym, ◌∙◌}
 use Rattle.dob_run.proofs.Keeping.{runner_trans, turn_keeps}
 use Rattle.dob_run.proofs.runner.Runner.run.Goals as goal

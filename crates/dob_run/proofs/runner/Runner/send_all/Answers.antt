@@ -1,3 +1,4 @@
+-- The batches sent to the nodes so far and to the next make one step of the runner, which fails where the next fails.
 use Rattle.dob_run.proofs.Keeping.{goes_trans, carried_on}
 use Rattle.dob_run.proofs.runner.Runner.send_all.Goals as goal
 

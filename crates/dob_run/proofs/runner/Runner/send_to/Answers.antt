@@ -1,3 +1,4 @@
+-- The hand's filling and the offer of its batch make one step, and the offer leaves the runner lawful, sent or not.
 use Rattle.std.proofs.Common.{ap, ◌∙◌, inl}
 use Rattle.dob_run.specs.Runners.{GoesOn}
 use Rattle.dob_run.proofs.Keeping.{mail_trans, own_still, out_still}

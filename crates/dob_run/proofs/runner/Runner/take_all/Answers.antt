@@ -1,3 +1,4 @@
+-- The batches taken from the nodes so far and from the next make one step, which fails where the next is refused.
 use Rattle.dob_run.proofs.Keeping.{goes_trans, carried_on}
 use Rattle.dob_run.proofs.runner.Runner.take_all.Goals as goal
 

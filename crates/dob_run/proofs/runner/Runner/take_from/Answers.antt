@@ -1,3 +1,4 @@
+-- The runner is lawful whether no batch came or one was applied; a refused one blackened its seat before any end.
 use Rattle.std.proofs.Common.{◌≡◌, ℕ, true, refl, sym, ap, ◌∙◌, ◌++◌, inl}
 use Rattle.std.specs.Prelude.{slice_get}
 use Rattle.dob_board.specs.declared.view.Stand.{Stand}

@@ -1,3 +1,4 @@
+-- A failure of the work is the turn's and is never `Held`; else the look, the work and the rest make one turn.
 use Rattle.std.proofs.Common.{refl}
 use Rattle.dob_run.specs.Runners.{GoesOn, GoesRound}
 use Rattle.dob_run.proofs.Keeping.{runner_trans, turn_failed, unheld_on}

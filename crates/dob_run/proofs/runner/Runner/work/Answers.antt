@@ -1,3 +1,4 @@
+-- Taking, expanding, applying and sending make one step of the runner, which fails where one of the four fails.
 use Rattle.std.proofs.Common.{sym, ◌∙◌}
 use Rattle.dob_run.specs.Runners.{GoesOn}
 use Rattle.dob_run.proofs.Keeping.{runner_same, goes_trans, carried_on}

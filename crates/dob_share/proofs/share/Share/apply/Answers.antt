@@ -1,3 +1,4 @@
+-- What an item does at its class's place: its fault, the class's cell, the other cells, and the settlement it makes.
 use Rattle.std.proofs.Common.{refl, sym, subst}
 use Rattle.dob_value.specs.declared.value.Value.{Value}
 use Rattle.dob_share.specs.declared.fault.Fault.TheVariants.{TooDeep, Contradiction}

@@ -1,3 +1,4 @@
+-- One class more is opened with its slot and run; the share owns those listed, with their statuses and fresh cells.
 use Rattle.std.proofs.Common.{◌≡◌, ℕ, ◌+◌, ◌*◌, ◌<◌, ◌≤◌, length, refl, sym, ap, subst, ◌∙◌, arith}
 use Rattle.std.proofs.lemmas.List.{length_push}
 use Rattle.dob_share.specs.Owners.{class_of_place}

@@ -1,3 +1,4 @@
+-- A slot with its run is opened for each place so far, and their settlements are counted, at most one for each.
 use Rattle.std.proofs.Common.{◌≡◌, ◌≤◌, length}
 use Rattle.dob_share.specs.Owners.{class_of_place}
 use Rattle.dob_share.specs.Openings.{AreOpened, opening_of, settled_among}

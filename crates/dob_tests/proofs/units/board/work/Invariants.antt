@@ -1,3 +1,4 @@
+-- The seat is still that of the same node of the same board.
 use Rattle.dob_board.specs.Seats.{IsSameSeat}
 use Rattle.dob_tests.proofs.units.board.work.Given as goal
 

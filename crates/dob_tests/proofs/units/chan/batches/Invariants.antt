@@ -1,3 +1,4 @@
+-- The outbox is still that of the classes' set, for owner 1 of two.
 use Rattle.std.proofs.Common.{◌≡◌}
 use Rattle.dob_tests.proofs.units.chan.batches.Given as goal
 

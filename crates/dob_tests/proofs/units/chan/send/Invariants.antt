@@ -1,3 +1,4 @@
+-- The sending end is still of its channel while the batch is offered.
 use Rattle.dob_chan.specs.Ends.{SendsOnSame}
 use Rattle.dob_tests.proofs.units.chan.send.Given as goal
 

@@ -1,3 +1,4 @@
+-- The sending end is still of its channel after the batches so far, and fewer are left to send.
 use Rattle.dob_chan.specs.Ends.{SendsOnSame}
 use Rattle.dob_tests.proofs.units.chan.send_all.Given as goal
 

@@ -1,3 +1,4 @@
+-- The taking end is still of its channel after the batches taken so far.
 use Rattle.dob_chan.specs.Ends.{TakesOnSame}
 use Rattle.dob_tests.proofs.units.chan.take_all.Given as goal
 

@@ -1,3 +1,4 @@
+-- Runners that were all started and have all ended keep their places and are through with their turns.
 use Rattle.dob_run.proofs.Threaded.{if_all_ended}
 use Rattle.dob_run.proofs.threads.fn.run_each.scope.Goals as goal
 

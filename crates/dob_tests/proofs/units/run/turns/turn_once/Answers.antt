@@ -1,3 +1,4 @@
+-- A turn keeps the runner's place in its crew, and its set, which is still that of the classes.
 use Rattle.std.proofs.Common.{sym, ◌∙◌}
 use Rattle.dob_run.proofs.Keeping.{turn_keeps}
 use Rattle.dob_tests.proofs.units.run.turns.turn_once.Goals as goal

@@ -1,3 +1,4 @@
+-- What both runners kept so far they keep through one turn more, and so does the first at its last turn.
 use Rattle.dob_run.proofs.Keeping.{runner_trans}
 use Rattle.dob_tests.proofs.units.run.turns.turn_to_the_end.Goals as goal
 
