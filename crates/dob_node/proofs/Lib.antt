@@ -14,6 +14,8 @@ pub mod Ends
 pub mod Stored
 pub mod Parity
 pub mod Kepts
+pub mod ItemChanges
+pub mod ShownValues
 pub mod Soles
 pub mod Sounds
 pub mod Opens

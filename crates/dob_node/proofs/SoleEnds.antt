@@ -1,31 +1,24 @@
 -- One node that owns all classes: the values that it shows, and its end.
-use Rattle.std.proofs.Common.{◌≡◌, ℕ, zero, suc, ◌+◌, ◌<◌, ◌⊎◌, inl, inr, sym, ap, ◌∙◌, subst, arith, List, [], ◌∷◌, ◌++◌, length, slice_get, Some, lit<, ◌==◌, ◌%◌}
-use Rattle.std.proofs.lemmas.Bool.{cases_order}
-use Rattle.std.proofs.lemmas.List.{length-append, map-append, take_all, append-nil, get_or_push, get_or_append_left}
-use Rattle.std.proofs.lemmas.Option.{slice_get-get_or}
+use Rattle.std.proofs.Common.{◌≡◌, ℕ, zero, suc, ◌+◌, ◌<◌, ◌⊎◌, inl, inr, sym, ap, ◌∙◌, subst, arith, List, ◌++◌, lit<, ◌==◌, ◌%◌}
+use Rattle.std.proofs.lemmas.List.{take_all, append-nil}
 use Rattle.dob_pieces.specs.declared.piece_set.PieceSet.{PieceSet}
-use Rattle.dob_moves.specs.declared.position_status.Status.{Status}
-use Rattle.dob_moves.specs.declared.position_status.Status.TheVariants.{Caught, Tried, Stuck, Open}
-use Rattle.dob_moves.specs.Statuses.{HasStatus}
 use Rattle.dob_rank.specs.Marks.{classes_of}
-use Rattle.dob_rank.specs.ClassRows.{class_setup}
 use Rattle.dob_value.specs.declared.value.Value.{Value}
 use Rattle.dob_value.specs.declared.value.Value.TheVariants.{Draw}
-use Rattle.dob_value.specs.Codes.{value_of_code, values_of_codes}
 use Rattle.dob_value.specs.Follows.{IsEntry, IsValueTable}
 use Rattle.dob_unmove.specs.Edges.{predecessors}
 use Rattle.dob_share.specs.declared.news.Settlement.{Settlement}
 use Rattle.dob_share.specs.declared.opening.Opening.{Opening}
-use Rattle.dob_share.specs.Cells.{CellValue}
-use Rattle.dob_share.specs.Shares.{IsOwn, status_at, cell_at, IsValue, HasValueNow}
+use Rattle.dob_share.specs.Shares.{IsOwn, status_at, cell_at, HasValueNow}
 use Rattle.dob_update.specs.Items.{items_from}
-use Rattle.dob_node.specs.Histories.{value_of}
+use Rattle.dob_node.specs.Histories.{value_of, AreValuesBelow}
 use Rattle.dob_node.specs.Openings.{AreOpenings}
 use Rattle.dob_node.specs.Lawful.{IsLawful}
 use Rattle.dob_node.specs.declared.node.Node.{Node}
-use Rattle.dob_node.specs.Sole.{sole_history, sole_applied, sole_items, cells_below, HasCome, HasMade, IsDone, AreValues, IsUnderWay}
+use Rattle.dob_node.specs.Sole.{sole_history, sole_applied, sole_items, cells_below, HasCome, HasMade, IsDone, IsUnderWay}
 use Rattle.dob_node.proofs.Kept.{last_now-entry}
-use Rattle.dob_node.proofs.Soles.{one_value, one_owner, cell_below}
+use Rattle.dob_node.proofs.ShownValues.{value_shown}
+use Rattle.dob_node.proofs.Soles.{one_owner, cell_below}
 use Rattle.dob_node.proofs.Ends.{lawful_is_right}
 
 -- ---- values
@@ -37,16 +30,10 @@ module _ (node : Node) (steps : ℕ) (made : HasMade steps node) (class : ℕ) (
   lawful : IsLawful node.set 1 (sole_history history) (sole_applied made.0) (cells_below (classes_of node.set) node.share) (value_of history)
   lawful = made.1.lawful
 
-  by_status : (s : Status) (v : Value) → HasStatus (class_setup node.set class) s → IsValue s (cell_at node.share class) v → v ≡ value_of history class
-  by_status Caught v has is = is ∙ sym (lawful.over class Caught low has (λ same. cc))
-  by_status Tried v has is = is ∙ sym (lawful.over class Tried low has (λ same. cc))
-  by_status Stuck v has is = is ∙ sym (lawful.over class Stuck low has (λ same. cc))
-  by_status Open v has is = one_value (cell_at node.share class) v (value_of history class) is
-      (subst (λ c. CellValue c (value_of history class)) (cell_below (classes_of node.set) node.share class low) (lawful.cell_values class low has))
-
   -- a class shows the value of the history
   pub shows : (v : Value) → HasValueNow node.share class v → v ≡ value_of history class
-  shows v is = by_status (status_at node.share class) v (made.1.statuses class low) is
+  shows v is = value_shown node.set 1 (sole_history history) (sole_applied made.0) (cells_below (classes_of node.set) node.share) (value_of history) lawful class low
+      (cell_at node.share class) (cell_below (classes_of node.set) node.share class low) (status_at node.share class) v (made.1.statuses class low) is
 
   -- which a table can have
   pub shows_entry : (v : Value) → HasValueNow node.share class v → IsEntry v
@@ -59,30 +46,6 @@ module _ (node : Node) (steps : ℕ) (made : HasMade steps node) (class : ℕ) (
     subst (λ (m : ℕ). class % m ≡ node.id) (sym made.1.alone.0) (one_owner class ∙ sym made.1.alone.1),
     low,
   )
-
--- one value more
-pub values_more : (history : List Settlement) (class : ℕ) (codes new : List ℕ) (code : ℕ) (v : Value) → AreValues history class (values_of_codes codes) →
-    new ≡ codes ++ code ∷ [] → value_of_code code ≡ v → v ≡ value_of history class → AreValues history (class + 1) (values_of_codes new)
-values_more history class codes new code v are is code_is shown = subst (λ xs. AreValues history (class + 1) xs)
-    (sym (ap (λ xs. values_of_codes xs) is ∙ map-append value_of_code codes (code ∷ []))) (record {
-      whole = length-append (values_of_codes codes) (value_of_code code ∷ []) ∙ ap (λ (k : ℕ). k + 1) are.whole;
-      each = λ k low. elim (cases_order k class) [
-        | inl same ↦ slice_get_last (values_of_codes codes) (value_of_code code) k (same ∙ sym are.whole)
-            ∙ ap Some (code_is ∙ shown ∙ ap (λ c. value_of history c) (sym same))
-        | inr order ↦ elim order [
-          | inl less ↦ slice_get_before (values_of_codes codes) (value_of_code code) k (subst (λ (m : ℕ). k < m) (sym are.whole) less) ∙ are.each k less
-          | inr more ↦ absurd (omega arith)
-        ]
-      ];
-    })
-  where
-    slice_get_last : (xs : List Value) (x : Value) (k : ℕ) → k ≡ length xs → slice_get (xs ++ x ∷ []) k ≡ Some x
-    slice_get_last xs x k is = slice_get-get_or (xs ++ x ∷ []) k x (let sum : length (xs ++ x ∷ []) ≡ length xs + 1 = length-append xs (x ∷ []) in omega arith)
-        ∙ ap Some (get_or_push xs x x k (sym is))
-
-    slice_get_before : (xs : List Value) (x : Value) (k : ℕ) → k < length xs → slice_get (xs ++ x ∷ []) k ≡ slice_get xs k
-    slice_get_before xs x k low = slice_get-get_or (xs ++ x ∷ []) k x (let sum : length (xs ++ x ∷ []) ≡ length xs + 1 = length-append xs (x ∷ []) in omega arith)
-        ∙ ap Some (get_or_append_left xs (x ∷ []) x k low) ∙ sym (slice_get-get_or xs k x low)
 
 -- ---- the end
 
@@ -100,7 +63,7 @@ openings_of set (suc steps) node come = openings_of set steps come.0 come.1
 
 -- idle, it has the value table
 pub sole_right : (node : Node) (steps count : ℕ) (values : List Value) → HasMade steps node → IsDone node →
-    AreValues node.history.settlements count values → count ≡ classes_of node.set → IsValueTable node.set values
+    AreValuesBelow (value_of node.history.settlements) count values → count ≡ classes_of node.set → IsValueTable node.set values
 sole_right node steps count values made idle listed number =
     lawful_is_right node.set 1 (sole_history node.history.settlements) (sole_applied made.0) (cells_below (classes_of node.set) node.share)
     (value_of node.history.settlements) begun.0 values (lit< tt) begun.1 made.1.lawful all

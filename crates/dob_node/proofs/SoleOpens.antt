@@ -1,8 +1,7 @@
 -- One node that owns all classes, as it is opened: it is lawful.
 use Rattle.std.proofs.Common.{◌≡◌, ◌≢◌, ℕ, zero, suc, ◌+◌, ◌*◌, ◌%◌, ◌<◌, ◌≤◌, inl, inr, eqb, Bool, true, false, cond, refl, sym, ap, ◌∙◌, subst, arith, List, [], ◌++◌, length, take, get_or, Option, None, Some, Result, Ok, Err, IfOk, lit≤}
 use Rattle.std.specs.List.{All}
-use Rattle.std.proofs.lemmas.Bool.{cases_order}
-use Rattle.std.proofs.lemmas.Bool.Decides.{nat_tests}
+use Rattle.std.proofs.lemmas.Bool.{cases_order, eq-eqb, ne_eqb}
 use Rattle.std.proofs.lemmas.List.{append-nil}
 use Rattle.std.proofs.lemmas.List.Elements.{All-append, All-nil, All-cons}
 use Rattle.std.proofs.lemmas.Option.{slice_get-get_or}
@@ -38,7 +37,7 @@ use Rattle.dob_node.specs.Sole.{sole_history, sole_applied, sole_items, cells_be
 use Rattle.dob_node.proofs.Settles.{chained_more, chained_none, value_of-more}
 use Rattle.dob_node.proofs.Takes.{SumsUp-same, CellValue-same}
 use Rattle.dob_node.proofs.Totals.{start_sums}
-use Rattle.dob_node.proofs.Soles.{cell_below}
+use Rattle.dob_node.proofs.Soles.{cell_below, one_owner}
 
 -- ---- what is listed
 
@@ -64,12 +63,6 @@ one_more : (xs : List Settlement) (number class p : ℕ) (o : Option Value) →
 one_more xs number class p None = ap (λ ys. value_of ys p) (append-nil xs) ∙ either_same (eqb class p) (value_of xs p)
 one_more xs number class p (Some now) = value_of-more xs (record { number = number; class = class; was = Draw; now = now }) p
 
-unlike : (a b : ℕ) → a ≢ b → eqb a b ≡ false
-unlike a b other = grind (arith, nat_tests)
-
-alike : (a b : ℕ) → a ≡ b → eqb a b ≡ true
-alike a b same = grind (arith, nat_tests)
-
 sole_place : (k : ℕ) → k * 1 + 0 ≡ k
 sole_place k = omega arith
 
@@ -80,7 +73,7 @@ later_draw status (suc k) p later =
     let before = opening_settlements status 1 0 k in
     one_more before (length before) (k * 1 + 0) p (opening_value (status (k * 1 + 0)))
     ∙ ap (λ b. cond b (or_else (opening_value (status (k * 1 + 0))) (value_of before p)) (value_of before p))
-    (unlike (k * 1 + 0) p (λ same. let is : k * 1 + 0 ≡ k = sole_place k in omega arith))
+    (ne_eqb (k * 1 + 0) p (λ same. let is : k * 1 + 0 ≡ k = sole_place k in omega arith))
     ∙ later_draw status k p (omega arith)
 
 -- the value of a class after the settlement of one more, by whether it is that one
@@ -98,11 +91,11 @@ opened_value status (suc k) p low =
     at : (p < k → value_of (opening_settlements status 1 0 k) p ≡ or_else (opening_value (status p)) Draw) →
         chosen status k p (eqb (k * 1 + 0) p) ≡ or_else (opening_value (status p)) Draw
     at earlier = elim (cases_order p k) [
-      | inl same ↦ ap (λ b. chosen status k p b) (alike (k * 1 + 0) p (sole_place k ∙ sym same))
+      | inl same ↦ ap (λ b. chosen status k p b) (eq-eqb (k * 1 + 0) p (sole_place k ∙ sym same))
           ∙ ap (λ q. or_else (opening_value (status q)) (value_of (opening_settlements status 1 0 k) p)) (sole_place k ∙ sym same)
           ∙ ap (λ v. or_else (opening_value (status p)) v) (later_draw status k p (omega arith))
       | inr order ↦ elim order [
-        | inl less ↦ ap (λ b. chosen status k p b) (unlike (k * 1 + 0) p (λ same. let is : k * 1 + 0 ≡ k = sole_place k in omega arith)) ∙ earlier less
+        | inl less ↦ ap (λ b. chosen status k p b) (ne_eqb (k * 1 + 0) p (λ same. let is : k * 1 + 0 ≡ k = sole_place k in omega arith)) ∙ earlier less
         | inr more ↦ absurd (omega arith)
       ]
     ]
@@ -120,9 +113,6 @@ entry_opened Caught = (refl, lit≤ tt)
 entry_opened Tried = (refl, lit≤ tt)
 entry_opened Stuck = (refl, lit≤ tt)
 entry_opened Open = tt
-
-one_owner : (class : ℕ) → class % 1 ≡ 0
-one_owner class = let less : class % 1 < 1 = omega arith in omega arith
 
 pub opened_chained : (classes : ℕ) (status : ℕ → Status) (k : ℕ) → k ≤ classes → IsChained classes 1 0 (opening_settlements status 1 0 k)
 opened_chained classes status zero low = chained_none classes 1 0

@@ -1,5 +1,5 @@
 -- What a history says of its classes, and what the copies of an edge know of it.
-use Rattle.std.specs.Prelude.{◌≡◌, ℕ, ◌<◌, ◌&&◌, ◌==◌, nat_lt, Bool, cond, List, [], ◌∷◌, ◌++◌, length, count_by}
+use Rattle.std.specs.Prelude.{◌≡◌, ℕ, ◌<◌, ◌&&◌, ◌==◌, nat_lt, Bool, cond, List, [], ◌∷◌, ◌++◌, length, slice_get, count_by, Some}
 use Rattle.dob_pieces.specs.Lists.{each_below}
 use Rattle.dob_value.specs.declared.value.Value.{Value}
 use Rattle.dob_value.specs.declared.value.Value.TheVariants.{Draw}
@@ -20,6 +20,11 @@ last_now test before (s ∷ ss) = last_now test (cond (test s) s.now before) ss
 -- the value of a class after the history of its owner
 abbrev pub value_of : List Settlement → ℕ → Value
 value_of history class = last_now (λ s. s.class == class) Draw history
+
+-- the values of the classes below a number, in order
+pub record AreValuesBelow (value : ℕ → Value) (count : ℕ) (values : List Value) : Type 0 where
+  pub whole : length values ≡ count
+  pub each : (class : ℕ) → class < count → slice_get values class ≡ Some (value class)
 
 -- how many of the items say to a class what the settlement of that number says
 abbrev pub items_to : List Item → ℕ → ℕ → ℕ

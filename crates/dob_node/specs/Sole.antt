@@ -1,10 +1,9 @@
 -- One node that owns all classes, and its way to the value table.
-use Rattle.std.specs.Prelude.{◌≡◌, ℕ, zero, suc, ◌+◌, ◌<◌, ◌≤◌, ◌⊎◌, nat_lt, cond, List, [], ◌++◌, length, take, slice_get, Some}
+use Rattle.std.specs.Prelude.{◌≡◌, ℕ, zero, suc, ◌+◌, ◌<◌, ◌≤◌, ◌⊎◌, nat_lt, cond, List, [], ◌++◌, length, take}
 use Rattle.dob_pieces.specs.declared.piece_set.PieceSet.{PieceSet}
 use Rattle.dob_moves.specs.Statuses.{HasStatus}
 use Rattle.dob_rank.specs.Marks.{classes_of}
 use Rattle.dob_rank.specs.ClassRows.{class_setup}
-use Rattle.dob_value.specs.declared.value.Value.{Value}
 use Rattle.dob_unmove.specs.Edges.{predecessors}
 use Rattle.dob_share.specs.declared.news.Settlement.{Settlement}
 use Rattle.dob_share.specs.declared.news.Item.{Item}
@@ -70,11 +69,6 @@ HasMade steps node = (applied : List Item) × IsSole node applied × (node.expan
 -- the node has nothing to expand or to apply
 abbrev pub IsDone : Node → Type 0
 IsDone node = (node.expanded ≡ length node.history.settlements) × (node.own.items ≡ [])
-
--- the values of the classes below a number after a history, in order
-pub record AreValues (history : List Settlement) (count : ℕ) (values : List Value) : Type 0 where
-  pub whole : length values ≡ count
-  pub each : (class : ℕ) → class < count → slice_get values class ≡ Some (value_of history class)
 
 -- The one node has something left to do after that many steps.
 pub record IsUnderWay (set : PieceSet) (steps : ℕ) : Type 0 where

@@ -5,9 +5,10 @@ ghost use Rattle.dob_rank.specs.Marks.{classes_of};
 ghost use Rattle.dob_rank.specs.Limits.{IsTooLarge};
 ghost use Rattle.dob_value.specs.Codes.{values_of_codes};
 ghost use Rattle.dob_value.specs.Follows.{IsValueTable};
+ghost use Rattle.dob_node.specs.Histories.{value_of, AreValuesBelow};
 ghost use Rattle.dob_node.specs.Nodes.{IsSound};
 ghost use Rattle.dob_node.specs.Causes.{IsFaultOf};
-ghost use Rattle.dob_node.specs.Sole.{HasMade, IsDone, IsUnderWay, IsDoneWithin, HasStopped, IsTooDeepWithin, AreValues};
+ghost use Rattle.dob_node.specs.Sole.{HasMade, IsDone, IsUnderWay, IsDoneWithin, HasStopped, IsTooDeepWithin};
 
 use crate::cause::{Cause, Fault};
 use crate::node::Node;
@@ -132,7 +133,7 @@ fn codes_of(alloc: Global, node: &Node, count: u64) -> Result<Vec<u16>, Memory>
     requires made { (steps : ℕ) × HasMade steps node.now }
     requires count { count ≡ classes_of node.now.set }
     ensures codes { IfOk result (λ codes. All (λ code. code < 65536) codes.items) }
-    ensures values { IfOk result (λ codes. AreValues node.now.history.settlements count (values_of_codes codes.items)) }
+    ensures values { IfOk result (λ codes. AreValuesBelow (value_of node.now.history.settlements) count (values_of_codes codes.items)) }
 {
     let mut codes = Vec::with_capacity(alloc, count as usize)?;
     for class in 0..count {

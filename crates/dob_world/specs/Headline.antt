@@ -1,17 +1,13 @@
 -- The promise of the whole, in three parts, of which each holds in every world after any events.
-use Rattle.std.specs.Prelude.{◌≡◌, ◌≢◌, ℕ, ◌<◌, true, List, length, Some, slice_get}
+use Rattle.std.specs.Prelude.{◌≡◌, ◌≢◌, ℕ, ◌<◌, true, List}
 use Rattle.dob_rank.specs.Marks.{classes_of}
 use Rattle.dob_value.specs.declared.value.Value.{Value}
 use Rattle.dob_value.specs.Follows.{IsValueTable}
+use Rattle.dob_node.specs.Histories.{AreValuesBelow}
 use Rattle.dob_safra.specs.Rings.{in_flight}
 use Rattle.dob_world.specs.declared.event.Event.{Event}
 use Rattle.dob_world.specs.Worlds.{Setting, World, State, value_in, items_in, AreLawful, IsAtRest, IsTold, waiting_batches, IsBeginning}
 use Rattle.dob_world.specs.Events.{CanHappen, MayEnd}
-
--- the values of the classes below a number, in order
-pub record AreValuesBelow (value : ℕ → Value) (count : ℕ) (values : List Value) : Type 0 where
-  pub whole : length values ≡ count
-  pub each : (class : ℕ) → class < count → slice_get values class ≡ Some (value class)
 
 -- What was sent over each link is a beginning of the items of the sender's history, and what its receiver has applied is a
 -- beginning of what was sent, in its order and each item once; of its own items a node has applied a beginning. Each cell

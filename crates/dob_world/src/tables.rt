@@ -3,9 +3,9 @@ ghost use Rattle.std.specs.Prelude.{◌≡◌, ◌<◌, true, All, IfOk};
 ghost use Rattle.dob_rank.specs.Marks.{classes_of};
 ghost use Rattle.dob_value.specs.Codes.{values_of_codes};
 ghost use Rattle.dob_value.specs.Follows.{IsValueTable};
+ghost use Rattle.dob_node.specs.Histories.{AreValuesBelow};
 ghost use Rattle.dob_world.specs.Worlds.{value_in, IsAtRest};
 ghost use Rattle.dob_world.specs.Shown.{setting_of, state_of, IsStanding};
-ghost use Rattle.dob_world.specs.Headline.{AreValuesBelow};
 
 use crate::world::World;
 use dob_pieces::Memory;

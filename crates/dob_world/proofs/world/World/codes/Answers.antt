@@ -3,10 +3,11 @@ use Rattle.std.proofs.Common.{◌≡◌, ℕ, ◌<◌, sym, subst, Some, slice_g
 use Rattle.std.proofs.lemmas.List.Elements.{All-push}
 use Rattle.std.specs.List.{All}
 use Rattle.dob_share.specs.Owners.{owner_of}
+use Rattle.dob_node.proofs.ShownValues.{values_more}
 use Rattle.dob_world.specs.Worlds.{value_in}
 use Rattle.dob_world.specs.Shown.{setting_of, state_of}
 use Rattle.dob_world.proofs.Stands.{node_there}
-use Rattle.dob_world.proofs.Gathered.{owned, shows, shows_entry, values_more}
+use Rattle.dob_world.proofs.Gathered.{owned, shows, shows_entry}
 use Rattle.dob_world.proofs.world.World.codes.Goals as goal
 
 pub value-requires : goal.value-requires

@@ -2,9 +2,9 @@
 use Rattle.std.proofs.Common.{◌<◌}
 use Rattle.std.specs.List.{All}
 use Rattle.dob_value.specs.Codes.{values_of_codes}
+use Rattle.dob_node.specs.Histories.{AreValuesBelow}
 use Rattle.dob_world.specs.Worlds.{value_in}
 use Rattle.dob_world.specs.Shown.{state_of}
-use Rattle.dob_world.specs.Headline.{AreValuesBelow}
 use Rattle.dob_world.proofs.world.World.codes.Given as goal
 
 abbrev pub invariant-loop-class : goal.invariant-loop-class

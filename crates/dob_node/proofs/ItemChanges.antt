@@ -1,0 +1,135 @@
+-- What an item that a share takes changes: the value of its class, told by the settlement that is listed, and no other value.
+use Rattle.std.proofs.Common.{◌≡◌, ◌≢◌, ℕ, ◌+◌, ◌<◌, ◌≤◌, ◌⊎◌, inl, inr, eqb, Bool, true, false, cond, refl, sym, ap, ◌∙◌, subst, arith, List, [], ◌∷◌, ◌++◌, length, Option, None, Some}
+use Rattle.std.proofs.lemmas.Bool.{eq-eqb, ne_eqb}
+use Rattle.std.proofs.lemmas.List.{append-nil}
+use Rattle.dob_moves.specs.declared.position_status.Status.{Status}
+use Rattle.dob_moves.specs.declared.position_status.Status.TheVariants.{Open}
+use Rattle.dob_value.specs.declared.value.Value.{Value}
+use Rattle.dob_value.specs.declared.value.Value.TheVariants.{Win, Loss, Draw}
+use Rattle.dob_share.specs.declared.news.Settlement.{Settlement}
+use Rattle.dob_share.specs.declared.news.Item.{Item}
+use Rattle.dob_share.specs.declared.share.Share.{Share}
+use Rattle.dob_share.specs.Cells.{Cell, SameCell, CellValue, IsGreatest}
+use Rattle.dob_share.specs.Shares.{status_at, cell_at, IsValue, HasValueNow, Fits, HasSettled}
+use Rattle.dob_share.specs.Values.{Better, NoWorse}
+use Rattle.dob_node.specs.Stores.{HistoryView}
+use Rattle.dob_node.specs.Histories.{value_of}
+use Rattle.dob_node.specs.Takes.{IsTaken, listed}
+use Rattle.dob_node.proofs.Settles.{value_of-more}
+use Rattle.dob_node.proofs.Kept.{better_apart}
+use Rattle.dob_node.proofs.Stored.{same_settlement}
+
+some_same : {X : Type 0} (a b : X) → Some a ≡ Some b → a ≡ b
+some_same a b e = cc
+
+-- ---- a cell has one value
+
+greatest_same : (wins : ℕ → ℕ) (a b : ℕ) → IsGreatest wins a → IsGreatest wins b → a ≡ b
+greatest_same wins a b one other =
+    let less : a ≤ b = other.1 a one.0 in
+    let more : b ≤ a = one.1 b other.0 in
+    omega arith
+
+nothing_counted : (cell : Cell) (greatest : ℕ) → cell.left ≡ 0 → 0 < cell.wins greatest → (0 < cell.left) ⊎ ((plies : ℕ) → cell.wins plies ≡ 0) → ⊥
+nothing_counted cell greatest none some (inl left) = omega arith
+nothing_counted cell greatest none some (inr all) = let is : cell.wins greatest ≡ 0 = all greatest in omega arith
+
+pub one_value : (cell : Cell) (v w : Value) → CellValue cell v → CellValue cell w → v ≡ w
+one_value cell (Win a) (Win b) one other =
+    let same : one.0 ≡ other.0 = some_same one.0 other.0 (sym one.1 ∙ other.1) in
+    ap Win (one.2 ∙ ap (λ (k : ℕ). k + 1) same ∙ sym other.2)
+one_value cell (Win a) (Loss b) one other = absurd (let is = sym one.1 ∙ other.0 in cc)
+one_value cell (Win a) Draw one other = absurd (let is = sym one.1 ∙ other.0 in cc)
+one_value cell (Loss a) (Win b) one other = absurd (let is = sym one.0 ∙ other.1 in cc)
+one_value cell (Loss a) (Loss b) one other =
+    ap Loss (one.4 ∙ ap (λ (k : ℕ). k + 1) (greatest_same cell.wins one.2 other.2 one.3 other.3) ∙ sym other.4)
+one_value cell (Loss a) Draw one other = absurd (nothing_counted cell one.2 one.1 one.3.0 other.1)
+one_value cell Draw (Win b) one other = absurd (let is = sym one.0 ∙ other.1 in cc)
+one_value cell Draw (Loss b) one other = absurd (nothing_counted cell other.2 other.1 other.3.0 one.1)
+one_value cell Draw Draw one other = refl
+
+-- ---- cells that say the same
+
+same_cell : (a b : Cell) → a ≡ b → SameCell a b
+same_cell a b is = subst (λ c. SameCell a c) is (record { left = refl; wins = λ plies. refl; least = refl })
+
+-- of one class or of another, by a test
+pub same_by : (b : Bool) (x y z : Cell) → (b ≡ true → SameCell x y) → SameCell (cond b x z) (cond b y z)
+same_by true x y z same = same refl
+same_by false x y z same = same_cell z z refl
+
+-- ---- a class that is open
+
+-- it has the value of its cell
+open_value : (status : Status) (cell : Cell) (v : Value) → status ≡ Open → IsValue status cell v → CellValue cell v
+open_value status cell v is = subst (λ s. IsValue s cell v → CellValue cell v) (sym is) (λ value. value)
+
+pub fits_open : (share : Share) (item : Item) → Fits share item → status_at share item.to ≡ Open
+unfolding Fits
+fits_open share item fits = fits.1
+
+-- ---- the history
+
+-- of the other classes it says what it said
+pub value_elsewhere : (share after : Share) (to : ℕ) (before grown : List Settlement) (given : Option Settlement) → HasSettled share after to given →
+    grown ≡ before ++ listed given → (p : ℕ) → p ≢ to → value_of grown p ≡ value_of before p
+value_elsewhere share after to before grown None settled is p other = ap (λ xs. value_of xs p) (is ∙ append-nil before)
+value_elsewhere share after to before grown (Some s) settled is p other =
+    ap (λ xs. value_of xs p) is ∙ value_of-more before s p
+    ∙ ap (λ b. cond b s.now (value_of before p)) (ne_eqb s.class p (λ e. other (sym e ∙ settled.2)))
+
+-- What has changed is the settlement that is listed, if there is one: where the value is another there is one, and else none.
+pub record Change (item : Item) (after : Share) (before grown : List Settlement) : Type 0 where
+  pub gives : CellValue (cell_at after item.to) (value_of grown item.to)
+  pub better : NoWorse (value_of before item.to) (value_of grown item.to)
+  pub others : (p : ℕ) → p ≢ item.to → value_of grown p ≡ value_of before p
+  pub same : value_of before item.to ≡ value_of grown item.to → grown ≡ before
+  pub more : value_of before item.to ≢ value_of grown item.to →
+      grown ≡ before ++ record { number = length before; class = item.to; was = value_of before item.to; now = value_of grown item.to } ∷ []
+
+-- An item taken, where the cell of its class gave the value of the history.
+module _ (item : Item) (share after : Share) (history grown : HistoryView) (taken : IsTaken item share after history grown)
+    (counted : share.settled ≡ length history.settlements) (gave : CellValue (cell_at share item.to) (value_of history.settlements item.to)) where
+  abbrev h : List Settlement
+  h = history.settlements
+
+  abbrev g : List Settlement
+  g = grown.settlements
+
+  -- the value before
+  was_is : (v : Value) → HasValueNow share item.to v → v ≡ value_of h item.to
+  was_is v is = one_value (cell_at share item.to) v (value_of h item.to)
+      (open_value (status_at share item.to) (cell_at share item.to) v (fits_open share item taken.fits) is) gave
+
+  value_after : (v : Value) → HasValueNow after item.to v → CellValue (cell_at after item.to) v
+  value_after v is = open_value (status_at after item.to) (cell_at after item.to) v (taken.statuses item.to ∙ fits_open share item taken.fits) is
+
+  change : (given : Option Settlement) → HasSettled share after item.to given → g ≡ h ++ listed given → Change item after h g
+  change None settled is =
+      let same : g ≡ h = is ∙ append-nil h in
+      let v = settled.1 in
+      let value : v ≡ value_of h item.to = was_is v settled.2 in
+      let now : value_of g item.to ≡ value_of h item.to = ap (λ xs. value_of xs item.to) same in
+      record {
+        gives = subst (λ w. CellValue (cell_at after item.to) w) (value ∙ sym now) (value_after v settled.3);
+        better = inl (sym now);
+        others = value_elsewhere share after item.to h g None settled is;
+        same = λ e. same;
+        more = λ differs. absurd (differs (sym now));
+      }
+  change (Some s) settled is =
+      let was : s.was ≡ value_of h item.to = was_is s.was settled.3 in
+      let here : eqb s.class item.to ≡ true = eq-eqb s.class item.to settled.2 in
+      let now : value_of g item.to ≡ s.now =
+      ap (λ xs. value_of xs item.to) is ∙ value_of-more h s item.to ∙ ap (λ b. cond b s.now (value_of h item.to)) here in
+      let better : Better (value_of h item.to) (value_of g item.to) = subst (λ v. Better v (value_of g item.to)) was (subst (λ w. Better s.was w) (sym now) settled.5) in
+      record {
+        gives = subst (λ w. CellValue (cell_at after item.to) w) (sym now) (value_after s.now settled.4);
+        better = inr better;
+        others = value_elsewhere share after item.to h g (Some s) settled is;
+        same = λ e. absurd (better_apart (value_of h item.to) (value_of g item.to) better e);
+        more = λ differs. is ∙ ap (λ x. h ++ x ∷ []) (same_settlement s.number (length h) s.class item.to s.was (value_of h item.to) s.now (value_of g item.to) (settled.1 ∙ counted) settled.2 was (sym now));
+      }
+
+  pub item_changes : Change item after history.settlements grown.settlements
+  item_changes = change taken.settled.0 taken.settled.1 (ap (λ (view : HistoryView). view.settlements) taken.settled.2)
