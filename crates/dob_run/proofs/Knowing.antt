@@ -17,7 +17,7 @@ use Rattle.dob_share.specs.declared.share.Share.{Share}
 use Rattle.dob_share.specs.Owners.{owner_of}
 use Rattle.dob_share.specs.Values.{Better}
 use Rattle.dob_share.specs.Cells.{Cell, SameCell, Changes, changed}
-use Rattle.dob_share.specs.Shares.{status_at, cell_at, IsValue, HasValueNow, Fits, HasSettled}
+use Rattle.dob_share.specs.Shares.{status_at, cell_at, IsValue, HasValueNow, HasSettled}
 use Rattle.dob_share.proofs.Sums.{sums_up_after}
 use Rattle.dob_update.specs.Items.{items_from}
 use Rattle.dob_node.specs.Histories.{value_of, all_known, IsNext, IsChained}
@@ -28,7 +28,7 @@ use Rattle.dob_node.proofs.Learns.{learnt, nothing_learnt}
 use Rattle.dob_node.proofs.Settles.{chained_more, value_of-more}
 use Rattle.dob_node.proofs.Kept.{all_known-same}
 use Rattle.dob_node.proofs.Kepts.{fits_own, now_is, kept_still}
-use Rattle.dob_node.proofs.Soles.{one_value}
+use Rattle.dob_node.proofs.ItemChanges.{one_value, fits_open, value_elsewhere}
 use Rattle.dob_node.proofs.Takes.{SumsUp-same, CellValue-same}
 use Rattle.dob_run.specs.Knows.{sum_of, CanHaveMade, AreSummed, KnowsRight}
 use Rattle.dob_run.proofs.Summing.{sums_by, is_sum}
@@ -62,10 +62,6 @@ value_back share after class v status same is =
 one_open_value : (status : Status) (cell : Cell) (v w : Value) → status ≡ Open → IsValue status cell v → IsValue status cell w → v ≡ w
 one_open_value status cell v w is =
     subst (λ s. IsValue s cell v → IsValue s cell w → v ≡ w) (sym is) (λ one other. one_value cell v w one other)
-
-fits_open : (share : Share) (item : Item) → Fits share item → status_at share item.to ≡ Open
-unfolding Fits
-fits_open share item fits = fits.1
 
 -- ---- one item more of one node
 
@@ -171,7 +167,7 @@ module _ (set : PieceSet) (n id : ℕ) (share mid : Share) (history longer : His
     | inr other ↦
         knows.values class v low_class own
         (value_back share mid class v (taken.statuses class) (taken.others class ((kept.owned class).1 (own, low_class)) other) has)
-        ∙ sym (elsewhere given settled is other)
+        ∙ sym (value_elsewhere share mid item.to h g given settled is class other)
   ]
     where
       one : (w : Value) → HasValueNow mid item.to v → HasValueNow mid item.to w → v ≡ w
@@ -186,12 +182,6 @@ module _ (set : PieceSet) (n id : ℕ) (share mid : Share) (history longer : His
           ∙ ap (λ b. cond b s.now (value_of h item.to)) (sym (eq-eqb s.class item.to news.2))
           ∙ sym (value_of-more h s item.to)
           ∙ ap (λ xs. value_of xs item.to) (sym all)
-
-      elsewhere : (o : Option Settlement) → HasSettled share mid item.to o → g ≡ h ++ listed o → class ≢ item.to → value_of g class ≡ value_of h class
-      elsewhere None stays all other = ap (λ xs. value_of xs class) (all ∙ append-nil h)
-      elsewhere (Some s) news all other =
-          ap (λ xs. value_of xs class) all ∙ value_of-more h s class
-          ∙ ap (λ b. cond b s.now (value_of h class)) (ne_eqb s.class class (λ e. other (sym e ∙ news.2)))
 
   pub taken_one : KnowsRight set n id mid g after
   taken_one =

@@ -26,7 +26,7 @@ use Rattle.dob_node.specs.declared.node.Node.{Node}
 use Rattle.dob_node.specs.Nodes.{IsSound, IsOpened}
 use Rattle.dob_node.proofs.Takes.{SumsUp-same, CellValue-same}
 use Rattle.dob_node.proofs.Totals.{start_sums}
-use Rattle.dob_node.proofs.Soles.{one_value}
+use Rattle.dob_node.proofs.ItemChanges.{one_value}
 use Rattle.dob_node.proofs.SoleOpens.{listed_opening}
 use Rattle.dob_node.proofs.Beginnings.{or_else, opened_value, opened_chained, opened_entries}
 use Rattle.dob_run.specs.Knows.{AreSummed, KnowsRight}

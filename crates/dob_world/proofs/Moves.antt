@@ -1,7 +1,7 @@
 -- Items that a node of the world applies, its own or those of a batch, and batches that it posts.
-use Rattle.std.proofs.Common.{◌≡◌, ◌≢◌, ℕ, ◌+◌, ◌*◌, ◌<◌, ◌&&◌, ◌⊎◌, inl, inr, eqb, nat_lt, Bool, true, false, cond, refl, sym, ap, ◌∙◌, subst, List, [], ◌∷◌, ◌++◌, length, Some, slice_get, set}
+use Rattle.std.proofs.Common.{◌≡◌, ◌≢◌, ℕ, ◌+◌, ◌*◌, ◌<◌, ◌⊎◌, inl, inr, eqb, nat_lt, Bool, true, false, cond, refl, sym, ap, ◌∙◌, subst, List, [], ◌∷◌, ◌++◌, length, Some, slice_get, set}
 use Rattle.std.specs.List.{All}
-use Rattle.std.proofs.lemmas.Bool.{eqb-true}
+use Rattle.std.proofs.lemmas.Bool.{eqb-true, eq-eqb, and_parts, and_cases}
 use Rattle.std.proofs.lemmas.List.{length-set}
 use Rattle.dob_rank.specs.Marks.{classes_of}
 use Rattle.dob_share.specs.declared.news.Item.{Item}
@@ -18,15 +18,11 @@ use Rattle.dob_world.specs.Events.{Applies, AppliesAll}
 use Rattle.dob_world.specs.Shown.{part, lane_at, nodes_shown, IsNodeOf, IsLaneOf, AreInPlace}
 use Rattle.dob_world.proofs.Places.{at_node, at_link, nodes_same}
 use Rattle.dob_world.proofs.Slots.{here, was, elsewhere, set_cases, lane_here, lane_was, lane_else, lane_cases}
-use Rattle.dob_world.proofs.Taken.{with_share, own_test, history_here, history_else, applied_here, applied_else, alike, both_true, item_applies, items_apply}
+use Rattle.dob_world.proofs.Taken.{with_share, own_test, history_here, history_else, applied_here, applied_else, item_applies, items_apply}
 
 by_test : (b : Bool) (x y z : Cell) → (b ≡ true → x ≡ z) → (b ≡ false → y ≡ z) → cond b x y ≡ z
 by_test true x y z yes_is no_is = yes_is refl
 by_test false x y z yes_is no_is = no_is refl
-
-not_both : (a b : Bool) → (a && b) ≡ false → (a ≡ false) ⊎ (b ≡ false)
-not_both true b is = inr is
-not_both false b is = inl refl
 
 pub in_place_both : (k : Setting) (nodes : List Node) (lanes : List Lane) (m : ℕ) (node after : Node) (i j : ℕ) (lane next : Lane) → i < k.n → j < k.n →
     slice_get nodes m ≡ Some node → lane_at k.n lanes i j ≡ Some lane → AreInPlace k nodes lanes → IsNodeOf k m after → IsLaneOf k i j next →
@@ -49,7 +45,7 @@ module _ (k : Setting) (nodes : List Node) (lanes : List Lane) (i j : ℕ) (low_
   pub cell_there : (class : ℕ) → own_test k j class ≡ true → cell_at node.share class ≡ old.cell class
   unfolding nodes_shown
   cell_there class is =
-      let both = both_true (nat_lt class (classes_of k.set)) (eqb (owner_of k.n class) j) is in
+      let both = and_parts (nat_lt class (classes_of k.set)) (eqb (owner_of k.n class) j) is in
       sym (ap (λ b. cond b (part (fresh 0) (λ (x : Node). cell_at x.share class) (slice_get nodes (owner_of k.n class))) (fresh 0)) both.0
       ∙ ap (λ m. part (fresh 0) (λ (x : Node). cell_at x.share class) (slice_get nodes m)) (eqb-true (owner_of k.n class) j both.1)
       ∙ was nodes j node after there_n (fresh 0) (λ (x : Node). cell_at x.share class))
@@ -57,18 +53,18 @@ module _ (k : Setting) (nodes : List Node) (lanes : List Lane) (i j : ℕ) (low_
   cell_then : (class : ℕ) → own_test k j class ≡ true → cell_at after.share class ≡ new.cell class
   unfolding nodes_shown
   cell_then class is =
-      let both = both_true (nat_lt class (classes_of k.set)) (eqb (owner_of k.n class) j) is in
+      let both = and_parts (nat_lt class (classes_of k.set)) (eqb (owner_of k.n class) j) is in
       sym (ap (λ b. cond b (part (fresh 0) (λ (x : Node). cell_at x.share class) (slice_get (set nodes j after) (owner_of k.n class))) (fresh 0)) both.0
       ∙ ap (λ m. part (fresh 0) (λ (x : Node). cell_at x.share class) (slice_get (set nodes j after) m)) (eqb-true (owner_of k.n class) j both.1)
       ∙ here nodes j node after there_n (fresh 0) (λ (x : Node). cell_at x.share class))
 
   cell_elsewhere : (class : ℕ) → own_test k j class ≡ false → old.cell class ≡ new.cell class
   unfolding nodes_shown
-  cell_elsewhere class is = elim (not_both (nat_lt class (classes_of k.set)) (eqb (owner_of k.n class) j) is) [
+  cell_elsewhere class is = elim (and_cases (nat_lt class (classes_of k.set)) (eqb (owner_of k.n class) j) is) [
     | inl high ↦ ap (λ b. cond b (part (fresh 0) (λ (x : Node). cell_at x.share class) (slice_get nodes (owner_of k.n class))) (fresh 0)) high
         ∙ sym (ap (λ b. cond b (part (fresh 0) (λ (x : Node). cell_at x.share class) (slice_get (set nodes j after) (owner_of k.n class))) (fresh 0)) high)
     | inr other ↦ ap (λ c. cond (nat_lt class (classes_of k.set)) c (fresh 0)) (sym (elsewhere nodes j node after there_n (fresh 0)
-        (λ (x : Node). cell_at x.share class) (owner_of k.n class) (λ same. let e = alike (owner_of k.n class) j same in cc)))
+        (λ (x : Node). cell_at x.share class) (owner_of k.n class) (λ same. let e = eq-eqb (owner_of k.n class) j same in cc)))
   ]
 
   history_was : old.history j ≡ node.history.settlements

@@ -1,7 +1,6 @@
 -- Elements of lists after a write, and nodes and lanes among them.
 use Rattle.std.proofs.Common.{◌≡◌, ◌≢◌, ℕ, zero, suc, ◌+◌, ◌*◌, ◌<◌, ◌⊎◌, inl, inr, nat_lt, Bool, true, false, cond, refl, sym, ap, ◌∙◌, subst, arith, List, [], ◌∷◌, length, None, Some, slice_get, set, get_or}
-use Rattle.std.proofs.lemmas.Bool.{cases_eq}
-use Rattle.std.proofs.lemmas.Bool.Decides.{nat_tests}
+use Rattle.std.proofs.lemmas.Bool.{cases_eq, lt-ltb, ltb-true}
 use Rattle.std.proofs.lemmas.Nat.{mul-add-lt, same_from_place}
 use Rattle.std.proofs.lemmas.Option.{slice_get-get_or, slice_get_within}
 use Rattle.dob_node.specs.declared.node.Node.{Node}
@@ -62,14 +61,8 @@ module _ (nodes : List Node) (i : ℕ) (node after : Node) (there : slice_get no
 
 -- ---- lanes
 
-lt_true : (a b : ℕ) → a < b → nat_lt a b ≡ true
-lt_true a b less = grind (arith, nat_tests)
-
-lt_from : (a b : ℕ) → nat_lt a b ≡ true → a < b
-lt_from a b is = grind (arith, nat_tests)
-
 pub lane_is : (n : ℕ) (lanes : List Lane) (i j : ℕ) → j < n → lane_at n lanes i j ≡ slice_get lanes (i * n + j)
-lane_is n lanes i j low = ap (λ b. cond b (slice_get lanes (i * n + j)) None) (lt_true j n low)
+lane_is n lanes i j low = ap (λ b. cond b (slice_get lanes (i * n + j)) None) (lt-ltb j n low)
 
 module _ (n : ℕ) (lanes : List Lane) (i j : ℕ) (lane after : Lane) (low_i : i < n) (low_j : j < n) (whole : length lanes ≡ n * n)
     (there : lane_at n lanes i j ≡ Some lane) where
@@ -85,7 +78,7 @@ module _ (n : ℕ) (lanes : List Lane) (i j : ℕ) (lane after : Lane) (low_i : 
     where
       by : (b : Bool) → nat_lt l n ≡ b → cond b (slice_get (set lanes place after) (m * n + l)) None ≡ cond b (slice_get lanes (m * n + l)) None
       by true is = get_set_other lanes place (m * n + l) after (λ same.
-          let both = same_from_place m l i j n (lt_from l n is) low_j same in
+          let both = same_from_place m l i j n (ltb-true l n is) low_j same in
           elim other [ inl ne ↦ ne both.0 | inr ne ↦ ne both.1 ])
       by false is = refl
 

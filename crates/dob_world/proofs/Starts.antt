@@ -2,6 +2,7 @@
 use Rattle.std.proofs.Common.{◌≡◌, ℕ, zero, suc, ◌+◌, ◌*◌, ◌/◌, ◌%◌, ◌<◌, inr, nat_lt, Bool, true, false, cond, refl, sym, ap, ◌∙◌, subst, arith, List, [], ◌∷◌, ◌++◌, length, take, Option, None, Some, slice_get}
 use Rattle.std.specs.List.{All}
 use Rattle.std.proofs.Math.Nat.{mod-add-div'}
+use Rattle.std.proofs.lemmas.Bool.{lt-ltb}
 use Rattle.std.proofs.lemmas.Option.{slice_get_within}
 use Rattle.dob_moves.specs.declared.position_status.Status.{Status}
 use Rattle.dob_moves.specs.declared.position_status.Status.TheVariants.{Open}
@@ -38,7 +39,6 @@ use Rattle.dob_world.specs.Lanes.{IsBatchFor}
 use Rattle.dob_link.specs.Links.{LinkView}
 use Rattle.std.proofs.lemmas.List.Elements.{All-nil}
 use Rattle.dob_world.proofs.Made.{kept_of, node_opened, low_own}
-use Rattle.dob_world.proofs.Taken.{lt_true}
 use Rattle.dob_node.proofs.Beginnings.{or_else, closed_follows, opened_value, opened_chained, opened_entries}
 
 some_at : {X : Type 0} (xs : List X) (i : ℕ) → i < length xs → (x : X) × (slice_get xs i ≡ Some x)
@@ -119,7 +119,7 @@ module _ (k : Setting) (openings : List Opening) (nodes : List Node) (lanes : Li
       let node = (of_n i low_i).0 in
       let there = (of_n i low_i).1 in
       let at : shown.cell p ≡ cell_at node.share p =
-      ap (λ b. cond b (part (fresh 0) (λ (x : Node). cell_at x.share p) (slice_get nodes i)) (fresh 0)) (lt_true p (classes_of k.set) low)
+      ap (λ b. cond b (part (fresh 0) (λ (x : Node). cell_at x.share p) (slice_get nodes i)) (fresh 0)) (lt-ltb p (classes_of k.set) low)
       ∙ ap (part (fresh 0) (λ (x : Node). cell_at x.share p)) there in
       subst (λ c. SameCell c (fresh (length (moves_of (class_setup k.set p))))) (sym at)
       (subst (λ (m : ℕ). SameCell (cell_at node.share p) (fresh m)) (listed_opening k.set openings p are low).moves

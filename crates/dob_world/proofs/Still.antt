@@ -2,8 +2,7 @@
 use Rattle.std.proofs.Common.{◌≡◌, ◌≢◌, ℕ, ◌+◌, ◌-◌, ◌*◌, ◌/◌, ◌%◌, ◌<◌, ◌≤◌, inl, inr, nat_lt, nat_eq, cond, Bool, true, false, refl, sym, ap, ◌∙◌, subst, arith, List, [], ◌∷◌, length}
 use Rattle.std.proofs.Math.Nat.{mod-eq-sub-div-mul}
 use Rattle.std.proofs.lemmas.Nat.{div-mul-add, mul-add-lt}
-use Rattle.std.proofs.lemmas.Bool.{cases_Bool, cases_lt}
-use Rattle.std.proofs.lemmas.Bool.Decides.{nat_tests}
+use Rattle.std.proofs.lemmas.Bool.{cases_Bool, cases_lt, lt-ltb, le-ltb, eq-eqb, ne_eqb}
 use Rattle.dob_world.specs.declared.event.Event.{Event}
 use Rattle.dob_world.specs.declared.event.Event.TheVariants.{Expand, Own, Post, Take, Pass, Announce}
 use Rattle.dob_world.specs.Worlds.{Setting, State, IsLinked, IsIdle, IsTold, IsAtRest}
@@ -21,18 +20,6 @@ pick false x y z is e = absurd cc
 skip : {X : Type 0} (b : Bool) (x y z : X) → b ≡ false → y ≡ z → cond b x y ≡ z
 skip true x y z is e = absurd cc
 skip false x y z is e = e
-
-below : (a b : ℕ) → a < b → nat_lt a b ≡ true
-below a b less = grind (arith, nat_tests)
-
-above : (a b : ℕ) → b ≤ a → nat_lt a b ≡ false
-above a b more = grind (arith, nat_tests)
-
-alike : (a b : ℕ) → a ≡ b → nat_eq a b ≡ true
-alike a b same = grind (arith, nat_tests)
-
-unlike : (a b : ℕ) → a ≢ b → nat_eq a b ≡ false
-unlike a b other = grind (arith, nat_tests)
 
 -- the sender and the receiver by the place of their pair
 sender : (n i j : ℕ) → j < n → (i * n + j) / n ≡ i
@@ -64,30 +51,30 @@ from_post n place = cond (nat_lt place (2 * n + n * n)) (post_part n place) (fro
 
 module _ (n place : ℕ) (event : Event) where
   in_nodes : place < 2 * n → nodes_part n place ≡ event → round_event n place ≡ event
-  in_nodes low is = pick (nat_lt place (2 * n)) (nodes_part n place) (from_post n place) event (below place (2 * n) low) is
+  in_nodes low is = pick (nat_lt place (2 * n)) (nodes_part n place) (from_post n place) event (lt-ltb place (2 * n) low) is
 
   in_posts : 2 * n ≤ place → place < 2 * n + n * n → post_part n place ≡ event → round_event n place ≡ event
-  in_posts from low is = skip (nat_lt place (2 * n)) (nodes_part n place) (from_post n place) event (above place (2 * n) from)
-      (pick (nat_lt place (2 * n + n * n)) (post_part n place) (from_take n place) event (below place (2 * n + n * n) low) is)
+  in_posts from low is = skip (nat_lt place (2 * n)) (nodes_part n place) (from_post n place) event (le-ltb place (2 * n) from)
+      (pick (nat_lt place (2 * n + n * n)) (post_part n place) (from_take n place) event (lt-ltb place (2 * n + n * n) low) is)
 
   in_takes : 2 * n + n * n ≤ place → place < 2 * n + 2 * (n * n) → take_part n place ≡ event → round_event n place ≡ event
-  in_takes from low is = skip (nat_lt place (2 * n)) (nodes_part n place) (from_post n place) event (above place (2 * n) (omega arith))
-      (skip (nat_lt place (2 * n + n * n)) (post_part n place) (from_take n place) event (above place (2 * n + n * n) from)
-      (pick (nat_lt place (2 * n + 2 * (n * n))) (take_part n place) (from_pass n place) event (below place (2 * n + 2 * (n * n)) low) is))
+  in_takes from low is = skip (nat_lt place (2 * n)) (nodes_part n place) (from_post n place) event (le-ltb place (2 * n) (omega arith))
+      (skip (nat_lt place (2 * n + n * n)) (post_part n place) (from_take n place) event (le-ltb place (2 * n + n * n) from)
+      (pick (nat_lt place (2 * n + 2 * (n * n))) (take_part n place) (from_pass n place) event (lt-ltb place (2 * n + 2 * (n * n)) low) is))
 
   from_passes : 2 * n + 2 * (n * n) ≤ place → from_pass n place ≡ event → round_event n place ≡ event
-  from_passes from is = skip (nat_lt place (2 * n)) (nodes_part n place) (from_post n place) event (above place (2 * n) (omega arith))
-      (skip (nat_lt place (2 * n + n * n)) (post_part n place) (from_take n place) event (above place (2 * n + n * n) (omega arith))
-      (skip (nat_lt place (2 * n + 2 * (n * n))) (take_part n place) (from_pass n place) event (above place (2 * n + 2 * (n * n)) from) is))
+  from_passes from is = skip (nat_lt place (2 * n)) (nodes_part n place) (from_post n place) event (le-ltb place (2 * n) (omega arith))
+      (skip (nat_lt place (2 * n + n * n)) (post_part n place) (from_take n place) event (le-ltb place (2 * n + n * n) (omega arith))
+      (skip (nat_lt place (2 * n + 2 * (n * n))) (take_part n place) (from_pass n place) event (le-ltb place (2 * n + 2 * (n * n)) from) is))
 
 expand_at : (n i : ℕ) → i < n → round_event n (2 * i) ≡ Expand i
 expand_at n i low = in_nodes n (2 * i) (Expand i) (omega arith)
-    (pick (nat_eq ((2 * i) % 2) 0) (Expand ((2 * i) / 2)) (Own ((2 * i) / 2)) (Expand i) (alike ((2 * i) % 2) 0 (omega arith))
+    (pick (nat_eq ((2 * i) % 2) 0) (Expand ((2 * i) / 2)) (Own ((2 * i) / 2)) (Expand i) (eq-eqb ((2 * i) % 2) 0 (omega arith))
     (ap Expand (let e : (2 * i) / 2 ≡ i = omega arith in e)))
 
 own_at : (n i : ℕ) → i < n → round_event n (2 * i + 1) ≡ Own i
 own_at n i low = in_nodes n (2 * i + 1) (Own i) (omega arith)
-    (skip (nat_eq ((2 * i + 1) % 2) 0) (Expand ((2 * i + 1) / 2)) (Own ((2 * i + 1) / 2)) (Own i) (unlike ((2 * i + 1) % 2) 0 (λ e. omega (arith, e)))
+    (skip (nat_eq ((2 * i + 1) % 2) 0) (Expand ((2 * i + 1) / 2)) (Own ((2 * i + 1) / 2)) (Own i) (ne_eqb ((2 * i + 1) % 2) 0 (λ e. omega (arith, e)))
     (ap Own (let e : (2 * i + 1) / 2 ≡ i = omega arith in e)))
 
 pair_is : (n i j before : ℕ) → before + (i * n + j) - before ≡ i * n + j
@@ -110,13 +97,13 @@ take_at n i j low_i low_j =
 pass_at : (n i : ℕ) → i < n → round_event n (3 * n + 2 * (n * n) - 1 - i) ≡ Pass i
 pass_at n i low = from_passes n (3 * n + 2 * (n * n) - 1 - i) (Pass i) (omega arith)
     (pick (nat_lt (3 * n + 2 * (n * n) - 1 - i) (3 * n + 2 * (n * n))) (pass_part n (3 * n + 2 * (n * n) - 1 - i)) Announce (Pass i)
-    (below (3 * n + 2 * (n * n) - 1 - i) (3 * n + 2 * (n * n)) (omega arith))
+    (lt-ltb (3 * n + 2 * (n * n) - 1 - i) (3 * n + 2 * (n * n)) (omega arith))
     (ap Pass (let e : 3 * n + 2 * (n * n) - 1 - (3 * n + 2 * (n * n) - 1 - i) ≡ i = omega arith in e)))
 
 announce_at : (n : ℕ) → round_event n (3 * n + 2 * (n * n)) ≡ Announce
 announce_at n = from_passes n (3 * n + 2 * (n * n)) Announce (omega arith)
     (skip (nat_lt (3 * n + 2 * (n * n)) (3 * n + 2 * (n * n))) (pass_part n (3 * n + 2 * (n * n))) Announce Announce
-    (above (3 * n + 2 * (n * n)) (3 * n + 2 * (n * n)) (omega arith)) refl)
+    (le-ltb (3 * n + 2 * (n * n)) (3 * n + 2 * (n * n)) (omega arith)) refl)
 
 -- ---- a still world
 

@@ -1,57 +1,29 @@
 -- Items that a node's share takes, as items that the node of a world applies.
-use Rattle.std.proofs.Common.{◌≡◌, ◌≢◌, ℕ, ◌<◌, ◌&&◌, ◌⊎◌, inl, inr, eqb, nat_lt, Bool, true, false, cond, refl, sym, ap, ◌∙◌, subst, arith, List, [], ◌∷◌, ◌++◌, length, append_assoc, Option, None, Some}
+use Rattle.std.proofs.Common.{◌≡◌, ◌≢◌, ℕ, ◌<◌, ◌&&◌, ◌⊎◌, inl, inr, eqb, nat_lt, Bool, true, false, cond, refl, sym, ap, ◌∙◌, subst, List, [], ◌∷◌, ◌++◌, length, append_assoc}
 use Rattle.std.specs.List.{All}
-use Rattle.std.proofs.lemmas.Bool.{cases_eq, eqb-true}
-use Rattle.std.proofs.lemmas.Bool.Decides.{nat_tests}
+use Rattle.std.proofs.lemmas.Bool.{cases_eq, eqb-true, eq-eqb, ne_eqb, lt-ltb, ltb-true, and_parts, and_right}
 use Rattle.std.proofs.lemmas.List.{append-nil}
 use Rattle.std.proofs.lemmas.List.Elements.{All-head, All-tail}
-use Rattle.dob_moves.specs.declared.position_status.Status.{Status}
-use Rattle.dob_moves.specs.declared.position_status.Status.TheVariants.{Open}
 use Rattle.dob_rank.specs.Marks.{classes_of}
-use Rattle.dob_value.specs.declared.value.Value.{Value}
 use Rattle.dob_share.specs.declared.news.Settlement.{Settlement}
 use Rattle.dob_share.specs.declared.news.Item.{Item}
 use Rattle.dob_share.specs.declared.share.Share.{Share}
 use Rattle.dob_share.specs.Owners.{owner_of}
-use Rattle.dob_share.specs.Cells.{Cell, SameCell, CellValue, changed}
-use Rattle.dob_share.specs.Shares.{IsOwn, status_at, cell_at, IsValue, HasValueNow, Fits, HasSettled}
-use Rattle.dob_share.specs.Values.{Better, NoWorse}
+use Rattle.dob_share.specs.Cells.{SameCell, CellValue, changed}
+use Rattle.dob_share.specs.Shares.{IsOwn, cell_at}
+use Rattle.dob_share.specs.Values.{NoWorse}
 use Rattle.dob_share.proofs.Changing.{short_value}
 use Rattle.dob_node.specs.Stores.{HistoryView}
 use Rattle.dob_node.specs.Histories.{value_of}
 use Rattle.dob_node.specs.Lawful.{CanApply}
-use Rattle.dob_node.specs.Takes.{HasEntries, AreKept, IsTaken, AreTaken, listed}
-use Rattle.dob_node.proofs.Settles.{value_of-more}
-use Rattle.dob_node.proofs.Kept.{better_apart}
+use Rattle.dob_node.specs.Takes.{HasEntries, AreKept, IsTaken, AreTaken}
 use Rattle.dob_node.proofs.Stored.{same_settlement}
 use Rattle.dob_node.proofs.Parity.{short_own}
 use Rattle.dob_node.proofs.Kepts.{fits_own, kept_still}
-use Rattle.dob_node.proofs.Soles.{one_value}
+use Rattle.dob_node.proofs.ItemChanges.{same_by, Change, item_changes}
 use Rattle.dob_world.specs.Worlds.{Setting, Nodes, value_in, items_in, AreLawful}
 use Rattle.dob_world.specs.Events.{NodesStay, Applies, AppliesAll}
 use Rattle.dob_world.proofs.Applied.{next_fits, lawful_step, step_grows, next_after}
-
--- ---- tests
-
-pub lt_true : (a b : ℕ) → a < b → nat_lt a b ≡ true
-lt_true a b less = grind (arith, nat_tests)
-
-pub lt_from : (a b : ℕ) → nat_lt a b ≡ true → a < b
-lt_from a b is = grind (arith, nat_tests)
-
-pub alike : (a b : ℕ) → a ≡ b → eqb a b ≡ true
-alike a b same = grind (arith, nat_tests)
-
-pub unlike : (a b : ℕ) → a ≢ b → eqb a b ≡ false
-unlike a b other = grind (arith, nat_tests)
-
-pub both_true : (a b : Bool) → (a && b) ≡ true → (a ≡ true) × (b ≡ true)
-both_true true b is = (refl, is)
-both_true false b is = absurd (cc)
-
-right_false : (a : Bool) → (a && false) ≡ false
-right_false true = refl
-right_false false = refl
 
 -- ---- nodes of which one has that share and history, and has applied those items of another
 
@@ -70,47 +42,33 @@ module _ (k : Setting) (i j : ℕ) (nodes : Nodes) (share : Share) (history : Li
   given = with_share k i j nodes share history items
 
   pub history_here : given.history j ≡ history
-  history_here = ap (λ b. cond b history (nodes.history j)) (alike j j refl)
+  history_here = ap (λ b. cond b history (nodes.history j)) (eq-eqb j j refl)
 
   pub history_else : (m : ℕ) → m ≢ j → given.history m ≡ nodes.history m
-  history_else m other = ap (λ b. cond b history (nodes.history m)) (unlike m j other)
+  history_else m other = ap (λ b. cond b history (nodes.history m)) (ne_eqb m j other)
 
   pub applied_here : given.applied i j ≡ items
-  applied_here = ap (λ b. cond (b && eqb j j) items (nodes.applied i j)) (alike i i refl)
-      ∙ ap (λ b. cond b items (nodes.applied i j)) (alike j j refl)
+  applied_here = ap (λ b. cond (b && eqb j j) items (nodes.applied i j)) (eq-eqb i i refl)
+      ∙ ap (λ b. cond b items (nodes.applied i j)) (eq-eqb j j refl)
 
   pub applied_sender : (m : ℕ) → m ≢ i → given.applied m j ≡ nodes.applied m j
-  applied_sender m other = ap (λ b. cond (b && eqb j j) items (nodes.applied m j)) (unlike m i other)
+  applied_sender m other = ap (λ b. cond (b && eqb j j) items (nodes.applied m j)) (ne_eqb m i other)
 
   pub applied_receiver : (m l : ℕ) → l ≢ j → given.applied m l ≡ nodes.applied m l
-  applied_receiver m l other = ap (λ b. cond (eqb m i && b) items (nodes.applied m l)) (unlike l j other)
-      ∙ ap (λ b. cond b items (nodes.applied m l)) (right_false (eqb m i))
+  applied_receiver m l other = ap (λ b. cond (eqb m i && b) items (nodes.applied m l)) (ne_eqb l j other)
+      ∙ ap (λ b. cond b items (nodes.applied m l)) (and_right (eqb m i) false refl)
 
   pub applied_else : (m l : ℕ) → (m ≢ i) ⊎ (l ≢ j) → given.applied m l ≡ nodes.applied m l
-  applied_else m l (inl other) = ap (λ b. cond (b && eqb l j) items (nodes.applied m l)) (unlike m i other)
+  applied_else m l (inl other) = ap (λ b. cond (b && eqb l j) items (nodes.applied m l)) (ne_eqb m i other)
   applied_else m l (inr other) = applied_receiver m l other
 
   pub own_is : (class : ℕ) → class < classes_of k.set → owner_of k.n class ≡ j → own_test k j class ≡ true
-  own_is class low own = ap (λ b. b && eqb (owner_of k.n class) j) (lt_true class (classes_of k.set) low) ∙ alike (owner_of k.n class) j own
+  own_is class low own = ap (λ b. b && eqb (owner_of k.n class) j) (lt-ltb class (classes_of k.set) low) ∙ eq-eqb (owner_of k.n class) j own
 
   pub cell_here : (class : ℕ) → class < classes_of k.set → owner_of k.n class ≡ j → given.cell class ≡ cell_at share class
   cell_here class low own = ap (λ b. cond b (cell_at share class) (nodes.cell class)) (own_is class low own)
 
-same_cell : (a b : Cell) → a ≡ b → SameCell a b
-same_cell a b is = subst (λ c. SameCell a c) is (record { left = refl; wins = λ plies. refl; least = refl })
-
-same_by : (b : Bool) (x y z : Cell) → (b ≡ true → SameCell x y) → SameCell (cond b x z) (cond b y z)
-same_by true x y z same = same refl
-same_by false x y z same = same_cell z z refl
-
 -- ---- what is taken
-
-open_value : (status : Status) (cell : Cell) (v : Value) → status ≡ Open → IsValue status cell v → CellValue cell v
-open_value status cell v is = subst (λ s. IsValue s cell v → CellValue cell v) (sym is) (λ value. value)
-
-fits_open : (share : Share) (item : Item) → Fits share item → status_at share item.to ≡ Open
-unfolding Fits
-fits_open share item fits = fits.1
 
 module _ (k : Setting) (i j : ℕ) (nodes : Nodes) (share after : Share) (history grown : HistoryView) (items : List Item) (item : Item)
     (kept : AreKept k.set k.n j share history) (taken : IsTaken item share after history grown)
@@ -143,56 +101,15 @@ module _ (k : Setting) (i j : ℕ) (nodes : Nodes) (share after : Share) (histor
   new_value : (p : ℕ) → owner_of k.n p ≡ j → value_in k.n new p ≡ value_of g p
   new_value p own = ap (λ m. value_of (new.history m) p) own ∙ ap (λ xs. value_of xs p) (history_here k i j nodes after g (items ++ item ∷ []))
 
-  -- the value before
-  was_is : (v : Value) → HasValueNow share item.to v → v ≡ value_of h item.to
-  was_is v is = one_value (cell_at share item.to) v (value_of h item.to)
-      (open_value (status_at share item.to) (cell_at share item.to) v (fits_open share item taken.fits) is)
+  changes : Change item after h g
+  changes = item_changes item share after history grown taken kept.counted
       (subst (λ c. CellValue c (value_of h item.to)) old_cell
       (subst (λ w. CellValue (old.cell item.to) w) (old_value item.to can.own) (lawful.cell_values item.to can.below can.is_open)))
 
-  value_after : (v : Value) → HasValueNow after item.to v → CellValue (cell_at after item.to) v
-  value_after v is = open_value (status_at after item.to) (cell_at after item.to) v (taken.statuses item.to ∙ fits_open share item taken.fits) is
-
-  -- what has changed is the settlement that is listed, if there is one
-  record Change : Type 0 where
-    pub gives : CellValue (cell_at after item.to) (value_of g item.to)
-    pub better : NoWorse (value_of h item.to) (value_of g item.to)
-    pub others : (p : ℕ) → p ≢ item.to → value_of g p ≡ value_of h p
-    pub same : value_of h item.to ≡ value_of g item.to → g ≡ h
-    pub more : value_of h item.to ≢ value_of g item.to →
-        g ≡ h ++ record { number = length h; class = item.to; was = value_of h item.to; now = value_of g item.to } ∷ []
-
-  change : (given : Option Settlement) → HasSettled share after item.to given → g ≡ h ++ listed given → Change
-  change None settled is =
-      let same : g ≡ h = is ∙ append-nil h in
-      let v = settled.1 in
-      let value : v ≡ value_of h item.to = was_is v settled.2 in
-      let now : value_of g item.to ≡ value_of h item.to = ap (λ xs. value_of xs item.to) same in
-      record {
-        gives = subst (λ w. CellValue (cell_at after item.to) w) (value ∙ sym now) (value_after v settled.3);
-        better = inl (sym now);
-        others = λ p other. ap (λ xs. value_of xs p) same;
-        same = λ e. same;
-        more = λ differs. absurd (differs (sym now));
-      }
-  change (Some s) settled is =
-      let was : s.was ≡ value_of h item.to = was_is s.was settled.3 in
-      let at : (p : ℕ) → value_of g p ≡ cond (eqb s.class p) s.now (value_of h p) = λ p. ap (λ xs. value_of xs p) is ∙ value_of-more h s p in
-      let here : eqb s.class item.to ≡ true = alike s.class item.to settled.2 in
-      let now : value_of g item.to ≡ s.now = at item.to ∙ ap (λ b. cond b s.now (value_of h item.to)) here in
-      let better : Better (value_of h item.to) (value_of g item.to) = subst (λ v. Better v (value_of g item.to)) was (subst (λ w. Better s.was w) (sym now) settled.5) in
-      record {
-        gives = subst (λ w. CellValue (cell_at after item.to) w) (sym now) (value_after s.now settled.4);
-        better = inr better;
-        others = λ p other. at p ∙ ap (λ b. cond b s.now (value_of h p)) (unlike s.class p (λ e. other (sym e ∙ settled.2)));
-        same = λ e. absurd (better_apart (value_of h item.to) (value_of g item.to) better e);
-        more = λ differs. is ∙ ap (λ x. h ++ x ∷ []) (same_settlement s.number (length h) s.class item.to s.was (value_of h item.to) s.now (value_of g item.to) (settled.1 ∙ kept.counted) settled.2 was (sym now));
-      }
-
   cells_after : (p : ℕ) → p ≢ item.to → SameCell (new.cell p) (old.cell p)
   cells_after p other = same_by (own_test k j p) (cell_at after p) (cell_at share p) (nodes.cell p) (λ is.
-      let both = both_true (nat_lt p (classes_of k.set)) (eqb (owner_of k.n p) j) is in
-      taken.others p ((kept.owned p).1 (eqb-true (owner_of k.n p) j both.1, lt_from p (classes_of k.set) both.0)) other)
+      let both = and_parts (nat_lt p (classes_of k.set)) (eqb (owner_of k.n p) j) is in
+      taken.others p ((kept.owned p).1 (eqb-true (owner_of k.n p) j both.1, ltb-true p (classes_of k.set) both.0)) other)
 
   values_after : ((p : ℕ) → p ≢ item.to → value_of g p ≡ value_of h p) → (p : ℕ) → p ≢ item.to → value_in k.n new p ≡ value_in k.n old p
   values_after same p other = elim (cases_eq (owner_of k.n p) j) [
@@ -201,8 +118,8 @@ module _ (k : Setting) (i j : ℕ) (nodes : Nodes) (share after : Share) (histor
         ∙ sym (history_else k i j nodes share h items (owner_of k.n p) elsewhere))
   ]
 
-  applies_by : Change → Applies k i j item old new
-  applies_by changes = record {
+  pub taken_applies : Applies k i j item old new
+  taken_applies = record {
     listed = record {
       one_more = applied_here k i j nodes after g (items ++ item ∷ [])
           ∙ ap (λ xs. xs ++ item ∷ []) (sym (applied_here k i j nodes share h items));
@@ -250,9 +167,6 @@ module _ (k : Setting) (i j : ℕ) (nodes : Nodes) (share after : Share) (histor
           (value_of g item.to) (value_in k.n new item.to) (ap length (sym old_history)) refl (sym had_is) (sym now_is))
           ∙ ap (λ xs. xs ++ record { number = length (old.history j); class = item.to; was = value_in k.n old item.to; now = value_in k.n new item.to } ∷ [])
           (sym old_history)
-
-  pub taken_applies : Applies k i j item old new
-  taken_applies = applies_by (change taken.settled.0 taken.settled.1 (ap (λ (view : HistoryView). view.settlements) taken.settled.2))
 
 -- ---- one after the other
 
