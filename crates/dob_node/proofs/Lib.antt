@@ -1,30 +1,36 @@
-pub mod Runs
-pub mod Counts
-pub mod Copies
-pub mod Rest
-pub mod Splits
-pub mod Learns
-pub mod Takes
-pub mod Starts
-pub mod Settles
-pub mod Totals
-pub mod Kept
-pub mod Steps
-pub mod Ends
-pub mod Stored
-pub mod Parity
-pub mod Kepts
-pub mod ItemChanges
-pub mod ShownValues
-pub mod Soles
-pub mod Sounds
-pub mod Opens
-pub mod SoleSteps
-pub mod SoleOpens
-pub mod SoleEnds
-pub mod Sends
-pub mod TakenBack
-pub mod TakenLists
-pub mod Parts
-pub mod SoleStops
-pub mod Beginnings
+-- The lemmas, in the order in which they are read. First lists and values.
+pub mod Runs  -- lists made piece by piece, and a change in one piece
+pub mod Parity  -- what cells count and know keeps its parity, and so do values
+-- What the copies of edges know.
+pub mod Counts  -- how many items of each settlement a list has for a class
+pub mod Copies  -- what the copies of an edge know
+pub mod Splits  -- which settlement made an item, and what was made before
+pub mod Totals  -- a class's moves have one copy each, which knows nothing at first
+pub mod Learns  -- the next item of a history teaches one copy, and no other
+pub mod Settles  -- one more settlement: what it leaves, and what it makes
+-- Lawful nodes.
+pub mod Rest  -- quiet nodes hold the value table
+pub mod Kept  -- what copies know of the same items, and which values they can know
+pub mod Takes  -- the value of a cell that sums up what is known follows
+pub mod Beginnings  -- the histories of nodes at their opening
+pub mod Steps  -- the next item fits its cell, and what is lawful stays so
+pub mod Ends  -- lawful nodes that have applied all items hold the value table
+-- A node with its outboxes.
+pub mod Starts  -- the openings of the classes so far, and one more
+pub mod Opens  -- a node as it is opened
+pub mod Stored  -- what is stored of a history is read again
+pub mod Kepts  -- what an item taken makes of a node's cells and history
+pub mod Sounds  -- a node stays sound
+pub mod TakenLists  -- items taken one after the other
+pub mod Sends  -- empty outboxes, and what one settlement more adds to them
+pub mod TakenBack  -- outboxes from which a settlement is taken back
+pub mod Parts  -- the values of a node's own classes, by their places
+-- Worlds of shares and histories.
+pub mod ItemChanges  -- what an item that a share takes changes
+pub mod ShownValues  -- the values that classes show, and lists of them
+-- One node that owns all classes.
+pub mod Soles  -- the cells and history of the node, and an item that it applies
+pub mod SoleOpens  -- the node is lawful as it is opened
+pub mod SoleSteps  -- the node stays lawful, and makes one step more
+pub mod SoleStops  -- where the node stops, and when it has nothing left to do
+pub mod SoleEnds  -- the values that the node shows, and its end

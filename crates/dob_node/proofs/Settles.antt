@@ -1,5 +1,6 @@
 -- One more settlement of a history: what it leaves, and what it makes.
-use Rattle.std.proofs.Common.{◌≡◌, ◌≢◌, ℕ, ◌+◌, ◌≤◌, ◌⊎◌, ◌&&◌, inl, inr, eqb, ltb, cond, refl, sym, subst, ap, ◌∙◌, arith, add-one, List, [], ◌∷◌, ◌++◌, length, append_assoc, take, drop, slice_get, Some}
+use Rattle.std.proofs.Common.{◌≡◌, ◌≢◌, ℕ, ◌+◌, ◌≤◌, ◌⊎◌, ◌&&◌, inl, inr, eqb, ltb, cond, refl, sym, subst, ap, ◌∙◌, arith}
+use Rattle.std.proofs.Common.{add-one, List, [], ◌∷◌, ◌++◌, length, append_assoc, take, drop, slice_get, Some}
 use Rattle.std.proofs.Math.Seq.{take-suc}
 use Rattle.std.proofs.lemmas.Bool.{cases_eq, le-ltb, and_right}
 use Rattle.std.proofs.lemmas.List.{append-nil, take-append-drop, take-append-le}

@@ -1,5 +1,6 @@
 -- One node that owns all classes, as it is opened: it is lawful.
-use Rattle.std.proofs.Common.{◌≡◌, ◌≢◌, ℕ, zero, suc, ◌+◌, ◌*◌, ◌%◌, ◌<◌, ◌≤◌, inl, inr, eqb, Bool, true, false, cond, refl, sym, ap, ◌∙◌, subst, arith, List, [], ◌++◌, length, take, get_or, Option, None, Some, Result, Ok, Err, IfOk, lit≤}
+use Rattle.std.proofs.Common.{◌≡◌, ◌≢◌, ℕ, zero, suc, ◌+◌, ◌*◌, ◌%◌, ◌<◌, ◌≤◌, inl, inr, eqb, Bool, true, false, cond, refl, sym, ap, ◌∙◌, subst}
+use Rattle.std.proofs.Common.{arith, List, [], ◌++◌, length, take, get_or, Option, None, Some, Result, Ok, Err, IfOk, lit≤}
 use Rattle.std.specs.List.{All}
 use Rattle.std.proofs.lemmas.Bool.{cases_order, eq-eqb, ne_eqb}
 use Rattle.std.proofs.lemmas.List.{append-nil}

@@ -1,5 +1,6 @@
 -- Where an item stands among the items of a history: the settlement that made it, and what was made before.
-use Rattle.std.proofs.Common.{◌≡◌, ℕ, suc, ◌+◌, ◌≤◌, ◌⊎◌, inl, inr, eqb, Bool, true, false, cond, refl, sym, subst, ap, ◌∙◌, arith, List, [], ◌∷◌, ◌++◌, length, map, append_assoc}
+use Rattle.std.proofs.Common.{◌≡◌, ℕ, suc, ◌+◌, ◌≤◌, ◌⊎◌, inl, inr, eqb, Bool, true, false, cond, refl, sym, subst}
+use Rattle.std.proofs.Common.{ap, ◌∙◌, arith, List, [], ◌∷◌, ◌++◌, length, map, append_assoc}
 use Rattle.std.specs.List.{filter}
 use Rattle.std.proofs.lemmas.Bool.{eqb-true}
 use Rattle.dob_share.specs.declared.news.Settlement.{Settlement}

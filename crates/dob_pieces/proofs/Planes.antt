@@ -1,5 +1,6 @@
 -- Masks made in one pass over the board: several in one word, twelve bits each, which no sum carries over.
-use Rattle.std.proofs.Common.{◌≡◌, ℕ, suc, ◌+◌, ◌-◌, ◌*◌, ◌/◌, ◌%◌, ◌^◌, ◌<◌, ◌≤◌, Bool, true, false, cond, not, nat_eq, ◌&&◌, ◌||◌, sym, refl, bit_and, w16, List, [], ◌∷◌, Some, None, map}
+use Rattle.std.proofs.Common.{◌≡◌, ℕ, suc, ◌+◌, ◌-◌, ◌*◌, ◌/◌, ◌%◌, ◌^◌, ◌<◌, ◌≤◌, Bool, true, false, cond, not, nat_eq}
+use Rattle.std.proofs.Common.{◌&&◌, ◌||◌, sym, refl, bit_and, w16, List, [], ◌∷◌, Some, None, map}
 use Rattle.std.proofs.Common.{length, drop, slice_index_or, ap, ◌∙◌, arith}
 use Rattle.std.specs.Int.{bit_not, bit_at}
 use Rattle.std.proofs.lemmas.Bool.{eqb-true}

@@ -1,24 +1,31 @@
-pub mod Applied
-pub mod ByThreads
-pub mod Counted
-pub mod Finished
-pub mod Keeping
-pub mod Knowing
-pub mod Lawfuls
-pub mod Laying
-pub mod Leaving
-pub mod Manned
-pub mod Needed
-pub mod Opened
-pub mod Openings
-pub mod Parting
-pub mod Places
-pub mod Planned
-pub mod RunFaults
-pub mod Rejoining
-pub mod Scanned
-pub mod Seated
-pub mod Shown
-pub mod Stopping
-pub mod Summing
-pub mod Threaded
+-- The lemmas, in the order in which they are read. First lists and counts.
+pub mod Places  -- what stands where in a list, and in one that was changed
+pub mod Counted  -- the counts of links, after one link changed
+-- The openings of the classes.
+pub mod Scanned  -- what was found of each class, in the order of the classes
+pub mod Openings  -- each piece set has openings, whether they were listed or not
+-- What a node knows, and what it has for the others.
+pub mod Summing  -- the sum of what is known, as an equation and as a relation
+pub mod Knowing  -- what a node knows stays right, whatever it takes
+pub mod Opened  -- what a node knows when it is opened
+pub mod Planned  -- what a node planned, after its history went on
+pub mod Needed  -- enough batches were cut for what the classes have to tell
+-- The steps of a worker.
+pub mod Applied  -- what a node has applied from each node, after each step
+pub mod Keeping  -- what links, mails and runners keep, through each step
+pub mod Lawfuls  -- each step of a worker leaves it lawful
+-- The channels and mails of a crew.
+pub mod Laying  -- channels laid one by one
+pub mod Seated  -- seats that get their links one by one, and their mails then
+pub mod Parting  -- mails taken apart one by one, and their channels' ends then
+pub mod Rejoining  -- ends dealt and channels ended one by one
+-- Crews run by threads.
+pub mod RunFaults  -- from the faults that limits give to those of a crew
+pub mod Manned  -- the runners of a crew's mails, before and after their turns
+pub mod Threaded  -- runners whose threads are started and ended one by one
+pub mod Leaving  -- what a crew's runners leave when they are closed
+pub mod ByThreads  -- from what the threads promise to what is made of the crew
+-- The end of a crew.
+pub mod Shown  -- the values that the nodes of a crew show
+pub mod Finished  -- a crew that has come to its end holds the value table
+pub mod Stopping  -- what the board's words say of the runners of a stopped crew

@@ -1,5 +1,6 @@
 -- What stands where in a list, also after one thing more, after one was exchanged, and in a function of all its things.
-use Rattle.std.proofs.Common.{◌≡◌, ◌≢◌, ℕ, zero, suc, ◌+◌, ◌<◌, ◌≤◌, ◌⊎◌, inl, inr, List, [], ◌∷◌, ◌++◌, length, map, drop, take, Some, refl, sym, ap, ◌∙◌, subst, arith, ⊎_elim, append_assoc, length-append}
+use Rattle.std.proofs.Common.{◌≡◌, ◌≢◌, ℕ, zero, suc, ◌+◌, ◌<◌, ◌≤◌, ◌⊎◌, inl, inr, List, [], ◌∷◌, ◌++◌, length, map, drop, take}
+use Rattle.std.proofs.Common.{Some, refl, sym, ap, ◌∙◌, subst, arith, ⊎_elim, append_assoc, length-append}
 use Rattle.std.proofs.lemmas.List.{append-nil}
 use Rattle.std.specs.Prelude.{slice_get}
 use Rattle.std.specs.declared.vec.Vec.{Vec}

@@ -1,5 +1,6 @@
 // The cells of one owner's classes, and the items applied to them.
-ghost use Rattle.std.specs.Prelude.{◌≡◌, ℕ, ◌≢◌, ◌+◌, ◌*◌, ◌/◌, ◌<◌, ◌≤◌, ◌↔◌, ◌^◌, Some, None, Ok, Err, true, false, length, slice_index_or, [], ◌∷◌, ◌++◌, ◌%◌, IfOk, OnErr, OnOk, IfSome, MatchOption};
+ghost use Rattle.std.specs.Prelude.{◌≡◌, ℕ, ◌≢◌, ◌+◌, ◌*◌, ◌/◌, ◌<◌, ◌≤◌, ◌↔◌, ◌^◌, Some, None, Ok, Err, true, false, length};
+ghost use Rattle.std.specs.Prelude.{slice_index_or, [], ◌∷◌, ◌++◌, ◌%◌, IfOk, OnErr, OnOk, IfSome, MatchOption};
 ghost use Rattle.dob_share.specs.declared.fault.Fault.TheVariants as fault;
 ghost use Rattle.dob_share.specs.Values.{Better};
 ghost use Rattle.dob_share.specs.Owners.{class_of_place};

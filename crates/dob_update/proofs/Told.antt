@@ -1,9 +1,11 @@
 -- The items of parts, of which only the classes are listed that they tell.
-use Rattle.std.proofs.Common.{◌≡◌, ℕ, ◌+◌, ◌-◌, ◌<◌, ◌≤◌, min, List, [], ◌∷◌, ◌++◌, length, take, drop, get_or, refl, sym, ap, ◌∙◌, subst, inl, inr, arith, length-append, length-drop, length-take-le}
+use Rattle.std.proofs.Common.{◌≡◌, ℕ, ◌+◌, ◌-◌, ◌<◌, ◌≤◌, min, List, [], ◌∷◌, ◌++◌, length, take, drop, get_or, refl, sym, ap}
+use Rattle.std.proofs.Common.{◌∙◌, subst, inl, inr, arith, length-append, length-drop, length-take-le}
 use Rattle.std.specs.Prelude.{◌==◌, ◌^◌, map}
 use Rattle.std.specs.List.{filter}
 use Rattle.std.proofs.lemmas.Bool.{cases_lt, cases_eq}
-use Rattle.std.proofs.lemmas.List.{append_assoc, append-nil, length-map, map-append, take-append-le, drop-append-le, take_all, take-take, take-append-drop, drop-take, drop-drop, take_at, drop_at, drop_all, drop_more, map_more, get_or-drop, nil_from_length}
+use Rattle.std.proofs.lemmas.List.{append_assoc, append-nil, length-map, map-append, take-append-le, drop-append-le, take_all, take-take, take-append-drop}
+use Rattle.std.proofs.lemmas.List.{drop-take, drop-drop, take_at, drop_at, drop_all, drop_more, map_more, get_or-drop, nil_from_length}
 use Rattle.dob_share.specs.declared.news.Settlement.{Settlement}
 use Rattle.dob_share.specs.declared.news.Item.{Item}
 use Rattle.dob_value.specs.declared.value.Value.TheVariants.{Win}

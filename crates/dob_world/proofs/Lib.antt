@@ -1,26 +1,30 @@
-pub mod Places
-pub mod Applied
-pub mod Linked
-pub mod Kept
-pub mod Rest
-pub mod Told
-pub mod Over
-pub mod Still
-pub mod Counters
-pub mod Taken
-pub mod Firsts
-pub mod Slots
-pub mod Expanded
-pub mod Moves
-pub mod Made
-pub mod Outcomes
-pub mod Stood
-pub mod Stands
-pub mod Stopped
-pub mod Starts
-pub mod Promise
-pub mod Pushed
-pub mod Ran
-pub mod Lent
-pub mod Gathered
-pub mod Driven
+-- The lemmas, in the order in which they are read. First lists, nodes and lanes.
+pub mod Places  -- what holds at one node or link and at all others
+pub mod Firsts  -- first elements, and calls that can't have failed
+pub mod Slots  -- elements of lists after a write, and nodes and lanes among them
+pub mod Stands  -- nodes and lanes where they stand
+pub mod Lent  -- what a world shows of its nodes and lanes is what it lends
+pub mod Pushed  -- nodes and lanes, one more
+pub mod Counters  -- the detector's lists after an event, and what they show
+-- What any events keep.
+pub mod Applied  -- items in turn: nodes stay lawful, and histories only grow
+pub mod Linked  -- each event leaves a linked world linked
+pub mod Kept  -- a world stays lawful and linked, and the next item always fits
+pub mod Told  -- a ring that tells what is so still does after each event
+pub mod Over  -- what can happen where nothing is left to do
+pub mod Rest  -- a lawful and linked world at rest has the value table
+-- One event in a world that stands.
+pub mod Taken  -- items that a node's share takes are items that the node applies
+pub mod Expanded  -- a settlement that a node expands
+pub mod Moves  -- items that a node applies, and batches that it posts
+pub mod Made  -- items applied, and batches taken and posted, where a world stands
+pub mod Outcomes  -- the event was possible, it happened, and the world stands
+pub mod Stood  -- what standing gives of the ring and of idle nodes
+pub mod Stopped  -- a node never stops because an item contradicts its cell
+-- Runs from the start to the end.
+pub mod Starts  -- a world of opened nodes with empty lanes is lawful and linked
+pub mod Promise  -- the promise of the whole, after any events
+pub mod Ran  -- one event more of a run
+pub mod Still  -- where no event of a round can happen, the end is announced
+pub mod Driven  -- one event more of a round, and one round more
+pub mod Gathered  -- the values that the nodes of a world show

@@ -1,5 +1,6 @@
 // Laws of worlds, each the contract of a function that does nothing.
-ghost use Rattle.dob_world.specs.Laws.{HappeningKeepsAll, EventsKeepAll, HappeningKeepsTold, ListsAreBeginnings, OwnItemFits, TakenItemFits, RestIsRight, EndIsRest, RestStays, EndIsSilent, StillIsEnded, HeadlineHolds};
+ghost use Rattle.dob_world.specs.Laws.{HappeningKeepsAll, EventsKeepAll, HappeningKeepsTold, ListsAreBeginnings, OwnItemFits, TakenItemFits};
+ghost use Rattle.dob_world.specs.Laws.{RestIsRight, EndIsRest, RestStays, EndIsSilent, StillIsEnded, HeadlineHolds};
 
 /// Each event leaves a lawful and linked world lawful and linked.
 pub fn happening_keeps_all()

@@ -1,3 +1,4 @@
+-- After the next item of lawful nodes is applied, and settled where its class changes, the nodes are lawful again.
 use Rattle.dob_node.proofs.Steps.{lawful_after}
 use Rattle.dob_node.proofs.laws.lawful_stays.Goals as goal
 

@@ -1,3 +1,4 @@
+-- In lawful nodes the next item that a node has to apply fits the cell of its class.
 use Rattle.dob_node.proofs.Steps.{can_apply}
 use Rattle.dob_node.proofs.laws.next_item_fits.Goals as goal
 

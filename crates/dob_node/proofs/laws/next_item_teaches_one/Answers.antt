@@ -1,3 +1,4 @@
+-- The next item of lawful nodes teaches its class by one copy, and no other class learns anything.
 use Rattle.dob_node.proofs.Steps.{learns_here, still}
 use Rattle.dob_node.proofs.laws.next_item_teaches_one.Goals as goal
 

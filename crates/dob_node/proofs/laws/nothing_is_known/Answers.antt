@@ -1,3 +1,4 @@
+-- Where nothing is applied, a cell with all moves of its class left sums up what the copies know.
 use Rattle.dob_share.specs.Owners.{owner_of}
 use Rattle.dob_node.proofs.Totals.{start_sums}
 use Rattle.dob_node.proofs.laws.nothing_is_known.Goals as goal

@@ -1,7 +1,8 @@
 -- An item at a place: its fault, or the changed cell with its value before and after; other cells and statuses stay.
 use Rattle.std.proofs.Common.{refl, Err}
 use Rattle.dob_share.specs.declared.fault.Fault.TheVariants.{TooDeep, Contradiction}
-use Rattle.dob_share.proofs.Applied.{err_same, ok_same, short_here, value_here, step_here, counts_fit, takes_here, some_free, some_counted, short_after, same_cell, value_after, others_same, statuses_same, pooled_after}
+use Rattle.dob_share.proofs.Applied.{err_same, ok_same, short_here, value_here, step_here, counts_fit, takes_here, some_free, some_counted}
+use Rattle.dob_share.proofs.Applied.{short_after, same_cell, value_after, others_same, statuses_same, pooled_after}
 use Rattle.dob_share.proofs.steps.apply_at.Goals as goal
 
 pub slot_after-requires-clause-short : goal.slot_after-requires-clause-short
