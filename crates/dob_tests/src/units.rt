@@ -16,3 +16,4 @@ mod text;
 mod unmove;
 mod update;
 mod value;
+mod world;

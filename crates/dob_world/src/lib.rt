@@ -20,6 +20,3 @@ pub use lists::History;
 pub use runs::run;
 pub use step::Step;
 pub use world::World;
-
-#[cfg(test)]
-mod tests;

@@ -2,19 +2,20 @@
 ghost use Rattle.std.specs.Prelude.{◌≡◌, None};
 ghost use Rattle.dob_world.specs.Shown.{IsStanding, IsKept};
 
-use super::{finish, make, opened, world_of};
-use crate::{Event, Step, World};
+use super::{NODES, SIZES, does, finish, make, opened, skips, world_of};
+use crate::sets::set_of;
+use dob_world::{Event, World};
 use std::alloc::Global;
 use std::process::Abort;
 
 // A world of lions alone, driven until no event is done, is announced; and no event of a further round is done.
 fn ends_announced(rt: &impl Abort, alloc: Global, n: usize, batch: usize, capacity: usize) {
-    let mut world = world_of(rt, alloc, "000", n, batch, capacity);
+    let mut world = world_of(rt, alloc, set_of(rt, "000"), n, batch, capacity);
     assert!(rt; !world.announced());
-    finish(rt, &mut world);
+    finish(rt, &mut world, n);
     assert!(rt; world.announced());
     let before = world.steps();
-    finish(rt, &mut world);
+    finish(rt, &mut world, n);
     assert!(rt; world.announced());
     assert!(rt; world.steps() == before);
 }
@@ -36,9 +37,9 @@ fn exhaust(rt: &impl Abort, world: &mut World)
 
 #[test]
 fn driven_worlds_are_announced(rt: HostRuntime) {
-    for n in [1, 2, 3, 16] {
-        for (batch, capacity) in [(1, 1), (1, 64), (256, 1), (256, 64)] {
-            ends_announced(&rt, rt.alloc(), n, batch, capacity);
+    for n in &NODES {
+        for (batch, capacity) in &SIZES {
+            ends_announced(&rt, rt.alloc(), *n, *batch, *capacity);
         }
     }
 }
@@ -46,22 +47,22 @@ fn driven_worlds_are_announced(rt: HostRuntime) {
 #[test]
 fn busy_nodes_keep_the_token(rt: HostRuntime) {
     let mut world = opened(&rt, rt.alloc(), 2);
-    assert!(rt; make(&rt, &mut world, Event::Announce) == Step::Skipped);
-    assert!(rt; make(&rt, &mut world, Event::Pass(0)) == Step::Skipped);
+    skips(&rt, &mut world, Event::Announce);
+    skips(&rt, &mut world, Event::Pass(0));
     assert!(rt; world.steps() == 0);
 }
 
+// That the end is announced after one pass says that the token is at the node again, white and with the sum 0.
 #[test]
 fn one_node_passes_the_token_to_itself(rt: HostRuntime) {
     let mut world = opened(&rt, rt.alloc(), 1);
     exhaust(&rt, &mut world);
-    assert!(rt; make(&rt, &mut world, Event::Announce) == Step::Skipped);
-    assert!(rt; make(&rt, &mut world, Event::Pass(0)) == Step::Done);
-    let token = world.detector.token;
-    assert!(rt; token.at == 0 && !token.black && token.sum == 0);
-    assert!(rt; make(&rt, &mut world, Event::Pass(0)) == Step::Skipped);
-    assert!(rt; make(&rt, &mut world, Event::Announce) == Step::Done);
+    skips(&rt, &mut world, Event::Announce);
+    does(&rt, &mut world, Event::Pass(0));
+    assert!(rt; !world.announced());
+    skips(&rt, &mut world, Event::Pass(0));
+    does(&rt, &mut world, Event::Announce);
     assert!(rt; world.announced());
-    assert!(rt; make(&rt, &mut world, Event::Announce) == Step::Skipped);
-    assert!(rt; make(&rt, &mut world, Event::Pass(0)) == Step::Skipped);
+    skips(&rt, &mut world, Event::Announce);
+    skips(&rt, &mut world, Event::Pass(0));
 }

@@ -2,15 +2,16 @@
 ghost use Rattle.std.specs.Prelude.{◌≡◌, ◌<◌, None};
 ghost use Rattle.dob_world.specs.Shown.{IsStanding, IsKept};
 
-use super::{finish, is_table, make, world_of};
-use crate::{Event, World};
+use super::{finish, make, world_of};
+use crate::sets::{classes_of, is_same_table, set_of};
 use dob_pieces::{Memory, PieceSet};
+use dob_rank::Classes;
 use dob_share::{Item, Settlement, owner};
 use dob_unmove::back;
 use dob_value::{Table, Value, sweep_table};
+use dob_world::{Event, World};
 use std::alloc::Global;
 use std::process::Abort;
-use std::test::Fail;
 
 // Numbers that look random and are the same in each run: SplitMix64 (Steele, Lea and Flood 2014).
 #[derive(Drop)]
@@ -47,13 +48,13 @@ impl Dice {
     }
 }
 
-// A world of the set with 1 to 16 nodes, before its first event.
-fn open(rt: &impl Abort, alloc: Global, set: PieceSet, dice: &mut Dice) -> World
+// A world of the set with so many nodes, before its first event.
+fn open(rt: &impl Abort, alloc: Global, set: PieceSet, n: usize, dice: &mut Dice) -> World
     ensures standing { IsStanding result }
     ensures kept { IsKept result }
     ensures going { result.failed ≡ None }
+    ensures n { result.n ≡ n }
 {
-    let n = 1 + dice.roll(16) as usize;
     let batch = match dice.roll(3) {
         0 => 1,
         1 => 3,
@@ -63,34 +64,40 @@ fn open(rt: &impl Abort, alloc: Global, set: PieceSet, dice: &mut Dice) -> World
         0 => 1,
         _ => 4,
     };
-    let Ok(world) = World::open(alloc, set, n, batch, capacity) else {
-        panic!(rt; "no world");
-    };
-    world
+    world_of(rt, alloc, set, n, batch, capacity)
 }
 
-// Makes so many events.
-fn happen(rt: &impl Abort, world: &mut World, dice: &mut Dice, events: u64)
+// Makes so many events in the world of so many nodes.
+fn happen(rt: &impl Abort, world: &mut World, n: usize, dice: &mut Dice, events: u64)
     requires standing { IsStanding world.old }
     requires kept { IsKept world.old }
     requires going { world.old.failed ≡ None }
+    requires n { world.old.n ≡ n }
     ensures standing { IsStanding world.new }
     ensures going { world.new.failed ≡ None }
+    ensures n { world.new.n ≡ n }
 {
     for _event in 0..events {
-        let event = dice.event(world.n);
+        let event = dice.event(n);
         make(rt, world, event);
     }
 }
 
 // Each list of a link is a beginning of that before it: the items that the sender's settlements make, those sent, those
 // applied.
-fn lists_are_beginnings(rt: &impl Abort, alloc: Global, world: &World) -> Result<(), Memory>
-    requires { IsStanding world.now }
+fn lists_are_beginnings(
+    rt: &impl Abort,
+    alloc: Global,
+    classes: &Classes,
+    world: &World,
+    n: usize,
+) -> Result<(), Memory>
+    requires standing { IsStanding world.now }
+    requires n { world.now.n ≡ n }
 {
-    for node in 0..world.n {
-        let told = items_told(rt, alloc, world, node)?;
-        are_sent_in_order(rt, world, node, &told);
+    for node in 0..n {
+        let told = items_told(rt, alloc, classes, world, node)?;
+        are_sent_in_order(rt, world, n, node, &told);
     }
     Ok(())
 }
@@ -99,6 +106,7 @@ fn lists_are_beginnings(rt: &impl Abort, alloc: Global, world: &World) -> Result
 fn items_told(
     rt: &impl Abort,
     alloc: Global,
+    classes: &Classes,
     world: &World,
     node: usize,
 ) -> Result<Vec<Item>, Memory>
@@ -110,7 +118,7 @@ fn items_told(
     for number in 0..history.count() {
         let settled = history.get(number);
         assert!(rt; settled.number == number);
-        add_items(rt, alloc, world, settled, &mut items)?;
+        add_items(rt, alloc, classes, settled, &mut items)?;
     }
     Ok(items)
 }
@@ -118,12 +126,12 @@ fn items_told(
 fn add_items(
     rt: &impl Abort,
     alloc: Global,
-    world: &World,
+    classes: &Classes,
     settled: Settlement,
     items: &mut Vec<Item>,
 ) -> Result<(), Memory> {
-    assert!(rt; settled.class < world.classes.class_count());
-    for to in &back(alloc, &world.classes, settled.class)? {
+    assert!(rt; settled.class < classes.class_count());
+    for to in &back(alloc, classes, settled.class)? {
         items.push(Item {
             number: settled.number,
             to: *to,
@@ -134,11 +142,11 @@ fn add_items(
     Ok(())
 }
 
-fn are_sent_in_order(rt: &impl Abort, world: &World, from: usize, told: &[Item])
+fn are_sent_in_order(rt: &impl Abort, world: &World, n: usize, from: usize, told: &[Item])
     requires standing { IsStanding world.now }
-    requires from { from < world.now.n }
+    requires n { world.now.n ≡ n }
+    requires from { from < n }
 {
-    let n = world.n;
     for to in 0..n {
         let applied = world.applied(from, to);
         if from == to {
@@ -167,12 +175,13 @@ fn begins(items: &[Item], told: &[Item], to: usize, n: usize) -> bool
     found == items.len()
 }
 
-// How many settlements change a value that isn't a draw.
-fn improvements(world: &World) -> u64
-    requires { IsStanding world.now }
+// How many settlements of the world of so many nodes change a value that isn't a draw.
+fn improvements(world: &World, n: usize) -> u64
+    requires standing { IsStanding world.now }
+    requires n { world.now.n ≡ n }
 {
     let mut count: u64 = 0;
-    for node in 0..world.n {
+    for node in 0..n {
         count = count.saturating_add(improvements_of(world, node));
     }
     count
@@ -192,25 +201,24 @@ fn improvements_of(world: &World, node: usize) -> u64
     count
 }
 
-// Worlds of the set under so many schedules of at most so many events, each driven to its end. The answer is how many of
+// Worlds of the set of that name under so many schedules of at most so many events, each driven to its end. The answer is how many of
 // their settlements improve a value.
 fn try_schedules(
     rt: &impl Abort,
     alloc: Global,
-    set: PieceSet,
+    name: &str,
     schedules: u64,
     events: u64,
 ) -> Result<u64, Memory>
     requires { 0 < events }
 {
-    let Ok(swept) = sweep_table(alloc, set) else {
-        panic!(rt; "no table swept");
-    };
+    let classes = classes_of(rt, alloc, name);
+    let swept = sweep_table(alloc, classes.set).expect(rt, "a table");
     let mut improved: u64 = 0;
     for schedule in 0..schedules {
         let mut dice = Dice(schedule);
         let some = dice.roll(events);
-        let count = try_schedule(rt, alloc, set, &mut dice, some, &swept)?;
+        let count = try_schedule(rt, alloc, &classes, &mut dice, some, &swept)?;
         improved = improved.saturating_add(count);
     }
     Ok(improved)
@@ -219,48 +227,42 @@ fn try_schedules(
 fn try_schedule(
     rt: &impl Abort,
     alloc: Global,
-    set: PieceSet,
+    classes: &Classes,
     dice: &mut Dice,
     events: u64,
     swept: &Table,
 ) -> Result<u64, Memory> {
-    let mut world = open(rt, alloc, set, dice);
-    happen(rt, &mut world, dice, events);
-    lists_are_beginnings(rt, alloc, &world)?;
-    finish(rt, &mut world);
-    lists_are_beginnings(rt, alloc, &world)?;
-    assert!(rt; is_table(&world.gather()?, swept));
-    Ok(improvements(&world))
+    let n = 1 + dice.roll(16) as usize;
+    let mut world = open(rt, alloc, classes.set, n, dice);
+    happen(rt, &mut world, n, dice, events);
+    lists_are_beginnings(rt, alloc, classes, &world, n)?;
+    finish(rt, &mut world, n);
+    lists_are_beginnings(rt, alloc, classes, &world, n)?;
+    assert!(rt; is_same_table(&world.gather()?, swept));
+    Ok(improvements(&world, n))
 }
 
 #[test]
-fn sixteen_nodes_improve_values(rt: HostRuntime) -> Result<(), Fail> {
-    let mut world = world_of(&rt, rt.alloc(), "100", 16, 2, 2);
-    finish(&rt, &mut world);
-    assert_eq!(rt; improvements(&world), 43);
+fn sixteen_nodes_improve_values(rt: HostRuntime) {
+    let mut world = world_of(&rt, rt.alloc(), set_of(&rt, "100"), 16, 2, 2);
+    finish(&rt, &mut world, 16);
+    assert!(rt; improvements(&world, 16) == 43);
+}
+
+#[test]
+fn schedules_of_lions_alone(rt: HostRuntime) -> Result<(), Memory> {
+    assert!(rt; try_schedules(&rt, rt.alloc(), "000", 900, 400)? == 0);
     Ok(())
 }
 
 #[test]
-fn schedules_of_lions_alone(rt: HostRuntime) -> Result<(), Fail> {
-    let set = PieceSet::read("000").expect(&rt, "a set");
-    let improved = try_schedules(&rt, rt.alloc(), set, 900, 400)?;
-    assert_eq!(rt; improved, 0);
+fn schedules_with_a_chick(rt: HostRuntime) -> Result<(), Memory> {
+    assert!(rt; try_schedules(&rt, rt.alloc(), "100", 60, 20_000)? > 0);
     Ok(())
 }
 
 #[test]
-fn schedules_with_a_chick(rt: HostRuntime) -> Result<(), Fail> {
-    let set = PieceSet::read("100").expect(&rt, "a set");
-    let improved = try_schedules(&rt, rt.alloc(), set, 60, 20_000)?;
-    assert!(rt; improved > 0);
-    Ok(())
-}
-
-#[test]
-fn schedules_with_a_giraffe(rt: HostRuntime) -> Result<(), Fail> {
-    let set = PieceSet::read("001").expect(&rt, "a set");
-    let improved = try_schedules(&rt, rt.alloc(), set, 60, 10_000)?;
-    assert!(rt; improved > 0);
+fn schedules_with_a_giraffe(rt: HostRuntime) -> Result<(), Memory> {
+    assert!(rt; try_schedules(&rt, rt.alloc(), "001", 60, 10_000)? > 0);
     Ok(())
 }

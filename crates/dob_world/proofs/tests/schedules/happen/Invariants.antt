@@ -1,7 +1,0 @@
--- The world stands after each event.
-use Rattle.std.proofs.Common.{◌≡◌, None}
-use Rattle.dob_world.specs.Shown.{IsStanding, IsKept}
-use Rattle.dob_world.proofs.tests.schedules.happen.Given as goal
-
-abbrev pub invariant-loop-event : goal.invariant-loop-event
-invariant-loop-event g l = IsStanding l.world × IsKept l.world × (l.world.failed ≡ None)
