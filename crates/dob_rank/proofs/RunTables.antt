@@ -209,7 +209,7 @@ AreRuns-push set block run before word kind runs news words longer are before_is
         | inr later ↦
             let same : k ≡ run = omega arith in
             subst (λ n. IsRun set block n (words ++ kept_words set block run)
-                (slice_index_or (runs ++ make_run before (length words) kind ∷ []) n other)) (sym same)
+            (slice_index_or (runs ++ make_run before (length words) kind ∷ []) n other)) (sym same)
             (subst (IsRun set block run (words ++ kept_words set block run)) (sym (get_or_push runs (make_run before (length words) kind) other run are.long))
             (IsRun-new set block run before kind words before_is kind_is))
       ];
