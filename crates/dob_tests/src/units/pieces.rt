@@ -1,4 +1,4 @@
-// The starting position, the faults in their order, piece sets read, and the printed texts.
+// The starting position, the faults in their order, and piece sets read.
 use dob_pieces::{
     Hand, HandKind, Hands, Kind, Piece, PieceSet, Position, PositionFault, SetText, Setup, Side,
     Square,
@@ -178,19 +178,4 @@ fn pieces_and_squares(rt: HostRuntime) {
                 kind: Kind::Hen
             }
     );
-}
-
-#[test]
-fn faults_are_printed(rt: HostRuntime) {
-    let texts = [
-        (PositionFault::Lions, "E4 Lions"),
-        (PositionFault::Count, "E5 Count"),
-        (PositionFault::FarLion, "E6 FarLion"),
-    ];
-    for (fault, text) in texts {
-        let printed = format!(in rt.alloc(); "{fault}").expect(&rt, "memory");
-        assert!(rt; printed.as_str() == text, "{text}");
-    }
-    let printed = format!(in rt.alloc(); "{}", SetText).expect(&rt, "memory");
-    assert!(rt; printed.as_str() == "E25 SetText");
 }

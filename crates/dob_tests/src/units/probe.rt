@@ -1,4 +1,4 @@
-// The table of lions alone, other sets, and the faults. Lines, and tables with a wrong value, stand in dob_tests, with the
+// The table of lions alone, and other sets. Lines, and tables with a wrong value, stand in dob_tests, with the
 // boards that they are read from.
 ghost use Rattle.std.specs.Prelude.{◌<◌};
 
@@ -54,19 +54,4 @@ fn value_tables_are_passed(rt: HostRuntime) -> Result<(), Fail> {
         assert!(rt; check(&rt, rt.alloc(), &table).is_ok());
     }
     Ok(())
-}
-
-#[test]
-fn faults_are_printed(rt: HostRuntime) {
-    let texts = [
-        (Fault::OtherSet, "E7 OtherSet"),
-        (Fault::Inconsistent(17), "E21 Inconsistent class 17"),
-        (Fault::Memory, "E23 Memory"),
-    ];
-    for (fault, text) in texts {
-        let printed = format!(in rt.alloc(); "{fault}").expect(&rt, "memory");
-        assert!(rt; printed.as_str() == text, "{text}");
-    }
-    let printed = format!(in rt.alloc(); "{}", OtherSet).expect(&rt, "memory");
-    assert!(rt; printed.as_str() == "E7 OtherSet");
 }

@@ -474,19 +474,3 @@ fn writes_drops(rt: HostRuntime) {
     writes_drop(&rt, alloc, HandKind::Elephant, 9, true, "e*c1");
     writes_drop(&rt, alloc, HandKind::Giraffe, 8, true, "g*a2");
 }
-
-#[test]
-fn prints_faults(rt: HostRuntime) {
-    let faults = [
-        (TextFault::Shape, "E1 Shape"),
-        (TextFault::Letter, "E2 Letter"),
-        (TextFault::Hand, "E3 Hand"),
-        (TextFault::Lions, "E4 Lions"),
-        (TextFault::Count, "E5 Count"),
-        (TextFault::FarLion, "E6 FarLion"),
-    ];
-    for (fault, text) in faults {
-        let printed = format!(in rt.alloc(); "{fault}").expect(&rt, "memory");
-        assert!(rt; printed.as_str() == text, "{text}");
-    }
-}

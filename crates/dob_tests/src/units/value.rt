@@ -1,4 +1,4 @@
-// Tables of values by another program, and the codes and faults.
+// Tables of values by another program, and the codes.
 use dob_pieces::PieceSet;
 use dob_value::{Fault, MAX_DISTANCE, Table, Value, code_of_value, sweep_table, value_of_code};
 
@@ -82,18 +82,5 @@ fn refuses_larger_sets(rt: HostRuntime) {
         let set = PieceSet::read(text).expect(&rt, "a set");
         let swept = sweep_table(rt.alloc(), set);
         assert!(rt; matches!(swept, Err(Fault::SetTooLarge)), "{text}");
-    }
-}
-
-#[test]
-fn faults_are_printed(rt: HostRuntime) {
-    let texts = [
-        (Fault::SetTooLarge, "E8 SetTooLarge"),
-        (Fault::TooDeep, "E12 TooDeep"),
-        (Fault::Memory, "E23 Memory"),
-    ];
-    for (fault, text) in texts {
-        let printed = format!(in rt.alloc(); "{fault}").expect(&rt, "memory");
-        assert!(rt; printed.as_str() == text, "{text}");
     }
 }

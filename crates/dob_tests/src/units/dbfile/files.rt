@@ -174,22 +174,3 @@ fn a_wrong_record_is_read_as_it_is(rt: HostRuntime) {
         assert!(rt; table.value(17) == Value::Win(7));
     }
 }
-
-#[test]
-fn faults_are_printed(rt: HostRuntime) {
-    let texts = [
-        (Fault::SetTooLarge, "E8 SetTooLarge"),
-        (Fault::Truncated, "E15 Truncated"),
-        (Fault::Magic, "E16 Magic"),
-        (Fault::SetByte, "E17 SetByte"),
-        (Fault::ClassCount, "E18 ClassCount"),
-        (Fault::Trailing, "E19 Trailing"),
-        (Fault::Digest, "E20 Digest"),
-        (Fault::Memory, "E23 Memory"),
-        (Fault::Io(30), "E24 Io"),
-    ];
-    for (fault, text) in texts {
-        let printed = format!(in rt.alloc(); "{fault}").expect(&rt, "memory");
-        assert!(rt; printed.as_str() == text);
-    }
-}
