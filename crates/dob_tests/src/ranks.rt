@@ -2,7 +2,8 @@
 ghost use Rattle.std.specs.Prelude.{◌<◌};
 
 use crate::positions::position;
-use dob_pieces::{PieceSet, Position};
+use crate::sets::set_of;
+use dob_pieces::Position;
 use dob_rank::{Classes, rank, representative, size, unrank};
 use std::alloc::Global;
 use std::process::Abort;
@@ -32,7 +33,7 @@ const RANKS: [(&str, u64, &str); 19] = [
 
 // The position has that rank in the set of that name.
 fn has_rank(rt: &impl Abort, name: &str, number: u64, text: &str) {
-    let set = PieceSet::read(name).expect(rt, "a set");
+    let set = set_of(rt, name);
     assert!(rt; number < size(set));
     let seen = position(rt, text);
     assert!(rt; unrank(set, number) == seen, "{text}");

@@ -3,7 +3,8 @@
 ghost use Rattle.std.specs.Prelude.{◌≡◌, OnOk, IfOk};
 ghost use Rattle.dob_chan.specs.Ends.{ArePaired, SendsOnSame, TakesOnSame};
 
-use super::outboxes::{add, lion_classes, won};
+use super::outboxes::{add, won};
+use crate::sets::classes_of;
 use dob_chan::{SendEnd, TakeEnd, pair, rejoin};
 use dob_pieces::Memory;
 use dob_update::{Batch, Outbox};
@@ -24,7 +25,7 @@ fn cut(rt: &impl Abort, outbox: &mut Outbox) -> Result<Batch, Memory> {
 
 // So many batches, the last one first.
 fn batches(rt: &impl Abort, alloc: Global, count: u64) -> Result<Vec<Batch>, Memory> {
-    let classes = lion_classes(rt, alloc);
+    let classes = classes_of(rt, alloc, "000");
     let mut outbox = Outbox::new(alloc, classes.set, 2, 0, 1);
     for number in 0..count {
         add(rt, alloc, &classes, &mut outbox, won(number, CLASS))?;

@@ -2,6 +2,7 @@
 ghost use Rattle.std.specs.Prelude.{◌≡◌, ◌<◌, ◌≤◌};
 ghost use Rattle.dob_node.specs.Nodes.{IsSound};
 
+use crate::sets::{classes_of, is_same_table, set_of};
 use dob_moves::{Status, status_and_count};
 use dob_node::{Node, Opening, alone, opening};
 use dob_pieces::{Hand, Hands, Kind, Piece, PieceSet, Position, Side};
@@ -12,24 +13,9 @@ use dob_value::{Value, sweep_table};
 use std::alloc::Global;
 use std::process::Abort;
 
-// Lions and so many chicks.
-fn with_chicks(chicks: u8) -> PieceSet
-    requires { chicks ≤ 2 }
-{
-    PieceSet {
-        chicks,
-        elephants: 0,
-        giraffes: 0,
-    }
-}
-
-fn classes_of<A: Abort>(rt: &A, alloc: Global, set: PieceSet) -> Classes {
-    Classes::open(alloc, set).expect(rt, "classes")
-}
-
 #[test]
 fn lions_alone_open(rt: HostRuntime) {
-    let classes = classes_of(&rt, rt.alloc(), with_chicks(0));
+    let classes = classes_of(&rt, rt.alloc(), "000");
     let openings = opening(rt.alloc(), &classes).expect(&rt, "openings");
     assert!(rt; openings.len() == 54);
     let closed = openings
@@ -44,7 +30,7 @@ fn lions_alone_open(rt: HostRuntime) {
 
 #[test]
 fn one_node_makes_the_table_of_lions_alone(rt: HostRuntime) {
-    let set = with_chicks(0);
+    let set = set_of(&rt, "000");
     let Ok(None) = alone(rt.alloc(), set, 0) else {
         panic!(rt; "something is left to do at the opening");
     };
@@ -54,14 +40,8 @@ fn one_node_makes_the_table_of_lions_alone(rt: HostRuntime) {
     let Ok(swept) = sweep_table(rt.alloc(), set) else {
         panic!(rt; "no table swept");
     };
-    let count = table.class_count();
-    assert!(rt; count == 54);
-    let swept_count = swept.class_count();
-    assert!(rt; swept_count == count);
-    for class in 0..count {
-        let value = table.value(class);
-        assert!(rt; value == swept.value(class));
-    }
+    assert!(rt; table.class_count() == 54);
+    assert!(rt; is_same_table(&table, &swept));
 }
 
 // A position with nothing in hand, of that piece of each square from a1 to c4.
@@ -296,7 +276,7 @@ fn improves(node: &Node) -> bool {
 #[test]
 fn items_of_one_settlement_go_in_batches(rt: HostRuntime) {
     let alloc = rt.alloc();
-    let classes = classes_of(&rt, alloc, with_chicks(0));
+    let classes = classes_of(&rt, alloc, "000");
     let mut first = one_of_two(&rt, alloc, &classes, 0);
     let mut second = one_of_two(&rt, alloc, &classes, 1);
     assert!(rt; first.settled() == 16 && second.settled() == 17);
@@ -332,8 +312,7 @@ fn have_swept_values<A: Abort>(rt: &A, alloc: Global, set: PieceSet, first: Node
 #[test]
 fn two_nodes_improve_values(rt: HostRuntime) {
     let alloc = rt.alloc();
-    let set = with_chicks(1);
-    let classes = classes_of(&rt, alloc, set);
+    let classes = classes_of(&rt, alloc, "100");
     let mut first = one_of_two(&rt, alloc, &classes, 0);
     let mut second = one_of_two(&rt, alloc, &classes, 1);
     let mut log = Log {
@@ -344,5 +323,5 @@ fn two_nodes_improve_values(rt: HostRuntime) {
     run(&rt, &classes, &mut first, &mut second, 1, false, &mut log);
     assert!(rt; first.is_idle() && second.is_idle());
     assert!(rt; improves(&first) || improves(&second));
-    have_swept_values(&rt, alloc, set, first, second);
+    have_swept_values(&rt, alloc, classes.set, first, second);
 }

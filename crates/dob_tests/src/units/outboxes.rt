@@ -1,7 +1,8 @@
 // What fills the outbox of owner 0 of two for owner 1, in the set of lions alone.
 ghost use Rattle.std.specs.Prelude.{◌≡◌, OnOk};
 
-use dob_pieces::{Memory, PieceSet};
+use crate::sets::classes_of;
+use dob_pieces::Memory;
 use dob_rank::Classes;
 use dob_share::Settlement;
 use dob_unmove::back;
@@ -9,12 +10,6 @@ use dob_update::{Outbox, push_items};
 use dob_value::Value;
 use std::alloc::Global;
 use std::process::Abort;
-
-/// The classes of the set of lions alone.
-pub(super) fn lion_classes(rt: &impl Abort, alloc: Global) -> Classes {
-    let set = PieceSet::read("000").expect(rt, "a set");
-    Classes::open(alloc, set).expect(rt, "classes")
-}
 
 /// The settlement of a class that turns from a draw to a win in 7 plies.
 pub(super) fn won(number: u64, class: u64) -> Settlement {
@@ -50,7 +45,7 @@ pub(super) fn add(
 
 /// An outbox with the five items of one settlement.
 pub(super) fn filled(rt: &impl Abort, alloc: Global) -> Result<Outbox, Memory> {
-    let classes = lion_classes(rt, alloc);
+    let classes = classes_of(rt, alloc, "000");
     let mut outbox = Outbox::new(alloc, classes.set, 2, 0, 1);
     add(rt, alloc, &classes, &mut outbox, won(0, 16))?;
     Ok(outbox)

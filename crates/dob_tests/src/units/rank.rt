@@ -8,6 +8,7 @@ mod plain;
 
 use self::key::{is_first, key};
 use self::plain::starts;
+use crate::sets::{classes_of, set_of};
 use dob_pieces::{Kind, Piece, PieceSet, Position, Side};
 use dob_rank::{Classes, Fault, rank, representative, size, unrank};
 use std::alloc::{AllocError, Global};
@@ -30,7 +31,7 @@ fn sets_have_their_sizes(rt: HostRuntime) {
         ("111", 1529352),
         ("210", 1447974),
     ] {
-        let set = PieceSet::read(text).expect(&rt, "a set");
+        let set = set_of(&rt, text);
         assert!(rt; size(set) == want, "of {text}");
     }
 }
@@ -112,7 +113,7 @@ fn has_lions_of(rt: &impl Abort, position: &Position, class: usize) {
 
 #[test]
 fn classes_of_lions_alone(rt: HostRuntime) {
-    let set = PieceSet::read("000").expect(&rt, "a set");
+    let set = set_of(&rt, "000");
     let mut classes = 0usize;
     for number in 0..size(set) {
         let position = unrank(set, number);
@@ -127,8 +128,7 @@ fn classes_of_lions_alone(rt: HostRuntime) {
 #[test]
 fn classes_are_counted(rt: HostRuntime) {
     for (text, want) in [("000", 54), ("001", 1116), ("100", 2124), ("200", 39978)] {
-        let set = PieceSet::read(text).expect(&rt, "a set");
-        let classes = Classes::open(rt.alloc(), set).expect(&rt, "memory");
+        let classes = classes_of(&rt, rt.alloc(), text);
         assert!(rt; classes.class_count() == want, "classes of {text}");
     }
 }
@@ -136,7 +136,7 @@ fn classes_are_counted(rt: HostRuntime) {
 #[test]
 fn sets_of_four_pieces_are_refused(rt: HostRuntime) {
     for text in ["112", "220", "022", "222"] {
-        let set = PieceSet::read(text).expect(&rt, "a set");
+        let set = set_of(&rt, text);
         let opened = Classes::open(rt.alloc(), set);
         assert!(rt; matches!(opened, Err(Fault::SetTooLarge)), "{text}");
     }

@@ -4,8 +4,9 @@ ghost use Rattle.dob_moves.specs.Statuses.{AreMoves};
 mod plain_rules;
 mod plain_walk;
 
+use crate::sets::classes_of;
 use dob_moves::{Move, apply, moves};
-use dob_pieces::{Hand, Hands, Kind, Memory, Piece, PieceSet, Position, Side, Square};
+use dob_pieces::{Hand, Hands, Kind, Memory, Piece, Position, Side, Square};
 use dob_rank::Classes;
 use dob_unmove::{back, back_into};
 use std::alloc::Global;
@@ -18,12 +19,6 @@ const EMPTY: Hand = Hand {
 };
 
 const ONE_CHICK: Hand = Hand { chicks: 1, ..EMPTY };
-
-// The classes of the set of that name.
-fn classes_of(rt: &impl Abort, alloc: Global, name: &str) -> Classes {
-    let set = PieceSet::read(name).expect(rt, "a set");
-    Classes::open(alloc, set).expect(rt, "classes")
-}
 
 // The piece of that letter: upper case for the mover, a dot for none.
 fn piece(letter: u8) -> Option<Piece> {

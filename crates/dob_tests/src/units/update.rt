@@ -3,7 +3,8 @@ ghost use Rattle.std.specs.Prelude.{◌≡◌, OnOk};
 ghost use Rattle.dob_pieces.specs.declared.piece_set.PieceSet.{PieceSet as Set};
 ghost use Rattle.dob_update.specs.Batches.{OutboxView};
 
-use super::outboxes::{add, filled, lion_classes, won};
+use super::outboxes::{add, filled, won};
+use crate::sets::classes_of;
 use dob_pieces::Memory;
 use dob_rank::Classes;
 use dob_share::Settlement;
@@ -104,7 +105,7 @@ fn one_settlement_in_three_batches(rt: HostRuntime) -> Result<(), Memory> {
 
 // An outbox with the items of three settlements, five, one and two.
 fn filled_thrice(rt: &impl Abort, alloc: Global) -> Result<Outbox, Memory> {
-    let classes = lion_classes(rt, alloc);
+    let classes = classes_of(rt, alloc, "000");
     let mut outbox = Outbox::new(alloc, classes.set, 2, 0, 1);
     add(rt, alloc, &classes, &mut outbox, won(0, 16))?;
     add(rt, alloc, &classes, &mut outbox, won(1, 0))?;
@@ -139,7 +140,7 @@ fn batches_over_settlements(rt: HostRuntime) -> Result<(), Memory> {
 #[test]
 fn taken_back(rt: HostRuntime) -> Result<(), Memory> {
     let alloc = rt.alloc();
-    let classes = lion_classes(&rt, alloc);
+    let classes = classes_of(&rt, alloc, "000");
     let mut outbox = Outbox::new(alloc, classes.set, 2, 0, 1);
     add_and_take_back(&rt, alloc, &classes, &mut outbox, won(0, 16))?;
     assert!(rt; outbox.is_empty());

@@ -1,4 +1,5 @@
 // Tables of values by another program, and the codes.
+use crate::sets::set_of;
 use dob_pieces::PieceSet;
 use dob_value::{Fault, MAX_DISTANCE, Table, Value, code_of_value, sweep_table, value_of_code};
 
@@ -79,8 +80,7 @@ fn codes_tell_values(rt: HostRuntime) {
 #[test]
 fn refuses_larger_sets(rt: HostRuntime) {
     for text in ["220", "211", "222"] {
-        let set = PieceSet::read(text).expect(&rt, "a set");
-        let swept = sweep_table(rt.alloc(), set);
+        let swept = sweep_table(rt.alloc(), set_of(&rt, text));
         assert!(rt; matches!(swept, Err(Fault::SetTooLarge)), "{text}");
     }
 }

@@ -1,6 +1,6 @@
 // Files of the set of lions alone: what is in them, and what is read of files that are spoilt.
+use crate::sets::{is_same_table, set_of};
 use dob_dbfile::{Fault, MemSink, MemSource, Sink, Source, read_table, write_table};
-use dob_pieces::PieceSet;
 use dob_value::{Table, Value, sweep_table};
 use sha2::{Digest, Sha256};
 use std::process::Abort;
@@ -18,8 +18,7 @@ const DIGEST: [u8; 32] = [
 ];
 
 pub(super) fn table(rt: &(impl Abort + AllocGlobal)) -> Table {
-    let set = PieceSet::read("000").expect(rt, "a set");
-    sweep_table(rt.alloc(), set).expect(rt, "a table")
+    sweep_table(rt.alloc(), set_of(rt, "000")).expect(rt, "a table")
 }
 
 pub(super) fn file(rt: &(impl Abort + AllocGlobal)) -> Vec<u8> {
@@ -74,9 +73,7 @@ fn written_and_read_in_pieces(rt: HostRuntime) {
         assert!(rt; sink.flushes() == [FILE_LEN].as_slice());
         let mut source = MemSource::new(sink.into_bytes()).in_pieces(longest);
         let again = read_table(rt.alloc(), &mut source).expect(&rt, "the table");
-        for class in 0..again.class_count().min(table.class_count()) {
-            assert!(rt; again.value(class) == table.value(class));
-        }
+        assert!(rt; is_same_table(&again, &table));
     }
 }
 

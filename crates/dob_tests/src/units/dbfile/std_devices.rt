@@ -3,6 +3,7 @@
 ghost use Rattle.std.specs.Prelude.{◌≡◌, IfOk};
 
 use super::files::{FILE_LEN, file, table};
+use crate::sets::is_same_table;
 use dob_dbfile::{Failed, Fault, Sink, Source, Std, read_table, write_table};
 use std::io::{self, ErrorKind, Read, Write};
 
@@ -127,9 +128,7 @@ fn short_writes_and_reads(rt: HostRuntime) {
         let mut source = Std::new(Shaky::new(bytes, longest, usize::MAX, None));
         let again = read_table(rt.alloc(), &mut source).expect(&rt, "the table");
         assert!(rt; !Source::failed(&source));
-        for class in 0..again.class_count().min(table.class_count()) {
-            assert!(rt; again.value(class) == table.value(class));
-        }
+        assert!(rt; is_same_table(&again, &table));
     }
 }
 

@@ -1,9 +1,9 @@
 // The rules by masks against the plain program of the rules, on whole small sets and on a part of a larger one.
 ghost use Rattle.std.specs.Prelude.{◌<◌};
 
+use crate::sets::classes_of;
 use dob_moves::{Move, count_moves, first_catch, moves, moves_into, plain, status};
-use dob_pieces::{Memory, PieceSet, Position};
-use dob_rank::Classes;
+use dob_pieces::{Memory, Position};
 use std::alloc::Global;
 use std::process::Abort;
 
@@ -30,8 +30,7 @@ fn has_moves(rt: &impl Abort, position: &Position, listed: &[Move], expected: &[
 fn agree_on_set(rt: &impl Abort, alloc: Global, name: &str, stride: u64) -> Result<(), Memory>
     requires { 0 < stride }
 {
-    let set = PieceSet::read(name).expect(rt, "a set");
-    let classes = Classes::open(alloc, set).expect(rt, "classes");
+    let classes = classes_of(rt, alloc, name);
     for class in 0..classes.class_count() {
         if class % stride == 0 {
             agree_on(rt, alloc, &classes.class_at(class))?;

@@ -1,8 +1,8 @@
 // The walk by masks against the plain program, on whole small sets and on a part of a larger one.
 ghost use Rattle.std.specs.Prelude.{◌<◌};
 
-use dob_pieces::{Memory, PieceSet};
-use dob_rank::Classes;
+use crate::sets::classes_of;
+use dob_pieces::Memory;
 use dob_unmove::{back_into, plain};
 use std::alloc::Global;
 use std::process::Abort;
@@ -11,8 +11,7 @@ use std::process::Abort;
 fn agree_on_set(rt: &impl Abort, alloc: Global, name: &str, stride: u64) -> Result<(), Memory>
     requires { 0 < stride }
 {
-    let set = PieceSet::read(name).expect(rt, "a set");
-    let classes = Classes::open(alloc, set).expect(rt, "classes");
+    let classes = classes_of(rt, alloc, name);
     let mut found = Vec::new(alloc);
     let mut expected = Vec::new(alloc);
     for class in 0..classes.class_count() {
