@@ -1,5 +1,5 @@
 -- The steps of one node that owns all classes.
-use Rattle.std.proofs.Common.{◌≡◌, ◌≢◌, ℕ, zero, suc, ◌+◌, ◌%◌, ◌<◌, nat_lt, cond, refl, sym, ap, subst, arith, List, [], ◌∷◌, ◌++◌, lit<}
+use Rattle.std.proofs.Common.{◌≡◌, ◌≢◌, ℕ, zero, suc, ◌%◌, ◌<◌, nat_lt, cond, refl, sym, ap, subst, arith, List, [], ◌∷◌, ◌++◌, lit<}
 use Rattle.std.proofs.lemmas.Bool.{lt-ltb, ltb-true}
 use Rattle.dob_pieces.specs.declared.piece_set.PieceSet.{PieceSet}
 use Rattle.dob_rank.specs.Marks.{classes_of}

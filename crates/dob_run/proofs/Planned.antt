@@ -1,5 +1,5 @@
 -- How a history goes on with the items taken, the last of a list of items, and lists of batches.
-use Rattle.std.proofs.Common.{◌≡◌, ℕ, zero, suc, ◌+◌, ◌-◌, sym, ap, ◌∙◌, subst, arith, append_assoc, List, [], ◌∷◌}
+use Rattle.std.proofs.Common.{◌≡◌, ℕ, zero, suc, ◌-◌, sym, ap, ◌∙◌, subst, arith, append_assoc, List, [], ◌∷◌}
 use Rattle.std.proofs.Common.{◌++◌, length, length-append, length-drop, drop, slice_get, Some}
 use Rattle.std.proofs.lemmas.Grind.{flat_map-append}
 use Rattle.std.proofs.lemmas.List.{append-nil, drop-append-le}
