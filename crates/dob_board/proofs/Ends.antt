@@ -21,6 +21,7 @@ use Rattle.dob_board.specs.Rule.{fresh}
 use Rattle.dob_board.specs.Seats.{stand_of, IsSeatOf, AreSeats, AreWords}
 use Rattle.dob_board.specs.Boards.{joined, nobody, behind, gathered, IsWord, AreRead, Read}
 use Rattle.dob_safra.proofs.Kept.{same_or_not}
+use Rattle.dob_board.proofs.Lists.{get_last, get_front}
 use Rattle.dob_board.proofs.Places.{posted_within, taken_within}
 use Rattle.dob_board.proofs.Kept.{own_node}
 use Rattle.dob_board.proofs.Allowed.{Seated, seated, Held, set_same}
@@ -157,15 +158,6 @@ pub record AreLeft (board : TableId) (n : ℕ) (all : List Stand) (seats : List 
   pub all_are : all ≡ map stand_of seats ++ me.0.stands
   pub seats_are : (k : ℕ) (seat : NodeSeat) → slice_get seats k ≡ Some seat → IsSeatOf board n k seat
 
-pub last_there : {A : Type 0} → (xs : List A) (x : A) → slice_get (xs ++ x ∷ []) (length xs) ≡ Some x
-last_there [] x = refl
-last_there (y ∷ ys) x = last_there ys x
-
-pub front_there : {A : Type 0} → (xs ys : List A) (k : ℕ) (x : A) → slice_get xs k ≡ Some x → slice_get (xs ++ ys) k ≡ Some x
-front_there [] ys k x e = absurd (cc)
-front_there (y ∷ xs) ys zero x e = e
-front_there (y ∷ xs) ys (suc k) x e = front_there xs ys k x e
-
 map_push : (seats : List NodeSeat) (seat : NodeSeat) → map stand_of (seats ++ seat ∷ []) ≡ map stand_of seats ++ stand_of seat ∷ []
 map_push [] seat = refl
 map_push (x ∷ xs) seat = ap (λ (ss : List Stand). stand_of x ∷ ss) (map_push xs seat)
@@ -174,7 +166,7 @@ pub last_seat : (board : TableId) (n : ℕ) (all : List Stand) (seats fewer : Li
     seats ≡ fewer ++ seat ∷ [] → IsSeatOf board n (length fewer) seat × (me.0.from ≡ suc seat.node)
 last_seat board n all seats fewer seat me left seats_is =
     let is : IsSeatOf board n (length fewer) seat =
-    left.seats_are (length fewer) seat (ap (λ (xs : List NodeSeat). slice_get xs (length fewer)) seats_is ∙ last_there fewer seat) in
+    left.seats_are (length fewer) seat (ap (λ (xs : List NodeSeat). slice_get xs (length fewer)) seats_is ∙ get_last fewer seat) in
     (is, omega (arith, left.from_is, ap length seats_is, length-append fewer (seat ∷ []), is.node))
 
 pub one_less : (board : TableId) (n : ℕ) (all : List Stand) (seats fewer : List NodeSeat) (seat : NodeSeat) (me after : Seated) → AreLeft board n all seats me →
@@ -192,7 +184,7 @@ one_less board n all seats fewer seat me after left seats_is after_is =
           ∙ ap (λ (ss : List Stand). ss ++ me.0.stands) (map_push fewer seat)
           ∙ append_assoc (map stand_of fewer) (stand_of seat ∷ []) me.0.stands
           ∙ ap (λ (v : View). map stand_of fewer ++ v.stands) (sym after_view);
-      seats_are = λ k other e. left.seats_are k other (ap (λ (xs : List NodeSeat). slice_get xs k) seats_is ∙ front_there fewer (seat ∷ []) k other e);
+      seats_are = λ k other e. left.seats_are k other (ap (λ (xs : List NodeSeat). slice_get xs k) seats_is ∙ get_front fewer (seat ∷ []) other k e);
     }
 
 pub none_left : (board : TableId) (n : ℕ) (all : List Stand) (seats : List NodeSeat) (me : Seated) → AreLeft board n all seats me → seats ≡ [] →

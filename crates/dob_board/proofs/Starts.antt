@@ -21,6 +21,7 @@ use Rattle.dob_board.specs.Boards.{first_token, first_words, behind}
 use Rattle.atomic_table.specs.Seated.{TableId}
 use Rattle.dob_board.specs.declared.seat.NodeSeat.{NodeSeat}
 use Rattle.dob_board.specs.Seats.{stand_of, IsSeatOf}
+use Rattle.dob_board.proofs.Lists.{at_end}
 use Rattle.dob_board.proofs.Kept.{one_is_view}
 use Rattle.dob_board.proofs.Allowed.{Seated, Held}
 
@@ -36,11 +37,11 @@ port_here i port owner = let same : eqb i i ≡ true = eq-eqb i i refl in rw sam
 pub port_else : (i port m : ℕ) (owner : ℕ → ℕ) → m ≢ i → port_of i port owner m ≡ owner m
 port_else i port m owner apart = let other : eqb m i ≡ false = ne_eqb m i apart in rw other refl
 
-at_end : {A : Type 0} → (l : List A) (a b : A) (j : ℕ) → get_elem? (l ++ a ∷ []) j ≡ some b → (get_elem? l j ≡ some b) ⊎ ((j ≡ length l) × (a ≡ b))
-at_end [] a b zero e = inr (refl, some-injective a b e)
-at_end [] a b (suc j) e = absurd (some-ne-none b (sym e))
-at_end (x ∷ xs) a b zero e = inl e
-at_end (x ∷ xs) a b (suc j) e = ⊎_elim (λ l. inl l) (λ r. inr (ap suc r.0, r.1)) (at_end xs a b j e)
+views_end : {A : Type 0} → (l : List A) (a b : A) (j : ℕ) → get_elem? (l ++ a ∷ []) j ≡ some b → (get_elem? l j ≡ some b) ⊎ ((j ≡ length l) × (a ≡ b))
+views_end [] a b zero e = inr (refl, some-injective a b e)
+views_end [] a b (suc j) e = absurd (some-ne-none b (sym e))
+views_end (x ∷ xs) a b zero e = inl e
+views_end (x ∷ xs) a b (suc j) e = ⊎_elim (λ l. inl l) (λ r. inr (ap suc r.0, r.1)) (views_end xs a b j e)
 
 -- the views of other seats, where another seat has node i now
 pub elsewhere : (n i id fresh_port port halt : ℕ) (owner : ℕ → ℕ) (ring : Ring) (log : List RingEvent) (view : View) → owner i ≡ id → port ≢ id →
@@ -107,7 +108,7 @@ splits n i id words views stand rest told held at =
           let port_is : port' ≡ port = sym (length-set views id (view_from n (suc i) rest told)) ∙ sym last.0 in
           subst (λ (p : ℕ × View). IsView n owner ring halt held.log p.0 p.1) (λ q. (port_is q, last.1 q))
           (one_is_view n i port' halt owner ring held.log told stand own.within (port_here i port' held.owner) was.was_told own.is_stand))
-          (at_end (set views id (view_from n (suc i) rest told)) (one n i stand told) view port e);
+          (views_end (set views id (view_from n (suc i) rest told)) (one n i stand told) view port e);
     }
 
 abbrev stands_behind : ℕ → ℕ → List Stand
@@ -235,12 +236,6 @@ begins n word size packed = record {
 
 -- ---- one seat more
 
-pub seats_end : {A : Type 0} → (l : List A) (a b : A) (j : ℕ) → slice_get (l ++ a ∷ []) j ≡ Some b → (slice_get l j ≡ Some b) ⊎ ((j ≡ length l) × (a ≡ b))
-seats_end [] a b zero e = inr (refl, (cc))
-seats_end [] a b (suc j) e = absurd (cc)
-seats_end (x ∷ xs) a b zero e = inl e
-seats_end (x ∷ xs) a b (suc j) e = ⊎_elim (λ l. inl l) (λ r. inr (ap suc r.0, r.1)) (seats_end xs a b j e)
-
 -- the first k seats
 pub record AreFirst (board : TableId) (n k : ℕ) (seats : List NodeSeat) : Type 0 where
   pub count : length seats ≡ k
@@ -264,7 +259,7 @@ push_first board n k seats pushed seat first is is_fresh pushed_is =
       seats_are = λ m other e. ⊎_elim
           (λ there. first.seats_are m other there)
           (λ last. subst (λ (p : ℕ × NodeSeat). IsSeatOf board n p.0 p.1) (λ q. ((sym first.count ∙ sym last.0) q, last.1 q)) is)
-          (seats_end seats seat other m e);
+          (at_end seats seat other m e);
       are_fresh =
           map_push seats seat ∙ ap (λ (s : Stand). map stand_of seats ++ s ∷ []) is_fresh ∙ ap (λ (ss : List Stand). ss ++ fresh n ∷ []) first.are_fresh
           ∙ one_more_fresh k (fresh n);

@@ -6,12 +6,13 @@ use Rattle.dob_safra.proofs.Kept.{same_or_not}
 use Rattle.dob_chan.specs.declared.ends.SendEnd.{SendEnd}
 use Rattle.dob_chan.specs.declared.ends.TakeEnd.{TakeEnd}
 use Rattle.dob_chan.specs.Ends.{sent_by, taken_by, capacity_of, ArePaired}
+use Rattle.dob_board.proofs.Lists.{at_end, get_last}
 use Rattle.dob_run.specs.declared.hands.Outlet.{Outlet}
 use Rattle.dob_run.specs.declared.hands.Inlet.{Inlet}
 use Rattle.dob_run.specs.Rows.{StandsAt, AreRows}
 use Rattle.dob_run.specs.Laid.{IsLaid, IsRowLaid, AreLaidUpto}
 use Rattle.dob_run.proofs.Counted.{there_set, else_set}
-use Rattle.dob_run.proofs.Places.{at_end, each_more, get_last, get_before, inside, one_thing}
+use Rattle.dob_run.proofs.Places.{each_more, get_before, inside, one_thing}
 
 module _ {Z : Type 0} (capacity : ℕ) where
   pub row_begins : (columns : List (Vec Inlet Z)) → IsRowLaid capacity 0 [] columns columns

@@ -5,6 +5,7 @@ use Rattle.std.proofs.lemmas.List.{length-map, append-nil}
 use Rattle.std.proofs.Common.{Global}
 use Rattle.std.specs.declared.vec.Vec.{Vec}
 use Rattle.dob_board.specs.declared.board.Board.{Board}
+use Rattle.dob_board.proofs.Lists.{at_end, get_last}
 use Rattle.dob_chan.specs.declared.ends.SendEnd.{SendEnd}
 use Rattle.dob_chan.specs.declared.ends.TakeEnd.{TakeEnd}
 use Rattle.dob_chan.specs.declared.calls.Rejoined.{Rejoined}
@@ -16,7 +17,7 @@ use Rattle.dob_run.specs.declared.closing.Parts.{Parts}
 use Rattle.dob_run.specs.Rows.{StandsAt}
 use Rattle.dob_run.specs.Ending.{outlet_end, inlet_end, AreDealt, IsJoined, AreEnds, AreJoined}
 use Rattle.dob_run.specs.Closing.{AreLinked, seat_in, IsCrew, row_of, ends_out, ends_in, hands_out, hands_in, HasRowMore, HasAdded, ArePartsOf}
-use Rattle.dob_run.proofs.Places.{at_end, get_last, get_before, inside, middle, one_thing, get_map, map_got, some_at}
+use Rattle.dob_run.proofs.Places.{get_before, inside, middle, one_thing, get_map, map_got, some_at}
 
 map_end : {A B : Type 0} → (f : A → B) (xs : List A) (x : A) → map f (xs ++ x ∷ []) ≡ map f xs ++ f x ∷ []
 map_end f [] x = refl

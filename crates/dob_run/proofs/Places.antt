@@ -1,16 +1,11 @@
 -- What stands where in a list, also after one thing more, after one was exchanged, and in a function of all its things.
-use Rattle.std.proofs.Common.{◌≡◌, ◌≢◌, ℕ, zero, suc, ◌+◌, ◌<◌, ◌≤◌, ◌⊎◌, inl, inr, List, [], ◌∷◌, ◌++◌, length, map, drop, take}
-use Rattle.std.proofs.Common.{Some, refl, sym, ap, ◌∙◌, subst, arith, ⊎_elim, append_assoc, length-append}
+use Rattle.std.proofs.Common.{◌≡◌, ◌≢◌, ℕ, zero, suc, ◌+◌, ◌<◌, ◌≤◌, inl, inr, List, [], ◌∷◌, ◌++◌, length, map, drop, take}
+use Rattle.std.proofs.Common.{Some, refl, sym, ap, ◌∙◌, subst, arith, append_assoc, length-append}
 use Rattle.std.proofs.lemmas.List.{append-nil}
 use Rattle.std.specs.Prelude.{slice_get}
 use Rattle.std.specs.declared.vec.Vec.{Vec}
+use Rattle.dob_board.proofs.Lists.{at_end}
 use Rattle.dob_run.specs.Rows.{StandsAt, AreRows}
-
-pub at_end : {A : Type 0} → (l : List A) (a b : A) (j : ℕ) → slice_get (l ++ a ∷ []) j ≡ Some b → (slice_get l j ≡ Some b) ⊎ ((j ≡ length l) × (a ≡ b))
-at_end [] a b zero e = inr (refl, (cc))
-at_end [] a b (suc j) e = absurd (cc)
-at_end (x ∷ xs) a b zero e = inl e
-at_end (x ∷ xs) a b (suc j) e = ⊎_elim (λ l. inl l) (λ r. inr (ap suc r.0, r.1)) (at_end xs a b j e)
 
 pub none_at : {A L : Type 0} → (l : List A) (k : ℕ) (a : A) → l ≡ [] → slice_get l k ≡ Some a → L
 none_at {A} l k a none e = absurd (let nothing : slice_get [] k ≡ Some a = ap (λ (xs : List A). slice_get xs k) (sym none) ∙ e in cc)
@@ -34,10 +29,6 @@ row_added {X} {Z} k rows new row are is empty = record {
   each = each_more (λ (j : ℕ) (other : Vec X Z). length other.items ≡ 0) rows new row k are.count is are.each empty;
 }
 
-pub get_last : {A : Type 0} → (l : List A) (a : A) → slice_get (l ++ a ∷ []) (length l) ≡ Some a
-get_last [] a = refl
-get_last (x ∷ xs) a = get_last xs a
-
 pub get_before : {A : Type 0} → (l : List A) (a b : A) (j : ℕ) → slice_get l j ≡ Some b → slice_get (l ++ a ∷ []) j ≡ Some b
 get_before [] a b j e = absurd (cc)
 get_before (x ∷ xs) a b zero e = e
@@ -50,11 +41,6 @@ inside (x ∷ xs) a (suc j) e = let h = inside xs a j e in omega arith
 
 pub one_thing : {A : Type 0} → (a b : A) → Some a ≡ Some b → a ≡ b
 one_thing a b e = cc
-
-pub get_front : {A : Type 0} → (l m : List A) (b : A) (j : ℕ) → slice_get l j ≡ Some b → slice_get (l ++ m) j ≡ Some b
-get_front [] m b j e = absurd (cc)
-get_front (x ∷ xs) m b zero e = e
-get_front (x ∷ xs) m b (suc j) e = get_front xs m b j e
 
 -- nothing stands in empty rows
 pub none_stands : {X Z L : Type 0} → (m i j : ℕ) (rows : List (Vec X Z)) (x : X) → AreRows m 0 rows → StandsAt rows i j x → L

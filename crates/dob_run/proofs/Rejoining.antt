@@ -7,10 +7,11 @@ use Rattle.dob_safra.proofs.Kept.{same_or_not}
 use Rattle.dob_chan.specs.declared.ends.SendEnd.{SendEnd}
 use Rattle.dob_chan.specs.declared.ends.TakeEnd.{TakeEnd}
 use Rattle.dob_chan.specs.declared.calls.Rejoined.{Rejoined}
+use Rattle.dob_board.proofs.Lists.{get_last, get_front}
 use Rattle.dob_run.specs.Rows.{StandsAt}
 use Rattle.dob_run.specs.Ending.{AreDealt, IsJoined, AreRowJoined, AreJoined}
 use Rattle.dob_run.proofs.Counted.{there_set, else_set}
-use Rattle.dob_run.proofs.Places.{get_last, get_before, get_front, inside, one_thing, next_is, then_left, gone_all}
+use Rattle.dob_run.proofs.Places.{get_before, inside, one_thing, next_is, then_left, gone_all}
 
 module _ {X Z : Type 0} where
   pub dealt_none : (things : List X) (rows : List (Vec X Z)) → AreDealt 0 things rows rows

@@ -13,10 +13,11 @@ use Rattle.dob_share.specs.Owners.{owner_of}
 use Rattle.dob_share.specs.Shares.{HasValueNow}
 use Rattle.dob_node.specs.declared.node.Node.{Node}
 use Rattle.dob_node.proofs.Kept.{last_now-entry}
+use Rattle.dob_board.proofs.Lists.{at_end}
 use Rattle.dob_run.specs.declared.mail.Mail.{Mail}
 use Rattle.dob_run.specs.Workers.{IsLawful}
 use Rattle.dob_run.specs.Finishing.{IsOwner, AreShownBelow}
-use Rattle.dob_run.proofs.Places.{at_end, one_thing}
+use Rattle.dob_run.proofs.Places.{one_thing}
 
 -- a lawful worker's node owns its classes
 pub owner_is : (set : PieceSet) (size n k : ℕ) (node : Node) (mail : Mail) → IsLawful set size node mail → node.id ≡ k → node.n ≡ n → IsOwner set n k node
