@@ -1,14 +1,11 @@
 -- Why no crew is opened, and why one leaves nothing.
-use Rattle.std.specs.Prelude.{ℕ, ◌<◌, ◌≤◌}
+use Rattle.std.specs.Prelude.{ℕ, ◌<◌}
 use Rattle.dob_pieces.specs.declared.piece_set.PieceSet.{PieceSet}
 use Rattle.dob_rank.specs.Limits.{IsSmall}
+use Rattle.dob_update.specs.Batches.{AreSizes}
 use Rattle.dob_safra.specs.Laws.{IsSize}
 use Rattle.dob_run.specs.declared.fault.Fault.{Fault}
 use Rattle.dob_run.specs.declared.fault.Fault.TheVariants.{SetTooLarge, Nodes, Sizes, Stopped, Memory}
-
--- such a batch is one that nodes cut, and so many may wait in a channel
-abbrev pub AreSizes : ℕ → ℕ → Type 0
-AreSizes batch capacity = (0 < batch) × (batch ≤ 4096) × (0 < capacity) × (capacity ≤ 1024)
 
 -- a crew may have so many nodes, such batches and such channels
 abbrev pub AreWithin : ℕ → ℕ → ℕ → Type 0

@@ -17,6 +17,10 @@ pub record BatchView : Type 0 where
   pub skip : ℕ
   pub items : List Item
 
+-- nodes may cut batches of at most so many items, of which at most so many wait on their way
+abbrev pub AreSizes : ℕ → ℕ → Type 0
+AreSizes batch capacity = (0 < batch) × (batch ≤ 4096) × (0 < capacity) × (capacity ≤ 1024)
+
 -- what a node has still to send to another, and the number of the next batch
 pub record OutboxView : Type 0 where
   pub set : PieceSet

@@ -1,6 +1,7 @@
 -- Which worlds there are, and what a run of events leaves.
 use Rattle.std.specs.Prelude.{◌≡◌, ℕ, ◌+◌, ◌*◌, ◌<◌, ◌≤◌, Bool, true, false, None, List}
 use Rattle.dob_rank.specs.Limits.{IsSmall}
+use Rattle.dob_update.specs.Batches.{AreSizes}
 use Rattle.dob_world.specs.declared.event.Event.{Event}
 use Rattle.dob_world.specs.declared.fault.Fault.{Fault}
 use Rattle.dob_world.specs.declared.fault.Fault.TheVariants.{SetTooLarge, Nodes, Sizes, Stopped, Memory}
@@ -10,7 +11,7 @@ use Rattle.dob_world.specs.Runs.{IsAfter}
 use Rattle.dob_world.specs.Rounds.{round_length, round_of, rounds_of, IsStill}
 use Rattle.dob_world.specs.Headline.{Headline}
 use Rattle.dob_world.specs.Stops.{IsStopIn}
-use Rattle.dob_world.specs.Shown.{setting_of, state_of, IsNumber, AreSizes, IsSetting, IsStanding, IsStart}
+use Rattle.dob_world.specs.Shown.{setting_of, state_of, IsNumber, IsSetting, IsStanding, IsStart}
 
 -- Why there is no world of that setting: the first of these that isn't so, or memory is refused where all are.
 abbrev pub IsRefused : Setting → Fault → Type 0

@@ -10,6 +10,7 @@ use Rattle.dob_share.specs.declared.opening.Opening.{Opening}
 use Rattle.dob_share.specs.Owners.{owner_of}
 use Rattle.dob_share.specs.Cells.{fresh}
 use Rattle.dob_share.specs.Shares.{IsOwn, status_at, cell_at}
+use Rattle.dob_update.specs.Batches.{AreSizes}
 use Rattle.dob_link.specs.Links.{link_of}
 use Rattle.dob_node.specs.declared.node.Node.{Node}
 use Rattle.dob_node.specs.Nodes.{IsSound, IsOpened, outbox_to}
@@ -72,10 +73,6 @@ state_of world = record { world = world_shown world.classes.set world.n world.no
 -- so many nodes can be in a world
 abbrev pub IsNumber : ℕ → Type 0
 IsNumber n = (0 < n) × (n ≤ 16)
-
--- such a batch is one that nodes cut, and so many may wait on a link
-abbrev pub AreSizes : ℕ → ℕ → Type 0
-AreSizes batch capacity = (0 < batch) × (batch ≤ 4096) × (0 < capacity) × (capacity ≤ 1024)
 
 -- all are in their limits
 pub record IsSetting (k : Setting) : Type 0 where
