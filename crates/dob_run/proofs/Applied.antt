@@ -6,12 +6,12 @@ use Rattle.std.proofs.lemmas.List.{take-append-le}
 use Rattle.std.specs.Prelude.{slice_get, slice_set}
 use Rattle.dob_pieces.specs.declared.piece_set.PieceSet.{PieceSet}
 use Rattle.dob_share.specs.declared.news.Item.{Item}
-use Rattle.dob_update.specs.Batches.{BatchView}
+use Rattle.dob_update.specs.Batches.{BatchView, items_of_batches}
 use Rattle.dob_node.specs.declared.node.Node.{Node}
 use Rattle.dob_run.specs.declared.hands.Inlet.{Inlet}
 use Rattle.dob_run.specs.Links.{worked}
 use Rattle.dob_run.specs.Knows.{KnowsRight}
-use Rattle.dob_run.specs.Workers.{planned, items_in, items_worked, own_applied, applied_from, AreLast}
+use Rattle.dob_run.specs.Workers.{planned, items_worked, own_applied, applied_from, AreLast}
 use Rattle.dob_run.proofs.Counted.{else_set}
 use Rattle.dob_run.proofs.Planned.{items_in_more}
 
@@ -69,7 +69,7 @@ set_here (z ∷ xs) (suc k) x y there = set_here xs k x y there
 
 -- one inlet changed: what was worked in of it is what follows from it, and of the others what it was
 pub worked_here : (old new : List Inlet) (from : ℕ) (before after : Inlet) → slice_get old from ≡ Some before → new ≡ slice_set old from after →
-    items_worked (slice_get new from) ≡ items_in (worked after)
+    items_worked (slice_get new from) ≡ items_of_batches (worked after)
 worked_here old new from before after there is = ap (λ xs. items_worked (slice_get xs from)) is ∙ ap items_worked (set_here old from before after there)
 
 pub worked_else : (old new : List Inlet) (from : ℕ) (after : Inlet) → new ≡ slice_set old from after → (k : ℕ) → k ≢ from →
@@ -80,7 +80,7 @@ pub worked_again : (old new : List Inlet) (from : ℕ) (before after : Inlet) �
     worked after ≡ worked before → (k : ℕ) → items_worked (slice_get new k) ≡ items_worked (slice_get old k)
 worked_again old new from before after there is same k = elim (cases_eq k from) [
   | inl here ↦ subst (λ m. items_worked (slice_get new m) ≡ items_worked (slice_get old m)) (sym here)
-      (worked_here old new from before after there is ∙ ap items_in same ∙ sym (ap items_worked there))
+      (worked_here old new from before after there is ∙ ap items_of_batches same ∙ sym (ap items_worked there))
   | inr other ↦ worked_else old new from after is k other
 ]
 
@@ -88,7 +88,7 @@ pub worked_more : (old new : List Inlet) (from : ℕ) (before after : Inlet) (ba
     new ≡ slice_set old from after → worked after ≡ worked before ++ batch ∷ [] →
     items_worked (slice_get new from) ≡ items_worked (slice_get old from) ++ batch.items
 worked_more old new from before after batch there is more =
-    worked_here old new from before after there is ∙ ap items_in more ∙ items_in_more (worked before) batch
+    worked_here old new from before after there is ∙ ap items_of_batches more ∙ items_in_more (worked before) batch
     ∙ ap (λ xs. xs ++ batch.items) (sym (ap items_worked there))
 
 -- ---- what is known, told of the node after a step

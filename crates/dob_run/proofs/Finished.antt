@@ -20,7 +20,7 @@ use Rattle.dob_share.specs.Owners.{owner_of}
 use Rattle.dob_share.specs.Cells.{Cell}
 use Rattle.dob_share.specs.Shares.{cell_at, IsValue, HasValueNow}
 use Rattle.dob_update.specs.Items.{items_from}
-use Rattle.dob_update.specs.Batches.{BatchView}
+use Rattle.dob_update.specs.Batches.{BatchView, items_of_batches}
 use Rattle.dob_node.specs.Histories.{value_of}
 use Rattle.dob_node.specs.Quiet.{FollowsAtStatus}
 use Rattle.dob_node.specs.Lawful.{known_of, IsLawful as AreLawful}
@@ -38,7 +38,7 @@ use Rattle.dob_run.specs.Hands.{in_hand}
 use Rattle.dob_run.specs.Links.{offered, worked}
 use Rattle.dob_run.specs.Mails.{AreOut}
 use Rattle.dob_run.specs.Knows.{CanHaveMade, KnowsRight}
-use Rattle.dob_run.specs.Workers.{planned, items_in, items_worked, own_applied, applied_from, SendsRight, IsLawful}
+use Rattle.dob_run.specs.Workers.{planned, items_worked, own_applied, applied_from, SendsRight, IsLawful}
 use Rattle.dob_run.specs.Finished.{IsRunnerOf, AreJoinedBy, AreFinished, AreShown}
 use Rattle.dob_run.proofs.Places.{some_at}
 use Rattle.dob_run.proofs.Applied.{applied_here, applied_else}
@@ -185,8 +185,8 @@ module _ (set : PieceSet) (n : ℕ) (some : 0 < n) (runners : List Runner) (are 
   other_all : (i j : ℕ) → i < n → j < n → i ≢ j → items_worked (slice_get (at j).mail.inlets.items i) ≡ items_from (predecessors set) n j (history i)
   other_all i j low_i low_j apart =
       ap items_worked inlet.1
-      ∙ ap (λ (bs : List BatchView). items_in bs) (link_done outlet.0 inlet.0 channel.0 ((rest i low_i).1 j outlet.0 outlet.1) channel.1 long)
-      ∙ sym (sends.items ∙ ap (λ (xs : List Item). items_in (offered outlet.0) ++ xs) ((rest i low_i).0.sent j) ∙ append-nil (items_in (offered outlet.0)))
+      ∙ ap (λ (bs : List BatchView). items_of_batches bs) (link_done outlet.0 inlet.0 channel.0 ((rest i low_i).1 j outlet.0 outlet.1) channel.1 long)
+      ∙ sym (sends.items ∙ ap (λ (xs : List Item). items_of_batches (offered outlet.0) ++ xs) ((rest i low_i).0.sent j) ∙ append-nil (items_of_batches (offered outlet.0)))
       ∙ planned_all i j low_i
     where
       inlet : (x : Inlet) × (slice_get (at j).mail.inlets.items i ≡ Some x)

@@ -13,7 +13,7 @@ use Rattle.dob_share.specs.declared.news.Settlement.{Settlement}
 use Rattle.dob_share.specs.declared.news.Item.{Item}
 use Rattle.dob_share.specs.declared.share.Share.{Share}
 use Rattle.dob_update.specs.Items.{items_of, items_from}
-use Rattle.dob_update.specs.Batches.{BatchView, OutboxView, empty_outbox}
+use Rattle.dob_update.specs.Batches.{BatchView, OutboxView, empty_outbox, items_of_batches}
 use Rattle.dob_node.specs.Stores.{HistoryView}
 use Rattle.dob_node.specs.declared.node.Node.{Node}
 use Rattle.dob_node.specs.Takes.{HasEntries, listed}
@@ -27,7 +27,7 @@ use Rattle.dob_run.specs.Knows.{KnowsRight}
 use Rattle.dob_run.specs.Links.{offered, worked, KeepsOutlet}
 use Rattle.dob_run.specs.Mails.{HasChangedOne, AreOut}
 use Rattle.dob_run.specs.Runners.{IsNew}
-use Rattle.dob_run.specs.Workers.{planned, items_in, items_worked, own_applied, applied_from, AreLast, SendsRight, IsLawful}
+use Rattle.dob_run.specs.Workers.{planned, items_worked, own_applied, applied_from, AreLast, SendsRight, IsLawful}
 use Rattle.dob_run.proofs.Applied.{own_less, own_more, own_still, applied_here, applied_else, applied_still, knows_after}
 use Rattle.dob_run.proofs.Knowing.{taken_one, knows_same, taken_all}
 use Rattle.dob_run.proofs.Opened.{knows_opened}
@@ -114,7 +114,7 @@ outbox_same old new to set id n outboxes =
 sends_still : (old new : Node) (size to : ℕ) (batches : List BatchView) → planned new to ≡ planned old to → outbox_to new to ≡ outbox_to old to →
     SendsRight old size to batches → SendsRight new size to batches
 sends_still old new size to batches plan outbox sends = record {
-  items = plan ∙ sends.items ∙ ap (λ (o : OutboxView). items_in batches ++ o.items) (sym outbox);
+  items = plan ∙ sends.items ∙ ap (λ (o : OutboxView). items_of_batches batches ++ o.items) (sym outbox);
   cut = ap (λ (o : OutboxView). o.next) outbox ∙ sends.cut;
   small = sends.small;
 }
@@ -238,8 +238,8 @@ expanded_one set size old new mail law step sound = record {
     sent to batches within apart sends =
         let items = items_of (predecessors old.set) old.n to step.settlement in
         let outbox = step.sent to within apart in record {
-          items = plan to ∙ ap (λ xs. xs ++ items) sends.items ∙ append_assoc (items_in batches) (outbox_to old to).items items
-              ∙ ap (λ (o : OutboxView). items_in batches ++ o.items) (sym outbox);
+          items = plan to ∙ ap (λ xs. xs ++ items) sends.items ∙ append_assoc (items_of_batches batches) (outbox_to old to).items items
+              ∙ ap (λ (o : OutboxView). items_of_batches batches ++ o.items) (sym outbox);
           cut = ap (λ (o : OutboxView). o.next) outbox ∙ sends.cut;
           small = sends.small;
         }
@@ -279,11 +279,11 @@ cut_one set size to batch node after old new law not_own step sound same_node sa
     here : SendsRight node size to (offered one.0) → SendsRight after size to (offered one.0 ++ batch ∷ [])
     here sends = record {
       items = plan to ∙ sends.items
-          ∙ ap (λ xs. items_in (offered one.0) ++ xs) (sym (take-append-drop size (outbox_to node to).items))
-          ∙ sym (append_assoc (items_in (offered one.0)) (take size (outbox_to node to).items) (drop size (outbox_to node to).items))
-          ∙ ap (λ xs. (items_in (offered one.0) ++ xs) ++ drop size (outbox_to node to).items) (sym step.cut.items)
+          ∙ ap (λ xs. items_of_batches (offered one.0) ++ xs) (sym (take-append-drop size (outbox_to node to).items))
+          ∙ sym (append_assoc (items_of_batches (offered one.0)) (take size (outbox_to node to).items) (drop size (outbox_to node to).items))
+          ∙ ap (λ xs. (items_of_batches (offered one.0) ++ xs) ++ drop size (outbox_to node to).items) (sym step.cut.items)
           ∙ ap (λ xs. xs ++ drop size (outbox_to node to).items) (sym (items_in_more (offered one.0) batch))
-          ∙ ap (λ xs. items_in (offered one.0 ++ batch ∷ []) ++ xs) (sym step.cut.left);
+          ∙ ap (λ xs. items_of_batches (offered one.0 ++ batch ∷ []) ++ xs) (sym step.cut.left);
       cut = step.cut.next ∙ (let long = length-append (offered one.0) (batch ∷ []) in let was = sends.cut in omega (arith, long, was));
       small = each_more (λ b. length b.items ≤ size) (offered one.0) batch sends.small
           (subst (λ xs. length xs ≤ size) (sym step.cut.items) (omega (arith, length-take size (outbox_to node to).items)));
@@ -303,7 +303,7 @@ begun set size node mail is = record {
   sound = is.sound;
   sends = λ to outlet apart at. (let nothing : offered outlet ≡ [] = is.unsent to outlet at in
       let outbox : outbox_to node to ≡ empty_outbox set mail.seat.nodes mail.seat.node to = is.opened.outboxes to in record {
-        items = planned_none to ∙ ap (λ (o : OutboxView). o.items) (sym outbox) ∙ ap (λ bs. items_in bs ++ (outbox_to node to).items) (sym nothing);
+        items = planned_none to ∙ ap (λ (o : OutboxView). o.items) (sym outbox) ∙ ap (λ bs. items_of_batches bs ++ (outbox_to node to).items) (sym nothing);
         cut = ap (λ (o : OutboxView). o.next) outbox ∙ ap length (sym nothing);
         small = λ k batch there. absurd (none_there (offered outlet) nothing k batch there);
       });
@@ -318,7 +318,7 @@ begun set size node mail is = record {
 
     none_worked : (from : ℕ) (o : Option Inlet) → ((inlet : Inlet) → o ≡ Some inlet → worked inlet ≡ []) → items_worked o ≡ []
     none_worked from None none = refl
-    none_worked from (Some inlet) none = ap items_in (none inlet refl)
+    none_worked from (Some inlet) none = ap items_of_batches (none inlet refl)
 
     none_applied : (k : ℕ) → applied_from node mail.inlets.items k ≡ []
     none_applied k = (let own : own_applied node ≡ [] = ap (λ (xs : List Item). take (length xs - length node.own.items) xs) (planned_none node.id)

@@ -9,7 +9,7 @@ use Rattle.std.specs.List.{AllZip}
 use Rattle.dob_safra.proofs.Kept.{same_or_not}
 use Rattle.dob_pieces.specs.declared.piece_set.PieceSet.{PieceSet}
 use Rattle.dob_share.specs.declared.news.Item.{Item}
-use Rattle.dob_update.specs.Batches.{BatchView}
+use Rattle.dob_update.specs.Batches.{BatchView, items_of_batches}
 use Rattle.dob_board.specs.declared.board.Board.{Board}
 use Rattle.dob_board.specs.declared.board.Closed.{Closed}
 use Rattle.dob_board.specs.Seats.{AreWords}
@@ -32,7 +32,7 @@ use Rattle.dob_run.specs.Links.{offered, worked}
 use Rattle.dob_run.specs.Manned.{mail_of, node_of, AreRunnersFor}
 use Rattle.dob_run.specs.Runners.{KeepsRunner}
 use Rattle.dob_run.specs.Turned.{IsWorker, IsLink, IsTurned, AreUnfailed, AreWorkers, HasLeft}
-use Rattle.dob_run.specs.Workers.{planned, items_in, items_worked, applied_from, AreLast, SendsRight, IsLawful}
+use Rattle.dob_run.specs.Workers.{planned, items_worked, applied_from, AreLast, SendsRight, IsLawful}
 use Rattle.dob_run.proofs.Applied.{applied_here, applied_else}
 use Rattle.dob_run.proofs.Manned.{zip_at, seat_there, are_linked, seat_at, crew_many, crew_low, outlet_at, inlet_at}
 use Rattle.dob_run.proofs.Places.{each_more, none_at, inside, one_thing, get_map, map_got, next_is, then_left, gone_all}
@@ -184,7 +184,7 @@ module _ (board : Board) (set : PieceSet) (size : ℕ) (runners : List Runner) (
       subst (λ (o : Option Runner). IsWorker set board.nodes i (λ from. applied_by o from) worker) (sym at) here
 
   applied_of : (i j : ℕ) (to : Runner) (inlet : Inlet) → slice_get runners j ≡ Some to → slice_get to.mail.inlets.items i ≡ Some inlet → i ≢ j →
-      applied_by (slice_get runners j) i ≡ items_in (worked inlet)
+      applied_by (slice_get runners j) i ≡ items_of_batches (worked inlet)
   applied_of i j to inlet at into apart =
       ap (λ (o : Option Runner). applied_by o i) at
       ∙ applied_else to.node to.mail.inlets.items i (λ same. apart (same ∙ (lawful_at j to at).of.1 ∙ (seat_at board runners crew j to at).node))
@@ -222,7 +222,7 @@ module _ (board : Board) (set : PieceSet) (size : ℕ) (runners : List Runner) (
           length-append (worked_of inlet.end inlet.hand) (in_hand inlet.hand),
           joined.received,
         );
-        planned_is = λ apart. subst (λ (node : Node). planned node j ≡ items_in (sent_by outlet.end ++ in_hand outlet.hand) ++ (outbox_to node j).items) (sym node_is)
+        planned_is = λ apart. subst (λ (node : Node). planned node j ≡ items_of_batches (sent_by outlet.end ++ in_hand outlet.hand) ++ (outbox_to node j).items) (sym node_is)
             (sends_at i j from outlet at_i out apart).items;
         small = λ apart k batch at. (sends_at i j from outlet at_i out apart).small k batch at;
         applied_is = λ apart. applied_of i j to inlet at_j into apart;

@@ -19,14 +19,14 @@ use Rattle.dob_share.specs.declared.news.Item.{Item}
 use Rattle.dob_share.specs.Owners.{owner_of}
 use Rattle.dob_share.specs.Shares.{HasValueNow}
 use Rattle.dob_update.specs.Items.{item_for, items_of, items_from}
-use Rattle.dob_update.specs.Batches.{BatchView}
+use Rattle.dob_update.specs.Batches.{BatchView, items_of_batches}
 use Rattle.dob_node.specs.declared.node.Node.{Node}
 use Rattle.dob_node.specs.Histories.{last_now, value_of}
 use Rattle.dob_node.specs.Nodes.{IsIdle}
 use Rattle.dob_run.specs.declared.hands.Outlet.{Outlet}
 use Rattle.dob_run.specs.declared.mail.Mail.{Mail}
 use Rattle.dob_run.specs.Links.{offered}
-use Rattle.dob_run.specs.Workers.{items_in, SendsRight, IsLawful}
+use Rattle.dob_run.specs.Workers.{SendsRight, IsLawful}
 use Rattle.dob_run.specs.Built.{told_to, needed}
 
 -- ---- sums over numbers that follow one another
@@ -157,7 +157,7 @@ length-items_from targets n to (s ∷ history) =
 -- batches of a size have no more items than so many of the size
 few_items : (size : ℕ) (batches : List BatchView) →
     ((k : ℕ) (batch : BatchView) → slice_get batches k ≡ Some batch → length batch.items ≤ size) →
-    length (items_in batches) ≤ length batches * size
+    length (items_of_batches batches) ≤ length batches * size
 few_items size batches small =
     let sum = length-flat_map (λ (b : BatchView). b.items) batches in
     let each : All (λ (b : BatchView). length b.items ≤ size) batches =
@@ -236,12 +236,12 @@ needed_fits set n size i j node mail outlet values law idle id_is n_is apart the
     values_are class value low own at = law.knows.values class value (subst (λ (s : PieceSet). class < classes_of s) (sym law.of.0) low)
         (ap (λ m. owner_of m class) n_is ∙ own ∙ sym id_is) (shown class value low own at)
 
-    all_items : items_from (predecessors set) n j node.history.settlements ≡ items_in (offered outlet)
+    all_items : items_from (predecessors set) n j node.history.settlements ≡ items_of_batches (offered outlet)
     all_items =
         ap (λ (s : PieceSet). items_from (predecessors s) n j node.history.settlements) (sym law.of.0)
         ∙ ap (λ m. items_from (predecessors node.set) m j node.history.settlements) (sym n_is)
         ∙ ap (λ (xs : List Settlement). items_from (predecessors node.set) node.n j xs)
         (sym (take_all node.expanded node.history.settlements (let told = idle.expanded in omega (arith, told))))
         ∙ sends.items
-        ∙ ap (λ (xs : List Item). items_in (offered outlet) ++ xs) (idle.sent j)
-        ∙ append-nil (items_in (offered outlet))
+        ∙ ap (λ (xs : List Item). items_of_batches (offered outlet) ++ xs) (idle.sent j)
+        ∙ append-nil (items_of_batches (offered outlet))

@@ -6,10 +6,10 @@ use Rattle.std.proofs.lemmas.List.{append-nil, drop-append-le}
 use Rattle.dob_share.specs.declared.news.Settlement.{Settlement}
 use Rattle.dob_share.specs.declared.news.Item.{Item}
 use Rattle.dob_share.specs.declared.share.Share.{Share}
-use Rattle.dob_update.specs.Batches.{BatchView}
+use Rattle.dob_update.specs.Batches.{BatchView, items_of_batches}
 use Rattle.dob_node.specs.Stores.{HistoryView}
 use Rattle.dob_node.specs.Takes.{AreTaken, listed}
-use Rattle.dob_run.specs.Workers.{AreLast, items_in}
+use Rattle.dob_run.specs.Workers.{AreLast}
 
 -- items that are taken make a history that goes on
 pub history_grown : (items : List Item) (share after : Share) (history grown : HistoryView) → AreTaken items share after history grown →
@@ -47,9 +47,9 @@ last_less whole item last are =
 
 -- ---- batches
 
-pub items_in_more : (batches : List BatchView) (batch : BatchView) → items_in (batches ++ batch ∷ []) ≡ items_in batches ++ batch.items
+pub items_in_more : (batches : List BatchView) (batch : BatchView) → items_of_batches (batches ++ batch ∷ []) ≡ items_of_batches batches ++ batch.items
 items_in_more batches batch =
-    flat_map-append (λ (b : BatchView). b.items) batches (batch ∷ []) ∙ ap (λ xs. items_in batches ++ xs) (append-nil batch.items)
+    flat_map-append (λ (b : BatchView). b.items) batches (batch ∷ []) ∙ ap (λ xs. items_of_batches batches ++ xs) (append-nil batch.items)
 
 -- what was said of each batch, and of one more
 pub each_more : (P : BatchView → Type 0) (batches : List BatchView) (batch : BatchView) →

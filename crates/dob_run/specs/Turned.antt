@@ -3,7 +3,7 @@ use Rattle.std.specs.Prelude.{◌≡◌, ◌≢◌, ⊤, ℕ, ◌+◌, ◌-◌, 
 use Rattle.std.specs.List.{AllZip}
 use Rattle.dob_pieces.specs.declared.piece_set.PieceSet.{PieceSet}
 use Rattle.dob_share.specs.declared.news.Item.{Item}
-use Rattle.dob_update.specs.Batches.{BatchView}
+use Rattle.dob_update.specs.Batches.{BatchView, items_of_batches}
 use Rattle.dob_board.specs.declared.board.Board.{Board}
 use Rattle.dob_board.specs.Words.{posted_word, taken_word, word_count}
 use Rattle.dob_board.specs.Seats.{AreWords}
@@ -24,7 +24,7 @@ use Rattle.dob_run.specs.Hands.{in_hand}
 use Rattle.dob_run.specs.Knows.{KnowsRight}
 use Rattle.dob_run.specs.Manned.{mail_of, IsNewCrew}
 use Rattle.dob_run.specs.Runners.{KeepsRunner}
-use Rattle.dob_run.specs.Workers.{planned, items_in}
+use Rattle.dob_run.specs.Workers.{planned}
 
 -- The worker is that of node i. It has applied what its node planned for itself and isn't left in its own list, and knows just
 -- what the items applied say: its cells are what these make of them.
@@ -50,9 +50,9 @@ pub record IsLink (n size : ℕ) (words : List ℕ) (i j : ℕ) (sender taker : 
   pub lawful : IsLawful sent received link.waiting.items
   pub posted : slice_index words (posted_word n i j) ≡ link.sent + length (in_hand sending)
   pub taken : slice_index words (taken_word n i j) + length (in_hand taking) ≡ link.received
-  pub planned_is : i ≢ j → planned sender.node j ≡ items_in (sent ++ in_hand sending) ++ (outbox_to sender.node j).items
+  pub planned_is : i ≢ j → planned sender.node j ≡ items_of_batches (sent ++ in_hand sending) ++ (outbox_to sender.node j).items
   pub small : i ≢ j → (k : ℕ) (batch : BatchView) → slice_get (sent ++ in_hand sending) k ≡ Some batch → length batch.items ≤ size
-  pub applied_is : i ≢ j → applied ≡ items_in (take (length received - length (in_hand taking)) received)
+  pub applied_is : i ≢ j → applied ≡ items_of_batches (take (length received - length (in_hand taking)) received)
 
 -- n workers of the piece set, and a link from each to each, by the items of each that each has applied
 pub record IsTurned (set : PieceSet) (n size : ℕ) (turned : Turned) : Type 0 where

@@ -1,11 +1,10 @@
 -- A worker's node beside its mail, and when the two are lawful together.
 use Rattle.std.specs.Prelude.{◌≡◌, ◌≢◌, ℕ, ◌-◌, ◌≤◌, ◌==◌, cond, List, [], ◌++◌, Option, None, Some, false, length, take, drop, slice_get}
-use Rattle.std.specs.List.{flat_map}
 use Rattle.dob_pieces.specs.declared.piece_set.PieceSet.{PieceSet}
 use Rattle.dob_unmove.specs.Edges.{predecessors}
 use Rattle.dob_share.specs.declared.news.Item.{Item}
 use Rattle.dob_update.specs.Items.{items_from}
-use Rattle.dob_update.specs.Batches.{BatchView}
+use Rattle.dob_update.specs.Batches.{BatchView, items_of_batches}
 use Rattle.dob_node.specs.declared.node.Node.{Node}
 use Rattle.dob_node.specs.Nodes.{outbox_to, IsSound, IsIdle}
 use Rattle.dob_run.specs.declared.hands.Outlet.{Outlet}
@@ -19,10 +18,6 @@ use Rattle.dob_run.specs.Knows.{KnowsRight}
 abbrev pub planned : Node → ℕ → List Item
 planned node to = items_from (predecessors node.set) node.n to (take node.expanded node.history.settlements)
 
--- the items of batches, in order
-abbrev pub items_in : List BatchView → List Item
-items_in batches = flat_map (λ (b : BatchView). b.items) batches
-
 -- these are the last of a list
 abbrev pub AreLast : List Item → List Item → Type 0
 AreLast whole last = drop (length whole - length last) whole ≡ last
@@ -34,7 +29,7 @@ own_applied node = take (length (planned node node.id) - length node.own.items) 
 -- the items of the batches that were worked in, where there is an inlet
 abbrev pub items_worked : Option Inlet → List Item
 items_worked None = []
-items_worked (Some inlet) = items_in (worked inlet)
+items_worked (Some inlet) = items_of_batches (worked inlet)
 
 -- the items that the node has applied from a node: from itself those planned and gone, from another one those worked in
 abbrev pub applied_from : Node → List Inlet → ℕ → List Item
@@ -43,7 +38,7 @@ applied_from node inlets from = cond (from == node.id) (own_applied node) (items
 -- What the node planned for another one is what is in the batches that were offered to it and then what is left in the outbox
 -- for it; and it cut so many batches, none of them with more items than that size.
 pub record SendsRight (node : Node) (size to : ℕ) (batches : List BatchView) : Type 0 where
-  pub items : planned node to ≡ items_in batches ++ (outbox_to node to).items
+  pub items : planned node to ≡ items_of_batches batches ++ (outbox_to node to).items
   pub cut : (outbox_to node to).next ≡ length batches
   pub small : (k : ℕ) (batch : BatchView) → slice_get batches k ≡ Some batch → length batch.items ≤ size
 

@@ -1,5 +1,6 @@
 -- What a batch and an outbox are, and what is cut from an outbox.
 use Rattle.std.specs.Prelude.{◌≡◌, ℕ, ◌+◌, ◌<◌, ◌≤◌, List, [], ◌∷◌, ◌++◌, length, take, drop}
+use Rattle.std.specs.List.{flat_map}
 use Rattle.dob_pieces.specs.declared.piece_set.PieceSet.{PieceSet}
 use Rattle.dob_unmove.specs.Edges.{predecessors}
 use Rattle.dob_share.specs.declared.news.Settlement.{Settlement}
@@ -16,6 +17,10 @@ pub record BatchView : Type 0 where
   pub settlements : List Settlement
   pub skip : ℕ
   pub items : List Item
+
+-- the items of batches, in order
+abbrev pub items_of_batches : List BatchView → List Item
+items_of_batches batches = flat_map (λ (b : BatchView). b.items) batches
 
 -- nodes may cut batches of at most so many items, of which at most so many wait on their way
 abbrev pub AreSizes : ℕ → ℕ → Type 0

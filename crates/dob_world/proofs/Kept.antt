@@ -3,10 +3,10 @@ use Rattle.std.proofs.Common.{◌≡◌, ◌≢◌, ℕ, ◌<◌, inl, inr, sym,
 use Rattle.dob_unmove.specs.Edges.{predecessors}
 use Rattle.dob_share.specs.declared.news.Item.{Item}
 use Rattle.dob_update.specs.Items.{items_from}
-use Rattle.dob_update.specs.Batches.{BatchView}
+use Rattle.dob_update.specs.Batches.{BatchView, items_of_batches}
 use Rattle.dob_node.proofs.Settles.{told_all}
 use Rattle.dob_world.specs.declared.event.Event.TheVariants.{Expand, Own, Post, Take, Pass, Announce}
-use Rattle.dob_world.specs.Worlds.{Setting, World, State, items_in, items_of_batches, AreLawful, IsLinked}
+use Rattle.dob_world.specs.Worlds.{Setting, World, State, items_in, AreLawful, IsLinked}
 use Rattle.dob_world.specs.Events.{Expands, AppliesOwn, Posts, TakesBatch}
 use Rattle.dob_world.specs.Laws.{HappeningKeepsAll, EventsKeepAll, ListsAreBeginnings, OwnItemFits, TakenItemFits}
 use Rattle.dob_world.proofs.Places.{lawful_stay}

@@ -14,7 +14,7 @@ use Rattle.dob_share.specs.Owners.{owner_of}
 use Rattle.dob_share.specs.Cells.{fresh}
 use Rattle.dob_share.specs.Shares.{IsOwn, status_at, cell_at}
 use Rattle.dob_update.specs.Items.{items_from}
-use Rattle.dob_update.specs.Batches.{OutboxView}
+use Rattle.dob_update.specs.Batches.{OutboxView, items_of_batches}
 use Rattle.dob_link.specs.Links.{LinkView}
 use Rattle.dob_node.specs.Stores.{HistoryView}
 use Rattle.dob_node.specs.Outboxes.{outbox_in}
@@ -22,7 +22,7 @@ use Rattle.dob_node.specs.Takes.{AreKept, AreTaken}
 use Rattle.dob_node.specs.declared.node.Node.{Node}
 use Rattle.dob_node.specs.Nodes.{IsSound, outbox_to}
 use Rattle.dob_world.specs.declared.lane.Lane.{Lane}
-use Rattle.dob_world.specs.Worlds.{Setting, AreLawful, IsLinked, items_of_batches}
+use Rattle.dob_world.specs.Worlds.{Setting, AreLawful, IsLinked}
 use Rattle.dob_world.specs.Events.{AppliesOwn, TakesBatch, Posts}
 use Rattle.dob_world.specs.Lanes.{IsBatchFor, HasListed, HasReceived, HasPosted}
 use Rattle.dob_world.specs.Shown.{part, lane_at, nodes_shown, world_shown, IsNodeOf, IsLaneOf}

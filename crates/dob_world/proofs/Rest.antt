@@ -4,8 +4,9 @@ use Rattle.std.proofs.lemmas.Bool.{cases_eq}
 use Rattle.std.proofs.lemmas.List.{append-nil, take_all}
 use Rattle.dob_unmove.specs.Edges.{predecessors}
 use Rattle.dob_update.specs.Items.{items_from}
+use Rattle.dob_update.specs.Batches.{items_of_batches}
 use Rattle.dob_node.proofs.Ends.{lawful_is_right}
-use Rattle.dob_world.specs.Worlds.{Setting, World, value_in, items_in, told_in, items_of_batches, IsLinked, IsAtRest}
+use Rattle.dob_world.specs.Worlds.{Setting, World, value_in, items_in, told_in, IsLinked, IsAtRest}
 use Rattle.dob_world.specs.Laws.{RestIsRight}
 
 module _ (k : Setting) (world : World) (linked : IsLinked k world) (rest : IsAtRest k world) where

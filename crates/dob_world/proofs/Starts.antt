@@ -21,7 +21,7 @@ use Rattle.dob_share.specs.Owners.{owner_of}
 use Rattle.dob_share.specs.Cells.{SameCell, CellValue, fresh}
 use Rattle.dob_share.specs.Shares.{places_of, cell_at}
 use Rattle.dob_update.specs.Items.{items_from}
-use Rattle.dob_update.specs.Batches.{OutboxView}
+use Rattle.dob_update.specs.Batches.{OutboxView, items_of_batches}
 use Rattle.dob_node.specs.Histories.{value_of, IsChained}
 use Rattle.dob_node.specs.Quiet.{FollowsAtStatus}
 use Rattle.dob_node.specs.Openings.{AreOpenings}
@@ -34,7 +34,7 @@ use Rattle.dob_node.proofs.Totals.{start_sums}
 use Rattle.dob_node.proofs.Rest.{below_owner}
 use Rattle.dob_node.proofs.SoleOpens.{listed_opening}
 use Rattle.dob_world.specs.declared.lane.Lane.{Lane}
-use Rattle.dob_world.specs.Worlds.{Setting, Nodes, value_in, AreLawful, IsLinked, items_of_batches}
+use Rattle.dob_world.specs.Worlds.{Setting, Nodes, value_in, AreLawful, IsLinked}
 use Rattle.dob_world.specs.Shown.{part, lane_at, nodes_shown, world_shown, IsNodeOf, AreInPlace, AreOpenedNodes, AreEmptyLanes, IsEmptyLane}
 use Rattle.dob_world.specs.Lanes.{IsBatchFor}
 use Rattle.dob_link.specs.Links.{LinkView}

@@ -7,7 +7,7 @@ use Rattle.dob_moves.proofs.Cases.{one_status}
 use Rattle.dob_rank.specs.ClassRows.{class_setup}
 use Rattle.dob_unmove.specs.Edges.{predecessors}
 use Rattle.dob_update.specs.Items.{items_from}
-use Rattle.dob_update.specs.Batches.{BatchView}
+use Rattle.dob_update.specs.Batches.{BatchView, items_of_batches}
 use Rattle.dob_share.specs.declared.news.Item.{Item}
 use Rattle.dob_share.specs.declared.share.Share.{Share}
 use Rattle.dob_share.specs.Cells.{Cell, Takes, changed}
@@ -23,7 +23,7 @@ use Rattle.dob_node.specs.Nodes.{HasRefused}
 use Rattle.dob_world.specs.declared.lane.Lane.{Lane}
 use Rattle.dob_world.specs.declared.event.Event.TheVariants.{Own, Take}
 use Rattle.dob_world.specs.declared.fault.Fault.TheVariants.{Stopped}
-use Rattle.dob_world.specs.Worlds.{Setting, AreLawful, IsLinked, items_in, items_of_batches}
+use Rattle.dob_world.specs.Worlds.{Setting, AreLawful, IsLinked, items_in}
 use Rattle.dob_world.specs.Lanes.{IsBatchFor}
 use Rattle.dob_world.specs.Stops.{IsStopBy}
 use Rattle.dob_world.specs.Shown.{lane_at, nodes_shown, world_shown, IsNodeOf, AreInPlace}

@@ -1,7 +1,6 @@
 -- A world of nodes, links and the ring as functions of node numbers: what it consists of, when it is lawful and linked, and
 -- when nothing is left to do.
 use Rattle.std.specs.Prelude.{◌≡◌, ◌≢◌, ℕ, ◌+◌, ◌<◌, ◌≤◌, false, List, [], ◌++◌, length, take}
-use Rattle.std.specs.List.{flat_map}
 use Rattle.dob_pieces.specs.declared.piece_set.PieceSet.{PieceSet}
 use Rattle.dob_value.specs.declared.value.Value.{Value}
 use Rattle.dob_unmove.specs.Edges.{predecessors}
@@ -10,7 +9,7 @@ use Rattle.dob_share.specs.declared.news.Item.{Item}
 use Rattle.dob_share.specs.Owners.{owner_of}
 use Rattle.dob_share.specs.Cells.{Cell}
 use Rattle.dob_update.specs.Items.{items_from}
-use Rattle.dob_update.specs.Batches.{BatchView}
+use Rattle.dob_update.specs.Batches.{BatchView, items_of_batches}
 use Rattle.dob_node.specs.Histories.{value_of}
 use Rattle.dob_node.specs.Lawful.{IsLawful}
 use Rattle.dob_safra.specs.Rings.{Ring, sum_below, IsLawful as IsLawfulRing}
@@ -56,10 +55,6 @@ items_in k nodes i j = items_from (predecessors k.set) k.n j (nodes.history i)
 -- those of the settlements that node i has expanded
 abbrev pub told_in : Setting → World → ℕ → ℕ → List Item
 told_in k world i j = items_from (predecessors k.set) k.n j (take (world.expanded i) (world.nodes.history i))
-
--- the items of batches, in order
-abbrev pub items_of_batches : List BatchView → List Item
-items_of_batches batches = flat_map (λ (b : BatchView). b.items) batches
 
 -- each cell and value is what the histories and the items applied say
 abbrev pub AreLawful : Setting → Nodes → Type 0
