@@ -3,6 +3,7 @@ use Rattle.std.proofs.Common.{◌≡◌, ◌≢◌, ℕ, suc, ◌+◌, ◌^◌, 
 use Rattle.std.proofs.lemmas.Bool.{cases_Bool, cases_eq}
 use Rattle.std.proofs.lemmas.List.{length-append}
 use Rattle.dob_safra.specs.declared.event.RingEvent.TheVariants as ring
+use Rattle.dob_safra.specs.Laws.{IsSize}
 use Rattle.dob_safra.specs.Rings.{Ring, CountsStay, Moved, IsLawful}
 use Rattle.dob_safra.proofs.Kept.{moved_kept}
 use Rattle.dob_share.specs.declared.news.Item.{Item}
@@ -10,7 +11,7 @@ use Rattle.dob_world.specs.declared.event.Event.{Event}
 use Rattle.dob_world.specs.declared.event.Event.TheVariants.{Expand, Own, Post, Take, Pass, Announce}
 use Rattle.dob_world.specs.Worlds.{Setting, Nodes, World, State, IsIdle, IsTold}
 use Rattle.dob_world.specs.Events.{Happens, Expands, AppliesOwn, Posts, TakesBatch, AppliesAll}
-use Rattle.dob_world.specs.Shown.{IsNumber, HasAtMost}
+use Rattle.dob_world.specs.Shown.{HasAtMost}
 use Rattle.dob_world.specs.Laws.{HappeningKeepsTold}
 use Rattle.dob_world.proofs.Places.{at_link}
 
@@ -49,7 +50,7 @@ white_else k old new i colours black stay told m low white = elim (cases_eq m i)
   | inr other ↦ stay m low other (told.idle m low (sym (colours m low other) ∙ white))
 ]
 
-module _ (k : Setting) (old new : State) (size : IsNumber k.n) (told : IsTold k old) where
+module _ (k : Setting) (old new : State) (size : IsSize k.n) (told : IsTold k old) where
   -- ---- events that leave the ring
 
   pub told_expanded : (i : ℕ) → i < k.n → old.world.expanded i < length (old.world.nodes.history i) → Expands k i old.world new.world → new.ring ≡ old.ring →

@@ -8,13 +8,14 @@ use Rattle.dob_share.specs.declared.opening.Opening.{Opening}
 use Rattle.dob_update.specs.Batches.{BatchView}
 use Rattle.dob_node.specs.Openings.{AreOpenings}
 use Rattle.dob_node.specs.Lawful.{CanApply}
+use Rattle.dob_safra.specs.Laws.{IsSize}
 use Rattle.dob_world.specs.declared.event.Event.{Event}
 use Rattle.dob_world.specs.Worlds.{Setting, Nodes, World, State, value_in, items_in, AreLawful, IsLinked, IsAtRest, IsTold, IsBeginning}
 use Rattle.dob_world.specs.Events.{CanHappen, Happens, MayEnd, AppliesAll}
 use Rattle.dob_world.specs.Runs.{IsAfter}
 use Rattle.dob_world.specs.Rounds.{IsStill}
 use Rattle.dob_world.specs.Headline.{IsSilent, Headline}
-use Rattle.dob_world.specs.Shown.{IsNumber, IsSetting, IsStart, HasAtMost}
+use Rattle.dob_world.specs.Shown.{IsSetting, IsStart, HasAtMost}
 
 -- each event leaves a lawful and linked world so
 abbrev pub HappeningKeepsAll : Type 0
@@ -28,7 +29,7 @@ EventsKeepAll = (k : Setting) (old new : State) (events : List Event) → 0 < k.
 
 -- Each event leaves a ring that tells what is so telling what is so, while no link has more than 2^40 posted batches.
 abbrev pub HappeningKeepsTold : Type 0
-HappeningKeepsTold = (k : Setting) (old new : State) (event : Event) → IsNumber k.n → IsTold k old → CanHappen k old event →
+HappeningKeepsTold = (k : Setting) (old new : State) (event : Event) → IsSize k.n → IsTold k old → CanHappen k old event →
     Happens k old event new → HasAtMost k.n (2 ^ 40) new.ring → IsTold k new
 
 -- What was sent is a beginning of the items that the history makes, and what was applied is a beginning of what was
@@ -57,7 +58,7 @@ RestIsRight = (k : Setting) (world : World) (openings : List Opening) (values : 
 
 -- where the end may be announced, nothing is left to do
 abbrev pub EndIsRest : Type 0
-EndIsRest = (k : Setting) (state : State) → IsNumber k.n → IsTold k state → MayEnd k state → IsAtRest k state.world
+EndIsRest = (k : Setting) (state : State) → IsSize k.n → IsTold k state → MayEnd k state → IsAtRest k state.world
 
 -- where nothing is left to do, that stays: an event changes nothing of nodes and links
 abbrev pub RestStays : Type 0

@@ -2,6 +2,7 @@
 use Rattle.std.specs.Prelude.{◌≡◌, ℕ, ◌+◌, ◌*◌, ◌<◌, ◌≤◌, Bool, true, false, None, List}
 use Rattle.dob_rank.specs.Limits.{IsSmall}
 use Rattle.dob_update.specs.Batches.{AreSizes}
+use Rattle.dob_safra.specs.Laws.{IsSize}
 use Rattle.dob_world.specs.declared.event.Event.{Event}
 use Rattle.dob_world.specs.declared.fault.Fault.{Fault}
 use Rattle.dob_world.specs.declared.fault.Fault.TheVariants.{SetTooLarge, Nodes, Sizes, Stopped, Memory}
@@ -11,13 +12,13 @@ use Rattle.dob_world.specs.Runs.{IsAfter}
 use Rattle.dob_world.specs.Rounds.{round_length, round_of, rounds_of, IsStill}
 use Rattle.dob_world.specs.Headline.{Headline}
 use Rattle.dob_world.specs.Stops.{IsStopIn}
-use Rattle.dob_world.specs.Shown.{setting_of, state_of, IsNumber, IsSetting, IsStanding, IsStart}
+use Rattle.dob_world.specs.Shown.{setting_of, state_of, IsSetting, IsStanding, IsStart}
 
 -- Why there is no world of that setting: the first of these that isn't so, or memory is refused where all are.
 abbrev pub IsRefused : Setting → Fault → Type 0
 IsRefused k SetTooLarge = ¬ IsSmall k.set
-IsRefused k Nodes = IsSmall k.set × (¬ IsNumber k.n)
-IsRefused k Sizes = IsSmall k.set × IsNumber k.n × (¬ AreSizes k.batch k.capacity)
+IsRefused k Nodes = IsSmall k.set × (¬ IsSize k.n)
+IsRefused k Sizes = IsSmall k.set × IsSize k.n × (¬ AreSizes k.batch k.capacity)
 IsRefused k (Stopped node why) = ⊥
 IsRefused k Memory = IsSetting k
 

@@ -15,6 +15,7 @@ use Rattle.dob_link.specs.Links.{link_of}
 use Rattle.dob_node.specs.declared.node.Node.{Node}
 use Rattle.dob_node.specs.Nodes.{IsSound, IsOpened, outbox_to}
 use Rattle.dob_node.specs.Openings.{AreOpenings}
+use Rattle.dob_safra.specs.Laws.{IsSize}
 use Rattle.dob_safra.specs.Rings.{Ring, counter, IsStart as IsStartRing}
 use Rattle.dob_world.specs.declared.detector.Detector.{Detector}
 use Rattle.dob_world.specs.declared.event.Event.{Event}
@@ -70,14 +71,10 @@ state_of world = record { world = world_shown world.classes.set world.n world.no
 
 -- ---- what is kept
 
--- so many nodes can be in a world
-abbrev pub IsNumber : ℕ → Type 0
-IsNumber n = (0 < n) × (n ≤ 16)
-
 -- all are in their limits
 pub record IsSetting (k : Setting) : Type 0 where
   pub small : IsSmall k.set
-  pub nodes : IsNumber k.n
+  pub nodes : IsSize k.n
   pub sizes : AreSizes k.batch k.capacity
 
 -- the node of owner i
@@ -104,7 +101,7 @@ HasOpenings set = (openings : List Opening) × AreOpenings set openings
 
 -- A list has a place for each pair of nodes or for each node, and each node's counter is kept.
 pub record IsCounted (detector : Detector) : Type 0 where
-  pub nodes : IsNumber detector.n
+  pub nodes : IsSize detector.n
   pub posted : length detector.posted.items ≡ detector.n * detector.n
   pub taken : length detector.taken.items ≡ detector.n * detector.n
   pub black : length detector.black.items ≡ detector.n

@@ -1,8 +1,9 @@
 // What finds out that nothing is left to do: Safra's ring beside the nodes, with the batches that they posted and took.
 ghost use Rattle.std.specs.Prelude.{◌≡◌, ◌<◌, ◌≤◌, ◌^◌, ◌↔◌, true, IfOk, IsTrue};
 ghost use Rattle.dob_safra.specs.declared.event.RingEvent.TheVariants.{Post, Take, Pass, Announce};
+ghost use Rattle.dob_safra.specs.Laws.{IsSize};
 ghost use Rattle.dob_safra.specs.Rings.{IsLawful, IsStart, IsAnnounceable, Moved};
-ghost use Rattle.dob_world.specs.Shown.{ring_of, IsNumber, IsCounted};
+ghost use Rattle.dob_world.specs.Shown.{ring_of, IsCounted};
 
 use dob_pieces::Memory;
 use dob_safra::{Token, may_announce, passed};
@@ -24,7 +25,7 @@ pub(crate) struct Detector {
 impl Detector {
     /// The ring of `n` nodes at its start.
     pub(crate) fn open(alloc: Global, n: usize) -> Result<Detector, Memory>
-        requires { IsNumber n }
+        requires { IsSize n }
         ensures start { IfOk result (λ detector. IsStart n (ring_of detector)) }
         ensures counted { IfOk result (λ detector. IsCounted detector × (detector.n ≡ n)) }
     {
