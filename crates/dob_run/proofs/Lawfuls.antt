@@ -18,8 +18,8 @@ use Rattle.dob_node.specs.Stores.{HistoryView}
 use Rattle.dob_node.specs.declared.node.Node.{Node}
 use Rattle.dob_node.specs.Takes.{HasEntries, listed}
 use Rattle.dob_node.specs.Nodes.{outbox_to, IsSound, IsIdle, IsExpanded, HasApplied, HasTaken, HasCut}
-use Rattle.dob_node.specs.Outboxes.{outbox_in}
 use Rattle.dob_node.proofs.Settles.{told_more, told_grown}
+use Rattle.dob_node.proofs.Nodes.{outbox_same}
 use Rattle.dob_run.specs.declared.hands.Outlet.{Outlet}
 use Rattle.dob_run.specs.declared.hands.Inlet.{Inlet}
 use Rattle.dob_run.specs.declared.mail.Mail.{Mail}
@@ -102,14 +102,6 @@ planned_same old new to set n expanded more grown within =
     ∙ ap (λ m. items_from (predecessors old.set) m to (take new.expanded new.history.settlements)) n
     ∙ ap (λ e. items_from (predecessors old.set) old.n to (take e new.history.settlements)) expanded
     ∙ told_grown (predecessors old.set) old.n to old.history.settlements more new.history.settlements old.expanded within grown
-
-outbox_same : (old new : Node) (to : ℕ) → new.set ≡ old.set → new.id ≡ old.id → new.n ≡ old.n → new.outboxes.items ≡ old.outboxes.items →
-    outbox_to new to ≡ outbox_to old to
-outbox_same old new to set id n outboxes =
-    ap (λ s. outbox_in s new.n new.id new.outboxes.items to) set
-    ∙ ap (λ m. outbox_in old.set m new.id new.outboxes.items to) n
-    ∙ ap (λ i. outbox_in old.set old.n i new.outboxes.items to) id
-    ∙ ap (λ os. outbox_in old.set old.n old.id os to) outboxes
 
 sends_still : (old new : Node) (size to : ℕ) (batches : List BatchView) → planned new to ≡ planned old to → outbox_to new to ≡ outbox_to old to →
     SendsRight old size to batches → SendsRight new size to batches

@@ -17,10 +17,10 @@ use Rattle.dob_update.specs.Items.{items_from}
 use Rattle.dob_update.specs.Batches.{OutboxView, items_of_batches}
 use Rattle.dob_link.specs.Links.{LinkView}
 use Rattle.dob_node.specs.Stores.{HistoryView}
-use Rattle.dob_node.specs.Outboxes.{outbox_in}
 use Rattle.dob_node.specs.Takes.{AreKept, AreTaken}
 use Rattle.dob_node.specs.declared.node.Node.{Node}
 use Rattle.dob_node.specs.Nodes.{IsSound, outbox_to}
+use Rattle.dob_node.proofs.Nodes.{outbox_same}
 use Rattle.dob_world.specs.declared.lane.Lane.{Lane}
 use Rattle.dob_world.specs.Worlds.{Setting, AreLawful, IsLinked}
 use Rattle.dob_world.specs.Events.{AppliesOwn, TakesBatch, Posts}
@@ -52,14 +52,6 @@ kept_of k i node is =
     subst (λ (st : PieceSet). AreKept st k.n i node.share node.history) is.of.0
     (subst (λ (m : ℕ). AreKept node.set m i node.share node.history) is.of.2
     (subst (λ (m : ℕ). AreKept node.set node.n m node.share node.history) is.of.1 is.sound.kept))
-
-outbox_same : (old new : Node) → new.set ≡ old.set → new.id ≡ old.id → new.n ≡ old.n → new.outboxes.items ≡ old.outboxes.items → (to : ℕ) →
-    outbox_to new to ≡ outbox_to old to
-outbox_same old new set_is id_is n_is boxes to =
-    ap (λ st. outbox_in st new.n new.id new.outboxes.items to) set_is
-    ∙ ap (λ m. outbox_in old.set m new.id new.outboxes.items to) n_is
-    ∙ ap (λ m. outbox_in old.set old.n m new.outboxes.items to) id_is
-    ∙ ap (λ xs. outbox_in old.set old.n old.id xs to) boxes
 
 pub node_after : (k : Setting) (i : ℕ) (node after : Node) → IsNodeOf k i node → IsSound after → after.set ≡ node.set → after.id ≡ node.id →
     after.n ≡ node.n → ((class : ℕ) → status_at after.share class ≡ status_at node.share class) → IsNodeOf k i after
@@ -117,7 +109,7 @@ module _ (k : Setting) (nodes : List Node) (lanes : List Lane) (i : ℕ) (low : 
     same = (
       stays nodes i node after there_n 0 (λ (x : Node). x.expanded) step.applied.same.3,
       λ m l. stays nodes i node after there_n [] (λ (x : Node). (outbox_to x l).items) (ap (λ (o : OutboxView). o.items)
-          (outbox_same node after step.applied.same.0 step.applied.same.1 step.applied.same.2 step.applied.outboxes l)) m,
+          (outbox_same node after l step.applied.same.0 step.applied.same.1 step.applied.same.2 step.applied.outboxes)) m,
     );
     links = (
       lane_stays k.n lanes i i lane next low low whole there_l [] (λ (x : Lane). x.link.waiting) (ap (λ (l : LinkView). l.waiting) step.same.0),
@@ -166,7 +158,7 @@ module _ (k : Setting) (nodes : List Node) (lanes : List Lane) (i j : ℕ) (low_
       stays nodes j node after there_n 0 (λ (x : Node). x.expanded) step.taken.same.3,
       stays nodes j node after there_n [] (λ (x : Node). x.own.items) step.taken.own,
       λ m l. stays nodes j node after there_n [] (λ (x : Node). (outbox_to x l).items) (ap (λ (o : OutboxView). o.items)
-          (outbox_same node after step.taken.same.0 step.taken.same.1 step.taken.same.2 step.taken.outboxes l)) m,
+          (outbox_same node after l step.taken.same.0 step.taken.same.1 step.taken.same.2 step.taken.outboxes)) m,
       lane_stays k.n lanes i j lane next low_i low_j whole there_l [] (λ (x : Lane). x.sent.items) step.same,
     );
   }
