@@ -28,17 +28,11 @@ use Rattle.dob_node.proofs.Takes.{SumsUp-same, CellValue-same}
 use Rattle.dob_node.proofs.Totals.{start_sums}
 use Rattle.dob_node.proofs.ItemChanges.{one_value}
 use Rattle.dob_node.proofs.SoleOpens.{listed_opening}
+use Rattle.dob_node.proofs.Nodes.{kept_sound}
 use Rattle.dob_node.proofs.Beginnings.{or_else, opened_value, opened_chained, opened_entries}
 use Rattle.dob_run.specs.Knows.{AreSummed, KnowsRight}
 use Rattle.dob_run.proofs.Summing.{is_sum}
 use Rattle.dob_run.proofs.Knowing.{known_by}
-
--- the node keeps the cells and the history of that owner
-pub kept_of : (set : PieceSet) (n id : ℕ) (node : Node) → (node.set ≡ set) × (node.id ≡ id) × (node.n ≡ n) → IsSound node → AreKept set n id node.share node.history
-kept_of set n id node of sound =
-    subst (λ (s : PieceSet). AreKept s n id node.share node.history) of.0
-    (subst (λ (m : ℕ). AreKept node.set m id node.share node.history) of.2
-    (subst (λ (m : ℕ). AreKept node.set node.n m node.share node.history) of.1 sound.kept))
 
 -- a class of which nothing is known has the value of its status
 opened_is : (status : Status) (cell : Cell) (moves : ℕ) (v : Value) → SameCell cell (fresh moves) → IsValue status cell v → v ≡ or_else (opening_value status) Draw
@@ -50,7 +44,7 @@ opened_is Open cell moves v same is = one_value cell v Draw is (CellValue-same c
 module _ (set : PieceSet) (n id : ℕ) (openings : List Opening) (node : Node) (are : AreOpenings set openings) (opened : IsOpened openings set id n node)
     (sound : IsSound node) where
   kept : AreKept set n id node.share node.history
-  kept = kept_of set n id node opened.of sound
+  kept = kept_sound set n id node opened.of sound
 
   abbrev h : List Settlement
   h = node.history.settlements

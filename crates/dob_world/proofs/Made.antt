@@ -4,7 +4,6 @@ use Rattle.std.specs.List.{All}
 use Rattle.std.proofs.lemmas.List.Elements.{All-head, All-tail, All-append, All-cons, All-nil}
 use Rattle.dob_moves.specs.declared.position_status.Status.{Status}
 use Rattle.dob_moves.specs.Statuses.{HasStatus}
-use Rattle.dob_pieces.specs.declared.piece_set.PieceSet.{PieceSet}
 use Rattle.dob_rank.specs.Marks.{classes_of}
 use Rattle.dob_rank.specs.ClassRows.{class_setup}
 use Rattle.dob_unmove.specs.Edges.{predecessors}
@@ -20,7 +19,7 @@ use Rattle.dob_node.specs.Stores.{HistoryView}
 use Rattle.dob_node.specs.Takes.{AreKept, AreTaken}
 use Rattle.dob_node.specs.declared.node.Node.{Node}
 use Rattle.dob_node.specs.Nodes.{IsSound, outbox_to}
-use Rattle.dob_node.proofs.Nodes.{outbox_same}
+use Rattle.dob_node.proofs.Nodes.{outbox_same, kept_sound}
 use Rattle.dob_world.specs.declared.lane.Lane.{Lane}
 use Rattle.dob_world.specs.Worlds.{Setting, AreLawful, IsLinked}
 use Rattle.dob_world.specs.Events.{AppliesOwn, TakesBatch, Posts}
@@ -32,26 +31,16 @@ use Rattle.dob_world.proofs.Moves.{applies_one, applies_many}
 
 -- ---- nodes and lanes that are kept
 
-pub kept_sound : (k : Setting) (i : ℕ) (node : Node) → IsSound node → (node.set ≡ k.set) × (node.id ≡ i) × (node.n ≡ k.n) →
-    AreKept k.set k.n i node.share node.history
-kept_sound k i node sound of =
-    subst (λ (st : PieceSet). AreKept st k.n i node.share node.history) of.0
-    (subst (λ (m : ℕ). AreKept node.set m i node.share node.history) of.2
-    (subst (λ (m : ℕ). AreKept node.set node.n m node.share node.history) of.1 sound.kept))
-
 pub low_own : (k : Setting) (i : ℕ) (node : Node) → IsSound node → (node.set ≡ k.set) × (node.id ≡ i) × (node.n ≡ k.n) → (class : ℕ) →
     IsOwn node.share class → class < classes_of k.set
-low_own k i node sound of class own = (((kept_sound k i node sound of).owned class).0 own).1
+low_own k i node sound of class own = (((kept_sound k.set k.n i node of sound).owned class).0 own).1
 
 pub node_opened : (k : Setting) (i : ℕ) (node : Node) → IsSound node → (node.set ≡ k.set) × (node.id ≡ i) × (node.n ≡ k.n) →
     ((class : ℕ) → IsOwn node.share class → HasStatus (class_setup k.set class) (status_at node.share class)) → IsNodeOf k i node
 node_opened k i node sound of statuses = record { sound = sound; of = of; statuses = statuses }
 
 pub kept_of : (k : Setting) (i : ℕ) (node : Node) → IsNodeOf k i node → AreKept k.set k.n i node.share node.history
-kept_of k i node is =
-    subst (λ (st : PieceSet). AreKept st k.n i node.share node.history) is.of.0
-    (subst (λ (m : ℕ). AreKept node.set m i node.share node.history) is.of.2
-    (subst (λ (m : ℕ). AreKept node.set node.n m node.share node.history) is.of.1 is.sound.kept))
+kept_of k i node is = kept_sound k.set k.n i node is.of is.sound
 
 pub node_after : (k : Setting) (i : ℕ) (node after : Node) → IsNodeOf k i node → IsSound after → after.set ≡ node.set → after.id ≡ node.id →
     after.n ≡ node.n → ((class : ℕ) → status_at after.share class ≡ status_at node.share class) → IsNodeOf k i after
@@ -66,10 +55,7 @@ node_after k i node after is sound set_is id_is n_is statuses = record {
     of_after = (set_is ∙ is.of.0, id_is ∙ is.of.1, n_is ∙ is.of.2)
 
     kept_there : AreKept k.set k.n i after.share after.history
-    kept_there =
-        subst (λ (st : PieceSet). AreKept st k.n i after.share after.history) of_after.0
-        (subst (λ (m : ℕ). AreKept after.set m i after.share after.history) of_after.2
-        (subst (λ (m : ℕ). AreKept after.set after.n m after.share after.history) of_after.1 sound.kept))
+    kept_there = kept_sound k.set k.n i after of_after sound
 
 pub chain_statuses : (items : List Item) (share after : Share) (history grown : HistoryView) → AreTaken items share after history grown → (class : ℕ) →
     status_at after class ≡ status_at share class
