@@ -6,8 +6,9 @@ use Rattle.dob_value.specs.declared.value.Value.{Value}
 use Rattle.dob_value.specs.declared.value.Value.TheVariants.{Win, Loss, Draw}
 use Rattle.dob_value.specs.declared.sweep.TheConstants.{MAX_DISTANCE}
 use Rattle.dob_value.specs.Follows.{IsEntry}
+use Rattle.dob_value.specs.Distances.{lesser_of}
 use Rattle.dob_share.specs.declared.share.Share.{Share}
-use Rattle.dob_share.specs.Cells.{Cell, SameCell, CellValue, changed, less_at, lesser}
+use Rattle.dob_share.specs.Cells.{Cell, SameCell, CellValue, changed, less_at}
 use Rattle.dob_share.specs.Slots.{IsShortCell}
 use Rattle.dob_share.specs.Shares.{IsOwn, status_at, cell_at, IsValue, HasValueNow}
 use Rattle.dob_node.specs.Takes.{HasParities}
@@ -32,7 +33,7 @@ less_odd : (wins : ℕ → ℕ) → ((plies : ℕ) → 0 < wins plies → plies 
 less_odd wins known plies true some = known plies (omega arith)
 less_odd wins known plies false some = known plies some
 
-lesser_even : (least : Option ℕ) (now : ℕ) → now % 2 ≡ 0 → ((plies : ℕ) → least ≡ Some plies → plies % 2 ≡ 0) → lesser least now % 2 ≡ 0
+lesser_even : (least : Option ℕ) (now : ℕ) → now % 2 ≡ 0 → ((plies : ℕ) → least ≡ Some plies → plies % 2 ≡ 0) → lesser_of least now % 2 ≡ 0
 lesser_even None now even known = even
 lesser_even (Some least) now even known =
     let other : least % 2 ≡ 0 = known least refl in
@@ -53,11 +54,11 @@ parities_changed (Win was) (Win now) cell before after known = record {
 }
 parities_changed Draw (Loss now) cell before after known = record {
   wins = known.wins;
-  least = even_some (lesser cell.least now) now (lesser_even cell.least now after.0 known.least);
+  least = even_some (lesser_of cell.least now) now (lesser_even cell.least now after.0 known.least);
 }
 parities_changed (Loss was) (Loss now) cell before after known = record {
   wins = known.wins;
-  least = even_some (lesser cell.least now) now (lesser_even cell.least now after.0 known.least);
+  least = even_some (lesser_of cell.least now) now (lesser_even cell.least now after.0 known.least);
 }
 parities_changed (Win was) (Loss now) cell before after known = known
 parities_changed (Loss was) (Win now) cell before after known = known

@@ -6,8 +6,9 @@ use Rattle.dob_pieces.proofs.Lists.{head_in}
 use Rattle.dob_value.specs.declared.value.Value.{Value}
 use Rattle.dob_value.specs.declared.value.Value.TheVariants.{Win, Loss, Draw}
 use Rattle.dob_value.specs.Entries.{is_draw}
+use Rattle.dob_value.specs.Distances.{IsLeastLoss}
 use Rattle.dob_share.specs.Values.{is_win_in}
-use Rattle.dob_share.specs.Cells.{Cell, SameCell, IsGreatest, CellValue, IsLeastLoss, SumsUp}
+use Rattle.dob_share.specs.Cells.{Cell, SameCell, IsGreatest, CellValue, SumsUp}
 use Rattle.dob_share.proofs.Learning.{counted, counts}
 use Rattle.dob_node.specs.Quiet.{FollowsFromKnown}
 

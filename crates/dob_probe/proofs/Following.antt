@@ -15,10 +15,11 @@ use Rattle.dob_value.specs.declared.value.Value.TheVariants.{Win, Loss, Draw}
 use Rattle.dob_value.specs.declared.sweep.TheConstants.{MAX_DISTANCE}
 use Rattle.dob_value.specs.Graphs.{AreSuccessors}
 use Rattle.dob_value.specs.Follows.{ClassTable, HasSuccessor, SuccessorsAreWins, FollowsFromSuccessors, FollowsAt, Follows, IsTable, IsConsistent}
+use Rattle.dob_value.specs.Distances.{IsLeastLoss}
 use Rattle.dob_value.proofs.ClassNumbers.{one_of_class}
 use Rattle.dob_value.proofs.Successors.{moves_keep_the_set}
 use Rattle.dob_probe.specs.Lines.{GivenBy}
-use Rattle.dob_probe.specs.Sums.{IsLeastLoss, IsGreatestWin, TellsDraw, HasNext, value_after}
+use Rattle.dob_probe.specs.Sums.{IsGreatestWin, TellsDraw, HasNext, value_after}
 use Rattle.dob_probe.specs.Checks.{HasEntry, ClassFollows, ClassBreaks}
 use Rattle.dob_probe.proofs.Entries.{one_given, given_is_entry}
 

@@ -4,8 +4,9 @@ use Rattle.std.proofs.lemmas.Bool.{cases_lt}
 use Rattle.std.proofs.lemmas.List.Elements.{Contains-push, Contains-push_cases, Contains-append_left}
 use Rattle.dob_value.specs.declared.value.Value.{Value}
 use Rattle.dob_value.specs.declared.value.Value.TheVariants.{Win, Loss, Draw}
+use Rattle.dob_value.specs.Distances.{IsLeastLoss, lesser_of, greater_of}
 use Rattle.dob_probe.specs.declared.successors.Successors.{Successors}
-use Rattle.dob_probe.specs.Sums.{AreSummed, IsLeastLoss, IsGreatestWin, TellsDraw, lesser_of, greater_of}
+use Rattle.dob_probe.specs.Sums.{AreSummed, IsGreatestWin, TellsDraw}
 
 pub same_win : (a b : ℕ) → Win a ≡ Win b → a ≡ b
 same_win a b e = cc

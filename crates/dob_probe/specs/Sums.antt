@@ -1,15 +1,11 @@
 -- What decides a position's value among the values of its successors.
-use Rattle.std.specs.Prelude.{ℕ, ◌+◌, ◌≤◌, ◌<◌, ◌^◌, min, max, Bool, true, false, List, Contains, Option, Some, None, IfSome}
+use Rattle.std.specs.Prelude.{ℕ, ◌+◌, ◌≤◌, ◌<◌, ◌^◌, Bool, true, false, List, Contains, Option, Some, None, IfSome}
 use Rattle.dob_value.specs.declared.value.Value.{Value}
 use Rattle.dob_value.specs.declared.value.Value.TheVariants.{Win, Loss, Draw}
+use Rattle.dob_value.specs.Distances.{IsLeastLoss}
 use Rattle.dob_probe.specs.declared.successors.Successors.{Successors}
 
--- the least loss among the values
-abbrev pub IsLeastLoss : List Value → Option ℕ → Type 0
-IsLeastLoss values None = (plies : ℕ) → ¬ Contains values (Loss plies)
-IsLeastLoss values (Some least) = Contains values (Loss least) × ((plies : ℕ) → Contains values (Loss plies) → least ≤ plies)
-
--- the greatest win among them
+-- the greatest win among the values
 abbrev pub IsGreatestWin : List Value → Option ℕ → Type 0
 IsGreatestWin values None = (plies : ℕ) → ¬ Contains values (Win plies)
 IsGreatestWin values (Some greatest) = Contains values (Win greatest) × ((plies : ℕ) → Contains values (Win plies) → plies ≤ greatest)
@@ -35,12 +31,3 @@ value_after (Some least) _ _ = Win (least + 1)
 value_after None _ true = Draw
 value_after None (Some greatest) false = Loss (greatest + 1)
 value_after None None false = Draw
-
--- the lesser, and the greater, of a distance that may be there and another
-abbrev pub lesser_of : Option ℕ → ℕ → ℕ
-lesser_of None plies = plies
-lesser_of (Some least) plies = min least plies
-
-abbrev pub greater_of : Option ℕ → ℕ → ℕ
-greater_of None plies = plies
-greater_of (Some greatest) plies = max greatest plies

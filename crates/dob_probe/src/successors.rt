@@ -9,8 +9,9 @@ ghost use Rattle.dob_rank.specs.Order.{IsPositionOf};
 ghost use Rattle.dob_value.specs.declared.value.Value.{Value as Valued};
 ghost use Rattle.dob_value.specs.Graphs.{AreSuccessors};
 ghost use Rattle.dob_value.specs.Follows.{Follows, IsTable};
+ghost use Rattle.dob_value.specs.Distances.{lesser_of, greater_of};
 ghost use Rattle.dob_probe.specs.Lines.{GivenBy};
-ghost use Rattle.dob_probe.specs.Sums.{AreSummed, HasNext, greater_of, lesser_of, value_after};
+ghost use Rattle.dob_probe.specs.Sums.{AreSummed, HasNext, value_after};
 
 use dob_moves::{Move, Status, apply, moves_into};
 use dob_pieces::{Memory, Position};

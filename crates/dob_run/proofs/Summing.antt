@@ -5,7 +5,8 @@ use Rattle.std.proofs.lemmas.Bool.{cases_order}
 use Rattle.dob_pieces.proofs.Lists.{none_in_empty, head_in, cons_cases}
 use Rattle.dob_value.specs.declared.value.Value.{Value}
 use Rattle.dob_value.specs.declared.value.Value.TheVariants.{Win, Loss, Draw}
-use Rattle.dob_share.specs.Cells.{Cell, SameCell, IsLeastLoss, SumsUp, lesser}
+use Rattle.dob_value.specs.Distances.{IsLeastLoss, lesser_of}
+use Rattle.dob_share.specs.Cells.{Cell, SameCell, SumsUp}
 use Rattle.dob_run.specs.Knows.{least_loss, sum_of}
 
 same_loss : (a b : ℕ) → Loss a ≡ Loss b → a ≡ b
@@ -31,7 +32,7 @@ least_same known v (Some least) no_loss is = (
 )
 
 -- a loss
-least_more : (known : List Value) (loss : ℕ) (least : Option ℕ) → IsLeastLoss known least → IsLeastLoss (Loss loss ∷ known) (Some (lesser least loss))
+least_more : (known : List Value) (loss : ℕ) (least : Option ℕ) → IsLeastLoss known least → IsLeastLoss (Loss loss ∷ known) (Some (lesser_of least loss))
 least_more known loss None is = (
   head_in (Loss loss) known,
   λ plies there. elim (cons_cases (Loss loss) known (Loss plies) there) [

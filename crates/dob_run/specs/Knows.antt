@@ -11,13 +11,14 @@ use Rattle.dob_value.specs.declared.value.Value.{Value}
 use Rattle.dob_value.specs.declared.value.Value.TheVariants.{Win, Loss, Draw}
 use Rattle.dob_value.specs.Entries.{is_draw}
 use Rattle.dob_value.specs.Follows.{IsEntry}
+use Rattle.dob_value.specs.Distances.{lesser_of}
 use Rattle.dob_unmove.specs.Edges.{predecessors}
 use Rattle.dob_share.specs.declared.news.Settlement.{Settlement}
 use Rattle.dob_share.specs.declared.news.Item.{Item}
 use Rattle.dob_share.specs.declared.share.Share.{Share}
 use Rattle.dob_share.specs.Owners.{owner_of}
 use Rattle.dob_share.specs.Values.{is_win_in}
-use Rattle.dob_share.specs.Cells.{Cell, SameCell, lesser}
+use Rattle.dob_share.specs.Cells.{Cell, SameCell}
 use Rattle.dob_share.specs.Shares.{status_at, cell_at, HasValueNow}
 use Rattle.dob_update.specs.Items.{items_from}
 use Rattle.dob_node.specs.Histories.{value_of, all_known, IsChained}
@@ -25,7 +26,7 @@ use Rattle.dob_node.specs.Histories.{value_of, all_known, IsChained}
 -- the least loss among the values, where there is one
 abbrev pub least_loss : List Value → Option ℕ
 least_loss [] = None
-least_loss (Loss plies ∷ known) = Some (lesser (least_loss known) plies)
+least_loss (Loss plies ∷ known) = Some (lesser_of (least_loss known) plies)
 least_loss (Win _ ∷ known) = least_loss known
 least_loss (Draw ∷ known) = least_loss known
 

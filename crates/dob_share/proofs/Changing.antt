@@ -4,9 +4,10 @@ use Rattle.std.proofs.lemmas.Bool.{cases_eq, cases_lt}
 use Rattle.dob_value.specs.declared.value.Value.{Value}
 use Rattle.dob_value.specs.declared.value.Value.TheVariants.{Win, Loss, Draw}
 use Rattle.dob_value.specs.Codes.{IsShort}
+use Rattle.dob_value.specs.Distances.{lesser_of, greater_of}
 use Rattle.dob_share.specs.declared.cells.Slot.{Slot}
 use Rattle.dob_share.specs.declared.fault.Fault.TheVariants.{TooDeep, Contradiction}
-use Rattle.dob_share.specs.Cells.{Cell, CellValue, Takes, changed, more_at, less_at, lesser, greater, IsGreatest, IsGreatestIn, KnowsLossWithin}
+use Rattle.dob_share.specs.Cells.{Cell, CellValue, Takes, changed, more_at, less_at, IsGreatest, IsGreatestIn, KnowsLossWithin}
 use Rattle.dob_share.specs.Slots.{least_of, cell_of, IsShortCell}
 use Rattle.dob_share.specs.Steps.{IsStep, IsTooDeep}
 use Rattle.dob_share.proofs.Tallies.{more_at-same, more_at-other, less_at-same, less_at-other}
@@ -90,7 +91,7 @@ more_here plies wins = let more : more_at plies wins plies ≡ wins plies + 1 = 
 
 -- the greatest after one more
 pub greatest_more : (plies : ℕ) (wins : ℕ → ℕ) (greatest : Option ℕ) → IsGreatestIn wins greatest →
-    IsGreatest (more_at plies wins) (greater greatest plies)
+    IsGreatest (more_at plies wins) (greater_of greatest plies)
 greatest_more plies wins None none = (
   more_here plies wins,
   λ other some. elim (more_cases plies other wins some) [
@@ -120,13 +121,13 @@ greatest_more plies wins (Some greatest) is = elim (cases_lt greatest plies) [
 -- ---- the four rows
 
 pub win_deep : (to plies : ℕ) (slot : Slot) (wins : ℕ → ℕ) (greatest : Option ℕ) → slot.left ≡ 1 → slot.win ≡ 0 → IsGreatestIn wins greatest →
-    65534 ≤ greater greatest plies → IsStep to Draw (Win plies) (cell_of slot wins) slot (Err TooDeep)
+    65534 ≤ greater_of greatest plies → IsStep to Draw (Win plies) (cell_of slot wins) slot (Err TooDeep)
 win_deep to plies slot wins greatest left win is deep =
     goes_deep to Draw (Win plies) (cell_of slot wins) slot (omega arith)
-    (Loss (greater greatest plies + 1), (ap least_of win, (omega arith), greater greatest plies, greatest_more plies wins greatest is, refl), λ short. absurd (omega arith))
+    (Loss (greater_of greatest plies + 1), (ap least_of win, (omega arith), greater_of greatest plies, greatest_more plies wins greatest is, refl), λ short. absurd (omega arith))
 
 pub win_step : (to plies : ℕ) (slot next : Slot) (wins : ℕ → ℕ) → IsShortCell (cell_of slot wins) → 0 < slot.left →
-    (slot.win ≡ 0 → slot.left ≡ 1 → (greatest : Option ℕ) × IsGreatestIn wins greatest × (greater greatest plies < 65534)) →
+    (slot.win ≡ 0 → slot.left ≡ 1 → (greatest : Option ℕ) × IsGreatestIn wins greatest × (greater_of greatest plies < 65534)) →
     next.start ≡ slot.start → next.status ≡ slot.status → next.left ≡ slot.left - 1 → next.win ≡ slot.win →
     IsStep to Draw (Win plies) (cell_of slot wins) slot (Ok next)
 win_step to plies slot next wins short some below start status left win =
@@ -158,9 +159,9 @@ pub loss_deep : (to plies : ℕ) (slot : Slot) (wins : ℕ → ℕ) → 0 < slot
     IsStep to Draw (Loss plies) (cell_of slot wins) slot (Err TooDeep)
 loss_deep to plies slot wins left win deep =
     goes_deep to Draw (Loss plies) (cell_of slot wins) slot left
-    (Win (plies + 1), (plies, ap (λ (k : ℕ). Some (lesser (least_of k) plies)) win, refl), λ short. absurd (omega arith))
+    (Win (plies + 1), (plies, ap (λ (k : ℕ). Some (lesser_of (least_of k) plies)) win, refl), λ short. absurd (omega arith))
 
-lesser_short : (win plies : ℕ) → win ≤ 65534 → (win ≡ 0 → plies < 65534) → lesser (least_of win) plies < 65534
+lesser_short : (win plies : ℕ) → win ≤ 65534 → (win ≡ 0 → plies < 65534) → lesser_of (least_of win) plies < 65534
 lesser_short zero plies most below = below refl
 lesser_short (suc win) plies most below = omega arith
 
@@ -171,17 +172,17 @@ win_most slot wins short = elim (cases_eq slot.win 0) [
 ]
 
 loss_short : (was plies : ℕ) (slot : Slot) (wins : ℕ → ℕ) → IsShortCell (cell_of slot wins) → (slot.win ≡ 0 → plies < 65534) →
-    (left : ℕ) → IsShortCell (record { left = left; wins = wins; least = Some (lesser (least_of slot.win) plies) })
+    (left : ℕ) → IsShortCell (record { left = left; wins = wins; least = Some (lesser_of (least_of slot.win) plies) })
 loss_short was plies slot wins short below left = record {
   loss = λ other e.
-      let least : lesser (least_of slot.win) plies < 65534 = lesser_short slot.win plies (win_most slot wins short) below in
-      let same : lesser (least_of slot.win) plies ≡ other = cc in omega arith;
+      let least : lesser_of (least_of slot.win) plies < 65534 = lesser_short slot.win plies (win_most slot wins short) below in
+      let same : lesser_of (least_of slot.win) plies ≡ other = cc in omega arith;
   win = λ none. absurd (cc);
 }
 
 pub loss_step : (to plies : ℕ) (slot next : Slot) (wins : ℕ → ℕ) → IsShortCell (cell_of slot wins) → 0 < slot.left →
     (slot.win ≡ 0 → plies < 65534) →
-    next.start ≡ slot.start → next.status ≡ slot.status → next.left ≡ slot.left - 1 → least_of next.win ≡ Some (lesser (least_of slot.win) plies) →
+    next.start ≡ slot.start → next.status ≡ slot.status → next.left ≡ slot.left - 1 → least_of next.win ≡ Some (lesser_of (least_of slot.win) plies) →
     IsStep to Draw (Loss plies) (cell_of slot wins) slot (Ok next)
 loss_step to plies slot next wins short some below start status left win =
     stepped to Draw (Loss plies) (cell_of slot wins) slot next some (loss_short 0 plies slot wins short below (slot.left - 1)) start status left win
@@ -196,7 +197,7 @@ knows_most (suc win) was known = (omega arith, omega arith)
 
 pub better_loss_step : (to was now : ℕ) (slot next : Slot) (wins : ℕ → ℕ) → IsShortCell (cell_of slot wins) → now < was →
     0 < slot.win → slot.win - 1 ≤ was →
-    next.start ≡ slot.start → next.status ≡ slot.status → next.left ≡ slot.left → least_of next.win ≡ Some (lesser (least_of slot.win) now) →
+    next.start ≡ slot.start → next.status ≡ slot.status → next.left ≡ slot.left → least_of next.win ≡ Some (lesser_of (least_of slot.win) now) →
     IsStep to (Loss was) (Loss now) (cell_of slot wins) slot (Ok next)
 better_loss_step to was now slot next wins short better some most start status left win =
     stepped to (Loss was) (Loss now) (cell_of slot wins) slot next (better, knows_within slot.win was some most)

@@ -3,8 +3,9 @@ use Rattle.std.proofs.Common.{◌≡◌, ℕ, ◌+◌, ◌<◌, ◌≤◌, refl,
 use Rattle.std.proofs.lemmas.Bool.{cases_eq}
 use Rattle.dob_value.specs.declared.value.Value.{Value}
 use Rattle.dob_value.specs.declared.value.Value.TheVariants.{Win, Loss, Draw}
+use Rattle.dob_value.specs.Distances.{lesser_of}
 use Rattle.dob_share.specs.Values.{NoWorse}
-use Rattle.dob_share.specs.Cells.{Cell, CellValue, Takes, changed, more_at, less_at, lesser, KnowsLossWithin}
+use Rattle.dob_share.specs.Cells.{Cell, CellValue, Takes, changed, more_at, less_at, KnowsLossWithin}
 use Rattle.dob_share.proofs.Changing.{more_cases, less_some, more_here}
 
 some_none : {P : Type 0} (x : Option ℕ) (a : ℕ) → x ≡ Some a → x ≡ None → P
@@ -20,10 +21,10 @@ no_later_loss : (p q : ℕ) → q ≤ p → NoWorse (Loss p) (Loss q)
 no_later_loss p q le = elim (cases_eq p q) [ inl e ↦ inl (ap Loss e) | inr n ↦ inr (let k : q < p = omega arith in k) ]
 
 -- after a loss that is known, a win no later than before
-lesser_win : (x : Option ℕ) (a b plies p q : ℕ) → x ≡ Some a → Some (lesser x plies) ≡ Some b → p ≡ a + 1 → q ≡ b + 1 → NoWorse (Win p) (Win q)
+lesser_win : (x : Option ℕ) (a b plies p q : ℕ) → x ≡ Some a → Some (lesser_of x plies) ≡ Some b → p ≡ a + 1 → q ≡ b + 1 → NoWorse (Win p) (Win q)
 lesser_win x a b plies p q e f g h =
-    let least : lesser x plies ≡ min a plies = ap (λ o. lesser o plies) e in
-    let same : lesser x plies ≡ b = cc in
+    let least : lesser_of x plies ≡ min a plies = ap (λ o. lesser_of o plies) e in
+    let same : lesser_of x plies ≡ b = cc in
     no_later p q (omega arith)
 
 pub no_worse : (was now : Value) (cell : Cell) (v w : Value) → Takes was now cell → CellValue cell v → CellValue (changed was now cell) w → NoWorse v w

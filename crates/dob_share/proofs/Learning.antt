@@ -8,8 +8,9 @@ use Rattle.dob_pieces.proofs.Lists.{none_in_empty, head_in, cons_cases}
 use Rattle.dob_value.specs.declared.value.Value.{Value}
 use Rattle.dob_value.specs.declared.value.Value.TheVariants.{Win, Loss, Draw}
 use Rattle.dob_value.specs.Entries.{is_draw}
+use Rattle.dob_value.specs.Distances.{IsLeastLoss}
 use Rattle.dob_share.specs.Values.{Better, is_win_in}
-use Rattle.dob_share.specs.Cells.{Cell, Takes, KnowsLossWithin, IsLeastLoss, SumsUp, Changes}
+use Rattle.dob_share.specs.Cells.{Cell, Takes, KnowsLossWithin, SumsUp, Changes}
 
 -- ---- what is counted is there, and what is there is counted
 

@@ -9,8 +9,9 @@ use Rattle.dob_pieces.proofs.Lists.{head_in, cons_cases}
 use Rattle.dob_value.specs.declared.value.Value.{Value}
 use Rattle.dob_value.specs.declared.value.Value.TheVariants.{Win, Loss, Draw}
 use Rattle.dob_value.specs.Entries.{is_draw}
+use Rattle.dob_value.specs.Distances.{IsLeastLoss, lesser_of}
 use Rattle.dob_share.specs.Values.{Better, is_win_in}
-use Rattle.dob_share.specs.Cells.{Cell, changed, more_at, less_at, lesser, IsLeastLoss, SumsUp, Changes}
+use Rattle.dob_share.specs.Cells.{Cell, changed, more_at, less_at, SumsUp, Changes}
 
 -- ---- counts and members before and after
 
@@ -74,7 +75,7 @@ module _ (known after : List Value) (was now : Value) (change : Changes known af
 
 -- a loss more, or a lesser one for a greater
 least_more : (known after : List Value) (was : Value) (plies : ℕ) → Changes known after was (Loss plies) → (least : Option ℕ) →
-    ((other : ℕ) → was ≡ Loss other → plies < other) → IsLeastLoss known least → IsLeastLoss after (Some (lesser least plies))
+    ((other : ℕ) → was ≡ Loss other → plies < other) → IsLeastLoss known least → IsLeastLoss after (Some (lesser_of least plies))
 least_more known after was plies change None greater is = (
   now_there known after was (Loss plies) change,
   λ other there. elim (after_cases known after was (Loss plies) change (Loss other) there) [

@@ -1,8 +1,9 @@
 -- What a class's cell says of its moves, and how an item changes it.
-use Rattle.std.specs.Prelude.{◌≡◌, ℕ, ◌+◌, ◌-◌, ◌<◌, ◌≤◌, ◌⊎◌, ◌==◌, if◌then◌else◌, min, max, List, ◌++◌, ◌∷◌, Contains, count_by, Option, None, Some}
+use Rattle.std.specs.Prelude.{◌≡◌, ℕ, ◌+◌, ◌-◌, ◌<◌, ◌≤◌, ◌⊎◌, ◌==◌, if◌then◌else◌, List, ◌++◌, ◌∷◌, count_by, Option, None, Some}
 use Rattle.dob_value.specs.declared.value.Value.{Value}
 use Rattle.dob_value.specs.declared.value.Value.TheVariants.{Win, Loss, Draw}
 use Rattle.dob_value.specs.Entries.{is_draw}
+use Rattle.dob_value.specs.Distances.{IsLeastLoss, lesser_of}
 use Rattle.dob_share.specs.Values.{is_win_in}
 
 -- The moves of a class by what is known of the positions that they lead to: how many lead to one of which nothing is
@@ -20,11 +21,6 @@ more_at plies wins other = if other == plies then wins other + 1 else wins other
 abbrev pub less_at : ℕ → (ℕ → ℕ) → ℕ → ℕ
 less_at plies wins other = if other == plies then wins other - 1 else wins other
 
--- the lesser of the least known loss, where there is one, and another
-abbrev pub lesser : Option ℕ → ℕ → ℕ
-lesser None plies = plies
-lesser (Some least) plies = min least plies
-
 -- the cell after one of its moves, which led to a position with value `was`, leads to one with value `now`
 abbrev pub changed : Value → Value → Cell → Cell
 changed Draw (Win now) cell =
@@ -32,9 +28,9 @@ changed Draw (Win now) cell =
 changed (Win was) (Win now) cell =
     record { left = cell.left; wins = more_at now (less_at was cell.wins); least = cell.least }
 changed Draw (Loss now) cell =
-    record { left = cell.left - 1; wins = cell.wins; least = Some (lesser cell.least now) }
+    record { left = cell.left - 1; wins = cell.wins; least = Some (lesser_of cell.least now) }
 changed (Loss _) (Loss now) cell =
-    record { left = cell.left; wins = cell.wins; least = Some (lesser cell.least now) }
+    record { left = cell.left; wins = cell.wins; least = Some (lesser_of cell.least now) }
 changed _ _ cell = cell
 
 -- some loss of at most that distance is known
@@ -59,11 +55,6 @@ abbrev pub IsGreatestIn : (ℕ → ℕ) → Option ℕ → Type 0
 IsGreatestIn wins None = (plies : ℕ) → wins plies ≡ 0
 IsGreatestIn wins (Some plies) = IsGreatest wins plies
 
--- the greater of a distance, where there is one, and another
-abbrev pub greater : Option ℕ → ℕ → ℕ
-greater None plies = plies
-greater (Some greatest) plies = max greatest plies
-
 -- The cell's value: a win in one ply more than the least known loss of the enemy; where there is none and no move is
 -- left, a loss in one ply more than the greatest counted win of the enemy; else a draw.
 abbrev pub CellValue : Cell → Value → Type 0
@@ -77,12 +68,6 @@ pub record SameCell (a b : Cell) : Type 0 where
   pub left : a.left ≡ b.left
   pub wins : (plies : ℕ) → a.wins plies ≡ b.wins plies
   pub least : a.least ≡ b.least
-
--- the least loss that is among the values, where there is one
-abbrev pub IsLeastLoss : List Value → Option ℕ → Type 0
-IsLeastLoss known None = (plies : ℕ) → ¬ Contains known (Loss plies)
-IsLeastLoss known (Some least) =
-    Contains known (Loss least) × ((plies : ℕ) → Contains known (Loss plies) → least ≤ plies)
 
 -- The cell sums up what is known of its moves, a value for each.
 pub record SumsUp (known : List Value) (cell : Cell) : Type 0 where

@@ -1,7 +1,8 @@
 // How cells are kept: 8 bytes a cell, and one pool with the counts of wins of all cells. A cell's entries in the pool
 // are a run with room for as many entries as the class has moves.
 ghost use Rattle.std.specs.Prelude.{◌≡◌, ℕ, ◌<◌, ◌≤◌, ◌+◌, ◌↔◌, ◌⊎◌, IsTrue, IfSome, length, MatchOption, slice_index_or};
-ghost use Rattle.dob_share.specs.Cells.{more_at, less_at, greater, IsGreatestIn};
+ghost use Rattle.dob_value.specs.Distances.{greater_of};
+ghost use Rattle.dob_share.specs.Cells.{more_at, less_at, IsGreatestIn};
 ghost use Rattle.dob_share.specs.Pools.{vacant, tally, moves_of, wins_in, IsWithin, IsCountedAt, ChangesRun};
 
 use dob_moves::Status;
@@ -87,7 +88,7 @@ pub(crate) fn greatest_win(pool: &Segments<Count>, run: Run) -> Option<u16>
 
 /// The greater of a distance, where there is one, and another.
 pub(crate) fn later(greatest: Option<u16>, plies: u16) -> u16
-    ensures { result ≡ greater greatest plies }
+    ensures { result ≡ greater_of greatest plies }
 {
     match greatest {
         Some(other) => other.max(plies),

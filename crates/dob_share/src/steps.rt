@@ -1,8 +1,9 @@
 // One item at one cell: whether it fits, and what it makes of the slot and of the counts.
 ghost use Rattle.std.specs.Prelude.{◌≡◌, ◌≢◌, ◌↔◌, ℕ, ◌+◌, ◌<◌, ◌≤◌, length, Some, Err, OnErr, OnOk, IfOk};
 ghost use Rattle.dob_value.specs.declared.value.Value.TheVariants.{Win, Loss, Draw};
+ghost use Rattle.dob_value.specs.Distances.{lesser_of};
 ghost use Rattle.dob_share.specs.declared.fault.Fault.TheVariants as fault;
-ghost use Rattle.dob_share.specs.Cells.{CellValue, SameCell, Takes, changed, lesser};
+ghost use Rattle.dob_share.specs.Cells.{CellValue, SameCell, Takes, changed};
 ghost use Rattle.dob_share.specs.Pools.{tally, moves_of, wins_in, ChangesRun};
 ghost use Rattle.dob_share.specs.Slots.{cell_of, cell_in, slot_at, start_at, room_at, ArePooled, IsShortCell, least_of};
 ghost use Rattle.dob_share.specs.Steps.{IsStep, IsTooDeep, changed_wins, gained};
@@ -214,7 +215,7 @@ fn after_better_loss(
 fn win_after(win: u16, plies: u16) -> u16
     requires win { win ≤ 65534 }
     requires plies { win ≡ 0 → plies < 65534 }
-    ensures { least_of result ≡ Some (lesser (least_of win) plies) }
+    ensures { least_of result ≡ Some (lesser_of (least_of win) plies) }
 {
     if win > 0 && win - 1 <= plies {
         win

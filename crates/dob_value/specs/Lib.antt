@@ -1,6 +1,7 @@
 pub mod Values
 pub mod Depths
 pub mod Entries
+pub mod Distances
 pub mod Graphs
 pub mod Faults
 pub mod Rosters
