@@ -5,14 +5,9 @@ use Rattle.std.proofs.lemmas.List.Elements.{Contains-push, Contains-push_cases, 
 use Rattle.dob_value.specs.declared.value.Value.{Value}
 use Rattle.dob_value.specs.declared.value.Value.TheVariants.{Win, Loss, Draw}
 use Rattle.dob_value.specs.Distances.{IsLeastLoss, lesser_of, greater_of}
+use Rattle.dob_value.proofs.Distances.{same_win, same_loss}
 use Rattle.dob_probe.specs.declared.successors.Successors.{Successors}
 use Rattle.dob_probe.specs.Sums.{AreSummed, IsGreatestWin, TellsDraw}
-
-pub same_win : (a b : ℕ) → Win a ≡ Win b → a ≡ b
-same_win a b e = cc
-
-pub same_loss : (a b : ℕ) → Loss a ≡ Loss b → a ≡ b
-same_loss a b e = cc
 
 no_values : (v : Value) → ¬ Contains [] v
 no_values v there = absurd (omega (arith, there.1))

@@ -6,11 +6,9 @@ use Rattle.dob_pieces.proofs.Lists.{none_in_empty, head_in, cons_cases}
 use Rattle.dob_value.specs.declared.value.Value.{Value}
 use Rattle.dob_value.specs.declared.value.Value.TheVariants.{Win, Loss, Draw}
 use Rattle.dob_value.specs.Distances.{IsLeastLoss, lesser_of}
+use Rattle.dob_value.proofs.Distances.{same_loss}
 use Rattle.dob_share.specs.Cells.{Cell, SameCell, SumsUp}
 use Rattle.dob_run.specs.Knows.{least_loss, sum_of}
-
-same_loss : (a b : ℕ) → Loss a ≡ Loss b → a ≡ b
-same_loss a b e = cc
 
 behind : (known : List Value) (v w : Value) → Contains known w → Contains (v ∷ known) w
 behind known v w there = Contains-append_right (v ∷ []) known w there

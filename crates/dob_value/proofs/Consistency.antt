@@ -15,6 +15,7 @@ use Rattle.dob_value.specs.Values.{HasLost, Won, Lost, HasValue}
 use Rattle.dob_value.specs.Depths.{SameOutlook}
 use Rattle.dob_value.proofs.Successors.{moves_keep_the_set}
 use Rattle.dob_value.specs.Follows.{HasInTable, FollowsFromSuccessors, FollowsAt, Follows, IsConsistent, ConsistentIsRight}
+use Rattle.dob_value.proofs.Distances.{same_win, same_loss}
 use Rattle.dob_value.proofs.Depths.{won_stays}
 use Rattle.dob_value.proofs.ClassNumbers.{has_entry, one_entry, representative_is, first_outlook}
 
@@ -215,24 +216,18 @@ module _ (set : PieceSet) (values : List Value) (consistent : IsConsistent set v
     win_is_won plies plies p (omega arith) is has,
     λ n won.
         let win = won_in_table n p (Win plies) is has won in
-        let same : plies ≡ win.0 = the_plies plies win.0 win.1 in
+        let same : plies ≡ win.0 = same_win plies win.0 win.1 in
         let within : win.0 ≤ n = win.2 in
         omega arith,
   )
-    where
-      the_plies : (a b : ℕ) → Win a ≡ Win b → a ≡ b
-      the_plies a b e = cc
   entry_is_value p (Loss plies) is has = (
     loss_is_lost plies plies p (omega arith) is has,
     λ n lost.
         let loss = lost_in_table n p (Loss plies) is has lost in
-        let same : plies ≡ loss.0 = the_plies plies loss.0 loss.1 in
+        let same : plies ≡ loss.0 = same_loss plies loss.0 loss.1 in
         let within : loss.0 ≤ n = loss.2 in
         omega arith,
   )
-    where
-      the_plies : (a b : ℕ) → Loss a ≡ Loss b → a ≡ b
-      the_plies a b e = cc
   entry_is_value p Draw is has = λ n. (
     λ won.
         let win = won_in_table n p Draw is has won in

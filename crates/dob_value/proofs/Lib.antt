@@ -1,5 +1,6 @@
 -- The lemmas, in the order in which they are read.
 -- Values.
+pub mod Distances  -- a win, or a loss, has one distance
 pub mod Depths  -- won and lost at different depths
 pub mod NextValues  -- the value at one depth more
 pub mod Parity  -- a distance says whether it is a win
