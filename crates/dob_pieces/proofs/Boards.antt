@@ -217,7 +217,8 @@ pub total-hands : (kind : HandKind) (s : Setup) (hands : Hands) → total kind (
 unfolding total
 total-hands kind s hands = omega arith
 
-own_lion : (side : Side) → holds_lion side (Some (piece_of side Lion)) ≡ true
+-- a side's lion passes as it
+pub own_lion : (side : Side) → holds_lion side (Some (piece_of side Lion)) ≡ true
 own_lion Mover = refl
 own_lion Enemy = refl
 

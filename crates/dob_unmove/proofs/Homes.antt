@@ -14,7 +14,7 @@ use Rattle.dob_pieces.specs.declared.hand.Hands.{Hands}
 use Rattle.dob_pieces.specs.declared.setup.Setup.{Setup}
 use Rattle.dob_pieces.specs.Squares.{mirrored_square}
 use Rattle.dob_pieces.specs.Setups.{Cell, at, held, piece_of, holds_lion, holds_kind, total, mirrored}
-use Rattle.dob_pieces.proofs.Boards.{all_below, all_below-at, at-mirrored, within-from_piece, total-mirrored}
+use Rattle.dob_pieces.proofs.Boards.{all_below, all_below-at, at-mirrored, within-from_piece, total-mirrored, own_lion}
 use Rattle.dob_pieces.proofs.Symmetries.{mirrored_square_bound, mirrored_square_twice}
 use Rattle.dob_rank.specs.Order.{squares_from, squares, forms, each_kind, key, Precedes, Before, IsPositionOf, RepresentsIn}
 use Rattle.dob_rank.proofs.Found.{IsPositionOf-mirrored}
@@ -71,16 +71,12 @@ module _ (test : Cell → Bool) where
         ∙ one_square (suc from) k cs (omega (arith, sum, zero_there, one)) (omega arith) is ∙ ap (λ (n : ℕ). n ∷ []) same)
   ]
 
-lion_holds : (side : Side) → holds_lion side (Some (piece_of side Lion)) ≡ true
-lion_holds Mover = refl
-lion_holds Enemy = refl
-
 lion_square : (side : Side) (set : PieceSet) (p : Setup) (s : ℕ) → IsPositionOf set p → at p s ≡ Some (piece_of side Lion)
     → squares (holds_lion side) p ≡ s ∷ []
 lion_square side set p s is there =
     let same : 0 + s ≡ s = omega arith in
     one_square (holds_lion side) 0 s p.board (is.legal.lions side) (within-from_piece p s (piece_of side Lion) there)
-    (ap (holds_lion side) there ∙ lion_holds side) ∙ ap (λ (n : ℕ). n ∷ []) same
+    (ap (holds_lion side) there ∙ own_lion side) ∙ ap (λ (n : ℕ). n ∷ []) same
 
 -- ---- the order with the mirror image
 
