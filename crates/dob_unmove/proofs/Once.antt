@@ -6,19 +6,13 @@ use Rattle.dob_pieces.specs.declared.kind.HandKind.{HandKind}
 use Rattle.dob_pieces.specs.declared.kind.HandKind.TheVariants as hand
 use Rattle.dob_pieces.specs.declared.setup.Setup.{Setup}
 use Rattle.dob_pieces.specs.Lists.{each_below}
+use Rattle.dob_pieces.specs.Masks.{kind_place}
 use Rattle.dob_pieces.proofs.Lists.{Rising, rising-lower, rising-append, rising-cond, rising-each, rising-pairs}
 use Rattle.dob_unmove.specs.declared.undo.Undo.{Undo}
 use Rattle.dob_unmove.specs.declared.undo.Undo.TheVariants.{Unstep, Unput}
 use Rattle.dob_unmove.specs.Walks.{uncatch, unsteps_between, unsteps_from, unsteps, unputs, undoes_at, undoes}
 
 -- ---- the place of a way in the walk
-
-kind_place : Kind → ℕ
-kind_place Lion = 0
-kind_place Giraffe = 1
-kind_place Elephant = 2
-kind_place Chick = 3
-kind_place Hen = 4
 
 caught_place : Option Kind → ℕ
 caught_place None = 0
@@ -59,7 +53,7 @@ module _ (t : Setup) where
 
   rising-between : (kind : Kind) (from to low : ℕ) → low ≡ 1000 * to + (100 * kind_place kind + 5 * from)
       → Rising place low (low + 5) (unsteps_between t kind from to)
-  unfolding place caught_place kind_place
+  unfolding place caught_place
   rising-between kind from to low e =
       let first = rising-uncatch kind from to Giraffe (low + 1) (omega arith) in
       let second = rising-uncatch kind from to Elephant (low + 2) (omega arith) in
@@ -94,7 +88,7 @@ module _ (t : Setup) where
   rising-unputs kind to low e = rising-cond place _ low (suc low) (Unput kind to ∷ []) (omega arith) (rising-one (Unput kind to) low (sym e))
 
   rising-at : (to : ℕ) → Rising place (1000 * to) (1000 * suc to) (undoes_at t to)
-  unfolding undoes_at kind_place hand_place
+  unfolding undoes_at hand_place
   rising-at to =
       let b = 1000 * to in
       let lion = rising-unsteps Lion to b (omega arith) in
