@@ -21,6 +21,7 @@ use Rattle.dob_moves.specs.declared.game_move.Move.TheVariants.{Step, Put}
 use Rattle.dob_moves.specs.Moves.{grows_at, Goes, CanGo}
 use Rattle.dob_moves.specs.declared.position_status.Status.TheVariants.{Open}
 use Rattle.dob_moves.specs.Statuses.{CanCatch, HasTried, HasStatus}
+use Rattle.dob_moves.proofs.Turns.{side_of}
 use Rattle.dob_unmove.specs.declared.attackers.Attackers.{Attackers}
 use Rattle.dob_unmove.specs.declared.attackers.Attackers.TheVariants.{Nobody, One, Several}
 use Rattle.dob_unmove.specs.declared.attackers.Threat.{Threat}
@@ -31,10 +32,6 @@ use Rattle.dob_unmove.specs.Undoes.{choice, arrives_at, enemy_cell, earlier, Can
 use Rattle.dob_unmove.proofs.Undone.{Goes-from_undo}
 use Rattle.dob_pieces.specs.Masks.{attacks_by, attacks}
 use Rattle.dob_unmove.specs.Threats.{elsewhere, stood_before, AreAttackers, IsThreat}
-
-abbrev pub side_of : Cell → Side
-side_of None = Enemy
-side_of (Some piece) = piece.side
 
 abbrev pub kind_of : Cell → Kind
 kind_of None = Hen
