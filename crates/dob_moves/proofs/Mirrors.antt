@@ -13,6 +13,7 @@ use Rattle.dob_pieces.specs.Pieces.{kind_on_board, leads}
 use Rattle.dob_pieces.specs.Setups.{Cell, at, board_by, piece_of, turned, mirrored, with_one_less}
 use Rattle.dob_pieces.proofs.Boards.{all_below, all_below-at, board_by-from_cells, length-board_by, at-board_by, length-mirrored}
 use Rattle.dob_pieces.proofs.Boards.{at-mirrored, within-from_piece, leads-to_board}
+use Rattle.dob_pieces.proofs.Symmetries.{mirrored_square_bound}
 use Rattle.dob_moves.specs.declared.game_move.Move.{Move}
 use Rattle.dob_moves.specs.declared.game_move.Move.TheVariants.{Step, Put}
 use Rattle.dob_moves.specs.declared.position_status.Status.{Status}
@@ -23,11 +24,7 @@ use Rattle.dob_moves.specs.Mirrors.{mirrored_move}
 
 -- ---- squares
 
--- the image of a square is one
-mirrored_on_board : (k : ℕ) → k < 12 → mirrored_square k < 12
-mirrored_on_board k h = omega arith
-
--- on row 1 too
+-- the image of a square on row 1 is one there
 mirrored_low : (k : ℕ) → k < 3 → mirrored_square k < 3
 mirrored_low k h = omega arith
 
@@ -90,7 +87,7 @@ mirrored_put board i c twelve h =
     let f = λ (k : ℕ). get_or (set board i c) (mirrored_square k) None in
     let wide : length image ≡ 12 = length-board_by (λ k. get_or board (mirrored_square k) None) in
     let wide_set : length (set image j c) ≡ 12 = length-set image j c ∙ wide in
-    let low : j < length image = omega (arith, mirrored_on_board i h) in
+    let low : j < length image = omega (arith, mirrored_square_bound i h) in
     let within : i < length board = omega arith in
     let here : get_or (set image j c) j None ≡ f j =
     get_or-set_same image j c None low ∙ sym (ap (λ k. get_or (set board i c) k None) (mirrored_twice i h) ∙ get_or-set_same board i c None within)
@@ -104,7 +101,7 @@ mirrored_put board i c twelve h =
 
 -- what stands on a square's image
 pub at-image : (p : Setup) (k : ℕ) → k < 12 → at (mirrored p) (mirrored_square k) ≡ at p k
-at-image p k h = at-mirrored p (mirrored_square k) (mirrored_on_board k h) ∙ ap (at p) (mirrored_twice k h)
+at-image p k h = at-mirrored p (mirrored_square k) (mirrored_square_bound k h) ∙ ap (at p) (mirrored_twice k h)
 
 -- the mirror image of the mirror image
 pub mirrored-mirrored : (p : Setup) → length p.board ≡ 12 → mirrored (mirrored p) ≡ p
@@ -163,7 +160,7 @@ Drops-mirrored : (p : Setup) (kind : HandKind) (to : ℕ) (q : Setup) → length
 unfolding mirrored
 Drops-mirrored p kind to q twelve d = record {
   in_hand = d.in_hand;
-  on_board = mirrored_on_board to d.on_board;
+  on_board = mirrored_square_bound to d.on_board;
   free = at-image p to d.on_board ∙ d.free;
   outcome =
       ap mirrored d.outcome ∙ mirrored-turned _
