@@ -7,6 +7,7 @@ use Rattle.dob_value.specs.declared.value.Value.{Value}
 use Rattle.dob_value.specs.declared.value.Value.TheVariants.{Win, Loss, Draw}
 use Rattle.dob_value.specs.Entries.{is_draw}
 use Rattle.dob_value.specs.Distances.{IsLeastLoss}
+use Rattle.dob_value.proofs.Consistency.{not_draw_win}
 use Rattle.dob_share.specs.Values.{is_win_in}
 use Rattle.dob_share.specs.Cells.{Cell, SameCell, IsGreatest, CellValue, SumsUp}
 use Rattle.dob_share.proofs.Learning.{counted, counts}
@@ -63,7 +64,7 @@ value_follows known cell Draw sums above value = (
         let count = sums.left in
         let found = counted is_draw known (omega arith) in
         let win = wins found.0 found.1 in
-        absurd (draw_isnt_win win.0 (sym (is_that_draw found.0 found.2) ∙ win.1))
+        absurd (not_draw_win win.0 (sym (is_that_draw found.0 found.2) ∙ win.1))
     | inr none ↦
         let some = some_value known above in
         let win = wins some.0 some.1 in
@@ -72,9 +73,6 @@ value_follows known cell Draw sums above value = (
         absurd (omega arith)
   ],
 )
-  where
-    draw_isnt_win : (plies : ℕ) → ¬ (let v : Value = Draw in v ≡ Win plies)
-    draw_isnt_win plies e = absurd (cc)
 
 -- ---- cells that say the same
 

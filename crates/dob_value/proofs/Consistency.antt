@@ -29,6 +29,9 @@ IsLossWithin n v = (plies : ℕ) × (v ≡ Loss plies) × (plies ≤ n)
 not_loss_and_win : (m n : ℕ) → ¬ (Loss m ≡ Win n)
 not_loss_and_win m n e = absurd (cc)
 
+pub not_draw_win : (d : ℕ) → ¬ (let v : Value = Draw in v ≡ Win d)
+not_draw_win d e = absurd (cc)
+
 -- what follows at each status
 module _ (Has : Setup → Value → Type 0) (p : Setup) where
   follows_caught : (v : Value) → HasStatus p Caught → Follows Has p v → v ≡ Win 1
@@ -237,9 +240,6 @@ module _ (set : PieceSet) (values : List Value) (consistent : IsConsistent set v
         absurd (not_draw_loss loss.0 loss.1),
   )
     where
-      not_draw_win : (d : ℕ) → ¬ (let v : Value = Draw in v ≡ Win d)
-      not_draw_win d e = absurd (cc)
-
       not_draw_loss : (d : ℕ) → ¬ (let v : Value = Draw in v ≡ Loss d)
       not_draw_loss d e = absurd (cc)
 
