@@ -1,5 +1,5 @@
 -- Walks over the squares of a mask, from the lowest on, and counts of them.
-use Rattle.std.proofs.Common.{◌≡◌, ℕ, zero, suc, ◌+◌, ◌^◌, ◌<◌, ◌≤◌, Bool, true, false, cond, List, [], ◌++◌, length, map}
+use Rattle.std.proofs.Common.{◌≡◌, ℕ, zero, suc, ◌^◌, ◌<◌, ◌≤◌, Bool, true, false, cond, List, [], ◌++◌, length, map}
 use Rattle.std.proofs.Common.{count_ones, refl, sym, ap, ◌∙◌, arith, inl, inr, append_assoc, append-nil}
 use Rattle.std.specs.Int.{trailing_zeros, w16}
 use Rattle.std.specs.List.{count_by, range_with_len}
@@ -9,7 +9,7 @@ use Rattle.std.proofs.lemmas.List.{length-append}
 use Rattle.std.proofs.lemmas.List.FromFn.{get_or-map-range_with_len}
 use Rattle.std.proofs.lemmas.Nat.Bits.{same_from_bits_below}
 use Rattle.std.proofs.lemmas.Simd.{mask_l-lt, bit_mask_l, ones-mask_l}
-use Rattle.dob_pieces.specs.Lists.{each_below}
+use Rattle.dob_pieces.specs.Lists.{each_below, sum_below}
 use Rattle.dob_pieces.specs.Masks.{IsMask}
 use Rattle.dob_pieces.proofs.MaskBits.{bit_if, IsLeft, without, all_left, next_left, none_left}
 
@@ -88,12 +88,8 @@ module _ {X : Type 0} where
   abbrev pub IsCounting : (ℕ → Bool) → (ℕ → List X) → Type 0
   IsCounting test g = (k : ℕ) → length (g k) ≡ bit_if (test k)
 
-abbrev sum_upto : (ℕ → ℕ) → ℕ → ℕ
-sum_upto f zero = 0
-sum_upto f (suc n) = sum_upto f n + f n
-
 module _ {X : Type 0} where
-  length-each : (g : ℕ → List X) (n : ℕ) → length (each_below g n) ≡ sum_upto (λ k. length (g k)) n
+  length-each : (g : ℕ → List X) (n : ℕ) → length (each_below g n) ≡ sum_below (λ k. length (g k)) n
   length-each g zero = refl
   length-each g (suc n) = let sum = length-append (each_below g n) (g n) in let more = length-each g n in omega (arith, sum, more)
 

@@ -1,7 +1,12 @@
--- Lists made piece by piece.
-use Rattle.std.specs.Prelude.{ℕ, zero, suc, List, [], ◌++◌}
+-- Lists made piece by piece, and sums below a number.
+use Rattle.std.specs.Prelude.{ℕ, zero, suc, ◌+◌, List, [], ◌++◌}
 
 -- what g gives below n, in order
 abbrev pub each_below : {X : Type 0} → (ℕ → List X) → ℕ → List X
 each_below g zero = []
 each_below g (suc n) = each_below g n ++ g n
+
+-- the sum of f below a number
+abbrev pub sum_below : (ℕ → ℕ) → ℕ → ℕ
+sum_below f zero = 0
+sum_below f (suc n) = sum_below f n + f n

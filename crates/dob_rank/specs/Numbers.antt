@@ -9,6 +9,7 @@ use Rattle.dob_pieces.specs.declared.hand.Hand.{Hand}
 use Rattle.dob_pieces.specs.declared.hand.Hands.{Hands}
 use Rattle.dob_pieces.specs.declared.piece_set.PieceSet.{PieceSet}
 use Rattle.dob_pieces.specs.declared.setup.Setup.{Setup}
+pub use Rattle.dob_pieces.specs.Lists.{sum_below}
 use Rattle.dob_pieces.specs.Setups.{Cell, piece_of}
 use Rattle.dob_rank.specs.declared.layers.Layer.{Layer}
 use Rattle.dob_rank.specs.declared.layers.Layer.TheVariants.{OwnLion, EnemyLion, Chicks, Elephants, Giraffes, Empty}
@@ -32,11 +33,6 @@ digits_of (base ∷ bases) number = (number / product bases) ∷ digits_of bases
 -- each base has its digit, which is below it
 abbrev pub HasDigits : List ℕ → List ℕ → Type 0
 HasDigits bases digits = AllZip (λ (base digit : ℕ). digit < base) bases digits
-
--- the sum of f below a number
-abbrev pub sum_below : (ℕ → ℕ) → ℕ → ℕ
-sum_below f zero = 0
-sum_below f (suc n) = sum_below f n + f n
 
 -- ---- the layers of a board, numbered in the order in which a key tells their squares: lists of layers have their numbers
 
