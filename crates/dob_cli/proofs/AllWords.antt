@@ -13,11 +13,12 @@ use Rattle.clap.specs.Faults.{check_fault, defaults_fault, entered_fault, level_
 use Rattle.clap.specs.declared.error.kind.ErrorKind.TheVariants as kind
 use Rattle.clap.proofs.FaultLemmas.{stopped_fault}
 use Rattle.clap.proofs.WalkLemmas.{walk_stopped}
+use Rattle.dob_value.proofs.Bools.{or_false}
 use Rattle.dob_cli.specs.Forms.{Form, Text, build_form, check_form, count_form, forms, line_form, probe_form, value_form}
 use Rattle.dob_cli.specs.Words.{Meaning, asks, help, is_dashes, is_help_flag, is_text, meaning_of_command, meaning_of_form, meaning_of_other, topic, usage}
 use Rattle.dob_cli.specs.Words.{version}
 use Rattle.dob_cli.specs.Shapes.{Finds, dobutsu_app}
-use Rattle.dob_cli.proofs.Lexing.{flip_bytes, or_false}
+use Rattle.dob_cli.proofs.Lexing.{flip_bytes}
 use Rattle.dob_cli.proofs.Turns.{KnowsHelp, help_flag, is_usage, none, or_else_usage}
 use Rattle.dob_cli.proofs.Steps.{help_turn, open_at, other_turn, text_turn}
 use Rattle.dob_cli.proofs.FormWords.{Comes, IsTaken, form_comes, shape_of}

@@ -17,13 +17,14 @@ use Rattle.clap.specs.Takes.{is_given}
 use Rattle.clap.specs.Kinds.{Kinds, or_else}
 use Rattle.clap.specs.Faults.{check_fault, defaults_fault, level_fault, settle_fault, step_fault, turn_fault, walk_fault}
 use Rattle.clap.specs.declared.error.kind.ErrorKind.TheVariants as kind
+use Rattle.dob_value.proofs.Bools.{or_false}
 use Rattle.dob_cli.specs.Forms.{Form, labels}
 use Rattle.dob_cli.specs.Words.{Given, Meaning, Stand, Text, after_dashes, after_part, after_word, asked, asks, at_end, behind, between, call, dashes, ended}
 use Rattle.dob_cli.specs.Words.{fits, help, is_dashes, is_help_flag, is_text, kept, label_of, meaning_of_form, name_in, once, option, option_part, placed, text}
 use Rattle.dob_cli.specs.Words.{text_of, texts_of, topic, unknown, usage, valued, version, wanted, wants}
 use Rattle.dob_cli.specs.Shapes.{bare_app, form_app}
 use Rattle.dob_cli.proofs.Lexing.{View, empty as no_byte, letter as a_letter, hyphen as one_hyphen, dashes as two_hyphens, long as a_long, short as a_short}
-use Rattle.dob_cli.proofs.Lexing.{flip_bytes, long_name, long_short, no_first, flag_letter, or_false, view}
+use Rattle.dob_cli.proofs.Lexing.{flip_bytes, long_name, long_short, no_first, flag_letter, view}
 use Rattle.dob_cli.proofs.Turns.{KnowsHelp, help_flag, held, is_usage, or_else_usage}
 use Rattle.dob_cli.proofs.Steps.{closed_at, failing_turn, help_turn, open_at, other_turn, text_taken, text_turn, text_turn_at, text_walked, waiting_at}
 use Rattle.dob_cli.proofs.Texts.{Each, Looked, defaults_none, looked, no_faults, kept_both, rows_of, text_arg, use_misfit, use_passes, use_twice, used_fresh}

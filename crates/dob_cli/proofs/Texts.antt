@@ -6,7 +6,7 @@ use Rattle.std.specs.List.{list_all, list_any}
 use Rattle.std.specs.Char.{digit_value}
 use Rattle.std.specs.Str.Parse.{without_leading_plus}
 use Rattle.std.specs.Str.{bytes_eq}
-use Rattle.std.proofs.lemmas.Bool.{le-leb, ltb-true}
+use Rattle.std.proofs.lemmas.Bool.{le-leb, ltb-true, or_right}
 use Rattle.std.proofs.lemmas.List.{map-append}
 use Rattle.clap.specs.Facts.{explicit_source, parser_of_value}
 use Rattle.clap.specs.Values.{reading_of}
@@ -183,12 +183,8 @@ same_either false x = refl
 default_none : (rows : List Row) (a : Rule) → a.defaults ≡ [] → with_default rows a ≡ rows
 default_none rows a e = rw e (same_either (has_row a.id rows) rows)
 
-or_true : (b : Bool) → (b || true) ≡ true
-or_true true = refl
-or_true false = refl
-
 no_fault : (rows : List Row) (a : Rule) → a.defaults ≡ [] → default_fault rows a ≡ []
-no_fault rows a e = rw (e, or_true (has_row a.id rows)) refl
+no_fault rows a e = rw (e, or_right (has_row a.id rows) true refl) refl
 
 pub defaults_none : (rules : List Rule) (rows : List Row) → Each (λ a. a.defaults ≡ []) rules → fold with_default rows rules ≡ rows
 defaults_none [] rows e = refl

@@ -1,9 +1,11 @@
 -- What sinks have received after one call and another.
-use Rattle.std.proofs.Common.{◌≡◌, ℕ, ◌+◌, ◌≤◌, Bool, true, false, List, [], ◌∷◌, ◌++◌, length, Option, Some, None, take, drop, sym, ap, ◌∙◌, append_assoc}
+use Rattle.std.proofs.Common.{◌≡◌, ℕ, ◌+◌, ◌≤◌, true, false, List, [], ◌∷◌, ◌++◌, length, Option, Some, None, take, drop, sym, ap, ◌∙◌, append_assoc}
 use Rattle.std.proofs.Common.{append-nil, take-add, refl, arith}
 use Rattle.std.specs.Prelude.{◌||◌}
 use Rattle.std.proofs.Math.Seq.{take-length}
+use Rattle.std.proofs.lemmas.Bool.{or_right}
 use Rattle.std.specs.Io.KnownBytes.{Appends, Keeps, append_known}
+use Rattle.dob_value.proofs.Bools.{or_false}
 use Rattle.dob_dbfile.specs.Sinks.{AddsFlush, IsNotFlushed, IsSame, Puts, State, StopsAfter, Takes, Works, Writes, change}
 
 -- bytes after bytes
@@ -56,17 +58,9 @@ Appends-keep (Some a) None c xs p q = absurd p
 Appends-keep (Some a) (Some b) None xs p q = absurd q
 Appends-keep (Some a) (Some b) (Some c) xs p q = q ∙ p
 
-or_no : (b : Bool) → (b || false) ≡ b
-or_no true = refl
-or_no false = refl
-
-or_yes : (b : Bool) → (b || true) ≡ true
-or_yes true = refl
-or_yes false = refl
-
 -- a call that doesn't fail after others that didn't
 pub works_on : (a b c : State) → Works (change a b) → c.has_failed ≡ (b.has_failed || false) → Works (change a c)
-works_on a b c works notes = notes ∙ or_no b.has_failed ∙ works
+works_on a b c works notes = notes ∙ or_false b.has_failed ∙ works
 
 -- a part of the bytes, and then a call that fails
 pub stops_after : (a b c : State) (bytes : List ℕ) (count : ℕ) → count ≤ length bytes → Takes (change a b) (take count bytes) → IsNotFlushed (change a b)
@@ -76,7 +70,7 @@ stops_after a b c bytes count within part unflushed same kept flushes again note
   within = within;
   part = Appends-keep a.received b.received c.received (take count bytes) part kept;
   unflushed = Keeps-trans a.flushes b.flushes c.flushes unflushed flushes;
-  fails = notes ∙ or_yes b.has_failed;
+  fails = notes ∙ or_right b.has_failed true refl;
   same = again ∙ same;
 }
 
