@@ -1,5 +1,6 @@
 -- The texts of a subcommand that takes one, two or three, from its own matches, and which form's matches they are.
-use Rattle.std.proofs.Common.{◌≡◌, ◌∙◌, ◌&&◌, ◌++◌, ℕ, Bool, true, false, cond, inl, inr, ap, sym, subst, refl, true≢false, map, List, [], ◌∷◌, Option, Some, None, is_some}
+use Rattle.std.proofs.Common.{◌≡◌, ◌∙◌, ◌&&◌, ◌++◌, ℕ, Bool, true, false, cond, inl, inr, ap, sym, subst, refl}
+use Rattle.std.proofs.Common.{true≢false, map, List, [], ◌∷◌, Option, Some, None, is_some}
 use Rattle.std.specs.Prelude.{IsSomeAnd, Result, option_map, slice_get, unwrap_or}
 use Rattle.std.specs.Result.{result_ok}
 use Rattle.std.specs.List.{filter, list_all}

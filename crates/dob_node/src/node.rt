@@ -1,5 +1,6 @@
 // A node: the cells of one owner's classes with their history, the items that it has for itself, and its outboxes.
-ghost use Rattle.std.specs.Prelude.{◌≡◌, ◌≢◌, ◌⊎◌, ℕ, ◌+◌, ◌*◌, ◌/◌, ◌^◌, ◌<◌, ◌≤◌, ◌↔◌, [], ◌++◌, length, slice_get, true, false, Some, IsTrue, IfOk, IfErr, IfSome, OnOk, OnErr};
+ghost use Rattle.std.specs.Prelude.{◌≡◌, ◌≢◌, ◌⊎◌, ℕ, ◌+◌, ◌*◌, ◌/◌, ◌^◌, ◌<◌, ◌≤◌, ◌↔◌, [], ◌++◌, length, slice_get};
+ghost use Rattle.std.specs.Prelude.{true, false, Some, IsTrue, IfOk, IfErr, IfSome, OnOk, OnErr};
 ghost use Rattle.std.specs.List.{All};
 ghost use Rattle.std.specs.VecDeque.{deque_len, deque_capacity};
 ghost use Rattle.dob_share.specs.Openings.{opening_of};
@@ -53,7 +54,8 @@ pub struct Part {
 
 impl Node {
     ghost use Rattle.dob_node.specs.Openings.{AreOpenings};
-    ghost use Rattle.dob_node.specs.Nodes.{outbox_to, IsSound, IsOpened, IsExpanded, HasApplied, HasRefused, HasTaken, HasTakenBefore, HasCut, IsUnchanged, IsIdle, AreValuesNow};
+    ghost use Rattle.dob_node.specs.Nodes.{outbox_to, IsSound, IsOpened, IsExpanded, HasApplied, HasRefused, HasTaken};
+    ghost use Rattle.dob_node.specs.Nodes.{HasTakenBefore, HasCut, IsUnchanged, IsIdle, AreValuesNow};
     ghost use Rattle.dob_share.specs.Shares.{IsOwn, HasValueNow};
 
     /// The node of owner `id`, one of `n`, at most 16, before its first step. Its history has a settlement for each own

@@ -1,5 +1,6 @@
 // The outboxes of a node, one for each node: what it has still to send.
-ghost use Rattle.std.specs.Prelude.{◌≡◌, ℕ, ◌+◌, ◌<◌, ◌≤◌, ◌↔◌, List, [], length, vec_len, slice_index_or, slice_set, ◌*◌, ◌^◌, IsTrue, IsNone, IfOk, IfSome, OnOk, OnErr};
+ghost use Rattle.std.specs.Prelude.{◌≡◌, ℕ, ◌+◌, ◌<◌, ◌≤◌, ◌↔◌, List, [], length, vec_len, slice_index_or};
+ghost use Rattle.std.specs.Prelude.{slice_set, ◌*◌, ◌^◌, IsTrue, IsNone, IfOk, IfSome, OnOk, OnErr};
 ghost use Rattle.std.specs.List.{All};
 ghost use Rattle.dob_pieces.specs.declared.piece_set.PieceSet.{PieceSet as Set};
 ghost use Rattle.dob_unmove.specs.Edges.{predecessors};

@@ -1,5 +1,6 @@
 // What a worker has besides its node: its seat on the board and the ends of its channels.
-ghost use Rattle.std.specs.Prelude.{◌≡◌, ◌≢◌, ℕ, ◌^◌, ◌<◌, true, false, Some, None, ◌∷◌, [], ◌++◌, slice_get, slice_index, length, vec_len, slice_set, IfSome, IfNone};
+ghost use Rattle.std.specs.Prelude.{◌≡◌, ◌≢◌, ℕ, ◌^◌, ◌<◌, true, false, Some, None, ◌∷◌, [], ◌++◌, slice_get};
+ghost use Rattle.std.specs.Prelude.{slice_index, length, vec_len, slice_set, IfSome, IfNone};
 ghost use Rattle.dob_safra.specs.declared.event.RingEvent.TheVariants.{Post};
 ghost use Rattle.dob_board.specs.Views.{posts_more};
 ghost use Rattle.dob_board.specs.Histories.{Makes};

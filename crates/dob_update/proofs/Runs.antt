@@ -2,7 +2,8 @@
 use Rattle.std.proofs.Common.{◌≡◌, ℕ, ◌+◌, ◌-◌, ◌^◌, ◌<◌, ◌≤◌, ◌==◌, min, Bool, true, false, cond, List, [], ◌∷◌, ◌++◌, length, take, drop}
 use Rattle.std.proofs.Common.{refl, sym, ap, ◌∙◌, subst, inl, inr, arith, length-append, length-drop, length-take-le}
 use Rattle.std.proofs.lemmas.Bool.{cases_lt, cases_eq, eqb-true, eq-eqb}
-use Rattle.std.proofs.lemmas.List.{append_assoc, append-nil, length-map, map-append, take-append-le, drop-append-le, take_min, drop_min, take-take, drop-drop, drop_at}
+use Rattle.std.proofs.lemmas.List.{append_assoc, append-nil, length-map, map-append, take-append-le}
+use Rattle.std.proofs.lemmas.List.{drop-append-le, take_min, drop_min, take-take, drop-drop, drop_at}
 use Rattle.dob_pieces.specs.declared.piece_set.PieceSet.{PieceSet}
 use Rattle.dob_share.specs.declared.news.Settlement.{Settlement}
 use Rattle.dob_share.specs.declared.news.Item.{Item}

@@ -2,7 +2,8 @@
 use Rattle.std.proofs.Common.{◌≡◌, ℕ, ◌+◌, ◌-◌, ◌<◌, ◌≤◌, List, [], ◌∷◌, ◌++◌, length, take, drop, get_or, refl, sym}
 use Rattle.std.proofs.Common.{ap, ◌∙◌, subst, arith, length-append, length-drop, length-take-le}
 use Rattle.std.specs.Prelude.{map}
-use Rattle.std.proofs.lemmas.List.{append-nil, length-map, map-append, drop-append-le, take_all, take_at, take_more, take-append-drop, nil_from_length, same_from_push}
+use Rattle.std.proofs.lemmas.List.{append-nil, length-map, map-append, drop-append-le, take_all, take_at}
+use Rattle.std.proofs.lemmas.List.{take_more, take-append-drop, nil_from_length, same_from_push}
 use Rattle.dob_share.specs.declared.news.Settlement.{Settlement}
 use Rattle.dob_share.specs.declared.news.Item.{Item}
 use Rattle.dob_update.specs.declared.part.Part.{Part}

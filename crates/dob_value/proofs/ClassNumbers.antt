@@ -8,7 +8,8 @@ use Rattle.dob_rank.specs.Numbers.{rank_of}
 use Rattle.dob_rank.specs.Marks.{marks_below, is_first}
 use Rattle.dob_rank.proofs.Marks.{HasClass-marks}
 pub use Rattle.dob_rank.proofs.Counted.{no_longer, one_count}
-pub use Rattle.dob_rank.proofs.Representatives.{not_before_itself, class_within, one_of_class, has_representative, representative_is, same_representative, represents_itself, one_class}
+pub use Rattle.dob_rank.proofs.Representatives.{not_before_itself, class_within, one_of_class, has_representative}
+pub use Rattle.dob_rank.proofs.Representatives.{representative_is, same_representative, represents_itself, one_class}
 use Rattle.dob_value.specs.declared.value.Value.{Value}
 use Rattle.dob_value.specs.Depths.{SameOutlook}
 use Rattle.dob_value.specs.Follows.{HasInTable}

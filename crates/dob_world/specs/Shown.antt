@@ -1,5 +1,6 @@
 -- What a world shows: its nodes, lanes and ring as functions of node numbers; and what it keeps while no node has stopped.
-use Rattle.std.specs.Prelude.{◌≡◌, ℕ, ◌+◌, ◌*◌, ◌<◌, ◌≤◌, nat_lt, false, cond, pos, List, [], length, Option, None, Some, MatchOption, slice_get, slice_index, slice_index_or}
+use Rattle.std.specs.Prelude.{◌≡◌, ℕ, ◌+◌, ◌*◌, ◌<◌, ◌≤◌, nat_lt, false, cond, pos, List, [], length, Option}
+use Rattle.std.specs.Prelude.{None, Some, MatchOption, slice_get, slice_index, slice_index_or}
 use Rattle.std.specs.List.{All}
 use Rattle.dob_pieces.specs.declared.piece_set.PieceSet.{PieceSet}
 use Rattle.dob_moves.specs.Statuses.{HasStatus}

@@ -1,5 +1,5 @@
 // What finds out that nothing is left to do: Safra's ring beside the nodes, with the batches that they posted and took.
-ghost use Rattle.std.specs.Prelude.{◌≡◌, ◌<◌, ◌≤◌, ◌^◌, ◌↔◌, true, IfOk, IsTrue};
+ghost use Rattle.std.specs.Prelude.{◌≡◌, ◌<◌, ◌^◌, ◌↔◌, true, IfOk, IsTrue};
 ghost use Rattle.dob_safra.specs.declared.event.RingEvent.TheVariants.{Post, Take, Pass, Announce};
 ghost use Rattle.dob_safra.specs.Laws.{IsSize};
 ghost use Rattle.dob_safra.specs.Rings.{IsLawful, IsStart, IsAnnounceable, Moved};
