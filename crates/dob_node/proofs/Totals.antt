@@ -10,6 +10,7 @@ use Rattle.dob_pieces.specs.declared.piece_set.PieceSet.{PieceSet}
 use Rattle.dob_pieces.specs.declared.setup.Setup.{Setup}
 use Rattle.dob_pieces.specs.Lists.{each_below}
 use Rattle.dob_pieces.specs.Setups.{turned}
+use Rattle.dob_pieces.proofs.MaskWalks.{length-each}
 use Rattle.dob_pieces.proofs.Lists.{head_in}
 use Rattle.dob_moves.specs.declared.game_move.Move.{Move}
 use Rattle.dob_moves.specs.declared.position_status.Status.TheVariants.{Open}
@@ -91,13 +92,6 @@ in_all_places f n (x ∷ xs) below =
     let sums = sum_below-both (λ k. cond (eqb (f x) k) 1 0) (λ k. count_by (λ y. eqb (f y) k) xs) n in
     omega arith
 
-length-each_below : {X : Type 0} (g : ℕ → List X) (n : ℕ) → length (each_below g n) ≡ sum_below (λ k. length (g k)) n
-length-each_below g zero = refl
-length-each_below g (suc n) =
-    let before = length-each_below g n in
-    let sum : length (each_below g n ++ g n) ≡ length (each_below g n) + length (g n) = length-append (each_below g n) (g n) in
-    omega arith
-
 length-row : (f : ℕ → Value) (n : ℕ) → length (each_below (λ (k : ℕ). f k ∷ []) n) ≡ n
 length-row f zero = refl
 length-row f (suc n) =
@@ -134,7 +128,7 @@ module _ (set : PieceSet) (p : ℕ) (low : p < classes_of set) where
   length-all_known n histories applied =
       let row : ℕ → List Value =
       λ q. each_below (λ (copy : ℕ). known (histories (owner_of n q)) (applied (owner_of n q)) p q copy ∷ []) (copies (predecessors set) p q) in
-      length-each_below row (classes_of set)
+      length-each row (classes_of set)
       ∙ sum_below-same (λ q. length (row q)) (λ q. edges set p q) (classes_of set)
       (λ q below. length-row (λ copy. known (histories (owner_of n q)) (applied (owner_of n q)) p q copy) (copies (predecessors set) p q)
       ∙ copies-edges q below)

@@ -89,7 +89,8 @@ module _ {X : Type 0} where
   IsCounting test g = (k : ℕ) → length (g k) ≡ bit_if (test k)
 
 module _ {X : Type 0} where
-  length-each : (g : ℕ → List X) (n : ℕ) → length (each_below g n) ≡ sum_below (λ k. length (g k)) n
+  -- the lists of each number are as long as the sum of their lengths
+  pub length-each : (g : ℕ → List X) (n : ℕ) → length (each_below g n) ≡ sum_below (λ k. length (g k)) n
   length-each g zero = refl
   length-each g (suc n) = let sum = length-append (each_below g n) (g n) in let more = length-each g n in omega (arith, sum, more)
 

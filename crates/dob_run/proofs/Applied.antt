@@ -7,13 +7,13 @@ use Rattle.std.specs.Prelude.{slice_get, slice_set}
 use Rattle.dob_pieces.specs.declared.piece_set.PieceSet.{PieceSet}
 use Rattle.dob_share.specs.declared.news.Item.{Item}
 use Rattle.dob_update.specs.Batches.{BatchView, items_of_batches}
+use Rattle.dob_update.proofs.BatchItems.{items_in_more}
 use Rattle.dob_node.specs.declared.node.Node.{Node}
 use Rattle.dob_run.specs.declared.hands.Inlet.{Inlet}
 use Rattle.dob_run.specs.Links.{worked}
 use Rattle.dob_run.specs.Knows.{KnowsRight}
 use Rattle.dob_run.specs.Workers.{planned, items_worked, own_applied, applied_from, AreLast}
 use Rattle.dob_run.proofs.Counted.{else_set}
-use Rattle.dob_run.proofs.Planned.{items_in_more}
 
 -- ---- own items
 

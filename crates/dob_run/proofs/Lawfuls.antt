@@ -14,6 +14,7 @@ use Rattle.dob_share.specs.declared.news.Item.{Item}
 use Rattle.dob_share.specs.declared.share.Share.{Share}
 use Rattle.dob_update.specs.Items.{items_of, items_from}
 use Rattle.dob_update.specs.Batches.{BatchView, OutboxView, empty_outbox, items_of_batches}
+use Rattle.dob_update.proofs.BatchItems.{items_in_more}
 use Rattle.dob_node.specs.Stores.{HistoryView}
 use Rattle.dob_node.specs.declared.node.Node.{Node}
 use Rattle.dob_node.specs.Takes.{HasEntries, listed}
@@ -32,7 +33,7 @@ use Rattle.dob_run.proofs.Applied.{own_less, own_more, own_still, applied_here, 
 use Rattle.dob_run.proofs.Knowing.{taken_one, knows_same, taken_all}
 use Rattle.dob_run.proofs.Opened.{knows_opened}
 use Rattle.dob_run.proofs.Keeping.{each_after}
-use Rattle.dob_run.proofs.Planned.{history_grown, last_more, last_less, items_in_more, each_more}
+use Rattle.dob_run.proofs.Planned.{history_grown, last_more, last_less, each_more}
 
 -- ---- the mail alone changed
 

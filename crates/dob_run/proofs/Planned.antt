@@ -1,12 +1,11 @@
 -- How a history goes on with the items taken, the last of a list of items, and lists of batches.
 use Rattle.std.proofs.Common.{◌≡◌, ℕ, zero, suc, ◌-◌, sym, ap, ◌∙◌, subst, arith, append_assoc, List, [], ◌∷◌}
 use Rattle.std.proofs.Common.{◌++◌, length, length-append, length-drop, drop, slice_get, Some}
-use Rattle.std.proofs.lemmas.Grind.{flat_map-append}
 use Rattle.std.proofs.lemmas.List.{append-nil, drop-append-le}
 use Rattle.dob_share.specs.declared.news.Settlement.{Settlement}
 use Rattle.dob_share.specs.declared.news.Item.{Item}
 use Rattle.dob_share.specs.declared.share.Share.{Share}
-use Rattle.dob_update.specs.Batches.{BatchView, items_of_batches}
+use Rattle.dob_update.specs.Batches.{BatchView}
 use Rattle.dob_node.specs.Stores.{HistoryView}
 use Rattle.dob_node.specs.Takes.{AreTaken, listed}
 use Rattle.dob_run.specs.Workers.{AreLast}
@@ -46,10 +45,6 @@ last_less whole item last are =
     ap (λ m. drop m whole) next ∙ drop_next k whole item last are
 
 -- ---- batches
-
-pub items_in_more : (batches : List BatchView) (batch : BatchView) → items_of_batches (batches ++ batch ∷ []) ≡ items_of_batches batches ++ batch.items
-items_in_more batches batch =
-    flat_map-append (λ (b : BatchView). b.items) batches (batch ∷ []) ∙ ap (λ xs. items_of_batches batches ++ xs) (append-nil batch.items)
 
 -- what was said of each batch, and of one more
 pub each_more : (P : BatchView → Type 0) (batches : List BatchView) (batch : BatchView) →

@@ -22,7 +22,7 @@ use Rattle.dob_unmove.specs.declared.undo.Undo.{Undo}
 use Rattle.dob_unmove.specs.Undoes.{choice, earlier, CanUndo}
 use Rattle.dob_unmove.specs.Walks.{TakesAll, undoes}
 use Rattle.dob_unmove.specs.Unmoves.{HasEdges, CountEdges, IsNumbering}
-use Rattle.dob_unmove.specs.Gathers.{IsOpenFirst, Finds, Adds, Gathers}
+use Rattle.dob_unmove.specs.Gathers.{IsOpenRepresentative, Finds, Adds, Gathers}
 use Rattle.dob_unmove.proofs.Undone.{Goes-from_undo, undo_from_Goes, same_undo}
 use Rattle.dob_unmove.proofs.Listed.{undoes_sound, undoes_whole}
 use Rattle.dob_unmove.proofs.Once.{undoes_once}
@@ -104,8 +104,8 @@ module _ (Represents : Setup → ℕ → Type 0) (n : IsNumbering Represents) wh
     module _ (q : Setup) (twelve : length q.board ≡ 12) where
       -- the moves of the ways that lead back to the class's representative
       record Selects (us : List Undo) (ms : List Move) : Type 0 where
-        sound : (m : Move) → Contains ms m → (u : Undo) × Contains us u × (choice u ≡ m) × IsOpenFirst Represents (earlier (turned q) u) class
-        whole : (u : Undo) → Contains us u → IsOpenFirst Represents (earlier (turned q) u) class → Contains ms (choice u)
+        sound : (m : Move) → Contains ms m → (u : Undo) × Contains us u × (choice u ≡ m) × IsOpenRepresentative Represents (earlier (turned q) u) class
+        whole : (u : Undo) → Contains us u → IsOpenRepresentative Represents (earlier (turned q) u) class → Contains ms (choice u)
         once : AllPairs (λ (a b : Move). a ≢ b) ms
 
       selects_none : Selects [] []
@@ -116,12 +116,12 @@ module _ (Represents : Setup → ℕ → Type 0) (n : IsNumbering Represents) wh
       }
 
       -- a way that doesn't lead back there
-      selects_passed : (u : Undo) (us : List Undo) (ms : List Move) → ¬ IsOpenFirst Represents (earlier (turned q) u) class → Selects us ms → Selects (u ∷ us) ms
+      selects_passed : (u : Undo) (us : List Undo) (ms : List Move) → ¬ IsOpenRepresentative Represents (earlier (turned q) u) class → Selects us ms → Selects (u ∷ us) ms
       selects_passed u us ms other s = record {
         sound = λ m h. let w = s.sound m h in (w.0, Contains-append_right (u ∷ []) us w.0 w.1, w.2, w.3);
         whole = λ v h first.
             elim (cons_cases u us v h) [
-              | inl e ↦ absurd (other (subst (λ (x : Undo). IsOpenFirst Represents (earlier (turned q) x) class) (sym e) first))
+              | inl e ↦ absurd (other (subst (λ (x : Undo). IsOpenRepresentative Represents (earlier (turned q) x) class) (sym e) first))
               | inr later ↦ s.whole v later first
             ];
         once = s.once;
@@ -129,7 +129,7 @@ module _ (Represents : Setup → ℕ → Type 0) (n : IsNumbering Represents) wh
 
       -- a way that does
       selects_taken : (u : Undo) (us : List Undo) (ms : List Move) → CanUndo (turned q) u → All (CanUndo (turned q)) us → All (λ (v : Undo). u ≢ v) us
-          → IsOpenFirst Represents (earlier (turned q) u) class → Selects us ms → Selects (u ∷ us) (choice u ∷ ms)
+          → IsOpenRepresentative Represents (earlier (turned q) u) class → Selects us ms → Selects (u ∷ us) (choice u ∷ ms)
       selects_taken u us ms can all_can apart first s = record {
         sound = λ m h.
             elim (cons_cases (choice u) ms m h) [
@@ -162,7 +162,7 @@ module _ (Represents : Setup → ℕ → Type 0) (n : IsNumbering Represents) wh
       select_step u us old new (Some found) can all_can apart is c =
           elim (cases_eq found class) [
             | inl same ↦
-                let first : IsOpenFirst Represents (earlier (turned q) u) class = subst (IsOpenFirst Represents (earlier (turned q) u)) same is in
+                let first : IsOpenRepresentative Represents (earlier (turned q) u) class = subst (IsOpenRepresentative Represents (earlier (turned q) u)) same is in
                 (choice u ∷ c.0, selects_taken u us c.0 can all_can apart first c.1, omega (arith, c.2, count_same old found same))
             | inr other ↦ (
               c.0,
@@ -198,7 +198,7 @@ module _ (Represents : Setup → ℕ → Type 0) (n : IsNumbering Represents) wh
             let w = undo_from_Goes p m q (n.legal p class is_first).squares goes in
             let listed = undoes_whole (turned q) w.0 (length-turned q) w.1.0 in
             let back = sym w.1.2 in
-            let first : IsOpenFirst Represents (earlier (turned q) w.0) class =
+            let first : IsOpenRepresentative Represents (earlier (turned q) w.0) class =
             (subst (λ (x : Setup). Represents x class) back is_first, subst (λ (x : Setup). HasStatus x Open) back can) in
             subst (Contains ms) w.1.1 (s.whole w.0 listed first);
         once = s.once;

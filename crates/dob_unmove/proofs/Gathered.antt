@@ -11,7 +11,7 @@ use Rattle.dob_pieces.proofs.Lists.{head_in}
 use Rattle.dob_pieces.proofs.MaskBits.{IsLeft, without, all_left, next_left, none_left}
 use Rattle.dob_unmove.specs.declared.undo.Undo.{Undo}
 use Rattle.dob_unmove.specs.Undoes.{earlier}
-use Rattle.dob_unmove.specs.Gathers.{IsOpenFirst, Finds, Gathers}
+use Rattle.dob_unmove.specs.Gathers.{IsOpenRepresentative, Finds, Gathers}
 
 pub gathers_none : (Represents : Setup → ℕ → Type 0) (after : Setup) (xs : List ℕ) → Gathers Represents after [] xs xs
 gathers_none Represents after xs = refl
@@ -36,7 +36,7 @@ pub ruleset gathers = (gathers_none, gathers_append, gathers_cons)
 
 -- the way leads back to no open representative
 abbrev pub IsDead : (Setup → ℕ → Type 0) → Setup → Undo → Type 0
-IsDead Represents after u = ¬ ((class : ℕ) × IsOpenFirst Represents (earlier after u) class)
+IsDead Represents after u = ¬ ((class : ℕ) × IsOpenRepresentative Represents (earlier after u) class)
 
 pub gathers_dead : (Represents : Setup → ℕ → Type 0) (after : Setup) (us : List Undo) (xs : List ℕ) → ((u : Undo) → Contains us u → IsDead Represents after u)
     → Gathers Represents after us xs xs

@@ -8,12 +8,12 @@ use Rattle.dob_unmove.specs.declared.undo.Undo.{Undo}
 use Rattle.dob_unmove.specs.Undoes.{earlier}
 
 -- the setup is an open position, and the representative of that class
-abbrev pub IsOpenFirst : (Setup → ℕ → Type 0) → Setup → ℕ → Type 0
-IsOpenFirst Represents p class = Represents p class × HasStatus p Open
+abbrev pub IsOpenRepresentative : (Setup → ℕ → Type 0) → Setup → ℕ → Type 0
+IsOpenRepresentative Represents p class = Represents p class × HasStatus p Open
 
 -- the class of which the setup is the representative, if it is an open position and one
 abbrev pub Finds : (Setup → ℕ → Type 0) → Setup → Option ℕ → Type 0
-Finds Represents p found = MatchOption found (¬ ((class : ℕ) × IsOpenFirst Represents p class)) (IsOpenFirst Represents p)
+Finds Represents p found = MatchOption found (¬ ((class : ℕ) × IsOpenRepresentative Represents p class)) (IsOpenRepresentative Represents p)
 
 -- what taking one way back adds to the list of numbers
 abbrev pub Adds : (Setup → ℕ → Type 0) → Setup → Undo → List ℕ → List ℕ → Type 0

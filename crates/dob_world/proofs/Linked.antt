@@ -1,12 +1,12 @@
 -- Each event leaves a linked world linked.
 use Rattle.std.proofs.Common.{◌≡◌, ◌≢◌, ℕ, ◌+◌, ◌<◌, ◌≤◌, ◌⊎◌, inl, inr, sym, ap, ◌∙◌, arith, append_assoc, List, [], ◌∷◌, ◌++◌, length, take, drop}
-use Rattle.std.proofs.lemmas.Grind.{flat_map-append}
-use Rattle.std.proofs.lemmas.List.{append-nil, length-append, take-append-drop}
+use Rattle.std.proofs.lemmas.List.{length-append, take-append-drop}
 use Rattle.std.proofs.lemmas.Option.{slice_get_within}
 use Rattle.dob_unmove.specs.Edges.{predecessors}
 use Rattle.dob_share.specs.declared.news.Item.{Item}
 use Rattle.dob_update.specs.Items.{items_of, items_from}
 use Rattle.dob_update.specs.Batches.{BatchView, items_of_batches}
+use Rattle.dob_update.proofs.BatchItems.{items_in_more}
 use Rattle.dob_node.proofs.Settles.{told_more, told_grown}
 use Rattle.dob_world.specs.Worlds.{Setting, World, told_in, IsLinked}
 use Rattle.dob_world.specs.Events.{Expands, AppliesOwn, Posts, TakesBatch}
@@ -161,17 +161,13 @@ module _ (k : Setting) (i j : ℕ) (old new : World) (low_i : i < k.n) (low_j : 
           ∙ ap (λ xs. xs ++ drop k.batch (old.outbox i j)) (sym step.sent)
           ∙ ap (λ xs. new.sent i j ++ xs) (sym step.left)
 
-      one_batch : (bs : List BatchView) (b : BatchView) → items_of_batches (bs ++ b ∷ []) ≡ items_of_batches bs ++ b.items
-      one_batch bs b = flat_map-append (λ (c : BatchView). c.items) bs (b ∷ [])
-          ∙ ap (λ xs. items_of_batches bs ++ xs) (append-nil b.items)
-
       taken_here : old.sent i j ≡ old.nodes.applied i j ++ items_of_batches (old.waiting i j) →
           new.sent i j ≡ new.nodes.applied i j ++ items_of_batches (new.waiting i j)
       taken_here before =
           step.sent
           ∙ ap (λ xs. xs ++ step.batch.items) before
           ∙ append_assoc (old.nodes.applied i j) (items_of_batches (old.waiting i j)) step.batch.items
-          ∙ ap (λ xs. old.nodes.applied i j ++ xs) (sym (one_batch (old.waiting i j) step.batch))
+          ∙ ap (λ xs. old.nodes.applied i j ++ xs) (sym (items_in_more (old.waiting i j) step.batch))
           ∙ ap (λ bs. old.nodes.applied i j ++ items_of_batches bs) (sym step.waits)
           ∙ ap (λ xs. xs ++ items_of_batches (new.waiting i j)) (sym (step.nodes.applied i j))
 
