@@ -86,12 +86,12 @@ impl NodeSeat {
     }
 
     /// Counts a batch of the node `from`, another one of the board, if its word says that it posted more than are taken:
-    /// the count and its word rise by one, and the node is black afterwards. A refusal changes nothing but what was seen.
+    /// the count and its word rise by one, and the node is black afterwards. A fault changes nothing but what was seen.
     pub fn take(&mut self, from: usize) -> Result<(), NotPosted>
         requires node { from < self.old.nodes }
         requires other { from ≢ self.old.node }
         ensures ok { OnOk result (TakesOne self.old self.new from) }
-        ensures err { IfErr result (λ refusal. TakesNone self.old self.new from refusal.seen) }
+        ensures err { IfErr result (λ fault. TakesNone self.old self.new from fault.seen) }
         ensures same { IsSameSeat self.old self.new }
     {
         let seen = self.look(from);

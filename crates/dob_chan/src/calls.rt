@@ -64,8 +64,8 @@ impl SendEnd {
                 batch,
                 taker_is_gone: false,
             }),
-            Err(refused) => Err(Full {
-                batch: refused.into_inner(),
+            Err(gone) => Err(Full {
+                batch: gone.into_inner(),
                 taker_is_gone: true,
             }),
         }

@@ -65,9 +65,9 @@ unfolding walk_fault
 helps w word rest e = rw e refl
 
 -- one word is refused
-refuses : (w : Walk) (word : Text) (rest : List Text) → is_usage (turn_fault top names w word) ≡ true → is_usage (kinds_at w (word ∷ rest)) ≡ true
+misused : (w : Walk) (word : Text) (rest : List Text) → is_usage (turn_fault top names w word) ≡ true → is_usage (kinds_at w (word ∷ rest)) ≡ true
 unfolding walk_fault
-refuses w word rest fails =
+misused w word rest fails =
     or_else_usage (or_else (turn_fault top names w word) (walk_fault top names (walked top.rules names w word) rest))
     (ending (fold (walked top.rules names) w (word ∷ rest)))
     (or_else_usage (turn_fault top names w word) (walk_fault top names (walked top.rules names w word) rest) fails)
@@ -229,12 +229,12 @@ other_fits word rest differs = go (bytes_eq (codes "help") word) (is_help_flag w
     go false true b d names_help asks_help text e more =
         helps start word more (help_turn top names [] None 1 word none (no_subcommand word differs names_help) refl knows asks_help)
     go false false true d names_help asks_help text e more =
-        refuses start word more (rw (text_turn top names [] None 1 word (no_subcommand word differs names_help) refl text) refl)
+        misused start word more (rw (text_turn top names [] None 1 word (no_subcommand word differs names_help) refl text) refl)
     go false false false true names_help asks_help text e [] =
         subst (λ w. is_usage (kinds_at start (w ∷ [])) ≡ true) ((bytes_eq-Decides (codes "--") word).0 e) only_dashes
     go false false false true names_help asks_help text e (v ∷ more) =
         subst (λ w. is_usage (kinds_at start (w ∷ v ∷ more)) ≡ true) ((bytes_eq-Decides (codes "--") word).0 e) (dashes_more v more)
-    go false false false false names_help asks_help text e more = refuses start word more
+    go false false false false names_help asks_help text e more = misused start word more
         (other_turn top names [] None 1 word none (no_subcommand word differs names_help) refl knows refl text asks_help (flip_bytes (codes "--") word false e))
 
 -- what the words ask for goes with the kinds of error, and with the subcommand that was met

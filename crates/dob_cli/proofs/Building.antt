@@ -16,7 +16,7 @@ use Rattle.dob_value.specs.Entries.{is_draw}
 use Rattle.dob_value.specs.Follows.{ClassTable, IsValueTable}
 use Rattle.dob_run.specs.declared.finishing.Built.{Built}
 use Rattle.dob_run.specs.Built.{IsBuilt}
-use Rattle.dob_run.specs.Refused.{AreWithin}
+use Rattle.dob_run.specs.Faults.{AreWithin}
 use Rattle.dob_dbfile.specs.declared.fault.Fault as file
 use Rattle.dob_dbfile.specs.declared.fault.Fault.TheVariants as file_fault
 use Rattle.dob_dbfile.specs.Format.{bytes_of}

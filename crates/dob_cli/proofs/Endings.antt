@@ -38,9 +38,9 @@ set_fault_holds text set Memory named holds = tt
 set_fault_holds text set Io named holds = absurd holds
 
 -- a fault, with nothing on standard output
-pub refused : (AreLines : List ℕ → Type 0) (Holds : Fault → Type 0) (fault : Fault) (status : ℕ) (out : State) (err : Change)
+pub faulty : (AreLines : List ℕ → Type 0) (Holds : Fault → Type 0) (fault : Fault) (status : ℕ) (out : State) (err : Change)
     → Holds fault → TellsOneFault fault status err → Answers AreLines Holds (ended status (change out out) err)
-refused AreLines Holds fault status out err holds told = inr (inl (record { fault = fault; holds = holds; told = told; silent = refl }))
+faulty AreLines Holds fault status out err holds told = inr (inl (record { fault = fault; holds = holds; told = told; silent = refl }))
 
 -- want of memory, with nothing on standard output
 pub memory_told : (status : ℕ) (out : State) (err : Change) → TellsOneFault Memory status err → TellsMemory (ended status (change out out) err)

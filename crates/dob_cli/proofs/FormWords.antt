@@ -171,9 +171,9 @@ module _ (f : Form) (is : IsTaken f) where
     misfit_fails given t fresh misfit = rw (known, use_misfit f.numbers long index label t given fresh misfit) refl
 
     -- that, or a second text of one label
-    refused_fails : (given : Given) (t : Text) → (is_some (text_of label given) || not (fits f.numbers label t)) ≡ true
+    unfit_fails : (given : Given) (t : Text) → (is_some (text_of label given) || not (fits f.numbers label t)) ≡ true
         → is_usage (settle_fault rules false (held (rows_of given) (Some (label, t ∷ [])))) ≡ true
-    refused_fails given t e = go (text_of label given) (fits f.numbers label t) refl refl e
+    unfit_fails given t e = go (text_of label given) (fits f.numbers label t) refl refl e
       where
         go : (o : Option Text) (b : Bool) → text_of label given ≡ o → fits f.numbers label t ≡ b → (is_some o || not b) ≡ true
             → is_usage (settle_fault rules false (held (rows_of given) (Some (label, t ∷ [])))) ≡ true
@@ -238,9 +238,9 @@ module _ (f : Form) (is : IsTaken f) where
   helps w word rest e = rw e refl
 
   -- one word is refused
-  refuses : (w : Walk) (word : Text) (rest : List Text) → is_usage (turn_fault s [] w word) ≡ true → is_usage (kinds_at w (word ∷ rest)) ≡ true
+  misused : (w : Walk) (word : Text) (rest : List Text) → is_usage (turn_fault s [] w word) ≡ true → is_usage (kinds_at w (word ∷ rest)) ≡ true
   unfolding walk_fault
-  refuses w word rest fails =
+  misused w word rest fails =
       or_else_usage (or_else (turn_fault s [] w word) (walk_fault s [] (walked rules [] w word) rest)) (ending (fold (walked rules []) w (word ∷ rest)))
       (or_else_usage (turn_fault s [] w word) (walk_fault s [] (walked rules [] w word) rest) fails)
 
@@ -279,7 +279,7 @@ module _ (f : Form) (is : IsTaken f) where
 
     closed_fails : (waiting : Waiting) (words : List Text) → is_usage (kinds_at (behind_at waiting rows pending p) words) ≡ true
     closed_fails waiting [] = ends_failing (behind_at waiting rows pending p) fails
-    closed_fails waiting (u ∷ more) = refuses (behind_at waiting rows pending p) u more stray_fails
+    closed_fails waiting (u ∷ more) = misused (behind_at waiting rows pending p) u more stray_fails
 
     closes : (waiting : Waiting) → walked rules [] (waiting_at waiting rows pending p) (codes "--") ≡ behind_at waiting rows pending p
     unfolding walked
@@ -297,7 +297,7 @@ module _ (f : Form) (is : IsTaken f) where
             (passes usage (waiting_at waiting rows pending p) (behind_at waiting rows pending p) (codes "--") more (passing waiting) (closes waiting)
             (closed_fails waiting more))
         go false d =
-            refuses (waiting_at waiting rows pending p) u more
+            misused (waiting_at waiting rows pending p) u more
             (failing_turn s [] rows pending p waiting u (none_met waiting u) refl fails e (flip_bytes (codes "--") u false d))
 
     failing : (words : List Text) → is_usage (kinds_at (open_at rows pending p) words) ≡ true
@@ -305,7 +305,7 @@ module _ (f : Form) (is : IsTaken f) where
     failing (u ∷ more) = go (is_text u) refl
       where
         go : (b : Bool) → is_text u ≡ b → is_usage (kinds_at (open_at rows pending p) (u ∷ more)) ≡ true
-        go true e = refuses (open_at rows pending p) u more (rw (text_turn s [] rows pending p u refl refl e) stray_fails)
+        go true e = misused (open_at rows pending p) u more (rw (text_turn s [] rows pending p u refl refl e) stray_fails)
         go false e = no_text idle u more e
 
   -- ---- the end
@@ -424,7 +424,7 @@ module _ (f : Form) (is : IsTaken f) where
         ≡ at_walk (settled_rows rules pending rows) (Some (label, word ∷ [])) (next_position (text_arg f.numbers None (Some p) label) p))
         → Stepped (placed f stand given left word) (at_walk rows pending p)
     place_step stand at_walk related failing_on rows pending p given [] good at turn walks =
-        ends_so usage (at_walk rows pending p) (word ∷ rest) rest (refuses (at_walk rows pending p) word rest (rw (turn, at) refl))
+        ends_so usage (at_walk rows pending p) (word ∷ rest) rest (misused (at_walk rows pending p) word rest (rw (turn, at) refl))
     place_step stand at_walk related failing_on rows pending p given (label ∷ left) good at turn walks =
         go (is_some (text_of label given) || not (fits f.numbers label word)) refl
       where
@@ -446,7 +446,7 @@ module _ (f : Form) (is : IsTaken f) where
             (good_kept None (Some p) label at.1 given word e) at.2))
         go true e = ends_so usage (at_walk rows pending p) (word ∷ rest) rest
             (passes usage (at_walk rows pending p) (at_walk (rows_of given) (Some (label, word ∷ [])) next) word rest passing_on there
-            (failing_on (rows_of given) (Some (label, word ∷ [])) next left (refused_fails None (Some p) label at.1 given word e) at.2))
+            (failing_on (rows_of given) (Some (label, word ∷ [])) next left (unfit_fails None (Some p) label at.1 given word e) at.2))
 
     behind_step : (rows : List Row) (pending : Option (Text × List Text)) (p : ℕ) (given : Given) (left : List Text) → Good rows pending given
         → ArePlaced f.numbers rules p left
@@ -481,7 +481,7 @@ module _ (f : Form) (is : IsTaken f) where
 
       unknown_step : is_option (long_name word) ≡ false → is_text word ≡ false → is_dashes word ≡ false → is_help_flag word ≡ false → Stepped (ended usage) here
       unknown_step own no_text no_dashes no_call = ends_so usage here (word ∷ rest) rest
-          (refuses here word rest
+          (misused here word rest
           (other_turn s [] rows pending p word is_option refl refl (knows_help rows pending given good) own no_text no_call
           (flip_bytes (codes "--") word false no_dashes)))
 
@@ -506,7 +506,7 @@ module _ (f : Form) (is : IsTaken f) where
           (text_turn_at s [] (rows_of given) (Some (label, [])) p (waits_for label) v refl refl e)
           (text_taken s [] (rows_of given) (Some (label, [])) p (waits_for label) v refl e ∙ rw (known, same) refl)
           (failing (rows_of given) (Some (label, v ∷ []))
-          (refused_fails name index label known given v (ap (λ (o : Option Text). is_some o || not (fits f.numbers label v)) there)) p left at more)
+          (unfit_fails name index label known given v (ap (λ (o : Option Text). is_some o || not (fits f.numbers label v)) there)) p left at more)
       go false e = no_text (rows_of given) (Some (label, [])) (wanted_fails name index label known (rows_of given)) p left at (waits_for label) v more e
 
   module _ (rest : List Text) (goes : Goes rest) (c : ℕ) (cs : Text) (rows : List Row) (pending : Option (Text × List Text)) (p : ℕ) (given : Given)
@@ -564,7 +564,7 @@ module _ (f : Form) (is : IsTaken f) where
               (rw (e, named, good.rows_are, used_fresh f.numbers (Some o.0) None o.1 after_equals given fresh) refl)
               (goes _ _ (rel_between _ None p (given ++ (o.1, after_equals) ∷ []) left (good_rows (given ++ (o.1, after_equals) ∷ [])) at))
           go None false fresh misfit = ends_so usage from (word ∷ rest) rest
-              (refuses from word rest (rw (
+              (misused from word rest (rw (
                 e,
                 named,
                 good.settles,
@@ -573,7 +573,7 @@ module _ (f : Form) (is : IsTaken f) where
                     (Some o.0) None o.1 after_equals given fresh misfit,
               ) refl))
           go (Some u) b there fit = ends_so usage from (word ∷ rest) rest
-              (refuses from word rest (rw (e, named, good.settles, good.rows_are, use_twice f.numbers (Some o.0) None o.1 after_equals u given there) refl))
+              (misused from word rest (rw (e, named, good.settles, good.rows_are, use_twice f.numbers (Some o.0) None o.1 after_equals u given there) refl))
 
     long_step : is_text word ≡ false → is_dashes word ≡ false → is_help_flag word ≡ false → Led (after_part f given left word (option_part f.options (c ∷ cs)))
     long_step no_text no_dashes no_call = go (found (name_in (c ∷ cs))) has_equals refl refl

@@ -123,7 +123,7 @@ asked_order m name texts r o is asked read =
 pub first_text : (x y : Text) → x ∷ [] ≡ y ∷ [] → x ≡ y
 first_text x y e = ap (λ (ts : List Text). unwrap_or (slice_get ts 0) []) e
 
--- ---- refusals
+-- ---- clap's errors
 
 not_true : (b : Bool) → not b ≡ true → b ≡ false
 not_true true e = absurd (true≢false (sym e))
@@ -147,7 +147,7 @@ abbrev IsUsage : Reading → Type 0
 IsUsage (reading.Usage _) = Unit {0}
 IsUsage _ = ⊥
 
--- a refusal is read as help where its kind says so, and else as usage
+-- an error is read as help where its kind says so, and else as usage
 by_kind : (k : ErrorKind) (r : Reading) → IsReadingOfKind k r → IsHelp r ⊎ ((is_help_kind k ≡ false) × IsUsage r)
 by_kind kind.OutOfMemory r h = absurd h
 by_kind kind.DisplayHelp (reading.Help s) h = inl tt
@@ -185,26 +185,26 @@ usage_read (reading.Help s) h = absurd h
 usage_read (reading.Order o) h = absurd h
 usage_read reading.Version h = absurd h
 
--- a refusal comes to what the words ask for
-pub refusal_is_meant : (m : Meaning) (kinds : Kinds) (met : Option (Text × List Row)) (k : ErrorKind) (r : Reading) → Fits m kinds met
+-- an error comes to what the words ask for
+pub error_is_meant : (m : Meaning) (kinds : Kinds) (met : Option (Text × List Row)) (k : ErrorKind) (r : Reading) → Fits m kinds met
     → (k ≡ kind.OutOfMemory) ⊎ IsAmong k kinds
     → IsReadingOfKind k r → IsReadingOf m r
-refusal_is_meant m kinds met k r fits (inl e) h = absurd (subst (λ x. IsReadingOfKind x r) e h)
-refusal_is_meant (asks name texts) kinds met k r fits (inr among) h = absurd (subst (IsAmong k) fits.0 among)
-refusal_is_meant help kinds met k r fits (inr among) h = elim (subst (IsAmong k) fits among) [
+error_is_meant m kinds met k r fits (inl e) h = absurd (subst (λ x. IsReadingOfKind x r) e h)
+error_is_meant (asks name texts) kinds met k r fits (inr among) h = absurd (subst (IsAmong k) fits.0 among)
+error_is_meant help kinds met k r fits (inr among) h = elim (subst (IsAmong k) fits among) [
   | inl e ↦ help_read r (subst (λ x. IsReadingOfKind x r) e h)
   | inr none ↦ absurd none
 ]
-refusal_is_meant topic kinds met k r fits (inr among) h = topic_read k r h
-refusal_is_meant version kinds met k r fits (inr among) h = absurd fits
-refusal_is_meant usage kinds met k r fits (inr among) h = usage_read r (not_help k r (usage_kind kinds k (usage_list kinds fits) among) h)
+error_is_meant topic kinds met k r fits (inr among) h = topic_read k r h
+error_is_meant version kinds met k r fits (inr among) h = absurd fits
+error_is_meant usage kinds met k r fits (inr among) h = usage_read r (not_help k r (usage_kind kinds k (usage_list kinds fits) among) h)
 
 -- the same of the words
-pub refusal_of_words : (app : App) (words : List Text) (e : Error) → app ≡ dobutsu_app → (is_simple_and_free app ≡ true → HasKind (fault_of app words) e)
+pub error_of_words : (app : App) (words : List Text) (e : Error) → app ≡ dobutsu_app → (is_simple_and_free app ≡ true → HasKind (fault_of app words) e)
     → (r : Reading) → IsReadingOfKind (kind_of e) r → IsReadingOf (meaning_of_command words) r
-refusal_of_words app words e is kinds r h =
+error_of_words app words e is kinds r h =
     let has : HasKind (fault_of dobutsu_app words) e = subst (λ a. HasKind (fault_of a words) e) is (kinds (ap is_simple_and_free is)) in
-    refusal_is_meant (meaning_of_command words) (fault_of dobutsu_app words) _ (kind_of e) r (words_fit words) has h
+    error_is_meant (meaning_of_command words) (fault_of dobutsu_app words) _ (kind_of e) r (words_fit words) has h
 
 -- ---- words that ask for the version
 

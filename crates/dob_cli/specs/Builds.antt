@@ -10,7 +10,7 @@ use Rattle.dob_value.specs.declared.value.Value.TheVariants.{Win, Loss}
 use Rattle.dob_value.specs.Entries.{is_draw}
 use Rattle.dob_value.specs.Follows.{ClassTable, IsValueTable}
 use Rattle.dob_run.specs.declared.limits.TheConstants.{BATCH, CAPACITY}
-use Rattle.dob_run.specs.Refused.{IsRefused}
+use Rattle.dob_run.specs.Faults.{HasFault}
 use Rattle.dob_dbfile.specs.declared.fault.Fault.TheVariants as file_fault
 use Rattle.dob_dbfile.specs.Format.{bytes_of}
 use Rattle.dob_cli.specs.declared.tally.Tally.{Tally}
@@ -84,7 +84,7 @@ IsKeepingFault Old New tells file table _ = ⊥
 abbrev pub IsBuildFault : Files → Files → Bool → List ℕ → ℕ → List ℕ → Fault → Type 0
 IsBuildFault Old New tells text nodes file SetText = ((set : PieceSet) → text ≢ set_text set) × SameFiles Old New
 IsBuildFault Old New tells text nodes file (Run fault) =
-    (set : PieceSet) × (text ≡ set_text set) × IsRefused set nodes BATCH CAPACITY fault × SameFiles Old New
+    (set : PieceSet) × (text ≡ set_text set) × HasFault set nodes BATCH CAPACITY fault × SameFiles Old New
 IsBuildFault Old New tells text nodes file Memory = SameFiles Old New
 IsBuildFault Old New tells text nodes file Io =
     (table : ClassTable) × IsTableFor text nodes table × IsKeepingFault Old New tells file table Io

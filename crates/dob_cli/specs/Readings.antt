@@ -51,7 +51,7 @@ abbrev pub ComesFromLine : List Text → Reading → Type 0
 ComesFromLine words (reading.Order o) = (texts : List Text) × HasTexts texts o × SomeLine words (name_of_order o) texts
 ComesFromLine words _ = Unit {0}
 
--- what a refusal of this kind is read as
+-- what an error of this kind is read as
 abbrev pub IsReadingOfKind : ErrorKind → Reading → Type 0
 IsReadingOfKind kind.OutOfMemory _ = ⊥
 IsReadingOfKind kind.DisplayHelp (reading.Help _) = Unit {0}

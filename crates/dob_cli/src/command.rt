@@ -182,7 +182,7 @@ pub fn read_words<'a>(alloc: Global, words: &'a [&'a str]) -> Result<Reading<'a>
             Some(order) => Ok(Reading::Order(order)),
             None => unreachable!(),
         },
-        Err(error) => read_refusal(alloc, &error),
+        Err(error) => read_error(alloc, &error),
     }
 }
 
@@ -375,7 +375,7 @@ fn order_of<'a>(matches: &ArgMatches<'a>) -> Option<Order<'a>>
 }
 
 // What the words come to where `clap` has no matches for them.
-fn read_refusal<'a>(alloc: Global, error: &Error) -> Result<Reading<'a>, AllocError>
+fn read_error<'a>(alloc: Global, error: &Error) -> Result<Reading<'a>, AllocError>
     ensures { IfOk result (IsReadingOfKind (kind_of error.now)) }
 {
     match error.kind() {

@@ -153,7 +153,7 @@ impl From<OtherSet> for Fault {
 impl From<Memory> for Fault {
     ghost from_gives = { λ _ result. result ≡ fault.Memory };
 
-    fn from(_refused: Memory) -> Fault {
+    fn from(_lower: Memory) -> Fault {
         Fault::Memory
     }
 }
@@ -161,7 +161,7 @@ impl From<Memory> for Fault {
 impl From<AllocError> for Fault {
     ghost from_gives = { λ _ result. result ≡ fault.Memory };
 
-    fn from(_refused: AllocError) -> Fault {
+    fn from(_lower: AllocError) -> Fault {
         Fault::Memory
     }
 }

@@ -202,7 +202,7 @@ pub fn run_given<S: Shelf, O: Sink, E: Sink>(
 ) -> u8
     ensures words { IfOk given (λ args. RanOn (S.has shelf.old) (S.has shelf.new) (S.tells shelf.old) (map string_bytes (drop 1 (into_iter_items args)))
         (ended result (change (O.state out.old) (O.state out.new)) (change (E.state err.old) (E.state err.new)))) }
-    ensures refused { IfErr given (λ error. error_kind error ≡ OutOfMemory → TellsMemory
+    ensures memory { IfErr given (λ error. error_kind error ≡ OutOfMemory → TellsMemory
         (ended result (change (O.state out.old) (O.state out.new)) (change (E.state err.old) (E.state err.new)))) }
     ensures unread { IfErr given (λ error. error_kind error ≢ OutOfMemory → TellsNoText
         (ended result (change (O.state out.old) (O.state out.new)) (change (E.state err.old) (E.state err.new)))) }

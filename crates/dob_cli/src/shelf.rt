@@ -38,7 +38,7 @@ pub trait Shelf {
         ensures empty { IfSome result (λ sink. IsTrue (tells self.old) → (Self.Dst.state sink).received ≡ Some []) }
         ensures made { IfSome result (λ _. IsTrue (tells self.old) → HasJust name.now [] (has self.new)) }
         ensures others { SameOthers name.now (has self.old) (has self.new) }
-        ensures refused { IfNone result (SameFiles (has self.old) (has self.new)) }
+        ensures unchanged { IfNone result (SameFiles (has self.old) (has self.new)) }
         ensures told { tells self.new ≡ tells self.old };
 
     /// Keeps just the sink's bytes under that name, for which `make` gave a sink. Other files keep their bytes.
@@ -70,7 +70,7 @@ impl MemShelf {
         ensures cleared { OnOk result (HasJust name.now [] (λ other bytes. bytes_in self.new.files other ≡ Some bytes)) }
         ensures others { SameOthers name.now (λ other bytes. bytes_in self.old.files other ≡ Some bytes)
             (λ other bytes. bytes_in self.new.files other ≡ Some bytes) }
-        ensures refused { OnErr result (SameFiles (λ other bytes. bytes_in self.old.files other ≡ Some bytes)
+        ensures unchanged { OnErr result (SameFiles (λ other bytes. bytes_in self.old.files other ≡ Some bytes)
             (λ other bytes. bytes_in self.new.files other ≡ Some bytes)) }
     {
         let name = name.to_string(self.alloc)?;

@@ -36,18 +36,18 @@ header_cut stream fault.Trailing cut = absurd cut
 header_cut stream fault.Digest cut = absurd cut
 
 -- a header that is refused
-pub header_refused : (stream : Stream) (given : Fault) → HasHeader stream → (given ≡ fault.Memory) ⊎ HasHeaderFault (header stream) given
+pub header_fault : (stream : Stream) (given : Fault) → HasHeader stream → (given ≡ fault.Memory) ⊎ HasHeaderFault (header stream) given
     → IsFault stream given
-header_refused stream given there (inl none) = inl none
-header_refused stream fault.Magic there (inr wrong) = inr (there, wrong)
-header_refused stream fault.SetByte there (inr wrong) = inr (there, wrong)
-header_refused stream fault.SetTooLarge there (inr wrong) = inr (there, wrong)
-header_refused stream fault.ClassCount there (inr wrong) = inr (there, wrong)
-header_refused stream fault.Truncated there (inr wrong) = absurd wrong
-header_refused stream fault.Trailing there (inr wrong) = absurd wrong
-header_refused stream fault.Digest there (inr wrong) = absurd wrong
-header_refused stream fault.Memory there (inr wrong) = absurd wrong
-header_refused stream (fault.Io count) there (inr wrong) = absurd wrong
+header_fault stream given there (inl none) = inl none
+header_fault stream fault.Magic there (inr wrong) = inr (there, wrong)
+header_fault stream fault.SetByte there (inr wrong) = inr (there, wrong)
+header_fault stream fault.SetTooLarge there (inr wrong) = inr (there, wrong)
+header_fault stream fault.ClassCount there (inr wrong) = inr (there, wrong)
+header_fault stream fault.Truncated there (inr wrong) = absurd wrong
+header_fault stream fault.Trailing there (inr wrong) = absurd wrong
+header_fault stream fault.Digest there (inr wrong) = absurd wrong
+header_fault stream fault.Memory there (inr wrong) = absurd wrong
+header_fault stream (fault.Io count) there (inr wrong) = absurd wrong
 
 -- how long the stream is, by what comes after the header
 rest_len : (stream : Stream) → HasHeader stream → 20 + length (drop 20 stream.bytes) ≡ length stream.bytes
@@ -69,19 +69,19 @@ before_digest : (stream : Stream) (set : PieceSet) → header stream ++ take (2 
 before_digest stream set = sym (take-add 20 (2 * classes_of set) stream.bytes)
 
 -- what is wrong after a header that is right
-pub rest_refused : (stream : Stream) (set : PieceSet) (given : Fault) → IsOfSet set stream
+pub rest_fault : (stream : Stream) (set : PieceSet) (given : Fault) → IsOfSet set stream
     → HasRestFault (header stream) (classes_of set) (after 20 stream) given → IsFault stream given
-rest_refused stream set fault.Trailing is wrong =
+rest_fault stream set fault.Trailing is wrong =
     let len = rest_len stream is.0 in
     inr (set, (is, omega (arith, len, wrong)), λ upto. let le : length stream.bytes ≤ file_len set = upto.1 in omega (arith, len, wrong))
-rest_refused stream set fault.Digest is wrong =
+rest_fault stream set fault.Digest is wrong =
     inr (
       set,
       (no_longer stream set is wrong.0, wrong.1),
       λ right.
           wrong.2 (digest_at stream set ∙ right.1 ∙ ap sha256 (sym (before_digest stream set))),
     )
-rest_refused stream set (fault.Io count) is wrong =
+rest_fault stream set (fault.Io count) is wrong =
     let len = rest_len stream is.0 in
     inr (
       omega (arith, len, wrong.2),
@@ -91,12 +91,12 @@ rest_refused stream set (fault.Io count) is wrong =
         | inr enough ↦ inr (set, no_longer stream set is (omega (arith, wrong.0, enough)))
       ],
     )
-rest_refused stream set fault.Truncated is wrong = inr (cut_short stream set is wrong.0, wrong.1)
-rest_refused stream set fault.Memory is wrong = inl refl
-rest_refused stream set fault.SetTooLarge is wrong = absurd wrong
-rest_refused stream set fault.Magic is wrong = absurd wrong
-rest_refused stream set fault.SetByte is wrong = absurd wrong
-rest_refused stream set fault.ClassCount is wrong = absurd wrong
+rest_fault stream set fault.Truncated is wrong = inr (cut_short stream set is wrong.0, wrong.1)
+rest_fault stream set fault.Memory is wrong = inl refl
+rest_fault stream set fault.SetTooLarge is wrong = absurd wrong
+rest_fault stream set fault.Magic is wrong = absurd wrong
+rest_fault stream set fault.SetByte is wrong = absurd wrong
+rest_fault stream set fault.ClassCount is wrong = absurd wrong
 
 -- the three parts of a header
 header_parts : (set : PieceSet) (front : List ℕ) → CountsClasses set front → front ≡ title ++ set_bytes set ++ count_bytes (classes_of set)

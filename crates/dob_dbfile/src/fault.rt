@@ -55,7 +55,7 @@ impl Error for Fault {}
 impl From<Memory> for Fault {
     ghost from_gives = { λ _ given. given ≡ fault.Memory };
 
-    fn from(_refused: Memory) -> Fault {
+    fn from(_lower: Memory) -> Fault {
         Fault::Memory
     }
 }
@@ -63,7 +63,7 @@ impl From<Memory> for Fault {
 impl From<AllocError> for Fault {
     ghost from_gives = { λ _ given. given ≡ fault.Memory };
 
-    fn from(_refused: AllocError) -> Fault {
+    fn from(_lower: AllocError) -> Fault {
         Fault::Memory
     }
 }
@@ -71,7 +71,7 @@ impl From<AllocError> for Fault {
 impl<T: Drop> From<AllocFailed<T>> for Fault {
     ghost from_gives = { λ _ given. given ≡ fault.Memory };
 
-    fn from(_refused: AllocFailed<T>) -> Fault {
+    fn from(_lower: AllocFailed<T>) -> Fault {
         Fault::Memory
     }
 }
@@ -79,10 +79,10 @@ impl<T: Drop> From<AllocFailed<T>> for Fault {
 impl From<dob_rank::Fault> for Fault {
     ghost use Rattle.dob_dbfile.specs.FaultTexts.{fault_of_rank};
 
-    ghost from_gives = { λ refused given. given ≡ fault_of_rank refused };
+    ghost from_gives = { λ lower given. given ≡ fault_of_rank lower };
 
-    fn from(refused: dob_rank::Fault) -> Fault {
-        match refused {
+    fn from(lower: dob_rank::Fault) -> Fault {
+        match lower {
             dob_rank::Fault::SetTooLarge => Fault::SetTooLarge,
             dob_rank::Fault::Memory => Fault::Memory,
         }

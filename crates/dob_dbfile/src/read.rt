@@ -40,7 +40,7 @@ pub fn read_table<R: Source>(alloc: Global, source: &mut R) -> Result<Table, Fau
     // A table is read only where the source gives just its file and ends.
     ensures read { (stream : Stream) → R.gives source.old stream → IfOk result (λ table. stream ≡ whole (bytes_of table)) }
     // A fault is given only where it is the first that holds.
-    ensures refused { (stream : Stream) → R.gives source.old stream
+    ensures fault { (stream : Stream) → R.gives source.old stream
         → IfErr result (λ given. (given ≡ Fault.Memory) ⊎ HasFault stream given) }
     // Where a fault holds it is given, or memory was refused.
     ensures exact { (stream : Stream) (fault : AnyFault) → R.gives source.old stream → HasFault stream fault
@@ -60,7 +60,7 @@ fn read_file<R: Source>(alloc: Global, source: &mut R) -> Result<Table, Fault>
     requires { R.has_failed source.old ≡ false }
     ensures read { (stream : Stream) → R.gives source.old stream
         → IfOk result (λ table. (stream ≡ whole (bytes_of table)) × HasDigest table.set stream × IsTable table.set table.values) }
-    ensures refused { (stream : Stream) → R.gives source.old stream
+    ensures fault { (stream : Stream) → R.gives source.old stream
         → IfErr result (λ given. (given ≡ Fault.Memory) ⊎ HasFault stream given) }
     ensures memory { (stream : Stream) → R.gives source.old stream → IfErr result (λ given. given ≡ Fault.Memory → NamesClasses stream) }
     ensures failed { R.has_failed source.new ≡ is_io_error result }
@@ -101,7 +101,7 @@ fn fill<R: Source>(source: &mut R, room: &mut [u8], before: usize) -> Result<(),
 fn classes_named(alloc: Global, header: &[u8]) -> Result<Classes, Fault>
     requires { length header.now ≡ 20 }
     ensures named { IfOk result (λ classes. CountsClasses classes.set header.now) }
-    ensures refused { IfErr result (λ fault. (fault ≡ Fault.Memory) ⊎ HasHeaderFault header.now fault) }
+    ensures fault { IfErr result (λ fault. (fault ≡ Fault.Memory) ⊎ HasHeaderFault header.now fault) }
     ensures memory { IfErr result (λ fault. fault ≡ Fault.Memory → (set : AnySet) × NamesSmallSet set header.now) }
 {
     if !is_title(&header[..8]) {
@@ -129,7 +129,7 @@ fn read_codes<R: Source>(
     ensures counted { IfOk result (λ codes. vec_len codes ≡ count) }
     ensures fit { IfOk result (λ codes. All (λ code. code < 65536) codes.items) }
     ensures read { (stream : Stream) → R.gives source.old stream → IfOk result (λ codes. EndsWith header.now codes.items stream) }
-    ensures refused { (stream : Stream) → R.gives source.old stream → IfErr result (HasRestFault header.now count stream) }
+    ensures fault { (stream : Stream) → R.gives source.old stream → IfErr result (HasRestFault header.now count stream) }
     ensures failed { R.has_failed source.new ≡ (R.has_failed source.old || is_io_error result) }
 {
     let mut hasher = Sha256::new();
@@ -143,7 +143,7 @@ fn read_codes<R: Source>(
 fn expect_digest<R: Source>(source: &mut R, hasher: Sha256, before: usize) -> Result<(), Fault>
     requires { before < 2 ^ 63 }
     ensures is { (stream : Stream) (message : List ℕ) → R.gives source.old stream → Holds256 hasher message → OnOk result (IsDigest message stream) }
-    ensures refused { (stream : Stream) (message : List ℕ) → R.gives source.old stream → Holds256 hasher message
+    ensures fault { (stream : Stream) (message : List ℕ) → R.gives source.old stream → Holds256 hasher message
         → IfErr result (HasDigestFault message before stream) }
     ensures failed { R.has_failed source.new ≡ (R.has_failed source.old || is_io_error result) }
 {
@@ -221,7 +221,7 @@ fn read_piece<R: Source>(
 // Finds the source at its end, before which so many bytes have come.
 fn expect_end<R: Source>(source: &mut R, before: usize) -> Result<(), Fault>
     ensures end { (stream : Stream) → R.gives source.old stream → OnOk result (stream ≡ whole []) }
-    ensures refused { (stream : Stream) → R.gives source.old stream → IfErr result (IsNoEnd before stream) }
+    ensures fault { (stream : Stream) → R.gives source.old stream → IfErr result (IsNoEnd before stream) }
     ensures failed { R.has_failed source.new ≡ (R.has_failed source.old || is_io_error result) }
 {
     let mut byte = [0];

@@ -2,17 +2,17 @@
 use Rattle.std.specs.Prelude.{◌≡◌, ℕ, List, [], ◌∷◌, ◌++◌}
 use Rattle.dob_update.specs.Batches.{BatchView}
 
--- what a call of a link came to: a batch was taken in, one was refused, the next was handed out, or there was none
+-- what a call of a link came to: a batch was taken in, one was given back, the next was handed out, or there was none
 pub data Call : Type 0 where
   Taken : BatchView → Call
-  Refused : BatchView → Call
+  GivenBack : BatchView → Call
   Handed : BatchView → Call
   Nothing : Call
 
 -- The batches waiting before such a call and after it: a batch is taken in at the end, the first is handed out.
 abbrev pub Steps : List BatchView → Call → List BatchView → Type 0
 Steps old (Taken batch) new = new ≡ old ++ batch ∷ []
-Steps old (Refused batch) new = new ≡ old
+Steps old (GivenBack batch) new = new ≡ old
 Steps old (Handed batch) new = old ≡ batch ∷ new
 Steps old Nothing new = (old ≡ []) × (new ≡ [])
 
@@ -25,7 +25,7 @@ Runs old (call ∷ calls) new = (between : List BatchView) × Steps old call bet
 abbrev pub taken : List Call → List BatchView
 taken [] = []
 taken (Taken batch ∷ calls) = batch ∷ taken calls
-taken (Refused batch ∷ calls) = taken calls
+taken (GivenBack batch ∷ calls) = taken calls
 taken (Handed batch ∷ calls) = taken calls
 taken (Nothing ∷ calls) = taken calls
 
@@ -33,7 +33,7 @@ taken (Nothing ∷ calls) = taken calls
 abbrev pub handed : List Call → List BatchView
 handed [] = []
 handed (Taken batch ∷ calls) = handed calls
-handed (Refused batch ∷ calls) = handed calls
+handed (GivenBack batch ∷ calls) = handed calls
 handed (Handed batch ∷ calls) = batch ∷ handed calls
 handed (Nothing ∷ calls) = handed calls
 

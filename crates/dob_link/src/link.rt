@@ -1,7 +1,7 @@
 // What every link does.
 ghost use Rattle.std.specs.Prelude.{◌≡◌, ◌<◌, ◌≤◌, ℕ, List, length, OnOk, OnErr, IfErr, IfSome, IfNone};
 ghost use Rattle.dob_update.specs.Batches.{BatchView};
-ghost use Rattle.dob_link.specs.Links.{Taken, Refused, Handed, Nothing, Steps};
+ghost use Rattle.dob_link.specs.Links.{Taken, GivenBack, Handed, Nothing, Steps};
 
 use dob_update::Batch;
 
@@ -23,7 +23,7 @@ pub trait Link {
     /// back and nothing is changed.
     fn offer(&mut self, batch: Batch) -> Result<(), Full>
         ensures ok { OnOk result (Steps (waiting self.old) (Taken batch) (waiting self.new)) }
-        ensures full { IfErr result (λ full. (full.batch ≡ batch) × Steps (waiting self.old) (Refused batch) (waiting self.new)) }
+        ensures full { IfErr result (λ full. (full.batch ≡ batch) × Steps (waiting self.old) (GivenBack batch) (waiting self.new)) }
         ensures full_only_at_capacity { OnErr result (capacity self.old ≤ length (waiting self.old)) }
         ensures ok_only_below_it { OnOk result (length (waiting self.old) < capacity self.old) }
         ensures capacity { capacity self.new ≡ capacity self.old };

@@ -61,10 +61,10 @@ module _ (set : PieceSet) (n : ℕ) (histories : ℕ → List Settlement) (appli
     nothing_to_send = λ i j low_i low_j.
         ap (λ h. items_from (predecessors set) n j h) (sym (take_all (length (histories i)) (histories i) (omega arith)));
     nothing_waits = all;
-    values = λ p class first.
-        let below = representative_below set p class first in
+    values = λ p class represents.
+        let below = representative_below set p class represents in
         let given = some_opening set openings class are below in
-        let same = class_setup_only set p class (classes_of set) (HasClasses-classes_of set) below first.0 first.1 in (
+        let same = class_setup_only set p class (classes_of set) (HasClasses-classes_of set) below represents.0 represents.1 in (
           given.0.status,
           subst (λ s. HasStatus s given.0.status) (sym same) given.1.status,
           open_follows class below given.0.status given.1.status,

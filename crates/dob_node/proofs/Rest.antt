@@ -93,10 +93,10 @@ module _ (set : PieceSet) (targets : ℕ → List ℕ) (n : ℕ) (histories : �
   -- a class with an edge is that of a successor
   successor : (p : Setup) (a : ℕ) → RepresentsIn set p a → (q : ℕ) (u : Value) → q < classes_of set → 0 < copies targets a q → u ≡ value q →
       HasSuccessor Has p u
-  successor p a first q u below above same =
+  successor p a represents q u below above same =
       let rep = class_setup set q in
       let is : RepresentsIn set rep q = class_setup_is set q (classes_of set) (HasClasses-classes_of set) below in
-      let edge = (are_targets rep q is).counts.edges p a first in
+      let edge = (are_targets rep q is).counts.edges p a represents in
       let move = some_of edge.moves (copies targets a q) edge.counted above in
       let leads = edge.sound move.0 move.1 in
       let o = leads.1.0 in (
@@ -105,7 +105,7 @@ module _ (set : PieceSet) (targets : ℕ → List ℕ) (n : ℕ) (histories : �
         leads.1.1,
         record {
           class = q;
-          number = record { position = moves_keep_the_set set p move.0 o first.0.0 leads.0 leads.1.1; first = rep; representative = (turn rep o is.0.0 leads.1.2, is.0.1); before = is.1 };
+          number = record { position = moves_keep_the_set set p move.0 o represents.0.0 leads.0 leads.1.1; representative = rep; stands = (turn rep o is.0.0 leads.1.2, is.0.1); before = is.1 };
           entry = gathered.each q below ∙ ap Some (sym same);
         },
       )
@@ -119,26 +119,26 @@ module _ (set : PieceSet) (targets : ℕ → List ℕ) (n : ℕ) (histories : �
   -- what a copy knows is the value of a successor
   heard : (p : Setup) (a : ℕ) → RepresentsIn set p a → (u : Value) → Contains (knows a) u → HasSuccessor Has p u
   unfolding all_known
-  heard p a first u there =
+  heard p a represents u there =
       let at = from_each_below (λ (q : ℕ). each_below (λ (copy : ℕ). copy_of a q copy ∷ []) (copies targets a q)) (classes_of set) u there in
       let q = at.0 in
       let row = from_each_below (λ (copy : ℕ). copy_of a q copy ∷ []) (copies targets a q) u at.2 in
       let is : copy_of a q row.0 ≡ u = only_one (copy_of a q row.0) u row.2 in
       let below : row.0 < copies targets a q = row.1 in
-      successor p a first q u at.1 (omega arith) (sym is ∙ copy_knows a q row.0 below)
+      successor p a represents q u at.1 (omega arith) (sym is ∙ copy_knows a q row.0 below)
 
   -- and the value of each successor is known to a copy
   told : (p : Setup) (a : ℕ) → RepresentsIn set p a → HasStatus p Open → (move : Move) (o : Setup) → Goes p move o → (u : Value) → Has o u →
       Contains (knows a) u
   unfolding all_known
-  told p a first goes_on move o goes u has =
+  told p a represents goes_on move o goes u has =
       let q = has.class in
       let there = value_there q u has.entry in
-      let rep = has.number.first in
-      let position = moves_keep_the_set set p move o first.0.0 goes_on goes in
-      let is_rep = representative_is set o rep position has.number.representative in
-      let edge = (are_targets rep q (is_rep, has.number.before)).counts.edges p a first in
-      let leads : LeadsInto p rep move = (goes_on, (o, goes, turn rep o is_rep.0 position has.number.representative.0)) in
+      let rep = has.number.representative in
+      let position = moves_keep_the_set set p move o represents.0.0 goes_on goes in
+      let is_rep = representative_is set o rep position has.number.stands in
+      let edge = (are_targets rep q (is_rep, has.number.before)).counts.edges p a represents in
+      let leads : LeadsInto p rep move = (goes_on, (o, goes, turn rep o is_rep.0 position has.number.stands.0)) in
       let above : 0 < copies targets a q = none_of edge.moves (copies targets a q) move edge.counted (edge.whole move leads) in
       in_each_below (λ (q : ℕ). each_below (λ (copy : ℕ). copy_of a q copy ∷ []) (copies targets a q)) (classes_of set) q u there.0
       (in_each_below (λ (copy : ℕ). copy_of a q copy ∷ []) (copies targets a q) 0 u above
@@ -152,36 +152,36 @@ module _ (set : PieceSet) (targets : ℕ → List ℕ) (n : ℕ) (histories : �
 
   follows_known : (p : Setup) (a : ℕ) → RepresentsIn set p a → HasStatus p Open → (v : Value) → FollowsFromKnown (knows a) v →
       FollowsFromSuccessors Has p v
-  follows_known p a first goes_on (Win plies) follows = (
+  follows_known p a represents goes_on (Win plies) follows = (
     follows.0,
     follows.1,
-    heard p a first (Loss follows.0) follows.2,
-    λ other next. follows.3 other (told p a first goes_on next.0 next.1 next.2 (Loss other) next.3),
+    heard p a represents (Loss follows.0) follows.2,
+    λ other next. follows.3 other (told p a represents goes_on next.0 next.1 next.2 (Loss other) next.3),
   )
-  follows_known p a first goes_on (Loss plies) follows = (
+  follows_known p a represents goes_on (Loss plies) follows = (
     follows.0,
     follows.1,
-    heard p a first (Win follows.0) follows.2,
-    λ other next. follows.3 other (told p a first goes_on next.0 next.1 next.2 (Win other) next.3),
+    heard p a represents (Win follows.0) follows.2,
+    λ other next. follows.3 other (told p a represents goes_on next.0 next.1 next.2 (Win other) next.3),
     λ move o goes.
-        let entry = has_entry set values o classes (moves_keep_the_set set p move o first.0.0 goes_on goes) in
-        let win = follows.4 entry.0 (told p a first goes_on move o goes entry.0 entry.1) in
+        let entry = has_entry set values o classes (moves_keep_the_set set p move o represents.0.0 goes_on goes) in
+        let win = follows.4 entry.0 (told p a represents goes_on move o goes entry.0 entry.1) in
         (win.0, subst (Has o) win.1 entry.1),
   )
-  follows_known p a first goes_on Draw follows = (
-    λ plies next. follows.0 plies (told p a first goes_on next.0 next.1 next.2 (Loss plies) next.3),
+  follows_known p a represents goes_on Draw follows = (
+    λ plies next. follows.0 plies (told p a represents goes_on next.0 next.1 next.2 (Loss plies) next.3),
     λ wins. follows.1 (λ u there.
-        let next = heard p a first u there in
+        let next = heard p a represents u there in
         let win = wins next.0 next.1 next.2 in
-        (win.0, one_entry set values next.1 u (Win win.0) (moves_keep_the_set set p next.0 next.1 first.0.0 goes_on next.2) next.3 win.1)),
+        (win.0, one_entry set values next.1 u (Win win.0) (moves_keep_the_set set p next.0 next.1 represents.0.0 goes_on next.2) next.3 win.1)),
   )
 
   at_status : (p : Setup) (a : ℕ) → RepresentsIn set p a → (status : Status) → HasStatus p status → (v : Value) →
       FollowsAtStatus status (knows a) v → FollowsAt Has p status v
-  at_status p a first Caught is v follows = follows
-  at_status p a first Tried is v follows = follows
-  at_status p a first Stuck is v follows = follows
-  at_status p a first Open is v follows = follows_known p a first is v follows
+  at_status p a represents Caught is v follows = follows
+  at_status p a represents Tried is v follows = follows
+  at_status p a represents Stuck is v follows = follows
+  at_status p a represents Open is v follows = follows_known p a represents is v follows
 
   consistent : IsConsistent set values
   consistent = record {

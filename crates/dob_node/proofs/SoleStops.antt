@@ -20,7 +20,7 @@ use Rattle.dob_node.specs.declared.node.Node.{Node}
 use Rattle.dob_node.specs.Causes.{IsFaultOf}
 use Rattle.dob_node.specs.Histories.{value_of}
 use Rattle.dob_node.specs.Lawful.{IsNextItem, CanApply}
-use Rattle.dob_node.specs.Nodes.{outbox_to, HasRefused, IsIdle}
+use Rattle.dob_node.specs.Nodes.{outbox_to, HasItemFault, IsIdle}
 use Rattle.dob_node.specs.Sole.{sole_history, sole_applied, sole_items, cells_below, HasMade, IsDone, IsTooDeepWithin, HasStopped}
 use Rattle.dob_node.proofs.Soles.{cell_below, one_owner}
 use Rattle.dob_node.proofs.SoleSteps.{all_items}
@@ -56,14 +56,14 @@ module _ (node : Node) (steps : ℕ) (made : HasMade steps node) (item : Item) (
     subst (λ c. Takes item.was item.now c) (cell_below (classes_of node.set) node.share item.to can.below) can.takes,
   )
 
-pub stopped_sole : (node : Node) (steps limit : ℕ) (why : Cause) → HasMade steps node → steps < limit → HasRefused node why → HasStopped node.set limit why
-stopped_sole node steps limit cause.TooDeep made low refused =
-    record { node = node; of = refl; steps = steps; few = low; made = made; refused = refused }
-stopped_sole node steps limit (cause.Contradiction class) made low refused =
-    refused.refused.1 (next_fits node steps made refused.item refused.behind refused.first)
-stopped_sole node steps limit cause.Memory made low refused = tt
-stopped_sole node steps limit cause.Held made low refused = refused.refused
-stopped_sole node steps limit cause.Counts made low refused = refused.refused
+pub stopped_sole : (node : Node) (steps limit : ℕ) (why : Cause) → HasMade steps node → steps < limit → HasItemFault node why → HasStopped node.set limit why
+stopped_sole node steps limit cause.TooDeep made low fault =
+    record { node = node; of = refl; steps = steps; few = low; made = made; fault = fault }
+stopped_sole node steps limit (cause.Contradiction class) made low fault =
+    fault.reason.1 (next_fits node steps made fault.item fault.behind fault.first)
+stopped_sole node steps limit cause.Memory made low fault = tt
+stopped_sole node steps limit cause.Held made low fault = fault.reason
+stopped_sole node steps limit cause.Counts made low fault = fault.reason
 
 -- ---- why there is no table
 

@@ -47,8 +47,8 @@ open_class set p q below above =
     let same : there.0 ≡ p = eqb-true there.0 p there.2 in
     let known = All-contains (λ (class : ℕ). (s : Setup) × RepresentsIn set s class) (predecessors set q) there.0 are.counts.known there.1 in
     let low : p < classes_of set = subst (λ k. k < classes_of set) same (representative_below set known.0 there.0 known.1) in
-    let first : RepresentsIn set (class_setup set p) p = class_setup_is set p (classes_of set) (HasClasses-classes_of set) low in
-    let edge = are.counts.edges (class_setup set p) p first in
+    let represents : RepresentsIn set (class_setup set p) p = class_setup_is set p (classes_of set) (HasClasses-classes_of set) low in
+    let edge = are.counts.edges (class_setup set p) p represents in
     let move = some_of edge.moves (copies (predecessors set) p q) edge.counted above in
     (low, (edge.sound move.0 move.1).0)
 

@@ -37,7 +37,7 @@ taken_next items k default share mid after history longer grown low before taken
 
 pub stops_there : (items : List Item) (k : ℕ) (default : Item) (share mid : Share) (history longer : HistoryView) (why : Cause) → k < length items →
     AreTaken (take k items) share mid history longer → IsReason (get_or items k default) mid why → StopsAt items share history why
-stops_there items k default share mid history longer why low before refused = record {
+stops_there items k default share mid history longer why low before reason = record {
   front = take k items;
   item = get_or items k default;
   behind = drop (k + 1) items;
@@ -45,21 +45,21 @@ stops_there items k default share mid history longer why low before refused = re
   after = mid;
   grown = longer;
   taken = before;
-  refused = refused;
+  reason = reason;
 }
 
--- where the refused item changes nothing, just those before it are taken
+-- where the item that can't be taken changes nothing, just those before it are taken
 pub taken_before : (items : List Item) (k : ℕ) (default : Item) (share mid after : Share) (history longer grown : HistoryView) (why : Cause) →
     k < length items → AreTaken (take k items) share mid history longer → (after ≡ mid) × (grown ≡ longer) → IsReason (get_or items k default) mid why →
     AreTakenBefore items share after history grown why
-taken_before items k default share mid after history longer grown why low before same refused = record {
+taken_before items k default share mid after history longer grown why low before same reason = record {
   front = take k items;
   item = get_or items k default;
   behind = drop (k + 1) items;
   items_are = sym (take-append-drop k items) ∙ ap (λ xs. take k items ++ xs) (rw add-one (drop-cons items k default low));
   taken = subst (λ (s : Share). AreTaken (take k items) share s history grown) (sym same.0)
       (subst (λ (h : HistoryView). AreTaken (take k items) share mid history h) (sym same.1) before);
-  refused = subst (λ (s : Share). IsReason (get_or items k default) s why) (sym same.0) refused;
+  reason = subst (λ (s : Share). IsReason (get_or items k default) s why) (sym same.0) reason;
 }
 
 -- what holds of an error holds of it where it is handed on

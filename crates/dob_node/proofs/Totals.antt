@@ -104,14 +104,14 @@ module _ (set : PieceSet) (p : ℕ) (low : p < classes_of set) where
   abbrev setup : Setup
   setup = class_setup set p
 
-  is_first : RepresentsIn set setup p
-  is_first = class_setup_is set p (classes_of set) (HasClasses-classes_of set) low
+  represents : RepresentsIn set setup p
+  represents = class_setup_is set p (classes_of set) (HasClasses-classes_of set) low
 
   lead_within : All (λ (m : Move). class_number set (turned (moved setup m)) < classes_of set) (moves_of setup)
   lead_within = λ k d below.
-      let are = AreMoves-moves_of setup is_first.0.0.legal.squares in
+      let are = AreMoves-moves_of setup represents.0.0.legal.squares in
       let is = are.sound _ (All-contains_itself (moves_of setup) k d below) in
-      class_number-below set _ (moves_keep_the_set set setup _ _ is_first.0.0 is.0 (Goes-moved setup _ is.1))
+      class_number-below set _ (moves_keep_the_set set setup _ _ represents.0.0 is.0 (Goes-moved setup _ is.1))
 
   edges-all : sum_below (λ q. edges set p q) (classes_of set) ≡ length (moves_of setup)
   unfolding edges
@@ -138,7 +138,7 @@ module _ (set : PieceSet) (p : ℕ) (low : p < classes_of set) where
   pub some_known : (n : ℕ) (histories : ℕ → List Settlement) (applied : ℕ → List Item) → HasStatus setup Open →
       0 < length (all_known (predecessors set) (classes_of set) n histories applied p)
   some_known n histories applied is_open =
-      let are = AreMoves-moves_of setup is_first.0.0.legal.squares in
+      let are = AreMoves-moves_of setup represents.0.0.legal.squares in
       let there = are.whole is_open.2.0 is_open is_open.2.1 in
       let below : there.0 < length (moves_of setup) = there.1 in
       let whole = length-all_known n histories applied in

@@ -66,12 +66,12 @@ pub record HasApplied (old new : Node) : Type 0 where
   pub same : (new.set ≡ old.set) × (new.id ≡ old.id) × (new.n ≡ old.n) × (new.expanded ≡ old.expanded)
   pub outboxes : new.outboxes.items ≡ old.outboxes.items
 
--- the first of the own items is refused
-pub record HasRefused (node : Node) (why : Cause) : Type 0 where
+-- the first of the own items can't be applied
+pub record HasItemFault (node : Node) (why : Cause) : Type 0 where
   pub item : Item
   pub behind : List Item
   pub first : node.own.items ≡ item ∷ behind
-  pub refused : IsReason item node.share why
+  pub reason : IsReason item node.share why
 
 -- The items are applied, in order.
 pub record HasTaken (items : List Item) (old new : Node) : Type 0 where
@@ -80,14 +80,14 @@ pub record HasTaken (items : List Item) (old new : Node) : Type 0 where
   pub own : new.own.items ≡ old.own.items
   pub outboxes : new.outboxes.items ≡ old.outboxes.items
 
--- Those of the items before one that is refused are applied, in order, and nothing else has changed.
+-- Those of the items before one that can't be are applied, in order, and nothing else has changed.
 pub record HasTakenBefore (items : List Item) (old new : Node) (why : Cause) : Type 0 where
   pub front : List Item
   pub item : Item
   pub behind : List Item
   pub items_are : items ≡ front ++ item ∷ behind
   pub taken : HasTaken front old new
-  pub refused : IsReason item new.share why
+  pub reason : IsReason item new.share why
 
 -- The batch, which is from the node to that other one, is cut from the outbox for it.
 pub record HasCut (to size : ℕ) (batch : BatchView) (old new : Node) : Type 0 where

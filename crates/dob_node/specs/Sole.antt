@@ -18,7 +18,7 @@ use Rattle.dob_node.specs.Lawful.{IsLawful}
 use Rattle.dob_node.specs.declared.cause.Cause.{Cause}
 use Rattle.dob_node.specs.declared.cause.Cause.TheVariants.{TooDeep, Contradiction, Memory, Held, Counts}
 use Rattle.dob_node.specs.declared.node.Node.{Node}
-use Rattle.dob_node.specs.Nodes.{IsSound, IsOpened, IsExpanded, HasApplied, HasRefused}
+use Rattle.dob_node.specs.Nodes.{IsSound, IsOpened, IsExpanded, HasApplied, HasItemFault}
 
 -- the history of the one node, which is node 0
 abbrev pub sole_history : List Settlement → ℕ → List Settlement
@@ -94,7 +94,7 @@ pub record IsTooDeepWithin (set : PieceSet) (limit : ℕ) : Type 0 where
   pub steps : ℕ
   pub few : steps < limit
   pub made : HasMade steps node
-  pub refused : HasRefused node TooDeep
+  pub fault : HasItemFault node TooDeep
 
 -- Why the one node has stopped before that many steps: never that an item doesn't fit.
 abbrev pub HasStopped : PieceSet → ℕ → Cause → Type 0

@@ -65,7 +65,7 @@ IsReason item share Memory = Unit {0}
 IsReason item share Held = ⊥
 IsReason item share Counts = ⊥
 
--- Those before one of the items are taken, and it is refused.
+-- Those before one of the items are taken, and it can't be.
 pub record StopsAt (items : List Item) (share : Share) (history : HistoryView) (why : Cause) : Type 0 where
   pub front : List Item
   pub item : Item
@@ -74,13 +74,13 @@ pub record StopsAt (items : List Item) (share : Share) (history : HistoryView) (
   pub after : Share
   pub grown : HistoryView
   pub taken : AreTaken front share after history grown
-  pub refused : IsReason item after why
+  pub reason : IsReason item after why
 
--- The share and the history are those after the items before one of them, and it is refused.
+-- The share and the history are those after the items before one of them, which can't be taken.
 pub record AreTakenBefore (items : List Item) (share after : Share) (history grown : HistoryView) (why : Cause) : Type 0 where
   pub front : List Item
   pub item : Item
   pub behind : List Item
   pub items_are : items ≡ front ++ item ∷ behind
   pub taken : AreTaken front share after history grown
-  pub refused : IsReason item after why
+  pub reason : IsReason item after why

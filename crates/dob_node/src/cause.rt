@@ -75,7 +75,7 @@ impl Error for Fault {}
 impl From<Memory> for Cause {
     ghost from_gives = { λ _ given. given ≡ cause.Memory };
 
-    fn from(_refused: Memory) -> Cause {
+    fn from(_lower: Memory) -> Cause {
         Cause::Memory
     }
 }
@@ -83,16 +83,16 @@ impl From<Memory> for Cause {
 impl From<AllocError> for Cause {
     ghost from_gives = { λ _ given. given ≡ cause.Memory };
 
-    fn from(_refused: AllocError) -> Cause {
+    fn from(_lower: AllocError) -> Cause {
         Cause::Memory
     }
 }
 
 impl From<dob_share::Fault> for Cause {
-    ghost from_gives = { λ refused given. given ≡ cause_of_share refused };
+    ghost from_gives = { λ lower given. given ≡ cause_of_share lower };
 
-    fn from(refused: dob_share::Fault) -> Cause {
-        match refused {
+    fn from(lower: dob_share::Fault) -> Cause {
+        match lower {
             dob_share::Fault::TooDeep => Cause::TooDeep,
             dob_share::Fault::Contradiction(class) => Cause::Contradiction(class),
         }
@@ -102,7 +102,7 @@ impl From<dob_share::Fault> for Cause {
 impl From<Memory> for Fault {
     ghost from_gives = { λ _ given. given ≡ fault.Memory };
 
-    fn from(_refused: Memory) -> Fault {
+    fn from(_lower: Memory) -> Fault {
         Fault::Memory
     }
 }
@@ -110,16 +110,16 @@ impl From<Memory> for Fault {
 impl<T: Drop> From<AllocFailed<T>> for Fault {
     ghost from_gives = { λ _ given. given ≡ fault.Memory };
 
-    fn from(_refused: AllocFailed<T>) -> Fault {
+    fn from(_lower: AllocFailed<T>) -> Fault {
         Fault::Memory
     }
 }
 
 impl From<dob_rank::Fault> for Fault {
-    ghost from_gives = { λ refused given. given ≡ fault_of_rank refused };
+    ghost from_gives = { λ lower given. given ≡ fault_of_rank lower };
 
-    fn from(refused: dob_rank::Fault) -> Fault {
-        match refused {
+    fn from(lower: dob_rank::Fault) -> Fault {
+        match lower {
             dob_rank::Fault::SetTooLarge => Fault::SetTooLarge,
             dob_rank::Fault::Memory => Fault::Memory,
         }

@@ -117,7 +117,7 @@ impl History {
         ensures contradiction { result ≢ Err cause.Memory → (result ≡ Err (cause.Contradiction item.to)) ↔ (¬ Fits share.old item) }
         ensures too_deep { result ≢ Err cause.Memory → (result ≡ Err cause.TooDeep) ↔ (Fits share.old item × GoesTooDeep share.old item) }
         ensures why { IfErr result (λ why. IsReason item share.old why) }
-        ensures refused { OnErr result ((share.new ≡ share.old) × (self.new ≡ self.old)) }
+        ensures unchanged { OnErr result ((share.new ≡ share.old) × (self.new ≡ self.old)) }
         ensures taken { OnOk result (IsTaken item share.old share.new self.old self.new) }
         ensures kept { OnOk result ((set : Set) → AreKept set share.old.n share.old.id share.old self.old → AreKept set share.old.n share.old.id share.new self.new) }
     {

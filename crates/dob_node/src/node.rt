@@ -54,7 +54,7 @@ pub struct Part {
 
 impl Node {
     ghost use Rattle.dob_node.specs.Openings.{AreOpenings};
-    ghost use Rattle.dob_node.specs.Nodes.{outbox_to, IsSound, IsOpened, IsExpanded, HasApplied, HasRefused, HasTaken};
+    ghost use Rattle.dob_node.specs.Nodes.{outbox_to, IsSound, IsOpened, IsExpanded, HasApplied, HasItemFault, HasTaken};
     ghost use Rattle.dob_node.specs.Nodes.{HasTakenBefore, HasCut, IsUnchanged, IsIdle, AreValuesNow};
     ghost use Rattle.dob_share.specs.Shares.{IsOwn, HasValueNow};
 
@@ -107,7 +107,7 @@ impl Node {
         ensures nothing { result ≡ Ok false → self.new ≡ self.old }
         ensures expanded { result ≡ Ok true → IsExpanded self.old self.new }
         ensures memory { IfErr result (λ why. why ≡ cause.Memory) }
-        ensures refused { OnErr result (IsUnchanged self.old self.new) }
+        ensures unchanged { OnErr result (IsUnchanged self.old self.new) }
         ensures sound { IsSound self.new }
     {
         if self.expanded == self.history.len() {
@@ -148,8 +148,8 @@ impl Node {
         ensures done { (result ≡ Ok false) ↔ (self.old.own.items ≡ []) }
         ensures nothing { result ≡ Ok false → self.new ≡ self.old }
         ensures applied { result ≡ Ok true → HasApplied self.old self.new }
-        ensures stopped { IfErr result (λ why. HasRefused self.old why) }
-        ensures refused { OnErr result (IsUnchanged self.old self.new) }
+        ensures stopped { IfErr result (λ why. HasItemFault self.old why) }
+        ensures unchanged { OnErr result (IsUnchanged self.old self.new) }
         ensures sound { OnOk result (IsSound self.new) }
     {
         if self.own.is_empty() {
@@ -195,7 +195,7 @@ impl Node {
         ensures cut { IfOk result (λ given. IfSome given (λ batch. HasCut to size batch self.old self.new)) }
         ensures counts { (result ≡ Err cause.Counts) ↔ (((outbox_to self.old to).items ≢ []) × (2 ^ 40 ≤ (outbox_to self.old to).next)) }
         ensures why { IfErr result (λ why. (why ≡ cause.Counts) ⊎ (why ≡ cause.Memory)) }
-        ensures refused { OnErr result (IsUnchanged self.old self.new) }
+        ensures unchanged { OnErr result (IsUnchanged self.old self.new) }
         ensures sound { IsSound self.new }
     {
         if self.outboxes[to].is_empty() {

@@ -43,7 +43,7 @@ pub(crate) fn add_for_others(
 ) -> Result<(), Memory>
     requires addressed { let n = length outboxes.old.items in (set : Set) × (targets.now ≡ predecessors set settlement.class) × ((to : ℕ) → IsOutboxTo set n from to (outbox_in set n from outboxes.old.items to)) }
     ensures added { let n = length outboxes.old.items in OnOk result (AreAdded targets.now settlement n from n outboxes.old.items outboxes.new.items) }
-    ensures refused { OnErr result (outboxes.new.items ≡ outboxes.old.items) }
+    ensures unchanged { OnErr result (outboxes.new.items ≡ outboxes.old.items) }
 {
     let n = outboxes.len();
     for to in 0..n {
@@ -71,7 +71,7 @@ fn add_to(
     requires there { to < vec_len outboxes.old }
     requires items { (default : OutboxView) → let outbox = slice_index_or outboxes.old.items to default in items_of (λ _. targets.now) (vec_len outboxes.old) to settlement ≡ items_of (predecessors outbox.set) outbox.n outbox.to settlement }
     ensures added { OnOk result ((default : OutboxView) → outboxes.new.items ≡ slice_set outboxes.old.items to (added (slice_index_or outboxes.old.items to default) settlement (items_of (λ _. targets.now) (vec_len outboxes.old) to settlement))) }
-    ensures refused { OnErr result (outboxes.new.items ≡ outboxes.old.items) }
+    ensures unchanged { OnErr result (outboxes.new.items ≡ outboxes.old.items) }
 {
     items.clear();
     push_items(items, settlement, targets, outboxes.len(), to)?;

@@ -21,13 +21,13 @@ impl fmt::Display for Memory {
 impl Error for Memory {}
 
 impl From<AllocError> for Memory {
-    fn from(_refused: AllocError) -> Memory {
+    fn from(_lower: AllocError) -> Memory {
         Memory
     }
 }
 
 impl<T: Drop> From<AllocFailed<T>> for Memory {
-    fn from(_refused: AllocFailed<T>) -> Memory {
+    fn from(_lower: AllocFailed<T>) -> Memory {
         Memory
     }
 }

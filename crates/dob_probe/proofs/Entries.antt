@@ -1,12 +1,11 @@
 -- Entries of a table: each is one of a position's class, and a position has one.
 use Rattle.std.proofs.Common.{◌≡◌, ℕ, inl, inr, sym, subst, ◌∙◌, List, Some, None, All, slice_get}
 use Rattle.std.proofs.lemmas.Option.{slice_get_cases, same_Some}
-use Rattle.dob_pieces.specs.declared.piece_set.PieceSet.{PieceSet}
 use Rattle.dob_pieces.specs.declared.setup.Setup.{Setup}
-use Rattle.dob_rank.specs.Order.{IsPositionOf, IsRepresentative, Before, HasClass, IsInClass}
+use Rattle.dob_rank.specs.Order.{IsPositionOf}
 use Rattle.dob_value.specs.declared.value.Value.{Value}
 use Rattle.dob_value.specs.Follows.{ClassTable, IsEntry, IsTable}
-use Rattle.dob_value.proofs.ClassNumbers.{one_count, same_representative, one_entry}
+use Rattle.dob_value.proofs.ClassNumbers.{one_entry}
 use Rattle.dob_probe.specs.Lines.{GivenBy}
 
 -- an entry that was read has the property of all
@@ -24,11 +23,3 @@ module _ (table : ClassTable) where
 
   pub one_given : (p : Setup) (v w : Value) → IsPositionOf table.set p → GivenBy table p v → GivenBy table p w → v ≡ w
   one_given p v w is a b = one_entry table.set table.values p v w is a b
-
--- a position is of one class
-pub one_class : (set : PieceSet) (p : Setup) (class other : ℕ) → IsPositionOf set p → IsInClass set p class → IsInClass set p other →
-    class ≡ other
-one_class set p class other is a b =
-    let same_first : b.first ≡ a.first = same_representative set p b.first a.first is b.representative a.representative in
-    one_count (λ q. IsRepresentative set q × Before q a.first) class other a.before
-    (subst (λ q. HasClass set q other) same_first b.before)

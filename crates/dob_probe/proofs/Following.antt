@@ -137,20 +137,20 @@ module _ (table : ClassTable) (p : Setup) (is : IsPositionOf table.set p) where
 
 -- ---- what is found of one class
 
-module _ (table : ClassTable) (class : ℕ) (first : Setup) (v : Value) (has : HasEntry table class first v) (found : Value)
-    (follows : Follows (GivenBy table) first found) where
+module _ (table : ClassTable) (class : ℕ) (representative : Setup) (v : Value) (has : HasEntry table class representative v) (found : Value)
+    (follows : Follows (GivenBy table) representative found) where
   pub class_follows : found ≡ v → ClassFollows table class
   class_follows same other w entry =
-      let same_first = one_of_class table.set first other class has.represents entry.represents has.number entry.number in
+      let same_representative = one_of_class table.set representative other class has.represents entry.represents has.number entry.number in
       let same_value = same_Some v w (sym has.entry ∙ entry.entry) in
-      subst (λ q. Follows (GivenBy table) q w) same_first (subst (Follows (GivenBy table) first) (same ∙ same_value) follows)
+      subst (λ q. Follows (GivenBy table) q w) same_representative (subst (Follows (GivenBy table) representative) (same ∙ same_value) follows)
 
   pub class_breaks : ¬ (found ≡ v) → ClassBreaks table class
   class_breaks apart = record {
-    first = first;
+    representative = representative;
     value = v;
     has = has;
-    breaks = λ follows_too. apart (one_follows table first has.represents.0 found v follows follows_too);
+    breaks = λ follows_too. apart (one_follows table representative has.represents.0 found v follows follows_too);
   }
 
 -- ---- all classes
@@ -159,9 +159,9 @@ pub consistent_of_all : (table : ClassTable) → IsTable table.set table.values 
     ((class : ℕ) → class < length table.values → ClassFollows table class) → IsConsistent table.set table.values
 consistent_of_all table whole all = record {
   table = whole;
-  follows = λ first class v represents number entry.
+  follows = λ representative class v represents number entry.
       let within : class < length table.values = within_of table.values class v entry in
-      all class within first v (record { represents = represents; number = number; entry = entry });
+      all class within representative v (record { represents = represents; number = number; entry = entry });
 }
   where
     within_of : (xs : List Value) (k : ℕ) (x : Value) → slice_get xs k ≡ Some x → k < length xs
@@ -172,4 +172,4 @@ consistent_of_all table whole all = record {
 
 pub consistent_has_no_break : (table : ClassTable) (class : ℕ) → IsConsistent table.set table.values → ¬ ClassBreaks table class
 consistent_has_no_break table class consistent breaks =
-    breaks.breaks (consistent.follows breaks.first class breaks.value breaks.has.represents breaks.has.number breaks.has.entry)
+    breaks.breaks (consistent.follows breaks.representative class breaks.value breaks.has.represents breaks.has.number breaks.has.entry)

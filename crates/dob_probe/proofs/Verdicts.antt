@@ -61,20 +61,20 @@ module _ (table : ClassTable) where
       (first_fault (from + 1) count verdicts answers are.1 told.1)
 
   module _ (whole : IsTable table.set table.values) where
-    pub none_refused : IsFirstFault 0 (length table.values) None → IsConsistent table.set table.values
-    none_refused all = consistent_of_all table whole (λ class within. all class (omega arith) (omega arith))
+    pub none_broken : IsFirstFault 0 (length table.values) None → IsConsistent table.set table.values
+    none_broken all = consistent_of_all table whole (λ class within. all class (omega arith) (omega arith))
 
     -- what a fault says of the table
-    pub refused : (verdict : Verdict) → IsFirstFault 0 (length table.values) (Some verdict) → IfErr verdict (IsFaultOfCheck table)
-    refused (Ok _) first = tt
-    refused (Err OtherSet) first = first.2
-    refused (Err (Inconsistent class)) first =
+    pub fault_holds : (verdict : Verdict) → IsFirstFault 0 (length table.values) (Some verdict) → IfErr verdict (IsFaultOfCheck table)
+    fault_holds (Ok _) first = tt
+    fault_holds (Err OtherSet) first = first.2
+    fault_holds (Err (Inconsistent class)) first =
         let same : class ≡ first.0 = first.2.0 in record {
           within = let below : first.0 < 0 + length table.values = first.1 in omega arith;
           breaks = subst (ClassBreaks table) (sym same) first.2.1;
           before = λ other below. first.4 other (omega arith) (omega arith);
         }
-    refused (Err Memory) first = tt
+    fault_holds (Err Memory) first = tt
 
     pub fault_not_ok : (verdict : Verdict) → is_err verdict ≡ true → IfOk verdict (λ _. IsConsistent table.set table.values)
     fault_not_ok (Ok _) is = absurd (cc)
@@ -91,7 +91,7 @@ module _ (table : ClassTable) where
   pub consistent_answered : IsTable table.set table.values → (found : Option Verdict) (result : Verdict) → result ≡ unwrap_or found (Ok tt) →
       IsFirstFault 0 (length table.values) found → IfOk result (λ _. IsConsistent table.set table.values)
   consistent_answered whole None result is first =
-      subst (λ (v : Verdict). IfOk v (λ _. IsConsistent table.set table.values)) (sym is) (none_refused whole first)
+      subst (λ (v : Verdict). IfOk v (λ _. IsConsistent table.set table.values)) (sym is) (none_broken whole first)
   consistent_answered whole (Some verdict) result is first =
       subst (λ (v : Verdict). IfOk v (λ _. IsConsistent table.set table.values)) (sym is) (fault_not_ok whole verdict first.3)
 
@@ -99,7 +99,7 @@ module _ (table : ClassTable) where
       IsFirstFault 0 (length table.values) found → IfErr result (IsFaultOfCheck table)
   fault_answered whole None result is first = subst (λ (v : Verdict). IfErr v (IsFaultOfCheck table)) (sym is) tt
   fault_answered whole (Some verdict) result is first =
-      subst (λ (v : Verdict). IfErr v (IsFaultOfCheck table)) (sym is) (refused whole verdict first)
+      subst (λ (v : Verdict). IfErr v (IsFaultOfCheck table)) (sym is) (fault_holds whole verdict first)
 
   pub right_answered : (verdict : Verdict) → IfOk verdict (λ _. IsConsistent table.set table.values) →
       IfOk verdict (λ _. IsValueTable table.set table.values)

@@ -9,6 +9,7 @@ use Rattle.dob_moves.specs.Moves.{Goes, place}
 use Rattle.dob_moves.specs.Statuses.{CanCatch, AreMoves, IsFirstCatch}
 use Rattle.dob_moves.proofs.Outcomes.{Goes-is}
 use Rattle.dob_rank.specs.Order.{IsPositionOf, IsInClass}
+use Rattle.dob_rank.proofs.Representatives.{one_class}
 use Rattle.dob_value.specs.declared.value.Value.{Value}
 use Rattle.dob_value.specs.declared.value.Value.TheVariants.{Win, Loss, Draw}
 use Rattle.dob_value.specs.Follows.{ClassTable, IsEntry}
@@ -19,7 +20,7 @@ use Rattle.dob_probe.specs.declared.fault.Fault.TheVariants.{OtherSet, Inconsist
 use Rattle.dob_probe.specs.Faults.{IsGap, IsFaultOfLine}
 use Rattle.dob_probe.specs.Lines.{GivenBy, value_wanted, LeadsTo, IsFirstTo, EndsAt, GoesOnTo, Continues, IsLine, Begins, LacksMove, BreaksAt}
 use Rattle.dob_probe.specs.Laws.{LinesDontBreak, OneBreak}
-use Rattle.dob_probe.proofs.Entries.{one_given, one_class}
+use Rattle.dob_probe.proofs.Entries.{one_given}
 
 -- ---- one move more, and the rest of the line after a beginning
 
@@ -174,7 +175,7 @@ lines_dont_break table p moves class is line breaks =
 pub one_break : OneBreak
 one_break table p class other is a b =
     let end = one_end table a.0 b.0 p a.1 b.1 is a.2 b.2 a.4 b.4 in
-    one_class table.set a.1 class other end.1 a.3 (subst (λ s. IsInClass table.set s other) (sym end.0) b.3)
+    one_class table.set a.1 class other a.3 (subst (λ s. IsInClass table.set s other) (sym end.0) b.3)
 
 -- ---- the line as far as it has come
 

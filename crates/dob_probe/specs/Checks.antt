@@ -7,21 +7,21 @@ use Rattle.dob_value.specs.Follows.{ClassTable, Follows}
 use Rattle.dob_probe.specs.Lines.{GivenBy}
 
 -- the setup represents the class of that number, and this is the class's entry
-pub record HasEntry (table : ClassTable) (class : ℕ) (first : Setup) (v : Value) : Type 0 where
-  pub represents : IsRepresentative table.set first
-  pub number : HasClass table.set first class
+pub record HasEntry (table : ClassTable) (class : ℕ) (representative : Setup) (v : Value) : Type 0 where
+  pub represents : IsRepresentative table.set representative
+  pub number : HasClass table.set representative class
   pub entry : slice_get table.values class ≡ Some v
 
 -- the class's entry follows from its status and its successors' values
 abbrev pub ClassFollows : ClassTable → ℕ → Type 0
-ClassFollows table class = (first : Setup) (v : Value) → HasEntry table class first v → Follows (GivenBy table) first v
+ClassFollows table class = (representative : Setup) (v : Value) → HasEntry table class representative v → Follows (GivenBy table) representative v
 
 -- it doesn't
 pub record ClassBreaks (table : ClassTable) (class : ℕ) : Type 0 where
-  pub first : Setup
+  pub representative : Setup
   pub value : Value
-  pub has : HasEntry table class first value
-  pub breaks : ¬ Follows (GivenBy table) first value
+  pub has : HasEntry table class representative value
+  pub breaks : ¬ Follows (GivenBy table) representative value
 
 -- the least class whose entry doesn't follow
 pub record IsFirstBroken (table : ClassTable) (class : ℕ) : Type 0 where

@@ -22,7 +22,7 @@ pub fn check(rt: &(impl Threads + Sync), alloc: Global, table: &Table) -> Result
     ensures fault { IfErr result (IsFaultOfCheck table.now) }
     ensures passed { IsConsistent table.now.set table.now.values → (result ≡ Ok tt) ⊎ (result ≡ Err Fault.Memory) }
 {
-    let refused = (0..table.classes().class_count())
+    let first_fault = (0..table.classes().class_count())
         .into_par_iter()
         .map_init(
             || -> Vec<Move> { Vec::new(alloc) },
@@ -37,7 +37,7 @@ pub fn check(rt: &(impl Threads + Sync), alloc: Global, table: &Table) -> Result
                 ensures { result ≡ is_err verdict.now }
             { verdict.is_err() },
         );
-    refused.unwrap_or(Ok(()))
+    first_fault.unwrap_or(Ok(()))
 }
 
 // Whether the class's value follows. Moves are listed in the room.

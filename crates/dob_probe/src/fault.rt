@@ -53,7 +53,7 @@ impl Error for Fault {}
 impl From<OtherSet> for Fault {
     ghost from_gives = { λ _ given. given ≡ fault.OtherSet };
 
-    fn from(_refused: OtherSet) -> Fault {
+    fn from(_lower: OtherSet) -> Fault {
         Fault::OtherSet
     }
 }
@@ -61,7 +61,7 @@ impl From<OtherSet> for Fault {
 impl From<Memory> for Fault {
     ghost from_gives = { λ _ given. given ≡ fault.Memory };
 
-    fn from(_refused: Memory) -> Fault {
+    fn from(_lower: Memory) -> Fault {
         Fault::Memory
     }
 }
@@ -69,7 +69,7 @@ impl From<Memory> for Fault {
 impl From<AllocError> for Fault {
     ghost from_gives = { λ _ given. given ≡ fault.Memory };
 
-    fn from(_refused: AllocError) -> Fault {
+    fn from(_lower: AllocError) -> Fault {
         Fault::Memory
     }
 }
@@ -77,7 +77,7 @@ impl From<AllocError> for Fault {
 impl<T: Drop> From<AllocFailed<T>> for Fault {
     ghost from_gives = { λ _ given. given ≡ fault.Memory };
 
-    fn from(_refused: AllocFailed<T>) -> Fault {
+    fn from(_lower: AllocFailed<T>) -> Fault {
         Fault::Memory
     }
 }

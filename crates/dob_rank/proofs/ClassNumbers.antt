@@ -52,12 +52,12 @@ first_low set s p le b = (let up : rank_of set (mirrored s) < rank_of set s
     = rank_of-rises set (mirrored s) s (IsPositionOf-mirrored set s p) p b in omega arith)
 
 -- the position of the lower rank
-pub record IsEarlier (set : PieceSet) (s first : Setup) : Type 0 where
-  pub representative : RepresentativeOf s first
-  pub position : IsPositionOf set first
-  pub rank_is : min (rank_of set s) (rank_of set (mirrored s)) ≡ rank_of set first
+pub record IsEarlier (set : PieceSet) (s representative : Setup) : Type 0 where
+  pub stands : RepresentativeOf s representative
+  pub position : IsPositionOf set representative
+  pub rank_is : min (rank_of set s) (rank_of set (mirrored s)) ≡ rank_of set representative
 
-pub earlier : (set : PieceSet) (s : Setup) → IsPositionOf set s → (first : Setup) × IsEarlier set s first
+pub earlier : (set : PieceSet) (s : Setup) → IsPositionOf set s → (representative : Setup) × IsEarlier set s representative
 earlier set s p =
     let image : IsPositionOf set (mirrored s) = IsPositionOf-mirrored set s p in
     let back : mirrored (mirrored s) ≡ s = mirrored-mirrored s p.legal.squares in
@@ -65,12 +65,12 @@ earlier set s p =
       | inl lt ↦ (let le : rank_of set (mirrored s) ≤ rank_of set s = omega arith in (
         mirrored s,
         record {
-          representative = (inr refl, first_low set (mirrored s) image (subst (λ (x : Setup). rank_of set (mirrored s) ≤ rank_of set x) (sym back) le));
+          stands = (inr refl, first_low set (mirrored s) image (subst (λ (x : Setup). rank_of set (mirrored s) ≤ rank_of set x) (sym back) le));
           position = image;
           rank_is = min-eq_right le;
         },
       ))
-      | inr ge ↦ (s, record { representative = (inl refl, first_low set s p ge); position = p; rank_is = min-eq_left ge })
+      | inr ge ↦ (s, record { stands = (inl refl, first_low set s p ge); position = p; rank_is = min-eq_left ge })
     ]
 
 -- a representative's rank is marked
@@ -84,8 +84,8 @@ IsInClass-class_number set s p =
     let e = earlier set s p in
     record {
       position = p;
-      first = e.0;
-      representative = e.1.representative;
+      representative = e.0;
+      stands = e.1.stands;
       before = subst (HasClass set e.0) (sym (class_number-is set s ∙ ap (marks_below (marked set)) e.1.rank_is)) (HasClass-marked set e.0 e.1.position);
     }
 
@@ -94,7 +94,7 @@ unfolding classes_of
 class_number-below set s p =
     let e = earlier set s p in
     subst (λ (x : ℕ). x < marks_below (marked set) (size_of set)) (sym (class_number-is set s ∙ ap (marks_below (marked set)) e.1.rank_is))
-    (marks_below-rises (marked set) (rank_of set e.0) (size_of set) (representative-marked set e.0 (e.1.position, e.1.representative.1))
+    (marks_below-rises (marked set) (rank_of set e.0) (size_of set) (representative-marked set e.0 (e.1.position, e.1.stands.1))
     (rank_of-below set e.0 e.1.position))
 
 -- one number: one position, or a position and its mirror image
@@ -105,17 +105,17 @@ class_once set s t p q e =
     let marks : marks_below (marked set) (rank_of set a.0) ≡ marks_below (marked set) (rank_of set b.0)
     = sym (class_number-is set s ∙ ap (marks_below (marked set)) a.1.rank_is) ∙ e ∙ class_number-is set t ∙ ap (marks_below (marked set)) b.1.rank_is in
     let ranks : rank_of set a.0 ≡ rank_of set b.0
-    = marks_below-same (marked set) (rank_of set a.0) (rank_of set b.0) (representative-marked set a.0 (a.1.position, a.1.representative.1))
-    (representative-marked set b.0 (b.1.position, b.1.representative.1)) marks in
+    = marks_below-same (marked set) (rank_of set a.0) (rank_of set b.0) (representative-marked set a.0 (a.1.position, a.1.stands.1))
+    (representative-marked set b.0 (b.1.position, b.1.stands.1)) marks in
     let same : a.0 ≡ b.0 = rank_of-same set a.0 b.0 a.1.position b.1.position ranks in
     let back_s : mirrored (mirrored s) ≡ s = mirrored-mirrored s p.legal.squares in
     let back_t : mirrored (mirrored t) ≡ t = mirrored-mirrored t q.legal.squares in
-    elim a.1.representative.0 [
-      | inl x ↦ elim b.1.representative.0 [
+    elim a.1.stands.0 [
+      | inl x ↦ elim b.1.stands.0 [
         | inl y ↦ inl (sym x ∙ same ∙ y)
         | inr y ↦ inr (sym x ∙ same ∙ y)
       ]
-      | inr x ↦ elim b.1.representative.0 [
+      | inr x ↦ elim b.1.stands.0 [
         | inl y ↦ inr (sym back_s ∙ ap mirrored (sym x ∙ same ∙ y))
         | inr y ↦ inl (sym back_s ∙ ap mirrored (sym x ∙ same ∙ y) ∙ back_t)
       ]

@@ -38,7 +38,7 @@ rank_of_first set p is first = elim (cases_lt (rank_of set (mirrored p)) (rank_o
 ]
 
 -- each position of a set has a representative
-pub has_representative : (set : PieceSet) (p : Setup) → IsPositionOf set p → (first : Setup) × RepresentativeOf p first
+pub has_representative : (set : PieceSet) (p : Setup) → IsPositionOf set p → (representative : Setup) × RepresentativeOf p representative
 has_representative set p is =
     let image = IsPositionOf-mirrored set p is in
     let back = mirrored-mirrored p is.legal.squares in
@@ -55,8 +55,9 @@ has_representative set p is =
     ]
 
 -- which is a representative of the set
-pub representative_is : (set : PieceSet) (p first : Setup) → IsPositionOf set p → RepresentativeOf p first → IsRepresentative set first
-representative_is set p first is represents = elim represents.0 [
+pub representative_is : (set : PieceSet) (p representative : Setup) → IsPositionOf set p → RepresentativeOf p representative →
+    IsRepresentative set representative
+representative_is set p representative is represents = elim represents.0 [
   | inl same ↦ (subst (IsPositionOf set) (sym same) is, represents.1)
   | inr image ↦ (subst (IsPositionOf set) (sym image) (IsPositionOf-mirrored set p is), represents.1)
 ]
@@ -100,11 +101,11 @@ represents_itself set p is = (inl refl, is.1)
 -- ---- class numbers
 
 -- a representative's class number is below the number of classes
-pub class_within : (set : PieceSet) (first : Setup) (class classes : ℕ) → IsRepresentative set first → HasClass set first class →
+pub class_within : (set : PieceSet) (representative : Setup) (class classes : ℕ) → IsRepresentative set representative → HasClass set representative class →
     HasClasses set classes → class < classes
-class_within set first class classes is number all =
-    fewer (λ (q : Setup). IsRepresentative set q × Before q first) (IsRepresentative set) class classes first number all
-    (λ q earlier. earlier.0) is (λ earlier. not_before_itself first earlier.1)
+class_within set representative class classes is number all =
+    fewer (λ (q : Setup). IsRepresentative set q × Before q representative) (IsRepresentative set) class classes representative number all
+    (λ q earlier. earlier.0) is (λ earlier. not_before_itself representative earlier.1)
 
 -- later representatives have greater class numbers
 pub class_rises : (set : PieceSet) (p q : Setup) (m n : ℕ) → IsRepresentative set p → IsRepresentative set q → HasClass set p m → HasClass set q n →
@@ -141,8 +142,8 @@ one_number set p q a b at_p at_q same =
 -- a position has one class number
 pub one_class : (set : PieceSet) (p : Setup) (a b : ℕ) → IsInClass set p a → IsInClass set p b → a ≡ b
 one_class set p a b at_a at_b =
-    one_number set at_a.first at_b.first a b at_a.before at_b.before
-    (same_representative set p at_b.first at_a.first at_a.position at_b.representative at_a.representative)
+    one_number set at_a.representative at_b.representative a b at_a.before at_b.before
+    (same_representative set p at_b.representative at_a.representative at_a.position at_b.stands at_a.stands)
 
 pub one_representative : (set : PieceSet) (p q : Setup) (class : ℕ) → RepresentsIn set p class → RepresentsIn set q class → p ≡ q
 one_representative set p q class at_p at_q = one_of_class set p q class at_p.0 at_q.0 at_p.1 at_q.1
@@ -225,8 +226,8 @@ class_setup_is set class classes all below =
     )
 
 -- and no other
-pub class_setup_only : (set : PieceSet) (first : Setup) (class classes : ℕ) → HasClasses set classes → class < classes →
-    IsRepresentative set first → HasClass set first class → first ≡ class_setup set class
-class_setup_only set first class classes all below is number =
+pub class_setup_only : (set : PieceSet) (representative : Setup) (class classes : ℕ) → HasClasses set classes → class < classes →
+    IsRepresentative set representative → HasClass set representative class → representative ≡ class_setup set class
+class_setup_only set representative class classes all below is number =
     let there = class_setup_is set class classes all below in
-    one_of_class set first (class_setup set class) class is there.0 number there.1
+    one_of_class set representative (class_setup set class) class is there.0 number there.1

@@ -104,7 +104,7 @@ IsFirstOfTwo setup = Before (mirrored setup) setup → ⊥
 
 -- one of a setup and its mirror image
 abbrev pub IsEither : Setup → Setup → Type 0
-IsEither first setup = (setup ≡ first) ⊎ (setup ≡ mirrored first)
+IsEither setup other = (other ≡ setup) ⊎ (other ≡ mirrored setup)
 
 -- a representative of its class: a position of the set that is no later than its mirror image
 abbrev pub IsRepresentative : PieceSet → Setup → Type 0
@@ -112,7 +112,7 @@ IsRepresentative set setup = IsPositionOf set setup × IsFirstOfTwo setup
 
 -- the setup is the earlier of another one and its mirror image
 abbrev pub RepresentativeOf : Setup → Setup → Type 0
-RepresentativeOf setup first = IsEither setup first × IsFirstOfTwo first
+RepresentativeOf setup representative = IsEither setup representative × IsFirstOfTwo representative
 
 -- the piece set has so many classes
 abbrev pub HasClasses : PieceSet → ℕ → Type 0
@@ -129,6 +129,6 @@ RepresentsIn set setup number = IsRepresentative set setup × HasClass set setup
 -- the position of the set is in the class of that number: so many representatives stand before its own
 pub record IsInClass (set : PieceSet) (setup : Setup) (number : ℕ) : Type 0 where
   pub position : IsPositionOf set setup
-  pub first : Setup
-  pub representative : RepresentativeOf setup first
-  pub before : HasClass set first number
+  pub representative : Setup
+  pub stands : RepresentativeOf setup representative
+  pub before : HasClass set representative number

@@ -34,7 +34,7 @@ impl Error for Fault {}
 impl From<AllocError> for Fault {
     ghost from_gives = { λ _ given. given ≡ fault.Memory };
 
-    fn from(_refused: AllocError) -> Fault {
+    fn from(_lower: AllocError) -> Fault {
         Fault::Memory
     }
 }
@@ -42,7 +42,7 @@ impl From<AllocError> for Fault {
 impl From<Memory> for Fault {
     ghost from_gives = { λ _ given. given ≡ fault.Memory };
 
-    fn from(_refused: Memory) -> Fault {
+    fn from(_lower: Memory) -> Fault {
         Fault::Memory
     }
 }
@@ -50,7 +50,7 @@ impl From<Memory> for Fault {
 impl<T: Drop> From<AllocFailed<T>> for Fault {
     ghost from_gives = { λ _ given. given ≡ fault.Memory };
 
-    fn from(_refused: AllocFailed<T>) -> Fault {
+    fn from(_lower: AllocFailed<T>) -> Fault {
         Fault::Memory
     }
 }

@@ -17,7 +17,7 @@ use Rattle.dob_run.specs.Built.{IsBuilt}
 use Rattle.dob_run.specs.Closing.{IsCrew}
 use Rattle.dob_run.specs.Finishing.{HaveStopped, IsFailureOf}
 use Rattle.dob_run.specs.Manned.{mail_of}
-use Rattle.dob_run.specs.Refused.{AreWithin, IsRefused}
+use Rattle.dob_run.specs.Faults.{AreWithin, HasFault}
 use Rattle.dob_run.specs.Runners.{KeepsRunner}
 use Rattle.dob_run.specs.Turned.{IsTurned, AreUnfailed, IsFirstFailed, HasLeft, StopsSo}
 use Rattle.dob_run.specs.Turns.{Ends, HasRun}
@@ -39,19 +39,19 @@ module _ (until : Until) (set : PieceSet) (n size capacity : ℕ) (board : Board
   is_within (Err why) = tt
 
   -- a runner that has failed is one of the crew
-  refused_by : (node : ℕ) (why : Cause) (runner : Runner) → slice_get ended node ≡ Some runner → IsRefused set n size capacity (Stopped node why)
-  refused_by node why runner at =
+  fault_by : (node : ℕ) (why : Cause) (runner : Runner) → slice_get ended node ≡ Some runner → HasFault set n size capacity (Stopped node why)
+  fault_by node why runner at =
       let low : node < n = omega (arith, crew_low board ended still_crew node runner at, ran.opened.nodes) in
       (ran.small, ran.within, low)
 
   -- ---- where it was closed after some turns
 
-  pub first_refused : (fault : Fault) → IsFirstFailed ended fault → IsRefused set n size capacity fault
-  first_refused (Stopped node why) first = refused_by node why first.0 first.1
-  first_refused SetTooLarge first = absurd first
-  first_refused Nodes first = absurd first
-  first_refused Sizes first = absurd first
-  first_refused Memory first = absurd first
+  pub first_fault : (fault : Fault) → IsFirstFailed ended fault → HasFault set n size capacity fault
+  first_fault (Stopped node why) first = fault_by node why first.0 first.1
+  first_fault SetTooLarge first = absurd first
+  first_fault Nodes first = absurd first
+  first_fault Sizes first = absurd first
+  first_fault Memory first = absurd first
 
   pub first_stops : (fault : Fault) → IsFirstFailed ended fault → StopsSo IsFirstFailed set n size capacity fault
   first_stops fault first = stops_so IsFirstFailed set n size capacity board ran.old ended fault ran.opened kept first
@@ -78,16 +78,16 @@ module _ (set : PieceSet) (n size capacity : ℕ) (board : Board) (ended : List 
   is_built (Ok built) is = subst (λ (k : ℕ). IsBuilt set k size built) ran.opened.nodes (is set size have_stopped)
   is_built (Err why) is = tt
 
-  refused_for : (fault : Fault) → IsFailureOf ended fault → IsRefused set n size capacity fault
-  refused_for (Stopped node why) failure = refused_by until.Stopped set n size capacity board ended ran node why failure.runner failure.at
-  refused_for Memory failure = (ran.small, ran.within)
-  refused_for SetTooLarge failure = absurd failure
-  refused_for Nodes failure = absurd failure
-  refused_for Sizes failure = absurd failure
+  fault_for : (fault : Fault) → IsFailureOf ended fault → HasFault set n size capacity fault
+  fault_for (Stopped node why) failure = fault_by until.Stopped set n size capacity board ended ran node why failure.runner failure.at
+  fault_for Memory failure = (ran.small, ran.within)
+  fault_for SetTooLarge failure = absurd failure
+  fault_for Nodes failure = absurd failure
+  fault_for Sizes failure = absurd failure
 
-  pub is_refused : (result : Result Built Fault) → IfErr result (IsFailureOf ended) → IfErr result (IsRefused set n size capacity)
-  is_refused (Ok built) failure = tt
-  is_refused (Err fault) failure = refused_for fault failure
+  pub has_fault : (result : Result Built Fault) → IfErr result (IsFailureOf ended) → IfErr result (HasFault set n size capacity)
+  has_fault (Ok built) failure = tt
+  has_fault (Err fault) failure = fault_for fault failure
 
   pub is_stopped : (result : Result Built Fault) → IfErr result (IsFailureOf ended) → IfErr result (StopsSo IsFailureOf set n size capacity)
   is_stopped (Ok built) failure = tt

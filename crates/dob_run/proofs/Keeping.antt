@@ -153,7 +153,7 @@ failed_first why halt unended still = elim still [ inl none ↦ absurd (some_cau
 
 -- an item is refused for no gate
 pub reason_unheld : (item : Item) (share : Share) (why : Cause) → IsReason item share why → why ≢ Held
-reason_unheld item share why refused held = subst (IsReason item share) held refused
+reason_unheld item share why reason held = subst (IsReason item share) held reason
 
 -- ---- runners
 

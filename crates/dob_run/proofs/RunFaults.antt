@@ -12,7 +12,7 @@ use Rattle.dob_run.specs.declared.fault.Fault.TheVariants.{SetTooLarge, Nodes, S
 use Rattle.dob_run.specs.declared.runner.Runner.{Runner}
 use Rattle.dob_run.specs.Manned.{IsNewCrew}
 use Rattle.dob_run.specs.Runners.{KeepsRunner}
-use Rattle.dob_run.specs.Refused.{IsOutside, IsNoCrew, IsNotBegun, IsRefused}
+use Rattle.dob_run.specs.Faults.{HasSizeFault, HasCrewFault, HasStartFault, HasFault}
 use Rattle.dob_run.specs.Turned.{StopsSo}
 
 -- what is so of a failure is so of an answer that hands it on
@@ -22,7 +22,7 @@ handed_on P result why is has =
     subst (λ s. IfErr s P) (sym given.1) (subst P (sym given.2) has)
 
 -- sizes outside their limits
-pub outside_none : (n batch capacity : ℕ) (fault : Fault) → IsOutside n batch capacity fault → IsNoCrew n batch capacity fault
+pub outside_none : (n batch capacity : ℕ) (fault : Fault) → HasSizeFault n batch capacity fault → HasCrewFault n batch capacity fault
 outside_none n batch capacity SetTooLarge why = absurd why
 outside_none n batch capacity Nodes why = why
 outside_none n batch capacity Sizes why = why
@@ -30,7 +30,8 @@ outside_none n batch capacity (Stopped node cause) why = absurd why
 outside_none n batch capacity Memory why = absurd why
 
 -- no crew is opened for a small set
-pub none_begun : (set : PieceSet) (n batch capacity : ℕ) (fault : Fault) → IsSmall set → IsNoCrew n batch capacity fault → IsNotBegun set n batch capacity fault
+pub none_begun : (set : PieceSet) (n batch capacity : ℕ) (fault : Fault) → IsSmall set → HasCrewFault n batch capacity fault →
+    HasStartFault set n batch capacity fault
 none_begun set n batch capacity SetTooLarge small why = absurd why
 none_begun set n batch capacity Nodes small why = (small, why)
 none_begun set n batch capacity Sizes small why = (small, why)
@@ -38,16 +39,16 @@ none_begun set n batch capacity (Stopped node cause) small why = absurd why
 none_begun set n batch capacity Memory small why = (small, why)
 
 -- a crew that isn't begun leaves nothing
-pub unbegun_refused : (set : PieceSet) (n batch capacity : ℕ) (fault : Fault) → IsNotBegun set n batch capacity fault → IsRefused set n batch capacity fault
-unbegun_refused set n batch capacity SetTooLarge why = why
-unbegun_refused set n batch capacity Nodes why = why
-unbegun_refused set n batch capacity Sizes why = why
-unbegun_refused set n batch capacity (Stopped node cause) why = absurd why
-unbegun_refused set n batch capacity Memory why = why
+pub unbegun_fault : (set : PieceSet) (n batch capacity : ℕ) (fault : Fault) → HasStartFault set n batch capacity fault → HasFault set n batch capacity fault
+unbegun_fault set n batch capacity SetTooLarge why = why
+unbegun_fault set n batch capacity Nodes why = why
+unbegun_fault set n batch capacity Sizes why = why
+unbegun_fault set n batch capacity (Stopped node cause) why = absurd why
+unbegun_fault set n batch capacity Memory why = why
 
 module _ (Names : List Runner → Fault → Type 0) (set : PieceSet) (n size capacity : ℕ) where
   -- and no node of it is named
-  pub unbegun_stops : (fault : Fault) → IsNotBegun set n size capacity fault → StopsSo Names set n size capacity fault
+  pub unbegun_stops : (fault : Fault) → HasStartFault set n size capacity fault → StopsSo Names set n size capacity fault
   unbegun_stops SetTooLarge why = tt
   unbegun_stops Nodes why = tt
   unbegun_stops Sizes why = tt

@@ -1,8 +1,12 @@
--- What each fault of a run by threads is called.
-use Rattle.std.specs.Prelude.{ℕ, List, ◌++◌, codes}
+-- What each fault of a run by threads is called, and why no crew is opened or one leaves nothing.
+use Rattle.std.specs.Prelude.{ℕ, ◌<◌, List, ◌++◌, codes}
 use Rattle.std.specs.Fmt.{decimal}
+use Rattle.dob_pieces.specs.declared.piece_set.PieceSet.{PieceSet}
 use Rattle.dob_pieces.specs.Faults.{memory_text}
 use Rattle.dob_rank.specs.Faults as rank_texts
+use Rattle.dob_rank.specs.Limits.{IsSmall}
+use Rattle.dob_update.specs.Batches.{AreSizes}
+use Rattle.dob_safra.specs.Laws.{IsSize}
 use Rattle.dob_board.specs.Faults as board_texts
 use Rattle.dob_node.specs.Causes.{cause_text}
 use Rattle.dob_rank.specs.declared.fault.Fault.TheVariants as rank
@@ -17,3 +21,39 @@ fault_text Nodes = board_texts.fault_text board.Nodes
 fault_text Sizes = codes "E10 Sizes"
 fault_text (Stopped node why) = codes "E14 Stopped node " ++ decimal node ++ codes ": " ++ cause_text why
 fault_text Memory = memory_text
+
+-- a crew may have so many nodes, such batches and such channels
+abbrev pub AreWithin : ℕ → ℕ → ℕ → Type 0
+AreWithin n batch capacity = IsSize n × AreSizes batch capacity
+
+-- the first of these sizes that is outside its limits
+abbrev pub HasSizeFault : ℕ → ℕ → ℕ → Fault → Type 0
+HasSizeFault n batch capacity Nodes = ¬ IsSize n
+HasSizeFault n batch capacity Sizes = IsSize n × (¬ AreSizes batch capacity)
+HasSizeFault n batch capacity SetTooLarge = ⊥
+HasSizeFault n batch capacity (Stopped node why) = ⊥
+HasSizeFault n batch capacity Memory = ⊥
+
+-- why no crew of these sizes is opened: one is outside its limits, or where all are within them memory is refused
+abbrev pub HasCrewFault : ℕ → ℕ → ℕ → Fault → Type 0
+HasCrewFault n batch capacity Nodes = HasSizeFault n batch capacity Nodes
+HasCrewFault n batch capacity Sizes = HasSizeFault n batch capacity Sizes
+HasCrewFault n batch capacity SetTooLarge = ⊥
+HasCrewFault n batch capacity (Stopped node why) = ⊥
+HasCrewFault n batch capacity Memory = AreWithin n batch capacity
+
+-- why no crew of the piece set is run: the set is too large, or where it isn't no crew is opened
+abbrev pub HasStartFault : PieceSet → ℕ → ℕ → ℕ → Fault → Type 0
+HasStartFault set n batch capacity SetTooLarge = ¬ IsSmall set
+HasStartFault set n batch capacity Nodes = IsSmall set × HasCrewFault n batch capacity Nodes
+HasStartFault set n batch capacity Sizes = IsSmall set × HasCrewFault n batch capacity Sizes
+HasStartFault set n batch capacity (Stopped node why) = ⊥
+HasStartFault set n batch capacity Memory = IsSmall set × HasCrewFault n batch capacity Memory
+
+-- why a crew leaves nothing: none is run, or one of its nodes has stopped
+abbrev pub HasFault : PieceSet → ℕ → ℕ → ℕ → Fault → Type 0
+HasFault set n batch capacity SetTooLarge = HasStartFault set n batch capacity SetTooLarge
+HasFault set n batch capacity Nodes = HasStartFault set n batch capacity Nodes
+HasFault set n batch capacity Sizes = HasStartFault set n batch capacity Sizes
+HasFault set n batch capacity (Stopped node why) = IsSmall set × AreWithin n batch capacity × (node < n)
+HasFault set n batch capacity Memory = HasStartFault set n batch capacity Memory

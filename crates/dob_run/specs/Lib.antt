@@ -14,7 +14,6 @@ pub mod Mails
 pub mod Manned
 pub mod Opening
 pub mod Props
-pub mod Refused
 pub mod Rows
 pub mod Runners
 pub mod Seating

@@ -9,7 +9,7 @@ use Rattle.dob_run.specs.declared.runner.Runner.{Runner}
 use Rattle.dob_run.specs.declared.turns.Until.{Until}
 use Rattle.dob_run.specs.declared.turns.Until.TheVariants.{Turns, Stopped}
 use Rattle.dob_run.specs.Manned.{IsNewCrew}
-use Rattle.dob_run.specs.Refused.{AreWithin}
+use Rattle.dob_run.specs.Faults.{AreWithin}
 use Rattle.dob_run.specs.Runners.{KeepsRunner}
 
 -- the runner can work with the classes of that piece set

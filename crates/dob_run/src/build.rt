@@ -3,7 +3,7 @@ ghost use Rattle.std.specs.Prelude.{IfOk, IfErr, OnOk};
 ghost use Rattle.dob_rank.specs.Limits.{IsSmall};
 ghost use Rattle.dob_run.specs.Built.{IsBuilt};
 ghost use Rattle.dob_run.specs.Finishing.{IsFailureOf};
-ghost use Rattle.dob_run.specs.Refused.{AreWithin, IsRefused};
+ghost use Rattle.dob_run.specs.Faults.{AreWithin, HasFault};
 ghost use Rattle.dob_run.specs.Turned.{StopsSo};
 
 use crate::fault::Fault;
@@ -34,7 +34,7 @@ pub fn run_nodes<R: Threads + Wait + Sync, G: Gate + Sync>(
 ) -> Result<Built, Fault>
     ensures built { IfOk result (IsBuilt set n batch) }
     ensures within { OnOk result (IsSmall set × AreWithin n batch capacity) }
-    ensures refused { IfErr result (IsRefused set n batch capacity) }
+    ensures fault { IfErr result (HasFault set n batch capacity) }
     ensures stopped { IfErr result (StopsSo IsFailureOf set n batch capacity) }
 {
     let (board, ended) = run_crew(rt, alloc, set, n, batch, capacity, gate, &Until::Stopped)?;

@@ -9,7 +9,7 @@ ghost use Rattle.dob_run.specs.Closing.{IsCrew};
 ghost use Rattle.dob_node.specs.Openings.{AreOpenings};
 ghost use Rattle.dob_run.specs.Opening.{IsNewMail, AreNewMails};
 ghost use Rattle.dob_run.specs.Manned.{IsRunnerOf, IsNewCrew};
-ghost use Rattle.dob_run.specs.Refused.{AreWithin, IsNoCrew};
+ghost use Rattle.dob_run.specs.Faults.{AreWithin, HasCrewFault};
 ghost use Rattle.dob_run.specs.Seating.{AreSeated, CanSeat, CanSeatAll};
 
 use crate::fault::Fault;
@@ -37,7 +37,7 @@ pub fn crew(
     capacity: usize,
 ) -> Result<(Board, Vec<Runner>), Fault>
     ensures opened { IfOk result (λ opened. IsNewCrew classes.now.set n batch capacity opened.0 opened.1.items) }
-    ensures refused { IfErr result (IsNoCrew n batch capacity) }
+    ensures fault { IfErr result (HasCrewFault n batch capacity) }
 {
     if let Some(fault) = size_passed(n, batch, capacity) {
         return Err(fault);

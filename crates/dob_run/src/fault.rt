@@ -43,7 +43,7 @@ impl Error for Fault {}
 impl From<Memory> for Fault {
     ghost from_gives = { λ _ given. given ≡ fault.Memory };
 
-    fn from(_refused: Memory) -> Fault {
+    fn from(_lower: Memory) -> Fault {
         Fault::Memory
     }
 }

@@ -1,7 +1,7 @@
 // The limits of what a crew is opened for.
 ghost use Rattle.std.specs.Prelude.{◌≡◌, IfSome, IfNone, IfOk, IfErr, OnOk};
 ghost use Rattle.dob_rank.specs.Limits.{IsSmall};
-ghost use Rattle.dob_run.specs.Refused.{AreWithin, IsOutside, IsNotBegun};
+ghost use Rattle.dob_run.specs.Faults.{AreWithin, HasSizeFault, HasStartFault};
 
 use crate::fault::Fault;
 use dob_pieces::PieceSet;
@@ -20,7 +20,7 @@ pub const CAPACITY: usize = 64;
 /// `capacity` not 1 to 1024.
 pub(crate) fn size_passed(n: usize, batch: usize, capacity: usize) -> Option<Fault>
     ensures within { IfNone result (AreWithin n batch capacity) }
-    ensures passed { IfSome result (IsOutside n batch capacity) }
+    ensures passed { IfSome result (HasSizeFault n batch capacity) }
 {
     if n < 1 || n > 16 {
         return Some(Fault::Nodes);
@@ -44,7 +44,7 @@ pub(crate) fn classes_within(
 ) -> Result<Classes, Fault>
     ensures set { IfOk result (λ classes. classes.set ≡ set) }
     ensures within { OnOk result (IsSmall set × AreWithin n batch capacity) }
-    ensures refused { IfErr result (IsNotBegun set n batch capacity) }
+    ensures fault { IfErr result (HasStartFault set n batch capacity) }
 {
     if set.chicks + set.elephants + set.giraffes > MOST_PIECES {
         return Err(Fault::SetTooLarge);

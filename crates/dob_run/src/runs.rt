@@ -3,7 +3,7 @@ ghost use Rattle.std.specs.Prelude.{◌≡◌, ◌<◌, ◌≤◌, IfOk, IfErr, 
 ghost use Rattle.dob_rank.specs.Limits.{IsSmall};
 ghost use Rattle.dob_run.specs.Closing.{IsCrew, row_of};
 ghost use Rattle.dob_run.specs.Manned.{mail_of, node_of};
-ghost use Rattle.dob_run.specs.Refused.{AreWithin, IsRefused};
+ghost use Rattle.dob_run.specs.Faults.{AreWithin, HasFault};
 ghost use Rattle.dob_run.specs.Turned.{IsTurned, AreUnfailed, IsFirstFailed, StopsSo, AreWorkers, HasLeft};
 
 use crate::closing::{Ended, close_mails};
@@ -56,7 +56,7 @@ pub fn run_turns<R: Threads + Wait + Sync, G: Gate + Sync>(
 ) -> Result<Turned, Fault>
     ensures turned { IfOk result (IsTurned set n batch) }
     ensures within { OnOk result (IsSmall set × AreWithin n batch capacity) }
-    ensures refused { IfErr result (IsRefused set n batch capacity) }
+    ensures fault { IfErr result (HasFault set n batch capacity) }
     ensures stopped { IfErr result (StopsSo IsFirstFailed set n batch capacity) }
 {
     let until = Until::Turns(turns);

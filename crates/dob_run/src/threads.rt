@@ -1,7 +1,7 @@
 // A thread for each runner of a crew.
 ghost use Rattle.std.specs.Prelude.{◌≡◌, IfOk, IfErr};
 ghost use Rattle.std.specs.List.{AllZip};
-ghost use Rattle.dob_run.specs.Refused.{IsNotBegun};
+ghost use Rattle.dob_run.specs.Faults.{HasStartFault};
 ghost use Rattle.dob_run.specs.Turns.{Suits, AllSuit, Ends, HasRun};
 ghost use Rattle.dob_run.specs.Started.{IsStartOf, IsEndOf};
 
@@ -57,7 +57,7 @@ pub(crate) fn run_crew<R: Threads + Wait + Sync, G: Gate + Sync>(
     until: &Until,
 ) -> Result<(Board, Vec<Runner>), Fault>
     ensures ran { IfOk result (λ ran. HasRun until.now set n batch capacity ran.0 ran.1.items) }
-    ensures refused { IfErr result (IsNotBegun set n batch capacity) }
+    ensures fault { IfErr result (HasStartFault set n batch capacity) }
 {
     let classes = classes_within(alloc, set, n, batch, capacity)?;
     let openings = scan(rt, alloc, &classes)?;
@@ -139,9 +139,9 @@ fn start<'s, E, R: Threads + Wait + Sync, G: Gate + Sync>(
     { go_unless(unstarted, rt, runner, classes, gate, until) };
     match scope.spawn_with(promise, run) {
         Ok(handle) => Started::Runs(handle),
-        Err(refused) => {
+        Err(handed_back) => {
             unstarted.store(node, Ordering::SeqCst);
-            let mut back = (refused.value)();
+            let mut back = (handed_back.value)();
             back.give_up(Cause::Memory);
             Started::GaveUp(back)
         }

@@ -33,9 +33,9 @@ not_too_deep cell short deep = deep.2 (short_value cell deep.0 short deep.1)
 
 -- ---- the three answers
 
-pub refused : (to : ℕ) (was now : Value) (cell : Cell) (slot : Slot) → (Takes was now cell → ⊥) →
+pub misfits : (to : ℕ) (was now : Value) (cell : Cell) (slot : Slot) → (Takes was now cell → ⊥) →
     IsStep to was now cell slot (Err (Contradiction to))
-refused to was now cell slot misfit = record {
+misfits to was now cell slot misfit = record {
   misfit = (λ _. misfit, λ _. refl);
   deep = (λ e. absurd (cc), λ both. absurd (misfit both.0));
   named = λ class e. (cc);
@@ -203,8 +203,8 @@ better_loss_step to was now slot next wins short better some most start status l
     stepped to (Loss was) (Loss now) (cell_of slot wins) slot next (better, knows_within slot.win was some most)
     (loss_short 0 now slot wins short (λ e. absurd (omega arith)) slot.left) start status left win
 
-pub better_loss_refused : (to was now : ℕ) (slot : Slot) (wins : ℕ → ℕ) → (now < was → 0 < slot.win → slot.win - 1 ≤ was → ⊥) →
+pub better_loss_misfits : (to was now : ℕ) (slot : Slot) (wins : ℕ → ℕ) → (now < was → 0 < slot.win → slot.win - 1 ≤ was → ⊥) →
     IsStep to (Loss was) (Loss now) (cell_of slot wins) slot (Err (Contradiction to))
-better_loss_refused to was now slot wins misfit =
-    refused to (Loss was) (Loss now) (cell_of slot wins) slot
+better_loss_misfits to was now slot wins misfit =
+    misfits to (Loss was) (Loss now) (cell_of slot wins) slot
     (λ takes. let known = knows_most slot.win was takes.1 in misfit takes.0 known.0 known.1)

@@ -2,7 +2,7 @@
 pub mod Tallies  -- sums over a run of the pool, and after a write
 pub mod Keeping  -- one cell is written: the others and the order of the pool stay
 -- Items at cells.
-pub mod Changing  -- when an item is refused at a cell, and what its slot becomes
+pub mod Changing  -- when an item does not fit at a cell, and what its slot becomes
 pub mod Growing  -- an item that fits never makes the cell's value worse
 pub mod Applied  -- what the steps of the code give of an item at one place
 pub mod Owning  -- what an item at one place is for the share's classes

@@ -109,7 +109,7 @@ impl Share {
         ensures contradiction { (result ≡ Err (fault.Contradiction item.to)) ↔ (¬ Fits self.old item) }
         ensures too_deep { (result ≡ Err fault.TooDeep) ↔ (Fits self.old item × GoesTooDeep self.old item) }
         ensures named { (class : ℕ) → result ≡ Err (fault.Contradiction class) → class ≡ item.to }
-        ensures refused { OnErr result (self.new ≡ self.old) }
+        ensures unchanged { OnErr result (self.new ≡ self.old) }
         ensures classes { SameClasses self.old self.new }
         ensures cell { OnOk result (SameCell (cell_at self.new item.to) (changed item.was item.now (cell_at self.old item.to))) }
         ensures others { (class : ℕ) → IsOwn self.old class → class ≢ item.to → SameCell (cell_at self.new class) (cell_at self.old class) }
@@ -129,7 +129,7 @@ impl Share {
             item.now,
         ) {
             Ok(values) => values,
-            Err(refused) => return Err(refused),
+            Err(fault) => return Err(fault),
         };
         let (was, now) = values;
         if is_same(was, now) {

@@ -51,7 +51,7 @@ pub(crate) fn apply_at(
     ensures misfit { (result ≡ Err (fault.Contradiction to)) ↔ (¬ Takes was now (cell_in slots.old pool.old place)) }
     ensures deep { (result ≡ Err fault.TooDeep) ↔ (Takes was now (cell_in slots.old pool.old place) × IsTooDeep (changed was now (cell_in slots.old pool.old place))) }
     ensures named { (class : ℕ) → result ≡ Err (fault.Contradiction class) → class ≡ to }
-    ensures refused { OnErr result ((slots.new ≡ slots.old) × (pool.new ≡ pool.old)) }
+    ensures unchanged { OnErr result ((slots.new ≡ slots.old) × (pool.new ≡ pool.old)) }
     ensures pooled { ArePooled slots.new pool.new }
     ensures places { length slots.new ≡ length slots.old }
     ensures cell { OnOk result (SameCell (cell_in slots.new pool.new place) (changed was now (cell_in slots.old pool.old place))) }
@@ -64,7 +64,7 @@ pub(crate) fn apply_at(
     let slot = slots[place];
     let next = match slot_after(pool, slot, run, to, was, now) {
         Ok(next) => next,
-        Err(refused) => return Err(refused),
+        Err(fault) => return Err(fault),
     };
     let before = value_in(pool, slot, run);
     count_change(pool, run, was, now);

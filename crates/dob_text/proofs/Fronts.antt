@@ -161,9 +161,9 @@ hand_spelled side word c e g some is_c is_e is_g whole =
     all ∙ sym (no_dash (replicate c a ++ replicate e b ++ replicate g d) filled)
 
 -- a word that is neither a dash nor three runs is no hand's
-pub hand_refused : (side : Side) (word : List ℕ) (c e g : ℕ) → word ≢ 45 ∷ [] → c ≡ front (cased side 67) word → e ≡ front (cased side 69) (drop c word)
+pub hand_fault : (side : Side) (word : List ℕ) (c e g : ℕ) → word ≢ 45 ∷ [] → c ≡ front (cased side 67) word → e ≡ front (cased side 69) (drop c word)
     → g ≡ front (cased side 71) (drop e (drop c word)) → g < length (drop e (drop c word)) → (hand : Hand) → word ≢ hand_text side hand
-hand_refused side word c e g other is_c is_e is_g more hand is =
+hand_fault side word c e g other is_c is_e is_g more hand is =
     elim (dash_cases (hand_letters side hand)) [
       | inl plain ↦
           let spelled : word ≡ hand_letters side hand = is ∙ plain in

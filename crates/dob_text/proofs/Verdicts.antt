@@ -10,7 +10,7 @@ use Rattle.dob_text.specs.declared.fault.TextFault.{TextFault}
 use Rattle.dob_text.specs.declared.fault.TextFault.TheVariants as fault
 use Rattle.dob_text.specs.PositionText.{Spells, text_of}
 use Rattle.dob_text.specs.Readings.{capped_setup}
-use Rattle.dob_text.specs.Faults.{HasFault, IsRefused}
+use Rattle.dob_text.specs.Faults.{HasFault, HasSetupFault}
 use Rattle.dob_text.proofs.Fronts.{same_hand}
 use Rattle.dob_text.proofs.Whole.{spelled_shape, spelled_letters, spelled_hands, same_spelled, same_setup}
 
@@ -87,9 +87,9 @@ pub read_as : (text : List ℕ) (r : Result Position TextFault) → Reads text r
 read_as text (Ok position) reads = reads.1.spelled
 read_as text (Err f) reads = tt
 
-pub refused_as : (text : List ℕ) (r : Result Position TextFault) → Reads text r → (f : TextFault) → IsErrOf r f ↔ HasFault text f
-refused_as text (Ok position) reads f = (λ same. cc, λ x. absurd (no_fault text position.setup f reads.0 reads.1 x))
-refused_as text (Err e) reads f = (
+pub fault_as : (text : List ℕ) (r : Result Position TextFault) → Reads text r → (f : TextFault) → IsErrOf r f ↔ HasFault text f
+fault_as text (Ok position) reads f = (λ same. cc, λ x. absurd (no_fault text position.setup f reads.0 reads.1 x))
+fault_as text (Err e) reads f = (
   λ same. let is : e ≡ f = cc in subst (λ (g : TextFault). HasFault text g) is reads,
   λ x. ap (λ (g : TextFault). Err g) (one_fault text e f reads x),
 )
@@ -124,7 +124,7 @@ uncapped setup few =
     (same_hand _ _ (omega arith) (omega arith) (omega arith))
 
 -- the setup that was read is capped, and its fault is the text's
-fault_up : (text : List ℕ) (setup : Setup) (f : TextFault) → Spells text setup → IsRefused (capped_setup setup) f → HasFault text f
+fault_up : (text : List ℕ) (setup : Setup) (f : TextFault) → Spells text setup → HasSetupFault (capped_setup setup) f → HasFault text f
 fault_up text setup fault.Lions spells x = (setup, spells, x)
 fault_up text setup fault.Count spells x = (setup, spells, x.0, λ few. x.1 (few_down setup few))
 fault_up text setup fault.FarLion spells x = (setup, spells, x.0, few_up setup x.1, x.2)
@@ -134,10 +134,10 @@ fault_up text setup fault.Hand spells x = absurd x
 
 -- so is its position the text's
 pub reads_by : (text : List ℕ) (full setup : Setup) (r : Result Position TextFault) → Spells text full → setup ≡ capped_setup full
-    → MatchResult r (λ position. IsLegal setup × (position.setup ≡ setup)) (λ f. IsRefused setup f) → Reads text r
+    → MatchResult r (λ position. IsLegal setup × (position.setup ≡ setup)) (λ f. HasSetupFault setup f) → Reads text r
 reads_by text full setup (Ok position) spells is found =
     let legal : IsLegal (capped_setup full) = subst (λ (s : Setup). IsLegal s) is found.0 in
     let same : full ≡ position.setup = sym (found.1 ∙ is ∙ uncapped full (few_up full legal.few)) in
     (subst (λ (s : Setup). IsLegal s) (sym found.1) found.0, subst (λ (s : Setup). Spells text s) same spells)
-reads_by text full setup (Err f) spells is refused =
-    fault_up text full f spells (subst (λ (s : Setup). IsRefused s f) is refused)
+reads_by text full setup (Err f) spells is fault =
+    fault_up text full f spells (subst (λ (s : Setup). HasSetupFault s f) is fault)

@@ -27,10 +27,10 @@ HasFault text Count = (setup : Setup) × Spells text setup × HasLions setup × 
 HasFault text FarLion = (setup : Setup) × Spells text setup × HasLions setup × HasFewPieces setup × ¬ HasLionOffFarRow setup
 
 -- why the setup that a text spells is no position
-abbrev pub IsRefused : Setup → TextFault → Type 0
-IsRefused setup Lions = position.HasFault setup (Some position_fault.Lions)
-IsRefused setup Count = position.HasFault setup (Some position_fault.Count)
-IsRefused setup FarLion = position.HasFault setup (Some position_fault.FarLion)
-IsRefused setup Shape = ⊥
-IsRefused setup Letter = ⊥
-IsRefused setup Hand = ⊥
+abbrev pub HasSetupFault : Setup → TextFault → Type 0
+HasSetupFault setup Lions = position.HasFault setup (Some position_fault.Lions)
+HasSetupFault setup Count = position.HasFault setup (Some position_fault.Count)
+HasSetupFault setup FarLion = position.HasFault setup (Some position_fault.FarLion)
+HasSetupFault setup Shape = ⊥
+HasSetupFault setup Letter = ⊥
+HasSetupFault setup Hand = ⊥

@@ -4,7 +4,7 @@ ghost use Rattle.dob_pieces.specs.declared.setup.Setup.{Setup};
 ghost use Rattle.dob_pieces.specs.Setups.{IsLegal};
 ghost use Rattle.dob_text.specs.declared.fault.TextFault.{TextFault};
 ghost use Rattle.dob_text.specs.PositionText.{text_of, Spells};
-ghost use Rattle.dob_text.specs.Faults.{HasFault, IsRefused};
+ghost use Rattle.dob_text.specs.Faults.{HasFault, HasSetupFault};
 
 use crate::fault::TextFault;
 use crate::setups::read_setup;
@@ -14,7 +14,7 @@ use dob_pieces::{Position, PositionFault, Setup};
 fn position_of(setup: Setup) -> Result<Position, TextFault>
     ensures { MatchResult result
         (λ position. IsLegal setup × (position.setup ≡ setup))
-        (λ fault. IsRefused setup fault) }
+        (λ fault. HasSetupFault setup fault) }
 {
     match Position::of(setup.board, setup.hands) {
         Ok(position) => Ok(position),
@@ -46,7 +46,7 @@ pub fn read_position(text: &str) -> Result<Position, TextFault>
     ensures read { IfOk result (λ position. text.now ≡ text_of position.setup) }
     ensures whole { (setup : Setup) → IsLegal setup → text.now ≡ text_of setup
         → IsOkAnd result (λ position. position.setup ≡ setup) }
-    ensures refused { (fault : TextFault) → IsErrOf result fault ↔ HasFault text.now fault }
+    ensures fault { (fault : TextFault) → IsErrOf result fault ↔ HasFault text.now fault }
 {
     read_bytes(text.as_bytes())
 }

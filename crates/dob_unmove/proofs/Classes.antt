@@ -6,7 +6,6 @@ use Rattle.dob_pieces.specs.declared.setup.Setup.{Setup}
 use Rattle.dob_rank.specs.Order.{IsPositionOf, IsFirstOfTwo, HasClass, RepresentsIn}
 use Rattle.dob_rank.proofs.Representatives.{one_of_either, one_number, one_representative}
 use Rattle.dob_unmove.specs.Unmoves.{IsNumbering}
-pub use Rattle.dob_rank.proofs.Counted.{no_longer as length-from_contained, shorter as length-from_one_more}
 
 pub IsNumbering-classes : (set : PieceSet) → IsNumbering (RepresentsIn set)
 IsNumbering-classes set = record {

@@ -55,19 +55,19 @@ pairs-append {X} R (x ∷ xs) ys p q across =
 
 -- one way taken by what gathers numbers, which keeps its classes
 abbrev pub TakesNumber : {S C : Type 0} → (S → C) → (S → List ℕ) → (C → Setup → ℕ → Type 0) → Setup → S → Undo → S → Type 0
-TakesNumber classes found first t old u new =
-    (classes new ≡ classes old) × Adds (first (classes old)) t u (found old) (found new)
+TakesNumber classes found Represents t old u new =
+    (classes new ≡ classes old) × Adds (Represents (classes old)) t u (found old) (found new)
 
-pub all_gathered : {S C : Type 0} (classes : S → C) (found : S → List ℕ) (first : C → Setup → ℕ → Type 0) (t : Setup) (us : List Undo) (old new : S)
-    → TakesAll (TakesNumber classes found first t) old us new
-    → (classes new ≡ classes old) × Gathers (first (classes old)) t us (found old) (found new)
-all_gathered classes found first t [] old new e = (ap classes (sym e), ap found e)
-all_gathered classes found first t (u ∷ us) old new h =
-    let rest = all_gathered classes found first t us h.0 new h.2 in
+pub all_gathered : {S C : Type 0} (classes : S → C) (found : S → List ℕ) (Represents : C → Setup → ℕ → Type 0) (t : Setup) (us : List Undo) (old new : S)
+    → TakesAll (TakesNumber classes found Represents t) old us new
+    → (classes new ≡ classes old) × Gathers (Represents (classes old)) t us (found old) (found new)
+all_gathered classes found Represents t [] old new e = (ap classes (sym e), ap found e)
+all_gathered classes found Represents t (u ∷ us) old new h =
+    let rest = all_gathered classes found Represents t us h.0 new h.2 in
     let kept = h.1.0 in
     let more = h.1.1.2 in
-    let later = subst (λ c. Gathers (first c) t us (found h.0) (found new)) kept rest.1 in
-    (rest.0 ∙ kept, (h.1.1.0, h.1.1.1, subst (λ (xs : List ℕ). Gathers (first (classes old)) t us xs (found new)) more later))
+    let later = subst (λ c. Gathers (Represents c) t us (found h.0) (found new)) kept rest.1 in
+    (rest.0 ∙ kept, (h.1.1.0, h.1.1.1, subst (λ (xs : List ℕ). Gathers (Represents (classes old)) t us xs (found new)) more later))
 
 module _ (Represents : Setup → ℕ → Type 0) (n : IsNumbering Represents) where
   known_more : (p : Setup) (found : Option ℕ) (old : List ℕ) → Finds Represents p found → All (λ class. (p : Setup) × Represents p class) old
@@ -80,7 +80,7 @@ module _ (Represents : Setup → ℕ → Type 0) (n : IsNumbering Represents) wh
   gathered_known t [] old new e h = subst (All (λ class. (p : Setup) × Represents p class)) e h
   gathered_known t (u ∷ us) old new g h = gathered_known t us _ new g.2 (known_more (earlier t u) g.0 old g.1 h)
 
-  module _ (p : Setup) (class : ℕ) (is_first : Represents p class) where
+  module _ (p : Setup) (class : ℕ) (stands : Represents p class) where
     abbrev number_of : List ℕ → ℕ
     number_of xs = count_by (λ x. x == class) xs
 
@@ -111,7 +111,7 @@ module _ (Represents : Setup → ℕ → Type 0) (n : IsNumbering Represents) wh
       selects_none : Selects [] []
       selects_none = record {
         sound = λ m h. absurd (omega (arith, h.1));
-        whole = λ u h first. absurd (omega (arith, h.1));
+        whole = λ u h represents. absurd (omega (arith, h.1));
         once = λ i j d lt within. absurd (omega (arith, within));
       }
 
@@ -119,10 +119,10 @@ module _ (Represents : Setup → ℕ → Type 0) (n : IsNumbering Represents) wh
       selects_passed : (u : Undo) (us : List Undo) (ms : List Move) → ¬ IsOpenRepresentative Represents (earlier (turned q) u) class → Selects us ms → Selects (u ∷ us) ms
       selects_passed u us ms other s = record {
         sound = λ m h. let w = s.sound m h in (w.0, Contains-append_right (u ∷ []) us w.0 w.1, w.2, w.3);
-        whole = λ v h first.
+        whole = λ v h represents.
             elim (cons_cases u us v h) [
-              | inl e ↦ absurd (other (subst (λ (x : Undo). IsOpenRepresentative Represents (earlier (turned q) x) class) (sym e) first))
-              | inr later ↦ s.whole v later first
+              | inl e ↦ absurd (other (subst (λ (x : Undo). IsOpenRepresentative Represents (earlier (turned q) x) class) (sym e) represents))
+              | inr later ↦ s.whole v later represents
             ];
         once = s.once;
       }
@@ -130,10 +130,10 @@ module _ (Represents : Setup → ℕ → Type 0) (n : IsNumbering Represents) wh
       -- a way that does
       selects_taken : (u : Undo) (us : List Undo) (ms : List Move) → CanUndo (turned q) u → All (CanUndo (turned q)) us → All (λ (v : Undo). u ≢ v) us
           → IsOpenRepresentative Represents (earlier (turned q) u) class → Selects us ms → Selects (u ∷ us) (choice u ∷ ms)
-      selects_taken u us ms can all_can apart first s = record {
+      selects_taken u us ms can all_can apart represents s = record {
         sound = λ m h.
             elim (cons_cases (choice u) ms m h) [
-              | inl e ↦ (u, (0, omega arith, refl), e, first)
+              | inl e ↦ (u, (0, omega arith, refl), e, represents)
               | inr later ↦ let w = s.sound m later in (w.0, Contains-append_right (u ∷ []) us w.0 w.1, w.2, w.3)
             ];
         whole = λ v h back.
@@ -145,7 +145,7 @@ module _ (Represents : Setup → ℕ → Type 0) (n : IsNumbering Represents) wh
             (λ k d lt e.
             let w = s.sound (get_or ms k d) (k, lt, get_or_default ms k _ d lt) in
             let same : u ≡ w.0 =
-            same_undo q u w.0 twelve can (All-contains (CanUndo (turned q)) us w.0 all_can w.1) (e ∙ sym w.2) (n.one_represents _ _ class first.0 w.3.0) in
+            same_undo q u w.0 twelve can (All-contains (CanUndo (turned q)) us w.0 all_can w.1) (e ∙ sym w.2) (n.one_represents _ _ class represents.0 w.3.0) in
             All-contains (λ (v : Undo). u ≢ v) us w.0 apart w.1 same)
             s.once;
       }
@@ -158,15 +158,15 @@ module _ (Represents : Setup → ℕ → Type 0) (n : IsNumbering Represents) wh
           → All (λ (v : Undo). u ≢ v) us
           → Finds Represents (earlier (turned q) u) found → Counted us (old ++ option_to_list found) new → Counted (u ∷ us) old new
       select_step u us old new None can all_can apart none c =
-          (c.0, selects_passed u us c.0 (λ first. none (class, first)) c.1, c.2 ∙ ap (λ k. k + length c.0) (count_none old))
+          (c.0, selects_passed u us c.0 (λ represents. none (class, represents)) c.1, c.2 ∙ ap (λ k. k + length c.0) (count_none old))
       select_step u us old new (Some found) can all_can apart is c =
           elim (cases_eq found class) [
             | inl same ↦
-                let first : IsOpenRepresentative Represents (earlier (turned q) u) class = subst (IsOpenRepresentative Represents (earlier (turned q) u)) same is in
-                (choice u ∷ c.0, selects_taken u us c.0 can all_can apart first c.1, omega (arith, c.2, count_same old found same))
+                let represents : IsOpenRepresentative Represents (earlier (turned q) u) class = subst (IsOpenRepresentative Represents (earlier (turned q) u)) same is in
+                (choice u ∷ c.0, selects_taken u us c.0 can all_can apart represents c.1, omega (arith, c.2, count_same old found same))
             | inr other ↦ (
               c.0,
-              selects_passed u us c.0 (λ first. other (n.one_number _ _ found class is.0 first.0 (inl refl))) c.1,
+              selects_passed u us c.0 (λ represents. other (n.one_number _ _ found class is.0 represents.0 (inl refl))) c.1,
               c.2 ∙ ap (λ k. k + length c.0) (count_other old found other),
             )
           ]
@@ -189,18 +189,18 @@ module _ (Represents : Setup → ℕ → Type 0) (n : IsNumbering Represents) wh
       leading_from ms s = record {
         sound = λ m h.
             let w = s.sound m h in
-            let back = n.one_represents _ p class w.3.0 is_first in
+            let back = n.one_represents _ p class w.3.0 stands in
             let goes = Goes-from_undo q w.0 twelve (undoes_sound (turned q) w.0 w.1) in (
               subst (λ (x : Setup). HasStatus x Open) back w.3.1,
               subst (λ (x : Setup). Goes x m q) back (subst (λ (x : Move). Goes (earlier (turned q) w.0) x q) w.2 goes),
             );
         whole = λ m can goes.
-            let w = undo_from_Goes p m q (n.legal p class is_first).squares goes in
+            let w = undo_from_Goes p m q (n.legal p class stands).squares goes in
             let listed = undoes_whole (turned q) w.0 (length-turned q) w.1.0 in
             let back = sym w.1.2 in
-            let first : IsOpenRepresentative Represents (earlier (turned q) w.0) class =
-            (subst (λ (x : Setup). Represents x class) back is_first, subst (λ (x : Setup). HasStatus x Open) back can) in
-            subst (Contains ms) w.1.1 (s.whole w.0 listed first);
+            let represents : IsOpenRepresentative Represents (earlier (turned q) w.0) class =
+            (subst (λ (x : Setup). Represents x class) back stands, subst (λ (x : Setup). HasStatus x Open) back can) in
+            subst (Contains ms) w.1.1 (s.whole w.0 listed represents);
         once = s.once;
       }
 
@@ -264,7 +264,7 @@ module _ (Represents : Setup → ℕ → Type 0) (n : IsNumbering Represents) wh
       → CountEdges Represents q new
   counts_alone q new twelve own g = record {
     known = gathered_known (turned q) (undoes (turned q)) [] new g nothing_known;
-    edges = λ p class is_first. edges_alone p class is_first q new twelve own g;
+    edges = λ p class stands. edges_alone p class stands q new twelve own g;
   }
 
   pub counts_both : (q : Setup) (mid new : List ℕ) → length q.board ≡ 12 → mirrored q ≢ q → Gathers Represents (turned q) (undoes (turned q)) [] mid
@@ -272,5 +272,5 @@ module _ (Represents : Setup → ℕ → Type 0) (n : IsNumbering Represents) wh
   counts_both q mid new twelve other g h = record {
     known =
         gathered_known (turned (mirrored q)) (undoes (turned (mirrored q))) mid new h (gathered_known (turned q) (undoes (turned q)) [] mid g nothing_known);
-    edges = λ p class is_first. edges_both p class is_first q mid new twelve other g h;
+    edges = λ p class stands. edges_both p class stands q mid new twelve other g h;
   }

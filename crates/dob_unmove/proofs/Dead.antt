@@ -25,7 +25,7 @@ use Rattle.dob_unmove.specs.Threats.{elsewhere, stood_before}
 use Rattle.dob_unmove.specs.Walks.{stands, uncatch, unsteps_between, unsteps_from, unsteps, undoes_at}
 use Rattle.dob_unmove.specs.Ways.{is_home, may_end, comes_home, may_come, CanWalk}
 use Rattle.dob_unmove.proofs.Kept.{legal_turned}
-use Rattle.dob_unmove.proofs.Homes.{first_home}
+use Rattle.dob_unmove.proofs.Homes.{representative_home}
 use Rattle.dob_unmove.proofs.Listed.{at_sound, from_sound, stands-true, free_step}
 use Rattle.dob_unmove.proofs.Shapes.{ends_on, undoes_end, from_step}
 use Rattle.dob_unmove.proofs.Threats.{turned_squares, turned_lions, was_not_open, at_from, at_others, here, at_rest, lion_not_beyond, lion_not_dropped}
@@ -58,7 +58,7 @@ module _ (set : PieceSet) (after : Setup) (ways : Ways) (w : CanWalk set after w
 
   dead_away : (u : Undo) (s : ℕ) → CanUndo after u → at (earlier after u) s ≡ own_lion → is_home threat.lion s ≡ false → Dead u
   dead_away u s can there away = λ found.
-      true≢false (sym (first_home set (earlier after u) found.0 s threat.lion found.1.0 there (enemy_there u can)) ∙ away)
+      true≢false (sym (representative_home set (earlier after u) found.0 s threat.lion found.1.0 there (enemy_there u can)) ∙ away)
 
   -- where no lion moved it stood where it stands
   arrives_no_lion : (kind : Kind) (to : ℕ) (cell : Cell) → cell ≡ Some (piece_of Mover (arrives_at kind to)) → is_piece Mover Lion cell ≡ false → kind ≢ Lion

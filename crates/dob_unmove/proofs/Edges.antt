@@ -72,12 +72,12 @@ position_after set p m q is open_to_move goes = record {
 
 -- of two positions of one class each is the other or its mirror image
 same_class : (set : PieceSet) (s q : Setup) (class : ℕ) → IsPositionOf set s → RepresentsIn set q class → class_number set s ≡ class → IsEither q s
-same_class set s q class is first e = class_once set s q is first.0.0 (e ∙ sym (number_of_representative set q class first))
+same_class set s q class is represents e = class_once set s q is represents.0.0 (e ∙ sym (number_of_representative set q class represents))
 
 class_of_either : (set : PieceSet) (s q : Setup) (class : ℕ) → RepresentsIn set q class → IsEither q s → class_number set s ≡ class
-class_of_either set s q class first either = elim either [
-  | inl e ↦ ap (class_number set) e ∙ number_of_representative set q class first
-  | inr e ↦ ap (class_number set) e ∙ class_number-mirrored set q first.0.0 ∙ number_of_representative set q class first
+class_of_either set s q class represents either = elim either [
+  | inl e ↦ ap (class_number set) e ∙ number_of_representative set q class represents
+  | inr e ↦ ap (class_number set) e ∙ class_number-mirrored set q represents.0.0 ∙ number_of_representative set q class represents
 ]
 
 module _ (set : PieceSet) (p q : Setup) (from class : ℕ) (is_p : RepresentsIn set p from) (is_q : RepresentsIn set q class) where

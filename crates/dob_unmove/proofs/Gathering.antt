@@ -47,7 +47,7 @@ pub sorted_counts : (Represents : Setup → ℕ → Type 0) (q : Setup) (xs ys :
 sorted_counts Represents q xs ys c moved rises = record {
   counts = record {
     known = All-permutation (λ (class : ℕ). (p : Setup) × Represents p class) xs ys moved c.known;
-    edges = λ p class first. subst (HasEdges p q) (sym (sum_by-IsPermutation _ xs ys moved)) (c.edges p class first);
+    edges = λ p class represents. subst (HasEdges p q) (sym (sum_by-IsPermutation _ xs ys moved)) (c.edges p class represents);
   };
   ascending = λ i j d lt within. rises i j d (omega arith) within;
 }
@@ -56,58 +56,59 @@ sorted_counts Represents q xs ys c moved rises = record {
 
 -- what one way adds to the gathered classes
 abbrev pub Gathering : (Classes → Setup → ℕ → Type 0) → Setup → Gathered → Undo → Gathered → Type 0
-Gathering first t old undo new =
-    (new.classes ≡ old.classes) × Adds (first old.classes.now) t undo old.found.items new.found.items
+Gathering Represents t old undo new =
+    (new.classes ≡ old.classes) × Adds (Represents old.classes.now) t undo old.found.items new.found.items
 
-gathered_by : (first : Classes → Setup → ℕ → Type 0) (t : Setup) (us : List Undo) (old new : Gathered)
-    → TakesAll (Gathering first t) old us new
-    → (new.classes ≡ old.classes) × Gathers (first old.classes.now) t us old.found.items new.found.items
-gathered_by first t us old new h =
-    all_gathered (λ (s : Gathered). s.classes) (λ (s : Gathered). s.found.items) (λ c. first c.now) t us old new h
+gathered_by : (Represents : Classes → Setup → ℕ → Type 0) (t : Setup) (us : List Undo) (old new : Gathered)
+    → TakesAll (Gathering Represents t) old us new
+    → (new.classes ≡ old.classes) × Gathers (Represents old.classes.now) t us old.found.items new.found.items
+gathered_by Represents t us old new h =
+    all_gathered (λ (s : Gathered). s.classes) (λ (s : Gathered). s.found.items) (λ c. Represents c.now) t us old new h
 
--- a first walk begins with no numbers
-first_walk : (first : Classes → Setup → ℕ → Type 0) (q t : Setup) (old new : Gathered)
-    → t ≡ turned q → old.found.items ≡ [] → TakesAll (Gathering first t) old (undoes t) new
-    → Gathers (first old.classes.now) (turned q) (undoes (turned q)) [] new.found.items
-first_walk first q t old new e none h =
-    let g = (gathered_by first t (undoes t) old new h).1 in
-    let there = subst (λ (x : Setup). Gathers (first old.classes.now) x (undoes x) old.found.items new.found.items) e g in
-    subst (λ (xs : List ℕ). Gathers (first old.classes.now) (turned q) (undoes (turned q)) xs new.found.items) none there
+-- a walk that begins with no numbers
+fresh_walk : (Represents : Classes → Setup → ℕ → Type 0) (q t : Setup) (old new : Gathered)
+    → t ≡ turned q → old.found.items ≡ [] → TakesAll (Gathering Represents t) old (undoes t) new
+    → Gathers (Represents old.classes.now) (turned q) (undoes (turned q)) [] new.found.items
+fresh_walk Represents q t old new e none h =
+    let g = (gathered_by Represents t (undoes t) old new h).1 in
+    let there = subst (λ (x : Setup). Gathers (Represents old.classes.now) x (undoes x) old.found.items new.found.items) e g in
+    subst (λ (xs : List ℕ). Gathers (Represents old.classes.now) (turned q) (undoes (turned q)) xs new.found.items) none there
 
-pub walked_alone : (first : Classes → Setup → ℕ → Type 0) (q t : Setup) (old new : Gathered)
-    → IsNumbering (first old.classes.now) → IsLegal q → mirrored q ≡ q
-    → t ≡ turned q → old.found.items ≡ [] → TakesAll (Gathering first t) old (undoes t) new
-    → CountEdges (first old.classes.now) q new.found.items
-walked_alone first q t old new n legal own e none h =
-    counts_alone (first old.classes.now) n q new.found.items legal.squares own (first_walk first q t old new e none h)
+pub walked_alone : (Represents : Classes → Setup → ℕ → Type 0) (q t : Setup) (old new : Gathered)
+    → IsNumbering (Represents old.classes.now) → IsLegal q → mirrored q ≡ q
+    → t ≡ turned q → old.found.items ≡ [] → TakesAll (Gathering Represents t) old (undoes t) new
+    → CountEdges (Represents old.classes.now) q new.found.items
+walked_alone Represents q t old new n legal own e none h =
+    counts_alone (Represents old.classes.now) n q new.found.items legal.squares own (fresh_walk Represents q t old new e none h)
 
 -- two walks, of which the second goes on with the classes and the numbers of the first
-pub walked_both : (first : Classes → Setup → ℕ → Type 0) (q image t s : Setup) (old mid next new : Gathered)
-    → IsNumbering (first old.classes.now) → IsLegal q → mirrored q ≢ q → image ≡ mirrored q
-    → t ≡ turned q → s ≡ turned image → old.found.items ≡ [] → TakesAll (Gathering first t) old (undoes t) mid
-    → next.classes ≡ mid.classes → next.found.items ≡ mid.found.items → TakesAll (Gathering first s) next (undoes s) new
-    → CountEdges (first old.classes.now) q new.found.items
-walked_both first q image t s old mid next new n legal other im e f none h same_classes same_found k =
-    let once = first_walk first q t old mid e none h in
-    let kept = same_classes ∙ (gathered_by first t (undoes t) old mid h).0 in
-    let second = (gathered_by first s (undoes s) next new k).1 in
-    let same = subst (λ c. Gathers (first c.now) s (undoes s) next.found.items new.found.items) kept second in
-    let going_on = subst (λ (xs : List ℕ). Gathers (first old.classes.now) s (undoes s) xs new.found.items) same_found same in
+pub walked_both : (Represents : Classes → Setup → ℕ → Type 0) (q image t s : Setup) (old mid next new : Gathered)
+    → IsNumbering (Represents old.classes.now) → IsLegal q → mirrored q ≢ q → image ≡ mirrored q
+    → t ≡ turned q → s ≡ turned image → old.found.items ≡ [] → TakesAll (Gathering Represents t) old (undoes t) mid
+    → next.classes ≡ mid.classes → next.found.items ≡ mid.found.items → TakesAll (Gathering Represents s) next (undoes s) new
+    → CountEdges (Represents old.classes.now) q new.found.items
+walked_both Represents q image t s old mid next new n legal other im e f none h same_classes same_found k =
+    let once = fresh_walk Represents q t old mid e none h in
+    let kept = same_classes ∙ (gathered_by Represents t (undoes t) old mid h).0 in
+    let second = (gathered_by Represents s (undoes s) next new k).1 in
+    let same = subst (λ c. Gathers (Represents c.now) s (undoes s) next.found.items new.found.items) kept second in
+    let going_on = subst (λ (xs : List ℕ). Gathers (Represents old.classes.now) s (undoes s) xs new.found.items) same_found same in
     let there : s ≡ turned (mirrored q) = f ∙ ap turned im in
-    counts_both (first old.classes.now) n q mid.found.items new.found.items legal.squares other once
-    (subst (λ (x : Setup). Gathers (first old.classes.now) x (undoes x) mid.found.items new.found.items) there going_on)
+    counts_both (Represents old.classes.now) n q mid.found.items new.found.items legal.squares other once
+    (subst (λ (x : Setup). Gathers (Represents old.classes.now) x (undoes x) mid.found.items new.found.items) there going_on)
 
 -- ---- what was found
 
-pub alone_found : (first : Setup → ℕ → Type 0) → IsNumbering first → (q t : Setup) (old new : List ℕ) → IsLegal q → mirrored q ≡ q → t ≡ turned q → old ≡ []
-    → Gathers first t (undoes t) old new → CountEdges first q new
-alone_found first n q t old new legal own e none g =
-    counts_alone first n q new legal.squares own
-    (subst (λ (x : Setup). Gathers first x (undoes x) [] new) e (subst (λ (xs : List ℕ). Gathers first t (undoes t) xs new) none g))
+pub alone_found : (Represents : Setup → ℕ → Type 0) → IsNumbering Represents → (q t : Setup) (old new : List ℕ) → IsLegal q → mirrored q ≡ q
+    → t ≡ turned q → old ≡ [] → Gathers Represents t (undoes t) old new → CountEdges Represents q new
+alone_found Represents n q t old new legal own e none g =
+    counts_alone Represents n q new legal.squares own
+    (subst (λ (x : Setup). Gathers Represents x (undoes x) [] new) e (subst (λ (xs : List ℕ). Gathers Represents t (undoes t) xs new) none g))
 
-pub both_found : (first : Setup → ℕ → Type 0) → IsNumbering first → (q t s : Setup) (old mid new : List ℕ) → IsLegal q → mirrored q ≢ q
-    → t ≡ turned q → s ≡ mirrored (turned q) → old ≡ [] → Gathers first t (undoes t) old mid → Gathers first s (undoes s) mid new → CountEdges first q new
-both_found first n q t s old mid new legal other e f none g h =
-    counts_both first n q mid new legal.squares other
-    (subst (λ (x : Setup). Gathers first x (undoes x) [] mid) e (subst (λ (xs : List ℕ). Gathers first t (undoes t) xs mid) none g))
-    (subst (λ (x : Setup). Gathers first x (undoes x) mid new) (f ∙ sym (turned-mirrored q)) h)
+pub both_found : (Represents : Setup → ℕ → Type 0) → IsNumbering Represents → (q t s : Setup) (old mid new : List ℕ) → IsLegal q → mirrored q ≢ q
+    → t ≡ turned q → s ≡ mirrored (turned q) → old ≡ [] → Gathers Represents t (undoes t) old mid → Gathers Represents s (undoes s) mid new
+    → CountEdges Represents q new
+both_found Represents n q t s old mid new legal other e f none g h =
+    counts_both Represents n q mid new legal.squares other
+    (subst (λ (x : Setup). Gathers Represents x (undoes x) [] mid) e (subst (λ (xs : List ℕ). Gathers Represents t (undoes t) xs mid) none g))
+    (subst (λ (x : Setup). Gathers Represents x (undoes x) mid new) (f ∙ sym (turned-mirrored q)) h)

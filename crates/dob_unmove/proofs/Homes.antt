@@ -162,11 +162,11 @@ tells_before s e = is_home e s || (nat_lt 8 s || (nat_lt (mirrored_square s) s |
 all_tell : all_below (λ s. all_below (tells_before s) 12) 12 ≡ true
 all_tell = refl
 
-pub first_home : (set : PieceSet) (p : Setup) (class s e : ℕ) → RepresentsIn set p class → at p s ≡ Some (piece_of Mover Lion)
+pub representative_home : (set : PieceSet) (p : Setup) (class s e : ℕ) → RepresentsIn set p class → at p s ≡ Some (piece_of Mover Lion)
     → at p e ≡ Some (piece_of Enemy Lion)
     → is_home e s ≡ true
-first_home set p class s e first own other =
-    let is = first.0.0 in
+representative_home set p class s e represents own other =
+    let is = represents.0.0 in
     let twelve = is.legal.squares in
     let in_s = within-from_piece p s (piece_of Mover Lion) own in
     let in_e = within-from_piece p e (piece_of Enemy Lion) other in
@@ -177,7 +177,7 @@ first_home set p class s e first own other =
       | inl home ↦ home
       | inr rest ↦ elim (either_true (nat_lt 8 s) _ rest) [
         | inl far ↦ absurd (is.legal.home s (let high = ltb-true 8 s far in omega (arith, high)) own)
-        | inr image ↦ absurd (first.0.1 (image_before set p s e is own other low_s low_e (lions image)))
+        | inr image ↦ absurd (represents.0.1 (image_before set p s e is own other low_s low_e (lions image)))
       ]
     ]
   where

@@ -19,8 +19,9 @@ same_outlook : (p : Setup) → SameOutlook p p
 same_outlook p = record { won = λ n. (λ won. won, λ won. won); lost = λ n. (λ lost. lost, λ lost. lost) }
 
 -- a position has the outlook of its representative
-pub first_outlook : (set : PieceSet) (p first : Setup) → IsPositionOf set p → RepresentativeOf p first → SameOutlook p first
-first_outlook set p first is represents = elim represents.0 [
+pub representative_outlook : (set : PieceSet) (p representative : Setup) → IsPositionOf set p → RepresentativeOf p representative →
+    SameOutlook p representative
+representative_outlook set p representative is represents = elim represents.0 [
   | inl same ↦ subst (SameOutlook p) (sym same) (same_outlook p)
   | inr image ↦ subst (SameOutlook p) (sym image) (one_outlook p is.legal)
 ]
@@ -31,14 +32,14 @@ first_outlook set p first is represents = elim represents.0 [
 pub has_entry : (set : PieceSet) (values : List Value) (p : Setup) → HasClasses set (length values) → IsPositionOf set p →
     (v : Value) × HasInTable set values p v
 has_entry set values p classes is =
-    let first = has_representative set p is in
-    let represents = representative_is set p first.0 is first.1 in
-    let class = marks_below (is_first set) (rank_of set first.0) in
-    let number = HasClass-marks set first.0 represents.0 in
-    let within : class < length values = class_within set first.0 class (length values) represents number classes in
+    let found = has_representative set p is in
+    let represents = representative_is set p found.0 is found.1 in
+    let class = marks_below (is_first set) (rank_of set found.0) in
+    let number = HasClass-marks set found.0 represents.0 in
+    let within : class < length values = class_within set found.0 class (length values) represents number classes in
     entry_at values class within (λ v entry. record {
       class = class;
-      number = record { position = is; first = first.0; representative = first.1; before = number };
+      number = record { position = is; representative = found.0; stands = found.1; before = number };
       entry = entry;
     })
   where

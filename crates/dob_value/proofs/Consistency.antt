@@ -17,7 +17,7 @@ use Rattle.dob_value.proofs.Successors.{moves_keep_the_set}
 use Rattle.dob_value.specs.Follows.{HasInTable, FollowsFromSuccessors, FollowsAt, Follows, IsConsistent, ConsistentIsRight}
 use Rattle.dob_value.proofs.Distances.{same_win, same_loss}
 use Rattle.dob_value.proofs.Depths.{won_stays}
-use Rattle.dob_value.proofs.ClassNumbers.{has_entry, one_entry, representative_is, first_outlook}
+use Rattle.dob_value.proofs.ClassNumbers.{has_entry, one_entry, representative_is, representative_outlook}
 
 -- the value is a win, or a loss, in at most so many plies
 abbrev pub IsWinWithin : ℕ → Value → Type 0
@@ -92,55 +92,56 @@ module _ (set : PieceSet) (values : List Value) (consistent : IsConsistent set v
 
   -- what an entry says of the representative
   entry_follows : (p : Setup) (v : Value) → IsPositionOf set p → (has : HasInTable set values p v) →
-      Follows (HasInTable set values) has.number.first v
+      Follows (HasInTable set values) has.number.representative v
   entry_follows p v is has =
-      consistent.follows has.number.first has.class v (representative_is set p has.number.first is has.number.representative) has.number.before has.entry
+      consistent.follows has.number.representative has.class v (representative_is set p has.number.representative is has.number.stands)
+      has.number.before has.entry
 
-  first_member : (p : Setup) (v : Value) → IsPositionOf set p → (has : HasInTable set values p v) → IsPositionOf set has.number.first
-  first_member p v is has = (representative_is set p has.number.first is has.number.representative).0
+  representative_member : (p : Setup) (v : Value) → IsPositionOf set p → (has : HasInTable set values p v) → IsPositionOf set has.number.representative
+  representative_member p v is has = (representative_is set p has.number.representative is has.number.stands).0
 
-  outlook : (p : Setup) (v : Value) → IsPositionOf set p → (has : HasInTable set values p v) → SameOutlook p has.number.first
-  outlook p v is has = first_outlook set p has.number.first is has.number.representative
+  outlook : (p : Setup) (v : Value) → IsPositionOf set p → (has : HasInTable set values p v) → SameOutlook p has.number.representative
+  outlook p v is has = representative_outlook set p has.number.representative is has.number.stands
 
   -- what is won or lost within n plies is so in the table
   mutual
     won_in_table : (n : ℕ) (p : Setup) (v : Value) → IsPositionOf set p → HasInTable set values p v → Won n p → IsWinWithin n v
     won_in_table zero p v is has won = absurd won
     won_in_table (suc n) p v is has won =
-        let first = has.number.first in
+        let representative = has.number.representative in
         let follows = entry_follows p v is has in
         elim (((outlook p v is has).won (suc n)).0 won) [
-          | inl caught ↦ (1, follows_caught (HasInTable set values) first v caught follows, omega arith)
+          | inl caught ↦ (1, follows_caught (HasInTable set values) representative v caught follows, omega arith)
           | inr open_win ↦
               let goes_on = open_win.0 in
               let move = open_win.1 in
               let q = open_win.2 in
               let goes = open_win.3 in
-              let next = moves_keep_the_set set first move q (first_member p v is has) goes_on goes in
+              let next = moves_keep_the_set set representative move q (representative_member p v is has) goes_on goes in
               let entry = known q next in
-              win_follows (HasInTable set values) first n v move q goes (λ a b. one q a b next) entry.0 entry.1
+              win_follows (HasInTable set values) representative n v move q goes (λ a b. one q a b next) entry.0 entry.1
               (lost_in_table n q entry.0 next entry.1 open_win.4)
-              (follows_open (HasInTable set values) first v goes_on follows)
+              (follows_open (HasInTable set values) representative v goes_on follows)
         ]
 
     lost_in_table : (n : ℕ) (p : Setup) (v : Value) → IsPositionOf set p → HasInTable set values p v → Lost n p → IsLossWithin n v
     lost_in_table zero p v is has lost =
-        (0, follows_over (HasInTable set values) has.number.first v (((outlook p v is has).lost 0).0 lost) (entry_follows p v is has), omega arith)
+        (0, follows_over (HasInTable set values) has.number.representative v (((outlook p v is has).lost 0).0 lost) (entry_follows p v is has), omega arith)
     lost_in_table (suc n) p v is has lost =
-        let first = has.number.first in
+        let representative = has.number.representative in
         let follows = entry_follows p v is has in
         elim (((outlook p v is has).lost (suc n)).0 lost) [
-          | inl over ↦ (0, follows_over (HasInTable set values) first v over follows, omega arith)
+          | inl over ↦ (0, follows_over (HasInTable set values) representative v over follows, omega arith)
           | inr open_loss ↦
               let goes_on = open_loss.0 in
-              let member = first_member p v is has in
-              loss_follows (HasInTable set values) first n v
-              (λ move q goes a b. one q a b (moves_keep_the_set set first move q member goes_on goes))
+              let member = representative_member p v is has in
+              loss_follows (HasInTable set values) representative n v
+              (λ move q goes a b. one q a b (moves_keep_the_set set representative move q member goes_on goes))
               (λ move q goes.
-              let next = moves_keep_the_set set first move q member goes_on goes in
+              let next = moves_keep_the_set set representative move q member goes_on goes in
               let entry = known q next in
               (entry.0, entry.1, won_in_table n q entry.0 next entry.1 (open_loss.1 move q goes)))
-              (follows_open (HasInTable set values) first v goes_on follows)
+              (follows_open (HasInTable set values) representative v goes_on follows)
         ]
 
   -- a win of the table at a representative, where losses in one ply less are right; and likewise a loss
@@ -194,24 +195,24 @@ module _ (set : PieceSet) (values : List Value) (consistent : IsConsistent set v
     win_is_won zero plies p upto is has =
         let follows = entry_follows p (Win plies) is has in
         ((outlook p (Win plies) is has).won plies).1
-        (win_step plies has.number.first (first_member p (Win plies) is has) follows.0 follows.1 follows.2
+        (win_step plies has.number.representative (representative_member p (Win plies) is has) follows.0 follows.1 follows.2
         (λ least q below next entry. absurd (omega arith)))
     win_is_won (suc n) plies p upto is has =
         let follows = entry_follows p (Win plies) is has in
         ((outlook p (Win plies) is has).won plies).1
-        (win_step plies has.number.first (first_member p (Win plies) is has) follows.0 follows.1 follows.2
+        (win_step plies has.number.representative (representative_member p (Win plies) is has) follows.0 follows.1 follows.2
         (λ least q below next entry. loss_is_lost n least q (omega arith) next entry))
 
     loss_is_lost : (n plies : ℕ) (p : Setup) → plies ≤ n → IsPositionOf set p → HasInTable set values p (Loss plies) → Lost plies p
     loss_is_lost zero plies p upto is has =
         let follows = entry_follows p (Loss plies) is has in
         ((outlook p (Loss plies) is has).lost plies).1
-        (loss_step plies has.number.first (first_member p (Loss plies) is has) follows.0 follows.1 follows.2
+        (loss_step plies has.number.representative (representative_member p (Loss plies) is has) follows.0 follows.1 follows.2
         (λ win q below next entry. absurd (omega arith)))
     loss_is_lost (suc n) plies p upto is has =
         let follows = entry_follows p (Loss plies) is has in
         ((outlook p (Loss plies) is has).lost plies).1
-        (loss_step plies has.number.first (first_member p (Loss plies) is has) follows.0 follows.1 follows.2
+        (loss_step plies has.number.representative (representative_member p (Loss plies) is has) follows.0 follows.1 follows.2
         (λ win q below next entry. win_is_won n win q (omega arith) next entry))
 
   entry_is_value : (p : Setup) (v : Value) → IsPositionOf set p → HasInTable set values p v → HasValue p v

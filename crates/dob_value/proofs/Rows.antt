@@ -19,14 +19,14 @@ use Rattle.dob_value.specs.Graphs.{AreValues}
 use Rattle.dob_value.specs.Codes.{value_of_code, values_of_codes}
 use Rattle.dob_value.specs.Follows.{IsEntry, IsValueTable}
 use Rattle.dob_value.proofs.Tables.{value_same}
-use Rattle.dob_value.proofs.ClassNumbers.{representative_is, first_outlook, has_entry}
+use Rattle.dob_value.proofs.ClassNumbers.{representative_is, representative_outlook, has_entry}
 
 -- a position has the outlook of what stands at its class number
-pub class_outlook : (set : PieceSet) (p first : Setup) (class classes : ℕ) → HasClasses set classes → class < classes → IsPositionOf set p →
-    RepresentativeOf p first → HasClass set first class → SameOutlook p (class_setup set class)
-class_outlook set p first class classes all below is represents number =
-    subst (SameOutlook p) (class_setup_only set first class classes all below (representative_is set p first is represents) number)
-    (first_outlook set p first is represents)
+pub class_outlook : (set : PieceSet) (p representative : Setup) (class classes : ℕ) → HasClasses set classes → class < classes → IsPositionOf set p →
+    RepresentativeOf p representative → HasClass set representative class → SameOutlook p (class_setup set class)
+class_outlook set p representative class classes all below is represents number =
+    subst (SameOutlook p) (class_setup_only set representative class classes all below (representative_is set p representative is represents) number)
+    (representative_outlook set p representative is represents)
 
 -- ---- tables in the order of the row
 
@@ -52,6 +52,6 @@ swept_is_table set values are entries =
           subst (HasValue (class_setup set has.class)) (get_or_from_slice_get values has.class v Draw has.entry)
           (are.fits has.class (subst (λ n. has.class < n) are.same_length within)) in
           value_same (class_setup set has.class) p v
-          (class_outlook set p has.number.first has.class (length values) classes within is has.number.representative has.number.before)
+          (class_outlook set p has.number.representative has.class (length values) classes within is has.number.stands has.number.before)
           here;
     }

@@ -69,8 +69,8 @@ pub record IsTable (set : PieceSet) (values : List Value) : Type 0 where
 -- A consistent table: each class's value follows from its status and its successors' values.
 pub record IsConsistent (set : PieceSet) (values : List Value) : Type 0 where
   pub table : IsTable set values
-  pub follows : (first : Setup) (class : ℕ) (v : Value) → IsRepresentative set first → HasClass set first class →
-      slice_get values class ≡ Some v → Follows (HasInTable set values) first v
+  pub follows : (representative : Setup) (class : ℕ) (v : Value) → IsRepresentative set representative → HasClass set representative class →
+      slice_get values class ≡ Some v → Follows (HasInTable set values) representative v
 
 -- The value table: each class has an entry, which is the value of each of its positions.
 pub record IsValueTable (set : PieceSet) (values : List Value) : Type 0 where

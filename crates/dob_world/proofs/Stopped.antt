@@ -19,7 +19,7 @@ use Rattle.dob_node.specs.declared.cause.Cause.{Cause}
 use Rattle.dob_node.specs.declared.cause.Cause.TheVariants as cause
 use Rattle.dob_node.specs.Takes.{HasEntries, AreKept, IsReason, StopsAt}
 use Rattle.dob_node.specs.declared.node.Node.{Node}
-use Rattle.dob_node.specs.Nodes.{HasRefused}
+use Rattle.dob_node.specs.Nodes.{HasItemFault}
 use Rattle.dob_world.specs.declared.lane.Lane.{Lane}
 use Rattle.dob_world.specs.declared.event.Event.TheVariants.{Own, Take}
 use Rattle.dob_world.specs.declared.fault.Fault.TheVariants.{Stopped}
@@ -48,7 +48,7 @@ fits_by k i node share history cell item is kept statuses can same = (
   subst (λ c. Takes item.was item.now c) same can.takes,
 )
 
--- An item that fits is refused for want of memory, or since it goes too deep.
+-- An item that fits stops its node for want of memory, or since it goes too deep.
 reason_stop : (item : Item) (share : Share) (why : Cause) → Fits share item → IsReason item share why →
     (why ≡ cause.Memory) ⊎ ((why ≡ cause.TooDeep) × GoesTooDeep share item)
 reason_stop item share cause.TooDeep fits is = inr (refl, is.1)
@@ -77,17 +77,17 @@ module _ (k : Setting) (nodes : List Node) (lanes : List Lane) (some : 0 < k.n) 
             (own_is k i i (nodes_shown k.set k.n nodes lanes) node.share [] [] item.to can.below can.own)),
       )
 
-  -- An own item is refused for want of memory, or since it goes too deep.
+  -- An own item stops its node for want of memory, or since it goes too deep.
   pub own_stops : (i : ℕ) (node : Node) (lane : Lane) (why : Cause) → i < k.n → slice_get nodes i ≡ Some node →
-      lane_at k.n lanes i i ≡ Some lane → (why ≡ cause.Memory) ⊎ HasRefused node why → IsStopBy k (world_shown k.set k.n nodes lanes) (Own i) (Stopped i why)
+      lane_at k.n lanes i i ≡ Some lane → (why ≡ cause.Memory) ⊎ HasItemFault node why → IsStopBy k (world_shown k.set k.n nodes lanes) (Own i) (Stopped i why)
   unfolding world_shown
   own_stops i node lane why low there_n there_l (inl memory) = (low, inl (ap (λ (c : Cause). Stopped i c) memory))
-  own_stops i node lane why low there_n there_l (inr refused) =
-      let item = refused.item in
+  own_stops i node lane why low there_n there_l (inr fault) =
+      let item = fault.item in
       let is = places.node i node there_n in
-      let own = own_cell i node lane item refused.behind low there_n there_l refused.first in
+      let own = own_cell i node lane item fault.behind low there_n there_l fault.first in
       let fits = fits_by k i node node.share node.history (nodes_shown k.set k.n nodes lanes).cell item is (kept_of k i node is) (λ class. refl) own.0 own.1 in
-      elim (reason_stop item node.share why fits refused.refused) [
+      elim (reason_stop item node.share why fits fault.reason) [
         | inl memory ↦ (low, inl (ap (λ (c : Cause). Stopped i c) memory))
         | inr deep ↦ (
           low,
@@ -95,8 +95,8 @@ module _ (k : Setting) (nodes : List Node) (lanes : List Lane) (some : 0 < k.n) 
             ap (λ (c : Cause). Stopped i c) deep.0,
             record {
               item = item;
-              behind = refused.behind;
-              first = was nodes i node node there_n [] (λ (x : Node). x.own.items) ∙ refused.first;
+              behind = fault.behind;
+              first = was nodes i node node there_n [] (λ (x : Node). x.own.items) ∙ fault.first;
               deep = deep_there node.share (nodes_shown k.set k.n nodes lanes).cell item own.1 deep.1;
             },
           ),
@@ -135,7 +135,7 @@ module _ (k : Setting) (nodes : List Node) (lanes : List Lane) (some : 0 < k.n) 
       let same = cell_here k i j (nodes_shown k.set k.n nodes lanes) at.after at.grown.settlements (lane.applied.items ++ at.front) at.item.to can.below can.own in
       let fits = fits_by k j node at.after at.grown between.cell at.item here both.1
       (chain_statuses at.front node.share at.after node.history at.grown at.taken) can same in
-      elim (reason_stop at.item at.after why fits at.refused) [
+      elim (reason_stop at.item at.after why fits at.reason) [
         | inl memory ↦ (low_j, inl (ap (λ (c : Cause). Stopped j c) memory))
         | inr deep ↦ (
           low_j,

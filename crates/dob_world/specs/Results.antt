@@ -15,12 +15,12 @@ use Rattle.dob_world.specs.Stops.{IsStopIn}
 use Rattle.dob_world.specs.Shown.{setting_of, state_of, IsSetting, IsStanding, IsStart}
 
 -- Why there is no world of that setting: the first of these that isn't so, or memory is refused where all are.
-abbrev pub IsRefused : Setting → Fault → Type 0
-IsRefused k SetTooLarge = ¬ IsSmall k.set
-IsRefused k Nodes = IsSmall k.set × (¬ IsSize k.n)
-IsRefused k Sizes = IsSmall k.set × IsSize k.n × (¬ AreSizes k.batch k.capacity)
-IsRefused k (Stopped node why) = ⊥
-IsRefused k Memory = IsSetting k
+abbrev pub HasSettingFault : Setting → Fault → Type 0
+HasSettingFault k SetTooLarge = ¬ IsSmall k.set
+HasSettingFault k Nodes = IsSmall k.set × (¬ IsSize k.n)
+HasSettingFault k Sizes = IsSmall k.set × IsSize k.n × (¬ AreSizes k.batch k.capacity)
+HasSettingFault k (Stopped node why) = ⊥
+HasSettingFault k Memory = IsSetting k
 
 -- The world is the opening world changed by the events, in order, and the promise of the whole holds of it.
 pub record HasRun (k : Setting) (events : List Event) (world : World) : Type 0 where

@@ -1,6 +1,6 @@
 // Events one after another.
 ghost use Rattle.std.specs.Prelude.{◌≡◌, ◌^◌, ◌≤◌, ◌⊎◌, length, IfOk, IfErr};
-ghost use Rattle.dob_world.specs.Results.{IsRefused, HasRun, HasStopped};
+ghost use Rattle.dob_world.specs.Results.{HasSettingFault, HasRun, HasStopped};
 
 use crate::event::Event;
 use crate::fault::Fault;
@@ -23,7 +23,7 @@ pub fn run(
 ) -> Result<World, Fault>
     requires few { length events.now ≤ 2 ^ 40 }
     ensures run { IfOk result (λ world. HasRun (record { set = set; n = n; batch = batch; capacity = capacity }) events.now world) }
-    ensures refused { IfErr result (λ fault. IsRefused (record { set = set; n = n; batch = batch; capacity = capacity }) fault ⊎ HasStopped (record { set = set; n = n; batch = batch; capacity = capacity }) events.now fault) }
+    ensures fault { IfErr result (λ fault. HasSettingFault (record { set = set; n = n; batch = batch; capacity = capacity }) fault ⊎ HasStopped (record { set = set; n = n; batch = batch; capacity = capacity }) events.now fault) }
 {
     let mut world = match World::open(alloc, set, n, batch, capacity) {
         Ok(world) => world,

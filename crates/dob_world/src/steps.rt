@@ -3,7 +3,7 @@ ghost use Rattle.std.specs.Prelude.{◌≡◌, ◌<◌, ◌≤◌, ◌↔◌, �
 ghost use Rattle.std.specs.List.{All};
 ghost use Rattle.dob_update.specs.Batches.{BatchView};
 ghost use Rattle.dob_node.specs.declared.cause.Cause.TheVariants as cause;
-ghost use Rattle.dob_node.specs.Nodes.{outbox_to, IsSound, HasRefused};
+ghost use Rattle.dob_node.specs.Nodes.{outbox_to, IsSound, HasItemFault};
 ghost use Rattle.dob_node.specs.Takes.{StopsAt};
 ghost use Rattle.dob_world.specs.Lanes.{IsBatchFor, HasListed, HasPosted, HasReceived};
 
@@ -19,7 +19,7 @@ pub(crate) fn apply_own(node: &mut Node, lane: &mut Lane) -> Result<bool, Cause>
     ensures none { (result ≡ Ok false) ↔ (node.old.own.items ≡ []) }
     ensures nothing { result ≡ Ok false → (node.new ≡ node.old) × (lane.new ≡ lane.old) }
     ensures applied { result ≡ Ok true → HasListed node.old lane.old node.new lane.new }
-    ensures stopped { IfErr result (λ why. (why ≡ cause.Memory) ⊎ HasRefused node.old why) }
+    ensures stopped { IfErr result (λ why. (why ≡ cause.Memory) ⊎ HasItemFault node.old why) }
     ensures sound { OnOk result (IsSound node.new) }
 {
     let item = match node.first_own() {

@@ -38,7 +38,7 @@ impl World {
     ghost use Rattle.dob_world.specs.declared.fault.Fault.TheVariants as fault;
     ghost use Rattle.dob_world.specs.Stops.{IsStopBy, IsStop};
     ghost use Rattle.dob_world.specs.Shown.{setting_of, state_of, IsStanding, WillStand, IsKept, IsUnchanged, IsMade, IsStart};
-    ghost use Rattle.dob_world.specs.Results.{IsRefused};
+    ghost use Rattle.dob_world.specs.Results.{HasSettingFault};
     ghost use Rattle.dob_world.specs.Headline.{Headline};
 
     /// A world of `n` nodes before its first event, with batches of at most `batch` items and links with room for
@@ -57,7 +57,7 @@ impl World {
         ensures setting { IfOk result (λ world. setting_of world ≡ record { set = set; n = n; batch = batch; capacity = capacity }) }
         ensures standing { IfOk result (λ world. IsStanding world × (world.failed ≡ None) × (world.steps ≡ 0)) }
         ensures opened { IfOk result (λ world. IsStart (setting_of world) (state_of world)) }
-        ensures refused { IfErr result (λ fault. IsRefused (record { set = set; n = n; batch = batch; capacity = capacity }) fault) }
+        ensures fault { IfErr result (λ fault. HasSettingFault (record { set = set; n = n; batch = batch; capacity = capacity }) fault) }
     {
         if set.chicks + set.elephants + set.giraffes > MOST_PIECES {
             return Err(Fault::SetTooLarge);

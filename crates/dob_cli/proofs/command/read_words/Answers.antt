@@ -5,7 +5,7 @@ use Rattle.std.proofs.lemmas.Result.{IfOk-weaker}
 use Rattle.clap.specs.Words.{app_of}
 use Rattle.dob_cli.specs.declared.command.Reading.TheVariants as reading
 use Rattle.dob_cli.proofs.Lines.{order_from_line, reading_at_line}
-use Rattle.dob_cli.proofs.Outcomes.{command_meaning, asked_by_matches, order_is_meant, order_is_there, refusal_of_words}
+use Rattle.dob_cli.proofs.Outcomes.{command_meaning, asked_by_matches, order_is_meant, order_is_there, error_of_words}
 use Rattle.dob_cli.proofs.command.read_words.Goals as goal
 
 pub unreachable-requires : goal.unreachable-requires
@@ -31,14 +31,14 @@ returns-in-Some-clause-complete c =
 
 pub returns-in-Err-clause-meaning : goal.returns-in-Err-clause-meaning
 returns-in-Err-clause-meaning c =
-    IfOk-weaker c.read_refusal.result _ _
+    IfOk-weaker c.read_error.result _ _
     (λ r h. subst (λ m. IsReadingOf m r) (command_meaning (map (λ w. w.now) c.args.words.now) (sym c.asks_version.ensures ∙ c.if-asks_version.false))
-    (refusal_of_words (app_of c.in_ok-dobutsu_command.field-0) (map (λ w. w.now) c.args.words.now) c.in-Err.error
-    c.in_ok-dobutsu_command.ensures.0 c.in-Err.ensures.kinds r h)) c.read_refusal.ensures
+    (error_of_words (app_of c.in_ok-dobutsu_command.field-0) (map (λ w. w.now) c.args.words.now) c.in-Err.error
+    c.in_ok-dobutsu_command.ensures.0 c.in-Err.ensures.kinds r h)) c.read_error.ensures
 
 pub returns-in-Err-clause-sound : goal.returns-in-Err-clause-sound
-returns-in-Err-clause-sound c = IfOk-weaker c.read_refusal.result _ _ (order_from_line _) (returns-in-Err-clause-meaning c)
+returns-in-Err-clause-sound c = IfOk-weaker c.read_error.result _ _ (order_from_line _) (returns-in-Err-clause-meaning c)
 
 pub returns-in-Err-clause-complete : goal.returns-in-Err-clause-complete
 returns-in-Err-clause-complete c =
-    λ form texts among line. IfOk-weaker c.read_refusal.result _ _ (λ r. reading_at_line _ form texts r among line) (returns-in-Err-clause-meaning c)
+    λ form texts among line. IfOk-weaker c.read_error.result _ _ (λ r. reading_at_line _ form texts r among line) (returns-in-Err-clause-meaning c)

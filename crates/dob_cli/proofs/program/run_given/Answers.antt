@@ -6,8 +6,8 @@ use Rattle.dob_cli.proofs.program.run_given.Goals as goal
 pub returns-in-Ok-clause-words : goal.returns-in-Ok-clause-words
 returns-in-Ok-clause-words g c = rw c.in-Ok.is c.run_args.ensures
 
-pub returns-in-Ok-clause-refused : goal.returns-in-Ok-clause-refused
-returns-in-Ok-clause-refused g c = rw c.in-Ok.is tt
+pub returns-in-Ok-clause-memory : goal.returns-in-Ok-clause-memory
+returns-in-Ok-clause-memory g c = rw c.in-Ok.is tt
 
 pub returns-in-Ok-clause-unread : goal.returns-in-Ok-clause-unread
 returns-in-Ok-clause-unread g c = rw c.in-Ok.is tt
@@ -18,8 +18,8 @@ returns-in-Ok-clause-files g c = rw c.in-Ok.is tt
 pub returns-in-OutOfMemory-clause-words : goal.returns-in-OutOfMemory-clause-words
 returns-in-OutOfMemory-clause-words g c = rw c.in-Err.is tt
 
-pub returns-in-OutOfMemory-clause-refused : goal.returns-in-OutOfMemory-clause-refused
-returns-in-OutOfMemory-clause-refused g c = rw c.in-Err.is (λ _. (c.tell_memory.ensures, refl))
+pub returns-in-OutOfMemory-clause-memory : goal.returns-in-OutOfMemory-clause-memory
+returns-in-OutOfMemory-clause-memory g c = rw c.in-Err.is (λ _. (c.tell_memory.ensures, refl))
 
 pub returns-in-OutOfMemory-clause-files : goal.returns-in-OutOfMemory-clause-files
 returns-in-OutOfMemory-clause-files g c = rw c.in-Err.is (unchanged (g.S.Shelf.has c.args.shelf.now))

@@ -5,16 +5,16 @@ use Rattle.std.proofs.lemmas.Result.{err_from_is_err_and}
 use Rattle.dob_pieces.specs.declared.piece_set.PieceSet.{PieceSet}
 use Rattle.dob_rank.specs.Marks.{classes_of}
 use Rattle.dob_dbfile.specs.Format.{count_bytes}
-use Rattle.dob_dbfile.proofs.Refused.{set_refused, memory_refused, small}
+use Rattle.dob_dbfile.proofs.HeaderFaults.{set_fault, memory_fault, small}
 use Rattle.dob_dbfile.proofs.read.classes_named.Goals as goal
 
-pub returns-in_err-classes-clause-refused : goal.returns-in_err-classes-clause-refused
-returns-in_err-classes-clause-refused c =
+pub returns-in_err-classes-clause-fault : goal.returns-in_err-classes-clause-fault
+returns-in_err-classes-clause-fault c =
     let p = err_from_is_err_and c.from_residual.result c.from_residual.ensures.1 in
-    rw p.1 (set_refused c.args.header.now c.in-Some.set c.in_err-classes.field-0.0 p.0 (search rules) c.in_err-classes.ensures.too_large p.2)
+    rw p.1 (set_fault c.args.header.now c.in-Some.set c.in_err-classes.field-0.0 p.0 (search rules) c.in_err-classes.ensures.too_large p.2)
 
-pub returns-else-is_count-clause-refused : goal.returns-else-is_count-clause-refused
-returns-else-is_count-clause-refused c =
+pub returns-else-is_count-clause-fault : goal.returns-else-is_count-clause-fault
+returns-else-is_count-clause-fault c =
     let set = c.in-Some.set in
     let few = small c.in-Some.set c.in_ok-classes.classes c.in_ok-classes.ensures.too_large in
     inr (
@@ -31,4 +31,4 @@ returns-else-is_count-clause-refused c =
 pub returns-in_err-classes-clause-memory : goal.returns-in_err-classes-clause-memory
 returns-in_err-classes-clause-memory c =
     let p = err_from_is_err_and c.from_residual.result c.from_residual.ensures.1 in
-    rw p.1 (memory_refused c.args.header.now c.in-Some.set c.in_err-classes.field-0.0 p.0 (search rules) c.in_err-classes.ensures.too_large p.2)
+    rw p.1 (memory_fault c.args.header.now c.in-Some.set c.in_err-classes.field-0.0 p.0 (search rules) c.in_err-classes.ensures.too_large p.2)

@@ -5,8 +5,8 @@ use Rattle.dob_dbfile.specs.Reading.{IsCut}
 use Rattle.dob_dbfile.proofs.Endings.{digest_cut, all_taken}
 use Rattle.dob_dbfile.proofs.read.expect_digest.Goals as goal
 
-pub returns-in_err-fill-clause-refused : goal.returns-in_err-fill-clause-refused
-returns-in_err-fill-clause-refused g c = λ stream message gives holds.
+pub returns-in_err-fill-clause-fault : goal.returns-in_err-fill-clause-fault
+returns-in_err-fill-clause-fault g c = λ stream message gives holds.
     let p = err_from_is_err_and c.from_residual.result c.from_residual.ensures.1 in
     let room : length c.fill.new.room ≡ 32 = c.fill.auto.room in
     rw (p.1, p.2) (digest_cut message c.args.before stream _
@@ -23,8 +23,8 @@ returns-then-are_same-clause-is g c = λ stream message gives holds.
       digest = found.same ∙ c.are_same.ensures.0 c.if-are_same.true ∙ c.finalize.ensures message holds;
     }
 
-pub returns-else-are_same-clause-refused : goal.returns-else-are_same-clause-refused
-returns-else-are_same-clause-refused g c = λ stream message gives holds.
+pub returns-else-are_same-clause-fault : goal.returns-else-are_same-clause-fault
+returns-else-are_same-clause-fault g c = λ stream message gives holds.
     let taken = c.in_ok-fill.ensures.taken stream gives in
     let found = all_taken stream c.fill.new.room taken.0 (c.in_ok-expect_end.ensures.end _ taken.1) in
     let room : length c.fill.new.room ≡ 32 = c.fill.auto.room in (

@@ -8,23 +8,23 @@ use Rattle.dob_dbfile.specs.Devices.{after, whole}
 use Rattle.dob_dbfile.specs.Format.{bytes_of}
 use Rattle.dob_dbfile.specs.Faults.{header, HasHeader, HasHeaderFault, HasDigest, CountsClasses, NamesSmallSet}
 use Rattle.dob_dbfile.specs.Reading.{EndsWith, HasRestFault}
-use Rattle.dob_dbfile.proofs.Verdicts.{header_refused, rest_refused, right_file, right_digest}
+use Rattle.dob_dbfile.proofs.Verdicts.{header_fault, rest_fault, right_file, right_digest}
 use Rattle.dob_dbfile.proofs.Written.{table_of_codes}
 use Rattle.dob_dbfile.proofs.read.read_file.Goals as goal
 
-pub returns-in_err-classes-clause-refused : goal.returns-in_err-classes-clause-refused
-returns-in_err-classes-clause-refused g c = λ stream gives.
+pub returns-in_err-classes-clause-fault : goal.returns-in_err-classes-clause-fault
+returns-in_err-classes-clause-fault g c = λ stream gives.
     let p = err_from_is_err_and c.from_residual-in_err-classes.result c.from_residual-in_err-classes.ensures.1 in
     let taken = c.in_ok-fill.ensures.taken stream gives in
     let len : length c.fill.new.room ≡ 20 = c.fill.auto.room in
     let front : c.fill.new.room ≡ header stream = taken.0.same ∙ ap (λ (n : ℕ). take n stream.bytes) len in
     let there : HasHeader stream = omega (arith, len, taken.0.within) in
     let given = c.in_err-classes.field-0.0 in
-    rw (p.1, p.2) (header_refused stream given there
-    (subst (λ (h : List ℕ). (given ≡ fault.Memory) ⊎ HasHeaderFault h given) front c.in_err-classes.ensures.refused))
+    rw (p.1, p.2) (header_fault stream given there
+    (subst (λ (h : List ℕ). (given ≡ fault.Memory) ⊎ HasHeaderFault h given) front c.in_err-classes.ensures.fault))
 
-pub returns-in_err-codes-clause-refused : goal.returns-in_err-codes-clause-refused
-returns-in_err-codes-clause-refused g c = λ stream gives.
+pub returns-in_err-codes-clause-fault : goal.returns-in_err-codes-clause-fault
+returns-in_err-codes-clause-fault g c = λ stream gives.
     let p = err_from_is_err_and c.from_residual-in_err-codes.result c.from_residual-in_err-codes.ensures.1 in
     let taken = c.in_ok-fill.ensures.taken stream gives in
     let len : length c.fill.new.room ≡ 20 = c.fill.auto.room in
@@ -35,8 +35,8 @@ returns-in_err-codes-clause-refused g c = λ stream gives.
     let later = subst (λ (n : ℕ). g.R.Source.gives c.fill.new.source (after n stream)) len taken.1 in
     let given = c.in_err-codes.field-0.0 in
     let wrong = subst (λ (n : ℕ). HasRestFault (header stream) n (after 20 stream) given) c.count_of.ensures.count
-    (subst (λ (h : List ℕ). HasRestFault h c.count_of.result (after 20 stream) given) front (c.in_err-codes.ensures.refused (after 20 stream) later)) in
-    rw (p.1, p.2) (rest_refused stream set given (there, counts) wrong)
+    (subst (λ (h : List ℕ). HasRestFault h c.count_of.result (after 20 stream) given) front (c.in_err-codes.ensures.fault (after 20 stream) later)) in
+    rw (p.1, p.2) (rest_fault stream set given (there, counts) wrong)
 
 pub returns-clause-read : goal.returns-clause-read
 returns-clause-read g c = λ stream gives.

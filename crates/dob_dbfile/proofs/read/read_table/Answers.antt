@@ -21,9 +21,9 @@ returns-clause-exact g c = λ stream fault gives holds.
     (IfOk-weaker c.read_file.result (λ (t : ClassTable). (stream ≡ whole (bytes_of t)) × HasDigest t.set stream × IsTable t.set t.values)
     (λ (t : ClassTable). HasDigest t.set stream)
     (λ t both. both.1) (c.read_file.ensures.read stream gives))
-    (c.read_file.ensures.refused stream gives) fault holds
+    (c.read_file.ensures.fault stream gives) fault holds
 
 pub returns-clause-whole : goal.returns-clause-whole
 returns-clause-whole g c = λ table few is gives.
     read_back table c.read_file.result few is (c.read_file.ensures.read (whole (bytes_of table)) gives)
-    (c.read_file.ensures.refused (whole (bytes_of table)) gives)
+    (c.read_file.ensures.fault (whole (bytes_of table)) gives)

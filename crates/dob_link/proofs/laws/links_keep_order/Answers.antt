@@ -2,14 +2,14 @@
 use Rattle.std.proofs.Common.{◌≡◌, List, [], ◌∷◌, ◌++◌, sym, ap, ◌∙◌}
 use Rattle.std.proofs.lemmas.List.{append-nil, append_assoc}
 use Rattle.dob_update.specs.Batches.{BatchView}
-use Rattle.dob_link.specs.Links.{Call, Taken, Refused, Handed, Nothing, Runs, taken, handed}
+use Rattle.dob_link.specs.Links.{Call, Taken, GivenBack, Handed, Nothing, Runs, taken, handed}
 use Rattle.dob_link.proofs.laws.links_keep_order.Goals as goal
 
 kept_order : (calls : List Call) (old new : List BatchView) → Runs old calls new → old ++ taken calls ≡ handed calls ++ new
 kept_order [] old new e = append-nil old ∙ e
 kept_order (Taken batch ∷ calls) old new r =
     sym (append_assoc old (batch ∷ []) (taken calls)) ∙ ap (λ bs. bs ++ taken calls) (sym r.1) ∙ kept_order calls r.0 new r.2
-kept_order (Refused batch ∷ calls) old new r = ap (λ bs. bs ++ taken calls) (sym r.1) ∙ kept_order calls r.0 new r.2
+kept_order (GivenBack batch ∷ calls) old new r = ap (λ bs. bs ++ taken calls) (sym r.1) ∙ kept_order calls r.0 new r.2
 kept_order (Handed batch ∷ calls) old new r = ap (λ bs. bs ++ taken calls) r.1 ∙ ap (λ bs. batch ∷ bs) (kept_order calls r.0 new r.2)
 kept_order (Nothing ∷ calls) old new r = ap (λ bs. bs ++ taken calls) (r.1.0 ∙ sym r.1.1) ∙ kept_order calls r.0 new r.2
 

@@ -54,7 +54,7 @@ pub take_back-requires-clause-upto : goal.take_back-requires-clause-upto
 take_back-requires-clause-upto c =
     let old = c.args.outboxes.now in
     let whole = c.loop-to.invariant.whole in
-    let same = ap length c.in-Err.ensures.refused in
+    let same = ap length c.in-Err.ensures.unchanged in
     omega (arith, whole, same, c.len-n.ensures, old.ok.0, c.add_to.new.outboxes.ok.0, c.loop-to-test.true)
 
 pub take_back-requires-clause-added : goal.take_back-requires-clause-added
@@ -62,12 +62,12 @@ take_back-requires-clause-added c =
     let old = c.args.outboxes.now in (
       old.items,
       one_more_each c.args.targets.now c.args.settlement c.len-n.result c.args.from c.loop-to.to old.items c.loop-to.outboxes.items c.add_to.new.outboxes.items
-          (c.len-n.ensures ∙ old.ok.0) c.loop-to.invariant c.in-Err.ensures.refused c.requires.addressed,
+          (c.len-n.ensures ∙ old.ok.0) c.loop-to.invariant c.in-Err.ensures.unchanged c.requires.addressed,
     )
 
-pub returns-in-Err-clause-refused : goal.returns-in-Err-clause-refused
-returns-in-Err-clause-refused c =
+pub returns-in-Err-clause-unchanged : goal.returns-in-Err-clause-unchanged
+returns-in-Err-clause-unchanged c =
     let old = c.args.outboxes.now in
     c.take_back.ensures old.items
     (one_more_each c.args.targets.now c.args.settlement c.len-n.result c.args.from c.loop-to.to old.items c.loop-to.outboxes.items c.add_to.new.outboxes.items
-    (c.len-n.ensures ∙ old.ok.0) c.loop-to.invariant c.in-Err.ensures.refused c.requires.addressed)
+    (c.len-n.ensures ∙ old.ok.0) c.loop-to.invariant c.in-Err.ensures.unchanged c.requires.addressed)

@@ -33,7 +33,7 @@ returns-in_err-take_item-clause-before c =
     carried (λ why. AreTakenBefore items share c.take_item.new.share history c.take_item.new.self why) c.from_residual.result
     c.in_err-take_item.field-0.0 c.from_residual.ensures.1
     (taken_before items c.loop-item.item-index _ share c.loop-item.share c.take_item.new.share history c.loop-item.history c.take_item.new.self
-    c.in_err-take_item.field-0.0 c.loop-item-test.true c.loop-item.invariant.taken c.in_err-take_item.ensures.refused c.in_err-take_item.ensures.why)
+    c.in_err-take_item.field-0.0 c.loop-item-test.true c.loop-item.invariant.taken c.in_err-take_item.ensures.unchanged c.in_err-take_item.ensures.why)
 
 pub loop-item-preserved : goal.loop-item-preserved
 loop-item-preserved c =

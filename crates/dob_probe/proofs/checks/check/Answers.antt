@@ -12,8 +12,8 @@ use Rattle.dob_probe.specs.Faults.{IsVerdict}
 use Rattle.dob_probe.proofs.Verdicts.{Verdict, IsFirstFault, first_fault, consistent_answered, fault_answered, right_answered, passed_answered}
 use Rattle.dob_probe.proofs.checks.check.Goals as goal
 
-pub find_first-refused-requires-clause-items : goal.find_first-refused-requires-clause-items
-find_first-refused-requires-clause-items g c = λ κs lives.
+pub find_first-first_fault-requires-clause-items : goal.find_first-first_fault-requires-clause-items
+find_first-first_fault-requires-clause-items g c = λ κs lives.
     let ends = c.into_par_iter.ensures in
     let values = c.args.table.now.values in
     let count : c.class_count.result ≡ length values =
@@ -22,10 +22,10 @@ find_first-refused-requires-clause-items g c = λ κs lives.
     rw (c.map_init.ensures.base, c.map_init.ensures.f, ends.0, ends.1) (tt, λ k d lt. (λ p. inside k d lt, λ p q y e b same. tt))
 
 -- what was found
-found_is : (g : _) (c : goal.After-unwrap_or g) → IsFirstFault c.args.table.now 0 (length c.args.table.now.values) c.find_first-refused.result
+found_is : (g : _) (c : goal.After-unwrap_or g) → IsFirstFault c.args.table.now 0 (length c.args.table.now.values) c.find_first-first_fault.result
 found_is g c =
     let table = c.args.table.now in
-    let done = c.find_first-refused.ensures in
+    let done = c.find_first-first_fault.ensures in
     let ends = c.into_par_iter.ensures in
     let count : c.class_count.result ≡ length table.values =
     c.class_count.ensures.number ∙ ap (λ (set : PieceSet). classes_of set) c.classes.ensures.set ∙ c.classes.ensures.count in
@@ -43,19 +43,19 @@ found_is g c =
 
 pub returns-clause-consistent : goal.returns-clause-consistent
 returns-clause-consistent g c =
-    consistent_answered c.args.table.now c.classes.ensures.table c.find_first-refused.result c.unwrap_or.result c.unwrap_or.ensures (found_is g c)
+    consistent_answered c.args.table.now c.classes.ensures.table c.find_first-first_fault.result c.unwrap_or.result c.unwrap_or.ensures (found_is g c)
 
 pub returns-clause-right : goal.returns-clause-right
 returns-clause-right g c =
     right_answered c.args.table.now c.unwrap_or.result
-    (consistent_answered c.args.table.now c.classes.ensures.table c.find_first-refused.result c.unwrap_or.result c.unwrap_or.ensures (found_is g c))
+    (consistent_answered c.args.table.now c.classes.ensures.table c.find_first-first_fault.result c.unwrap_or.result c.unwrap_or.ensures (found_is g c))
 
 pub returns-clause-fault : goal.returns-clause-fault
 returns-clause-fault g c =
-    fault_answered c.args.table.now c.classes.ensures.table c.find_first-refused.result c.unwrap_or.result c.unwrap_or.ensures (found_is g c)
+    fault_answered c.args.table.now c.classes.ensures.table c.find_first-first_fault.result c.unwrap_or.result c.unwrap_or.ensures (found_is g c)
 
 pub returns-clause-passed : goal.returns-clause-passed
 returns-clause-passed g c = λ consistent.
     passed_answered c.args.table.now c.unwrap_or.result
-    (fault_answered c.args.table.now c.classes.ensures.table c.find_first-refused.result c.unwrap_or.result c.unwrap_or.ensures (found_is g c))
+    (fault_answered c.args.table.now c.classes.ensures.table c.find_first-first_fault.result c.unwrap_or.result c.unwrap_or.ensures (found_is g c))
     consistent

@@ -10,10 +10,10 @@ use Rattle.dob_probe.proofs.checks.check_class.Goals.{After-value}
 -- the class's representative and its entry
 entry_is : (c : After-value) → HasEntry c.args.table.now c.args.class c.class_at-position.result.setup c.value.result
 entry_is c =
-    let first = c.class_at-position.result.setup in
+    let representative = c.class_at-position.result.setup in
     let class = c.args.class in record {
-      represents = subst (λ (set : PieceSet). IsRepresentative set first) c.classes.ensures.set c.class_at-position.ensures.representative;
-      number = subst (λ (set : PieceSet). HasClass set first class) c.classes.ensures.set c.class_at-position.ensures.class;
+      represents = subst (λ (set : PieceSet). IsRepresentative set representative) c.classes.ensures.set c.class_at-position.ensures.representative;
+      number = subst (λ (set : PieceSet). HasClass set representative class) c.classes.ensures.set c.class_at-position.ensures.class;
       entry = c.value.ensures;
     }
 

@@ -2,5 +2,5 @@
 use Rattle.dob_run.proofs.RunFaults.{outside_none}
 use Rattle.dob_run.proofs.crews.crew.Goals as goal
 
-pub returns-in-Some-clause-refused : goal.returns-in-Some-clause-refused
-returns-in-Some-clause-refused c = outside_none c.args.n c.args.batch c.args.capacity c.in-Some.fault c.in-Some.ensures.passed
+pub returns-in-Some-clause-fault : goal.returns-in-Some-clause-fault
+returns-in-Some-clause-fault c = outside_none c.args.n c.args.batch c.args.capacity c.in-Some.fault c.in-Some.ensures.passed

@@ -3,6 +3,6 @@ use Rattle.std.proofs.Common.{arith}
 use Rattle.dob_run.proofs.RunFaults.{outside_none, none_begun}
 use Rattle.dob_run.proofs.limits.classes_within.Goals as goal
 
-pub returns-in-Some-clause-refused : goal.returns-in-Some-clause-refused
-returns-in-Some-clause-refused c = none_begun c.args.set c.args.n c.args.batch c.args.capacity c.in-Some.fault (omega arith)
+pub returns-in-Some-clause-fault : goal.returns-in-Some-clause-fault
+returns-in-Some-clause-fault c = none_begun c.args.set c.args.n c.args.batch c.args.capacity c.in-Some.fault (omega arith)
     (outside_none c.args.n c.args.batch c.args.capacity c.in-Some.fault c.in-Some.ensures.passed)

@@ -12,13 +12,13 @@ slot_after-requires-clause-short c =
 
 pub returns-in-Err-clause-misfit : goal.returns-in-Err-clause-misfit
 returns-in-Err-clause-misfit c =
-    err_same c.slot_after.result _ c.in-Err.refused (Contradiction c.args.to) refl c.in-Err.is
+    err_same c.slot_after.result _ c.in-Err.fault (Contradiction c.args.to) refl c.in-Err.is
     (step_here c.args.slots.now c.args.pool.now c.args.place c.args.run.start c.args.run.room c.args.to c.args.was c.args.now
     c.index-slot.result.now c.slot_after.result c.requires.pooled c.requires.place c.index-slot.ensures c.requires.start c.requires.room c.slot_after.ensures).misfit
 
 pub returns-in-Err-clause-deep : goal.returns-in-Err-clause-deep
 returns-in-Err-clause-deep c =
-    err_same c.slot_after.result _ c.in-Err.refused TooDeep refl c.in-Err.is
+    err_same c.slot_after.result _ c.in-Err.fault TooDeep refl c.in-Err.is
     (step_here c.args.slots.now c.args.pool.now c.args.place c.args.run.start c.args.run.room c.args.to c.args.was c.args.now
     c.index-slot.result.now c.slot_after.result c.requires.pooled c.requires.place c.index-slot.ensures c.requires.start c.requires.room c.slot_after.ensures).deep
 

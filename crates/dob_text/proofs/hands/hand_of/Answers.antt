@@ -1,7 +1,7 @@
 -- A dash, three runs of letters, or no hand's text.
 use Rattle.std.proofs.Common.{◌≡◌, ◌≢◌, ◌-◌, ℕ, List, [], ◌∷◌, length, get_or, take, drop, refl, ap, ◌∙◌, arith}
 use Rattle.std.proofs.lemmas.List.{take_rest}
-use Rattle.dob_text.proofs.Fronts.{Counts, counts, one_byte, same_hand, hand_spelled, hand_refused}
+use Rattle.dob_text.proofs.Fronts.{Counts, counts, one_byte, same_hand, hand_spelled, hand_fault}
 use Rattle.dob_text.proofs.hands.hand_of.Goals as goal
 use Rattle.dob_text.proofs.hands.hand_of.Goals.{else-word-eq1-via-then-word-eq1+else-word-eq45, else-word-eq1-via-else-word-eq1}
 
@@ -28,7 +28,7 @@ returns-then-giraffes-rest c =
       | else-word-eq1-via-then-word-eq1+else-word-eq45 w ↦ w.if-word-eq45.false dash
       | else-word-eq1-via-else-word-eq1 w ↦ w.if-word-eq1.false one
     ] in
-    hand_refused c.args.side word _ _ _ other counted.chicks counted.elephants counted.giraffes (omega arith)
+    hand_fault c.args.side word _ _ _ other counted.chicks counted.elephants counted.giraffes (omega arith)
 
 pub returns : goal.returns
 returns c =

@@ -25,22 +25,22 @@ take_all-requires-2 c =
 
 pub returns-then-is_some : goal.returns-then-is_some
 returns-then-is_some c =
-    let first : Classes → Setup → ℕ → Type 0 = λ classes. RepresentsIn classes.set in
+    let Represents : Classes → Setup → ℕ → Type 0 = λ classes. RepresentsIn classes.set in
     let n = IsNumbering-classes c.args.classes.now.set in
     let q = c.args.representative.now.setup in
-    let own = own_image (first c.args.classes.now) q c.mirrored-image.result.setup c.class_if_representative.result n c.requires c.mirrored-image.ensures
+    let own = own_image (Represents c.args.classes.now) q c.mirrored-image.result.setup c.class_if_representative.result n c.requires c.mirrored-image.ensures
     c.class_if_representative.ensures (sym c.is_some.ensures ∙ c.if-is_some.true) in
-    walked_alone first q c.turned-after.result _ c.take_all.new.taker n c.args.representative.now.legal own c.turned-after.ensures c.clear.ensures.items
+    walked_alone Represents q c.turned-after.result _ c.take_all.new.taker n c.args.representative.now.legal own c.turned-after.ensures c.clear.ensures.items
     c.in_ok-take_all.ensures.taken
 
 pub returns : goal.returns
 returns c =
-    let first : Classes → Setup → ℕ → Type 0 = λ classes. RepresentsIn classes.set in
+    let Represents : Classes → Setup → ℕ → Type 0 = λ classes. RepresentsIn classes.set in
     let n = IsNumbering-classes c.args.classes.now.set in
     let q = c.args.representative.now.setup in
     let image = c.mirrored-image.result.setup in
-    let other = other_image (first c.args.classes.now) q image c.class_if_representative.result c.requires c.mirrored-image.ensures
+    let other = other_image (Represents c.args.classes.now) q image c.class_if_representative.result c.requires c.mirrored-image.ensures
     c.class_if_representative.ensures (sym c.is_some.ensures ∙ c.if-is_some.false) in
-    walked_both first q image c.turned-after.result c.turned-after-2.result _ c.take_all.new.taker _ c.take_all-2.new.taker n c.args.representative.now.legal other
+    walked_both Represents q image c.turned-after.result c.turned-after-2.result _ c.take_all.new.taker _ c.take_all-2.new.taker n c.args.representative.now.legal other
     c.mirrored-image.ensures
     c.turned-after.ensures c.turned-after-2.ensures c.clear.ensures.items c.in_ok-take_all.ensures.taken refl refl c.in_ok-take_all-2.ensures.taken

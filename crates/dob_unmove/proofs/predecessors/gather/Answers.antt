@@ -34,19 +34,19 @@ gather_all-requires-2 c = record {
 
 pub returns-then-is_own_image : goal.returns-then-is_own_image
 returns-then-is_own_image c =
-    let first = RepresentsIn c.args.classes.now.set in
+    let Represents = RepresentsIn c.args.classes.now.set in
     let n = IsNumbering-classes c.args.classes.now.set in
     let q = c.args.representative.now.setup in
-    alone_found first n q c.turned-after.result _ c.gather_all.new.found.items c.args.representative.now.legal
+    alone_found Represents n q c.turned-after.result _ c.gather_all.new.found.items c.args.representative.now.legal
     (c.is_own_image.ensures.0 c.if-is_own_image.true) c.turned-after.ensures
     c.clear.ensures.items c.in_ok-gather_all.ensures
 
 pub returns : goal.returns
 returns c =
-    let first = RepresentsIn c.args.classes.now.set in
+    let Represents = RepresentsIn c.args.classes.now.set in
     let n = IsNumbering-classes c.args.classes.now.set in
     let q = c.args.representative.now.setup in
-    both_found first n q c.turned-after.result c.mirrored-image.result _ c.gather_all.new.found.items c.gather_all-2.new.found.items c.args.representative.now.legal
+    both_found Represents n q c.turned-after.result c.mirrored-image.result _ c.gather_all.new.found.items c.gather_all-2.new.found.items c.args.representative.now.legal
     (λ own. true≢false (sym (c.is_own_image.ensures.1 own) ∙ c.if-is_own_image.false))
     c.turned-after.ensures (c.mirrored-image.ensures ∙ ap mirrored c.turned-after.ensures) c.clear.ensures.items c.in_ok-gather_all.ensures
     c.in_ok-gather_all-2.ensures

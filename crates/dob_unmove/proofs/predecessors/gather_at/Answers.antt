@@ -11,16 +11,16 @@ use Rattle.dob_unmove.proofs.predecessors.gather_at.Goals as goal
 
 pub returns-in_default : goal.returns-in_default
 returns-in_default c =
-    let first = RepresentsIn c.args.classes.now.set in
-    gathers_same first c.args.after.now _ _ c.args.found.now.items c.args.found.now.items
+    let Represents = RepresentsIn c.args.classes.now.set in
+    gathers_same Represents c.args.after.now _ _ c.args.found.now.items c.args.found.now.items
     (ways_of_none c.args.after.now c.args.to (λ kind. ap (λ (cell : Cell). stands cell kind) (sym c.at.ensures ∙ c.in_default.is)))
-    (gathers_none first c.args.after.now c.args.found.now.items)
+    (gathers_none Represents c.args.after.now c.args.found.now.items)
 
 pub returns-in-Enemy : goal.returns-in-Enemy
 returns-in-Enemy c =
-    let first = RepresentsIn c.args.classes.now.set in
-    gathers_same first c.args.after.now _ _ c.args.found.now.items c.args.found.now.items
+    let Represents = RepresentsIn c.args.classes.now.set in
+    gathers_same Represents c.args.after.now _ _ c.args.found.now.items c.args.found.now.items
     (ways_of_none c.args.after.now c.args.to
     (λ kind. ap (λ (cell : Cell). stands cell kind) (sym c.at.ensures ∙ c.in-Some.is)
     ∙ ap (λ (side : Side). is_movers side && is_kind c.in-Some.piece.kind kind) c.in-Enemy.is))
-    (gathers_none first c.args.after.now c.args.found.now.items)
+    (gathers_none Represents c.args.after.now c.args.found.now.items)

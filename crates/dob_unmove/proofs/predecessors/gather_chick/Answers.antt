@@ -15,18 +15,18 @@ use Rattle.dob_unmove.proofs.predecessors.gather_chick.Goals.{then-row-ne3+in_ok
 
 pub returns : goal.returns
 returns c =
-    let first = RepresentsIn c.args.classes.now.set in
+    let Represents = RepresentsIn c.args.classes.now.set in
     let after = c.args.after.now in
     let to = c.args.to in
     let old = c.args.found.now.items in
-    let steps : Gathers first after (unsteps after Chick to) old c.if-row-ne3.found.items = elim c.if-row-ne3.branch [
+    let steps : Gathers Represents after (unsteps after Chick to) old c.if-row-ne3.found.items = elim c.if-row-ne3.branch [
       | then-row-ne3+in_ok-gather_steps w ↦ rw w.found-is w.in_ok-gather_steps.ensures
       | else-row-ne3 w ↦
           rw w.found-is
-          (gathers_same first after _ _ old old
-          (no_chick_steps after to c.requires.stands (eq-eqb (row to) 3 (sym c.row.ensures.value ∙ w.if-row-ne3.false))) (gathers_none first after old))
+          (gathers_same Represents after _ _ old old
+          (no_chick_steps after to c.requires.stands (eq-eqb (row to) 3 (sym c.row.ensures.value ∙ w.if-row-ne3.false))) (gathers_none Represents after old))
     ] in
     on_ok_weaker c.gather_put.result
-    (gathers_both first after _ (unsteps after Chick to) (unputs after hand.Chick to) old c.if-row-ne3.found.items c.gather_put.new.found.items
+    (gathers_both Represents after _ (unsteps after Chick to) (unputs after hand.Chick to) old c.if-row-ne3.found.items c.gather_put.new.found.items
     (ways_of_chick after to c.requires.stands) steps)
     c.gather_put.ensures

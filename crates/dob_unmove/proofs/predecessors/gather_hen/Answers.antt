@@ -14,18 +14,19 @@ use Rattle.dob_unmove.proofs.predecessors.gather_hen.Goals.{then-row-eq3+in_ok-g
 
 pub returns : goal.returns
 returns c =
-    let first = RepresentsIn c.args.classes.now.set in
+    let Represents = RepresentsIn c.args.classes.now.set in
     let after = c.args.after.now in
     let to = c.args.to in
     let old = c.args.found.now.items in
-    let growths : Gathers first after (unsteps after Chick to) old c.if-row-eq3.found.items = elim c.if-row-eq3.branch [
+    let growths : Gathers Represents after (unsteps after Chick to) old c.if-row-eq3.found.items = elim c.if-row-eq3.branch [
       | then-row-eq3+in_ok-gather_steps w ↦ rw w.found-is w.in_ok-gather_steps.ensures
       | else-row-eq3 w ↦
           rw w.found-is
-          (gathers_same first after _ _ old old
-          (no_growth after to c.requires.stands (ne_eqb (row to) 3 (λ far. w.if-row-eq3.false (c.row.ensures.value ∙ far)))) (gathers_none first after old))
+          (gathers_same Represents after _ _ old old
+          (no_growth after to c.requires.stands (ne_eqb (row to) 3 (λ far. w.if-row-eq3.false (c.row.ensures.value ∙ far))))
+          (gathers_none Represents after old))
     ] in
     on_ok_weaker c.gather_steps-2.result
-    (gathers_both first after _ (unsteps after Chick to) (unsteps after Hen to) old c.if-row-eq3.found.items c.gather_steps-2.new.found.items
+    (gathers_both Represents after _ (unsteps after Chick to) (unsteps after Hen to) old c.if-row-eq3.found.items c.gather_steps-2.new.found.items
     (ways_of_hen after to c.requires.stands) growths)
     c.gather_steps-2.ensures

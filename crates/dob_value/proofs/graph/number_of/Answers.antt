@@ -9,6 +9,6 @@ returns c =
     let set = c.args.classes.now.set in
     let found = c.class_of.ensures.class in (
       c.class_of.ensures.bound,
-      class_outlook set c.args.position.now.setup found.first c.class_of.result (classes_of set) (HasClasses-classes_of set)
-          c.class_of.ensures.bound c.requires found.representative found.before,
+      class_outlook set c.args.position.now.setup found.representative c.class_of.result (classes_of set) (HasClasses-classes_of set)
+          c.class_of.ensures.bound c.requires found.stands found.before,
     )

@@ -27,8 +27,8 @@ loop-event-preserved c =
       steps = omega (arith, step.steps, c.loop-event.invariant.steps);
     }
 
-pub returns-in-Err-step-clause-refused : goal.returns-in-Err-step-clause-refused
-returns-in-Err-step-clause-refused c =
+pub returns-in-Err-step-clause-fault : goal.returns-in-Err-step-clause-fault
+returns-in-Err-step-clause-fault c =
     let k : Setting = record { set = c.args.set; n = c.args.n; batch = c.args.batch; capacity = c.args.capacity } in
     let run = c.loop-event.invariant.run in
     inr (run_stops k c.args.events.now c.loop-event.event-index _ c.loop-event.world c.in-Err-step.fault c.loop-event-test.true run

@@ -46,7 +46,7 @@ pub returns-in_err-add_for_others-clause-sound : goal.returns-in_err-add_for_oth
 returns-in_err-add_for_others-clause-sound c =
     let node = c.args.self.now in
     let sound = c.requires.sound in
-    let ready = ready_same node.set node.n node.id node.outboxes.items c.add_for_others.new.outboxes.items c.in_err-add_for_others.ensures.refused
+    let ready = ready_same node.set node.n node.id node.outboxes.items c.add_for_others.new.outboxes.items c.in_err-add_for_others.ensures.unchanged
     (record { receivers = sound.receivers; addressed = sound.addressed; nothing_to_self = sound.nothing_to_self }) in
     record {
       kept = sound.kept;

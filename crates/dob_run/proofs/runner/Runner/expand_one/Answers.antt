@@ -8,13 +8,13 @@ use Rattle.dob_run.proofs.Keeping.{some_cause, failed_first}
 use Rattle.dob_run.proofs.Lawfuls.{expanded_one, busy_black}
 use Rattle.dob_run.proofs.runner.Runner.expand_one.Goals as goal
 
-refused : (why : Cause) → (let given : Result Bool Cause = Err why in given ≡ Ok false) → ⊥
-refused why is = absurd (cc)
+err_not_ok : (why : Cause) → (let given : Result Bool Cause = Err why in given ≡ Ok false) → ⊥
+err_not_ok why is = absurd (cc)
 
 pub invariant_of-self-in-Err : goal.invariant_of-self-in-Err
 invariant_of-self-in-Err c =
     let r = c.args.self.now in
-    let black = busy_black r.set r.size r.node r.mail (r.lawful (inl c.requires.unfailed)) (λ idle. refused c.in-Err.why (c.in-Err.ensures.done.1 idle.expanded)) in
+    let black = busy_black r.set r.size r.node r.mail (r.lawful (inl c.requires.unfailed)) (λ idle. err_not_ok c.in-Err.why (c.in-Err.ensures.done.1 idle.expanded)) in
     record {
       some = r.some;
       at_most = r.at_most;

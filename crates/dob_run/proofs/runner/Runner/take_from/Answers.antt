@@ -91,5 +91,5 @@ returns g c =
         cause = refl;
         stopped = c.fail.ensures.stopped;
       };
-      unheld = reason_unheld c.in-Err.ensures.stopped.item c.in-Err.ensures.stopped.after c.in-Err.why c.in-Err.ensures.stopped.refused;
+      unheld = reason_unheld c.in-Err.ensures.stopped.item c.in-Err.ensures.stopped.after c.in-Err.why c.in-Err.ensures.stopped.reason;
     }

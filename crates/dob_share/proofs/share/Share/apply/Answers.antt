@@ -26,12 +26,12 @@ apply_at-requires-clause-place c =
 
 pub returns-in-Err-clause-contradiction : goal.returns-in-Err-clause-contradiction
 returns-in-Err-clause-contradiction c =
-    err_same c.apply_at.result _ c.in-Err.refused (Contradiction c.args.item.to) refl c.in-Err.is
+    err_same c.apply_at.result _ c.in-Err.fault (Contradiction c.args.item.to) refl c.in-Err.is
     (misfit_here c.args.self.now c.args.item c.in-Some.place c.in-Some.ensures.0 c.in-Some.ensures.1 c.apply_at.result c.apply_at.ensures.misfit)
 
 pub returns-in-Err-clause-too_deep : goal.returns-in-Err-clause-too_deep
 returns-in-Err-clause-too_deep c =
-    err_same c.apply_at.result _ c.in-Err.refused TooDeep refl c.in-Err.is
+    err_same c.apply_at.result _ c.in-Err.fault TooDeep refl c.in-Err.is
     (deep_here c.args.self.now c.args.item c.in-Some.place c.in-Some.ensures.0 c.in-Some.ensures.1 c.apply_at.result c.apply_at.ensures.deep)
 
 pub returns-in-Err-clause-classes : goal.returns-in-Err-clause-classes

@@ -15,20 +15,20 @@ use Rattle.dob_dbfile.specs.FaultTexts.{fault_of_rank}
 use Rattle.dob_dbfile.specs.Faults.{NamesSet, NamesSmallSet, HasHeaderFault}
 
 -- the fault of the classes of the set that the header names
-pub set_refused : (header : List ℕ) (set : PieceSet) (refused : RankFault) (given : Fault) → NamesSet set header
-    → (IsErrOf {T = Classes} (Err refused) rank.SetTooLarge ↔ IsTooLarge set)
-    → given ≡ fault_of_rank refused → (given ≡ fault.Memory) ⊎ HasHeaderFault header given
-set_refused header set rank.SetTooLarge given names large is =
+pub set_fault : (header : List ℕ) (set : PieceSet) (lower : RankFault) (given : Fault) → NamesSet set header
+    → (IsErrOf {T = Classes} (Err lower) rank.SetTooLarge ↔ IsTooLarge set)
+    → given ≡ fault_of_rank lower → (given ≡ fault.Memory) ⊎ HasHeaderFault header given
+set_fault header set rank.SetTooLarge given names large is =
     let many : IsTooLarge set = large.0 refl in
     inr (subst (HasHeaderFault header) (sym is) (set, names, λ few. let le : piece_count set ≤ 3 = few in omega (arith, le)))
-set_refused header set rank.Memory given names large is = inl is
+set_fault header set rank.Memory given names large is = inl is
 
 -- memory fails only for the classes of a small set
-pub memory_refused : (header : List ℕ) (set : PieceSet) (refused : RankFault) (given : Fault) → NamesSet set header
-    → (IsErrOf {T = Classes} (Err refused) rank.SetTooLarge ↔ IsTooLarge set)
-    → given ≡ fault_of_rank refused → given ≡ fault.Memory → (named : PieceSet) × NamesSmallSet named header
-memory_refused header set rank.SetTooLarge given names large is none = let never : fault.SetTooLarge ≡ fault.Memory = sym is ∙ none in absurd (cc)
-memory_refused header set rank.Memory given names large is none = elim (cases_lt MOST_PIECES (piece_count set)) [
+pub memory_fault : (header : List ℕ) (set : PieceSet) (lower : RankFault) (given : Fault) → NamesSet set header
+    → (IsErrOf {T = Classes} (Err lower) rank.SetTooLarge ↔ IsTooLarge set)
+    → given ≡ fault_of_rank lower → given ≡ fault.Memory → (named : PieceSet) × NamesSmallSet named header
+memory_fault header set rank.SetTooLarge given names large is none = let never : fault.SetTooLarge ≡ fault.Memory = sym is ∙ none in absurd (cc)
+memory_fault header set rank.Memory given names large is none = elim (cases_lt MOST_PIECES (piece_count set)) [
   | inl many ↦ let never : IsErrOf {T = Classes} (Err rank.Memory) rank.SetTooLarge = large.1 many in absurd (cc)
   | inr few ↦ (set, (names, few))
 ]
