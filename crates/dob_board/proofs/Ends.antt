@@ -2,6 +2,7 @@
 use Rattle.std.proofs.Common.{◌≡◌, ◌≢◌, ℕ, zero, suc, ◌+◌, ◌-◌, ◌<◌, List, [], ◌∷◌, ◌++◌, length, set, get_or, Some, true, eq-eqb, refl, sym, ap, ◌∙◌, subst}
 use Rattle.std.proofs.Common.{⊎_elim, inl, inr, arith, map, append-nil, append_assoc, length-append, get_or-set_same, get_or-set_other}
 use Rattle.std.specs.Prelude.{slice_index, slice_set, slice_get, replicate}
+use Rattle.std.proofs.lemmas.Bool.{cases_eq}
 use mathlib.Core.Option.{none, some, some-ne-none, some-injective}
 use lib.ListN.{get_elem?}
 use Rattle.atomic_table.specs.Table.{State, step, keeps, Allows, Joins}
@@ -20,8 +21,7 @@ use Rattle.dob_board.specs.declared.seat.NodeSeat.{NodeSeat}
 use Rattle.dob_board.specs.Rule.{fresh}
 use Rattle.dob_board.specs.Seats.{stand_of, IsSeatOf, AreSeats, AreWords}
 use Rattle.dob_board.specs.Boards.{joined, nobody, behind, gathered, IsWord, AreRead, Read}
-use Rattle.dob_safra.proofs.Kept.{same_or_not}
-use Rattle.dob_board.proofs.Lists.{get_last, get_front}
+use Rattle.dob_pieces.proofs.Elements.{get_front, middle}
 use Rattle.dob_board.proofs.Places.{posted_within, taken_within}
 use Rattle.dob_board.proofs.Kept.{own_node}
 use Rattle.dob_board.proofs.Allowed.{Seated, seated, Held, set_same}
@@ -166,7 +166,7 @@ pub last_seat : (board : TableId) (n : ℕ) (all : List Stand) (seats fewer : Li
     seats ≡ fewer ++ seat ∷ [] → IsSeatOf board n (length fewer) seat × (me.0.from ≡ suc seat.node)
 last_seat board n all seats fewer seat me left seats_is =
     let is : IsSeatOf board n (length fewer) seat =
-    left.seats_are (length fewer) seat (ap (λ (xs : List NodeSeat). slice_get xs (length fewer)) seats_is ∙ get_last fewer seat) in
+    left.seats_are (length fewer) seat (ap (λ (xs : List NodeSeat). slice_get xs (length fewer)) seats_is ∙ middle fewer [] seat) in
     (is, omega (arith, left.from_is, ap length seats_is, length-append fewer (seat ∷ []), is.node))
 
 pub one_less : (board : TableId) (n : ℕ) (all : List Stand) (seats fewer : List NodeSeat) (seat : NodeSeat) (me after : Seated) → AreLeft board n all seats me →
@@ -214,7 +214,7 @@ all_left board n seats me are me_is =
 pub read_more : (n word found : ℕ) (stands : List Stand) (words : List ℕ) → word < length words → ((w : ℕ) → w < word → IsWord n stands w (get_or words w 0)) →
     IsWord n stands word found → (w : ℕ) → w < word + 1 → IsWord n stands w (get_or (set words word found) w 0)
 read_more n word found stands words within before here w lt =
-    elim (same_or_not w word) [
+    elim (cases_eq w word) [
       | inl is ↦
           let read : get_or (set words word found) w 0 ≡ found =
           ap (λ (m : ℕ). get_or (set words word found) m 0) is ∙ get_or-set_same words word found 0 within in

@@ -2,6 +2,7 @@
 use Rattle.std.proofs.Common.{◌≡◌, ◌≢◌, ℕ, ◌+◌, ◌<◌, ◌⊎◌, List, [], ◌∷◌, length, set, get_or, Bool, true, false, Option, cond, eqb, eq-eqb, ne_eqb, refl, sym}
 use Rattle.std.proofs.Common.{ap, ◌∙◌, subst, inl, inr, arith, length-set, get_or-set_same, get_or-set_other}
 use Rattle.std.specs.Prelude.{slice_index, slice_set}
+use Rattle.std.proofs.lemmas.Bool.{cases_eq}
 use prog.Atomic.{either}
 use mathlib.Core.Option.{none, some}
 use lib.ListN.{get_elem?}
@@ -12,7 +13,7 @@ use Rattle.dob_safra.specs.declared.event.RingEvent.TheVariants.{Announce}
 use Rattle.dob_safra.specs.Tokens.{IsPacked, MayAnnounce}
 use Rattle.dob_safra.specs.Rings.{Ring, counter, IsLawful, Announces}
 use Rattle.dob_safra.specs.Laws.{HasFew}
-use Rattle.dob_safra.proofs.Kept.{moved_kept, same_or_not}
+use Rattle.dob_safra.proofs.Kept.{moved_kept}
 use Rattle.dob_board.specs.declared.halt.Halt.{Halt}
 use Rattle.dob_board.specs.declared.halt.Halt.TheVariants.{Running, Ended, Failed}
 use Rattle.dob_board.specs.declared.view.Stand.{Stand}
@@ -318,7 +319,7 @@ fails_finding n i id words views stand told held at =
     Finding n i id words views held.log stand told (set words 2 (either (eqb found 0) (2 + i) found)) (halt_after found (2 + i)) =
     λ after is made. subst (λ (p : ℕ × ℕ). Finding n i id words views held.log stand told (set words 2 p.0) p.1)
     (λ q. (sym (exchanged found (2 + i) ∙ is) q, sym is q)) made in
-    elim (same_or_not found 0) [
+    elim (cases_eq found 0) [
       | inl running ↦ with (2 + i) (halt_marked found (2 + i) running) (fails n i id words views stand told held at running)
       | inr stopped ↦ with found (halt_found found (2 + i) stopped)
           (subst (λ (ws : List ℕ). Finding n i id words views held.log stand told ws found) (sym (set_same words 2))
@@ -359,7 +360,7 @@ announces_allows : (n i id slots : ℕ) (stand : Stand) (told : List RingEvent) 
 announces_allows n i id slots stand told may s held len at small =
     let found : ℕ = slice_index s.words 2 in
     let word : ℕ = halt_after found 1 in
-    elim (same_or_not found 0) [
+    elim (cases_eq found 0) [
       | inl running ↦ let made = announces n i id s.words s.views stand told held at may running in
           let log = Announce ∷ held.log in
           let word_is : word ≡ 1 = halt_marked found 1 running in
@@ -459,7 +460,7 @@ pub announced_done : (n i found : ℕ) (posted taken seen : List ℕ) (black : B
     ⊎ Hears n i (stand_from posted taken seen black token new) told now (HasHalt (halt_word new))
 announced_done n i found posted taken seen black token old new told now made heard new_is =
     let before : Stand = stand_from posted taken seen black token old in
-    elim (same_or_not found 0) [
+    elim (cases_eq found 0) [
       | inl running ↦ let word_is : halt_word new ≡ 1 = new_is ∙ halt_marked found 1 running in
           inl (same_halt new Ended word_is, subst (λ (w : ℕ). Makes n i Announce before (finds before w) told now) (sym word_is) (made running))
       | inr stopped ↦ inr (heard_halt n i found posted taken seen black token old new told now (heard stopped) (new_is ∙ halt_found found 1 stopped))

@@ -1,5 +1,4 @@
--- The lemmas, in the order in which they are read. First lists.
-pub mod Lists  -- what stands where in a list, also after more things
+-- The lemmas, in the order in which they are read.
 -- The words and the rule.
 pub mod Places  -- which word is which, and what a write to one leaves of the others
 pub mod Kept  -- a step of one node's seat keeps the rule

@@ -5,6 +5,7 @@ use Rattle.std.proofs.Math.IntN.{ℤ, pos, neg_ℤ, ◌-ℤ◌}
 use Rattle.std.proofs.lemmas.Int.{ints}
 use Rattle.std.proofs.lemmas.List.Sums.{sum_by-cons}
 use Rattle.std.specs.Prelude.{slice_index, slice_set, sum, ◌≤ℤ◌}
+use Rattle.std.proofs.lemmas.Bool.{cases_eq}
 use mathlib.Core.Option.{none, some}
 use lib.ListN.{get_elem?}
 use Rattle.atomic_table.specs.Table.{step, keeps, Allows}
@@ -15,7 +16,7 @@ use Rattle.dob_safra.specs.Tokens.{IsToken, IsPacked, passed_on}
 use Rattle.dob_safra.specs.Rings.{Ring, counter, sum_below, IsLawful, Passes}
 use Rattle.dob_safra.specs.Laws.{HasFew}
 use Rattle.dob_safra.proofs.Sums.{sum_same}
-use Rattle.dob_safra.proofs.Kept.{moved_kept, same_or_not}
+use Rattle.dob_safra.proofs.Kept.{moved_kept}
 use Rattle.dob_board.specs.declared.view.Stand.{Stand}
 use Rattle.dob_board.specs.declared.view.View.{View}
 use Rattle.dob_board.specs.Words.{posted_word, taken_word, ring_of}
@@ -56,7 +57,7 @@ packed_once word first other left right =
 -- a token that is seen at node i is at node i
 pub seen_there : (i : ℕ) (token known : Token) → token_at i token ≡ Some known → (known ≡ token) × (known.at ≡ i)
 seen_there i token known e =
-    elim (same_or_not token.at i) [
+    elim (cases_eq token.at i) [
       | inl here ↦ let yes : eqb token.at i ≡ true = eq-eqb token.at i here in
           let same : token ≡ known = cc in (sym same, ap (λ (t : Token). t.at) (sym same) ∙ here)
       | inr apart ↦ let no' : eqb token.at i ≡ false = ne_eqb token.at i apart in absurd (cc)
@@ -298,7 +299,7 @@ seen_bounds n i stand told now token known heard e =
 pub passed_fits : (n i : ℕ) (token : Token) (count : ℤ) (black : Bool) → n ≤ 16 → i < n → IsInBounds n i token →
     neg_ℤ (pos (2 ^ 44)) ≤ℤ count → count ≤ℤ pos (2 ^ 44) → IsToken (passed_on n token count black)
 passed_fits n i token count black few within bounds low high =
-    elim (same_or_not token.at 0) [
+    elim (cases_eq token.at 0) [
       | inl first ↦ let yes : eqb token.at 0 ≡ true = eq-eqb token.at 0 first in
           rw yes (record { few_nodes = omega arith; low = omega (arith, ints); high = omega (arith, ints) })
       | inr apart ↦ let no' : eqb token.at 0 ≡ false = ne_eqb token.at 0 apart in
@@ -310,7 +311,7 @@ pub passed_bounds : (n i : ℕ) (token known : Token) (count : ℤ) (black : Boo
     token_at i (passed_on n token count black) ≡ Some known → IsInBounds n i known
 passed_bounds n i token known count black within bounds e =
     let there = seen_there i (passed_on n token count black) known e in
-    elim (same_or_not token.at 0) [
+    elim (cases_eq token.at 0) [
       | inl first ↦ let yes : eqb token.at 0 ≡ true = eq-eqb token.at 0 first in
           let known_is : known ≡ record { at = n - 1; black = false; sum = pos 0 } = rw yes at there.0 in
           (there.1, rw known_is (omega (arith, ints)), rw known_is (omega (arith, ints)))

@@ -21,7 +21,7 @@ use Rattle.dob_board.specs.Boards.{first_token, first_words, behind}
 use Rattle.atomic_table.specs.Seated.{TableId}
 use Rattle.dob_board.specs.declared.seat.NodeSeat.{NodeSeat}
 use Rattle.dob_board.specs.Seats.{stand_of, IsSeatOf}
-use Rattle.dob_board.proofs.Lists.{at_end}
+use Rattle.dob_pieces.proofs.Elements.{at_end}
 use Rattle.dob_board.proofs.Kept.{one_is_view}
 use Rattle.dob_board.proofs.Allowed.{Seated, Held}
 

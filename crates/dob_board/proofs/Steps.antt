@@ -2,6 +2,7 @@
 use Rattle.std.proofs.Common.{◌≡◌, ◌≢◌, ℕ, suc, ◌^◌, ◌<◌, ◌≤◌, List, [], ◌∷◌, length, set, get_or, Bool, true, false, cond, eqb, eq-eqb, ne_eqb, refl, sym, ap}
 use Rattle.std.proofs.Common.{◌∙◌, subst, inl, inr, arith, length-set, get_or-set_same, get_or-set_other}
 use Rattle.std.specs.Prelude.{slice_index, slice_set}
+use Rattle.std.proofs.lemmas.Bool.{cases_eq}
 use mathlib.Core.Option.{some}
 use lib.ListN.{get_elem?}
 use Rattle.dob_safra.specs.declared.token.Token.{Token}
@@ -10,7 +11,7 @@ use Rattle.dob_safra.specs.declared.event.RingEvent.TheVariants.{Post, Take}
 use Rattle.dob_safra.specs.Tokens.{IsPacked}
 use Rattle.dob_safra.specs.Rings.{Ring, IsLawful, Colours, Posts, Takes}
 use Rattle.dob_safra.specs.Laws.{HasFew}
-use Rattle.dob_safra.proofs.Kept.{moved_kept, raised_at_least, raised_at_most, same_or_not}
+use Rattle.dob_safra.proofs.Kept.{moved_kept, raised_at_least, raised_at_most}
 use Rattle.dob_board.specs.declared.view.Stand.{Stand}
 use Rattle.dob_board.specs.declared.view.View.{View}
 use Rattle.dob_board.specs.Words.{posted_word, taken_word, word_count, ring_of}
@@ -65,7 +66,7 @@ posts_stand n i j old new halt now stand moved same is = record {
   shows = record {
     posted = λ k k_in.
         let place = changed stand.posted j k (suc (slice_index stand.posted j)) (omega (arith, is.posted_len, moved.to)) in
-        elim (same_or_not k j) [
+        elim (cases_eq k j) [
           | inl e ↦ place.0 e ∙ ap suc (is.shows.posted j moved.to) ∙ sym moved.posted.one_more ∙ ap (new.posted i) (sym e)
           | inr apart ↦ place.1 apart ∙ is.shows.posted k k_in ∙ sym (moved.posted.others i k moved.from k_in (inr apart))
         ];
@@ -154,7 +155,7 @@ sees_stand n i j halt ring stand i_in j_in is = record {
   shows = record { posted = is.shows.posted; taken = is.shows.taken; colour = is.shows.colour; token = is.shows.token };
   seen = λ k k_in.
       let place = changed stand.seen j k (ring.posted j i) (omega (arith, is.seen_len, j_in)) in
-      elim (same_or_not k j) [
+      elim (cases_eq k j) [
         | inl e ↦ omega (arith, place.0 e, ap (λ (a : ℕ). ring.posted a i) e)
         | inr apart ↦ omega (arith, place.1 apart, is.seen k k_in)
       ];
@@ -245,7 +246,7 @@ takes_stand n i j old new halt now stand moved same is = record {
     posted = λ k k_in. is.shows.posted k k_in ∙ sym (moved.posted i k moved.to k_in);
     taken = λ k k_in.
         let place = changed stand.taken j k (suc (slice_index stand.taken j)) (omega (arith, is.taken_len, moved.from)) in
-        elim (same_or_not k j) [
+        elim (cases_eq k j) [
           | inl e ↦ place.0 e ∙ ap suc (is.shows.taken j moved.from) ∙ sym moved.taken.one_more ∙ ap (λ (a : ℕ). new.taken a i) (sym e)
           | inr apart ↦ place.1 apart ∙ is.shows.taken k k_in ∙ sym (moved.taken.others k i k_in moved.to (inl apart))
         ];

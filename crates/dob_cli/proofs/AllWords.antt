@@ -13,7 +13,7 @@ use Rattle.clap.specs.Faults.{check_fault, defaults_fault, entered_fault, level_
 use Rattle.clap.specs.declared.error.kind.ErrorKind.TheVariants as kind
 use Rattle.clap.proofs.FaultLemmas.{stopped_fault}
 use Rattle.clap.proofs.WalkLemmas.{walk_stopped}
-use Rattle.dob_value.proofs.Bools.{or_false}
+use Rattle.std.proofs.Math.Bool.{or-false}
 use Rattle.dob_cli.specs.Forms.{Form, Text, build_form, check_form, count_form, forms, line_form, probe_form, value_form}
 use Rattle.dob_cli.specs.Words.{Meaning, asks, help, is_dashes, is_help_flag, is_text, meaning_of_command, meaning_of_form, meaning_of_other, topic, usage}
 use Rattle.dob_cli.specs.Words.{version}
@@ -41,8 +41,8 @@ start = open_at [] None 1
 knows : KnowsHelp top.rules [] None none
 knows = record {
   no_option = refl;
-  by_long = λ name own. ap (λ b. cond b (Some help_flag) None) (or_false (bytes_eq (codes "help") name));
-  by_short = λ x. ap (λ b. cond b (Some help_flag) None) (or_false (104 == x));
+  by_long = λ name own. ap (λ b. cond b (Some help_flag) None) (or-false (bytes_eq (codes "help") name));
+  by_short = λ x. ap (λ b. cond b (Some help_flag) None) (or-false (104 == x));
   asks = refl;
 }
 

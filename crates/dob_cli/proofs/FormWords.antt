@@ -17,7 +17,7 @@ use Rattle.clap.specs.Takes.{is_given}
 use Rattle.clap.specs.Kinds.{Kinds, or_else}
 use Rattle.clap.specs.Faults.{check_fault, defaults_fault, level_fault, settle_fault, step_fault, turn_fault, walk_fault}
 use Rattle.clap.specs.declared.error.kind.ErrorKind.TheVariants as kind
-use Rattle.dob_value.proofs.Bools.{or_false}
+use Rattle.std.proofs.Math.Bool.{or-false}
 use Rattle.dob_cli.specs.Forms.{Form, labels}
 use Rattle.dob_cli.specs.Words.{Given, Meaning, Stand, Text, after_dashes, after_part, after_word, asked, asks, at_end, behind, between, call, dashes, ended}
 use Rattle.dob_cli.specs.Words.{fits, help, is_dashes, is_help_flag, is_text, kept, label_of, meaning_of_form, name_in, once, option, option_part, placed, text}
@@ -119,7 +119,7 @@ module _ (f : Form) (is : IsTaken f) where
 
   help_by_long : (name : Text) → arg_by_long places name ≡ cond (bytes_eq (codes "help") name) (Some help_flag) None
   help_by_long name = long_placed f.numbers 1 f.positions (help_flag ∷ []) name
-      ∙ ap (λ b. cond b (Some help_flag) None) (or_false (bytes_eq (codes "help") name))
+      ∙ ap (λ b. cond b (Some help_flag) None) (or-false (bytes_eq (codes "help") name))
 
   by_long : (name : Text)
       → arg_by_long rules name ≡ option_map_or (λ o. Some (option_arg f.numbers o)) (found name) (cond (bytes_eq (codes "help") name) (Some help_flag) None)
@@ -127,7 +127,7 @@ module _ (f : Form) (is : IsTaken f) where
 
   by_short : (x : ℕ) → arg_by_short rules x ≡ cond (104 == x) (Some help_flag) None
   by_short x = short_options f.numbers f.options places x ∙ (short_placed f.numbers 1 f.positions (help_flag ∷ []) x
-      ∙ ap (λ b. cond b (Some help_flag) None) (or_false (104 == x)))
+      ∙ ap (λ b. cond b (Some help_flag) None) (or-false (104 == x)))
 
   -- the name is one of its options'
   abbrev is_option : Text → Bool

@@ -8,7 +8,7 @@ use Rattle.std.proofs.lemmas.Slice.Eq.{bytes_eq-Decides}
 use Rattle.std.proofs.lemmas.Bool.Decides.{Decides-eqb}
 use Rattle.clap.specs.Lexer.{has_byte, long_of, short_of}
 use Rattle.std.specs.Option.{option_map_or}
-use Rattle.dob_value.proofs.Bools.{or_false}
+use Rattle.std.proofs.Math.Bool.{or-false}
 use Rattle.dob_cli.specs.Words.{Text, flag_of, is_help_flag, is_text, name_in, text_in}
 
 -- the first bytes of a word
@@ -105,7 +105,7 @@ pub help_dashes : is_help_flag (45 ∷ 45 ∷ []) ≡ false
 help_dashes = rw hyphen_first refl
 
 pub help_long : (a : ℕ) (cs : Text) → is_help_flag (45 ∷ 45 ∷ a ∷ cs) ≡ bytes_eq (codes "help") (a ∷ cs)
-help_long a cs = rw (hyphen_first (a ∷ cs)) (or_false (bytes_eq (codes "help") (a ∷ cs)))
+help_long a cs = rw (hyphen_first (a ∷ cs)) (or-false (bytes_eq (codes "help") (a ∷ cs)))
 
 pub help_short : (y : ℕ) (ys : Text) → (y == 45) ≡ false
     → is_help_flag (45 ∷ y ∷ ys) ≡ option_map_or (λ x. 104 == x) (slice_get (chars (y ∷ ys)) 0) false

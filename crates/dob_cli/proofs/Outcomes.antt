@@ -1,6 +1,7 @@
 -- What the matches and the errors of the program's command come to.
 use Rattle.std.proofs.Common.{map, ap₂, ◌≡◌, ◌∙◌, ◌⊎◌, ◌||◌, Bool, not, inl, inr, subst, true, false, sym, ap, refl, List, Option, Some, [], ◌∷◌, is_some}
 use Rattle.std.proofs.Common.{true≢false}
+use Rattle.std.proofs.lemmas.Bool.{not-true}
 use Rattle.std.specs.Prelude.{option_map, slice_get, unwrap_or}
 use Rattle.std.specs.List.{list_all}
 use Rattle.std.specs.Borrow.{Bor}
@@ -125,14 +126,10 @@ first_text x y e = ap (λ (ts : List Text). unwrap_or (slice_get ts 0) []) e
 
 -- ---- clap's errors
 
-not_true : (b : Bool) → not b ≡ true → b ≡ false
-not_true true e = absurd (true≢false (sym e))
-not_true false e = refl
-
 -- the kinds of usage are no calls for help
 usage_kind : (kinds : Kinds) (k : ErrorKind) → no_help_kind kinds ≡ true → IsAmong k kinds → is_help_kind k ≡ false
 usage_kind [] k e among = absurd among
-usage_kind (x ∷ xs) k e (inl is) = rw is (not_true (is_help_kind x) (both (not (is_help_kind x)) (no_help_kind xs) e).0)
+usage_kind (x ∷ xs) k e (inl is) = rw is (not-true (is_help_kind x) (both (not (is_help_kind x)) (no_help_kind xs) e).0)
 usage_kind (x ∷ xs) k e (inr more) = usage_kind xs k (both (not (is_help_kind x)) (no_help_kind xs) e).1 more
 
 usage_list : (kinds : Kinds) → is_usage kinds ≡ true → no_help_kind kinds ≡ true

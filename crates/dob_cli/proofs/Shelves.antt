@@ -1,7 +1,6 @@
 -- What a map has under its names after one of them is given other bytes.
 use Rattle.std.proofs.Common.{◌≡◌, ℕ, Bool, true, false, cond, List, Option, Some, sym, ap, ◌∙◌, refl, string_bytes}
-use Rattle.std.specs.Prelude.{◌≢◌, String, Vec, option_map, Result, Ok, Err}
-use Rattle.std.specs.Result.{OnErr}
+use Rattle.std.specs.Prelude.{◌≢◌, String, Vec, option_map}
 use Rattle.std.specs.BTreeMap.{BTreeMap, get_by_text, is_at}
 use Rattle.std.specs.Map.{lookup, update}
 use Rattle.std.specs.Ordering.{nat_cmp}
@@ -9,6 +8,7 @@ use Rattle.std.specs.Cmp.Lexicographic.{slice_cmp}
 use Rattle.std.specs.Str.{bytes_eq}
 use Rattle.std.proofs.lemmas.Bool.{false_from_ne_true}
 use Rattle.std.proofs.lemmas.Slice.Eq.{bytes_eq-Decides}
+use Rattle.std.proofs.lemmas.Option.{same_Some}
 use Rattle.dob_cli.specs.Shelves.{Files, HasJust, SameFiles, SameOthers, bytes_in}
 
 -- what a call left is what the next one found
@@ -32,12 +32,9 @@ pub same_others : (name : List ℕ) (old new : List ℕ → Option (List ℕ)) �
     → SameOthers name (λ other bytes. old other ≡ Some bytes) (λ other bytes. new other ≡ Some bytes)
 same_others name old new same other bytes differs = (λ e. same other differs ∙ e, λ e. sym (same other differs) ∙ e)
 
-some_is : (a b : List ℕ) → Some a ≡ Some b → a ≡ b
-some_is a b e = cc
-
 -- where the name has these bytes
 pub has_just : (name bytes : List ℕ) (new : List ℕ → Option (List ℕ)) → new name ≡ Some bytes → HasJust name bytes (λ other found. new other ≡ Some found)
-has_just name bytes new has found = (λ e. some_is found bytes (sym e ∙ has), λ e. has ∙ ap (λ (x : List ℕ). Some x) (sym e))
+has_just name bytes new has found = (λ e. same_Some found bytes (sym e ∙ has), λ e. has ∙ ap (λ (x : List ℕ). Some x) (sym e))
 
 module _ {X Y : Type 0} (old new : BTreeMap (String X) (Vec ℕ Y)) (name : List ℕ) (value : Vec ℕ Y)
     (sets : (other : List ℕ) → get_by_text new other ≡ update bytes_eq (get_by_text old) name (Some value) other) where
@@ -52,11 +49,6 @@ module _ {X Y : Type 0} (old new : BTreeMap (String X) (Vec ℕ Y)) (name : List
   gives_new =
       let yes : bytes_eq name name ≡ true = (bytes_eq-Decides name name).1 refl in
       ap (option_map (λ bytes. bytes.items)) (sets name ∙ ap (λ (b : Bool). cond b (Some value) (get_by_text old name)) yes)
-
--- what holds anyway holds at an error
-pub on_error : {V E : Type 0} (r : Result V E) (P : Type 0) → P → OnErr r P
-on_error (Ok v) P holds = tt
-on_error (Err e) P holds = holds
 
 -- a map with the same entries
 pub same_entries : {X Y : Type 0} (old new : BTreeMap (String X) (Vec ℕ Y)) → new.entries ≡ old.entries → (name : List ℕ)

@@ -1,32 +1,21 @@
 -- Records and the codes that they are.
-use Rattle.std.proofs.Common.{◌≡◌, ℕ, zero, suc, ◌+◌, ◌*◌, ◌/◌, ◌%◌, ◌≤◌, ◌<◌, List, [], ◌∷◌, ◌++◌, take, drop, length, get_or, slice_get}
-use Rattle.std.proofs.Common.{slice_index, Some, arith, refl, sym, subst, ap, ◌∙◌, inl, inr, append-nil, take-add, length-drop}
-use Rattle.std.specs.List.{All}
+use Rattle.std.proofs.Common.{◌≡◌, ℕ, zero, suc, ◌+◌, ◌*◌, ◌/◌, ◌%◌, ◌≤◌, ◌<◌, List, [], ◌∷◌, ◌++◌, take, drop, length, slice_get}
+use Rattle.std.proofs.Common.{slice_index, Some, arith, refl, sym, ap, ◌∙◌, inl, inr, append-nil, take-add, length-drop}
 use Rattle.std.proofs.lemmas.Bool.{cases_eq}
 use Rattle.std.proofs.lemmas.List.{take_more, get_or-drop}
 use Rattle.std.proofs.lemmas.List.Concat.{flat_map-append}
-use Rattle.std.proofs.lemmas.Option.{slice_get-get_or, same_Some}
+use Rattle.std.proofs.lemmas.Option.{get_or_from_slice_get}
 use Rattle.byteorder.specs.Endian.{little_bytes, little_number}
 use Rattle.dob_value.specs.declared.value.Value.{Value}
 use Rattle.dob_value.specs.Codes.{value_at_distance, value_of_code, values_of_codes, code_of_value}
-use Rattle.dob_value.specs.Follows.{IsEntry}
 use Rattle.dob_dbfile.specs.Format.{code_bytes, records}
-
--- what stands at a place of a list
-read_at : {X : Type 0} (xs : List X) (i : ℕ) (x : X) → i < length xs → slice_get xs i ≡ Some x → get_or xs i x ≡ x
-read_at xs i x below there = same_Some _ _ (sym (slice_get-get_or xs i x below) ∙ there)
-
--- an entry at its place
-pub entry_at : (values : List Value) (class : ℕ) (value : Value) → All IsEntry values → class < length values
-    → slice_get values class ≡ Some value → IsEntry value
-entry_at values class value entries below there = subst IsEntry (read_at values class value below there) (entries class value below)
 
 -- the records of one class more
 pub records_more : (values : List Value) (class : ℕ) (value : Value) → class < length values → slice_get values class ≡ Some value
     → records (take (class + 1) values) ≡ records (take class values) ++ little_bytes 2 (code_of_value value)
 records_more values class value below there =
     let bytes : Value → List ℕ = λ v. little_bytes 2 (code_of_value v) in
-    ap records (take_more values class value below ∙ ap (λ (v : Value). take class values ++ v ∷ []) (read_at values class value below there))
+    ap records (take_more values class value below ∙ ap (λ (v : Value). take class values ++ v ∷ []) (get_or_from_slice_get values class value value there))
     ∙ flat_map-append bytes (take class values) (value ∷ [])
     ∙ ap (λ (last : List ℕ). records (take class values) ++ last) (append-nil (bytes value))
 

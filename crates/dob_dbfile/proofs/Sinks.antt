@@ -5,7 +5,7 @@ use Rattle.std.specs.Prelude.{◌||◌}
 use Rattle.std.proofs.Math.Seq.{take-length}
 use Rattle.std.proofs.lemmas.Bool.{or_right}
 use Rattle.std.specs.Io.KnownBytes.{Appends, Keeps, append_known}
-use Rattle.dob_value.proofs.Bools.{or_false}
+use Rattle.std.proofs.Math.Bool.{or-false}
 use Rattle.dob_dbfile.specs.Sinks.{AddsFlush, IsNotFlushed, IsSame, Puts, State, StopsAfter, Takes, Works, Writes, change}
 
 -- bytes after bytes
@@ -60,7 +60,7 @@ Appends-keep (Some a) (Some b) (Some c) xs p q = q ∙ p
 
 -- a call that doesn't fail after others that didn't
 pub works_on : (a b c : State) → Works (change a b) → c.has_failed ≡ (b.has_failed || false) → Works (change a c)
-works_on a b c works notes = notes ∙ or_false b.has_failed ∙ works
+works_on a b c works notes = notes ∙ or-false b.has_failed ∙ works
 
 -- a part of the bytes, and then a call that fails
 pub stops_after : (a b c : State) (bytes : List ℕ) (count : ℕ) → count ≤ length bytes → Takes (change a b) (take count bytes) → IsNotFlushed (change a b)

@@ -1,6 +1,6 @@
 -- The mirror image of a move is a move of the mirror image, and leads to the mirror image of its outcome.
-use Rattle.std.proofs.Common.{◌≡◌, ◌≢◌, ℕ, ◌<◌, ◌==◌, Bool, true, false, List, Some, None, length, get_or, set, refl, sym, ap, subst, ◌∙◌, ⊎_elim, arith}
-use Rattle.std.proofs.lemmas.Bool.{cases_eq, eqb-true, agree_below, agree_below_at}
+use Rattle.std.proofs.Common.{◌≡◌, ◌≢◌, ℕ, ◌<◌, ◌==◌, true, false, List, Some, None, length, get_or, set, refl, sym, ap, subst, ◌∙◌, ⊎_elim, arith}
+use Rattle.std.proofs.lemmas.Bool.{cases_eq}
 use Rattle.std.proofs.lemmas.List.{length-set, get_or-set_same, get_or-set_other}
 use Rattle.dob_pieces.specs.declared.kind.Kind.{Kind}
 use Rattle.dob_pieces.specs.declared.kind.Kind.TheVariants.{Lion, Giraffe, Elephant, Chick, Hen}
@@ -11,9 +11,8 @@ use Rattle.dob_pieces.specs.declared.setup.Setup.{Setup}
 use Rattle.dob_pieces.specs.Squares.{row, mirrored_square}
 use Rattle.dob_pieces.specs.Pieces.{kind_on_board, leads}
 use Rattle.dob_pieces.specs.Setups.{Cell, at, board_by, piece_of, turned, mirrored, with_one_less}
-use Rattle.dob_pieces.proofs.Boards.{all_below, all_below-at, board_by-from_cells, length-board_by, at-board_by, length-mirrored}
-use Rattle.dob_pieces.proofs.Boards.{at-mirrored, within-from_piece, leads-to_board}
-use Rattle.dob_pieces.proofs.Symmetries.{mirrored_square_bound}
+use Rattle.dob_pieces.proofs.Boards.{board_by-from_cells, length-board_by, at-board_by, length-mirrored, within-from_piece, leads-to_board}
+use Rattle.dob_pieces.proofs.Symmetries.{mirrored_square_bound, mirrored_square_twice, at-image, mirrored-mirrored, turned-mirrored, leads-mirrored}
 use Rattle.dob_moves.specs.declared.game_move.Move.{Move}
 use Rattle.dob_moves.specs.declared.game_move.Move.TheVariants.{Step, Put}
 use Rattle.dob_moves.specs.declared.position_status.Status.{Status}
@@ -32,38 +31,9 @@ mirrored_low k h = omega arith
 row-mirrored : (k : ℕ) → row (mirrored_square k) ≡ row k
 row-mirrored k = omega arith
 
--- the image of the image is the square, for all twelve
-twice_all : all_below (λ k. mirrored_square (mirrored_square k) == k) 12 ≡ true
-twice_all = refl
-
--- so for each
-mirrored_twice : (k : ℕ) → k < 12 → mirrored_square (mirrored_square k) ≡ k
-mirrored_twice k h =
-    eqb-true (mirrored_square (mirrored_square k)) k (all_below-at (λ k. mirrored_square (mirrored_square k) == k) 12 k twice_all h)
-
 -- other squares have other images
 mirrored_apart : (k i : ℕ) → k < 12 → k ≢ mirrored_square i → mirrored_square k ≢ i
-mirrored_apart k i h apart e = apart (sym (mirrored_twice k h) ∙ ap mirrored_square e)
-
--- each kind steps alike on either side
-leads_test : Kind → ℕ → Bool
-leads_test kind a = agree_below (λ b. leads kind (mirrored_square a) (mirrored_square b)) (λ b. leads kind a b) 12
-
--- on all squares
-leads_all : (kind : Kind) → all_below (leads_test kind) 12 ≡ true
-unfolding leads leads_test
-leads_all Lion = refl
-leads_all Giraffe = refl
-leads_all Elephant = refl
-leads_all Chick = refl
-leads_all Hen = refl
-
--- so between any two
-leads-mirrored : (kind : Kind) (a b : ℕ) → a < 12 → b < 12 → leads kind (mirrored_square a) (mirrored_square b) ≡ leads kind a b
-unfolding leads_test
-leads-mirrored kind a b h k =
-    agree_below_at (λ b. leads kind (mirrored_square a) (mirrored_square b)) (λ b. leads kind a b) 12 b
-    (all_below-at (leads_test kind) 12 a (leads_all kind) h) k
+mirrored_apart k i h apart e = apart (sym (mirrored_square_twice k h) ∙ ap mirrored_square e)
 
 -- a chick grows at the image where it grows
 grows_at-mirrored : (kind : Kind) (to : ℕ) → grows_at kind (mirrored_square to) ≡ grows_at kind to
@@ -90,7 +60,7 @@ mirrored_put board i c twelve h =
     let low : j < length image = omega (arith, mirrored_square_bound i h) in
     let within : i < length board = omega arith in
     let here : get_or (set image j c) j None ≡ f j =
-    get_or-set_same image j c None low ∙ sym (ap (λ k. get_or (set board i c) k None) (mirrored_twice i h) ∙ get_or-set_same board i c None within)
+    get_or-set_same image j c None low ∙ sym (ap (λ k. get_or (set board i c) k None) (mirrored_square_twice i h) ∙ get_or-set_same board i c None within)
     in
     sym (board_by-from_cells f (set image j c) wide_set (λ k small.
     ⊎_elim (λ (e : k ≡ j). subst (λ k. get_or (set image j c) k None ≡ f k) (sym e) here)
@@ -98,22 +68,6 @@ mirrored_put board i c twelve h =
     get_or-set_other image j k c None e ∙ at-board_by (λ k. get_or board (mirrored_square k) None) k small
     ∙ sym (get_or-set_other board i (mirrored_square k) c None (mirrored_apart k i small e)))
     (cases_eq k j)))
-
--- what stands on a square's image
-pub at-image : (p : Setup) (k : ℕ) → k < 12 → at (mirrored p) (mirrored_square k) ≡ at p k
-at-image p k h = at-mirrored p (mirrored_square k) (mirrored_square_bound k h) ∙ ap (at p) (mirrored_twice k h)
-
--- the mirror image of the mirror image
-pub mirrored-mirrored : (p : Setup) → length p.board ≡ 12 → mirrored (mirrored p) ≡ p
-unfolding mirrored
-mirrored-mirrored p twelve =
-    ap (λ (b : List Cell). record { board = b; hands = p.hands })
-    (sym (board_by-from_cells (λ k. at (mirrored p) (mirrored_square k)) p.board twelve (λ k h. sym (at-image p k h))))
-
--- turning and mirroring in either order
-pub mirrored-turned : (p : Setup) → mirrored (turned p) ≡ turned (mirrored p)
-unfolding mirrored turned
-mirrored-turned p = refl
 
 -- ---- moves
 
@@ -150,7 +104,7 @@ Steps-mirrored p kind from to arrives hands q twelve s =
       own = at-image p from h ∙ s.own;
       leads = leads-mirrored kind from to h k ∙ s.leads;
       outcome =
-          ap mirrored s.outcome ∙ mirrored-turned _
+          ap mirrored s.outcome ∙ sym (turned-mirrored _)
           ∙ ap turned (stepped_image p from to (Some (piece_of Mover arrives)) hands twelve h k);
     }
 
@@ -163,7 +117,7 @@ Drops-mirrored p kind to q twelve d = record {
   on_board = mirrored_square_bound to d.on_board;
   free = at-image p to d.on_board ∙ d.free;
   outcome =
-      ap mirrored d.outcome ∙ mirrored-turned _
+      ap mirrored d.outcome ∙ sym (turned-mirrored _)
       ∙ ap turned (dropped_image p to (Some (piece_of Mover (kind_on_board kind)))
       (record p.hands { mover = with_one_less p.hands.mover kind }) twelve d.on_board);
 }

@@ -1,8 +1,7 @@
 -- The lists of steps and of drops have exactly the moves of the rules, in the move order.
-use Rattle.std.proofs.Common.{◌≡◌, ℕ, suc, ◌+◌, ◌*◌, ◌<◌, ◌≤◌, Bool, true, false, cond, nat_lt, List, ◌++◌, Option, Some, None, length}
+use Rattle.std.proofs.Common.{◌≡◌, ℕ, suc, ◌+◌, ◌*◌, ◌<◌, ◌≤◌, Bool, true, false, cond, List, ◌++◌, Option, Some, None, length}
 use Rattle.std.proofs.Common.{refl, sym, ap, subst, inl, inr, arith, option_to_list, Contains}
-use Rattle.std.proofs.lemmas.Bool.{cases_lt, and_parts, ltb-true, lt-ltb}
-use Rattle.std.proofs.lemmas.List.{get_or_past}
+use Rattle.std.proofs.lemmas.Bool.{ltb-true, lt-ltb}
 use Rattle.std.proofs.lemmas.List.Elements.{Contains-append_left, Contains-append_right, Contains-append_cases}
 use Rattle.dob_pieces.specs.declared.kind.Kind.{Kind}
 use Rattle.dob_pieces.specs.declared.kind.Kind.TheVariants.{Lion, Giraffe, Elephant, Chick, Hen}
@@ -10,11 +9,11 @@ use Rattle.dob_pieces.specs.declared.kind.HandKind.{HandKind}
 use Rattle.dob_pieces.specs.declared.kind.HandKind.TheVariants as hand
 use Rattle.dob_pieces.specs.declared.kind.Side.{Side}
 use Rattle.dob_pieces.specs.declared.kind.Side.TheVariants.{Mover, Enemy}
-use Rattle.dob_pieces.specs.declared.kind.Piece.{Piece}
 use Rattle.dob_pieces.specs.declared.setup.Setup.{Setup}
 use Rattle.dob_pieces.specs.Lists.{each_below}
 use Rattle.dob_pieces.specs.Pieces.{leads, kind_in_hand}
 use Rattle.dob_pieces.specs.Setups.{Cell, at, held, piece_of}
+use Rattle.dob_pieces.proofs.Boards.{within-from_piece, leads-to_board}
 use Rattle.dob_pieces.proofs.Lists.{none_in_empty, cond_sound, cond_whole, each_sound, each_whole, Rising, rising-lower, rising-append}
 use Rattle.dob_pieces.proofs.Lists.{rising-cond, rising-each}
 use Rattle.dob_moves.specs.declared.game_move.Move.{Move}
@@ -147,15 +146,11 @@ steps_by_rising aim p kind from lt =
           (let e : suc (12 * from + to) ≡ 12 * from + suc to = omega arith in e)
           (rising-option (12 * from + to) (step_to aim p kind from to) (λ m e. its_place to (leads kind from to) m e))
 
-near_from_leads : (kind : Kind) (from to : ℕ) → leads kind from to ≡ true → to < 12
-unfolding leads
-near_from_leads kind from to h = ltb-true to 12 (and_parts (nat_lt to 12) _ h).0
-
 found_in_steps_by : (aim : Aim) (p : Setup) (kind : Kind) (from to : ℕ) (m : Move) → from < 12
     → IsFound aim p kind from to m → Contains (steps_by aim p kind from) m
 found_in_steps_by aim p kind from to m lt h =
     let g : ℕ → List Move = λ to. option_to_list (step_to aim p kind from to) in
-    let near = near_from_leads kind from to h.step.leads in
+    let near = leads-to_board kind from to h.step.leads in
     let it : step_to aim p kind from to ≡ Some m = rw h.step.leads h.found in
     subst (λ (ms : List Move). Contains ms m) (sym (steps_by-squares aim p kind from lt))
     (each_whole g 12 to m near (option_whole (step_to aim p kind from to) m it))
@@ -200,19 +195,12 @@ pub steps_rising : (aim : Aim) (p : Setup) → Rising place 0 first_drop (all_st
 unfolding all_steps
 steps_rising aim p = rising-each place (steps_from aim p) (λ from. 12 * from) 12 (λ from lt. steps_from_rising aim p from lt)
 
--- what stands on the board stands on one of its squares
-on_board : (p : Setup) (square : ℕ) (piece : Piece) → length p.board ≡ 12 → at p square ≡ Some piece → square < 12
-on_board p square piece len e =
-    elim (cases_lt square 12) [
-      | inl lt ↦ lt
-      | inr ge ↦ let beyond = get_or_past p.board square None (omega (arith, len)) in cc
-    ]
-
 pub found_in_steps : (aim : Aim) (p : Setup) (kind : Kind) (from to : ℕ) (m : Move) → length p.board ≡ 12
     → IsFound aim p kind from to m → Contains (all_steps aim p) m
 unfolding all_steps
 found_in_steps aim p kind from to m len h =
-    let lt = on_board p from (piece_of Mover kind) len h.step.own in
+    let within = within-from_piece p from (piece_of Mover kind) h.step.own in
+    let lt : from < 12 = omega (arith, within, len) in
     each_whole (steps_from aim p) 12 from m lt (found_in_steps_from aim p kind from to m lt h)
 
 -- ---- drops

@@ -10,6 +10,7 @@ use Rattle.dob_pieces.specs.declared.setup.Setup.{Setup}
 use Rattle.dob_pieces.specs.Pieces.{other_side}
 use Rattle.dob_pieces.specs.Setups.{Cell, at, turned_cell, piece_of, turned, HasLions, HasFewPieces, HasLionOffFarRow, IsLegal}
 use Rattle.dob_pieces.proofs.Boards.{length-turned, at-turned, HasLions-turned, HasFewPieces-turned}
+use Rattle.dob_pieces.proofs.Symmetries.{turned_cell_twice}
 
 -- the side and the kind of what stands on a square
 abbrev pub side_of : Cell → Side
@@ -28,16 +29,9 @@ sides_apart kind other e = let s : Enemy ≡ Mover = ap side_of e in cc
 abbrev pub IsFreeOfTry : Setup → Type 0
 IsFreeOfTry p = (k : ℕ) → k < 3 → at p k ≢ Some (piece_of Enemy Lion)
 
--- a piece that is the mover's lion after turning was the enemy's
-turned_piece : (side : Side) (kind : Kind) → Some (piece_of (other_side side) kind) ≡ Some (piece_of Mover Lion)
-    → Some (piece_of side kind) ≡ Some (piece_of Enemy Lion)
-turned_piece Mover kind e = absurd (sides_apart kind Lion e)
-turned_piece Enemy kind e = ap (λ k. Some (piece_of Enemy k)) (ap kind_of e)
-
--- the same of a cell
-turned_lion : (c : Cell) → turned_cell c ≡ Some (piece_of Mover Lion) → c ≡ Some (piece_of Enemy Lion)
-turned_lion None e = cc
-turned_lion (Some piece) e = turned_piece piece.side piece.kind e
+-- what is a side's lion after turning was the other side's
+pub turned_lion : (side : Side) (c : Cell) → turned_cell c ≡ Some (piece_of side Lion) → c ≡ Some (piece_of (other_side side) Lion)
+turned_lion side c e = sym (turned_cell_twice c) ∙ ap turned_cell e
 
 -- nothing stands beyond the turned board
 at-turned_past : (p : Setup) (k : ℕ) → 12 ≤ k → at (turned p) k ≡ None
@@ -46,7 +40,7 @@ at-turned_past p k h = get_or_past (turned p).board k None (omega (arith, length
 -- with no enemy lion on row 1, the turned mover's lion isn't on row 4
 HasLionOffFarRow-turned : (p : Setup) → IsFreeOfTry p → HasLionOffFarRow (turned p)
 HasLionOffFarRow-turned p free k far is =
-    ⊎_elim (λ (h : k < 12). free (11 - k) (omega arith) (turned_lion _ (sym (at-turned p k h) ∙ is)))
+    ⊎_elim (λ (h : k < 12). free (11 - k) (omega arith) (turned_lion Mover _ (sym (at-turned p k h) ∙ is)))
     (λ (h : 12 ≤ k). let past = at-turned_past p k h in cc) (cases_lt k 12)
 
 -- a turned setup is a position

@@ -3,6 +3,7 @@ use Rattle.std.proofs.Common.{◌≡◌, ◌≢◌, ℕ, ◌+◌, ◌<◌, ◌�
 use Rattle.std.proofs.Common.{◌∙◌, subst, arith, List, [], ◌∷◌, ◌++◌, length, Option, None, Some}
 use Rattle.std.proofs.lemmas.Bool.{eq-eqb, ne_eqb}
 use Rattle.std.proofs.lemmas.List.{append-nil}
+use Rattle.std.proofs.lemmas.Option.{same_Some}
 use Rattle.dob_moves.specs.declared.position_status.Status.{Status}
 use Rattle.dob_moves.specs.declared.position_status.Status.TheVariants.{Open}
 use Rattle.dob_value.specs.declared.value.Value.{Value}
@@ -20,9 +21,6 @@ use Rattle.dob_node.proofs.Settles.{value_of-more}
 use Rattle.dob_node.proofs.Kept.{better_apart}
 use Rattle.dob_node.proofs.Stored.{same_settlement}
 
-some_same : {X : Type 0} (a b : X) → Some a ≡ Some b → a ≡ b
-some_same a b e = cc
-
 -- ---- a cell has one value
 
 greatest_same : (wins : ℕ → ℕ) (a b : ℕ) → IsGreatest wins a → IsGreatest wins b → a ≡ b
@@ -37,7 +35,7 @@ nothing_counted cell greatest none some (inr all) = let is : cell.wins greatest 
 
 pub one_value : (cell : Cell) (v w : Value) → CellValue cell v → CellValue cell w → v ≡ w
 one_value cell (Win a) (Win b) one other =
-    let same : one.0 ≡ other.0 = some_same one.0 other.0 (sym one.1 ∙ other.1) in
+    let same : one.0 ≡ other.0 = same_Some one.0 other.0 (sym one.1 ∙ other.1) in
     ap Win (one.2 ∙ ap (λ (k : ℕ). k + 1) same ∙ sym other.2)
 one_value cell (Win a) (Loss b) one other = absurd (let is = sym one.1 ∙ other.0 in cc)
 one_value cell (Win a) Draw one other = absurd (let is = sym one.1 ∙ other.0 in cc)

@@ -1,5 +1,6 @@
 -- Values at odd and even distances: what cells count and know keeps its parity, and so do their values.
 use Rattle.std.proofs.Common.{◌≡◌, ℕ, ◌+◌, ◌-◌, ◌%◌, ◌<◌, ◌==◌, if◌then◌else◌, Bool, true, false, refl, sym, ◌∙◌, subst, arith, Option, None, Some, lit≤}
+use Rattle.std.proofs.lemmas.Option.{same_Some}
 use Rattle.dob_moves.specs.declared.position_status.Status.{Status}
 use Rattle.dob_moves.specs.declared.position_status.Status.TheVariants.{Caught, Tried, Stuck, Open}
 use Rattle.dob_value.specs.declared.value.Value.{Value}
@@ -12,9 +13,6 @@ use Rattle.dob_share.specs.Cells.{Cell, SameCell, CellValue, changed, less_at}
 use Rattle.dob_share.specs.Slots.{IsShortCell}
 use Rattle.dob_share.specs.Shares.{IsOwn, status_at, cell_at, IsValue, HasValueNow}
 use Rattle.dob_node.specs.Takes.{HasParities}
-
-some_of : {X : Type 0} (a b : X) → Some a ≡ Some b → a ≡ b
-some_of a b e = cc
 
 -- cells that say the same
 pub parities_same : (a b : Cell) → SameCell a b → HasParities b → HasParities a
@@ -40,7 +38,7 @@ lesser_even (Some least) now even known =
     grind arith
 
 even_some : (least now : ℕ) → least % 2 ≡ 0 → (plies : ℕ) → Some least ≡ Some plies → plies % 2 ≡ 0
-even_some least now even plies is = subst (λ (k : ℕ). k % 2 ≡ 0) (some_of least plies is) even
+even_some least now even plies is = subst (λ (k : ℕ). k % 2 ≡ 0) (same_Some least plies is) even
 
 -- a cell after an item
 pub parities_changed : (was now : Value) (cell : Cell) → IsEntry was → IsEntry now → HasParities cell → HasParities (changed was now cell)

@@ -4,6 +4,7 @@ use Rattle.std.proofs.lemmas.List.{length-append}
 use Rattle.std.proofs.lemmas.Nat.{mod-mul-add, div-mul-add}
 use Rattle.std.proofs.lemmas.Option.{slice_get_within}
 use Rattle.dob_pieces.specs.declared.piece_set.PieceSet.{PieceSet}
+use Rattle.dob_pieces.proofs.Elements.{at_end}
 use Rattle.dob_rank.specs.Marks.{classes_of}
 use Rattle.dob_value.specs.declared.value.Value.{Value}
 use Rattle.dob_share.specs.declared.share.Share.{Share}
@@ -11,7 +12,6 @@ use Rattle.dob_share.specs.Owners.{class_of_place}
 use Rattle.dob_share.specs.Shares.{places_of, IsOwn, HasValueNow}
 use Rattle.dob_node.specs.Stores.{HistoryView}
 use Rattle.dob_node.specs.Takes.{AreKept}
-use Rattle.dob_node.proofs.Starts.{slice_get_pushed}
 
 module _ (set : PieceSet) (n id : ℕ) (share : Share) (history : HistoryView) (kept : AreKept set n id share history) (place : ℕ)
     (low : place < places_of share) where
@@ -56,7 +56,7 @@ pub values_more : (set : PieceSet) (n id : ℕ) (share : Share) (history : Histo
     AreValuesBelow share (upto + 1) new
 values_more set n id share history upto values new value kept before is has = subst (λ xs. AreValuesBelow share (upto + 1) xs) (sym is) (record {
   whole = length-append values (value ∷ []) ∙ ap (λ (k : ℕ). k + 1) before.whole;
-  each = λ place other there. elim (slice_get_pushed values value other place there) [
+  each = λ place other there. elim (at_end values value other place there) [
     | inl earlier ↦ before.each place other earlier
     | inr last ↦ subst (λ v. HasValueNow share (class_of_place share.n share.id place) v) last.1
         (subst (λ (k : ℕ). HasValueNow share (class_of_place share.n share.id k) value) (sym (last.0 ∙ before.whole))

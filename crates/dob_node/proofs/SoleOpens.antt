@@ -26,6 +26,7 @@ use Rattle.dob_share.specs.Cells.{SameCell, CellValue, fresh}
 use Rattle.dob_share.specs.Openings.{opening_of}
 use Rattle.dob_share.specs.Shares.{places_of, IsOwn, status_at, cell_at}
 use Rattle.dob_share.specs.Values.{Better}
+use Rattle.dob_share.proofs.Applied.{CellValue-same}
 use Rattle.dob_update.specs.Items.{items_from}
 use Rattle.dob_node.specs.Histories.{value_of, IsChained}
 use Rattle.dob_node.specs.Quiet.{FollowsAtStatus}
@@ -36,7 +37,7 @@ use Rattle.dob_node.specs.declared.node.Node.{Node}
 use Rattle.dob_node.specs.Nodes.{IsSound, IsOpened}
 use Rattle.dob_node.specs.Sole.{sole_history, sole_applied, sole_items, cells_below, IsSole, HasCome, HasMade}
 use Rattle.dob_node.proofs.Settles.{chained_more, chained_none, value_of-more}
-use Rattle.dob_node.proofs.Takes.{SumsUp-same, CellValue-same}
+use Rattle.dob_node.proofs.Takes.{SumsUp-same}
 use Rattle.dob_node.proofs.Totals.{start_sums}
 use Rattle.dob_node.proofs.Soles.{cell_below, one_owner}
 

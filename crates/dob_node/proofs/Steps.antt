@@ -34,7 +34,8 @@ use Rattle.dob_node.proofs.Totals.{some_known}
 use Rattle.dob_node.proofs.Kept.{all_known-same, known_entries, follows_entry, better_apart}
 use Rattle.dob_share.proofs.Learning.{counted, takes_next}
 use Rattle.dob_share.proofs.Sums.{sums_up_after}
-use Rattle.dob_node.proofs.Takes.{value_follows, SumsUp-same, CellValue-same}
+use Rattle.dob_share.proofs.Applied.{CellValue-same}
+use Rattle.dob_node.proofs.Takes.{value_follows, SumsUp-same}
 
 -- ---- a class that has a copy is open
 

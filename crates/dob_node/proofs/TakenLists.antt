@@ -63,7 +63,7 @@ taken_before items k default share mid after history longer grown why low before
 }
 
 -- what holds of an error holds of it where it is handed on
-pub carried : {T : Type 0} (Q : Cause → Type 0) (r : Result T Cause) (why : Cause) → IsErrAnd r (λ given. given ≡ why) → Q why → IfErr r Q
+pub carried : {T E : Type 0} (Q : E → Type 0) (r : Result T E) (why : E) → IsErrAnd r (λ given. given ≡ why) → Q why → IfErr r Q
 carried Q r why is holds =
     let given = err_from_is_err_and r is in
     subst (λ s. IfErr s Q) (sym given.1) (subst Q (sym given.2) holds)

@@ -8,17 +8,13 @@ use Rattle.dob_value.specs.declared.value.Value.TheVariants.{Win, Loss, Draw}
 use Rattle.dob_value.specs.Entries.{is_draw}
 use Rattle.dob_value.specs.Distances.{IsLeastLoss}
 use Rattle.dob_value.proofs.Consistency.{not_draw_win}
+use Rattle.dob_value.proofs.Tables.{draw_is}
 use Rattle.dob_share.specs.Values.{is_win_in}
 use Rattle.dob_share.specs.Cells.{Cell, SameCell, IsGreatest, CellValue, SumsUp}
 use Rattle.dob_share.proofs.Learning.{counted, counts}
 use Rattle.dob_node.specs.Quiet.{FollowsFromKnown}
 
 -- ---- the cell's value follows
-
-is_that_draw : (v : Value) → is_draw v ≡ true → v ≡ Draw
-is_that_draw Draw is = refl
-is_that_draw (Win plies) is = cc
-is_that_draw (Loss plies) is = cc
 
 is_that_win : (plies : ℕ) (v : Value) → is_win_in plies v ≡ true → v ≡ Win plies
 is_that_win plies (Win distance) is = ap Win (eqb-true distance plies is)
@@ -64,7 +60,7 @@ value_follows known cell Draw sums above value = (
         let count = sums.left in
         let found = counted is_draw known (omega arith) in
         let win = wins found.0 found.1 in
-        absurd (not_draw_win win.0 (sym (is_that_draw found.0 found.2) ∙ win.1))
+        absurd (not_draw_win win.0 (sym (draw_is found.0 found.2) ∙ win.1))
     | inr none ↦
         let some = some_value known above in
         let win = wins some.0 some.1 in
@@ -82,20 +78,3 @@ SumsUp-same known a b same sums = record {
   wins = λ plies. same.wins plies ∙ sums.wins plies;
   least = subst (IsLeastLoss known) (sym same.least) sums.least;
 }
-
-pub CellValue-same : (a b : Cell) (v : Value) → SameCell a b → CellValue b v → CellValue a v
-CellValue-same a b (Win plies) same value = (value.0, same.least ∙ value.1, value.2)
-CellValue-same a b (Loss plies) same value = (
-  same.least ∙ value.0,
-  same.left ∙ value.1,
-  value.2,
-  (
-    subst (λ m. 0 < m) (sym (same.wins value.2)) value.3.0,
-    λ other some. value.3.1 other (subst (λ m. 0 < m) (same.wins other) some),
-  ),
-  value.4,
-)
-CellValue-same a b Draw same value = (
-  same.least ∙ value.0,
-  elim value.1 [ inl left ↦ inl (subst (λ m. 0 < m) (sym same.left) left) | inr none ↦ inr (λ plies. same.wins plies ∙ none plies) ],
-)

@@ -1,8 +1,8 @@
 -- How many copies a class's moves have in all: one each. Before anything is settled they know nothing.
-use Rattle.std.proofs.Common.{◌≡◌, ℕ, zero, suc, ◌+◌, ◌<◌, ◌≤◌, ◌&&◌, inl, inr, eqb, ltb, Bool, true, false, cond, refl}
+use Rattle.std.proofs.Common.{◌≡◌, ℕ, zero, suc, ◌+◌, ◌<◌, ◌≤◌, ◌&&◌, inl, inr, eqb, ltb, true, false, cond, refl}
 use Rattle.std.proofs.Common.{sym, ap, ◌∙◌, arith, List, [], ◌∷◌, ◌++◌, length, Contains, None}
 use Rattle.std.specs.List.{count_by, All}
-use Rattle.std.proofs.lemmas.Bool.{eq-eqb, ne_eqb, cases_eq, le-ltb, and_right}
+use Rattle.std.proofs.lemmas.Bool.{eq-eqb, ne_eqb, cases_eq, le-ltb, and_right, false≢true}
 use Rattle.std.proofs.lemmas.List.{length-append}
 use Rattle.std.proofs.lemmas.List.Elements.{All-head, All-tail, All-contains_itself, Contains-append_right}
 use Rattle.std.proofs.lemmas.List.Sums.{sum_by-cons}
@@ -30,6 +30,7 @@ use Rattle.dob_value.specs.declared.value.Value.{Value}
 use Rattle.dob_value.specs.declared.value.Value.TheVariants.{Loss, Draw}
 use Rattle.dob_value.specs.Entries.{is_draw}
 use Rattle.dob_value.proofs.Successors.{moves_keep_the_set}
+use Rattle.dob_value.proofs.Consistency.{not_draw_loss}
 use Rattle.dob_unmove.specs.Edges.{edges, predecessors}
 use Rattle.dob_unmove.proofs.Edges.{times-predecessors}
 use Rattle.dob_share.specs.declared.news.Settlement.{Settlement}
@@ -179,10 +180,7 @@ no_wins xs plies zero draws is = refl
 no_wins xs plies (suc count) draws is =
     let found = counted (λ v. is_win_in plies v) xs (omega arith) in
     let drawn : false ≡ is_win_in plies found.0 = ap (is_win_in plies) (sym (draws found.0 found.1)) in
-    absurd (false_is_true (is_win_in plies found.0) drawn found.2)
-  where
-    false_is_true : (b : Bool) → false ≡ b → b ≡ true → ⊥
-    false_is_true b a c = cc
+    absurd (false≢true (drawn ∙ found.2))
 
 -- a cell with all moves left sums up what is known before anything is applied
 pub start_sums : (set : PieceSet) (p : ℕ) → p < classes_of set → (n : ℕ) (histories : ℕ → List Settlement) (applied : ℕ → List Item) →
@@ -195,8 +193,5 @@ start_sums set p low n histories applied none =
     record {
       left = sym (count_draws known_list draws ∙ length-all_known set p low n histories applied);
       wins = λ plies. no_wins known_list plies (count_by (λ v. is_win_in plies v) known_list) draws refl;
-      least = λ plies there. lost_draw plies (draws (Loss plies) there);
+      least = λ plies there. not_draw_loss plies (sym (draws (Loss plies) there));
     }
-  where
-    lost_draw : (plies : ℕ) → ¬ (let v : Value = Draw in Loss plies ≡ v)
-    lost_draw plies e = absurd (cc)

@@ -2,6 +2,7 @@
 use Rattle.std.proofs.Common.{◌≡◌, ℕ, suc, ◌+◌, ◌<◌, ◌&&◌, ◌||◌, Bool, true, false, bit_and, bit_or, List, [], ◌∷◌, Some, None, cond}
 use Rattle.std.proofs.Common.{length, get_or, refl, sym, ap, ◌∙◌, inl, inr, arith}
 use Rattle.std.specs.List.{count_by}
+use Rattle.std.proofs.Math.Bool.{or-false}
 use Rattle.std.proofs.lemmas.Bool.{and_parts, cases_Bool}
 use Rattle.std.proofs.lemmas.List.Sums.{sum_by-cons}
 use Rattle.std.specs.Int.{trailing_zeros, w16}
@@ -44,7 +45,7 @@ piece_lion side own Elephant = refl
 piece_lion side own Chick = refl
 piece_lion side own Hen = refl
 
-cell_lion : (side : Side) (cell : Cell) → is_piece side Lion cell ≡ holds_lion side cell
+pub cell_lion : (side : Side) (cell : Cell) → is_piece side Lion cell ≡ holds_lion side cell
 cell_lion side None = refl
 cell_lion side (Some piece) = piece_lion side piece.side piece.kind
 
@@ -95,10 +96,6 @@ alone_2 : (b : Bool) → ((b || false) || false) ≡ b
 alone_2 true = refl
 alone_2 false = refl
 
-alone_1 : (b : Bool) → (b || false) ≡ b
-alone_1 true = refl
-alone_1 false = refl
-
 abbrev any_kind : Cell → (Kind → Bool) → Bool
 any_kind cell steps =
     of_kind cell Lion (steps Lion) || of_kind cell Giraffe (steps Giraffe) || of_kind cell Elephant (steps Elephant)
@@ -109,7 +106,7 @@ any_piece Enemy kind steps = refl
 any_piece Mover Lion steps = alone (steps Lion)
 any_piece Mover Giraffe steps = alone_3 (steps Giraffe)
 any_piece Mover Elephant steps = alone_2 (steps Elephant)
-any_piece Mover Chick steps = alone_1 (steps Chick)
+any_piece Mover Chick steps = or-false (steps Chick)
 any_piece Mover Hen steps = refl
 
 any_attacks : (cell : Cell) (from to : ℕ) → any_kind cell (λ kind. leads kind from to) ≡ attacks_by cell from to

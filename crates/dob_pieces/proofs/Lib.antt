@@ -1,5 +1,7 @@
 -- The lemmas, in the order in which they are read.
+pub mod Results  -- what std doesn't tell of `Result`
 pub mod Lists  -- lists made piece by piece, and their order
+pub mod Elements  -- what stands where in a list, also after more things and after one was exchanged
 -- Boards.
 pub mod Boards  -- boards read, turned, mirrored and written
 pub mod Legality  -- what the tests of a position show

@@ -1,7 +1,8 @@
--- Lists made piece by piece: what they contain, and their order.
-use Rattle.std.proofs.Common.{◌≡◌, ℕ, zero, suc, ◌<◌, ◌≤◌, ◌⊎◌, Bool, true, false, cond, List, [], ◌∷◌, ◌++◌, length, get_or, refl, sym}
-use Rattle.std.proofs.Common.{subst, inl, inr, arith, All, AllPairs, Contains}
+-- Lists made piece by piece: what they contain, their parts, and their order.
+use Rattle.std.proofs.Common.{◌≡◌, ℕ, zero, suc, ◌<◌, ◌≤◌, ◌⊎◌, Bool, true, false, cond, List, [], ◌∷◌, ◌++◌, length, get_or, take, drop, refl, sym}
+use Rattle.std.proofs.Common.{ap, ◌∙◌, subst, inl, inr, arith, All, AllPairs, Contains}
 use Rattle.std.proofs.lemmas.Bool.{cases_lt}
+use Rattle.std.proofs.lemmas.List.{take_at, drop_at}
 use Rattle.std.proofs.lemmas.List.Elements.{Contains-append_left, Contains-append_right, Contains-append_cases, All-nil, All-cons}
 use Rattle.std.proofs.lemmas.List.Kept.{AllPairs-cons}
 use Rattle.dob_pieces.specs.Lists.{each_below}
@@ -46,6 +47,13 @@ module _ {X : Type 0} where
             let e : k ≡ n = omega arith in
             Contains-append_right (each_below g n) (g n) x (subst (λ (i : ℕ). Contains (g i) x) e here)
       ]
+
+  -- lists whose first parts are of one length have the same parts
+  pub append-same : (a b c d : List X) → length a ≡ length b → a ++ c ≡ b ++ d → (a ≡ b) × (c ≡ d)
+  append-same a b c d size joined = (
+    sym (take_at a c (length a) refl) ∙ ap (take (length a)) joined ∙ take_at b d (length a) (sym size),
+    sym (drop_at a c (length a) refl) ∙ ap (drop (length a)) joined ∙ drop_at b d (length a) (sym size),
+  )
 
 -- ---- their order
 

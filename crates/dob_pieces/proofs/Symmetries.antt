@@ -47,6 +47,10 @@ turned_cell_twice (Some piece) = ap (λ (side : Side). let p : Cell = Some (piec
 pub board_by-same : (f g : ℕ → Cell) → ((k : ℕ) → k < 12 → f k ≡ g k) → board_by f ≡ board_by g
 board_by-same f g h = board_by-from_cells g (board_by f) refl (λ k lt. at-board_by f k lt ∙ h k lt)
 
+-- what stands on a square's image
+pub at-image : (s : Setup) (k : ℕ) → k < 12 → at (mirrored s) (mirrored_square k) ≡ at s k
+at-image s k lt = at-mirrored s (mirrored_square k) (mirrored_square_bound k lt) ∙ ap (at s) (mirrored_square_twice k lt)
+
 -- turning twice gives the setup back
 pub turned-turned : (s : Setup) → length s.board ≡ 12 → turned (turned s) ≡ s
 unfolding turned
@@ -59,9 +63,8 @@ turned-turned s e =
 pub mirrored-mirrored : (s : Setup) → length s.board ≡ 12 → mirrored (mirrored s) ≡ s
 unfolding mirrored
 mirrored-mirrored s e =
-    let cells : (k : ℕ) → k < 12 → at s k ≡ at (mirrored s) (mirrored_square k)
-    = λ k lt. sym (at-mirrored s (mirrored_square k) (mirrored_square_bound k lt) ∙ ap (at s) (mirrored_square_twice k lt)) in
-    sym (ap (λ (board : List Cell). setup_of board s.hands) (board_by-from_cells (λ k. at (mirrored s) (mirrored_square k)) s.board e cells))
+    sym (ap (λ (board : List Cell). setup_of board s.hands)
+    (board_by-from_cells (λ k. at (mirrored s) (mirrored_square k)) s.board e (λ k lt. sym (at-image s k lt))))
 
 -- turning and mirroring commute
 pub turned-mirrored : (s : Setup) → turned (mirrored s) ≡ mirrored (turned s)

@@ -10,10 +10,10 @@ use Rattle.dob_pieces.specs.declared.steps.TheConstants.{TARGETS, SOURCES}
 use Rattle.dob_pieces.proofs.Boards.{all_below, all_below-at}
 
 -- the mask has just the squares that pass the test
-abbrev has_bits : (ℕ → Bool) → ℕ → Bool
+abbrev pub has_bits : (ℕ → Bool) → ℕ → Bool
 has_bits test mask = ltb mask 4096 && all_below (λ square. eqb (bit_at mask square) (cond (test square) 1 0)) 12
 
-is_mask : (test : ℕ → Bool) (mask : ℕ) → has_bits test mask ≡ true → IsMask test mask
+pub is_mask : (test : ℕ → Bool) (mask : ℕ) → has_bits test mask ≡ true → IsMask test mask
 is_mask test mask h =
     let parts = and_parts (ltb mask 4096) (all_below (λ square. eqb (bit_at mask square) (cond (test square) 1 0)) 12) h in
     record {

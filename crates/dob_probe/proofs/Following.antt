@@ -1,7 +1,6 @@
 -- The value that follows from the successors' values, and that no other does.
-use Rattle.std.proofs.Common.{◌≡◌, ℕ, ◌+◌, ◌≤◌, ◌<◌, inl, inr, refl, sym, subst, ap, ◌∙◌, arith, List, Bool, true, false, Option, Some, None, Contains, length}
-use Rattle.std.proofs.Common.{slice_get}
-use Rattle.std.proofs.lemmas.Option.{slice_get_cases, same_Some}
+use Rattle.std.proofs.Common.{◌≡◌, ℕ, ◌+◌, ◌≤◌, ◌<◌, refl, sym, subst, ap, ◌∙◌, arith, List, Bool, true, false, Option, Some, None, Contains, length}
+use Rattle.std.proofs.lemmas.Option.{same_Some, slice_get_within}
 use Rattle.dob_pieces.specs.declared.setup.Setup.{Setup}
 use Rattle.dob_moves.specs.declared.game_move.Move.{Move}
 use Rattle.dob_moves.specs.declared.position_status.Status.{Status}
@@ -160,15 +159,9 @@ pub consistent_of_all : (table : ClassTable) → IsTable table.set table.values 
 consistent_of_all table whole all = record {
   table = whole;
   follows = λ representative class v represents number entry.
-      let within : class < length table.values = within_of table.values class v entry in
+      let within : class < length table.values = slice_get_within table.values class v entry in
       all class within representative v (record { represents = represents; number = number; entry = entry });
 }
-  where
-    within_of : (xs : List Value) (k : ℕ) (x : Value) → slice_get xs k ≡ Some x → k < length xs
-    within_of xs k x read = elim (slice_get_cases xs k).1 [
-      | inl here ↦ here.1
-      | inr past ↦ let never : None ≡ Some x = sym past.1 ∙ read in absurd (cc)
-    ]
 
 pub consistent_has_no_break : (table : ClassTable) (class : ℕ) → IsConsistent table.set table.values → ¬ ClassBreaks table class
 consistent_has_no_break table class consistent breaks =

@@ -2,7 +2,7 @@
 use Rattle.std.proofs.Common.{◌≡◌, ℕ, zero, suc, ◌+◌, ◌*◌, ◌/◌, ◌%◌, ◌^◌, ◌<◌, ◌≤◌, List, [], ◌∷◌, Some, None, map, refl, sym, ap, ◌∙◌, subst, inl, inr, arith}
 use Rattle.std.proofs.lemmas.Bool.{cases_eq, eq-eqb, ne_eqb}
 use Rattle.std.proofs.lemmas.Nat.{same_from_place, mod_below}
-use Rattle.std.proofs.Math.Nat.{pow-zero, pow-succ'}
+use Rattle.std.proofs.Math.Nat.{mod-one, pow-zero, pow-succ'}
 use Rattle.std.proofs.Math.Arith.{mod-mul}
 use Rattle.dob_pieces.specs.declared.kind.Kind.{Kind}
 use Rattle.dob_pieces.specs.declared.kind.Kind.TheVariants.{Lion, Giraffe, Elephant, Chick, Hen}
@@ -186,9 +186,6 @@ layers-board_of numbers (l ∷ ls) a =
     let rest : map layer (board_of numbers ls) ≡ ls = layers-board_of numbers ls a.1 in
     cc
 
-one_left : (n : ℕ) → n % 1 ≡ 0
-one_left n = omega arith
-
 at_layer : (numbers : ℕ → ℕ) (t l : ℕ) (ls : List ℕ) → t < order Empty → l ≡ t → map layer (board_of numbers ls) ≡ ls
     → forms_number t (board_of numbers ls) ≡ numbers t % base_of t ^ count t ls
     → layer (cell_of l (numbers l / base_of l ^ count l ls % base_of l)) ≡ l
@@ -209,7 +206,7 @@ at_layer numbers t l ls h e layers rest head =
 -- the forms number of the board made is the number that it was made from
 pub forms_number-board_of : (numbers : ℕ → ℕ) (t : ℕ) (ls : List ℕ) → t < order Empty → AreLayers ls
     → forms_number t (board_of numbers ls) ≡ numbers t % base_of t ^ count t ls
-forms_number-board_of numbers t [] h a = sym (ap (λ (x : ℕ). numbers t % x) (pow-zero (base_of t)) ∙ one_left (numbers t))
+forms_number-board_of numbers t [] h a = sym (ap (λ (x : ℕ). numbers t % x) (pow-zero (base_of t)) ∙ mod-one (numbers t))
 forms_number-board_of numbers t (l ∷ ls) h a =
     let rest : forms_number t (board_of numbers ls) ≡ numbers t % base_of t ^ count t ls = forms_number-board_of numbers t ls h a.1 in
     let layers : map layer (board_of numbers ls) ≡ ls = layers-board_of numbers ls a.1 in

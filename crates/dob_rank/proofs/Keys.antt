@@ -8,13 +8,14 @@ use Rattle.dob_pieces.specs.declared.kind.Side.TheVariants.{Mover, Enemy}
 use Rattle.dob_pieces.specs.declared.piece_set.PieceSet.{PieceSet}
 use Rattle.dob_pieces.specs.declared.setup.Setup.{Setup}
 use Rattle.dob_pieces.specs.Setups.{Cell, holds_lion, holds_kind}
+use Rattle.dob_pieces.proofs.Lists.{append-same}
 use Rattle.dob_rank.specs.Order.{IsPositionOf, Precedes, Before, key, forms, form}
 use Rattle.dob_rank.specs.Numbers.{layer, count, choice, forms_number, on_board, digits, order}
 use Rattle.dob_rank.specs.declared.layers.Layer.TheVariants.{OwnLion, EnemyLion, Chicks, Elephants, Giraffes}
 use Rattle.dob_rank.proofs.Choices.{Alike, Alike-next, choice-rises, layer_squares}
 use Rattle.dob_rank.proofs.LayerCounts.{holds_mover_lion, holds_enemy_lion, holds_kind-layer, count-layer, squares-layer}
 use Rattle.dob_rank.proofs.KeyParts.{length-layer_squares, Alike-start, choice-alike, layer_forms, length-layer_forms, forms_number-rises, forms_number-alike}
-use Rattle.dob_rank.proofs.Order.{Precedes-split, Precedes-left, append-same}
+use Rattle.dob_rank.proofs.Order.{Precedes-split, Precedes-left}
 use Rattle.dob_rank.proofs.Digits.{HasParts, HasParts-from_position}
 
 -- the mover's hand as a list

@@ -43,14 +43,3 @@ Precedes-total (x ∷ a) (y ∷ b) = elim (cases_order x y) [
   ]
   | inr o ↦ elim o [ inl lt ↦ inl (inl lt) | inr gt ↦ inr (inr (inl gt)) ]
 ]
-
-pub append-same : (a b c d : List ℕ) → length a ≡ length b → a ++ c ≡ b ++ d → (a ≡ b) × (c ≡ d)
-append-same [] [] c d e p = (refl, p)
-append-same [] (y ∷ b) c d e p = absurd (omega arith)
-append-same (x ∷ a) [] c d e p = absurd (omega arith)
-append-same (x ∷ a) (y ∷ b) c d e p =
-    let tails : a ++ c ≡ b ++ d = cc in
-    let head : x ≡ y = cc in
-    let rest : (a ≡ b) × (c ≡ d) = append-same a b c d (omega arith) tails in
-    let front : a ≡ b = rest.0 in
-    ((let whole : x ∷ a ≡ y ∷ b = cc in whole), rest.1)

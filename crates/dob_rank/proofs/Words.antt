@@ -1,7 +1,7 @@
 -- Words of marks: their ones are the marks, and their low bits the first of them.
 use Rattle.std.proofs.Common.{◌≡◌, ℕ, zero, suc, ◌+◌, ◌-◌, ◌*◌, ◌/◌, ◌%◌, ◌^◌, ◌<◌, ◌≤◌, ◌==◌, bit_and, Bool, true, false, refl, sym, ap, ◌∙◌, arith}
 use Rattle.std.proofs.lemmas.Nat.{and_mask, one_shl, ones_cat, div-mul-add, mod-mul-add, shr-shr}
-use Rattle.std.proofs.Math.Nat.{pow-zero, pow-le-pow_right, pow-suc}
+use Rattle.std.proofs.Math.Nat.{mod-one, pow-zero, pow-le-pow_right, pow-suc}
 use Rattle.std.proofs.Math.Arith.{mod-mul}
 use lib.Count.{ones}
 use Rattle.dob_rank.specs.Marks.{one_if, marks_below, word_of}
@@ -60,10 +60,7 @@ ones-word_of mark from (suc n) =
 
 -- the low bits of a word are the word of the first marks
 pub word_of-low : (mark : ℕ → Bool) (from n p : ℕ) → p ≤ n → word_of mark from n % 2 ^ p ≡ word_of mark from p
-word_of-low mark from n zero h = ap (λ (x : ℕ). word_of mark from n % x) (pow-zero 2) ∙ one_left (word_of mark from n) ∙ sym (word_of_none mark from)
-  where
-    one_left : (x : ℕ) → x % 1 ≡ 0
-    one_left x = omega arith
+word_of-low mark from n zero h = ap (λ (x : ℕ). word_of mark from n % x) (pow-zero 2) ∙ mod-one (word_of mark from n) ∙ sym (word_of_none mark from)
 word_of-low mark from zero (suc p) h = absurd (omega arith)
 word_of-low mark from (suc n) (suc p) h =
     let rest : word_of mark (suc from) n % 2 ^ p ≡ word_of mark (suc from) p = word_of-low mark (suc from) n p (omega arith) in

@@ -1,10 +1,12 @@
 -- What a node has applied from each node, after each step of its worker.
-use Rattle.std.proofs.Common.{◌≡◌, ◌≢◌, ℕ, zero, suc, ◌-◌, eqb, cond, refl, sym, ap, ◌∙◌, subst, arith, List, [], ◌∷◌, ◌++◌}
+use Rattle.std.proofs.Common.{◌≡◌, ◌≢◌, ℕ, zero, suc, ◌-◌, eqb, cond, sym, ap, ◌∙◌, subst, arith, List, [], ◌∷◌, ◌++◌}
 use Rattle.std.proofs.Common.{length, length-append, length-drop, take, drop, set, Some, inl, inr}
 use Rattle.std.proofs.lemmas.Bool.{eq-eqb, ne_eqb, cases_eq}
 use Rattle.std.proofs.lemmas.List.{take-append-le}
 use Rattle.std.specs.Prelude.{slice_get, slice_set}
+use Rattle.std.proofs.lemmas.Option.{slice_get_within}
 use Rattle.dob_pieces.specs.declared.piece_set.PieceSet.{PieceSet}
+use Rattle.dob_pieces.proofs.Elements.{get_set_other, get_set_same}
 use Rattle.dob_share.specs.declared.news.Item.{Item}
 use Rattle.dob_update.specs.Batches.{BatchView, items_of_batches}
 use Rattle.dob_update.proofs.BatchItems.{items_in_more}
@@ -13,7 +15,6 @@ use Rattle.dob_run.specs.declared.hands.Inlet.{Inlet}
 use Rattle.dob_run.specs.Links.{worked}
 use Rattle.dob_run.specs.Knows.{KnowsRight}
 use Rattle.dob_run.specs.Workers.{planned, items_worked, own_applied, applied_from, AreLast}
-use Rattle.dob_run.proofs.Counted.{else_set}
 
 -- ---- own items
 
@@ -62,19 +63,15 @@ applied_still old new before after id own same k =
 
 -- ---- inlets
 
-set_here : (xs : List Inlet) (k : ℕ) (x y : Inlet) → slice_get xs k ≡ Some x → slice_get (set xs k y) k ≡ Some y
-set_here [] k x y there = absurd (cc)
-set_here (z ∷ xs) zero x y there = refl
-set_here (z ∷ xs) (suc k) x y there = set_here xs k x y there
-
 -- one inlet changed: what was worked in of it is what follows from it, and of the others what it was
 pub worked_here : (old new : List Inlet) (from : ℕ) (before after : Inlet) → slice_get old from ≡ Some before → new ≡ slice_set old from after →
     items_worked (slice_get new from) ≡ items_of_batches (worked after)
-worked_here old new from before after there is = ap (λ xs. items_worked (slice_get xs from)) is ∙ ap items_worked (set_here old from before after there)
+worked_here old new from before after there is = ap (λ xs. items_worked (slice_get xs from)) is
+    ∙ ap items_worked (get_set_same old from after (slice_get_within old from before there))
 
 pub worked_else : (old new : List Inlet) (from : ℕ) (after : Inlet) → new ≡ slice_set old from after → (k : ℕ) → k ≢ from →
     items_worked (slice_get new k) ≡ items_worked (slice_get old k)
-worked_else old new from after is k other = ap (λ xs. items_worked (slice_get xs k)) is ∙ ap items_worked (else_set old from k after other)
+worked_else old new from after is k other = ap (λ xs. items_worked (slice_get xs k)) is ∙ ap items_worked (get_set_other old from k after other)
 
 pub worked_again : (old new : List Inlet) (from : ℕ) (before after : Inlet) → slice_get old from ≡ Some before → new ≡ slice_set old from after →
     worked after ≡ worked before → (k : ℕ) → items_worked (slice_get new k) ≡ items_worked (slice_get old k)

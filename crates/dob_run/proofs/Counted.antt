@@ -1,9 +1,10 @@
 -- The counts of links, after one link changed.
-use Rattle.std.proofs.Common.{◌≡◌, ◌≢◌, ℕ, zero, suc, ◌<◌, List, [], ◌∷◌, length, set, get_or, Some, refl, sym}
-use Rattle.std.proofs.Common.{ap, ◌∙◌, inl, inr, arith, get_or-set_same, get_or-set_other}
+use Rattle.std.proofs.Common.{◌≡◌, ℕ, zero, suc, ◌<◌, List, [], ◌∷◌, length, set, Some, sym}
+use Rattle.std.proofs.Common.{ap, ◌∙◌, inl, inr, get_or-set_same, get_or-set_other}
 use Rattle.std.specs.Prelude.{slice_get, slice_index}
+use Rattle.std.proofs.lemmas.Bool.{cases_eq}
+use Rattle.dob_pieces.proofs.Elements.{get_set_other}
 use Rattle.dob_update.specs.Batches.{BatchView}
-use Rattle.dob_safra.proofs.Kept.{same_or_not}
 use Rattle.dob_run.specs.Mails.{AreCounts}
 
 pub there_set : {L : Type 0} → (xs : List L) (k : ℕ) (new x : L) → slice_get (set xs k new) k ≡ Some x → new ≡ x
@@ -11,21 +12,14 @@ there_set [] k new x e = absurd (cc)
 there_set (y ∷ xs) zero new x e = cc
 there_set (y ∷ xs) (suc k) new x e = there_set xs k new x e
 
-pub else_set : {L : Type 0} → (xs : List L) (k j : ℕ) (new : L) → j ≢ k → slice_get (set xs k new) j ≡ slice_get xs j
-else_set [] k j new apart = refl
-else_set (y ∷ xs) zero zero new apart = absurd (apart refl)
-else_set (y ∷ xs) zero (suc j) new apart = refl
-else_set (y ∷ xs) (suc k) zero new apart = refl
-else_set (y ∷ xs) (suc k) (suc j) new apart = else_set xs k j new (λ e. apart (ap suc e))
-
 -- a link with as many batches as before
 pub counts_stay : {L : Type 0} → (batches : L → List BatchView) (counts : List ℕ) (links : List L) (k : ℕ) (old new : L) → AreCounts batches counts links →
     slice_get links k ≡ Some old → length (batches new) ≡ length (batches old) → AreCounts batches counts (set links k new)
 counts_stay batches counts links k old new are at same j link e =
-    elim (same_or_not j k) [
+    elim (cases_eq j k) [
       | inl here ↦ let is : new ≡ link = there_set links k new link (ap (slice_get (set links k new)) (sym here) ∙ e) in
           ap (slice_index counts) here ∙ are k old at ∙ sym same ∙ ap (λ l. length (batches l)) is
-      | inr apart ↦ are j link (sym (else_set links k j new apart) ∙ e)
+      | inr apart ↦ are j link (sym (get_set_other links k j new apart) ∙ e)
     ]
 
 -- a link with one batch more, and a count that is one more
@@ -33,15 +27,9 @@ pub counts_rise : {L : Type 0} → (batches : L → List BatchView) (counts : Li
     slice_get links k ≡ Some old → k < length counts → length (batches new) ≡ suc (length (batches old)) →
     AreCounts batches (set counts k (suc (slice_index counts k))) (set links k new)
 counts_rise batches counts links k old new are at within more j link e =
-    elim (same_or_not j k) [
+    elim (cases_eq j k) [
       | inl here ↦ let is : new ≡ link = there_set links k new link (ap (slice_get (set links k new)) (sym here) ∙ e) in
           ap (slice_index (set counts k (suc (slice_index counts k)))) here ∙ get_or-set_same counts k (suc (slice_index counts k)) 0 within
           ∙ ap suc (are k old at) ∙ sym more ∙ ap (λ l. length (batches l)) is
-      | inr apart ↦ get_or-set_other counts k j (suc (slice_index counts k)) 0 apart ∙ are j link (sym (else_set links k j new apart) ∙ e)
+      | inr apart ↦ get_or-set_other counts k j (suc (slice_index counts k)) 0 apart ∙ are j link (sym (get_set_other links k j new apart) ∙ e)
     ]
-
--- what was read of a list stands there
-pub got_there : {L : Type 0} → (xs : List L) (k : ℕ) (x : L) → k < length xs → x ≡ get_or xs k x → slice_get xs k ≡ Some x
-got_there [] k x within is = absurd (omega arith)
-got_there (y ∷ xs) zero x within is = ap Some (sym is)
-got_there (y ∷ xs) (suc k) x within is = got_there xs k x (omega arith) is

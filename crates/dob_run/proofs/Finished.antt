@@ -6,6 +6,7 @@ use Rattle.std.proofs.lemmas.Bool.{cases_eq}
 use Rattle.std.proofs.lemmas.List.{append-nil, take_all, length-take}
 use Rattle.std.proofs.lemmas.Option.{slice_get-get_or}
 use Rattle.dob_pieces.specs.declared.piece_set.PieceSet.{PieceSet}
+use Rattle.dob_pieces.proofs.Elements.{some_at}
 use Rattle.dob_moves.specs.declared.position_status.Status.{Status}
 use Rattle.dob_moves.specs.declared.position_status.Status.TheVariants.{Caught, Tried, Stuck, Open}
 use Rattle.dob_rank.specs.Marks.{classes_of}
@@ -40,7 +41,6 @@ use Rattle.dob_run.specs.Mails.{AreOut}
 use Rattle.dob_run.specs.Knows.{CanHaveMade, KnowsRight}
 use Rattle.dob_run.specs.Workers.{planned, items_worked, own_applied, applied_from, SendsRight, IsLawful}
 use Rattle.dob_run.specs.Finished.{IsRunnerOf, AreJoinedBy, AreFinished, AreShown}
-use Rattle.dob_run.proofs.Places.{some_at}
 use Rattle.dob_run.proofs.Applied.{applied_here, applied_else}
 use Rattle.dob_run.proofs.Summing.{sums_by}
 

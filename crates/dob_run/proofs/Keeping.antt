@@ -5,10 +5,12 @@ use Rattle.std.proofs.lemmas.List.{append-nil}
 use Rattle.std.specs.Prelude.{slice_get, Result, Ok, Err, MatchResult}
 use Rattle.std.specs.Result.{IsErrAnd}
 use Rattle.std.proofs.lemmas.Result.{err_from_is_err_and}
+use Rattle.std.proofs.lemmas.Option.{same_Some}
+use Rattle.std.proofs.lemmas.Bool.{cases_eq}
+use Rattle.dob_pieces.proofs.Elements.{get_set_other}
 use Rattle.dob_share.specs.declared.news.Item.{Item}
 use Rattle.dob_share.specs.declared.share.Share.{Share}
 use Rattle.dob_update.specs.Batches.{BatchView}
-use Rattle.dob_safra.proofs.Kept.{same_or_not}
 use Rattle.dob_board.specs.declared.seat.NodeSeat.{NodeSeat}
 use Rattle.dob_board.specs.declared.halt.Halt.{Halt}
 use Rattle.dob_board.specs.declared.halt.Halt.TheVariants.{Running, Ended, Failed}
@@ -28,8 +30,7 @@ use Rattle.dob_run.specs.Links.{GoesOn, KeepsOutlet, KeepsInlet}
 use Rattle.dob_run.specs.Mails.{KeepsEach, AreOut}
 use Rattle.dob_run.specs.Keeps.{KeepsMail, HasSameLinks}
 use Rattle.dob_run.specs.Runners.{KeepsRunner, GoesOn as Goes, HasFailed, HasBroken, HasTurned, Steps}
-use Rattle.dob_run.proofs.Counted.{there_set, else_set}
-use Rattle.dob_run.proofs.Places.{one_thing}
+use Rattle.dob_run.proofs.Counted.{there_set}
 
 -- ---- lists of batches
 
@@ -66,23 +67,23 @@ inlet_trans x y z one two = (two.0 ∙ one.0, goes_on_trans (taken_by x.end) (ta
 -- what stood elsewhere and what stands at the place
 pub each_after : {L : Type 0} (Q : ℕ → L → Type 0) (xs : List L) (k : ℕ) (y : L) → ((j : ℕ) (l : L) → j ≢ k → slice_get xs j ≡ Some l → Q j l) → Q k y →
     (j : ℕ) (l : L) → slice_get (set xs k y) j ≡ Some l → Q j l
-each_after Q xs k y others here j l at = elim (same_or_not j k) [
+each_after Q xs k y others here j l at = elim (cases_eq j k) [
   | inl same ↦
       let is : y ≡ l = there_set xs k y l (ap (slice_get (set xs k y)) (sym same) ∙ at) in
       subst (λ m. Q m l) (sym same) (subst (λ m. Q k m) is here)
-  | inr apart ↦ others j l apart (sym (else_set xs k j y apart) ∙ at)
+  | inr apart ↦ others j l apart (sym (get_set_other xs k j y apart) ∙ at)
 ]
 
 pub one_kept : {L : Type 0} (Keeps : L → L → Type 0) → ((x : L) → Keeps x x) → (xs : List L) (k : ℕ) (x y : L) → slice_get xs k ≡ Some x → Keeps x y →
     KeepsEach Keeps xs (set xs k y)
 one_kept Keeps self xs k x y at keeps j before after old new =
     each_after (λ m l. slice_get xs m ≡ Some before → Keeps before l) xs k y
-    (λ m l apart there was. subst (Keeps before) (one_thing before l (sym was ∙ there)) (self before))
-    (λ was. subst (λ b. Keeps b y) (one_thing x before (sym at ∙ was)) keeps) j after new old
+    (λ m l apart there was. subst (Keeps before) (same_Some before l (sym was ∙ there)) (self before))
+    (λ was. subst (λ b. Keeps b y) (same_Some x before (sym at ∙ was)) keeps) j after new old
 
 pub each_same : {L : Type 0} (Keeps : L → L → Type 0) → ((x : L) → Keeps x x) → (xs ys : List L) → ys ≡ xs → KeepsEach Keeps xs ys
 each_same Keeps self xs ys same j before after old new =
-    subst (Keeps before) (one_thing before after (sym old ∙ (ap (λ zs. slice_get zs j) (sym same) ∙ new))) (self before)
+    subst (Keeps before) (same_Some before after (sym old ∙ (ap (λ zs. slice_get zs j) (sym same) ∙ new))) (self before)
 
 there_is : {L : Type 0} (xs ys : List L) (j : ℕ) (x : L) → length xs ≡ length ys → slice_get xs j ≡ Some x → (y : L) × (slice_get ys j ≡ Some y)
 there_is [] ys j x same at = absurd (cc)

@@ -19,6 +19,7 @@ use Rattle.dob_share.specs.Values.{Better}
 use Rattle.dob_share.specs.Cells.{Cell, SameCell, Changes, changed}
 use Rattle.dob_share.specs.Shares.{status_at, cell_at, IsValue, HasValueNow, HasSettled}
 use Rattle.dob_share.proofs.Sums.{sums_up_after}
+use Rattle.dob_share.proofs.Applied.{CellValue-same}
 use Rattle.dob_update.specs.Items.{items_from}
 use Rattle.dob_node.specs.Histories.{value_of, all_known, IsNext, IsChained}
 use Rattle.dob_node.specs.Stores.{HistoryView}
@@ -29,7 +30,7 @@ use Rattle.dob_node.proofs.Settles.{chained_more, value_of-more}
 use Rattle.dob_node.proofs.Kept.{all_known-same}
 use Rattle.dob_node.proofs.Kepts.{fits_own, now_is, kept_still}
 use Rattle.dob_node.proofs.ItemChanges.{one_value, fits_open, value_elsewhere}
-use Rattle.dob_node.proofs.Takes.{SumsUp-same, CellValue-same}
+use Rattle.dob_node.proofs.Takes.{SumsUp-same}
 use Rattle.dob_run.specs.Knows.{sum_of, CanHaveMade, AreSummed, KnowsRight}
 use Rattle.dob_run.proofs.Summing.{sums_by, is_sum}
 

@@ -1,10 +1,10 @@
 -- Each step of a worker leaves it lawful.
 use Rattle.std.proofs.Common.{◌≡◌, ◌≢◌, ℕ, ◌-◌, ◌^◌, ◌<◌, ◌≤◌, eqb, cond, Option, None, refl, sym, ap, ◌∙◌, subst, arith, append_assoc}
-use Rattle.std.proofs.Common.{List, [], ◌∷◌, ◌++◌, length, length-append, take, drop, Bool, true, false, Some, inl, inr}
+use Rattle.std.proofs.Common.{List, [], ◌∷◌, ◌++◌, length, length-append, take, drop, true, false, Some, inl, inr}
 use Rattle.std.specs.Prelude.{slice_get, slice_set}
 use Rattle.std.proofs.lemmas.List.{append-nil, take-append-drop, length-take}
 use Rattle.std.specs.List.{All}
-use Rattle.std.proofs.lemmas.Bool.{cases_Bool, cases_lt, cases_eq}
+use Rattle.std.proofs.lemmas.Bool.{cases_Bool, cases_lt, cases_eq, true≢false}
 use Rattle.std.proofs.lemmas.List.Elements.{All-head}
 use Rattle.std.proofs.lemmas.Option.{slice_get_within}
 use Rattle.dob_pieces.specs.declared.piece_set.PieceSet.{PieceSet}
@@ -92,9 +92,6 @@ offered_again set size to node old new law seat one inlets hands = record {
 
 -- ---- the node alone changed
 
-pub no_colour : (b : Bool) → b ≡ true → b ≡ false → ⊥
-no_colour b is isnt = absurd (cc)
-
 planned_same : (old new : Node) (to : ℕ) → new.set ≡ old.set → new.n ≡ old.n → new.expanded ≡ old.expanded →
     (more : List Settlement) → new.history.settlements ≡ old.history.settlements ++ more → old.expanded ≤ length old.history.settlements →
     planned new to ≡ planned old to
@@ -165,7 +162,7 @@ applied_batch set size from batch node after old new law low apart entries step 
   knows = knows_after node after (applied_from after new.inlets.items) step.same.0 step.same.1 step.same.2
       (taken_all node.set node.n node.id from (subst (λ m. from < m) (sym law.of.2) low) batch.items node.share after.share node.history after.history
       (applied_from node old.inlets.items) (applied_from after new.inlets.items) law.sound.kept entries step.taken one_more elsewhere law.knows);
-  white = λ is. absurd (no_colour new.seat.black black is);
+  white = λ is. absurd (true≢false (sym black ∙ is));
 }
   where
     plan : (to : ℕ) → planned after to ≡ planned node to
@@ -257,7 +254,7 @@ cut_one set size to batch node after old new law not_own step sound same_node sa
       (knows_same node.set node.n node.id node.share node.history.settlements (applied_from node old.inlets.items) (applied_from after new.inlets.items)
       (applied_still node after old.inlets.items new.inlets.items step.same.1
       (own_still node after (ap (λ i. planned after i) step.same.1 ∙ plan node.id) step.kept.2) (same_inlets old new inlets)) law.knows)));
-  white = λ is. absurd (no_colour new.seat.black black is);
+  white = λ is. absurd (true≢false (sym black ∙ is));
 }
   where
     nothing : (j : ℕ) (outlet : Outlet) → slice_get (slice_set old.outlets.items to one.1) j ≡ Some outlet → j ≡ old.seat.node → offered outlet ≡ []
@@ -303,7 +300,7 @@ begun set size node mail is = record {
   unused = λ outlet at. is.unsent mail.seat.node outlet at;
   own = subst (λ own. AreLast (planned node node.id) own) (sym is.opened.nothing.1) (subst (λ w. AreLast w []) (sym (planned_none node.id)) refl);
   knows = knows_at_start (applied_from node mail.inlets.items) none_applied;
-  white = λ colour. absurd (no_colour mail.seat.black is.black colour);
+  white = λ colour. absurd (true≢false (sym is.black ∙ colour));
 }
   where
     planned_none : (to : ℕ) → planned node to ≡ []

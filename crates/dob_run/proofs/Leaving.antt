@@ -6,7 +6,8 @@ use Rattle.std.specs.Prelude.{slice_get}
 use Rattle.std.proofs.lemmas.List.{length-map, take-append-drop}
 use Rattle.std.specs.declared.vec.Vec.{Vec}
 use Rattle.std.specs.List.{AllZip}
-use Rattle.dob_safra.proofs.Kept.{same_or_not}
+use Rattle.std.proofs.lemmas.Option.{slice_get_within, same_Some}
+use Rattle.std.proofs.lemmas.Bool.{cases_eq}
 use Rattle.dob_pieces.specs.declared.piece_set.PieceSet.{PieceSet}
 use Rattle.dob_share.specs.declared.news.Item.{Item}
 use Rattle.dob_update.specs.Batches.{BatchView, items_of_batches}
@@ -35,7 +36,7 @@ use Rattle.dob_run.specs.Turned.{IsWorker, IsLink, IsTurned, AreUnfailed, AreWor
 use Rattle.dob_run.specs.Workers.{planned, items_worked, applied_from, AreLast, SendsRight, IsLawful}
 use Rattle.dob_run.proofs.Applied.{applied_here, applied_else}
 use Rattle.dob_run.proofs.Manned.{zip_at, seat_there, are_linked, seat_at, crew_many, crew_low, outlet_at, inlet_at}
-use Rattle.dob_run.proofs.Places.{each_more, none_at, inside, one_thing, get_map, map_got, next_is, then_left, gone_all}
+use Rattle.dob_run.proofs.Places.{each_more, none_at, get_map, map_got, next_is, then_left, gone_all}
 
 -- ---- workers, one by one
 
@@ -76,7 +77,7 @@ module _ {A : Type 0} (nodes : List Node) (sending taking : List (Vec (Option Ba
       let at_into = get_map row_of taking on.done into (next_is taking taking_after into on.done (sym on.taking_are ∙ t)) in
       record {
         done = on.done + 1;
-        within = omega (arith, inside nodes node on.done at);
+        within = omega (arith, slice_get_within nodes on.done node at);
         nodes_are = then_left nodes after node on.done (sym on.nodes_are ∙ n);
         sending_are = then_left sending sending_after out on.done (sym on.sending_are ∙ s);
         taking_are = then_left taking taking_after into on.done (sym on.taking_are ∙ t);
@@ -110,8 +111,8 @@ left_by n runners nodes mails ended turned nodes_is mails_is ended_is workers cl
         runner.0,
         runner.1,
         sym runner.2,
-        one_thing worker.sending.items (hands_out runner.0.mail) (sym got.1 ∙ out),
-        one_thing worker.taking.items (hands_in runner.0.mail) (sym got.2 ∙ into),
+        same_Some worker.sending.items (hands_out runner.0.mail) (sym got.1 ∙ out),
+        same_Some worker.taking.items (hands_in runner.0.mail) (sym got.2 ∙ into),
       );
   words = subst (λ (p : List Mail × Closed). AreWords n (map seat_in p.0) p.1.words.items) (λ q. (mails_is q, (sym closed) q)) ended_is.words;
   links_count = ap (λ (v : Vec Rejoined Global). length v.items) links ∙ ended_is.count;
@@ -130,7 +131,7 @@ rows_long f rows mails nodes runners same mails_is nodes_is =
 pub unfailed_more : (runners : List Runner) (node : ℕ) → ((k : ℕ) (runner : Runner) → k < node → slice_get runners k ≡ Some runner → runner.failed ≡ None) →
     ((runner : Runner) → slice_get runners node ≡ Some runner → None ≡ runner.failed) →
     (k : ℕ) (runner : Runner) → k < node + 1 → slice_get runners k ≡ Some runner → runner.failed ≡ None
-unfailed_more runners node before last k runner low at = elim (same_or_not k node) [
+unfailed_more runners node before last k runner low at = elim (cases_eq k node) [
   | inl same ↦ sym (last runner (subst (λ (m : ℕ). slice_get runners m ≡ Some runner) same at))
   | inr other ↦ before k runner (omega (arith, low, other)) at
 ]

@@ -3,7 +3,9 @@ use Rattle.std.proofs.Common.{◌≡◌, ℕ, zero, suc, ◌<◌, List, [], ◌�
 use Rattle.std.specs.Prelude.{slice_get}
 use Rattle.std.proofs.lemmas.List.{length-map}
 use Rattle.std.specs.List.{AllZip}
+use Rattle.std.proofs.lemmas.Option.{slice_get_within, same_Some}
 use Rattle.dob_pieces.specs.declared.piece_set.PieceSet.{PieceSet}
+use Rattle.dob_pieces.proofs.Elements.{some_at}
 use Rattle.dob_board.specs.declared.board.Board.{Board}
 use Rattle.dob_board.specs.Seats.{IsSeatOf}
 use Rattle.dob_chan.specs.Ends.{ArePaired}
@@ -16,7 +18,7 @@ use Rattle.dob_run.specs.Opening.{IsNewMail, AreNewMails}
 use Rattle.dob_run.specs.Runners.{KeepsRunner, IsNew}
 use Rattle.dob_run.specs.Turns.{AllSuit}
 use Rattle.dob_run.specs.Manned.{mail_of, AreRunnersFor, IsRunnerOf}
-use Rattle.dob_run.proofs.Places.{inside, one_thing, get_map, map_got, some_at}
+use Rattle.dob_run.proofs.Places.{get_map, map_got}
 use Rattle.dob_run.proofs.Parting.{count_is}
 
 -- what stands at a place has its other at that place
@@ -25,7 +27,7 @@ pub zip_at : {X Y : Type 0} → (R : X → Y → Type 0) (xs : List X) (ys : Lis
 zip_at R [] [] k y are at = absurd (cc)
 zip_at R [] (b ∷ ys) k y are at = absurd are
 zip_at R (a ∷ xs) [] k y are at = absurd are
-zip_at R (a ∷ xs) (b ∷ ys) zero y are at = (a, refl, subst (R a) (one_thing b y at) are.0)
+zip_at R (a ∷ xs) (b ∷ ys) zero y are at = (a, refl, subst (R a) (same_Some b y at) are.0)
 zip_at R (a ∷ xs) (b ∷ ys) (suc k) y are at = zip_at R xs ys k y are.1 at
 
 pub zip_long : {X Y : Type 0} → (R : X → Y → Type 0) (xs : List X) (ys : List Y) → AllZip R xs ys → length ys ≡ length xs
@@ -79,7 +81,7 @@ module _ (board : Board) (runners : List Runner) (crew : IsCrew board (map mail_
   crew_many = sym (length-map runners mail_of) ∙ count_is board (map mail_of runners) crew
 
   pub crew_low : (k : ℕ) (runner : Runner) → slice_get runners k ≡ Some runner → k < board.nodes
-  crew_low k runner at = omega (arith, inside runners runner k at, crew_many)
+  crew_low k runner at = omega (arith, slice_get_within runners k runner at, crew_many)
 
   pub outlet_at : (i j : ℕ) (from : Runner) → slice_get runners i ≡ Some from → j < board.nodes →
       (outlet : Outlet) × (slice_get from.mail.outlets.items j ≡ Some outlet)
@@ -119,9 +121,9 @@ crew_kept board old new crew kept = record {
       let out : slice_get from.1.mail.outlets.items j ≡ Some outlet = ap (λ (m : Mail). slice_get m.outlets.items j) from.4 ∙ linked.out in
       let into : slice_get to.1.mail.inlets.items i ≡ Some inlet = ap (λ (m : Mail). slice_get m.inlets.items i) to.4 ∙ linked.into in
       let outlet_before = some_at from.0.mail.outlets.items j
-      (omega (arith, inside from.1.mail.outlets.items outlet j out, from.1.mail.outlets_len, from.0.mail.outlets_len, from.3.mail.seat.nodes)) in
+      (omega (arith, slice_get_within from.1.mail.outlets.items j outlet out, from.1.mail.outlets_len, from.0.mail.outlets_len, from.3.mail.seat.nodes)) in
       let inlet_before = some_at to.0.mail.inlets.items i
-      (omega (arith, inside to.1.mail.inlets.items inlet i into, to.1.mail.inlets_len, to.0.mail.inlets_len, to.3.mail.seat.nodes)) in
+      (omega (arith, slice_get_within to.1.mail.inlets.items i inlet into, to.1.mail.inlets_len, to.0.mail.inlets_len, to.3.mail.seat.nodes)) in
       let sends = from.3.mail.outlets j outlet_before.0 outlet outlet_before.1 out in
       let takes = to.3.mail.inlets i inlet_before.0 inlet inlet_before.1 into in
       let were : ArePaired outlet_before.0.end inlet_before.0.end = crew.paired i j outlet_before.0 inlet_before.0

@@ -18,13 +18,14 @@ use Rattle.dob_share.specs.declared.opening.Opening.{Opening}
 use Rattle.dob_share.specs.Owners.{owner_of}
 use Rattle.dob_share.specs.Cells.{Cell, SameCell, fresh}
 use Rattle.dob_share.specs.Shares.{IsOwn, places_of, cell_at, IsValue}
+use Rattle.dob_share.proofs.Applied.{CellValue-same}
 use Rattle.dob_node.specs.Histories.{value_of, IsChained}
 use Rattle.dob_node.specs.Openings.{AreOpenings}
 use Rattle.dob_node.specs.OpeningLists.{opening_value, opening_settlements, status_in}
 use Rattle.dob_node.specs.Takes.{AreKept}
 use Rattle.dob_node.specs.declared.node.Node.{Node}
 use Rattle.dob_node.specs.Nodes.{IsSound, IsOpened}
-use Rattle.dob_node.proofs.Takes.{SumsUp-same, CellValue-same}
+use Rattle.dob_node.proofs.Takes.{SumsUp-same}
 use Rattle.dob_node.proofs.Totals.{start_sums}
 use Rattle.dob_node.proofs.ItemChanges.{one_value}
 use Rattle.dob_node.proofs.SoleOpens.{listed_opening}

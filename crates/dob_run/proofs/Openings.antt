@@ -1,6 +1,6 @@
 -- Each position has a status, and so each piece set has openings, whether they were listed or not.
 use Rattle.std.proofs.Common.{◌≡◌, ℕ, zero, suc, ◌+◌, ◌<◌, ◌≤◌, ◌⊎◌, inl, inr, Bool, true, false, List, [], ◌∷◌, ◌++◌, Option}
-use Rattle.std.proofs.Common.{Some, None, MatchOption, length, length-append, refl, ap, ◌∙◌, subst, arith}
+use Rattle.std.proofs.Common.{Some, None, MatchOption, length, refl, subst, arith}
 use Rattle.dob_pieces.specs.declared.piece_set.PieceSet.{PieceSet}
 use Rattle.dob_pieces.specs.declared.setup.Setup.{Setup}
 use Rattle.dob_pieces.proofs.Lists.{head_in, none_in_empty}
@@ -17,7 +17,7 @@ use Rattle.dob_rank.proofs.Marks.{HasClasses-classes_of}
 use Rattle.dob_rank.proofs.Representatives.{class_setup_is}
 use Rattle.dob_share.specs.declared.opening.Opening.{Opening}
 use Rattle.dob_node.specs.Openings.{IsOpening, AreOpeningsBelow, AreOpenings}
-use Rattle.dob_run.proofs.Places.{each_more}
+use Rattle.dob_node.proofs.Starts.{openings_more}
 
 -- ---- the status of a position
 
@@ -47,13 +47,6 @@ legal_class set class low = (class_setup_is set class (classes_of set) (HasClass
 -- a class has a status and moves
 an_opening : (p : Setup) → (s : Status) × HasStatus p s → (given : Opening) × IsOpening p given
 an_opening p has = (record { status = has.0; moves = length (moves_of p) }, record { status = has.1; moves = refl })
-
-openings_more : (set : PieceSet) (class : ℕ) (before : List Opening) (more : Opening) → AreOpeningsBelow set class before → IsOpening (class_setup set class) more →
-    AreOpeningsBelow set (class + 1) (before ++ more ∷ [])
-openings_more set class before more are is = record {
-  whole = length-append before (more ∷ []) ∙ ap (λ (k : ℕ). k + 1) are.whole;
-  each = each_more (λ (k : ℕ) (given : Opening). IsOpening (class_setup set k) given) before (before ++ more ∷ []) more class are.whole refl are.each is;
-}
 
 openings_below : (set : PieceSet) (upto : ℕ) → upto ≤ classes_of set → (openings : List Opening) × AreOpeningsBelow set upto openings
 openings_below set zero within = ([], record { whole = refl; each = λ k given at. absurd (cc) })

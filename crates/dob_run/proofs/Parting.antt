@@ -5,8 +5,9 @@ use Rattle.std.specs.Prelude.{slice_get}
 use Rattle.std.proofs.lemmas.List.{length-map, append-nil}
 use Rattle.std.proofs.Common.{Global}
 use Rattle.std.specs.declared.vec.Vec.{Vec}
+use Rattle.std.proofs.lemmas.Option.{slice_get_within, same_Some}
 use Rattle.dob_board.specs.declared.board.Board.{Board}
-use Rattle.dob_board.proofs.Lists.{at_end, get_last}
+use Rattle.dob_pieces.proofs.Elements.{at_end, some_at, get_front, middle}
 use Rattle.dob_chan.specs.declared.ends.SendEnd.{SendEnd}
 use Rattle.dob_chan.specs.declared.ends.TakeEnd.{TakeEnd}
 use Rattle.dob_chan.specs.declared.calls.Rejoined.{Rejoined}
@@ -18,7 +19,7 @@ use Rattle.dob_run.specs.declared.closing.Parts.{Parts}
 use Rattle.dob_run.specs.Rows.{StandsAt}
 use Rattle.dob_run.specs.Ending.{outlet_end, inlet_end, AreDealt, IsJoined, AreEnds, AreJoined}
 use Rattle.dob_run.specs.Closing.{AreLinked, seat_in, IsCrew, row_of, ends_out, ends_in, hands_out, hands_in, HasRowMore, HasAdded, ArePartsOf}
-use Rattle.dob_run.proofs.Places.{get_before, inside, middle, one_thing, get_map, map_got, some_at}
+use Rattle.dob_run.proofs.Places.{get_map, map_got}
 
 map_end : {A B : Type 0} → (f : A → B) (xs : List A) (x : A) → map f (xs ++ x ∷ []) ≡ map f xs ++ f x ∷ []
 map_end f [] x = refl
@@ -34,12 +35,12 @@ rows_more {X} {Z} f mails mail old new same more =
 takes_more : (n : ℕ) (mails : List Mail) (mail : Mail) (old new : Parts) → ArePartsOf n mails old → AreDealt n (ends_in mail) old.takes.items new.takes.items →
     (i j : ℕ) (end : TakeEnd) → StandsAt new.takes.items i j end → (m : Mail) × (slice_get (mails ++ mail ∷ []) j ≡ Some m) × (slice_get (ends_in m) i ≡ Some end)
 takes_more n mails mail old new are dealt i j end there =
-    let low : i < n = omega (arith, inside new.takes.items there.0 i there.1, dealt.rows, are.takes_rows.count) in
+    let low : i < n = omega (arith, slice_get_within new.takes.items i there.0 there.1, dealt.rows, are.takes_rows.count) in
     let row = dealt.dealt i there.0 low there.1 in
     let long : length row.0.items ≡ length mails = are.takes_rows.each i row.0 row.2 in
     elim (at_end row.0.items row.1 end j (ap (λ (l : List TakeEnd). slice_get l j) (sym row.4) ∙ there.2)) [
-      | inl before ↦ let was = are.takes i j end (row.0, row.2, before) in (was.0, get_before mails mail was.0 j was.1, was.2)
-      | inr last ↦ (mail, ap (slice_get (mails ++ mail ∷ [])) (last.0 ∙ long) ∙ get_last mails mail, row.3 ∙ ap Some last.1)
+      | inl before ↦ let was = are.takes i j end (row.0, row.2, before) in (was.0, get_front mails (mail ∷ []) was.0 j was.1, was.2)
+      | inr last ↦ (mail, ap (slice_get (mails ++ mail ∷ [])) (last.0 ∙ long) ∙ middle mails [] mail, row.3 ∙ ap Some last.1)
     ]
 
 pub parts_more : (n : ℕ) (mails : List Mail) (mail : Mail) (old new : Parts) → ArePartsOf n mails old → HasAdded old mail new → length mail.inlets.items ≡ n →
@@ -52,7 +53,7 @@ parts_more n mails mail old new are added wide =
       takes_rows = record {
         count = dealt.rows ∙ are.takes_rows.count;
         each = λ i row e.
-            let low : i < n = omega (arith, inside new.takes.items row i e, dealt.rows, are.takes_rows.count) in
+            let low : i < n = omega (arith, slice_get_within new.takes.items i row e, dealt.rows, are.takes_rows.count) in
             let was = dealt.dealt i row low e in
             omega (arith, ap length was.4, length-append was.0.items (was.1 ∷ []), are.takes_rows.each i was.0 was.2, length-append mails (mail ∷ []));
       };
@@ -135,18 +136,18 @@ module _ (board : Board) (mails : List Mail) (parts : Parts) where
   links_are crew are links joined i j outlet inlet linked =
       let ends = ends_are crew are in
       let count = count_is board mails crew in
-      let low_i : i < board.nodes = omega (arith, inside mails linked.sender i linked.sends, count) in
-      let low_j : j < board.nodes = omega (arith, inside mails linked.taker j linked.takes, count) in
+      let low_i : i < board.nodes = omega (arith, slice_get_within mails i linked.sender linked.sends, count) in
+      let low_j : j < board.nodes = omega (arith, slice_get_within mails j linked.taker linked.takes, count) in
       let row = some_at parts.sends.items i (omega (arith, low_i, ends.senders.count)) in
       let from = sends_row are i row.0 row.1 in
-      let sender : from.0 ≡ linked.sender = one_thing from.0 linked.sender (sym from.1 ∙ linked.sends) in
+      let sender : from.0 ≡ linked.sender = same_Some from.0 linked.sender (sym from.1 ∙ linked.sends) in
       let sent : slice_get row.0.items j ≡ Some outlet.end =
       ap (λ (l : List SendEnd). slice_get l j) (from.2 ∙ ap ends_out sender) ∙ get_map outlet_end linked.sender.outlets.items j outlet linked.out in
       let column = some_at parts.takes.items i (omega (arith, low_i, ends.takers.count)) in
       let end = some_at column.0.items j (omega (arith, low_j, ends.takers.each i column.0 column.1)) in
       let to = are.takes i j end.0 (column.0, column.1, end.1) in
-      let taker : to.0 ≡ linked.taker = one_thing to.0 linked.taker (sym to.1 ∙ linked.takes) in
-      let is_end : end.0 ≡ inlet.end = one_thing end.0 inlet.end
+      let taker : to.0 ≡ linked.taker = same_Some to.0 linked.taker (sym to.1 ∙ linked.takes) in
+      let is_end : end.0 ≡ inlet.end = same_Some end.0 inlet.end
       (sym to.2 ∙ ap (λ (m : Mail). slice_get (ends_in m) i) taker ∙ get_map inlet_end linked.taker.inlets.items i inlet linked.into) in
       let found = joined.joined i j outlet.end end.0 low_i (row.0, row.1, sent) (column.0, column.1, end.1) in
       (found.0, found.1, subst (λ (t : TakeEnd). IsJoined outlet.end t found.0) is_end found.2)

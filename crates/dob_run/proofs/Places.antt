@@ -1,10 +1,11 @@
 -- What stands where in a list, also after one thing more, after one was exchanged, and in a function of all its things.
-use Rattle.std.proofs.Common.{◌≡◌, ◌≢◌, ℕ, zero, suc, ◌+◌, ◌<◌, ◌≤◌, inl, inr, List, [], ◌∷◌, ◌++◌, length, map, drop, take}
+use Rattle.std.proofs.Common.{◌≡◌, ◌≢◌, ℕ, zero, suc, ◌+◌, ◌≤◌, inl, inr, List, [], ◌∷◌, ◌++◌, length, map, drop, take}
 use Rattle.std.proofs.Common.{Some, refl, sym, ap, ◌∙◌, subst, arith, append_assoc, length-append}
 use Rattle.std.proofs.lemmas.List.{append-nil}
 use Rattle.std.specs.Prelude.{slice_get}
 use Rattle.std.specs.declared.vec.Vec.{Vec}
-use Rattle.dob_board.proofs.Lists.{at_end}
+use Rattle.std.proofs.lemmas.Option.{slice_get_within, same_Some}
+use Rattle.dob_pieces.proofs.Elements.{at_end}
 use Rattle.dob_run.specs.Rows.{StandsAt, AreRows}
 
 pub none_at : {A L : Type 0} → (l : List A) (k : ℕ) (a : A) → l ≡ [] → slice_get l k ≡ Some a → L
@@ -29,22 +30,9 @@ row_added {X} {Z} k rows new row are is empty = record {
   each = each_more (λ (j : ℕ) (other : Vec X Z). length other.items ≡ 0) rows new row k are.count is are.each empty;
 }
 
-pub get_before : {A : Type 0} → (l : List A) (a b : A) (j : ℕ) → slice_get l j ≡ Some b → slice_get (l ++ a ∷ []) j ≡ Some b
-get_before [] a b j e = absurd (cc)
-get_before (x ∷ xs) a b zero e = e
-get_before (x ∷ xs) a b (suc j) e = get_before xs a b j e
-
-pub inside : {A : Type 0} → (l : List A) (a : A) (j : ℕ) → slice_get l j ≡ Some a → j < length l
-inside [] a j e = absurd (cc)
-inside (x ∷ xs) a zero e = omega arith
-inside (x ∷ xs) a (suc j) e = let h = inside xs a j e in omega arith
-
-pub one_thing : {A : Type 0} → (a b : A) → Some a ≡ Some b → a ≡ b
-one_thing a b e = cc
-
 -- nothing stands in empty rows
 pub none_stands : {X Z L : Type 0} → (m i j : ℕ) (rows : List (Vec X Z)) (x : X) → AreRows m 0 rows → StandsAt rows i j x → L
-none_stands m i j rows x are there = absurd (let low = inside there.0.items x j there.2 in omega (arith, low, are.each i there.0 there.1))
+none_stands m i j rows x are there = absurd (let low = slice_get_within there.0.items j x there.2 in omega (arith, low, are.each i there.0 there.1))
 
 -- what a function of a thing at a place is
 pub get_map : {A B : Type 0} → (f : A → B) (xs : List A) (k : ℕ) (x : A) → slice_get xs k ≡ Some x → slice_get (map f xs) k ≡ Some (f x)
@@ -55,17 +43,8 @@ get_map f (y ∷ xs) (suc k) x e = get_map f xs k x e
 -- what stands at a place of a function of all things is that of the thing there
 pub map_got : {A B : Type 0} → (f : A → B) (xs : List A) (k : ℕ) (y : B) → slice_get (map f xs) k ≡ Some y → (x : A) × (slice_get xs k ≡ Some x) × (f x ≡ y)
 map_got f [] k y e = absurd (cc)
-map_got f (x ∷ xs) zero y e = (x, refl, one_thing (f x) y e)
+map_got f (x ∷ xs) zero y e = (x, refl, same_Some (f x) y e)
 map_got f (x ∷ xs) (suc k) y e = map_got f xs k y e
-
-pub some_at : {A : Type 0} → (xs : List A) (k : ℕ) → k < length xs → (x : A) × (slice_get xs k ≡ Some x)
-some_at [] k below = absurd (omega (arith, below))
-some_at (x ∷ xs) zero below = (x, refl)
-some_at (x ∷ xs) (suc k) below = some_at xs k (omega (arith, below))
-
-pub middle : {A : Type 0} → (gone after : List A) (x : A) → slice_get (gone ++ x ∷ after) (length gone) ≡ Some x
-middle [] after x = refl
-middle (y ∷ gone) after x = middle gone after x
 
 -- what comes next of a list of which the first k things went
 pub next_is : {A : Type 0} → (l rest : List A) (a : A) (k : ℕ) → drop k l ≡ a ∷ rest → slice_get l k ≡ Some a
@@ -96,7 +75,7 @@ gone_all l left k is none within = omega (arith, all_gone l k (ap length (sym is
 pub thing_left : {A B : Type 0} → (xs left after : List A) (x : A) (ys ys_left : List B) (done : ℕ) → left ≡ drop done xs → left ≡ x ∷ after →
     ys_left ≡ drop done ys → length ys ≡ length xs → length ys_left ≢ 0
 thing_left xs left after x ys ys_left done is next ys_are long none =
-    omega (arith, all_gone ys done (ap length (sym ys_are) ∙ none), inside xs x done (next_is xs after x done (sym is ∙ next)), long)
+    omega (arith, all_gone ys done (ap length (sym ys_are) ∙ none), slice_get_within xs done x (next_is xs after x done (sym is ∙ next)), long)
 
 -- a function of all things is that of those that went, and then that of those that are left
 module _ {A B : Type 0} (f : A → B) where
@@ -112,7 +91,7 @@ module _ {A B : Type 0} (f : A → B) where
 
   take_next : (xs : List A) (k : ℕ) (x : A) → slice_get xs k ≡ Some x → map f (take (suc k) xs) ≡ map f (take k xs) ++ f x ∷ []
   take_next [] k x e = absurd (cc)
-  take_next (y ∷ xs) zero x e = ap (λ (z : A). f z ∷ []) (one_thing y x e)
+  take_next (y ∷ xs) zero x e = ap (λ (z : A). f z ∷ []) (same_Some y x e)
   take_next (y ∷ xs) (suc k) x e = ap (λ (l : List B). f y ∷ l) (take_next xs k x e)
 
   -- a function of the first things, and of one more

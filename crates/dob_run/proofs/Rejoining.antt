@@ -3,15 +3,16 @@ use Rattle.std.proofs.Common.{◌≡◌, ℕ, ◌+◌, ◌*◌, ◌<◌, ◌≤�
 use Rattle.std.proofs.Common.{ap, ◌∙◌, subst, arith, rules, length-append, length-set, append_assoc}
 use Rattle.std.specs.Prelude.{slice_get}
 use Rattle.std.specs.declared.vec.Vec.{Vec}
-use Rattle.dob_safra.proofs.Kept.{same_or_not}
+use Rattle.std.proofs.lemmas.Option.{slice_get_within, same_Some}
+use Rattle.std.proofs.lemmas.Bool.{cases_eq}
 use Rattle.dob_chan.specs.declared.ends.SendEnd.{SendEnd}
 use Rattle.dob_chan.specs.declared.ends.TakeEnd.{TakeEnd}
 use Rattle.dob_chan.specs.declared.calls.Rejoined.{Rejoined}
-use Rattle.dob_board.proofs.Lists.{get_last, get_front}
+use Rattle.dob_pieces.proofs.Elements.{get_front, get_set_other, middle}
 use Rattle.dob_run.specs.Rows.{StandsAt}
 use Rattle.dob_run.specs.Ending.{AreDealt, IsJoined, AreRowJoined, AreJoined}
-use Rattle.dob_run.proofs.Counted.{there_set, else_set}
-use Rattle.dob_run.proofs.Places.{get_before, inside, one_thing, next_is, then_left, gone_all}
+use Rattle.dob_run.proofs.Counted.{there_set}
+use Rattle.dob_run.proofs.Places.{next_is, then_left, gone_all}
 
 module _ {X Z : Type 0} where
   pub dealt_none : (things : List X) (rows : List (Vec X Z)) → AreDealt 0 things rows rows
@@ -21,7 +22,7 @@ module _ {X Z : Type 0} where
       slice_get new k ≡ Some before → slice_get things k ≡ Some x → row.items ≡ before.items ++ x ∷ [] → AreDealt (k + 1) things old (set new k row)
   dealt_one k things old new before row x so_far at thing is = record {
     rows = length-set new k row ∙ so_far.rows;
-    dealt = λ j other below there. elim (same_or_not j k) [
+    dealt = λ j other below there. elim (cases_eq j k) [
       | inl here ↦ let same : row ≡ other = there_set new k row other (ap (slice_get (set new k row)) (sym here) ∙ there) in (
         before,
         x,
@@ -29,9 +30,9 @@ module _ {X Z : Type 0} where
         ap (slice_get things) here ∙ thing,
         ap (λ (v : Vec X Z). v.items) (sym same) ∙ is,
       )
-      | inr apart ↦ so_far.dealt j other (omega (arith, below, apart)) (sym (else_set new k j row apart) ∙ there)
+      | inr apart ↦ so_far.dealt j other (omega (arith, below, apart)) (sym (get_set_other new k j row apart) ∙ there)
     ];
-    later = λ j from. else_set new k j row (λ e. omega (arith, e, from)) ∙ so_far.later j (omega (arith, from));
+    later = λ j from. get_set_other new k j row (λ e. omega (arith, e, from)) ∙ so_far.later j (omega (arith, from));
   }
 
 -- Of the ends of a row so many are joined, and these are left; their links stand behind those that were there before.
@@ -68,24 +69,24 @@ module _ (sends : List SendEnd) (takes : List TakeEnd) (before : List Rejoined) 
       let long : length links ≡ length before + on.done = omega (arith, ap length on.links_are, length-append before on.row, on.count) in
       record {
         done = on.done + 1;
-        within = omega (arith, inside sends send on.done next);
+        within = omega (arith, slice_get_within sends on.done send next);
         senders = then_left sends after send on.done (sym on.senders ∙ sends_are);
         takers = then_left takes behind take on.done (sym on.takers ∙ takes_are);
         row = on.row ++ link ∷ [];
         links_are = more_is ∙ ap (λ (l : List Rejoined). l ++ link ∷ []) on.links_are ∙ append_assoc before on.row (link ∷ []);
         count = omega (arith, length-append on.row (link ∷ []), on.count);
-        joined = λ j one other below there theirs. elim (same_or_not j on.done) [
+        joined = λ j one other below there theirs. elim (cases_eq j on.done) [
           | inl here ↦ (
             link,
             ap (λ (l : List Rejoined). slice_get l (length before + j)) more_is
-                ∙ ap (slice_get (links ++ link ∷ [])) (ap (λ (k : ℕ). length before + k) here ∙ sym long) ∙ get_last links link,
+                ∙ ap (slice_get (links ++ link ∷ [])) (ap (λ (k : ℕ). length before + k) here ∙ sym long) ∙ middle links [] link,
             subst (λ (p : SendEnd × TakeEnd). IsJoined p.0 p.1 link) (λ q. (
-              one_thing send one (sym next ∙ ap (slice_get sends) (sym here) ∙ there) q,
-              one_thing take other (sym next_take ∙ ap (slice_get takes) (sym here) ∙ theirs) q,
+              same_Some send one (sym next ∙ ap (slice_get sends) (sym here) ∙ there) q,
+              same_Some take other (sym next_take ∙ ap (slice_get takes) (sym here) ∙ theirs) q,
             )) is,
           )
           | inr apart ↦ let was = on.joined j one other (omega (arith, below, apart)) there theirs in
-              (was.0, ap (λ (l : List Rejoined). slice_get l (length before + j)) more_is ∙ get_before links link was.0 (length before + j) was.1, was.2)
+              (was.0, ap (λ (l : List Rejoined). slice_get l (length before + j)) more_is ∙ get_front links (link ∷ []) was.0 (length before + j) was.1, was.2)
         ];
       }
 
@@ -140,12 +141,12 @@ module _ {Y Z : Type 0} (n : ℕ) (sends : List (Vec SendEnd Y)) (takes : List (
       (added : List Rejoined) → more ≡ links ++ added →
       (i j : ℕ) (send : SendEnd) (take : TakeEnd) → i < k + 1 → StandsAt sends i j send → StandsAt takes i j take →
       (link : Rejoined) × (slice_get more (i * n + j) ≡ Some link) × IsJoined send take link
-  all_joined k links more row column so_far at at_take long is added more_is i j send take below there theirs = elim (same_or_not i k) [
-    | inl here ↦ let row_is : there.0 ≡ row = one_thing there.0 row (sym there.1 ∙ ap (slice_get sends) here ∙ at) in
-        let column_is : theirs.0 ≡ column = one_thing theirs.0 column (sym theirs.1 ∙ ap (slice_get takes) here ∙ at_take) in
+  all_joined k links more row column so_far at at_take long is added more_is i j send take below there theirs = elim (cases_eq i k) [
+    | inl here ↦ let row_is : there.0 ≡ row = same_Some there.0 row (sym there.1 ∙ ap (slice_get sends) here ∙ at) in
+        let column_is : theirs.0 ≡ column = same_Some theirs.0 column (sym theirs.1 ∙ ap (slice_get takes) here ∙ at_take) in
         let sent : slice_get row.items j ≡ Some send = ap (λ (v : Vec SendEnd Y). slice_get v.items j) (sym row_is) ∙ there.2 in
         let taken : slice_get column.items j ≡ Some take = ap (λ (v : Vec TakeEnd Z). slice_get v.items j) (sym column_is) ∙ theirs.2 in
-        let found = is j send take (omega (arith, inside row.items send j sent, long)) sent taken in
+        let found = is j send take (omega (arith, slice_get_within row.items j send sent, long)) sent taken in
         let place : i * n + j ≡ length links + j = ap (λ (m : ℕ). m * n + j) here ∙ ap (λ (m : ℕ). m + j) (sym so_far.count) in
         (found.0, ap (slice_get more) place ∙ found.1, found.2)
     | inr apart ↦ let was = so_far.joined i j send take (omega (arith, below, apart)) there theirs in
@@ -162,7 +163,7 @@ module _ {Y Z : Type 0} (n : ℕ) (sends : List (Vec SendEnd Y)) (takes : List (
       let one_more : (on.done + 1) * n ≡ on.done * n + n = search rules in
       record {
         done = on.done + 1;
-        within = omega (arith, inside sends row on.done at);
+        within = omega (arith, slice_get_within sends on.done row at);
         senders = then_left sends after row on.done (sym on.senders ∙ sends_are);
         takers = then_left takes behind column on.done (sym on.takers ∙ takes_are);
         joined = record {

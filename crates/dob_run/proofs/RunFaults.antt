@@ -1,8 +1,5 @@
 -- Faults, from the ones that limits give to the ones that a crew gives.
-use Rattle.std.proofs.Common.{◌≡◌, ℕ, List, Result, sym, subst}
-use Rattle.std.specs.Prelude.{IfErr}
-use Rattle.std.specs.Result.{IsErrAnd}
-use Rattle.std.proofs.lemmas.Result.{err_from_is_err_and}
+use Rattle.std.proofs.Common.{ℕ, List}
 use Rattle.std.specs.List.{AllZip}
 use Rattle.dob_pieces.specs.declared.piece_set.PieceSet.{PieceSet}
 use Rattle.dob_rank.specs.Limits.{IsSmall}
@@ -14,12 +11,6 @@ use Rattle.dob_run.specs.Manned.{IsNewCrew}
 use Rattle.dob_run.specs.Runners.{KeepsRunner}
 use Rattle.dob_run.specs.Faults.{HasSizeFault, HasCrewFault, HasStartFault, HasFault}
 use Rattle.dob_run.specs.Turned.{StopsSo}
-
--- what is so of a failure is so of an answer that hands it on
-pub handed_on : {A : Type 0} (P : Fault → Type 0) (result : Result A Fault) (why : Fault) → IsErrAnd result (λ given. given ≡ why) → P why → IfErr result P
-handed_on P result why is has =
-    let given = err_from_is_err_and result is in
-    subst (λ s. IfErr s P) (sym given.1) (subst P (sym given.2) has)
 
 -- sizes outside their limits
 pub outside_none : (n batch capacity : ℕ) (fault : Fault) → HasSizeFault n batch capacity fault → HasCrewFault n batch capacity fault

@@ -4,6 +4,8 @@ use Rattle.std.proofs.Common.{replicate, Some, refl, sym, ap, ◌∙◌, subst, 
 use Rattle.std.specs.Prelude.{slice_get, slice_index}
 use Rattle.std.proofs.lemmas.List.{length-map}
 use Rattle.std.specs.declared.vec.Vec.{Vec}
+use Rattle.std.proofs.lemmas.Option.{slice_get_within, same_Some}
+use Rattle.dob_pieces.proofs.Elements.{some_at}
 use Rattle.dob_update.specs.Batches.{BatchView}
 use Rattle.dob_board.specs.declared.board.Board.{Board}
 use Rattle.dob_board.specs.declared.seat.NodeSeat.{NodeSeat}
@@ -23,7 +25,7 @@ use Rattle.dob_run.specs.Laid.{IsLaid, AreLaid}
 use Rattle.dob_run.specs.Closing.{AreLinked, seat_in}
 use Rattle.dob_run.specs.Opening.{AreNewMails}
 use Rattle.dob_run.specs.Seating.{CanSeat, CanSeatAll, IsSeated, AreSeated}
-use Rattle.dob_run.proofs.Places.{each_more, none_at, inside, one_thing, get_map, map_got, some_at, next_is, then_left, gone_all}
+use Rattle.dob_run.proofs.Places.{each_more, none_at, get_map, map_got, next_is, then_left, gone_all}
 
 -- So many seats have their mails, and these seats, rows and columns are left.
 pub record IsSeating {Y Z : Type 0} (seats : List NodeSeat) (rows : List (Vec Outlet Y)) (columns : List (Vec Inlet Z)) (seats_left : List NodeSeat)
@@ -68,7 +70,7 @@ module _ {Y Z : Type 0} (seats : List NodeSeat) (rows : List (Vec Outlet Y)) (co
       let at_column = next_is columns more_columns column on.done (sym on.columns_are ∙ c) in
       record {
         done = on.done + 1;
-        within = omega (arith, inside seats seat on.done at);
+        within = omega (arith, slice_get_within seats on.done seat at);
         seats_are = then_left seats after seat on.done (sym on.seats_are ∙ s);
         rows_are = then_left rows more_rows row on.done (sym on.rows_are ∙ r);
         columns_are = then_left columns more_columns column on.done (sym on.columns_are ∙ c);
@@ -87,7 +89,7 @@ module _ {Y Z : Type 0} (seats : List NodeSeat) (rows : List (Vec Outlet Y)) (co
 
 at_replicate : {A : Type 0} → (m k : ℕ) (x y : A) → slice_get (replicate m x) k ≡ Some y → x ≡ y
 at_replicate zero k x y e = absurd (cc)
-at_replicate (suc m) zero x y e = one_thing x y e
+at_replicate (suc m) zero x y e = same_Some x y e
 at_replicate (suc m) (suc k) x y e = at_replicate m k x y e
 
 no_count : (m k : ℕ) → slice_index (replicate m 0) k ≡ 0
@@ -110,16 +112,16 @@ module _ {Y Z : Type 0} (capacity n : ℕ) (rows : List (Vec Outlet Y)) (columns
   -- an outlet, with the inlet at its channel's other end
   out_laid : AreLaid capacity n rows columns → (i j : ℕ) (outlet : Outlet) → StandsAt rows i j outlet → (inlet : Inlet) × IsLaid capacity outlet inlet
   out_laid are i j outlet at =
-      let low_i : i < n = omega (arith, inside rows at.0 i at.1, are.rows.count) in
-      let low_j : j < n = omega (arith, inside at.0.items outlet j at.2, are.rows.each i at.0 at.1) in
+      let low_i : i < n = omega (arith, slice_get_within rows i at.0 at.1, are.rows.count) in
+      let low_j : j < n = omega (arith, slice_get_within at.0.items j outlet at.2, are.rows.each i at.0 at.1) in
       let column = some_at columns j (omega (arith, low_j, are.columns.count)) in
       let inlet = some_at column.0.items i (omega (arith, low_i, are.columns.each j column.0 column.1)) in
       (inlet.0, are.laid i j outlet inlet.0 at (column.0, column.1, inlet.1))
 
   in_laid : AreLaid capacity n rows columns → (i j : ℕ) (inlet : Inlet) → StandsAt columns j i inlet → (outlet : Outlet) × IsLaid capacity outlet inlet
   in_laid are i j inlet at =
-      let low_j : j < n = omega (arith, inside columns at.0 j at.1, are.columns.count) in
-      let low_i : i < n = omega (arith, inside at.0.items inlet i at.2, are.columns.each j at.0 at.1) in
+      let low_j : j < n = omega (arith, slice_get_within columns j at.0 at.1, are.columns.count) in
+      let low_i : i < n = omega (arith, slice_get_within at.0.items i inlet at.2, are.columns.each j at.0 at.1) in
       let row = some_at rows i (omega (arith, low_i, are.rows.count)) in
       let outlet = some_at row.0.items j (omega (arith, low_j, are.rows.each i row.0 row.1)) in
       (outlet.0, are.laid i j outlet.0 inlet (row.0, row.1, outlet.1) at)

@@ -2,6 +2,7 @@
 use Rattle.std.proofs.Common.{◌≡◌, ℕ, ◌+◌, ◌<◌, inl, inr, List, [], ◌∷◌, ◌++◌, length-append, eqb, Some, sym, ap, ◌∙◌, subst}
 use Rattle.std.specs.Prelude.{slice_get}
 use Rattle.std.proofs.lemmas.List.{map-append}
+use Rattle.std.proofs.lemmas.Option.{same_Some}
 use Rattle.dob_pieces.specs.declared.piece_set.PieceSet.{PieceSet}
 use Rattle.dob_rank.specs.Marks.{classes_of}
 use Rattle.dob_value.specs.declared.value.Value.{Value}
@@ -13,11 +14,10 @@ use Rattle.dob_share.specs.Owners.{owner_of}
 use Rattle.dob_share.specs.Shares.{HasValueNow}
 use Rattle.dob_node.specs.declared.node.Node.{Node}
 use Rattle.dob_node.proofs.Kept.{last_now-entry}
-use Rattle.dob_board.proofs.Lists.{at_end}
+use Rattle.dob_pieces.proofs.Elements.{at_end}
 use Rattle.dob_run.specs.declared.mail.Mail.{Mail}
 use Rattle.dob_run.specs.Workers.{IsLawful}
 use Rattle.dob_run.specs.Finishing.{IsOwner, AreShownBelow}
-use Rattle.dob_run.proofs.Places.{one_thing}
 
 -- a lawful worker's node owns its classes
 pub owner_is : (set : PieceSet) (size n k : ℕ) (node : Node) (mail : Mail) → IsLawful set size node mail → node.id ≡ k → node.n ≡ n → IsOwner set n k node
@@ -44,7 +44,7 @@ shown_more n class nodes codes new code node are is there has = subst (λ (xs : 
         | inl before ↦ are.each other value owner before owns
         | inr last ↦
             let place : other ≡ class = last.0 ∙ are.whole in
-            let same : node ≡ owner = one_thing node owner (sym there ∙ ap (λ (c : ℕ). slice_get nodes (owner_of n c)) (sym place) ∙ owns) in
+            let same : node ≡ owner = same_Some node owner (sym there ∙ ap (λ (c : ℕ). slice_get nodes (owner_of n c)) (sym place) ∙ owns) in
             subst (λ (c : ℕ). HasValueNow owner.share c value) (sym place)
             (subst (λ (v : Value). HasValueNow owner.share class v) last.1 (subst (λ (m : Node). HasValueNow m.share class (value_of_code code)) same has))
       ];

@@ -6,6 +6,7 @@ use Rattle.std.specs.Prelude.{slice_get, slice_index}
 use Rattle.std.specs.declared.vec.Vec.{Vec}
 use Rattle.std.proofs.lemmas.List.{length-map, length-take, append-nil}
 use Rattle.dob_pieces.specs.declared.piece_set.PieceSet.{PieceSet}
+use Rattle.dob_pieces.proofs.Elements.{some_at}
 use Rattle.dob_rank.specs.Marks.{classes_of}
 use Rattle.dob_value.specs.declared.value.Value.{Value}
 use Rattle.dob_share.specs.Owners.{owner_of}
@@ -43,7 +44,7 @@ use Rattle.dob_run.proofs.Finished.{nothing_of, finished_right}
 use Rattle.dob_run.proofs.Manned.{seat_there, are_linked, seat_at, crew_many, crew_low, outlet_at, inlet_at}
 use Rattle.dob_run.proofs.Needed.{needed_fits}
 use Rattle.dob_run.proofs.Openings.{some_openings}
-use Rattle.dob_run.proofs.Places.{get_map, map_got, some_at}
+use Rattle.dob_run.proofs.Places.{get_map, map_got}
 use Rattle.dob_run.proofs.Shown.{owner_is}
 
 -- ---- the words

@@ -1,10 +1,10 @@
 -- The events keep lawful states lawful.
-use Rattle.std.proofs.Common.{◌≡◌, ◌≢◌, ℕ, zero, suc, ◌+◌, ◌-◌, ◌*◌, ◌^◌, ◌<◌, ◌≤◌, ◌⊎◌, Bool, true, false, cond, eqb, refl, ap, sym, ◌∙◌, arith, inl, inr}
+use Rattle.std.proofs.Common.{◌≡◌, ℕ, zero, suc, ◌+◌, ◌-◌, ◌*◌, ◌^◌, ◌<◌, ◌≤◌, ◌⊎◌, Bool, true, false, cond, eqb, refl, ap, sym, ◌∙◌, arith, inl, inr}
 use Rattle.std.proofs.Common.{⊎_elim, subst}
 use Rattle.std.proofs.Math.IntN.{ℤ, pos, ◌+ℤ◌, neg_ℤ}
 use Rattle.std.specs.Prelude.{◌≤ℤ◌}
 use Rattle.std.proofs.lemmas.Int.{ints}
-use Rattle.std.proofs.lemmas.Bool.{cases_lt}
+use Rattle.std.proofs.lemmas.Bool.{cases_lt, cases_eq}
 use Rattle.std.proofs.lemmas.Bool.Decides.{nat_tests}
 use Rattle.dob_safra.specs.declared.token.Token.{Token}
 use Rattle.dob_safra.specs.declared.event.RingEvent.{RingEvent}
@@ -17,18 +17,12 @@ use Rattle.dob_safra.proofs.Counts.{flipped, posted_below, taken_below, counters
 use Rattle.dob_safra.proofs.Counts.{flight_is, flight_at_least, posted_bound, taken_bound}
 use Rattle.dob_safra.proofs.Quiet.{quiet, none_in_flight}
 
-pub same_or_not : (k i : ℕ) → (k ≡ i) ⊎ (k ≢ i)
-same_or_not k i =
-    ⊎_elim (λ below. inr (λ e. omega (arith, e)))
-    (λ le. ⊎_elim (λ above. inr (λ e. omega (arith, e))) (λ ge. inl (omega arith)) (cases_lt i k))
-    (cases_lt k i)
-
 -- a raised count is one more, and no count falls
 pub raised_at_least : (n i j k l : ℕ) (f g : ℕ → ℕ → ℕ) → k < n → l < n → Raises n f g i j → f k l ≤ g k l
 raised_at_least n i j k l f g k_in l_in raises =
-    elim (same_or_not k i) [
+    elim (cases_eq k i) [
       | inr apart ↦ omega (arith, raises.others k l k_in l_in (inl apart))
-      | inl k_is ↦ elim (same_or_not l j) [
+      | inl k_is ↦ elim (cases_eq l j) [
         | inr apart ↦ omega (arith, raises.others k l k_in l_in (inr apart))
         | inl l_is ↦
             let one : g k l ≡ suc (f k l) =
@@ -41,9 +35,9 @@ raised_at_least n i j k l f g k_in l_in raises =
 pub raised_at_most : (n i j k l : ℕ) (f g : ℕ → ℕ → ℕ) (bound : ℕ → ℕ → ℕ) → k < n → l < n → Raises n f g i j → f i j < bound i j → f k l ≤ bound k l
     → g k l ≤ bound k l
 raised_at_most n i j k l f g bound k_in l_in raises below least =
-    elim (same_or_not k i) [
+    elim (cases_eq k i) [
       | inr apart ↦ omega (arith, raises.others k l k_in l_in (inl apart))
-      | inl k_is ↦ elim (same_or_not l j) [
+      | inl k_is ↦ elim (cases_eq l j) [
         | inr apart ↦ omega (arith, raises.others k l k_in l_in (inr apart))
         | inl l_is ↦ let one : g k l ≡ suc (f i j) = ap (λ a. g a l) k_is ∙ ap (g i) l_is ∙ raises.one_more in
             let same : bound k l ≡ bound i j = ap (λ a. bound a l) k_is ∙ ap (bound i) l_is in
@@ -190,7 +184,7 @@ handed_reason : (n t : ℕ) (old new : Ring) (black : Bool) (sum : ℤ) → suc 
     Reason n new (token_of t (cond black true (old.black (suc t))) (sum +ℤ counter n old (suc t)))
 handed_reason n t old new black sum at posted taken colours (counted white adds_up) =
     counted
-    (λ i above within. elim (same_or_not i (suc t)) [
+    (λ i above within. elim (cases_eq i (suc t)) [
       | inl is ↦ ap new.black is ∙ colours.colour_is
       | inr apart ↦ colours.others i within apart ∙ white i (omega arith) within
     ])
@@ -198,7 +192,7 @@ handed_reason n t old new black sum at posted taken colours (counted white adds_
 handed_reason n t old new black sum at posted taken colours (positive more) =
     positive (omega (arith, ints, more, counters_stay n (suc t) old new (omega arith) posted taken))
 handed_reason n t old new black sum at posted taken colours (black_node k within is_black) =
-    elim (same_or_not k (suc t)) [
+    elim (cases_eq k (suc t)) [
       | inl is ↦ black_token (black_if black (old.black (suc t)) (sym (ap old.black is) ∙ is_black))
       | inr apart ↦ black_node k (omega arith) (colours.others k (omega arith) apart ∙ is_black)
     ]
@@ -253,7 +247,7 @@ passes_from n (suc t) old new black sum size few taken_few posted taken colours 
 -- a colour that becomes white leaves an all white ring so
 white_stays : (n i : ℕ) (old new : Ring) → Colours n old new i false → AllWhite n old → AllWhite n new
 white_stays n i old new colours white k within =
-    elim (same_or_not k i) [
+    elim (cases_eq k i) [
       | inl is ↦ ap new.black is ∙ colours.colour_is
       | inr apart ↦ colours.others k within apart ∙ white k within
     ]

@@ -61,16 +61,16 @@ wins_changed (Loss _) (Win _) cell plies = refl
 wins_changed (Loss _) (Loss _) cell plies = refl
 
 -- two cells that say the same have the same values
-pub same_value : (a b : Cell) (value : Value) → SameCell a b → CellValue b value → CellValue a value
-same_value a b (Win plies) same is = (is.0, same.least ∙ is.1, is.2)
-same_value a b (Loss plies) same is = (
+pub CellValue-same : (a b : Cell) (value : Value) → SameCell a b → CellValue b value → CellValue a value
+CellValue-same a b (Win plies) same is = (is.0, same.least ∙ is.1, is.2)
+CellValue-same a b (Loss plies) same is = (
   same.least ∙ is.0,
   same.left ∙ is.1,
   is.2,
   (subst (λ (k : ℕ). 0 < k) (sym (same.wins is.2)) is.3.0, λ other some. is.3.1 other (subst (λ (k : ℕ). 0 < k) (same.wins other) some)),
   is.4,
 )
-same_value a b Draw same is = (
+CellValue-same a b Draw same is = (
   same.least ∙ is.0,
   elim is.1 [
     | inl left ↦ inl (subst (λ (k : ℕ). 0 < k) (sym same.left) left)

@@ -12,7 +12,7 @@ use Rattle.dob_share.specs.Cells.{Cell, CellValue, SameCell, Takes, changed}
 use Rattle.dob_share.specs.Slots.{slot_at, cell_in}
 use Rattle.dob_share.specs.Steps.{IsTooDeep}
 use Rattle.dob_share.specs.Shares.{places_of, IsOwn, IsOwnOpen, status_at, cell_at, IsValue, HasValueNow, Fits, GoesTooDeep, SameClasses}
-use Rattle.dob_share.proofs.Applied.{same_value}
+use Rattle.dob_share.proofs.Applied.{CellValue-same}
 use Rattle.dob_share.proofs.Growing.{no_worse}
 
 pub not_open : (share : Share) (item : Item) → (IsOwnOpen share item.to → ⊥) → Fits share item → ⊥
@@ -132,7 +132,7 @@ module _ (old : Share) (item : Item) (place : ℕ) (open_here : IsOwnOpen old it
 pub improved : (was now : Value) (cell after : Cell) (v w : Value) → Takes was now cell → SameCell after (changed was now cell) →
     CellValue cell v → CellValue after w → (v ≡ w → ⊥) → Better v w
 improved was now cell after v w takes same is then differs =
-    elim (no_worse was now cell v w takes is (same_value (changed was now cell) after w (record { left = sym same.left; wins = λ plies. sym (same.wins plies); least = sym same.least }) then)) [
+    elim (no_worse was now cell v w takes is (CellValue-same (changed was now cell) after w (record { left = sym same.left; wins = λ plies. sym (same.wins plies); least = sym same.least }) then)) [
       | inl e ↦ absurd (differs e)
       | inr better ↦ better
     ]

@@ -6,14 +6,8 @@ use Rattle.std.proofs.lemmas.List.{take_at, drop_at, get_or_at, get_or_append_le
 use Rattle.std.proofs.lemmas.List.Quantifiers.{position-Some}
 use Rattle.std.proofs.lemmas.List.Sums.{position_or_len_is}
 use Rattle.std.proofs.lemmas.Bool.Decides.{nat_tests}
+use Rattle.dob_pieces.proofs.Lists.{append-same}
 use Rattle.dob_text.specs.PositionText.{is_space, IsWord, AreWords, AreParts, HasShape}
-
--- the fronts are of one length
-pub same_split : (a b x y : List ℕ) → length a ≡ length b → a ++ x ≡ b ++ y → (a ≡ b) × (x ≡ y)
-same_split a b x y size joined = (
-  sym (take_at a x (length a) refl) ∙ ap (take (length a)) joined ∙ take_at b y (length a) (sym size),
-  sym (drop_at a x (length a) refl) ∙ ap (drop (length a)) joined ∙ drop_at b y (length a) (sym size),
-)
 
 -- the first space stands behind a front that has none
 pub space_at : (a x : List ℕ) → All (λ byte. byte ≢ 32) a → position_or_len is_space (a ++ 32 ∷ x) ≡ length a
@@ -29,7 +23,7 @@ space_at a x none =
 pub same_words : (a b x y : List ℕ) → All (λ byte. byte ≢ 32) a → All (λ byte. byte ≢ 32) b → a ++ 32 ∷ x ≡ b ++ 32 ∷ y → (a ≡ b) × (x ≡ y)
 same_words a b x y none_a none_b joined =
     let size : length a ≡ length b = sym (space_at a x none_a) ∙ ap (position_or_len is_space) joined ∙ space_at b y none_b in
-    let parts : (a ≡ b) × (32 ∷ x ≡ 32 ∷ y) = same_split a b (32 ∷ x) (32 ∷ y) size joined in
+    let parts : (a ≡ b) × (32 ∷ x ≡ 32 ∷ y) = append-same a b (32 ∷ x) (32 ∷ y) size joined in
     (parts.0, let e : 32 ∷ x ≡ 32 ∷ y = parts.1 in cc)
 
 -- three parts, of which the first has a known length and the second no space
@@ -38,7 +32,7 @@ pub same_parts : (a b x y p q : List ℕ) → length a ≡ length b → All (λ 
 same_parts a b x y p q size none_x none_y joined =
     let regrouped : a ++ (32 ∷ (x ++ 32 ∷ p)) ≡ b ++ (32 ∷ (y ++ 32 ∷ q)) = sym (append_assoc a (32 ∷ x) (32 ∷ p))
     ∙ joined ∙ append_assoc b (32 ∷ y) (32 ∷ q) in
-    let front : (a ≡ b) × (32 ∷ (x ++ 32 ∷ p) ≡ 32 ∷ (y ++ 32 ∷ q)) = same_split a b _ _ size regrouped in
+    let front : (a ≡ b) × (32 ∷ (x ++ 32 ∷ p) ≡ 32 ∷ (y ++ 32 ∷ q)) = append-same a b _ _ size regrouped in
     let rest : x ++ 32 ∷ p ≡ y ++ 32 ∷ q = (let e : 32 ∷ (x ++ 32 ∷ p) ≡ 32 ∷ (y ++ 32 ∷ q) = front.1 in cc) in
     let words : (x ≡ y) × (p ≡ q) = same_words x y p q none_x none_y rest in
     (front.0, words.0, words.1)

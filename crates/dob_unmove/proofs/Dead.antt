@@ -3,7 +3,7 @@ use Rattle.std.proofs.Common.{◌≡◌, ◌≢◌, ℕ, ◌<◌, ◌&&◌, ◌|
 use Rattle.std.proofs.Common.{refl, sym, ap, ◌∙◌, subst, inl, inr, arith}
 use Rattle.std.specs.Int.{trailing_zeros, w16}
 use Rattle.std.specs.Option.{is_some}
-use Rattle.std.proofs.lemmas.Bool.{and_parts, cases_Bool}
+use Rattle.std.proofs.lemmas.Bool.{and_parts, cases_Bool, not-true}
 use Rattle.dob_pieces.specs.declared.piece_set.PieceSet.{PieceSet}
 use Rattle.dob_pieces.specs.declared.kind.Kind.{Kind}
 use Rattle.dob_pieces.specs.declared.kind.Kind.TheVariants.{Lion, Giraffe, Elephant, Chick, Hen}
@@ -168,11 +168,7 @@ pub calm_end : (after : Setup) (threat : Threat) (stays : Bool) (square : ℕ) �
 calm_end after threat stays square on =
     let first = and_parts (is_own (at after square) && not (elsewhere threat.attackers square)) _ on in
     let second = and_parts (is_own (at after square)) (not (elsewhere threat.attackers square)) first.0 in
-    negated (elsewhere threat.attackers square) second.1
-  where
-    negated : (b : Bool) → not b ≡ true → b ≡ false
-    negated true e = cc
-    negated false e = refl
+    not-true (elsewhere threat.attackers square) second.1
 
 -- the step alone, which may come from there
 come_parts : (a b c d : Bool) → (((a && b) && not c) && d) ≡ true → (a ≡ true) × (b ≡ true) × (c ≡ false)

@@ -19,13 +19,13 @@ use Rattle.dob_moves.specs.declared.position_status.Status.TheVariants.{Open}
 use Rattle.dob_moves.specs.Statuses.{HasStatus, AreMoves}
 use Rattle.dob_moves.proofs.MoveLists.{AreMoves-moves_of}
 use Rattle.dob_moves.proofs.Outcomes.{Goes-is, Goes-moved, IsLegal-Goes, total-Goes}
-use Rattle.dob_rank.specs.Order.{IsPositionOf, HasClass, IsEither, RepresentsIn}
+use Rattle.dob_rank.specs.Order.{IsPositionOf, IsEither, RepresentsIn}
 use Rattle.dob_rank.specs.ClassRows.{class_setup}
 use Rattle.dob_rank.specs.Marks.{classes_of, class_number}
 use Rattle.dob_rank.proofs.Counted.{no_longer}
 use Rattle.dob_rank.proofs.Marks.{HasClass-marked, HasClasses-classes_of}
 use Rattle.dob_rank.proofs.ClassNumbers.{class_number-below, class_number-representative, class_number-mirrored, class_once}
-use Rattle.dob_rank.proofs.Representatives.{class_setup_is}
+use Rattle.dob_rank.proofs.Representatives.{class_setup_is, class_setup_only, one_number}
 use Rattle.dob_unmove.specs.Unmoves.{LeadsInto, HasEdges, CountEdges, ArePredecessors}
 use Rattle.dob_unmove.specs.Edges.{leads_into, edges, predecessors}
 use Rattle.dob_unmove.proofs.Classes.{IsNumbering-classes}
@@ -40,17 +40,10 @@ RepresentsIn-class_setup set class below = class_setup_is set class (classes_of 
 -- the representative's number is that of its class
 number_of_representative : (set : PieceSet) (q : Setup) (class : ℕ) → RepresentsIn set q class → class_number set q ≡ class
 number_of_representative set q class is =
-    let own : RepresentsIn set q (class_number set q) =
-    (is.0, subst (HasClass set q) (sym (class_number-representative set q is.0.0 is.0.1)) (HasClass-marked set q is.0.0)) in
-    (IsNumbering-classes set).one_number q q (class_number set q) class own is (inl refl)
+    class_number-representative set q is.0.0 is.0.1 ∙ one_number set q q _ class (HasClass-marked set q is.0.0) is.1 refl
 
 pub representative_below : (set : PieceSet) (q : Setup) (class : ℕ) → RepresentsIn set q class → class < classes_of set
 representative_below set q class is = subst (λ n. n < classes_of set) (number_of_representative set q class is) (class_number-below set q is.0.0)
-
--- it is the one that stands for the class
-representative_is : (set : PieceSet) (q : Setup) (class : ℕ) → RepresentsIn set q class → class_setup set class ≡ q
-representative_is set q class is =
-    (IsNumbering-classes set).one_represents (class_setup set class) q class (RepresentsIn-class_setup set class (representative_below set q class is)) is
 
 -- ---- the moves into a class
 
@@ -126,7 +119,8 @@ module _ (set : PieceSet) (p q : Setup) (from class : ℕ) (is_p : RepresentsIn 
     whole = leading_whole;
     once = leading_once;
     counted = length-filter (leads_into set p class) (moves_of p)
-        ∙ ap (λ (s : Setup). count_by (leads_into set s class) (moves_of s)) (sym (representative_is set p from is_p));
+        ∙ ap (λ (s : Setup). count_by (leads_into set s class) (moves_of s))
+        (class_setup_only set p from (classes_of set) (HasClasses-classes_of set) (representative_below set p from is_p) is_p.0 is_p.1);
   }
 
 -- two numbers of the moves from one to another are one

@@ -14,8 +14,8 @@ use Rattle.dob_pieces.specs.declared.hand.Hands.{Hands}
 use Rattle.dob_pieces.specs.declared.setup.Setup.{Setup}
 use Rattle.dob_pieces.specs.Squares.{mirrored_square}
 use Rattle.dob_pieces.specs.Setups.{Cell, at, held, piece_of, holds_lion, holds_kind, total, mirrored}
-use Rattle.dob_pieces.proofs.Boards.{all_below, all_below-at, at-mirrored, within-from_piece, total-mirrored, own_lion}
-use Rattle.dob_pieces.proofs.Symmetries.{mirrored_square_bound, mirrored_square_twice}
+use Rattle.dob_pieces.proofs.Boards.{all_below, all_below-at, within-from_piece, total-mirrored, own_lion}
+use Rattle.dob_pieces.proofs.Symmetries.{at-image}
 use Rattle.dob_rank.specs.Order.{squares_from, squares, forms, each_kind, key, Precedes, Before, IsPositionOf, RepresentsIn}
 use Rattle.dob_rank.proofs.Found.{IsPositionOf-mirrored}
 use Rattle.dob_unmove.specs.Ways.{is_home}
@@ -94,7 +94,7 @@ counts-mirrored kind p twelve =
 
 lion-mirrored : (p : Setup) (side : Side) (s : ℕ) → s < 12 → at p s ≡ Some (piece_of side Lion)
     → at (mirrored p) (mirrored_square s) ≡ Some (piece_of side Lion)
-lion-mirrored p side s lt there = at-mirrored p (mirrored_square s) (mirrored_square_bound s lt) ∙ ap (at p) (mirrored_square_twice s lt) ∙ there
+lion-mirrored p side s lt there = at-image p s lt ∙ there
 
 -- after the counts and the hands, the lions decide
 abbrev lions_before : ℕ → ℕ → ℕ → ℕ → Type 0

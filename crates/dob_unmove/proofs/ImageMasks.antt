@@ -10,9 +10,9 @@ use Rattle.dob_pieces.specs.Masks.{IsMask, AreSquares}
 use Rattle.dob_pieces.specs.Squares.{column, mirrored_square}
 use Rattle.dob_pieces.specs.Setups.{Cell, at, mirrored}
 use Rattle.dob_pieces.proofs.Boards.{all_below, all_below-at, at-mirrored}
+use Rattle.dob_pieces.proofs.Targets.{is_mask}
 use Rattle.dob_pieces.proofs.MaskBits.{bit_if, IsMask-and, IsMask-or, IsMask-same}
 use Rattle.dob_unmove.specs.declared.images.TheConstants.{COLUMN_A, COLUMN_B}
-use Rattle.dob_unmove.proofs.WayMasks.{by_bits}
 
 -- ---- all squares two up or two down
 
@@ -108,8 +108,8 @@ pub IsMask-mirrored : (test : ℕ → Bool) (mask : ℕ) → IsMask test mask
     → IsMask (λ s. test (mirrored_square s))
     (bit_or (bit_or (bit_and COLUMN_A mask * 2 ^ 2 % 2 ^ 16) (bit_and COLUMN_B mask)) (bit_and COLUMN_A (mask / 2 ^ 2)))
 IsMask-mirrored test mask is =
-    let a : IsMask on_a COLUMN_A = by_bits COLUMN_A on_a refl in
-    let b : IsMask on_b COLUMN_B = by_bits COLUMN_B on_b refl in
+    let a : IsMask on_a COLUMN_A = is_mask on_a COLUMN_A refl in
+    let b : IsMask on_b COLUMN_B = is_mask on_b COLUMN_B refl in
     let low = and_le_l COLUMN_A mask in
     let up = IsMask-up (λ s. on_a s && test s) (bit_and COLUMN_A mask) (IsMask-and on_a test COLUMN_A mask a is) (omega (arith, low)) in
     let down = IsMask-and on_a (λ s. nat_lt s 10 && test (s + 2)) COLUMN_A (mask / 2 ^ 2) a (IsMask-down test mask is) in

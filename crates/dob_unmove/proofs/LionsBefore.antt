@@ -12,7 +12,7 @@ use Rattle.dob_pieces.specs.Masks.{is_kind, is_piece}
 use Rattle.dob_pieces.specs.Pieces.{is_side}
 use Rattle.dob_pieces.specs.Setups.{Cell, at, piece_of, HasLions, HasLionOffFarRow, IsLegal}
 use Rattle.dob_pieces.proofs.Boards.{one_lion}
-use Rattle.dob_moves.proofs.Turns.{side_of}
+use Rattle.dob_moves.proofs.Turns.{side_of, kind_of}
 use Rattle.dob_unmove.specs.declared.attackers.Threat.{Threat}
 use Rattle.dob_unmove.specs.declared.undo.Undo.TheVariants.{Unstep, Unput}
 use Rattle.dob_unmove.specs.Classes.{IsTurned}
@@ -20,7 +20,7 @@ use Rattle.dob_unmove.specs.Threats.{IsThreat}
 use Rattle.dob_unmove.specs.Undoes.{enemy_cell, earlier, CanUndo, CanUnstep}
 use Rattle.dob_unmove.specs.Ways.{is_home, comes_home, may_end, may_come, TellsHome, HasLionHome}
 use Rattle.dob_unmove.proofs.Homes.{either_true}
-use Rattle.dob_unmove.proofs.Threats.{kind_of, at_from, at_to, at_others, at_drop}
+use Rattle.dob_unmove.proofs.Threats.{at_from, at_to, at_others, at_drop}
 
 off_far_row : (lion square : ℕ) → 9 ≤ square → is_home lion square ≡ true → ⊥
 off_far_row lion square far home =

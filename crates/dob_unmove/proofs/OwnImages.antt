@@ -10,11 +10,12 @@ use Rattle.dob_pieces.specs.Masks.{AreMasks, is_piece}
 use Rattle.dob_pieces.specs.Squares.{column, mirrored_square}
 use Rattle.dob_pieces.specs.Setups.{at, piece_of, IsLegal, mirrored}
 use Rattle.dob_pieces.proofs.Boards.{all_below, all_below-at, at-mirrored, one_lion}
+use Rattle.dob_pieces.proofs.Targets.{is_mask}
 use Rattle.dob_pieces.proofs.MaskBits.{IsMask-and, IsMask-or}
 use Rattle.dob_unmove.specs.declared.ways.TheConstants.{BESIDE_B}
 use Rattle.dob_unmove.specs.Classes.{IsTurned}
 use Rattle.dob_unmove.proofs.Threats.{turned_lions}
-use Rattle.dob_unmove.proofs.WayMasks.{by_bits, empty_mask, lion_passes}
+use Rattle.dob_unmove.proofs.WayMasks.{empty_mask, lion_passes}
 
 -- of columns a and c
 abbrev is_beside_b : ℕ → Bool
@@ -52,5 +53,5 @@ module _ (p : Setup) (legal : IsTurned IsLegal p) (own : mirrored p ≡ p) where
       empty_mask (λ s. (is_piece Mover Lion (at p s) || is_piece Enemy Lion (at p s)) && is_beside_b s)
       (bit_and (bit_or masks.lion masks.enemy_lion) BESIDE_B)
       (IsMask-and _ _ (bit_or masks.lion masks.enemy_lion) BESIDE_B (IsMask-or _ _ masks.lion masks.enemy_lion are.lion_is are.enemy_lion_is)
-      (by_bits BESIDE_B is_beside_b refl))
+      (is_mask is_beside_b BESIDE_B refl))
       (λ s lt. either (is_piece Mover Lion (at p s)) (is_piece Enemy Lion (at p s)) (is_beside_b s) (lion_on_b Mover s lt) (lion_on_b Enemy s lt))

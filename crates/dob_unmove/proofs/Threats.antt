@@ -11,17 +11,17 @@ use Rattle.dob_pieces.proofs.Attacks.{attacks_piece, own_attacks}
 use Rattle.dob_pieces.specs.declared.kind.Kind.{Kind}
 use Rattle.dob_pieces.specs.declared.kind.Kind.TheVariants.{Lion, Giraffe, Elephant, Chick, Hen}
 use Rattle.dob_pieces.specs.declared.kind.HandKind.{HandKind}
-use Rattle.dob_pieces.specs.declared.kind.Side.{Side}
 use Rattle.dob_pieces.specs.declared.kind.Side.TheVariants.{Mover, Enemy}
 use Rattle.dob_pieces.specs.declared.setup.Setup.{Setup}
-use Rattle.dob_pieces.specs.Pieces.{leads, other_side, kind_on_board}
+use Rattle.dob_pieces.specs.Pieces.{leads, kind_on_board}
 use Rattle.dob_pieces.specs.Setups.{Cell, at, piece_of, HasLions, IsLegal, turned_cell}
 use Rattle.dob_pieces.proofs.Boards.{length-turned, at-turned, HasLions-turned, one_lion, within-from_piece, leads-to_board, leads-apart}
 use Rattle.dob_moves.specs.declared.game_move.Move.TheVariants.{Step, Put}
-use Rattle.dob_moves.specs.Moves.{grows_at, Goes, CanGo}
+use Rattle.dob_moves.specs.Moves.{Goes, CanGo}
 use Rattle.dob_moves.specs.declared.position_status.Status.TheVariants.{Open}
 use Rattle.dob_moves.specs.Statuses.{CanCatch, HasTried, HasStatus}
-use Rattle.dob_moves.proofs.Turns.{side_of}
+use Rattle.dob_moves.proofs.Turns.{kind_of, sides_apart, turned_lion}
+use Rattle.dob_moves.proofs.Masked.{catch_by}
 use Rattle.dob_unmove.specs.declared.attackers.Attackers.{Attackers}
 use Rattle.dob_unmove.specs.declared.attackers.Attackers.TheVariants.{Nobody, One, Several}
 use Rattle.dob_unmove.specs.declared.attackers.Threat.{Threat}
@@ -32,10 +32,6 @@ use Rattle.dob_unmove.specs.Undoes.{choice, arrives_at, enemy_cell, earlier, Can
 use Rattle.dob_unmove.proofs.Undone.{Goes-from_undo}
 use Rattle.dob_pieces.specs.Masks.{attacks_by, attacks}
 use Rattle.dob_unmove.specs.Threats.{elsewhere, stood_before, AreAttackers, IsThreat}
-
-abbrev pub kind_of : Cell → Kind
-kind_of None = Hen
-kind_of (Some piece) = piece.kind
 
 -- ---- attackers by their mask
 
@@ -81,11 +77,6 @@ turned_lions p t = subst HasLions (sym t.2) (HasLions-turned t.0 t.1.squares t.1
 
 -- ---- who catches, attacks
 
-catches_by : (p : Setup) (from to : ℕ) → attacks p from to ≡ true → at p to ≡ Some (piece_of Enemy Lion) → CanCatch p
-catches_by p from to is lion =
-    let found = attacks_piece (at p from) from to is in
-    (Step found.0 from to true (grows_at found.0 to), (found.1, found.2, lion, refl))
-
 -- what a piece that catches the lion does
 record Attack (p : Setup) : Type 0 where
   from : ℕ
@@ -99,18 +90,7 @@ attack_by p (Step kind from to true grows, catching) =
 attack_by p (Step kind from to false grows, catching) = absurd catching
 attack_by p (Put kind to, catching) = absurd catching
 
-turned_lion : (cell : Cell) → turned_cell cell ≡ Some (piece_of Enemy Lion) → cell ≡ Some (piece_of Mover Lion)
-turned_lion None e = cc
-turned_lion (Some piece) e = own piece.side piece.kind e where
-  own : (side : Side) (kind : Kind) → Some (piece_of (other_side side) kind) ≡ Some (piece_of Enemy Lion)
-      → Some (piece_of side kind) ≡ Some (piece_of Mover Lion)
-  own Mover kind e = ap (λ (k : Kind). Some (piece_of Mover k)) (ap kind_of e)
-  own Enemy kind e = let same : Mover ≡ Enemy = ap side_of e in cc
-
 -- ---- before the move
-
-apart_sides : (kind : Kind) → Some (piece_of Mover kind) ≢ Some (piece_of Enemy Lion)
-apart_sides kind e = let same : Mover ≡ Enemy = ap side_of e in cc
 
 module _ (after before : Setup) (threat : Threat) (from to : ℕ) (by_moved : Bool) (h : IsThreat after threat)
     (others : (s : ℕ) → s ≢ from → s ≢ to → at before s ≡ at after s)
@@ -124,7 +104,7 @@ module _ (after before : Setup) (threat : Threat) (from to : ℕ) (by_moved : Bo
 
   attacked_before : (s : ℕ) → s ≢ to → attacks after s threat.lion ≡ true → CanCatch before
   attacked_before s apart is =
-      catches_by before s threat.lion (ap (λ (c : Cell). attacks_by c s threat.lion) (others s (not_from s is) apart) ∙ is) lion_before
+      catch_by before s threat.lion lion_before (ap (λ (c : Cell). attacks_by c s threat.lion) (others s (not_from s is) apart) ∙ is)
 
   attackers_catch : (found : Attackers) → AreAttackers after threat.lion 12 found → elsewhere found to ≡ true → CanCatch before
   attackers_catch Nobody are some = cc
@@ -141,7 +121,7 @@ module _ (after before : Setup) (threat : Threat) (from to : ℕ) (by_moved : Bo
 
   pub stood_catches : (if by_moved then true else elsewhere threat.attackers to) ≡ true → CanCatch before
   stood_catches stood = elim (cases_Bool by_moved) [
-    | inl is ↦ catches_by before from threat.lion (from_before ∙ is) lion_before
+    | inl is ↦ catch_by before from threat.lion lion_before (from_before ∙ is)
     | inr isnt ↦ attackers_catch threat.attackers h.attackers (sym (ap (λ b. if b then true else elsewhere threat.attackers to) isnt) ∙ stood)
   ]
 
@@ -210,7 +190,7 @@ module _ (after : Setup) (threat : Threat) (t : IsTurned IsLegal after) (h : IsT
     lion_not_from e = let none : at after threat.lion ≡ None = ap (at after) e ∙ can.empty in let lion = h.lion in cc
 
     lion_not_to : threat.lion ≢ to
-    lion_not_to e = apart_sides (arrives_at kind to) (sym can.stands ∙ ap (at after) (sym e) ∙ h.lion)
+    lion_not_to e = sides_apart Lion (arrives_at kind to) (sym h.lion ∙ ap (at after) e ∙ can.stands)
 
     no_lion_caught : (piece : Option Kind) → CanGiveBack after.hands.mover piece → enemy_cell piece ≢ Some (piece_of Enemy Lion)
     no_lion_caught None back e = cc
@@ -226,7 +206,7 @@ module _ (after : Setup) (threat : Threat) (t : IsTurned IsLegal after) (h : IsT
 
     only_lion : (s : ℕ) → at before s ≡ Some (piece_of Enemy Lion) → s ≡ threat.lion
     only_lion s e = elim (cases_eq s from) [
-      | inl same ↦ absurd (apart_sides kind (sym at_from ∙ ap (at before) (sym same) ∙ e))
+      | inl same ↦ absurd (sides_apart Lion kind (sym e ∙ ap (at before) same ∙ at_from))
       | inr away ↦ elim (cases_eq s to) [
         | inl same ↦ absurd (no_lion_caught caught can.in_hand (sym at_to ∙ ap (at before) (sym same) ∙ e))
         | inr apart ↦ lion_is s (sym (at_others s away apart) ∙ e)
@@ -283,7 +263,7 @@ module _ (after : Setup) (threat : Threat) (t : IsTurned IsLegal after) (h : IsT
         omega (arith, low, twelve, e)
 
     pub lion_not_dropped : threat.lion ≢ to
-    lion_not_dropped e = apart_sides (kind_on_board kind) (sym can ∙ ap (at after) (sym e) ∙ h.lion)
+    lion_not_dropped e = sides_apart Lion (kind_on_board kind) (sym h.lion ∙ ap (at after) e ∙ can)
 
     still_only : (s : ℕ) → at undropped s ≡ Some (piece_of Enemy Lion) → s ≡ threat.lion
     still_only s e = elim (cases_eq s 12) [
@@ -321,7 +301,7 @@ module _ (after : Setup) (threat : Threat) (t : IsTurned IsLegal after) (h : IsT
       let now : at after tried.0 ≡ Some (piece_of Enemy Lion) = ap (at after) (lion_stood u can tried.0 tried.2) ∙ h.lion in
       let seen : turned_cell (at t.0 (11 - tried.0)) ≡ Some (piece_of Enemy Lion) =
       sym (at-turned t.0 tried.0 (let low = tried.1 in omega (arith, low))) ∙ ap (λ (x : Setup). at x tried.0) (sym t.2) ∙ now in
-      t.1.home (11 - tried.0) (let low = tried.1 in omega (arith, low)) (turned_lion (at t.0 (11 - tried.0)) seen)
+      t.1.home (11 - tried.0) (let low = tried.1 in omega (arith, low)) (turned_lion Enemy (at t.0 (11 - tried.0)) seen)
 
   goes_again : (u : Undo) → CanUndo after u → CanGo (earlier after u) (choice u)
   goes_again u can =

@@ -1,8 +1,7 @@
 -- The masks of the ways: where the lion may stand, where a move may have ended, from where a piece may have come.
-use Rattle.std.proofs.Common.{◌≡◌, ◌≢◌, ℕ, ◌*◌, ◌%◌, ◌^◌, ◌<◌, ◌==◌, nat_lt, nat_eq, ◌&&◌, ◌||◌, not, Bool, true, false, cond, bit_and, refl, sym, ap}
-use Rattle.std.proofs.Common.{◌∙◌, arith, Some, None, inl, inr}
-use Rattle.std.specs.Int.{bit_at}
-use Rattle.std.proofs.lemmas.Bool.{and_parts, cases_Bool, eqb-true, ltb-true, eq-eqb, ne_eqb}
+use Rattle.std.proofs.Common.{◌≡◌, ◌≢◌, ℕ, ◌*◌, ◌%◌, ◌^◌, ◌<◌, ◌==◌, nat_lt, ◌&&◌, ◌||◌, not, Bool, true, false, cond, bit_and, refl, sym, ap}
+use Rattle.std.proofs.Common.{◌∙◌, arith, Some, inl, inr}
+use Rattle.std.proofs.lemmas.Bool.{cases_Bool, eq-eqb, ne_eqb}
 use Rattle.std.proofs.lemmas.Nat.Bits.{same_from_bits_below, bit_at-zero}
 use Rattle.dob_pieces.specs.declared.kind.Kind.{Kind}
 use Rattle.dob_pieces.specs.declared.kind.Kind.TheVariants.{Lion, Giraffe, Elephant, Chick, Hen}
@@ -10,10 +9,11 @@ use Rattle.dob_pieces.specs.declared.kind.Side.{Side}
 use Rattle.dob_pieces.specs.declared.kind.Side.TheVariants.{Mover}
 use Rattle.dob_pieces.specs.declared.setup.Setup.{Setup}
 use Rattle.dob_pieces.specs.Squares.{column}
-use Rattle.dob_pieces.specs.Setups.{Cell, at, piece_of, holds_lion, HasLions}
+use Rattle.dob_pieces.specs.Setups.{Cell, at, piece_of, HasLions}
 use Rattle.dob_pieces.specs.Masks.{IsMask, is_own, is_piece}
 use Rattle.dob_pieces.proofs.Boards.{all_below, all_below-at, one_lion}
-use Rattle.dob_pieces.proofs.Attacks.{is_that_lion}
+use Rattle.dob_pieces.proofs.Attacks.{cell_lion, is_that_lion}
+use Rattle.dob_pieces.proofs.Targets.{has_bits, is_mask}
 use Rattle.dob_pieces.proofs.MaskBits.{IsMask-and, IsMask-same, none_passes}
 use Rattle.dob_unmove.specs.declared.attackers.Attackers.TheVariants.{One}
 use Rattle.dob_unmove.specs.declared.attackers.Threat.{Threat}
@@ -23,42 +23,30 @@ use Rattle.dob_unmove.specs.Ways.{is_home, TellsHome, may_end, comes_home}
 
 -- ---- masks of constants
 
--- the mask by a computed test of all squares
-abbrev has_bits : ℕ → (ℕ → Bool) → Bool
-has_bits mask test = nat_lt mask 4096 && all_below (λ s. nat_eq (bit_at mask s) (cond (test s) 1 0)) 12
-
-pub by_bits : (mask : ℕ) (test : ℕ → Bool) → has_bits mask test ≡ true → IsMask test mask
-by_bits mask test h =
-    let parts = and_parts (nat_lt mask 4096) (all_below (λ s. nat_eq (bit_at mask s) (cond (test s) 1 0)) 12) h in
-    record {
-      within = ltb-true mask 4096 parts.0;
-      bits = λ s lt. eqb-true (bit_at mask s) (cond (test s) 1 0) (all_below-at (λ s. nat_eq (bit_at mask s) (cond (test s) 1 0)) 12 s parts.1 lt);
-    }
-
 abbrev home_by : Bool → ℕ → Bool
 home_by aside s = nat_lt s 9 && ((column s == 0) || ((column s == 1) && not aside))
 
 pub homes_on_a : (lion : ℕ) → (column lion == 2) ≡ true → IsMask (is_home lion) HOMES_ON_A
-homes_on_a lion e = IsMask-same (home_by true) (is_home lion) HOMES_ON_A (λ s lt. ap (λ b. home_by b s) (sym e)) (by_bits HOMES_ON_A (home_by true) refl)
+homes_on_a lion e = IsMask-same (home_by true) (is_home lion) HOMES_ON_A (λ s lt. ap (λ b. home_by b s) (sym e)) (is_mask (home_by true) HOMES_ON_A refl)
 
 pub homes_on_both : (lion : ℕ) → (column lion == 2) ≡ false → IsMask (is_home lion) HOMES_ON_A_AND_B
 homes_on_both lion e =
-    IsMask-same (home_by false) (is_home lion) HOMES_ON_A_AND_B (λ s lt. ap (λ b. home_by b s) (sym e)) (by_bits HOMES_ON_A_AND_B (home_by false) refl)
+    IsMask-same (home_by false) (is_home lion) HOMES_ON_A_AND_B (λ s lt. ap (λ b. home_by b s) (sym e)) (is_mask (home_by false) HOMES_ON_A_AND_B refl)
 
 pub everywhere : (test : ℕ → Bool) → ((s : ℕ) → test s ≡ true) → IsMask test ALL
-everywhere test all = IsMask-same (λ s. true) test ALL (λ s lt. sym (all s)) (by_bits ALL (λ s. true) refl)
+everywhere test all = IsMask-same (λ s. true) test ALL (λ s lt. sym (all s)) (is_mask (λ s. true) ALL refl)
 
 pub nowhere : (test : ℕ → Bool) → ((s : ℕ) → test s ≡ false) → IsMask test 0
-nowhere test none = IsMask-same (λ s. false) test 0 (λ s lt. sym (none s)) (by_bits 0 (λ s. false) refl)
+nowhere test none = IsMask-same (λ s. false) test 0 (λ s lt. sym (none s)) (is_mask (λ s. false) 0 refl)
 
 abbrev alone_test : ℕ → Bool
-alone_test a = has_bits (1 * 2 ^ a % 2 ^ 16) (λ s. not (not (a == s)))
+alone_test a = has_bits (λ s. not (not (a == s))) (1 * 2 ^ a % 2 ^ 16)
 
 all_alone : all_below alone_test 12 ≡ true
 all_alone = refl
 
 pub alone : (a : ℕ) → a < 12 → IsMask (λ s. not (elsewhere (One a) s)) (1 * 2 ^ a % 2 ^ 16)
-alone a lt = by_bits (1 * 2 ^ a % 2 ^ 16) (λ s. not (not (a == s))) (all_below-at alone_test 12 a all_alone lt)
+alone a lt = is_mask (λ s. not (not (a == s))) (1 * 2 ^ a % 2 ^ 16) (all_below-at alone_test 12 a all_alone lt)
 
 pub comes_anywhere : (kind : Kind) (lion : ℕ) → kind ≢ Lion → IsMask (comes_home kind lion) ALL
 comes_anywhere Lion lion other = absurd (other refl)
@@ -78,17 +66,9 @@ and_true : (b : Bool) → (b && true) ≡ b
 and_true true = refl
 and_true false = refl
 
-lion_holds : (side own : Side) (kind : Kind) → is_piece side Lion (Some (piece_of own kind)) ≡ true → holds_lion side (Some (piece_of own kind)) ≡ true
-lion_holds side own Lion h = h
-lion_holds side own Giraffe h = h
-lion_holds side own Elephant h = h
-lion_holds side own Chick h = h
-lion_holds side own Hen h = h
-
 -- what passes as the lion of a side is it
 pub lion_passes : (side : Side) (cell : Cell) → is_piece side Lion cell ≡ true → cell ≡ Some (piece_of side Lion)
-lion_passes side None h = cc
-lion_passes side (Some piece) h = is_that_lion side (Some piece) (lion_holds side piece.side piece.kind h)
+lion_passes side cell h = is_that_lion side cell (sym (cell_lion side cell) ∙ h)
 
 module _ (after : Setup) (threat : Threat) (lions : HasLions after) (lion homes calm own place : ℕ)
     (lion_is : IsMask (λ s. is_piece Mover Lion (at after s)) lion) (homes_are : IsMask (is_home threat.lion) homes)

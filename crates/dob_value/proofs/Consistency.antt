@@ -32,6 +32,9 @@ not_loss_and_win m n e = absurd (cc)
 pub not_draw_win : (d : ℕ) → ¬ (let v : Value = Draw in v ≡ Win d)
 not_draw_win d e = absurd (cc)
 
+pub not_draw_loss : (d : ℕ) → ¬ (let v : Value = Draw in v ≡ Loss d)
+not_draw_loss d e = absurd (cc)
+
 -- what follows at each status
 module _ (Has : Setup → Value → Type 0) (p : Setup) where
   follows_caught : (v : Value) → HasStatus p Caught → Follows Has p v → v ≡ Win 1
@@ -240,9 +243,6 @@ module _ (set : PieceSet) (values : List Value) (consistent : IsConsistent set v
         let loss = lost_in_table n p Draw is has lost in
         absurd (not_draw_loss loss.0 loss.1),
   )
-    where
-      not_draw_loss : (d : ℕ) → ¬ (let v : Value = Draw in v ≡ Loss d)
-      not_draw_loss d e = absurd (cc)
 
 pub consistent_is_right : ConsistentIsRight
 consistent_is_right set values consistent = record {

@@ -1,5 +1,4 @@
 -- The lemmas, in the order in which they are read.
-pub mod Bools  -- what std doesn't tell of `Bool`
 -- Values.
 pub mod Distances  -- a win, or a loss, has one distance
 pub mod Depths  -- won and lost at different depths

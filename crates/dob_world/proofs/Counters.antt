@@ -1,12 +1,12 @@
 -- The detector's lists after an event, and what they show.
-use Rattle.std.proofs.Common.{◌≡◌, ◌≢◌, ℕ, zero, suc, ◌+◌, ◌*◌, ◌^◌, ◌<◌, ◌≤◌, inl, inr, Bool, true, false, refl, sym, ap, ◌∙◌, subst, arith, List}
-use Rattle.std.proofs.Common.{[], ◌∷◌, length, get_or, set, get_or-set_same, get_or-set_other, FitsSigned, w64, to_z, of_z}
+use Rattle.std.proofs.Common.{◌≡◌, ◌≢◌, ℕ, ◌+◌, ◌*◌, ◌^◌, ◌<◌, ◌≤◌, inl, inr, Bool, true, false, refl, sym, ap, ◌∙◌, subst, arith, List}
+use Rattle.std.proofs.Common.{length, get_or, set, get_or-set_same, get_or-set_other, FitsSigned, w64, to_z, of_z}
 use Rattle.std.specs.Prelude.{slice_index, slice_index_or, replicate}
 use Rattle.std.proofs.Math.IntN.{ℤ, pos, neg_ℤ, ◌+ℤ◌, ◌-ℤ◌}
 use Rattle.std.specs.Prelude.{◌≤ℤ◌}
 use Rattle.std.proofs.lemmas.Int.{ints, to_z-of_z}
 use Rattle.std.proofs.lemmas.Bool.{cases_eq}
-use Rattle.std.proofs.lemmas.List.{get_or-replicate}
+use Rattle.std.proofs.lemmas.List.{get_or-replicate, get_or_default}
 use Rattle.std.proofs.lemmas.Nat.{mul-add-lt, same_from_place}
 use Rattle.dob_safra.specs.declared.token.Token.{Token}
 use Rattle.dob_safra.specs.Tokens.{passed_on}
@@ -91,17 +91,12 @@ module _ (z : ℤ) (small : (neg_ℤ (pos (2 ^ 44)) ≤ℤ z) × (z ≤ℤ pos (
 
 -- ---- lists by nodes and by pairs of nodes
 
-pub any_default : {X : Type 0} (xs : List X) (i : ℕ) (d e : X) → i < length xs → get_or xs i d ≡ get_or xs i e
-any_default [] i d e within = absurd (omega arith)
-any_default (x ∷ xs) zero d e within = refl
-any_default (x ∷ xs) (suc i) d e within = any_default xs i d e (omega arith)
-
 -- one count of a list is one more
 pub raised : (n : ℕ) (counts : List ℕ) (i j was now : ℕ) → i < n → j < n → length counts ≡ n * n → was ≡ get_or counts (i * n + j) was → now ≡ was + 1 →
     Raises n (λ k l. slice_index counts (k * n + l)) (λ k l. slice_index (set counts (i * n + j) now) (k * n + l)) i j
 raised n counts i j was now low_i low_j whole there more = record {
   one_more = get_or-set_same counts (i * n + j) now 0 within
-      ∙ (let is : get_or counts (i * n + j) 0 ≡ was = any_default counts (i * n + j) 0 was within ∙ sym there in omega (arith, is, more));
+      ∙ (let is : get_or counts (i * n + j) 0 ≡ was = get_or_default counts (i * n + j) 0 was within ∙ sym there in omega (arith, is, more));
   others = λ k l low_k low_l apart. get_or-set_other counts (i * n + j) (k * n + l) now 0 (λ same.
       let both = same_from_place k l i j n low_l low_j same in
       elim apart [ inl ne ↦ ne both.0 | inr ne ↦ ne both.1 ]);

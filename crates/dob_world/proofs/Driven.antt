@@ -1,7 +1,7 @@
 -- One event more of a round, and one round more.
 use Rattle.std.proofs.Common.{◌≡◌, ℕ, ◌+◌, ◌*◌, ◌<◌, ◌≤◌, inl, inr, refl, sym, ap, ◌∙◌, subst, arith, add-one, nat_eq, Bool, true, false, None, ◌++◌}
 use Rattle.std.proofs.Math.Nat.{mul-le-mul_right}
-use Rattle.std.proofs.lemmas.Bool.{cases_order}
+use Rattle.std.proofs.lemmas.Bool.{cases_order, eqb-true}
 use Rattle.std.proofs.lemmas.Bool.Decides.{nat_tests}
 use Rattle.std.proofs.lemmas.List.FromFn.{map-range_with_len_more}
 use Rattle.dob_world.specs.declared.world.World.{World}
@@ -86,14 +86,11 @@ round_made old new upto still way whole quiet busy = record {
         subst (λ (w : State). IsStill (setting_of old) w) (sym were.0)
         (λ place low. were.1 place (subst (λ (m : ℕ). place < m) (sym whole) low))
 
-same_count : (a b : ℕ) → nat_eq a b ≡ true → a ≡ b
-same_count a b is = grind (arith, nat_tests)
-
 more_count : (a b : ℕ) → b ≤ a → nat_eq a b ≡ false → b < a
 more_count a b least is = grind (arith, nat_tests)
 
 pub round_done : (old new : World) (upto : ℕ) → Partway old new upto → upto ≡ round_length old.n → HasMadeRound old (nat_eq new.steps old.steps) new
-round_done old new upto way whole = round_made old new upto (nat_eq new.steps old.steps) way whole (same_count new.steps old.steps)
+round_done old new upto way whole = round_made old new upto (nat_eq new.steps old.steps) way whole (eqb-true new.steps old.steps)
     (more_count new.steps old.steps way.least)
 
 -- ---- rounds

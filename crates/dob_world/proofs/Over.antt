@@ -1,5 +1,6 @@
 -- Where nothing is left to do, and what the promise of the whole says of every world.
-use Rattle.std.proofs.Common.{◌≡◌, ◌+◌, ◌-◌, ◌<◌, Bool, true, false, refl, sym, ap, ◌∙◌, arith, List, [], ◌∷◌, length}
+use Rattle.std.proofs.Common.{◌≡◌, ◌+◌, ◌-◌, ◌<◌, true, false, refl, sym, ap, ◌∙◌, arith, List, [], ◌∷◌, length}
+use Rattle.std.proofs.lemmas.Bool.{true≢false}
 use Rattle.dob_safra.specs.Rings.{sum_below, in_flight, AllWhite, AllTaken}
 use Rattle.dob_safra.specs.Laws.{IsQuiet}
 use Rattle.dob_safra.proofs.Quiet.{quiet}
@@ -34,9 +35,6 @@ end_is_rest k state size told may =
     let is : IsQuiet k.n state.ring = quiet k.n state.ring true size told.lawful may.1 in
     white_rest k state told is.all_white is.all_taken
 
-announced_not : (b : Bool) → b ≡ true → b ≡ false → ⊥
-announced_not b ended running = let e : true ≡ false = sym ended ∙ running in absurd cc
-
 -- ---- what can happen where nothing is left to do
 
 pub rest_stays : RestStays
@@ -61,8 +59,8 @@ end_is_silent k state told ended = record {
     none (Own i) can = none_some (state.world.own i) (rest.own i can.0) can.1
     none (Post i j) can = none_some (state.world.outbox i j) (rest.outboxes i j can.0 can.1 can.2) can.3
     none (Take i j) can = none_some (state.world.waiting i j) (rest.links i j can.0 can.1 can.2) can.3
-    none (Pass i) can = announced_not state.ring.announced ended can.3
-    none Announce can = announced_not state.ring.announced ended can.1
+    none (Pass i) can = true≢false (sym ended ∙ can.3)
+    none Announce can = true≢false (sym ended ∙ can.1)
 
 -- ---- batches in flight
 

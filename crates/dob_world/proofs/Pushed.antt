@@ -1,28 +1,19 @@
 -- Nodes and lanes, one more.
-use Rattle.std.proofs.Common.{◌≡◌, ℕ, zero, suc, ◌+◌, ◌⊎◌, inl, inr, refl, sym, ap, ◌∙◌, subst, List, [], ◌∷◌, ◌++◌, length, Some, slice_get}
+use Rattle.std.proofs.Common.{◌≡◌, ℕ, ◌+◌, inl, inr, refl, sym, ap, ◌∙◌, subst, List, [], ◌∷◌, ◌++◌}
 use Rattle.std.proofs.lemmas.List.{length-append}
 use Rattle.dob_pieces.specs.declared.piece_set.PieceSet.{PieceSet}
+use Rattle.dob_pieces.proofs.Elements.{at_end}
 use Rattle.dob_share.specs.declared.opening.Opening.{Opening}
 use Rattle.dob_node.specs.declared.node.Node.{Node}
 use Rattle.dob_node.specs.Nodes.{IsSound, IsOpened}
 use Rattle.dob_world.specs.declared.lane.Lane.{Lane}
 use Rattle.dob_world.specs.Shown.{IsEmptyLane, AreEmptyLanes, AreOpenedNodes}
 
-pub push_cases : {X : Type 0} (xs : List X) (x : X) (i : ℕ) (y : X) → slice_get (xs ++ x ∷ []) i ≡ Some y →
-    (slice_get xs i ≡ Some y) ⊎ ((i ≡ length xs) × (x ≡ y))
-push_cases [] x zero y there = let e : x ≡ y = cc in inr (refl, e)
-push_cases [] x (suc i) y there = absurd cc
-push_cases (z ∷ xs) x zero y there = inl there
-push_cases (z ∷ xs) x (suc i) y there = elim (push_cases xs x i y there) [
-  | inl before ↦ inl before
-  | inr last ↦ inr (ap suc last.0, last.1)
-]
-
 pub opened_more : (openings : List Opening) (set : PieceSet) (n m : ℕ) (nodes new : List Node) (node : Node) → AreOpenedNodes openings set n m nodes →
     IsOpened openings set m n node → IsSound node → new ≡ nodes ++ node ∷ [] → AreOpenedNodes openings set n (m + 1) new
 opened_more openings set n m nodes new node are opened sound is = subst (λ xs. AreOpenedNodes openings set n (m + 1) xs) (sym is) (record {
   whole = length-append nodes (node ∷ []) ∙ ap (λ (k : ℕ). k + 1) are.whole;
-  each = λ i x there. elim (push_cases nodes node i x there) [
+  each = λ i x there. elim (at_end nodes node x i there) [
     | inl before ↦ are.each i x before
     | inr last ↦ subst (λ (y : Node). IsOpened openings set i n y × IsSound y) last.1
         (subst (λ (k : ℕ). IsOpened openings set k n node) (sym (last.0 ∙ are.whole)) opened, sound)
@@ -33,7 +24,7 @@ pub empty_more : (capacity m : ℕ) (lanes new : List Lane) (lane : Lane) → Ar
     new ≡ lanes ++ lane ∷ [] → AreEmptyLanes capacity (m + 1) new
 empty_more capacity m lanes new lane are empty is = subst (λ xs. AreEmptyLanes capacity (m + 1) xs) (sym is) (record {
   whole = length-append lanes (lane ∷ []) ∙ ap (λ (k : ℕ). k + 1) are.whole;
-  each = λ i x there. elim (push_cases lanes lane i x there) [
+  each = λ i x there. elim (at_end lanes lane x i there) [
     | inl before ↦ are.each i x before
     | inr last ↦ subst (λ (y : Lane). IsEmptyLane capacity y) last.1 empty
   ];

@@ -1,36 +1,19 @@
 -- Elements of lists after a write, and nodes and lanes among them.
 use Rattle.std.proofs.Common.{◌≡◌, ◌≢◌, ℕ, zero, suc, ◌+◌, ◌*◌, ◌<◌, ◌⊎◌, inl, inr, nat_lt, Bool, true, false, cond, refl, sym, ap}
-use Rattle.std.proofs.Common.{◌∙◌, subst, arith, List, [], ◌∷◌, length, None, Some, slice_get, set, get_or}
+use Rattle.std.proofs.Common.{◌∙◌, subst, arith, List, [], ◌∷◌, length, None, Some, slice_get, set}
 use Rattle.std.proofs.lemmas.Bool.{cases_eq, lt-ltb, ltb-true}
 use Rattle.std.proofs.lemmas.Nat.{mul-add-lt, same_from_place}
-use Rattle.std.proofs.lemmas.Option.{slice_get-get_or, slice_get_within}
+use Rattle.std.proofs.lemmas.Option.{slice_get_within, same_Some}
+use Rattle.dob_pieces.proofs.Elements.{get_set_same, get_set_other}
 use Rattle.dob_node.specs.declared.node.Node.{Node}
 use Rattle.dob_world.specs.declared.lane.Lane.{Lane}
 use Rattle.dob_world.specs.Shown.{part, lane_at}
 use Rattle.dob_world.proofs.Places.{at_node, at_link}
 
-pub get_set_same : {X : Type 0} (xs : List X) (i : ℕ) (y : X) → i < length xs → slice_get (set xs i y) i ≡ Some y
-get_set_same [] i y within = absurd (omega arith)
-get_set_same (x ∷ xs) zero y within = refl
-get_set_same (x ∷ xs) (suc i) y within = get_set_same xs i y (omega arith)
-
-pub get_set_other : {X : Type 0} (xs : List X) (i m : ℕ) (y : X) → m ≢ i → slice_get (set xs i y) m ≡ slice_get xs m
-get_set_other [] i m y other = refl
-get_set_other (x ∷ xs) zero zero y other = absurd (other refl)
-get_set_other (x ∷ xs) zero (suc m) y other = refl
-get_set_other (x ∷ xs) (suc i) zero y other = refl
-get_set_other (x ∷ xs) (suc i) (suc m) y other = get_set_other xs i m y (λ same. other (ap suc same))
-
 pub set_same : {X : Type 0} (xs : List X) (i : ℕ) (y : X) → slice_get xs i ≡ Some y → set xs i y ≡ xs
 set_same [] i y there = refl
 set_same (x ∷ xs) zero y there = let e : x ≡ y = cc in ap (λ z. z ∷ xs) (sym e)
 set_same (x ∷ xs) (suc i) y there = ap (λ zs. x ∷ zs) (set_same xs i y there)
-
-pub there_by : {X : Type 0} (xs : List X) (i : ℕ) (x : X) → i < length xs → x ≡ get_or xs i x → slice_get xs i ≡ Some x
-there_by xs i x within is = slice_get-get_or xs i x within ∙ ap Some (sym is)
-
-some_is : {X : Type 0} (a b : X) → Some a ≡ Some b → a ≡ b
-some_is a b e = cc
 
 -- ---- nodes
 
@@ -51,14 +34,11 @@ module _ (nodes : List Node) (i : ℕ) (node after : Node) (there : slice_get no
 
   pub set_cases : (P : ℕ → Node → Type 0) → P i after → ((m : ℕ) (x : Node) → slice_get nodes m ≡ Some x → P m x) → (m : ℕ) (x : Node) →
       slice_get (set nodes i after) m ≡ Some x → P m x
-  set_cases P at others m x is = elim (cases_same m) [
+  set_cases P at others m x is = elim (cases_eq m i) [
     | inl same ↦ subst (λ a. P a x) (sym same)
-        (subst (P i) (some_is after x (sym (get_set_same nodes i after (slice_get_within nodes i node there)) ∙ subst (λ a. slice_get (set nodes i after) a ≡ Some x) same is)) at)
+        (subst (P i) (same_Some after x (sym (get_set_same nodes i after (slice_get_within nodes i node there)) ∙ subst (λ a. slice_get (set nodes i after) a ≡ Some x) same is)) at)
     | inr other ↦ others m x (sym (get_set_other nodes i m after other) ∙ is)
   ]
-    where
-      cases_same : (m : ℕ) → (m ≡ i) ⊎ (m ≢ i)
-      cases_same m = cases_eq m i
 
 -- ---- lanes
 
@@ -100,15 +80,12 @@ module _ (n : ℕ) (lanes : List Lane) (i j : ℕ) (lane after : Lane) (low_i : 
 
   pub lane_cases : (P : ℕ → ℕ → Lane → Type 0) → P i j after → ((m l : ℕ) (x : Lane) → lane_at n lanes m l ≡ Some x → P m l x) →
       (m l : ℕ) (x : Lane) → lane_at n (set lanes place after) m l ≡ Some x → P m l x
-  lane_cases P at others m l x is = elim (cases_same m i) [
-    | inl same ↦ elim (cases_same l j) [
+  lane_cases P at others m l x is = elim (cases_eq m i) [
+    | inl same ↦ elim (cases_eq l j) [
       | inl alike ↦ subst (λ a. P a l x) (sym same) (subst (λ b. P i b x) (sym alike) (subst (P i j)
-          (some_is after x (sym set_there ∙ subst (λ b. lane_at n (set lanes place after) i b ≡ Some x) alike
+          (same_Some after x (sym set_there ∙ subst (λ b. lane_at n (set lanes place after) i b ≡ Some x) alike
           (subst (λ a. lane_at n (set lanes place after) a l ≡ Some x) same is))) at))
       | inr other ↦ others m l x (sym (set_else m l (inr other)) ∙ is)
     ]
     | inr other ↦ others m l x (sym (set_else m l (inl other)) ∙ is)
   ]
-    where
-      cases_same : (a b : ℕ) → (a ≡ b) ⊎ (a ≢ b)
-      cases_same a b = cases_eq a b

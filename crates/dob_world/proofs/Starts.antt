@@ -1,6 +1,6 @@
 -- A world of opened nodes with empty lanes is lawful and linked.
-use Rattle.std.proofs.Common.{◌≡◌, ℕ, zero, suc, ◌+◌, ◌*◌, ◌/◌, ◌%◌, ◌<◌, inr, nat_lt, Bool, true, false, cond, refl, sym, ap, ◌∙◌}
-use Rattle.std.proofs.Common.{subst, arith, List, [], ◌∷◌, ◌++◌, length, take, Option, None, Some, slice_get}
+use Rattle.std.proofs.Common.{◌≡◌, ℕ, ◌+◌, ◌*◌, ◌/◌, ◌%◌, ◌<◌, inr, nat_lt, Bool, true, false, cond, refl, sym, ap, ◌∙◌}
+use Rattle.std.proofs.Common.{subst, arith, List, [], ◌++◌, length, take, Option, None, Some, slice_get}
 use Rattle.std.specs.List.{All}
 use Rattle.std.proofs.Math.Nat.{mod-add-div'}
 use Rattle.std.proofs.lemmas.Bool.{lt-ltb}
@@ -20,6 +20,7 @@ use Rattle.dob_share.specs.declared.opening.Opening.{Opening}
 use Rattle.dob_share.specs.Owners.{owner_of}
 use Rattle.dob_share.specs.Cells.{SameCell, CellValue, fresh}
 use Rattle.dob_share.specs.Shares.{places_of, cell_at}
+use Rattle.dob_share.proofs.Applied.{CellValue-same}
 use Rattle.dob_update.specs.Items.{items_from}
 use Rattle.dob_update.specs.Batches.{OutboxView, items_of_batches}
 use Rattle.dob_node.specs.Histories.{value_of, IsChained}
@@ -29,7 +30,7 @@ use Rattle.dob_node.specs.OpeningLists.{opening_value, opening_settlements, stat
 use Rattle.dob_node.specs.Lawful.{known_of}
 use Rattle.dob_node.specs.declared.node.Node.{Node}
 use Rattle.dob_node.specs.Nodes.{outbox_to}
-use Rattle.dob_node.proofs.Takes.{SumsUp-same, CellValue-same}
+use Rattle.dob_node.proofs.Takes.{SumsUp-same}
 use Rattle.dob_node.proofs.Totals.{start_sums}
 use Rattle.dob_node.proofs.Rest.{below_owner}
 use Rattle.dob_node.proofs.SoleOpens.{listed_opening}
@@ -39,13 +40,9 @@ use Rattle.dob_world.specs.Shown.{part, lane_at, nodes_shown, world_shown, IsNod
 use Rattle.dob_world.specs.Lanes.{IsBatchFor}
 use Rattle.dob_link.specs.Links.{LinkView}
 use Rattle.std.proofs.lemmas.List.Elements.{All-nil}
+use Rattle.dob_pieces.proofs.Elements.{some_at}
 use Rattle.dob_world.proofs.Made.{kept_of, node_opened, low_own}
 use Rattle.dob_node.proofs.Beginnings.{or_else, closed_follows, opened_value, opened_chained, opened_entries}
-
-some_at : {X : Type 0} (xs : List X) (i : ℕ) → i < length xs → (x : X) × (slice_get xs i ≡ Some x)
-some_at [] i within = absurd (omega arith)
-some_at (x ∷ xs) zero within = (x, refl)
-some_at (x ∷ xs) (suc i) within = some_at xs i (omega arith)
 
 part_nil : {X Y : Type 0} (f : X → List Y) (o : Option X) → ((x : X) → o ≡ Some x → f x ≡ []) → part [] f o ≡ []
 part_nil f None none = refl

@@ -1,8 +1,8 @@
 -- Each class is its owner's own, which shows its value.
-use Rattle.std.proofs.Common.{◌≡◌, ℕ, ◌<◌, refl, sym, subst, Some, slice_get}
+use Rattle.std.proofs.Common.{◌≡◌, ℕ, ◌<◌, sym, subst, Some, slice_get}
 use Rattle.std.proofs.lemmas.List.Elements.{All-push}
-use Rattle.std.proofs.lemmas.Option.{slice_get_read}
 use Rattle.std.specs.List.{All}
+use Rattle.dob_pieces.proofs.Elements.{read_there}
 use Rattle.dob_rank.specs.Marks.{classes_of}
 use Rattle.dob_node.specs.declared.node.Node.{Node}
 use Rattle.dob_run.proofs.Shown.{shown_more}
@@ -11,7 +11,7 @@ use Rattle.dob_run.proofs.finishing.codes_of.Goals.{After-index-nodes-node}
 
 -- the owner stands at its place
 owner_at : (c : After-index-nodes-node) → slice_get c.args.nodes.now c.owner-node.result ≡ Some c.index-nodes-node.result
-owner_at c = slice_get_read c.args.nodes.now _ c.owner-node.result c.index-nodes-node.result refl c.owner-node.ensures.one_of_n c.index-nodes-node.is
+owner_at c = read_there c.args.nodes.now c.owner-node.result c.index-nodes-node.result c.owner-node.ensures.one_of_n c.index-nodes-node.is
 
 low : (c : After-index-nodes-node) → c.loop-class.class < classes_of c.args.classes.now.set
 low c = subst (λ (m : ℕ). c.loop-class.class < m) c.class_count-count.ensures.number c.loop-class-test.true

@@ -1,8 +1,8 @@
 -- The next end goes last in the row at its own place, and after the last row all ends are dealt.
 use Rattle.std.proofs.Common.{◌≡◌, ℕ, Some, rules, sym, subst, ◌∙◌}
 use Rattle.std.specs.Prelude.{slice_get}
+use Rattle.dob_pieces.proofs.Elements.{read_there}
 use Rattle.dob_run.specs.Ending.{AreDealt}
-use Rattle.dob_run.proofs.Counted.{got_there}
 use Rattle.dob_run.proofs.Places.{next_is, then_left}
 use Rattle.dob_run.proofs.Rejoining.{dealt_one}
 use Rattle.dob_run.proofs.rejoin.deal.Goals as goal
@@ -13,7 +13,7 @@ loop-place-preserved c =
     let rows = c.loop-place.rows.items in
     let place = c.loop-place.place in
     let row = c.index_mut.result.now in
-    let at : slice_get rows place ≡ Some row = got_there rows place row (search rules) c.index_mut.ensures.value in
+    let at : slice_get rows place ≡ Some row = read_there rows place row (search rules) c.index_mut.ensures.value in
     let step = c.in-Some.ensures.cases in record {
       rest = then_left c.args.ends.items _ c.in-Some.end place (sym inv.rest ∙ step.0);
       dealt = dealt_one place c.args.ends.items c.args.rows.now.items rows row c.push.new.self c.in-Some.end inv.dealt at

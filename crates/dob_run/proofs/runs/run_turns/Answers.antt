@@ -1,29 +1,30 @@
 -- A crew that isn't opened or has a failed runner is refused with that cause; else its runners are closed as a crew.
 use Rattle.std.proofs.Common.{List, subst}
+use Rattle.dob_node.proofs.TakenLists.{carried}
 use Rattle.dob_run.specs.declared.runner.Runner.{Runner}
 use Rattle.dob_run.specs.declared.turns.Until.TheVariants.{Turns}
 use Rattle.dob_run.specs.Faults.{HasFault}
 use Rattle.dob_run.specs.Turned.{AreUnfailed, IsFirstFailed, StopsSo}
 use Rattle.dob_run.proofs.ByThreads.{still_crew, first_fault, first_stops, has_turned}
-use Rattle.dob_run.proofs.RunFaults.{handed_on, unbegun_fault, unbegun_stops}
+use Rattle.dob_run.proofs.RunFaults.{unbegun_fault, unbegun_stops}
 use Rattle.dob_run.proofs.runs.run_turns.Goals as goal
 
 pub returns-in_err-board-clause-fault : goal.returns-in_err-board-clause-fault
 returns-in_err-board-clause-fault g c =
     let fault = c.in_err-board.field-0.0 in
-    handed_on (HasFault c.args.set c.args.n c.args.batch c.args.capacity) c.from_residual.result fault c.from_residual.ensures.1
+    carried (HasFault c.args.set c.args.n c.args.batch c.args.capacity) c.from_residual.result fault c.from_residual.ensures.1
     (unbegun_fault c.args.set c.args.n c.args.batch c.args.capacity fault c.in_err-board.ensures.fault)
 
 pub returns-in_err-board-clause-stopped : goal.returns-in_err-board-clause-stopped
 returns-in_err-board-clause-stopped g c =
     let fault = c.in_err-board.field-0.0 in
-    handed_on (StopsSo IsFirstFailed c.args.set c.args.n c.args.batch c.args.capacity) c.from_residual.result fault c.from_residual.ensures.1
+    carried (StopsSo IsFirstFailed c.args.set c.args.n c.args.batch c.args.capacity) c.from_residual.result fault c.from_residual.ensures.1
     (unbegun_stops IsFirstFailed c.args.set c.args.n c.args.batch c.args.capacity fault c.in_err-board.ensures.fault)
 
 pub returns-in_err-find_failed-clause-fault : goal.returns-in_err-find_failed-clause-fault
 returns-in_err-find_failed-clause-fault g c =
     let fault = c.in_err-find_failed.field-0.0 in
-    handed_on (HasFault c.args.set c.args.n c.args.batch c.args.capacity) c.from_residual-in_err-find_failed.result fault
+    carried (HasFault c.args.set c.args.n c.args.batch c.args.capacity) c.from_residual-in_err-find_failed.result fault
     c.from_residual-in_err-find_failed.ensures.1
     (first_fault (Turns c.args.turns) c.args.set c.args.n c.args.batch c.args.capacity c.in_ok-board.board c.in_ok-board.ended.items c.in_ok-board.ensures.ran
     fault (subst (λ (l : List Runner). IsFirstFailed l fault) c.deref.ensures.value c.in_err-find_failed.ensures.first))
@@ -31,7 +32,7 @@ returns-in_err-find_failed-clause-fault g c =
 pub returns-in_err-find_failed-clause-stopped : goal.returns-in_err-find_failed-clause-stopped
 returns-in_err-find_failed-clause-stopped g c =
     let fault = c.in_err-find_failed.field-0.0 in
-    handed_on (StopsSo IsFirstFailed c.args.set c.args.n c.args.batch c.args.capacity) c.from_residual-in_err-find_failed.result fault
+    carried (StopsSo IsFirstFailed c.args.set c.args.n c.args.batch c.args.capacity) c.from_residual-in_err-find_failed.result fault
     c.from_residual-in_err-find_failed.ensures.1
     (first_stops (Turns c.args.turns) c.args.set c.args.n c.args.batch c.args.capacity c.in_ok-board.board c.in_ok-board.ended.items c.in_ok-board.ensures.ran
     fault (subst (λ (l : List Runner). IsFirstFailed l fault) c.deref.ensures.value c.in_err-find_failed.ensures.first))

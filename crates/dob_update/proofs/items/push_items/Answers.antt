@@ -1,12 +1,8 @@
 -- Where there is no memory for an item, those for the predecessors before it are appended.
-use Rattle.std.proofs.Common.{Result, Ok, Err, OnErr, ◌∙◌, sym}
+use Rattle.std.proofs.Common.{◌∙◌, sym}
 use Rattle.std.proofs.lemmas.List.{append-nil}
+use Rattle.dob_pieces.proofs.Results.{on_err}
 use Rattle.dob_update.proofs.items.push_items.Goals as goal
-
--- what holds anyway holds where there is an error
-on_err : {T E P : Type 0} (r : Result T E) → P → OnErr r P
-on_err (Ok x) p = tt
-on_err (Err e) p = p
 
 pub returns-in_err-push-clause-first : goal.returns-in_err-push-clause-first
 returns-in_err-push-clause-first c =

@@ -1,13 +1,14 @@
 -- What the map has under its names after `insert`.
 use Rattle.std.proofs.Common.{◌∙◌, ap, [], ℕ, List, string_bytes, Some}
 use Rattle.std.proofs.lemmas.Map.Text.{btree_map_updates_text}
+use Rattle.dob_pieces.proofs.Results.{on_err}
 use Rattle.dob_cli.specs.Shelves.{bytes_in}
-use Rattle.dob_cli.proofs.Shelves.{gives_new, has_just, keeps_other, on_error, same_entries, same_files, same_others}
+use Rattle.dob_cli.proofs.Shelves.{gives_new, has_just, keeps_other, same_entries, same_files, same_others}
 use Rattle.dob_cli.proofs.shelf.MemShelf.clear.Goals as goal
 
 pub returns-in_err-insert-clause-unchanged : goal.returns-in_err-insert-clause-unchanged
 returns-in_err-insert-clause-unchanged c =
-    on_error c.from_residual-in_err-insert.result _
+    on_err c.from_residual-in_err-insert.result
     (same_files (bytes_in c.args.self.now.files) (bytes_in c.insert.new.self)
     (same_entries c.args.self.now.files c.insert.new.self c.in_err-insert.ensures.err))
 

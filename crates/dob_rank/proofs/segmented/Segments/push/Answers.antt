@@ -1,14 +1,9 @@
 -- The item joins the last segment; where memory is refused the list is as it was.
-use Rattle.std.proofs.Common.{◌≤◌, ◌+◌, ℕ, ap, sym, ◌∙◌, length, arith, Result, Ok, Err, ◌^◌}
-use Rattle.std.specs.Result.{OnErr}
+use Rattle.std.proofs.Common.{◌≤◌, ◌+◌, ℕ, ap, sym, ◌∙◌, length, arith, ◌^◌}
 use Rattle.std.proofs.lemmas.List.{length_push}
+use Rattle.dob_pieces.proofs.Results.{on_err}
 use Rattle.dob_rank.proofs.Segmentation.{pushed_is, same_is}
 use Rattle.dob_rank.proofs.segmented.Segments.push.Goals as goal
-
--- what holds, holds at an error
-on_err : {T E P : Type 0} (r : Result T E) → P → OnErr r P
-on_err (Ok x) p = tt
-on_err (Err e) p = p
 
 pub invariant_of-self-in_err-push : goal.invariant_of-self-in_err-push
 invariant_of-self-in_err-push g c =

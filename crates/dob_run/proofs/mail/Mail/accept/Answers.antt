@@ -1,6 +1,7 @@
 -- The accepted batch is one more of the inlet's worked ones and of the seat's count, and the other links are kept.
 use Rattle.std.proofs.Common.{◌≡◌, ◌≢◌, ℕ, ◌<◌, suc, List, ◌∷◌, [], ◌++◌, length, Option, Some, None, rules, arith, refl, sym, ap, ◌∙◌, subst, length-append}
 use Rattle.std.specs.Prelude.{slice_get, slice_set, IfSome}
+use Rattle.dob_pieces.proofs.Elements.{read_there}
 use Rattle.dob_update.specs.Batches.{BatchView}
 use Rattle.dob_board.specs.declared.view.Stand.{Stand}
 use Rattle.dob_board.specs.Seats.{TakesOne}
@@ -9,7 +10,7 @@ use Rattle.dob_run.specs.declared.mail.Mail.{Mail}
 use Rattle.dob_run.specs.Hands.{in_hand}
 use Rattle.dob_run.specs.Links.{offered, worked, KeepsOutlet, KeepsInlet}
 use Rattle.dob_run.specs.Mails.{AreCounts, HasChangedOne}
-use Rattle.dob_run.proofs.Counted.{counts_rise, got_there}
+use Rattle.dob_run.proofs.Counted.{counts_rise}
 use Rattle.dob_run.proofs.Keeping.{outlet_same, inlet_same, inlet_kept, one_kept, each_same}
 use Rattle.dob_run.proofs.mail.Mail.accept.Goals as goal
 
@@ -35,8 +36,8 @@ invariant_of-self-2 c =
     let mail = c.args.self.now in
     let seen = c.index.result.now in
     let old = c.index_mut.result.now in
-    let seen_at : slice_get mail.inlets.items c.args.from ≡ Some seen = got_there mail.inlets.items c.args.from seen (inlet_within mail c.args.from c.requires.node) c.index.ensures in
-    let at : slice_get mail.inlets.items c.args.from ≡ Some old = got_there mail.inlets.items c.args.from old (inlet_within mail c.args.from c.requires.node) c.index_mut.ensures.value in
+    let seen_at : slice_get mail.inlets.items c.args.from ≡ Some seen = read_there mail.inlets.items c.args.from seen (inlet_within mail c.args.from c.requires.node) c.index.ensures in
+    let at : slice_get mail.inlets.items c.args.from ≡ Some old = read_there mail.inlets.items c.args.from old (inlet_within mail c.args.from c.requires.node) c.index_mut.ensures.value in
     let full : seen.hand ≢ None = search rules in
     let held : length (in_hand old.hand) ≡ 1 = held_one old.hand (subst (λ (l : Inlet). l.hand ≢ None) (same_link seen old (sym seen_at ∙ at)) full) in
     let more : length (worked c.release.new.self) ≡ suc (length (worked old)) =
@@ -56,14 +57,14 @@ pub returns-clause-worked : goal.returns-clause-worked
 returns-clause-worked c =
     let mail = c.args.self.now in
     let old = c.index_mut.result.now in
-    let at : slice_get mail.inlets.items c.args.from ≡ Some old = got_there mail.inlets.items c.args.from old (inlet_within mail c.args.from c.requires.node) c.index_mut.ensures.value in
+    let at : slice_get mail.inlets.items c.args.from ≡ Some old = read_there mail.inlets.items c.args.from old (inlet_within mail c.args.from c.requires.node) c.index_mut.ensures.value in
     accepted c.release.result old.hand mail.inlets.items c.args.from old c.release.new.self at c.release.ensures.end c.release.ensures.batch c.release.ensures.worked
 
 pub returns-clause-keeps : goal.returns-clause-keeps
 returns-clause-keeps c =
     let mail = c.args.self.now in
     let old = c.index_mut.result.now in
-    let at : slice_get mail.inlets.items c.args.from ≡ Some old = got_there mail.inlets.items c.args.from old (inlet_within mail c.args.from c.requires.node) c.index_mut.ensures.value in
+    let at : slice_get mail.inlets.items c.args.from ≡ Some old = read_there mail.inlets.items c.args.from old (inlet_within mail c.args.from c.requires.node) c.index_mut.ensures.value in
     record {
       seat = c.take.ensures.same;
       outlets = each_same KeepsOutlet outlet_same mail.outlets.items mail.outlets.items refl;

@@ -1,9 +1,10 @@
 -- An offer leaves the counts and the offered batches, at most 2^40, as they were, and empty hands stay empty.
 use Rattle.std.proofs.Common.{◌≡◌, ◌≤◌, ◌^◌, ◌⊎◌, inl, inr, ◌∙◌, length, Some, None, rules, arith, refl, ap}
 use Rattle.std.specs.Prelude.{slice_get}
+use Rattle.dob_pieces.proofs.Elements.{read_there}
 use Rattle.dob_run.specs.declared.hands.Outlet.{Outlet}
 use Rattle.dob_run.specs.Links.{offered, KeepsOutlet, KeepsInlet}
-use Rattle.dob_run.proofs.Counted.{counts_stay, got_there}
+use Rattle.dob_run.proofs.Counted.{counts_stay}
 use Rattle.dob_run.proofs.Keeping.{outlet_same, inlet_same, one_kept, each_same, seat_same}
 use Rattle.dob_run.proofs.mail.Mail.offer.Goals as goal
 
@@ -11,7 +12,7 @@ pub offer-requires : goal.offer-requires
 offer-requires g c =
     let mail = c.args.self.now in
     let old = c.index_mut.result.now in
-    let at : slice_get mail.outlets.items c.args.to ≡ Some old = got_there mail.outlets.items c.args.to old (search rules) c.index_mut.ensures.value in
+    let at : slice_get mail.outlets.items c.args.to ≡ Some old = read_there mail.outlets.items c.args.to old (search rules) c.index_mut.ensures.value in
     let few : length (offered old) ≤ 2 ^ 40 = omega (arith, mail.posted c.args.to old at, mail.seat.few_posted c.args.to c.requires) in
     few
 
@@ -19,7 +20,7 @@ pub invariant_of-self : goal.invariant_of-self
 invariant_of-self g c =
     let mail = c.args.self.now in
     let old = c.index_mut.result.now in
-    let at : slice_get mail.outlets.items c.args.to ≡ Some old = got_there mail.outlets.items c.args.to old (search rules) c.index_mut.ensures.value in
+    let at : slice_get mail.outlets.items c.args.to ≡ Some old = read_there mail.outlets.items c.args.to old (search rules) c.index_mut.ensures.value in
     record {
       outlets_len = mail.outlets_len;
       inlets_len = mail.inlets_len;
@@ -31,14 +32,14 @@ pub returns-clause-offered : goal.returns-clause-offered
 returns-clause-offered g c =
     let mail = c.args.self.now in
     let old = c.index_mut.result.now in
-    let at : slice_get mail.outlets.items c.args.to ≡ Some old = got_there mail.outlets.items c.args.to old (search rules) c.index_mut.ensures.value in
+    let at : slice_get mail.outlets.items c.args.to ≡ Some old = read_there mail.outlets.items c.args.to old (search rules) c.index_mut.ensures.value in
     (old, c.offer.new.self, at, (c.offer.ensures.keeps, c.offer.ensures.offered), refl)
 
 pub returns-clause-hands : goal.returns-clause-hands
 returns-clause-hands g c =
     let mail = c.args.self.now in
     let old = c.index_mut.result.now in
-    let at : slice_get mail.outlets.items c.args.to ≡ Some old = got_there mail.outlets.items c.args.to old (search rules) c.index_mut.ensures.value in
+    let at : slice_get mail.outlets.items c.args.to ≡ Some old = read_there mail.outlets.items c.args.to old (search rules) c.index_mut.ensures.value in
     one_kept (λ (x y : Outlet). x.hand ≡ None → y.hand ≡ None) (λ x e. e) mail.outlets.items c.args.to old c.offer.new.self at (emptied old c.offer.new.self c.offer.ensures.hand)
   where
     emptied : (x y : Outlet) → (y.hand ≡ x.hand) ⊎ (y.hand ≡ None) → x.hand ≡ None → y.hand ≡ None
@@ -48,7 +49,7 @@ pub returns-clause-keeps : goal.returns-clause-keeps
 returns-clause-keeps g c =
     let mail = c.args.self.now in
     let old = c.index_mut.result.now in
-    let at : slice_get mail.outlets.items c.args.to ≡ Some old = got_there mail.outlets.items c.args.to old (search rules) c.index_mut.ensures.value in
+    let at : slice_get mail.outlets.items c.args.to ≡ Some old = read_there mail.outlets.items c.args.to old (search rules) c.index_mut.ensures.value in
     record {
       seat = seat_same mail.seat;
       outlets = one_kept KeepsOutlet outlet_same mail.outlets.items c.args.to old c.offer.new.self at c.offer.ensures.keeps;

@@ -1,10 +1,11 @@
 -- The posted batch is one more of the outlet's offered ones and of the seat's count, and the other links are kept.
 use Rattle.std.proofs.Common.{◌≡◌, suc, List, ℕ, [], ◌∷◌, length, Some, rules, arith, refl, sym, ap, ◌∙◌, subst, length-append}
 use Rattle.std.specs.Prelude.{slice_get, slice_set}
+use Rattle.dob_pieces.proofs.Elements.{read_there}
 use Rattle.dob_board.specs.declared.view.Stand.{Stand}
 use Rattle.dob_run.specs.Links.{offered, worked, KeepsOutlet, KeepsInlet}
 use Rattle.dob_run.specs.Mails.{AreCounts}
-use Rattle.dob_run.proofs.Counted.{counts_rise, got_there}
+use Rattle.dob_run.proofs.Counted.{counts_rise}
 use Rattle.dob_run.proofs.Keeping.{outlet_same, outlet_kept, inlet_same, one_kept, each_same}
 use Rattle.dob_run.proofs.mail.Mail.post.Goals as goal
 
@@ -12,7 +13,7 @@ pub invariant_of-self : goal.invariant_of-self
 invariant_of-self c =
     let mail = c.args.self.now in
     let old = c.index_mut.result.now in
-    let at : slice_get mail.outlets.items c.args.to ≡ Some old = got_there mail.outlets.items c.args.to old (search rules) c.index_mut.ensures.value in
+    let at : slice_get mail.outlets.items c.args.to ≡ Some old = read_there mail.outlets.items c.args.to old (search rules) c.index_mut.ensures.value in
     let more : length (offered c.hold.new.self) ≡ suc (length (offered old)) =
     omega (arith, ap length c.hold.ensures.offered, length-append (offered old) (c.args.batch ∷ [])) in
     let posted_is = ap (λ (s : Stand). s.posted) c.post.ensures.counted in
@@ -29,14 +30,14 @@ pub returns-clause-offered : goal.returns-clause-offered
 returns-clause-offered c =
     let mail = c.args.self.now in
     let old = c.index_mut.result.now in
-    let at : slice_get mail.outlets.items c.args.to ≡ Some old = got_there mail.outlets.items c.args.to old (search rules) c.index_mut.ensures.value in
+    let at : slice_get mail.outlets.items c.args.to ≡ Some old = read_there mail.outlets.items c.args.to old (search rules) c.index_mut.ensures.value in
     (old, c.hold.new.self, at, (c.hold.ensures.end, c.hold.ensures.offered), refl)
 
 pub returns-clause-keeps : goal.returns-clause-keeps
 returns-clause-keeps c =
     let mail = c.args.self.now in
     let old = c.index_mut.result.now in
-    let at : slice_get mail.outlets.items c.args.to ≡ Some old = got_there mail.outlets.items c.args.to old (search rules) c.index_mut.ensures.value in
+    let at : slice_get mail.outlets.items c.args.to ≡ Some old = read_there mail.outlets.items c.args.to old (search rules) c.index_mut.ensures.value in
     record {
       seat = c.post.ensures.same;
       outlets = one_kept KeepsOutlet outlet_same mail.outlets.items c.args.to old c.hold.new.self at (outlet_kept old c.hold.new.self c.hold.ensures.end);

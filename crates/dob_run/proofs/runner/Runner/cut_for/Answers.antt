@@ -1,13 +1,13 @@
 -- A node that cuts a batch was black and had cut fewer than 2^40; with the batch in the hand the runner is lawful.
 use Rattle.std.proofs.Common.{◌≡◌, ◌<◌, ◌^◌, true, ap, ◌∙◌, subst, inl, inr, arith, Ok, Err, Some, None, IfSome, Option, Result}
 use Rattle.std.proofs.lemmas.Bool.{cases_Bool}
+use Rattle.dob_pieces.proofs.Elements.{some_at}
 use Rattle.dob_update.specs.Batches.{BatchView}
 use Rattle.dob_board.specs.declared.view.Stand.{Stand}
 use Rattle.dob_board.proofs.Halting.{same_halt}
 use Rattle.dob_node.specs.declared.cause.Cause.{Cause}
 use Rattle.dob_node.specs.Nodes.{outbox_to, HasCut}
 use Rattle.dob_run.proofs.Keeping.{own_still}
-use Rattle.dob_run.proofs.Places.{some_at}
 use Rattle.dob_run.proofs.Lawfuls.{cut_one, few_cut}
 use Rattle.dob_run.proofs.runner.Runner.cut_for.Goals as goal
 

@@ -4,7 +4,7 @@ use Rattle.std.specs.Prelude.{slice_get}
 use Rattle.atomic_table.specs.Seated.{TableId}
 use Rattle.dob_board.specs.declared.seat.NodeSeat.{NodeSeat}
 use Rattle.dob_board.specs.Seats.{IsSeatOf, AreSeats}
-use Rattle.dob_board.proofs.Lists.{get_last, get_front}
+use Rattle.dob_pieces.proofs.Elements.{get_front, middle}
 use Rattle.dob_tests.proofs.units.board.open_two.Goals as goal
 
 two_seats : (board : TableId) (seats rest fewer : List NodeSeat) (first second : NodeSeat) → AreSeats board 2 seats → seats ≡ rest ++ second ∷ []
@@ -13,10 +13,10 @@ two_seats : (board : TableId) (seats rest fewer : List NodeSeat) (first second :
 two_seats board seats rest fewer first second are seats_are rest_is =
     let rest_len : length rest ≡ 1 = omega (arith, are.count, ap length seats_are, length-append rest (second ∷ [])) in
     let fewer_len : length fewer ≡ 0 = omega (arith, rest_len, ap length rest_is, length-append fewer (first ∷ [])) in
-    let second_at : slice_get seats (length rest) ≡ Some second = ap (λ (xs : List NodeSeat). slice_get xs (length rest)) seats_are ∙ get_last rest second in
+    let second_at : slice_get seats (length rest) ≡ Some second = ap (λ (xs : List NodeSeat). slice_get xs (length rest)) seats_are ∙ middle rest [] second in
     let first_at : slice_get seats (length fewer) ≡ Some first =
     ap (λ (xs : List NodeSeat). slice_get xs (length fewer)) (seats_are ∙ ap (λ (xs : List NodeSeat). xs ++ second ∷ []) rest_is)
-    ∙ get_front (fewer ++ first ∷ []) (second ∷ []) first (length fewer) (get_last fewer first) in (
+    ∙ get_front (fewer ++ first ∷ []) (second ∷ []) first (length fewer) (middle fewer [] first) in (
       subst (λ (k : ℕ). IsSeatOf board 2 k first) fewer_len (are.seats_are (length fewer) first first_at),
       subst (λ (k : ℕ). IsSeatOf board 2 k second) rest_len (are.seats_are (length rest) second second_at),
     )

@@ -1,9 +1,9 @@
 -- One count and one counter are one more.
 use Rattle.std.proofs.Common.{◌≡◌, ◌+◌, ◌*◌, pos, ◌+ℤ◌, refl, ap, ◌∙◌, arith}
-use Rattle.std.proofs.lemmas.List.{length-set}
+use Rattle.std.proofs.lemmas.List.{length-set, get_or_default}
 use Rattle.dob_safra.specs.Rings.{counter}
 use Rattle.dob_world.specs.Shown.{ring_of}
-use Rattle.dob_world.proofs.Counters.{small_counter, rise_fits, rise_is, any_default, posts_shown, posts_counted}
+use Rattle.dob_world.proofs.Counters.{small_counter, rise_fits, rise_is, posts_shown, posts_counted}
 use Rattle.dob_world.proofs.detector.Detector.count_post.Goals as goal
 
 pub overflow_add-index_mut-2 : goal.overflow_add-index_mut-2
@@ -11,7 +11,7 @@ overflow_add-index_mut-2 c =
     let d = c.args.self.now in
     let z = c.index_mut-2.result.now in
     let is : z ≡ counter d.n (ring_of d) c.args.from = c.index_mut-2.ensures.value
-    ∙ any_default d.counters.items c.args.from z (pos 0) (omega (arith, c.requires.from, c.requires.counted.counters))
+    ∙ get_or_default d.counters.items c.args.from z (pos 0) (omega (arith, c.requires.from, c.requires.counted.counters))
     ∙ c.requires.counted.counted c.args.from c.requires.from in
     rise_fits z (rw is (small_counter d.n (ring_of d) c.args.from c.requires.counted.nodes.1 c.requires.from c.requires.lawful))
 
@@ -26,7 +26,7 @@ returns-clause-counted c =
     let d = c.args.self.now in
     let z = c.index_mut-2.result.now in
     let is : z ≡ counter d.n (ring_of d) c.args.from = c.index_mut-2.ensures.value
-    ∙ any_default d.counters.items c.args.from z (pos 0) (omega (arith, c.requires.from, c.requires.counted.counters))
+    ∙ get_or_default d.counters.items c.args.from z (pos 0) (omega (arith, c.requires.from, c.requires.counted.counters))
     ∙ c.requires.counted.counted c.args.from c.requires.from in
     let more = rise_is z (rw is (small_counter d.n (ring_of d) c.args.from c.requires.counted.nodes.1 c.requires.from c.requires.lawful)) in (
       record {

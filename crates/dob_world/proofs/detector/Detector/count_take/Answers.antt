@@ -1,9 +1,9 @@
 -- One count is one more, one counter is one less, and the taker is black.
 use Rattle.std.proofs.Common.{◌≡◌, ◌+◌, ◌*◌, true, pos, ◌-ℤ◌, refl, ap, ◌∙◌, arith, set}
-use Rattle.std.proofs.lemmas.List.{length-set}
+use Rattle.std.proofs.lemmas.List.{length-set, get_or_default}
 use Rattle.dob_safra.specs.Rings.{counter}
 use Rattle.dob_world.specs.Shown.{ring_of}
-use Rattle.dob_world.proofs.Counters.{small_counter, fall_fits, fall_is, any_default, takes_shown, takes_counted}
+use Rattle.dob_world.proofs.Counters.{small_counter, fall_fits, fall_is, takes_shown, takes_counted}
 use Rattle.dob_world.proofs.detector.Detector.count_take.Goals as goal
 
 pub overflow_sub-index_mut : goal.overflow_sub-index_mut
@@ -11,7 +11,7 @@ overflow_sub-index_mut c =
     let d = c.args.self.now in
     let z = c.index_mut-2.result.now in
     let is : z ≡ counter d.n (ring_of d) c.args.to = c.index_mut-2.ensures.value
-    ∙ any_default d.counters.items c.args.to z (pos 0) (omega (arith, c.requires.to, c.requires.counted.counters))
+    ∙ get_or_default d.counters.items c.args.to z (pos 0) (omega (arith, c.requires.to, c.requires.counted.counters))
     ∙ c.requires.counted.counted c.args.to c.requires.to in
     fall_fits z (rw is (small_counter d.n (ring_of d) c.args.to c.requires.counted.nodes.1 c.requires.to c.requires.lawful))
 
@@ -26,7 +26,7 @@ returns-clause-counted c =
     let d = c.args.self.now in
     let z = c.index_mut-2.result.now in
     let is : z ≡ counter d.n (ring_of d) c.args.to = c.index_mut-2.ensures.value
-    ∙ any_default d.counters.items c.args.to z (pos 0) (omega (arith, c.requires.to, c.requires.counted.counters))
+    ∙ get_or_default d.counters.items c.args.to z (pos 0) (omega (arith, c.requires.to, c.requires.counted.counters))
     ∙ c.requires.counted.counted c.args.to c.requires.to in
     let less = fall_is z (rw is (small_counter d.n (ring_of d) c.args.to c.requires.counted.nodes.1 c.requires.to c.requires.lawful)) in (
       record {

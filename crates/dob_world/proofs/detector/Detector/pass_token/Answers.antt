@@ -1,9 +1,10 @@
 -- In a lawful ring the sum that a node hands down has a word.
 use Rattle.std.proofs.Common.{◌≡◌, pos, ◌∙◌, arith}
+use Rattle.std.proofs.lemmas.List.{get_or_default}
 use Rattle.dob_safra.specs.Rings.{counter}
 use Rattle.dob_safra.proofs.Kept.{lawful_fits}
 use Rattle.dob_world.specs.Shown.{ring_of}
-use Rattle.dob_world.proofs.Counters.{small_counter, read_back, any_default}
+use Rattle.dob_world.proofs.Counters.{small_counter, read_back}
 use Rattle.dob_world.proofs.detector.Detector.pass_token.Goals as goal
 
 pub passed-self-requires-clause-low : goal.passed-self-requires-clause-low
@@ -12,7 +13,7 @@ passed-self-requires-clause-low c = λ apart.
     let z = c.index.result.now in
     let at = c.requires.lawful.at in
     let is : z ≡ counter d.n (ring_of d) d.token.at = c.index.ensures
-    ∙ any_default d.counters.items d.token.at z (pos 0) (omega (arith, at, c.requires.counted.counters))
+    ∙ get_or_default d.counters.items d.token.at z (pos 0) (omega (arith, at, c.requires.counted.counters))
     ∙ c.requires.counted.counted d.token.at at in
     let small = small_counter d.n (ring_of d) d.token.at c.requires.counted.nodes.1 at c.requires.lawful in
     rw (read_back z (rw is small)) (rw is (lawful_fits d.n (ring_of d) c.requires.counted.nodes c.requires.lawful).low)
@@ -23,7 +24,7 @@ passed-self-requires-clause-high c = λ apart.
     let z = c.index.result.now in
     let at = c.requires.lawful.at in
     let is : z ≡ counter d.n (ring_of d) d.token.at = c.index.ensures
-    ∙ any_default d.counters.items d.token.at z (pos 0) (omega (arith, at, c.requires.counted.counters))
+    ∙ get_or_default d.counters.items d.token.at z (pos 0) (omega (arith, at, c.requires.counted.counters))
     ∙ c.requires.counted.counted d.token.at at in
     let small = small_counter d.n (ring_of d) d.token.at c.requires.counted.nodes.1 at c.requires.lawful in
     rw (read_back z (rw is small)) (rw is (lawful_fits d.n (ring_of d) c.requires.counted.nodes c.requires.lawful).high)

@@ -1,9 +1,10 @@
 -- The node that expands.
 use Rattle.std.proofs.Common.{◌≡◌, ◌<◌, refl, sym, ap, ◌∙◌, arith, true, false, Ok, Some, slice_get, slice_set, length}
+use Rattle.dob_pieces.proofs.Elements.{read_there}
 use Rattle.dob_world.specs.declared.event.Event.TheVariants.{Expand}
 use Rattle.dob_world.specs.Events.{CanHappen}
 use Rattle.dob_world.specs.Shown.{setting_of, state_of, IsNodeOf}
-use Rattle.dob_world.proofs.Slots.{there_by, set_same}
+use Rattle.dob_world.proofs.Slots.{set_same}
 use Rattle.dob_world.proofs.Expanded.{in_place_node, still_node, expands, can_expand, cant_expand}
 use Rattle.dob_world.proofs.Firsts.{ok_is}
 use Rattle.dob_world.proofs.Stood.{stand_after}
@@ -12,13 +13,13 @@ use Rattle.dob_world.proofs.world.World.expand.Goals as goal
 pub expand-requires-clause-set : goal.expand-requires-clause-set
 expand-requires-clause-set c =
     let low : c.args.node < length c.args.self.now.nodes.items = omega (arith, c.requires.standing.places.nodes_whole) in
-    let is = c.requires.standing.places.node c.args.node c.index_mut.result.now (there_by c.args.self.now.nodes.items c.args.node c.index_mut.result.now low c.index_mut.ensures.value) in
+    let is = c.requires.standing.places.node c.args.node c.index_mut.result.now (read_there c.args.self.now.nodes.items c.args.node c.index_mut.result.now low c.index_mut.ensures.value) in
     sym is.of.0
 
 pub expand-requires-clause-sound : goal.expand-requires-clause-sound
 expand-requires-clause-sound c =
     let low : c.args.node < length c.args.self.now.nodes.items = omega (arith, c.requires.standing.places.nodes_whole) in
-    (c.requires.standing.places.node c.args.node c.index_mut.result.now (there_by c.args.self.now.nodes.items c.args.node c.index_mut.result.now low c.index_mut.ensures.value)).sound
+    (c.requires.standing.places.node c.args.node c.index_mut.result.now (read_there c.args.self.now.nodes.items c.args.node c.index_mut.result.now low c.index_mut.ensures.value)).sound
 
 pub returns-in-Ok-clause-done : goal.returns-in-Ok-clause-done
 returns-in-Ok-clause-done c = λ e.
@@ -30,7 +31,7 @@ returns-in-Ok-clause-done c = λ e.
     let after = c.expand.new.self in
     let low : i < length nodes = omega (arith, c.requires.standing.places.nodes_whole) in
     let below : i < c.args.self.now.n = c.if-node-self.false in
-    let there : slice_get nodes i ≡ Some node = there_by nodes i node low c.index_mut.ensures.value in
+    let there : slice_get nodes i ≡ Some node = read_there nodes i node low c.index_mut.ensures.value in
     let is : IsNodeOf k i node = c.requires.standing.places.node i node there in
     let step = c.in-Ok.ensures.expanded (ap Ok (ok_is c.in-Ok.happened true e)) in
     let can : CanHappen k (state_of c.args.self.now) (Expand i) = (below, can_expand k nodes lanes i node after there is step) in
@@ -52,7 +53,7 @@ returns-in-Ok-clause-skipped c = λ e.
     let after = c.expand.new.self in
     let no = ok_is c.in-Ok.happened false e in
     let low : i < length nodes = omega (arith, c.requires.standing.places.nodes_whole) in
-    let there : slice_get nodes i ≡ Some node = there_by nodes i node low c.index_mut.ensures.value in (
+    let there : slice_get nodes i ≡ Some node = read_there nodes i node low c.index_mut.ensures.value in (
       λ can. cant_expand k nodes c.args.self.now.lanes.items i node after there (c.in-Ok.ensures.done.0 (ap Ok no)) can.1,
       record {
         setting = refl;

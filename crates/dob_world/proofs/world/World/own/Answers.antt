@@ -1,8 +1,9 @@
 -- The node that applies an own item.
 use Rattle.std.proofs.Common.{◌<◌, ◌+◌, ◌*◌, refl, ap, ◌∙◌, arith, true, false, Ok, slice_set, length}
+use Rattle.dob_pieces.proofs.Elements.{read_there}
 use Rattle.dob_world.specs.declared.event.Event.TheVariants.{Own}
 use Rattle.dob_world.specs.Shown.{setting_of}
-use Rattle.dob_world.proofs.Slots.{there_by, set_same}
+use Rattle.dob_world.proofs.Slots.{set_same}
 use Rattle.dob_world.proofs.Stands.{node_there, lane_there, slot_there}
 use Rattle.dob_world.proofs.Outcomes.{owned, cant_own}
 use Rattle.dob_world.proofs.Stopped.{own_stops}
@@ -14,7 +15,8 @@ pub apply_own-requires : goal.apply_own-requires
 apply_own-requires c =
     let nodes = c.args.self.now.nodes.items in
     let low : c.args.node < length nodes = omega (arith, c.requires.standing.places.nodes_whole) in
-    (c.requires.standing.places.node c.args.node c.index_mut.result.now (there_by nodes c.args.node c.index_mut.result.now low c.index_mut.ensures.value)).sound
+    (c.requires.standing.places.node c.args.node c.index_mut.result.now
+    (read_there nodes c.args.node c.index_mut.result.now low c.index_mut.ensures.value)).sound
 
 pub returns-in-Ok-clause-done : goal.returns-in-Ok-clause-done
 returns-in-Ok-clause-done c = λ e.
