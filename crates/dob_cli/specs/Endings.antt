@@ -4,7 +4,7 @@ use Rattle.dob_dbfile.specs.Sinks.{Change, IsUntouched, Puts, Says, Stops}
 use Rattle.dob_cli.specs.declared.fault.Fault.{Fault}
 use Rattle.dob_cli.specs.declared.fault.Fault.TheVariants.{Memory, Io}
 use Rattle.dob_cli.specs.Faults.{fault_line, status_of}
-use Rattle.dob_cli.specs.Signs.{line_feed}
+use Rattle.dob_pieces.specs.Bytes.{line_feed}
 
 -- an exit status, and what happened to standard output and standard error
 pub record Ending : Type 0 where

@@ -14,7 +14,7 @@ use Rattle.dob_run.specs.Faults as run
 use Rattle.dob_run.specs.declared.fault.Fault.TheVariants as run_fault
 use Rattle.dob_probe.specs.Faults as table
 use Rattle.dob_probe.specs.declared.fault.Fault.TheVariants as table_fault
-use Rattle.dob_cli.specs.Signs.{line_feed}
+use Rattle.dob_pieces.specs.Bytes.{line_feed}
 use Rattle.dob_cli.specs.declared.fault.Fault.{Fault}
 use Rattle.dob_cli.specs.declared.fault.Fault.TheVariants.{Text, SetText, SetTooLarge, TooDeep, Run, File, Table, Memory, Io}
 

@@ -1,4 +1,3 @@
-pub mod Signs
 pub mod Forms
 pub mod Words
 pub mod Lines

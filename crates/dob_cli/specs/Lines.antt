@@ -1,7 +1,8 @@
 -- The lines that ask for something, as a relation between words and the texts that they give.
 use Rattle.std.specs.Prelude.{◌≡◌, ◌⊎◌, true, List, [], ◌∷◌, ◌++◌, Some, None, codes}
 use Rattle.dob_cli.specs.Forms.{Form, Text, labels}
-use Rattle.dob_cli.specs.Words.{Given, equals_sign, fits, is_text, label_of, text_of, texts_of}
+use Rattle.dob_pieces.specs.Bytes.{equals_sign}
+use Rattle.dob_cli.specs.Words.{Given, fits, is_text, label_of, text_of, texts_of}
 
 -- behind `--` each word is the text of the next place, whatever it begins with
 pub data Behind : List Text → List Text → Given → Type 0 where

@@ -12,7 +12,7 @@ use Rattle.dob_value.specs.Values.{HasValue}
 use Rattle.dob_value.specs.Rosters.{SomeTooDeep, HasSamePieces}
 use Rattle.dob_cli.specs.declared.fault.Fault.{Fault}
 use Rattle.dob_cli.specs.declared.fault.Fault.TheVariants.{Text, SetText, SetTooLarge, TooDeep, Run, File, Table, Memory, Io}
-use Rattle.dob_cli.specs.Signs.{line_feed}
+use Rattle.dob_pieces.specs.Bytes.{line_feed}
 use Rattle.dob_cli.specs.Endings.{Answers, Ending}
 
 -- the line that tells a value, with its line feed

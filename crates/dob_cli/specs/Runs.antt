@@ -2,7 +2,7 @@
 use Rattle.std.specs.Prelude.{◌≡◌, ◌≢◌, ◌⊎◌, ℕ, Bool, false, List, [], ◌∷◌, ◌++◌, Option, codes}
 use Rattle.dob_dbfile.specs.Sinks.{Change, IsSame, IsUntouched, Says}
 use Rattle.dob_cli.specs.Words.{Text, build, check, count, help, line, meaning_of, number_of, probe, topic, usage, value, version}
-use Rattle.dob_cli.specs.Signs.{line_feed}
+use Rattle.dob_pieces.specs.Bytes.{line_feed}
 use Rattle.dob_cli.specs.Endings.{AnswersHelp, AnswersUsage, AnswersVersion, Ending, TellsMemory, ended}
 use Rattle.dob_cli.specs.Shelves.{Files, SameFiles, SameOthers}
 use Rattle.dob_cli.specs.Program.{AnswersValue}

@@ -8,7 +8,7 @@ use Rattle.dob_rank.specs.Order.{HasSize, HasClasses}
 use Rattle.dob_cli.specs.declared.counts.Counts.{Counts}
 use Rattle.dob_cli.specs.declared.fault.Fault.{Fault}
 use Rattle.dob_cli.specs.declared.fault.Fault.TheVariants.{SetText, SetTooLarge, Memory}
-use Rattle.dob_cli.specs.Signs.{line_feed}
+use Rattle.dob_pieces.specs.Bytes.{line_feed}
 use Rattle.dob_cli.specs.Endings.{Answers, Ending}
 
 -- the set is small, and these are its numbers of positions and classes

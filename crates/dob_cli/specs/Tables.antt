@@ -20,7 +20,7 @@ use Rattle.dob_probe.specs.Lines.{GivenBy, IsLine, BreaksAt}
 use Rattle.dob_probe.specs.Checks.{IsFirstBroken}
 use Rattle.dob_cli.specs.declared.fault.Fault.{Fault}
 use Rattle.dob_cli.specs.declared.fault.Fault.TheVariants.{Text, File, Table, Memory, Io}
-use Rattle.dob_cli.specs.Signs.{line_feed, space}
+use Rattle.dob_pieces.specs.Bytes.{line_feed, space}
 use Rattle.dob_cli.specs.Program.{value_line}
 use Rattle.dob_cli.specs.Endings.{Answers, Ending}
 

@@ -7,19 +7,11 @@ use Rattle.std.specs.Char.{digit_value}
 use Rattle.std.specs.Option.{option_map_or}
 use Rattle.std.specs.Str.{bytes_eq, chars}
 use Rattle.std.specs.Str.Parse.{digits_value, without_leading_plus}
+use Rattle.dob_pieces.specs.Bytes.{hyphen, equals_sign, lower_h}
 use Rattle.dob_cli.specs.Forms.{Form, forms, labels}
 pub use Rattle.dob_cli.specs.Forms.{Text}
 
 -- ---- what one word is
-
-abbrev pub hyphen : ℕ
-hyphen = 45
-
-abbrev pub equals_sign : ℕ
-equals_sign = 61
-
-abbrev pub letter_h : ℕ
-letter_h = 104
 
 -- the character after a word's leading hyphen; a lone hyphen has none
 abbrev pub flag_of : Text → Option ℕ
@@ -36,7 +28,7 @@ is_dashes word = bytes_eq (codes "--") word
 -- the word is `--help`, `-h` or begins with `-h`
 abbrev pub is_help_flag : Text → Bool
 is_help_flag word =
-    bytes_eq (codes "--help") word || option_map_or (λ c. letter_h == c) (flag_of word) false
+    bytes_eq (codes "--help") word || option_map_or (λ c. lower_h == c) (flag_of word) false
 
 -- the name in what follows `--`: all before the first `=`
 abbrev pub name_in : Text → Text

@@ -2,7 +2,7 @@
 ghost use Rattle.std.specs.Prelude.{◌≡◌, ◌++◌, ◌∷◌, [], false, IfOk, IfErr, OnOk, string_bytes};
 ghost use Rattle.dob_text.specs.MoveText.{move_text};
 ghost use Rattle.dob_cli.specs.Shelves.{SameFiles};
-ghost use Rattle.dob_cli.specs.Signs.{line_feed};
+ghost use Rattle.dob_pieces.specs.Bytes.{line_feed};
 ghost use Rattle.dob_cli.specs.Tables.{IsCheckFault, IsCheckLine, IsFileOf, IsMovesLine, IsOpeningFault, IsPositionFault};
 ghost use Rattle.dob_cli.specs.Tables.{IsProbeLine, moves_line, moves_text, space_before};
 

@@ -1,10 +1,14 @@
--- Lists made piece by piece, and sums below a number.
-use Rattle.std.specs.Prelude.{ℕ, zero, suc, ◌+◌, List, [], ◌++◌}
+-- Lists made piece by piece, their beginnings, and sums below a number.
+use Rattle.std.specs.Prelude.{◌≡◌, ℕ, zero, suc, ◌+◌, List, [], ◌++◌}
 
 -- what g gives below n, in order
 abbrev pub each_below : {X : Type 0} → (ℕ → List X) → ℕ → List X
 each_below g zero = []
 each_below g (suc n) = each_below g n ++ g n
+
+-- the whole begins with the front
+abbrev pub IsBeginning : {X : Type 0} → List X → List X → Type 0
+IsBeginning {X} front whole = (rest : List X) × (whole ≡ front ++ rest)
 
 -- the sum of f below a number
 abbrev pub sum_below : (ℕ → ℕ) → ℕ → ℕ

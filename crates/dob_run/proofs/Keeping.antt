@@ -8,6 +8,7 @@ use Rattle.std.proofs.lemmas.Result.{err_from_is_err_and}
 use Rattle.std.proofs.lemmas.Option.{same_Some}
 use Rattle.std.proofs.lemmas.Bool.{cases_eq}
 use Rattle.dob_pieces.proofs.Elements.{get_set_other}
+use Rattle.dob_pieces.specs.Lists.{IsBeginning}
 use Rattle.dob_share.specs.declared.news.Item.{Item}
 use Rattle.dob_share.specs.declared.share.Share.{Share}
 use Rattle.dob_update.specs.Batches.{BatchView}
@@ -26,18 +27,18 @@ use Rattle.dob_run.specs.declared.hands.Outlet.{Outlet}
 use Rattle.dob_run.specs.declared.hands.Inlet.{Inlet}
 use Rattle.dob_run.specs.declared.mail.Mail.{Mail}
 use Rattle.dob_run.specs.declared.runner.Runner.{Runner}
-use Rattle.dob_run.specs.Links.{GoesOn, KeepsOutlet, KeepsInlet}
+use Rattle.dob_run.specs.Links.{KeepsOutlet, KeepsInlet}
 use Rattle.dob_run.specs.Mails.{KeepsEach, AreOut}
 use Rattle.dob_run.specs.Keeps.{KeepsMail, HasSameLinks}
-use Rattle.dob_run.specs.Runners.{KeepsRunner, GoesOn as Goes, HasFailed, HasBroken, HasTurned, Steps}
+use Rattle.dob_run.specs.Runners.{KeepsRunner, GoesOn, HasFailed, HasBroken, HasTurned, Steps}
 use Rattle.dob_run.proofs.Counted.{there_set}
 
 -- ---- lists of batches
 
-pub goes_on_same : (xs ys : List BatchView) → ys ≡ xs → GoesOn xs ys
+pub goes_on_same : (xs ys : List BatchView) → ys ≡ xs → IsBeginning xs ys
 goes_on_same xs ys same = ([], same ∙ sym (append-nil xs))
 
-goes_on_trans : (xs ys zs : List BatchView) → GoesOn xs ys → GoesOn ys zs → GoesOn xs zs
+goes_on_trans : (xs ys zs : List BatchView) → IsBeginning xs ys → IsBeginning ys zs → IsBeginning xs zs
 goes_on_trans xs ys zs one two = (one.0 ++ two.0, two.1 ∙ ap (λ bs. bs ++ two.0) one.1 ∙ append_assoc xs one.0 two.0)
 
 -- ---- links
@@ -164,7 +165,7 @@ runner_same r = record { mail = mail_same r.mail; set = refl; size = refl }
 pub runner_trans : (a b c : Runner) → KeepsRunner a b → KeepsRunner b c → KeepsRunner a c
 runner_trans a b c one two = record { mail = mail_trans a.mail b.mail c.mail one.mail two.mail; set = two.set ∙ one.set; size = two.size ∙ one.size }
 
-pub goes_trans : (a b c : Runner) → Goes a b → Goes b c → Goes a c
+pub goes_trans : (a b c : Runner) → GoesOn a b → GoesOn b c → GoesOn a c
 goes_trans a b c one two = record { keeps = runner_trans a b c one.keeps two.keeps; unfailed = two.unfailed; halt = two.halt ∙ one.halt }
 
 pub failed_after : (a b c : Runner) (why : Cause) → KeepsRunner a b → HasFailed b c why → HasFailed a c why

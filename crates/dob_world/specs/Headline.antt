@@ -1,12 +1,13 @@
 -- The promise of the whole, in three parts, of which each holds in every world after any events.
 use Rattle.std.specs.Prelude.{◌≡◌, ◌≢◌, ℕ, ◌<◌, true, List}
+use Rattle.dob_pieces.specs.Lists.{IsBeginning}
 use Rattle.dob_rank.specs.Marks.{classes_of}
 use Rattle.dob_value.specs.declared.value.Value.{Value}
 use Rattle.dob_value.specs.Follows.{IsValueTable}
 use Rattle.dob_node.specs.Histories.{AreValuesBelow}
 use Rattle.dob_safra.specs.Rings.{in_flight}
 use Rattle.dob_world.specs.declared.event.Event.{Event}
-use Rattle.dob_world.specs.Worlds.{Setting, World, State, value_in, items_in, AreLawful, IsAtRest, IsTold, waiting_batches, IsBeginning}
+use Rattle.dob_world.specs.Worlds.{Setting, World, State, value_in, items_in, AreLawful, IsAtRest, IsTold, waiting_batches}
 use Rattle.dob_world.specs.Events.{CanHappen, MayEnd}
 
 -- What was sent over each link is a beginning of the items of the sender's history, and what its receiver has applied is a

@@ -1,5 +1,6 @@
 -- Laws of worlds, of which `src/laws.rt` has one function each.
 use Rattle.std.specs.Prelude.{◌≡◌, ◌≢◌, ℕ, ◌^◌, ◌<◌, ◌≤◌, true, List, ◌∷◌, ◌++◌, length, Some, slice_get}
+use Rattle.dob_pieces.specs.Lists.{IsBeginning}
 use Rattle.dob_rank.specs.Marks.{classes_of}
 use Rattle.dob_value.specs.declared.value.Value.{Value}
 use Rattle.dob_value.specs.Follows.{IsValueTable}
@@ -10,7 +11,7 @@ use Rattle.dob_node.specs.Openings.{AreOpenings}
 use Rattle.dob_node.specs.Lawful.{CanApply}
 use Rattle.dob_safra.specs.Laws.{IsSize}
 use Rattle.dob_world.specs.declared.event.Event.{Event}
-use Rattle.dob_world.specs.Worlds.{Setting, Nodes, World, State, value_in, items_in, AreLawful, IsLinked, IsAtRest, IsTold, IsBeginning}
+use Rattle.dob_world.specs.Worlds.{Setting, Nodes, World, State, value_in, items_in, AreLawful, IsLinked, IsAtRest, IsTold}
 use Rattle.dob_world.specs.Events.{CanHappen, Happens, MayEnd, AppliesAll}
 use Rattle.dob_world.specs.Runs.{IsAfter}
 use Rattle.dob_world.specs.Rounds.{IsStill}

@@ -93,7 +93,3 @@ pub record IsTold (k : Setting) (state : State) : Type 0 where
 -- how many batches wait on all links
 abbrev pub waiting_batches : ℕ → World → ℕ
 waiting_batches n world = sum_below n (λ i. sum_below n (λ j. length (world.waiting i j)))
-
--- some items more make the second list of the first one
-abbrev pub IsBeginning : List Item → List Item → Type 0
-IsBeginning front whole = (rest : List Item) × (whole ≡ front ++ rest)

@@ -1,8 +1,0 @@
--- Signs by name.
-use Rattle.std.specs.Prelude.{ℕ}
-
-abbrev pub line_feed : ℕ
-line_feed = 10
-
-abbrev pub space : ℕ
-space = 32
