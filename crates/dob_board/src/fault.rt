@@ -23,7 +23,7 @@ impl fmt::Display for Fault {
 
     fn fmt<W: fmt::Write>(&self, f: &mut fmt::Formatter<W>) -> fmt::Result {
         match self {
-            Fault::Nodes => write!(f, "E9 Nodes"),
+            Fault::Nodes => write!(f, "{}", dob_safra::Nodes),
             Fault::Memory => write!(f, "{Memory}"),
         }
     }

@@ -1,5 +1,6 @@
 -- What each fault is called, and which fault of a part is which of a node's.
-use Rattle.std.specs.Prelude.{◌≡◌, List, ℕ, codes}
+use Rattle.std.specs.Prelude.{◌≡◌, List, ◌++◌, ℕ, codes}
+use Rattle.std.specs.Fmt.{decimal}
 use Rattle.dob_pieces.specs.Faults.{memory_text}
 use Rattle.dob_rank.specs.Faults as rank_texts
 use Rattle.dob_share.specs.Faults as share_texts
@@ -19,6 +20,10 @@ cause_text (cause.Contradiction class) = share_texts.fault_text (share.Contradic
 cause_text cause.Memory = memory_text
 cause_text cause.Held = codes "Held"
 cause_text cause.Counts = codes "Counts"
+
+-- of a node that has stopped
+abbrev pub stopped_text : ℕ → Cause → List ℕ
+stopped_text node why = codes "E14 Stopped node " ++ decimal node ++ codes ": " ++ cause_text why
 
 -- the fault's number and name
 abbrev pub fault_text : Fault → List ℕ

@@ -55,6 +55,20 @@ impl fmt::Display for Cause {
 
 impl Error for Cause {}
 
+/// E14: a node of a world or of a build has stopped: which one, and why.
+#[derive(Drop)]
+pub struct Stopped(pub usize, pub Cause);
+
+impl fmt::Display for Stopped {
+    ghost use Rattle.dob_node.specs.Causes.{stopped_text};
+
+    ghost output = { λ stopped. Some (stopped_text stopped.0 stopped.1) };
+
+    fn fmt<W: fmt::Write>(&self, f: &mut fmt::Formatter<W>) -> fmt::Result {
+        write!(f, "E14 Stopped node {}: {}", self.0, self.1)
+    }
+}
+
 impl fmt::Display for Fault {
     ghost use Rattle.dob_node.specs.Causes.{fault_text};
 

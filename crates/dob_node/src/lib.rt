@@ -10,7 +10,7 @@ mod openings;
 mod outboxes;
 mod taking;
 
-pub use cause::{Cause, Fault};
+pub use cause::{Cause, Fault, Stopped};
 pub use dob_share::Opening;
 pub use lone::alone;
 pub use node::{MAX_BATCHES, Node, Part};

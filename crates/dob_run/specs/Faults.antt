@@ -1,25 +1,24 @@
 -- What each fault of a run by threads is called, and why no crew is opened or one leaves nothing.
-use Rattle.std.specs.Prelude.{ℕ, ◌<◌, List, ◌++◌, codes}
-use Rattle.std.specs.Fmt.{decimal}
+use Rattle.std.specs.Prelude.{ℕ, ◌<◌, List}
 use Rattle.dob_pieces.specs.declared.piece_set.PieceSet.{PieceSet}
 use Rattle.dob_pieces.specs.Faults.{memory_text}
 use Rattle.dob_rank.specs.Faults as rank_texts
 use Rattle.dob_rank.specs.Limits.{IsSmall}
+use Rattle.dob_update.specs.Faults.{sizes_text}
 use Rattle.dob_update.specs.Batches.{AreSizes}
+use Rattle.dob_safra.specs.Faults.{nodes_text}
 use Rattle.dob_safra.specs.Laws.{IsSize}
-use Rattle.dob_board.specs.Faults as board_texts
-use Rattle.dob_node.specs.Causes.{cause_text}
+use Rattle.dob_node.specs.Causes.{stopped_text}
 use Rattle.dob_rank.specs.declared.fault.Fault.TheVariants as rank
-use Rattle.dob_board.specs.declared.fault.Fault.TheVariants as board
 use Rattle.dob_run.specs.declared.fault.Fault.{Fault}
 use Rattle.dob_run.specs.declared.fault.Fault.TheVariants.{SetTooLarge, Nodes, Sizes, Stopped, Memory}
 
 -- the fault's number and name, and of a stopped node which one and why
 abbrev pub fault_text : Fault → List ℕ
 fault_text SetTooLarge = rank_texts.fault_text rank.SetTooLarge
-fault_text Nodes = board_texts.fault_text board.Nodes
-fault_text Sizes = codes "E10 Sizes"
-fault_text (Stopped node why) = codes "E14 Stopped node " ++ decimal node ++ codes ": " ++ cause_text why
+fault_text Nodes = nodes_text
+fault_text Sizes = sizes_text
+fault_text (Stopped node why) = stopped_text node why
 fault_text Memory = memory_text
 
 -- a crew may have so many nodes, such batches and such channels

@@ -5,12 +5,14 @@
 #![tactic(auto)]
 
 mod event;
+mod fault;
 pub mod laws;
 mod rules;
 mod token;
 mod word;
 
 pub use event::RingEvent;
+pub use fault::Nodes;
 pub use rules::{may_announce, passed};
 pub use token::Token;
 pub use word::{pack, unpack};

@@ -3,7 +3,7 @@ ghost use Rattle.std.specs.Prelude.{◌≡◌, Some};
 ghost use Rattle.dob_world.specs.declared.fault.Fault.TheVariants as fault;
 ghost use Rattle.dob_world.specs.Faults.{fault_of_rank};
 
-use dob_node::Cause;
+use dob_node::{Cause, Stopped};
 use dob_pieces::Memory;
 use std::error::Error;
 use std::fmt;
@@ -31,9 +31,9 @@ impl fmt::Display for Fault {
     fn fmt<W: fmt::Write>(&self, f: &mut fmt::Formatter<W>) -> fmt::Result {
         match self {
             Fault::SetTooLarge => write!(f, "{}", dob_rank::Fault::SetTooLarge),
-            Fault::Nodes => write!(f, "E9 Nodes"),
-            Fault::Sizes => write!(f, "E10 Sizes"),
-            Fault::Stopped { node, cause } => write!(f, "E14 Stopped node {node}: {cause}"),
+            Fault::Nodes => write!(f, "{}", dob_safra::Nodes),
+            Fault::Sizes => write!(f, "{}", dob_update::Sizes),
+            Fault::Stopped { node, cause } => write!(f, "{}", Stopped(*node, *cause)),
             Fault::Memory => write!(f, "{Memory}"),
         }
     }
