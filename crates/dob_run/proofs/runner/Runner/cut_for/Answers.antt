@@ -1,13 +1,14 @@
 -- A node that cuts a batch was black and had cut fewer than 2^40; with the batch in the hand the runner is lawful.
-use Rattle.std.proofs.Common.{◌≡◌, ◌<◌, ◌^◌, true, ap, ◌∙◌, subst, inl, inr, arith, Ok, Err, Some, None, IfSome, Option, Result}
+use Rattle.std.proofs.Common.{◌≡◌, ◌≢◌, ◌<◌, ◌^◌, ◌⊎◌, true, refl, ap, ◌∙◌, subst, inl, inr, arith, Ok, Err, Some, None, IfSome, Option, Result}
 use Rattle.std.proofs.lemmas.Bool.{cases_Bool}
 use Rattle.dob_pieces.proofs.Elements.{some_at}
 use Rattle.dob_update.specs.Batches.{BatchView}
 use Rattle.dob_board.specs.declared.view.Stand.{Stand}
 use Rattle.dob_board.proofs.Halting.{same_halt}
 use Rattle.dob_node.specs.declared.cause.Cause.{Cause}
+use Rattle.dob_node.specs.declared.cause.Cause.TheVariants.{Counts, Memory, Held}
 use Rattle.dob_node.specs.Nodes.{outbox_to, HasCut}
-use Rattle.dob_run.proofs.Keeping.{own_still}
+use Rattle.dob_run.proofs.Keeping.{own_still, links_kept}
 use Rattle.dob_run.proofs.Lawfuls.{cut_one, few_cut}
 use Rattle.dob_run.proofs.runner.Runner.cut_for.Goals as goal
 
@@ -16,6 +17,20 @@ cut_none cut batch some none = absurd (cc)
 
 cut_counts : (cut : Option BatchView) (why : Cause) → (let given : Result (Option BatchView) Cause = Ok cut in given ≡ Err why) → ⊥
 cut_counts cut why is = absurd (cc)
+
+unheld : (why : Cause) → (why ≡ Counts) ⊎ (why ≡ Memory) → why ≢ Held
+unheld why (inl counts) held = absurd (cc)
+unheld why (inr memory) held = absurd (cc)
+
+pub returns-in-Err : goal.returns-in-Err
+returns-in-Err c = record {
+  failed = record {
+    keeps = record { mail = links_kept c.args.self.now.mail c.fail.new.self c.fail.ensures.links; set = refl; size = refl };
+    cause = refl;
+    stopped = c.fail.ensures.stopped;
+  };
+  unheld = unheld c.in-Err.why c.in-Err.ensures.why;
+}
 
 pub post-requires-clause-few : goal.post-requires-clause-few
 post-requires-clause-few c =
