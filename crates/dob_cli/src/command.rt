@@ -27,7 +27,7 @@ use clap::{Arg, ArgMatches, Command, Error, value_parser};
 use std::alloc::{AllocError, Global};
 
 /// What the program is asked to do.
-#[derive(Clone, Copy, Debug, PartialEq, Eq)]
+#[derive(Clone, Copy)]
 pub enum Order<'a> {
     /// To print the value of the position that the text names.
     Value(&'a str),
@@ -54,7 +54,7 @@ pub enum Order<'a> {
 }
 
 /// What the words come to.
-#[derive(Debug, Drop)]
+#[derive(Drop)]
 pub enum Reading<'a> {
     /// Something to do.
     Order(Order<'a>),

@@ -8,7 +8,7 @@ use dob_rank::{Classes, size};
 use std::alloc::{AllocError, Global};
 
 /// How many positions a piece set has, and how many classes.
-#[derive(Clone, Copy, Debug, PartialEq, Eq)]
+#[derive(Clone, Copy)]
 pub(crate) struct Counts {
     pub(crate) positions: u64,
     pub(crate) classes: u64,

@@ -5,7 +5,7 @@ ghost use Rattle.dob_cli.specs.Builds.{AddsValue, IsTally};
 use dob_value::{Table, Value};
 
 /// So many wins, losses and draws.
-#[derive(Clone, Copy, Debug, PartialEq, Eq)]
+#[derive(Clone, Copy)]
 pub(crate) struct Tally {
     pub(crate) wins: u64,
     pub(crate) losses: u64,

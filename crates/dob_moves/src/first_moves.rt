@@ -7,7 +7,7 @@ use crate::game_move::Move;
 use dob_pieces::{HandKind, Kind, Piece, Setup, Side, Square, Step};
 
 /// Where a step is to end.
-#[derive(Clone, Copy, Debug, PartialEq, Eq)]
+#[derive(Clone, Copy)]
 pub(crate) enum Aim {
     /// On the enemy lion.
     AtLion,

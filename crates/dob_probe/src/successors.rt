@@ -18,7 +18,7 @@ use dob_pieces::{Memory, Position};
 use dob_value::{Table, Value};
 
 /// What is kept of the successors' values.
-#[derive(Clone, Copy, Debug)]
+#[derive(Clone, Copy)]
 pub(crate) struct Successors {
     pub(crate) least_loss: Option<u16>,
     pub(crate) greatest_win: Option<u16>,

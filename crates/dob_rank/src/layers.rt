@@ -1,7 +1,7 @@
 // Layers: what stands on a square, in the order in which a key tells the squares.
 
 /// What stands on a square. Hens are counted with the chicks.
-#[derive(Clone, Copy, Debug, PartialEq, Eq)]
+#[derive(Clone, Copy)]
 pub(crate) enum Layer {
     OwnLion,
     EnemyLion,

@@ -37,7 +37,7 @@ const PLANES: CellTable = [
 pub(crate) const ALL: u64 = (1 << PLANE) - 1;
 
 /// The squares of the board that each layer has.
-#[derive(Clone, Copy, Debug)]
+#[derive(Clone, Copy)]
 pub(crate) struct Masks {
     pub(crate) own_lion: u64,
     pub(crate) enemy_lion: u64,

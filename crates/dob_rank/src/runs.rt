@@ -17,7 +17,7 @@ pub(crate) const LIONS: u64 = OWN_SQUARES * ENEMY_SQUARES;
 pub(crate) const FREE_SQUARES: u64 = 10;
 
 /// Whether the positions of a run are no later than their mirror images.
-#[derive(Clone, Copy, Debug, PartialEq, Eq)]
+#[derive(Clone, Copy, Debug)]
 pub(crate) enum RunKind {
     /// Each of them is the earlier one: the mover's lion is on column a, or on b with the enemy's on a.
     First,
@@ -43,7 +43,7 @@ pub(crate) fn kind_of(lions: u64) -> RunKind
 }
 
 /// A place in a block: the run, and the place in the run.
-#[derive(Clone, Copy, Debug)]
+#[derive(Clone, Copy)]
 pub(crate) struct Spot {
     pub(crate) run: u64,
     pub(crate) local: u64,

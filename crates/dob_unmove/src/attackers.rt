@@ -12,7 +12,7 @@ use crate::undo::Undo;
 use dob_pieces::{Masks, Setup, Square, lowest_square, without_square};
 
 /// From which squares a square is attacked.
-#[derive(Clone, Copy, Debug, PartialEq, Eq)]
+#[derive(Clone, Copy)]
 pub(crate) enum Attackers {
     Nobody,
     One(Square),
@@ -20,7 +20,7 @@ pub(crate) enum Attackers {
 }
 
 /// The enemy lion's square, and who attacks it.
-#[derive(Clone, Copy, Debug, PartialEq, Eq)]
+#[derive(Clone, Copy)]
 pub(crate) struct Threat {
     pub(crate) lion: Square,
     pub(crate) attackers: Attackers,

@@ -23,7 +23,7 @@ const HOMES_ON_A_AND_B: u16 = 0b000_011_011_011;
 const BESIDE_B: u16 = 0b101_101_101_101;
 
 /// What the masks of a setup after a move tell, in which the side that made it is the mover.
-#[derive(Clone, Copy, Debug)]
+#[derive(Clone, Copy)]
 pub(crate) struct Ways {
     pub(crate) masks: Masks,
     pub(crate) threat: Threat,
