@@ -1,13 +1,16 @@
 -- Each class is its owner's own, which shows its value.
-use Rattle.std.proofs.Common.{◌≡◌, ℕ, ◌<◌, sym, subst, Some, slice_get}
-use Rattle.std.proofs.lemmas.List.Elements.{All-push}
+use Rattle.std.proofs.Common.{◌≡◌, ℕ, ◌<◌, [], arith, rules, sym, subst, Some, slice_get}
+use Rattle.std.proofs.lemmas.List.Elements.{All-nil, All-push}
 use Rattle.std.specs.List.{All}
 use Rattle.dob_share.specs.Owners.{owner_of}
+use Rattle.dob_rank.specs.Marks.{classes_of}
+use Rattle.dob_value.specs.Codes.{values_of_codes}
+use Rattle.dob_node.specs.Histories.{AreValuesBelow}
 use Rattle.dob_node.proofs.ShownValues.{values_more}
 use Rattle.dob_world.specs.Worlds.{value_in}
 use Rattle.dob_world.specs.Shown.{setting_of, state_of}
 use Rattle.dob_world.proofs.Stands.{node_there}
-use Rattle.dob_world.proofs.Gathered.{owned, shows, shows_entry}
+use Rattle.dob_world.proofs.Gathered.{owned, shows, shows_entry, no_values}
 use Rattle.dob_world.proofs.world.World.codes.Goals as goal
 
 pub value-requires : goal.value-requires
@@ -37,6 +40,22 @@ code_of_value-requires c =
     subst (λ (m : ℕ). slice_get nodes m ≡ Some node) c.owner-node.ensures.owner
     (node_there k nodes lanes standing.places c.owner-node.result node c.owner-node.ensures.one_of_n c.index.ensures) in
     shows_entry k nodes lanes standing.setting.nodes.0 standing.places standing.lawful class low node there c.value.result c.value.ensures
+
+pub loop-class-init : goal.loop-class-init
+loop-class-init c =
+    let value = value_in c.args.self.now.n (state_of c.args.self.now).world.nodes in
+    let none : c.in_ok-codes.codes.items ≡ [] = search rules in
+    record {
+      codes = subst (λ xs. All (λ code. code < 65536) xs) (sym none) (All-nil (λ (code : ℕ). code < 65536));
+      values = subst (λ xs. AreValuesBelow value 0 (values_of_codes xs)) (sym none) (no_values value);
+    }
+
+pub returns-clause-values : goal.returns-clause-values
+returns-clause-values c =
+    let value = value_in c.args.self.now.n (state_of c.args.self.now).world.nodes in
+    let whole : c.loop-class.class ≡ classes_of c.args.self.now.classes.set =
+    omega (arith, c.loop-class-test.false, c.loop-class.auto.class-end, c.class_count-count.ensures.number) in
+    subst (λ (m : ℕ). AreValuesBelow value m (values_of_codes c.loop-class.codes.items)) whole c.loop-class.invariant.values
 
 pub loop-class-preserved : goal.loop-class-preserved
 loop-class-preserved c =

@@ -39,3 +39,6 @@ returns-clause-standing c =
       refl,
       refl,
     )
+
+pub returns-then-n-lt1-clause-fault : goal.returns-then-n-lt1-clause-fault
+returns-then-n-lt1-clause-fault c = (omega arith, λ size. let low = size.0 in let high = size.1 in absurd (omega arith))
