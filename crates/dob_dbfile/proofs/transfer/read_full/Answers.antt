@@ -1,5 +1,6 @@
 -- The room filled grows by what a call gives.
-use Rattle.std.proofs.Common.{◌∙◌, ◌-◌, rules, subst, length}
+use Rattle.std.proofs.Common.{◌∙◌, ◌-◌, rules, subst, length, arith}
+use Rattle.std.proofs.lemmas.Grind.{common_steps}
 use Rattle.std.proofs.Math.Bool.{or-false}
 use Rattle.dob_dbfile.proofs.Filled.{filled_more, after-after}
 use Rattle.dob_dbfile.proofs.transfer.read_full.Goals as goal
@@ -17,3 +18,6 @@ loop-done-preserved g c =
           c.loop-done.invariant.0 c.in-Ok.ensures.within before.0 before.1 given.0 in
           (more.0, more.1, subst (g.R.Source.gives c.read.new.self) (after-after stream done count) given.1),
     )
+
+pub returns-in-Ok-2-clause-given : goal.returns-in-Ok-2-clause-given
+returns-in-Ok-2-clause-given c = grind (arith, common_steps)

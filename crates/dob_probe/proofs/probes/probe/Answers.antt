@@ -1,5 +1,5 @@
 -- The value of a position of the set is its class's entry, and by a consistent table it is the right one.
-use Rattle.std.proofs.Common.{refl, subst}
+use Rattle.std.proofs.Common.{rules, refl, subst}
 use Rattle.dob_pieces.specs.declared.piece_set.PieceSet.{PieceSet}
 use Rattle.dob_rank.specs.Order.{IsPositionOf}
 use Rattle.dob_value.proofs.Consistency.{consistent_is_right}
@@ -19,3 +19,6 @@ returns-clause-right c = λ consistent.
 pub returns-clause-entry : goal.returns-clause-entry
 returns-clause-entry c =
     given_is_entry c.args.table.now c.args.position.now.setup c.value_of.result c.set.ensures.table c.value_of.ensures
+
+pub returns-clause-value : goal.returns-clause-value
+returns-clause-value c = search rules fits 100

@@ -1,5 +1,6 @@
 -- The position before a move is legal where its lion is at home.
-use Rattle.std.proofs.Common.{rules}
+use Rattle.std.proofs.Common.{rules, arith}
+use Rattle.std.proofs.lemmas.Grind.{common_steps}
 use Rattle.dob_unmove.proofs.Kept.{few_turned, legal_before}
 use Rattle.dob_unmove.proofs.earlier.open_before.Goals as goal
 
@@ -10,3 +11,6 @@ pub new-requires : goal.new-requires
 new-requires c =
     legal_before c.args.after.now c.earlier-setup.result c.args.undo c.requires.can c.requires.legal c.earlier-setup.ensures
     (search rules)
+
+pub returns-else-has_lion_off_far_row : goal.returns-else-has_lion_off_far_row
+returns-else-has_lion_off_far_row c = grind (arith, common_steps)

@@ -1,5 +1,6 @@
 -- Where there is no memory for an item, those for the predecessors before it are appended.
-use Rattle.std.proofs.Common.{◌∙◌, sym}
+use Rattle.std.proofs.Common.{◌∙◌, sym, arith}
+use Rattle.std.proofs.lemmas.Grind.{common_steps}
 use Rattle.std.proofs.lemmas.List.{append-nil}
 use Rattle.dob_pieces.proofs.Results.{on_err}
 use Rattle.dob_update.proofs.items.push_items.Goals as goal
@@ -10,3 +11,6 @@ returns-in_err-push-clause-first c =
 
 pub loop-class-init : goal.loop-class-init
 loop-class-init c = sym (append-nil c.args.items.now.items)
+
+pub loop-class-preserved : goal.loop-class-preserved
+loop-class-preserved c = grind (arith, common_steps)

@@ -60,3 +60,6 @@ returns-clause-heard c =
     (stand_from seat.posted.items seat.taken.items seat.seen.items seat.black seat.token seat.halt) seat.seat.me.0.told
     seat.view_is c.posted_index-word.ensures c.requires c.load-number.ensures.2 in
     told.3
+
+pub returns-clause-noted : goal.returns-clause-noted
+returns-clause-noted c = search rules fits 100

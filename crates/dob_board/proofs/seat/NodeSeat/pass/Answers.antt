@@ -96,3 +96,6 @@ returns-clause-event c =
     let token_is = c.token_at-self.ensures ∙ ap (token_at seat.node) passed_by_it in
     subst (λ (t : Option Token). Makes seat.nodes seat.node (Pass seat.node) (stand_of seat)
     (stand_from seat.posted.items seat.taken.items seat.seen.items false t seat.halt) seat.seat.me.0.told c.store.new.seat.me.0.told) (sym token_is) told.1
+
+pub returns-clause-passed : goal.returns-clause-passed
+returns-clause-passed c = search rules fits 100

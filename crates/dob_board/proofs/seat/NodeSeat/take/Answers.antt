@@ -1,5 +1,6 @@
 -- A look that shows more than is taken, and then the count, take one batch.
 use Rattle.std.proofs.Common.{rules, arith, ap}
+use Rattle.std.proofs.lemmas.Grind.{common_steps}
 use Rattle.dob_board.specs.declared.view.Stand.{Stand}
 use Rattle.dob_board.proofs.Done.{read_there}
 use Rattle.dob_board.proofs.Takings.{take_one}
@@ -13,3 +14,6 @@ returns-clause-ok c =
     (search rules) c.index.ensures in
     take_one seat c.look-seen.new.self c.count_taken.new.self c.args.from c.look-seen.result look.not_less (omega (arith, read, c.if-seen-index.false))
     look.noted look.same c.count_taken.ensures.counted look.heard c.count_taken.ensures.event
+
+pub count_taken-requires-clause-waiting : goal.count_taken-requires-clause-waiting
+count_taken-requires-clause-waiting c = grind (arith, common_steps)

@@ -1,5 +1,6 @@
 -- A look at the token's word keeps the rule of the board.
 use Rattle.std.proofs.Common.{rules, arith}
+use Rattle.std.proofs.lemmas.Grind.{common_steps}
 use Rattle.dob_board.specs.Views.{stand_from}
 use Rattle.dob_board.proofs.Passing.{meets_call}
 use Rattle.dob_board.proofs.seat.NodeSeat.token.Goals as goal
@@ -13,3 +14,12 @@ load-word-requires c =
           seat.seat.me.0.told
           (search rules) seat.view_is,
     )
+
+pub unreachable-requires : goal.unreachable-requires
+unreachable-requires c = grind (arith, common_steps)
+
+pub returns-clause-stays : goal.returns-clause-stays
+returns-clause-stays c = grind (arith, common_steps)
+
+pub returns-clause-heard : goal.returns-clause-heard
+returns-clause-heard c = grind (arith, common_steps)

@@ -5,3 +5,6 @@ use Rattle.dob_chan.proofs.ends.SendEnd.offer.Goals as goal
 
 pub try_send_as-requires-clause-rule : goal.try_send_as-requires-clause-rule
 try_send_as-requires-clause-rule g c = (sends _ _ _ _ (search rules) (search rules), last _ _ (search rules))
+
+pub returns-in-Err-Full-clause-sent : goal.returns-in-Err-Full-clause-sent
+returns-in-Err-Full-clause-sent c = search rules fits 100

@@ -1,4 +1,5 @@
 -- What is taken is kept.
+use Rattle.std.proofs.Common.{rules}
 use Rattle.dob_node.proofs.Sounds.{kept_own, kept_back}
 use Rattle.dob_node.proofs.TakenLists.{told_all}
 use Rattle.dob_node.proofs.node.Node.apply_batch.Goals as goal
@@ -21,3 +22,12 @@ returns-clause-sound c =
       addressed = sound.addressed;
       nothing_to_self = sound.nothing_to_self;
     }
+
+pub returns-in_err-take_items-clause-stopped : goal.returns-in_err-take_items-clause-stopped
+returns-in_err-take_items-clause-stopped c = search rules fits 100
+
+pub returns-in_err-take_items-clause-before : goal.returns-in_err-take_items-clause-before
+returns-in_err-take_items-clause-before c = search rules fits 100
+
+pub returns-clause-taken : goal.returns-clause-taken
+returns-clause-taken c = search rules fits 100

@@ -1,5 +1,5 @@
 -- What is taken is kept.
-use Rattle.std.proofs.Common.{sym, subst}
+use Rattle.std.proofs.Common.{rules, sym, subst}
 use Rattle.std.specs.List.{All}
 use Rattle.std.proofs.lemmas.List.Elements.{All-drop}
 use Rattle.dob_node.specs.Takes.{HasEntries}
@@ -23,3 +23,6 @@ returns-clause-sound c =
       addressed = c.requires.addressed;
       nothing_to_self = c.requires.nothing_to_self;
     }
+
+pub returns-in_err-take_item-clause-unchanged : goal.returns-in_err-take_item-clause-unchanged
+returns-in_err-take_item-clause-unchanged c = search rules fits 100

@@ -1,4 +1,5 @@
 -- The search starts with the whole run, and where it ends the place is marked.
+use Rattle.std.proofs.Common.{rules}
 use Rattle.dob_rank.specs.Runs.{run_start}
 use Rattle.dob_rank.specs.Marks.{marked}
 use Rattle.dob_rank.proofs.RunMarks.{last_place, place_search}
@@ -21,3 +22,6 @@ returns-clause-class c =
     let block = c.args.self.now in
     (last_place (marked block.set) (run_start block.set block.number c.args.run) c.loop-high.low c.loop-high.high c.args.class
     c.loop-high.invariant.some c.loop-high-test.false c.loop-high.invariant.low_is c.loop-high.invariant.high_is).number_is
+
+pub loop-high-preserved : goal.loop-high-preserved
+loop-high-preserved c = search rules fits 100

@@ -1,8 +1,11 @@
 -- The marks of all ranks are as many as the classes.
-use Rattle.std.proofs.Common.{sym, subst}
+use Rattle.std.proofs.Common.{rules, sym, subst}
 use Rattle.dob_rank.specs.Order.{HasClasses}
 use Rattle.dob_rank.proofs.Marks.{HasClasses-classes_of}
 use Rattle.dob_rank.proofs.classes.Classes.class_count.Goals as goal
 
 pub returns-clause-count : goal.returns-clause-count
 returns-clause-count c = subst (HasClasses c.args.self.now.set) (sym c.args.self.now.counted) (HasClasses-classes_of c.args.self.now.set)
+
+pub returns-clause-number : goal.returns-clause-number
+returns-clause-number c = search rules fits 100

@@ -1,5 +1,5 @@
 -- The item joins the last segment; where memory is refused the list is as it was.
-use Rattle.std.proofs.Common.{◌≤◌, ◌+◌, ℕ, ap, sym, ◌∙◌, length, arith, ◌^◌}
+use Rattle.std.proofs.Common.{rules, ◌≤◌, ◌+◌, ℕ, ap, sym, ◌∙◌, length, arith, ◌^◌}
 use Rattle.std.proofs.lemmas.List.{length_push}
 use Rattle.dob_pieces.proofs.Results.{on_err}
 use Rattle.dob_rank.proofs.Segmentation.{pushed_is, same_is}
@@ -40,3 +40,6 @@ returns-clause-appended g c =
     c.open_segment.ensures.whole (c.open_segment.ensures.same ∙ c.self.view_is) (c.self.invariant.2 ∙ ap length c.self.view_is)
     c.split-number.ensures.number c.in_ok-open_segment.ensures.opened
     c.index_mut-segment.result.now c.push.new.self c.args.item c.index_mut-segment.ensures.value c.in_ok-push.ensures.items).0
+
+pub open_segment-requires-clause-end : goal.open_segment-requires-clause-end
+open_segment-requires-clause-end c = search rules fits 100
