@@ -1,4 +1,5 @@
 -- The build is of the text's piece set, and what is kept is its table's file. Before the file is made nothing has changed.
+use Rattle.std.proofs.Common.{rules}
 use Rattle.std.proofs.lemmas.Result.{err_from_is_err_and}
 use Rattle.dob_cli.proofs.Building.{keeping_holds, table_for}
 use Rattle.dob_cli.proofs.Shelves.{unchanged}
@@ -29,3 +30,6 @@ returns-clause-ok g c = record {
   kept = c.in_ok-keep_table.ensures.kept;
   same = c.in_ok-lines.ensures;
 }
+
+pub returns-clause-others : goal.returns-clause-others
+returns-clause-others c = search rules fits 100
