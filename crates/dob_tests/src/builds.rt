@@ -5,6 +5,11 @@ use crate::program::{FILE, run_on};
 use dob_cli::Shelf;
 use dob_dbfile::{MemSink, MemSource};
 use std::alloc::Global;
+use std::process::Abort;
+use std::sync::Wait;
+use std::thread::Threads;
+
+const BUILD: [&str; 7] = ["build", "--set", "000", "--nodes", "2", "--out", FILE];
 
 /// A shelf that is full: it makes no file, or one that takes so many bytes.
 #[derive(Drop)]
@@ -36,15 +41,16 @@ impl Shelf for FullShelf {
     fn keep(&mut self, _name: &str, _sink: MemSink) {}
 }
 
+// A build with so much room for its file tells that it failed.
+fn tells_failure(rt: &(impl Abort + Threads + Wait + Sync), alloc: Global, room: Option<usize>) {
+    let mut shelf = FullShelf { alloc, room };
+    let told = run_on(rt, alloc, &mut shelf, &BUILD);
+    assert!(rt; told.is(3, b"", b"dobutsu: E24 Io\n"));
+}
+
 #[test]
 fn a_full_disk(rt: HostRuntime) {
-    let words = ["build", "--set", "000", "--nodes", "2", "--out", FILE];
-    for room in [None, Some(0), Some(159)] {
-        let mut shelf = FullShelf {
-            alloc: rt.alloc(),
-            room,
-        };
-        let told = run_on(&rt, rt.alloc(), &mut shelf, &words);
-        assert!(rt; told.is(3, b"", b"dobutsu: E24 Io\n"));
-    }
+    tells_failure(&rt, rt.alloc(), None);
+    tells_failure(&rt, rt.alloc(), Some(0));
+    tells_failure(&rt, rt.alloc(), Some(159));
 }

@@ -3,8 +3,11 @@ use dob_cli::{DiskShelf, Shelf};
 use dob_dbfile::{Sink, put_all, read_full};
 use std::fs;
 use std::process::Abort;
+use std::rt::Files;
 
 const NAME: &str = "kept_by_a_test.db";
+
+const OTHER: &str = "other_kept_by_a_test.db";
 
 // Puts the bytes under the name, and answers whether that was done.
 pub(crate) fn put<S: Shelf>(shelf: &mut S, name: &str, bytes: &[u8]) -> bool {
@@ -35,32 +38,37 @@ fn keeps_file<S: Shelf>(rt: &impl Abort, shelf: &mut S, name: &str, bytes: &[u8]
 }
 
 // A file made anew is empty until it is kept; the other one stays.
-fn empties_file<S: Shelf>(rt: &impl Abort, shelf: &mut S, other: &str) {
+fn empties_file<S: Shelf>(rt: &impl Abort, shelf: &mut S) {
     let made = shelf.make(NAME);
-    assert!(rt; made.is_some());
-    assert!(rt; has(shelf, NAME, b""));
-    assert!(rt; has(shelf, other, b"other"));
+    assert!(rt; made.is_some() && has(shelf, NAME, b"") && has(shelf, OTHER, b"other"));
 }
 
 // Files are found as they were kept, also one that is kept again, and the other one stays.
-fn keeps_files<S: Shelf>(rt: &impl Abort, shelf: &mut S, other: &str) {
-    keeps_file(rt, shelf, other, b"other");
+fn keeps_files<S: Shelf>(rt: &impl Abort, shelf: &mut S) {
+    keeps_file(rt, shelf, OTHER, b"other");
     keeps_file(rt, shelf, NAME, b"first");
     keeps_file(rt, shelf, NAME, b"2nd");
     keeps_file(rt, shelf, NAME, b"");
-    assert!(rt; has(shelf, other, b"other"));
-    empties_file(rt, shelf, other);
+    assert!(rt; has(shelf, OTHER, b"other"));
+    empties_file(rt, shelf);
+}
+
+// Neither a file that was removed is found, nor is one made where none can be.
+fn has_no_others<S: Shelf>(rt: &impl Abort, shelf: &mut S) {
+    assert!(rt; shelf.find(NAME).is_none());
+    assert!(rt; shelf.make("no_such_folder/kept.db").is_none());
+    assert!(rt; shelf.make(".").is_none());
+}
+
+fn removes(rt: &(impl Abort + Files), name: &str) {
+    assert!(rt; fs::remove_file(rt, name).is_ok());
 }
 
 #[test]
 fn files_on_a_disk(rt: HostRuntime) {
     let mut shelf = DiskShelf { rt: &rt };
-    let other = "other_kept_by_a_test.db";
-    keeps_files(&rt, &mut shelf, other);
-    for name in [NAME, other] {
-        assert!(rt; fs::remove_file(&rt, name).is_ok());
-    }
-    assert!(rt; shelf.find(NAME).is_none());
-    assert!(rt; shelf.make("no_such_folder/kept.db").is_none());
-    assert!(rt; shelf.make(".").is_none());
+    keeps_files(&rt, &mut shelf);
+    removes(&rt, NAME);
+    removes(&rt, OTHER);
+    has_no_others(&rt, &mut shelf);
 }

@@ -2,7 +2,7 @@
 // since a crate is proved once more with its tests.
 mod board;
 mod chan;
-mod dbfile;
+pub(crate) mod dbfile;
 mod link;
 mod node;
 mod outboxes;
@@ -12,7 +12,7 @@ mod rank;
 mod run;
 mod safra;
 mod share;
-mod text;
+pub(crate) mod text;
 mod unmove;
 mod update;
 mod value;

@@ -79,13 +79,9 @@ fn sizes_of_boards(rt: HostRuntime) -> Result<(), Fault> {
 }
 
 #[test]
-fn one_batch_is_posted_seen_and_taken(rt: HostRuntime) -> Result<(), Fault> {
-    let (_board, mut seats) = Board::open(rt.alloc(), 2)?;
-    let (Some(mut second), Some(mut first)) = (seats.pop(), seats.pop()) else {
-        return Ok(());
-    };
+fn one_batch_is_posted_seen_and_taken(rt: HostRuntime) {
+    let (_board, mut first, mut second) = open_two(rt.alloc()).expect(&rt, "a board");
     sees_a_post(&rt, &mut first, &mut second);
-    Ok(())
 }
 
 // The second seat sees and takes the batch that the first one posts.
@@ -252,13 +248,10 @@ fn halts_stay(rt: HostRuntime) -> Result<(), Fault> {
 
 // A node that is alone passes the token to itself, and then announces the end.
 #[test]
-fn one_node_ends_alone(rt: HostRuntime) -> Result<(), Fault> {
-    let (_board, mut seats) = Board::open(rt.alloc(), 1)?;
-    let Some(mut seat) = seats.pop() else {
-        return Ok(());
-    };
+fn one_node_ends_alone(rt: HostRuntime) {
+    let (_board, mut seats) = Board::open(rt.alloc(), 1).expect(&rt, "a board");
+    let mut seat = seats.pop().expect(&rt, "a seat");
     ends_alone(&rt, &mut seat);
-    Ok(())
 }
 
 // The token comes back white at once, and a failure after the end doesn't change it.

@@ -154,6 +154,20 @@ struct Log {
 }
 
 impl Log {
+    // Nothing told yet of that class.
+    fn new(alloc: Global, class: u64) -> Log {
+        Log {
+            class,
+            told: Vec::new(alloc),
+            skips: Vec::new(alloc),
+        }
+    }
+
+    // Whether those classes were told, in batches that leave out so many items.
+    fn has(&self, told: &[u64], skips: &[usize]) -> bool {
+        self.told.as_slice() == told && self.skips.as_slice() == skips
+    }
+
     fn add<A: Abort>(&mut self, rt: &A, batch: &Batch) {
         if batch
             .parts()
@@ -279,18 +293,11 @@ fn items_of_one_settlement_go_in_batches(rt: HostRuntime) {
     let classes = classes_of(&rt, alloc, "000");
     let mut first = one_of_two(&rt, alloc, &classes, 0);
     let mut second = one_of_two(&rt, alloc, &classes, 1);
-    assert!(rt; first.settled() == 16 && second.settled() == 17);
-    assert!(rt; !first.is_idle());
-    let mut log = Log {
-        class: 16,
-        told: Vec::new(alloc),
-        skips: Vec::new(alloc),
-    };
+    assert!(rt; first.settled() == 16 && second.settled() == 17 && !first.is_idle());
+    let mut log = Log::new(alloc, 16);
     run(&rt, &classes, &mut first, &mut second, 2, true, &mut log);
-    assert!(rt; log.told.as_slice() == [17, 17, 27, 35, 35].as_slice());
-    assert!(rt; log.skips.as_slice() == [0, 2, 4].as_slice());
-    assert!(rt; first.is_idle() && second.is_idle());
-    assert!(rt; !improves(&first) && !improves(&second));
+    assert!(rt; log.has(&[17, 17, 27, 35, 35], &[0, 2, 4]));
+    assert!(rt; first.is_idle() && second.is_idle() && !improves(&first) && !improves(&second));
 }
 
 // The two nodes of a set of 2124 classes have the values of its sweep.
@@ -315,11 +322,7 @@ fn two_nodes_improve_values(rt: HostRuntime) {
     let classes = classes_of(&rt, alloc, "100");
     let mut first = one_of_two(&rt, alloc, &classes, 0);
     let mut second = one_of_two(&rt, alloc, &classes, 1);
-    let mut log = Log {
-        class: 0,
-        told: Vec::new(alloc),
-        skips: Vec::new(alloc),
-    };
+    let mut log = Log::new(alloc, 0);
     run(&rt, &classes, &mut first, &mut second, 1, false, &mut log);
     assert!(rt; first.is_idle() && second.is_idle());
     assert!(rt; improves(&first) || improves(&second));

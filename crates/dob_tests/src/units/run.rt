@@ -4,16 +4,16 @@ ghost use Rattle.dob_safra.specs.Laws.{IsSize};
 mod builds;
 mod turns;
 
-use dob_node::{Cause, opening};
-use dob_pieces::{Memory, PieceSet};
-use dob_rank::Classes;
-use dob_run::{Built, Fault, Gate, run_turns, scan};
+use crate::sets::classes_of;
+use dob_chan::Rejoined;
+use dob_node::{Cause, Opening, opening};
+use dob_pieces::PieceSet;
+use dob_run::{Built, Fault, Gate, Turned, Worker, run_turns, scan};
 use dob_value::{Table, Value};
 use std::alloc::Global;
 use std::process::Abort;
 use std::sync::Wait;
 use std::sync::atomic::{AtomicU64, Ordering};
-use std::test::Fail;
 use std::thread::{self, Threads};
 
 // The set of the two lions alone.
@@ -117,6 +117,12 @@ impl Gate for Meeting {
 #[derive(Drop)]
 struct FirstAlone;
 
+// What a run with that gate answers.
+const HELD: Fault = Fault::Stopped {
+    node: 1,
+    cause: Cause::Held,
+};
+
 impl Gate for FirstAlone {
     fn enter(&self, node: usize) -> bool {
         node == 0
@@ -124,71 +130,88 @@ impl Gate for FirstAlone {
 }
 
 #[test]
-fn many_threads_find_what_one_does(rt: HostRuntime) -> Result<(), Fail> {
-    let set = PieceSet::read("001").expect(&rt, "a set");
-    let classes = Classes::open(rt.alloc(), set).expect(&rt, "classes");
-    let scanned = scan(&rt, rt.alloc(), &classes)?;
-    let listed = opening(rt.alloc(), &classes)?;
-    assert!(rt; scanned.len() == 1116);
-    assert!(rt; scanned.len() == listed.len());
-    for (one, other) in scanned.iter().zip(listed.iter()) {
-        assert!(rt; one.status == other.status);
-        assert!(rt; one.moves == other.moves);
+fn many_threads_find_what_one_does(rt: HostRuntime) {
+    let classes = classes_of(&rt, rt.alloc(), "001");
+    let scanned = scan(&rt, rt.alloc(), &classes).expect(&rt, "openings");
+    let listed = opening(rt.alloc(), &classes).expect(&rt, "openings");
+    assert!(rt; scanned.len() == 1116 && are_same(&scanned, &listed));
+}
+
+// Whether the lists have the same openings.
+fn are_same(scanned: &[Opening], listed: &[Opening]) -> bool {
+    if scanned.len() != listed.len() {
+        return false;
     }
-    Ok(())
+    for place in 0..scanned.len() {
+        let (one, other) = (scanned[place], listed[place]);
+        if one.status != other.status || one.moves != other.moves {
+            return false;
+        }
+    }
+    true
 }
 
 #[test]
-fn two_nodes_meet(rt: HostRuntime) -> Result<(), Fail> {
+fn two_nodes_meet(rt: HostRuntime) {
     let gate = Meeting::new();
     let turned = run_turns(&rt, rt.alloc(), lions(&rt), 2, 1, 1, 1, &gate);
     assert!(rt; turned.is_ok());
     assert!(rt; gate.first.load(Ordering::SeqCst) == 1);
     assert!(rt; gate.second.load(Ordering::SeqCst) == 1);
-    Ok(())
 }
 
 #[test]
-fn a_node_that_is_held_back(rt: HostRuntime) -> Result<(), Fail> {
-    let Err(fault) = run_turns(&rt, rt.alloc(), lions(&rt), 3, 1, 1, 5, &FirstAlone) else {
-        panic!(rt; "node 1 is held back")
-    };
-    let held = Fault::Stopped {
-        node: 1,
-        cause: Cause::Held,
-    };
-    assert!(rt; fault == held);
-    Ok(())
+fn a_node_that_is_held_back(rt: HostRuntime) {
+    let turned = run_turns(&rt, rt.alloc(), lions(&rt), 3, 1, 1, 5, &FirstAlone);
+    assert!(rt; turned.err() == Some(HELD));
 }
 
-// Of `n` nodes that make no turn nothing is left: their hands are empty, no channel was used, and all words but those of the
-// number of nodes and of the token are 0.
+// Whether the link's channel was never used.
+fn is_unused(link: &Rejoined) -> bool {
+    link.sent == 0 && link.received == 0 && link.waiting.is_empty()
+}
+
+// Whether the worker's hands are empty.
+fn is_empty_handed(worker: &Worker) -> bool {
+    worker.sending.iter().all(|hand| hand.is_none())
+        && worker.taking.iter().all(|hand| hand.is_none())
+}
+
+// Whether all words but those of the number of nodes and of the token are 0.
+fn are_first_words(words: &[u64], n: usize) -> bool
+    requires { IsSize n }
+{
+    if words.len() != 3 + 2 * n * n {
+        return false;
+    }
+    for place in 2..words.len() {
+        if words[place] != 0 {
+            return false;
+        }
+    }
+    words[0] == n as u64 && words[1] == 1_407_374_883_553_280
+}
+
+// Whether nothing is left of `n` nodes that made no turn: their hands are empty, no channel was used, and all words but those of
+// the number of nodes and of the token are 0.
+fn is_nothing(turned: &Turned, n: usize) -> bool
+    requires { IsSize n }
+{
+    turned.workers.len() == n
+        && turned.links.len() == n * n
+        && turned.links.iter().all(|link| is_unused(link))
+        && are_first_words(&turned.closed.words, n)
+        && turned.workers.iter().all(|worker| is_empty_handed(worker))
+}
+
 fn leaves_nothing(rt: &(impl Threads + Wait + Abort + Sync), alloc: Global, n: usize)
     requires { IsSize n }
 {
     let turned = run_turns(rt, alloc, lions(rt), n, 1, 1, 0, &FirstAlone);
-    let turned = turned.expect(rt, "no turn");
-    assert!(rt; turned.workers.len() == n);
-    assert!(rt; turned.links.len() == n * n);
-    for link in &turned.links {
-        assert!(rt; link.sent == 0, "of {n} nodes");
-        assert!(rt; link.received == 0, "of {n} nodes");
-        assert!(rt; link.waiting.is_empty(), "of {n} nodes");
-    }
-    let words = &turned.closed.words;
-    assert!(rt; words.len() == 3 + 2 * n * n);
-    for (place, word) in words.iter().enumerate() {
-        let start = match place {
-            0 => n as u64,
-            1 => 1_407_374_883_553_280,
-            _ => 0,
-        };
-        assert!(rt; *word == start, "word {place} of {n} nodes");
-    }
-    for worker in &turned.workers {
-        assert!(rt; worker.sending.iter().all(|hand| hand.is_none()));
-        assert!(rt; worker.taking.iter().all(|hand| hand.is_none()));
-    }
+    assert!(rt;
+        is_nothing(&turned.expect(rt, "no turn"), n),
+        "of {n} nodes"
+    );
 }
 
 #[test]

@@ -222,13 +222,13 @@ fn refuses_spoilt(rt: &impl Abort, place: usize, byte: u8, fault: TextFault)
 fn is_written_back(rt: &impl Abort, alloc: Global, text: &str) {
     let position = read_position(text).expect(rt, "a position's text");
     let written = write_position(alloc, &position).expect(rt, "memory");
-    assert_eq!(rt; written.as_str(), text);
+    assert!(rt; written.as_str() == text, "{text}");
 }
 
 /// The move is written so.
-fn writes(rt: &impl Abort, alloc: Global, choice: Move, second: bool, text: &str) {
+pub(crate) fn writes(rt: &impl Abort, alloc: Global, choice: Move, second: bool, text: &str) {
     let written = write_move(alloc, choice, second).expect(rt, "memory");
-    assert_eq!(rt; written.as_str(), text);
+    assert!(rt; written.as_str() == text, "{text}");
 }
 
 /// The step is written so.

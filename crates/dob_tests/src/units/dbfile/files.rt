@@ -36,12 +36,12 @@ fn spoilt(rt: &(impl Abort + AllocGlobal), place: usize) -> Vec<u8> {
     bytes
 }
 
-// The file with other bytes at those places.
-fn changed(rt: &(impl Abort + AllocGlobal), places: &[usize], change: u8) -> Vec<u8> {
+// The file with those bytes from that place on.
+fn changed(rt: &(impl Abort + AllocGlobal), start: usize, change: &[u8]) -> Vec<u8> {
     let mut bytes = file(rt);
-    for place in places {
-        if let Some(byte) = bytes.get_mut(*place) {
-            *byte = change;
+    for (offset, byte) in change.iter().enumerate() {
+        if let Some(place) = bytes.get_mut(start.saturating_add(offset)) {
+            *place = *byte;
         }
     }
     bytes
@@ -102,9 +102,9 @@ fn each_byte_turned(rt: HostRuntime) {
 
 #[test]
 fn other_sets(rt: HostRuntime) {
-    let other = changed(&rt, &[8], 1);
+    let other = changed(&rt, 8, &[1]);
     assert!(rt; fault_of(&rt, MemSource::new(other)) == Some(Fault::ClassCount));
-    let large = changed(&rt, &[8, 9, 10], 2);
+    let large = changed(&rt, 8, &[2, 2, 2]);
     assert!(rt; fault_of(&rt, MemSource::new(large)) == Some(Fault::SetTooLarge));
 }
 
@@ -153,9 +153,9 @@ fn a_sink_that_fails_to_flush(rt: HostRuntime) {
     assert!(rt; sink.flushes().is_empty());
 }
 
-// The file with another record, and with the digest of that.
-fn forged(rt: &(impl Abort + AllocGlobal), place: usize, record: u8) -> Vec<u8> {
-    let mut bytes = changed(rt, &[place], record);
+/// The file with that code for the class, and with the digest of that.
+pub(crate) fn forged(rt: &(impl Abort + AllocGlobal), class: u8, code: u16) -> Vec<u8> {
+    let mut bytes = changed(rt, 20 + 2 * usize::from(class), &code.to_le_bytes());
     bytes.truncate(CONTENTS_LEN);
     let digest = Sha256::digest(bytes.as_slice());
     bytes.extend_from_slice(&digest).expect(rt, "memory");
@@ -164,7 +164,7 @@ fn forged(rt: &(impl Abort + AllocGlobal), place: usize, record: u8) -> Vec<u8> 
 
 #[test]
 fn a_wrong_record_is_read_as_it_is(rt: HostRuntime) {
-    let mut source = MemSource::new(forged(&rt, 20 + 2 * 17, 8));
+    let mut source = MemSource::new(forged(&rt, 17, 8));
     let table = read_table(rt.alloc(), &mut source).expect(&rt, "a table");
     assert!(rt; table.class_count() == 54);
     if 17 < table.class_count() {

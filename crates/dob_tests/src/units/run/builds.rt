@@ -1,14 +1,13 @@
 // Builds by threads: the same table by any number of nodes, and two nodes that must meet in each of their first turns.
+ghost use Rattle.std.specs.Prelude.{◌<◌};
 ghost use Rattle.dob_safra.specs.Laws.{IsSize};
 
-use super::{FirstAlone, Meeting, is_done, is_table_of_lions, lions};
-use dob_node::Cause;
-use dob_run::{Fault, Free, run_nodes};
+use super::{FirstAlone, HELD, Meeting, is_done, is_table_of_lions, lions};
+use dob_run::{Built, Free, run_nodes};
 use std::alloc::Global;
 use std::process::Abort;
 use std::sync::Wait;
 use std::sync::atomic::Ordering;
-use std::test::Fail;
 use std::thread::Threads;
 
 // Builds lions alone by `n` nodes.
@@ -16,47 +15,47 @@ fn builds(rt: &(impl Threads + Wait + Abort + Sync), alloc: Global, n: usize, ba
     requires { IsSize n }
 {
     let built = run_nodes(rt, alloc, lions(rt), n, batch, 1, &Free).expect(rt, "a table");
-    assert!(rt; is_table_of_lions(&built.table), "by {n} nodes");
-    assert!(rt; is_done(&built, n), "by {n} nodes");
+    assert!(rt;
+        is_table_of_lions(&built.table) && is_done(&built, n),
+        "by {n} nodes"
+    );
 }
 
 #[test]
-fn the_same_table_by_any_number_of_nodes(rt: HostRuntime) -> Result<(), Fail> {
+fn the_same_table_by_any_number_of_nodes(rt: HostRuntime) {
     builds(&rt, rt.alloc(), 1, 1);
     builds(&rt, rt.alloc(), 2, 1);
     builds(&rt, rt.alloc(), 3, 256);
     builds(&rt, rt.alloc(), 16, 2);
-    Ok(())
+}
+
+// Whether one of two nodes sent ten batches or more to the other, and neither moved more of them than it made turns.
+fn has_met(built: &Built, turns: [u64; 2], sender: usize, taker: usize) -> bool
+    requires sender { sender < 2 }
+    requires taker { taker < 2 }
+{
+    let place = 2 * sender + taker;
+    if built.links.len() != 4 {
+        return false;
+    }
+    let link = &built.links[place];
+    link.sent >= 10 && turns[sender] >= link.sent && turns[taker] >= link.received
 }
 
 #[test]
-fn two_nodes_meet_in_a_build(rt: HostRuntime) -> Result<(), Fail> {
+fn two_nodes_meet_in_a_build(rt: HostRuntime) {
     let gate = Meeting::new();
     let built = run_nodes(&rt, rt.alloc(), lions(&rt), 2, 1, 1, &gate).expect(&rt, "a table");
-    assert!(rt; is_done(&built, 2));
-    assert!(rt; is_table_of_lions(&built.table));
     let turns = [
         gate.first.load(Ordering::SeqCst),
         gate.second.load(Ordering::SeqCst),
     ];
-    assert!(rt; built.links.len() == 4);
-    for (sender, taker) in [(0usize, 1usize), (1, 0)] {
-        let link = &built.links[2 * sender + taker];
-        assert!(rt; link.sent >= 10);
-        assert!(rt; turns[sender] >= link.sent && turns[taker] >= link.received);
-    }
-    Ok(())
+    assert!(rt; is_done(&built, 2) && is_table_of_lions(&built.table));
+    assert!(rt; has_met(&built, turns, 0, 1) && has_met(&built, turns, 1, 0));
 }
 
 #[test]
-fn a_build_whose_second_node_is_held_back(rt: HostRuntime) -> Result<(), Fail> {
-    let Err(fault) = run_nodes(&rt, rt.alloc(), lions(&rt), 2, 1, 1, &FirstAlone) else {
-        panic!(rt; "node 1 is held back")
-    };
-    let held = Fault::Stopped {
-        node: 1,
-        cause: Cause::Held,
-    };
-    assert!(rt; fault == held);
-    Ok(())
+fn a_build_whose_second_node_is_held_back(rt: HostRuntime) {
+    let built = run_nodes(&rt, rt.alloc(), lions(&rt), 2, 1, 1, &FirstAlone);
+    assert!(rt; built.err() == Some(HELD));
 }

@@ -9,7 +9,7 @@ use dob_board::{Board, Halt};
 use dob_node::Cause;
 use dob_pieces::Memory;
 use dob_rank::Classes;
-use dob_run::{Free, Gate, Runner, crew, finish};
+use dob_run::{Built, Free, Gate, Runner, crew, finish};
 use std::alloc::Global;
 use std::process::Abort;
 use std::sync::Wait;
@@ -79,20 +79,20 @@ fn turn_to_the_end(
     }
 }
 
+// Whether each of two nodes has sent ten batches or more to the other.
+fn has_sent(built: &Built) -> bool {
+    built.links.len() == 4 && built.links[1].sent >= 10 && built.links[2].sent >= 10
+}
+
 #[test]
 fn turned_by_hand(rt: HostRuntime) -> Result<(), Fail> {
     let (classes, board, mut first, mut second) = two_runners(&rt, rt.alloc());
     turn_to_the_end(&rt, &mut first, &mut second, &classes);
     assert!(rt; turn_once(&rt, &mut second, &classes, &Free) == Ok(Halt::Ended));
-    assert!(rt; first.stopped());
-    assert!(rt; second.stopped());
+    assert!(rt; first.stopped() && second.stopped());
     let runners = both(rt.alloc(), first, second)?;
     let built = finish(&rt, rt.alloc(), board, runners).expect(&rt, "a table");
-    assert!(rt; is_done(&built, 2));
-    assert!(rt; is_table_of_lions(&built.table));
-    assert!(rt; built.links.len() == 4);
-    assert!(rt; built.links[1].sent >= 10);
-    assert!(rt; built.links[2].sent >= 10);
+    assert!(rt; is_done(&built, 2) && is_table_of_lions(&built.table) && has_sent(&built));
     Ok(())
 }
 
@@ -109,32 +109,60 @@ impl Gate for Counting {
     }
 }
 
-#[test]
-fn held_after_three_turns(rt: HostRuntime) -> Result<(), Fail> {
-    let (classes, _board, mut first, mut second) = two_runners(&rt, rt.alloc());
-    let gate = Counting {
-        most: 3,
-        asked: AtomicUsize::new(0),
-    };
-    assert!(rt; turn_once(&rt, &mut first, &classes, &gate) == Ok(Halt::Running));
-    assert!(rt; turn_once(&rt, &mut second, &classes, &gate) == Ok(Halt::Running));
-    assert!(rt; turn_once(&rt, &mut first, &classes, &gate) == Ok(Halt::Running));
+impl Counting {
+    fn new(most: usize) -> Counting {
+        Counting {
+            most,
+            asked: AtomicUsize::new(0),
+        }
+    }
+}
+
+// A turn of the runner answers that.
+fn answers<G: Gate>(
+    rt: &(impl Wait + Abort),
+    runner: &mut Runner,
+    classes: &Classes,
+    gate: &G,
+    expected: Result<Halt, Cause>,
+)
+    requires { classes.now.set ≡ runner.old.set }
+    ensures { classes.now.set ≡ runner.new.set }
+{
+    assert!(rt; turn_once(rt, runner, classes, gate) == expected);
+}
+
+// The gate lets three turns begin and no fourth, which stops the second runner; that is what the first one sees then.
+fn sees_the_hold(
+    rt: &(impl Wait + Abort),
+    first: &mut Runner,
+    second: &mut Runner,
+    classes: &Classes,
+    gate: &Counting,
+)
+    requires first { classes.now.set ≡ first.old.set }
+    requires second { classes.now.set ≡ second.old.set }
+{
+    answers(rt, first, classes, gate, Ok(Halt::Running));
+    answers(rt, second, classes, gate, Ok(Halt::Running));
+    answers(rt, first, classes, gate, Ok(Halt::Running));
     assert!(rt; gate.asked.load(Ordering::SeqCst) == 3);
-    assert!(rt; turn_once(&rt, &mut second, &classes, &gate) == Err(Cause::Held));
+    answers(rt, second, classes, gate, Err(Cause::Held));
     assert!(rt; gate.asked.load(Ordering::SeqCst) == 4);
     assert!(rt; second.stopped());
-    assert!(rt; turn_once(&rt, &mut first, &classes, &Free) == Ok(Halt::Failed(1)));
-    Ok(())
+    answers(rt, first, classes, &Free, Ok(Halt::Failed(1)));
 }
 
 #[test]
-fn held_after_the_end(rt: HostRuntime) -> Result<(), Fail> {
+fn held_after_three_turns(rt: HostRuntime) {
+    let (classes, _board, mut first, mut second) = two_runners(&rt, rt.alloc());
+    sees_the_hold(&rt, &mut first, &mut second, &classes, &Counting::new(3));
+}
+
+#[test]
+fn held_after_the_end(rt: HostRuntime) {
     let (classes, _board, mut first, mut second) = two_runners(&rt, rt.alloc());
     turn_to_the_end(&rt, &mut first, &mut second, &classes);
-    let gate = Counting {
-        most: 0,
-        asked: AtomicUsize::new(0),
-    };
-    assert!(rt; turn_once(&rt, &mut second, &classes, &gate) == Err(Cause::Held));
-    Ok(())
+    let held = Err(Cause::Held);
+    answers(&rt, &mut second, &classes, &Counting::new(0), held);
 }
