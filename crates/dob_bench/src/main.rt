@@ -16,7 +16,7 @@ mod watch;
 
 use anyhow::{Result, bail};
 use dob_pieces::PieceSet;
-use dob_rank::MOST_PIECES;
+use dob_rank::is_too_large;
 use std::rt::{Clock, Files};
 use std::sync::Wait;
 use std::thread::Threads;
@@ -81,10 +81,10 @@ fn measure_build<R: Print + Clock + AllocGlobal + Files + Threads + Wait + Sync>
     crews::run(rt, small_set(text)?, nodes)
 }
 
-// The piece set of that text, which is to have at most `MOST_PIECES` pieces besides the lions.
+// The piece set of that text, if its classes can be opened.
 fn small_set(text: &str) -> Result<PieceSet> {
     match PieceSet::read(text) {
-        Ok(set) if set.chicks + set.elephants + set.giraffes <= MOST_PIECES => Ok(set),
+        Ok(set) if !is_too_large(set) => Ok(set),
         _ => bail!("no set of up to three pieces besides the lions, as 111\n{USAGE}"),
     }
 }

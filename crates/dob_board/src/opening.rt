@@ -14,11 +14,9 @@ use crate::seat::Words;
 use crate::view::View;
 use crate::{Board, Fault, Halt, NodeSeat};
 use atomic_table::{Seat, Table};
-use dob_safra::{Token, pack};
+use dob_safra::{Token, is_size, pack};
 use std::alloc::{AllocError, Global};
 use std::sync::Arc;
-
-const MAX_NODES: usize = 16;
 
 impl Board {
     /// Opens a board of `nodes` nodes, with the seat of each in their order. At the start nothing is posted or taken, each
@@ -31,7 +29,7 @@ impl Board {
         ensures seats { IfOk result (λ opened. AreSeats opened.0.rest.table_id nodes opened.1.items) }
         ensures fresh { IfOk result (λ opened. map stand_of opened.1.items ≡ replicate nodes (fresh nodes)) }
     {
-        if nodes == 0 || nodes > MAX_NODES {
+        if !is_size(nodes) {
             return Err(Fault::Nodes);
         }
         let words = start_words(alloc, nodes)?;

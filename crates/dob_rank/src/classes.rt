@@ -10,7 +10,7 @@ ghost use Rattle.dob_rank.specs.BoardMasks.{AreMasks};
 use crate::block;
 use crate::block_classes::BlockClasses;
 use crate::fault::Fault;
-use crate::limit::MOST_PIECES;
+use crate::limit::is_too_large;
 use crate::masks::{Masks, masks_of};
 use crate::ranks::{position_by, spot_by};
 use dob_pieces::{PieceSet, Position};
@@ -35,7 +35,7 @@ impl Classes {
         ensures set { IfOk result (λ classes. classes.set ≡ set) }
         ensures too_large { IsErrOf result Fault.SetTooLarge ↔ IsTooLarge set }
     {
-        if set.chicks + set.elephants + set.giraffes > MOST_PIECES {
+        if is_too_large(set) {
             return Err(Fault::SetTooLarge);
         }
         let mut blocks = Vec::new(alloc);

@@ -25,6 +25,6 @@ mod starts;
 
 pub use classes::Classes;
 pub use fault::Fault;
-pub use limit::MOST_PIECES;
+pub use limit::{MOST_PIECES, is_too_large};
 pub use ranks::{rank, representative, size, unrank};
 pub use segmented::{Segments, SegmentsIter};

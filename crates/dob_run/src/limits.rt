@@ -5,7 +5,9 @@ ghost use Rattle.dob_run.specs.Faults.{AreWithin, HasSizeFault, HasStartFault};
 
 use crate::fault::Fault;
 use dob_pieces::PieceSet;
-use dob_rank::{Classes, MOST_PIECES};
+use dob_rank::{Classes, is_too_large};
+use dob_safra::is_size;
+use dob_update::are_sizes;
 use std::alloc::Global;
 
 /// The most items of a batch where the program builds: a batch takes 6 kB for them, and a node's turn, which makes about so
@@ -22,10 +24,10 @@ pub(crate) fn size_passed(n: usize, batch: usize, capacity: usize) -> Option<Fau
     ensures within { IfNone result (AreWithin n batch capacity) }
     ensures passed { IfSome result (HasSizeFault n batch capacity) }
 {
-    if n < 1 || n > 16 {
+    if !is_size(n) {
         return Some(Fault::Nodes);
     }
-    if batch < 1 || batch > 4096 || capacity < 1 || capacity > 1024 {
+    if !are_sizes(batch, capacity) {
         return Some(Fault::Sizes);
     }
     None
@@ -46,7 +48,7 @@ pub(crate) fn classes_within(
     ensures within { OnOk result (IsSmall set × AreWithin n batch capacity) }
     ensures fault { IfErr result (HasStartFault set n batch capacity) }
 {
-    if set.chicks + set.elephants + set.giraffes > MOST_PIECES {
+    if is_too_large(set) {
         return Err(Fault::SetTooLarge);
     }
     if let Some(fault) = size_passed(n, batch, capacity) {

@@ -8,11 +8,13 @@ mod event;
 mod fault;
 pub mod laws;
 mod rules;
+mod size;
 mod token;
 mod word;
 
 pub use event::RingEvent;
 pub use fault::Nodes;
 pub use rules::{may_announce, passed};
+pub use size::is_size;
 pub use token::Token;
 pub use word::{pack, unpack};

@@ -4,6 +4,7 @@ ghost use Rattle.dob_safra.specs.declared.token.Token.{Token};
 ghost use Rattle.dob_safra.specs.Tokens.{IsPacked, IsToken};
 
 use crate::Token;
+use crate::size::MAX_NODES;
 
 // The sum stands in the low 50 bits with this much added, so that it is never negative.
 const SUM_LIMIT: i64 = 1 << 48;
@@ -11,8 +12,6 @@ const SUM_LIMIT: i64 = 1 << 48;
 const BLACK: u64 = 1 << 50;
 
 const NODE: u64 = 1 << 51;
-
-const MAX_NODES: u64 = 16;
 
 /// The word of a token that is at one of 16 nodes and has a sum of -2^48 to 2^48.
 pub fn pack(token: Token) -> u64
@@ -32,7 +31,7 @@ pub fn unpack(word: u64) -> Option<Token>
 {
     let at = word / NODE;
     let sum = word % BLACK;
-    if at >= MAX_NODES || sum > 1 << 49 {
+    if at >= MAX_NODES as u64 || sum > 1 << 49 {
         return None;
     }
     Some(Token {

@@ -7,9 +7,11 @@ mod fault;
 mod items;
 mod outbox;
 mod part;
+mod sizes;
 
 pub use batch::Batch;
 pub use fault::Sizes;
 pub use items::{count_items, item_for, push_items};
 pub use outbox::Outbox;
 pub use part::Part;
+pub use sizes::are_sizes;

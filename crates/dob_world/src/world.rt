@@ -12,7 +12,9 @@ use crate::step::Step;
 use crate::steps::{apply_own, post, receive};
 use dob_node::{Node, Opening, opening};
 use dob_pieces::{Memory, PieceSet};
-use dob_rank::{Classes, MOST_PIECES};
+use dob_rank::{Classes, is_too_large};
+use dob_safra::is_size;
+use dob_update::are_sizes;
 use std::alloc::Global;
 
 /// Nodes of which each owns a share of a piece set's classes, the links between them, the lists of all items that were
@@ -59,13 +61,13 @@ impl World {
         ensures opened { IfOk result (λ world. IsStart (setting_of world) (state_of world)) }
         ensures fault { IfErr result (λ fault. HasSettingFault (record { set = set; n = n; batch = batch; capacity = capacity }) fault) }
     {
-        if set.chicks + set.elephants + set.giraffes > MOST_PIECES {
+        if is_too_large(set) {
             return Err(Fault::SetTooLarge);
         }
-        if n < 1 || n > 16 {
+        if !is_size(n) {
             return Err(Fault::Nodes);
         }
-        if batch < 1 || batch > 4096 || capacity < 1 || capacity > 1024 {
+        if !are_sizes(batch, capacity) {
             return Err(Fault::Sizes);
         }
         let classes = Classes::open(alloc, set)?;

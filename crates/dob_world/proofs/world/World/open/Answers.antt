@@ -1,5 +1,6 @@
 -- The world as it is opened.
 use Rattle.std.proofs.Common.{◌<◌, refl, sym, subst, arith}
+use Rattle.std.proofs.lemmas.Bool.{both_ways}
 use Rattle.dob_world.specs.Worlds.{Setting}
 use Rattle.dob_pieces.specs.declared.piece_set.PieceSet.{PieceSet}
 use Rattle.dob_world.specs.Shown.{world_shown, ring_of, AreOpenedNodes, IsSetting}
@@ -14,14 +15,15 @@ returns-clause-standing c =
     let openings = c.in_ok-openings.openings.items in
     let nodes = c.in_ok-nodes.nodes.items in
     let lanes = c.in_ok-lanes.lanes.items in
-    let some : 0 < c.args.n = omega arith in
+    let size = c.is_size.ensures.0 c.if-not-is_size.false in
+    let some : 0 < c.args.n = size.0 in
     let opened : AreOpenedNodes openings k.set k.n k.n nodes =
     subst (λ st. AreOpenedNodes openings st c.args.n c.args.n nodes) (sym c.in_ok-classes.ensures.set)
     (subst (λ xs. AreOpenedNodes xs c.args.set c.args.n c.args.n nodes) c.deref.ensures.value c.in_ok-nodes.ensures) in
     let setting : IsSetting k = record {
-      small = subst (λ (st : PieceSet). IsSmall st) (sym c.in_ok-classes.ensures.set) (omega arith);
-      nodes = (omega arith, omega arith);
-      sizes = (omega arith, omega arith, omega arith, omega arith);
+      small = subst (λ (st : PieceSet). IsSmall st) (sym c.in_ok-classes.ensures.set) (c.is_too_large.ensures.small c.if-is_too_large.false);
+      nodes = size;
+      sizes = c.are_sizes.ensures.0 c.if-not-are_sizes.false;
     } in
     let detector = c.in_ok-detector.detector in (
       record {
@@ -40,5 +42,16 @@ returns-clause-standing c =
       refl,
     )
 
-pub returns-then-n-lt1-clause-fault : goal.returns-then-n-lt1-clause-fault
-returns-then-n-lt1-clause-fault c = (omega arith, λ size. let low = size.0 in let high = size.1 in absurd (omega arith))
+pub returns-then-not-is_size-clause-fault : goal.returns-then-not-is_size-clause-fault
+returns-then-not-is_size-clause-fault c =
+    (c.is_too_large.ensures.small c.if-is_too_large.false, λ size. both_ways _ c.if-not-is_size.true (c.is_size.ensures.1 size))
+
+pub returns-then-not-are_sizes-clause-fault : goal.returns-then-not-are_sizes-clause-fault
+returns-then-not-are_sizes-clause-fault c = (
+  c.is_too_large.ensures.small c.if-is_too_large.false,
+  c.is_size.ensures.0 c.if-not-is_size.false,
+  λ sizes. both_ways _ c.if-not-are_sizes.true (c.are_sizes.ensures.1 sizes),
+)
+
+pub returns-then-is_too_large-clause-fault : goal.returns-then-is_too_large-clause-fault
+returns-then-is_too_large-clause-fault c = λ small. let large = c.is_too_large.ensures.large c.if-is_too_large.true in absurd (omega (arith, large, small))
