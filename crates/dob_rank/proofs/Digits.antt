@@ -139,7 +139,7 @@ hide_zero [] = refl
 hide_zero (l ∷ ls) = (let head : hidden (order OwnLion) l ≡ order Empty
     = hidden_later (order OwnLion) l (omega arith) in let rest : hide (order OwnLion) ls ≡ replicate (length ls) (order Empty) = hide_zero ls in cc)
 
-hide_all : (ls : List ℕ) → AreLayers ls → hide (order Empty) ls ≡ ls
+pub hide_all : (ls : List ℕ) → AreLayers ls → hide (order Empty) ls ≡ ls
 hide_all [] a = refl
 hide_all (l ∷ ls) a = (let head : hidden (order Empty) l ≡ l
     = elim (cases_lt l (order Empty)) [

@@ -33,6 +33,10 @@ pub mod Representatives  -- one representative and one number a class
 -- Runs of ranks with the same hands and lions.
 pub mod Lions  -- what the lions' columns say
 pub mod RunPlaces  -- a place is a run and a place in it
+pub mod ImageDigits  -- the digits of a mirror image, one after another
+pub mod MixedRuns  -- the marks of mixed runs
+pub mod StretchLists  -- stretches of marks
+pub mod Levels  -- trees of marks
 pub mod RunMarks  -- the marks of runs
 pub mod RunTables  -- the tables of runs and words grow
 pub mod BlockTables  -- the blocks of a set

@@ -34,7 +34,7 @@ pub layers-mirrored : (s : Setup) → length s.board ≡ 12 → map layer (mirro
 unfolding mirrored
 layers-mirrored s eq = layers-of_mirrored s.board eq
 
-hide-mirror : (t : ℕ) (ls : List ℕ) → length ls ≡ 12 → hide t (mirror_layers ls) ≡ mirror_layers (hide t ls)
+pub hide-mirror : (t : ℕ) (ls : List ℕ) → length ls ≡ 12 → hide t (mirror_layers ls) ≡ mirror_layers (hide t ls)
 hide-mirror t (a ∷ b ∷ c ∷ d ∷ e ∷ i ∷ j ∷ k ∷ l ∷ m ∷ n ∷ o ∷ []) eq = refl
 hide-mirror t ls eq = absurd (omega arith)
 
@@ -61,14 +61,14 @@ lions_in-hide ls =
     ap (λ n. n * enemy_squares + choice (order EnemyLion) (hide (order Chicks) ls)) own ∙ ap (λ n. choice (order OwnLion) ls * enemy_squares + n) enemy
 
 -- a list of layers that has both lions, on the squares of their number
-record HasPair (ls : List ℕ) : Type 0 where
+pub record HasPair (ls : List ℕ) : Type 0 where
   squares : length ls ≡ 12
   layers : AreLayers ls
   own_lion : count (order OwnLion) ls ≡ 1
   enemy_lion : count (order EnemyLion) ls ≡ 1
   below : choice (order EnemyLion) ls < enemy_squares
 
-lions_layers-of : (ls : List ℕ) → HasPair ls → lions_layers (lions_in ls) ≡ hide (order Chicks) ls
+pub lions_layers-of : (ls : List ℕ) → HasPair ls → lions_layers (lions_in ls) ≡ hide (order Chicks) ls
 lions_layers-of ls h =
     let below : choice (order EnemyLion) ls < enemy_squares = h.below in
     let own : lions_in ls / enemy_squares ≡ choice (order OwnLion) ls = omega arith in
@@ -93,7 +93,7 @@ image-of_pair ls h =
     ∙ ap (λ xs. lions_in (mirror_layers xs)) (sym (lions_layers-of ls h))
 
 -- so has each position
-HasPair-from_position : (set : PieceSet) (s : Setup) → IsPositionOf set s → HasPair (map layer s.board)
+pub HasPair-from_position : (set : PieceSet) (s : Setup) → IsPositionOf set s → HasPair (map layer s.board)
 HasPair-from_position set s p =
     let h : HasParts set s = HasParts-from_position set s p in
     record {
@@ -181,3 +181,6 @@ first_lions lions below is = ltb-true lions (image_lions lions) (tells_at lions 
 
 pub later_lions : (lions : ℕ) → lions < lion_pairs → run_kind lions ≡ Later → image_lions lions < lions
 later_lions lions below is = ltb-true (image_lions lions) lions (tells_at lions Later below is)
+
+pub mixed_lions : (lions : ℕ) → lions < lion_pairs → run_kind lions ≡ Mixed → lions ≡ image_lions lions
+mixed_lions lions below is = eqb-true lions (image_lions lions) (tells_at lions Mixed below is)

@@ -5,14 +5,16 @@ use Rattle.std.proofs.Math.Nat.{add-mul, mul-le-mul_right}
 use Rattle.dob_pieces.specs.declared.piece_set.PieceSet.{PieceSet}
 use Rattle.dob_rank.specs.declared.block_classes.BlockClasses.{BlockClasses}
 use Rattle.dob_rank.specs.declared.runs.Run.{Run}
-use Rattle.dob_rank.specs.declared.runs.Word.{Word}
+use Rattle.dob_rank.specs.declared.stretches.Stretches.{Stretches}
+use Rattle.dob_rank.specs.Stretches.{local_marks}
+use Rattle.dob_rank.proofs.MixedRuns.{marks_by_lions}
 use Rattle.dob_rank.specs.declared.runs.RunKind.TheVariants.{First, Later, Mixed}
 use Rattle.dob_rank.specs.Numbers.{product, sum_below, block_bases, block_size, start_of}
-use Rattle.dob_rank.specs.Marks.{marks_below, marked, word_of}
+use Rattle.dob_rank.specs.Marks.{marks_below, marked, one_if}
 use Rattle.dob_rank.specs.Runs.{runs_in, run_size, run_start, IsInRun, run_kind, lion_pairs}
-use Rattle.dob_rank.specs.RunTables.{IsRun, AreRuns, run_word, word_len}
+use Rattle.dob_rank.specs.RunTables.{IsRun, AreRuns, IsTable}
 use Rattle.dob_rank.proofs.Blocks.{block_size-small, blocks_small}
-use Rattle.dob_rank.proofs.Words.{marks_below-le, marks_below-all, marks_below-unmarked}
+use Rattle.dob_rank.proofs.Words.{marks_below-le, marks_below-all, marks_below-unmarked, marks_below_more, marks_below_none}
 use Rattle.dob_rank.proofs.ClassNumbers.{IsMarkedAt, one_left}
 use Rattle.dob_rank.proofs.RunPlaces.{block_size-runs, place_in_run, run_start-is, marked_first, marked_later, run_size-some}
 
@@ -84,19 +86,19 @@ run_marks_few set block run local at =
     joined run start first local e = omega arith
 
 -- the place, and the entry of its run
-pub record IsThere (set : PieceSet) (block run local : ℕ) (words : List Word) (entry : Run) : Type 0 where
+pub record IsThere (set : PieceSet) (block run local : ℕ) (tables : List Stretches) (entry : Run) : Type 0 where
   pub in_run : IsInRun set block run local
-  pub entry_is : IsRun set block run words entry
+  pub entry_is : IsRun set block run tables entry
 
-pub run_read : (set : PieceSet) (block count run : ℕ) (runs : List Run) (words : List Word) (entry : Run) → AreRuns set block count runs words → run < count →
-    entry ≡ slice_index_or runs run entry → IsRun set block run words entry
-run_read set block count run runs words entry are below read = subst (IsRun set block run words) (sym read) (are.each run entry below)
+pub run_read : (set : PieceSet) (block count run : ℕ) (runs : List Run) (tables : List Stretches) (entry : Run) → AreRuns set block count runs tables → run < count →
+    entry ≡ slice_index_or runs run entry → IsRun set block run tables entry
+run_read set block count run runs tables entry are below read = subst (IsRun set block run tables) (sym read) (are.each run entry below)
 
 pub there_in : (block : BlockClasses) (run local : ℕ) (entry : Run) → run < runs_in block.set block.number → local < run_size block.set block.number →
-    entry ≡ slice_index_or block.runs.items run entry → IsThere block.set block.number run local block.words.items entry
+    entry ≡ slice_index_or block.runs.items run entry → IsThere block.set block.number run local block.mixed.items entry
 there_in block run local entry run_below local_below read = record {
   in_run = record { block_below = block.within; run_below = run_below; local_below = local_below };
-  entry_is = run_read block.set block.number _ run block.runs.items block.words.items entry block.table (subst (λ n. run < n) (sym block.whole) run_below) read;
+  entry_is = run_read block.set block.number _ run block.runs.items block.mixed.items entry block.table (subst (λ n. run < n) (sym block.whole) run_below) read;
 }
 
 pub size_positive : (set : PieceSet) (block size : ℕ) → block < product (block_bases set) → size ≡ run_size set block → 0 < size
@@ -107,9 +109,9 @@ pub record IsFound (set : PieceSet) (block run local : ℕ) (on : Bool) (before 
   pub mark_is : on ≡ marked set (run_start set block run + local)
   pub before_is : before ≡ marks_below (marked set) (run_start set block run + local)
 
-pub first_found : (set : PieceSet) (block run local : ℕ) (words : List Word) (entry : Run) → IsThere set block run local words entry →
+pub first_found : (set : PieceSet) (block run local : ℕ) (tables : List Stretches) (entry : Run) → IsThere set block run local tables entry →
     run_kind (run % lion_pairs) ≡ First → IsFound set block run local true (entry.before + local)
-first_found set block run local words entry at kind =
+first_found set block run local tables entry at kind =
     let in_run = at.in_run in
     let marks = first_marks set block run local in_run.block_below in_run.run_below (let low = in_run.local_below in omega arith) kind in
     record {
@@ -117,9 +119,9 @@ first_found set block run local words entry at kind =
       before_is = ap (λ n. n + local) at.entry_is.before_is ∙ sym marks;
     }
 
-pub later_found : (set : PieceSet) (block run local : ℕ) (words : List Word) (entry : Run) → IsThere set block run local words entry →
+pub later_found : (set : PieceSet) (block run local : ℕ) (tables : List Stretches) (entry : Run) → IsThere set block run local tables entry →
     run_kind (run % lion_pairs) ≡ Later → IsFound set block run local false entry.before
-later_found set block run local words entry at kind =
+later_found set block run local tables entry at kind =
     let in_run = at.in_run in
     let marks = later_marks set block run local in_run.block_below in_run.run_below (let low = in_run.local_below in omega arith) kind in
     record {
@@ -127,70 +129,80 @@ later_found set block run local words entry at kind =
       before_is = at.entry_is.before_is ∙ sym marks;
     }
 
--- the word of a place in a mixed run
-pub record IsInWord (set : PieceSet) (block run local : ℕ) (words : List Word) (entry : Run) : Type 0 where
-  pub within : entry.word + local / word_len < length words
-  pub word_is : (other : Word) → slice_index_or words (entry.word + local / word_len) other ≡ run_word set block run (local / word_len)
+-- ---- the marks of a mixed run, by its table
 
-pub in_word : (set : PieceSet) (block run local : ℕ) (words : List Word) (entry : Run) → IsThere set block run local words entry →
-    run_kind (run % lion_pairs) ≡ Mixed → (some : Word) → IsInWord set block run local words entry
-in_word set block run local words entry at kind some =
-    let low : word_len * (local / word_len) < run_size set block = below_size local (run_size set block) at.in_run.local_below in
+marks_agree : (f g : ℕ → Bool) (n : ℕ) → ((k : ℕ) → k < n → f k ≡ g k) → marks_below f n ≡ marks_below g n
+marks_agree f g zero same = marks_below_none f ∙ sym (marks_below_none g)
+marks_agree f g (suc n) same =
+    let rest = marks_agree f g n (λ k below. same k (omega arith)) in
+    let here : one_if (f n) ≡ one_if (g n) = ap one_if (same n (omega arith)) in
+    omega (arith, rest, here, marks_below_more f n, marks_below_more g n)
+
+marks_from : (mark : ℕ → Bool) (from n : ℕ) → marks_below mark from + marks_below (λ k. mark (from + k)) n ≡ marks_below mark (from + n)
+marks_from mark from zero =
+    let none = marks_below_none (λ k. mark (from + k)) in
+    let same : marks_below mark from ≡ marks_below mark (from + 0) = ap (marks_below mark) (let e : from ≡ from + 0 = omega arith in e) in
+    omega (arith, none, same)
+marks_from mark from (suc n) =
+    let rest = marks_from mark from n in
+    let more = marks_below_more (λ k. mark (from + k)) n in
+    let next = marks_below_more mark (from + n) in
+    let same : marks_below mark (suc (from + n)) ≡ marks_below mark (from + suc n) = ap (marks_below mark) (let e : suc (from + n) ≡ from + suc n = omega arith in e) in
+    omega (arith, rest, more, next, same)
+
+lions_run : (run : ℕ) → run % lion_pairs % lion_pairs ≡ run % lion_pairs
+lions_run run = omega arith
+
+-- the marks before a place of a run of those lions
+pub marks_by_table : (set : PieceSet) (block run n : ℕ) → block < product (block_bases set) → run < runs_in set block → n ≤ run_size set block →
+    run_kind (run % lion_pairs) ≡ Mixed →
+    marks_below (marked set) (run_start set block run) + marks_below (local_marks set block (run % lion_pairs)) n ≡ marks_below (marked set) (run_start set block run + n)
+marks_by_table set block run n within there upto kind =
+    let lower : run % lion_pairs ≤ run = omega arith in
+    ap (λ m. marks_below (marked set) (run_start set block run) + m)
+    (marks_agree (local_marks set block (run % lion_pairs)) (local_marks set block run) n (λ k below.
+    sym (marks_by_lions set block run (run % lion_pairs) k
+    (record { block_below = within; run_below = there; local_below = omega (arith, below, upto) })
+    (record { block_below = within; run_below = omega (arith, lower, there); local_below = omega (arith, below, upto) })
+    (sym (lions_run run)) kind)))
+    ∙ marks_from (marked set) (run_start set block run) n
+
+table_read : (set : PieceSet) (block run local : ℕ) (tables : List Stretches) (entry : Run) (table : Stretches) → IsThere set block run local tables entry →
+    run_kind (run % lion_pairs) ≡ Mixed → table ≡ slice_index_or tables entry.table table → IsTable set block (run % lion_pairs) table
+table_read set block run local tables entry table at kind read =
+    subst (IsTable set block (run % lion_pairs)) (sym read) ((at.entry_is.table_is kind).1 table)
+
+-- the table has the place
+pub table_local : (set : PieceSet) (block run local : ℕ) (tables : List Stretches) (entry : Run) (table : Stretches) →
+    IsThere set block run local tables entry → run_kind (run % lion_pairs) ≡ Mixed → table ≡ slice_index_or tables entry.table table →
+    local < run_size table.set table.block
+table_local set block run local tables entry table at kind read =
+    let is = table_read set block run local tables entry table at kind read in
+    subst (λ s. local < run_size s table.block) (sym is.set_is) (subst (λ b. local < run_size set b) (sym is.block_is) at.in_run.local_below)
+
+-- what the table's answer says of the place
+pub mixed_found : (set : PieceSet) (block run local : ℕ) (tables : List Stretches) (entry : Run) (table : Stretches) (on : Bool) (number : ℕ) →
+    IsThere set block run local tables entry → run_kind (run % lion_pairs) ≡ Mixed → table ≡ slice_index_or tables entry.table table →
+    on ≡ marked table.set (run_start table.set table.block table.run + local) → number ≡ marks_below (local_marks table.set table.block table.run) local →
+    IsFound set block run local on (entry.before + number)
+mixed_found set block run local tables entry table on number at kind read on_is number_is =
+    let in_run = at.in_run in
+    let low = in_run.local_below in
+    let lower : run % lion_pairs ≤ run = omega arith in
+    let is = table_read set block run local tables entry table at kind read in
+    let marks : (n : ℕ) → local_marks table.set table.block table.run n ≡ local_marks set block (run % lion_pairs) n =
+    λ n. ap (λ s. local_marks s table.block table.run n) is.set_is ∙ ap (λ b. local_marks set b table.run n) is.block_is
+    ∙ ap (λ r. local_marks set block r n) is.run_is in
     record {
-      within = (at.entry_is.words_are kind (local / word_len) some low).0;
-      word_is = λ other. (at.entry_is.words_are kind (local / word_len) other low).1;
+      mark_is = on_is ∙ marks local
+          ∙ sym (marks_by_lions set block run (run % lion_pairs) local in_run
+          (record { block_below = in_run.block_below; run_below = (let below = in_run.run_below in omega (arith, lower, below)); local_below = low })
+          (sym (lions_run run)) kind);
+      before_is = ap (λ n. n + number) at.entry_is.before_is
+          ∙ ap (λ n. marks_below (marked set) (run_start set block run) + n)
+          (number_is ∙ marks_agree (local_marks table.set table.block table.run) (local_marks set block (run % lion_pairs)) local (λ k below. marks k))
+          ∙ marks_by_table set block run local in_run.block_below in_run.run_below (omega (arith, low)) kind;
     }
-  where
-    below_size : (n size : ℕ) → n < size → word_len * (n / word_len) < size
-    below_size n size h = omega arith
-
--- what its word says of the place
-pub record IsWordOf (mark : ℕ → Bool) (from len : ℕ) (word : Word) : Type 0 where
-  pub bits_are : word.bits ≡ word_of mark from len
-  pub before_is : word.before ≡ marks_below mark from
-
-run_word-is : (set : PieceSet) (block run number : ℕ) →
-    IsWordOf (marked set) (run_start set block run + word_len * number) (min (run_size set block - word_len * number) word_len) (run_word set block run number)
-unfolding run_word
-run_word-is set block run number = record { bits_are = refl; before_is = refl }
-
-pub word_there : (set : PieceSet) (block run local : ℕ) (words : List Word) (entry : Run) (word : Word) → IsInWord set block run local words entry →
-    word ≡ slice_index_or words (entry.word + local / word_len) word →
-    IsWordOf (marked set) (run_start set block run + word_len * (local / word_len)) (min (run_size set block - word_len * (local / word_len)) word_len) word
-word_there set block run local words entry word at read =
-    subst (IsWordOf (marked set) (run_start set block run + word_len * (local / word_len)) (min (run_size set block - word_len * (local / word_len)) word_len))
-    (sym (read ∙ at.word_is word)) (run_word-is set block run (local / word_len))
-
--- the place in the word
-pub record IsPlaceInWord (set : PieceSet) (block run local : ℕ) : Type 0 where
-  pub below : local % word_len < min (run_size set block - word_len * (local / word_len)) word_len
-  pub whole : run_start set block run + word_len * (local / word_len) + local % word_len ≡ run_start set block run + local
-
-pub place_in_word : (set : PieceSet) (block run local : ℕ) → local < run_size set block → IsPlaceInWord set block run local
-place_in_word set block run local below = record {
-  below = in_both local (run_size set block) below;
-  whole = joined (run_start set block run) local;
-}
-  where
-    in_both : (n size : ℕ) → n < size → n % word_len < min (size - word_len * (n / word_len)) word_len
-    in_both n size h = omega arith
-
-    joined : (run n : ℕ) → run + word_len * (n / word_len) + n % word_len ≡ run + n
-    joined run n = omega arith
-
-pub word_small : (set : PieceSet) (block run local len : ℕ) (word : Word) → IsInRun set block run local →
-    IsWordOf (marked set) (run_start set block run + word_len * (local / word_len)) len word → word.before ≤ 2 ^ 60
-word_small set block run local len word at is =
-    let upto = marks_below-le (marked set) (run_start set block run + word_len * (local / word_len)) in
-    let start = start_small set block (let there = at.block_below in omega arith) in
-    let small = block_size-small set block at.block_below in
-    let below = place_in_run set block run local at in
-    bounded word.before (marks_below (marked set) (run_start set block run + word_len * (local / word_len))) (run_start set block run) local
-    (start_of set block) (run * run_size set block) (block_size set block) is.before_is upto (run_start-is set block run) start below small
-  where
-    bounded : (before marks run n start first size : ℕ) → before ≡ marks → marks ≤ run + word_len * (n / word_len) → run ≡ start + first → start ≤ 27 * 2 ^ 36 →
-        first + n < size → size ≤ 2 ^ 36 → before ≤ 2 ^ 60
-    bounded before marks run n start first size a b c d e f = omega arith
 
 -- ---- searches
 
@@ -296,10 +308,6 @@ pub last_place : (mark : ℕ → Bool) (start low high class : ℕ) → low < hi
     class < marks_below mark (start + high) → IsMarkedAt mark (start + low) class
 last_place mark start low high class some near low_is high_is =
     one_left mark (start + low) (start + high) class (omega arith) (omega arith) low_is high_is
-
--- a word of a run ends within it
-pub word_ends : (size word len : ℕ) → word < (size + word_len - 1) / word_len → len ≡ min (size - word_len * word) word_len → word_len * word + len ≤ size
-word_ends size word len inside is = omega arith
 
 pub run_marks_small : (set : PieceSet) (block run : ℕ) → block < product (block_bases set) → run ≤ runs_in set block →
     marks_below (marked set) (run_start set block run) ≤ 2 ^ 42

@@ -32,19 +32,19 @@ use Rattle.dob_rank.proofs.Lions.{mirror_layers, layers-mirrored, image_lions, l
 abbrev hand_bases : PieceSet → List ℕ → List ℕ
 hand_bases set ob = (set.chicks - get_or ob 0 0 + 1) ∷ (set.elephants - get_or ob 1 0 + 1) ∷ (set.giraffes - get_or ob 2 0 + 1) ∷ []
 
-abbrev hand_digits : Setup → List ℕ
+abbrev pub hand_digits : Setup → List ℕ
 hand_digits s = s.hands.mover.chicks ∷ s.hands.mover.elephants ∷ s.hands.mover.giraffes ∷ []
 
-abbrev lions_digits : Setup → List ℕ
+abbrev pub lions_digits : Setup → List ℕ
 lions_digits s = choice (order OwnLion) (map layer s.board) ∷ choice (order EnemyLion) (map layer s.board) ∷ []
 
-abbrev local_digits : Setup → List ℕ
+abbrev pub local_digits : Setup → List ℕ
 local_digits s =
     choice (order Chicks) (map layer s.board) ∷ choice (order Elephants) (map layer s.board) ∷ choice (order Giraffes) (map layer s.board)
     ∷ forms_number (order Chicks) s.board ∷ forms_number (order Elephants) s.board ∷ forms_number (order Giraffes) s.board ∷ []
 
 -- the number of the hands, and the size of the run
-hand_of : PieceSet → Setup → ℕ
+pub hand_of : PieceSet → Setup → ℕ
 hand_of set s = number_of (hand_bases set (on_board s)) (hand_digits s)
 
 pub local_size : Setup → ℕ
@@ -55,7 +55,7 @@ unfolding run_of local_of local_size
 place_of-run set s =
     number_of-append (run_bases set (on_board s)) (local_bases (on_board s)) (hand_digits s ++ lions_digits s) (local_digits s) refl
 
-run_of-lions : (set : PieceSet) (s : Setup) → run_of set s ≡ hand_of set s * lion_pairs + lions_of s
+pub run_of-lions : (set : PieceSet) (s : Setup) → run_of set s ≡ hand_of set s * lion_pairs + lions_of s
 unfolding run_of hand_of
 run_of-lions set s =
     let split : number_of (run_bases set (on_board s)) (hand_digits s ++ lions_digits s)
@@ -63,7 +63,7 @@ run_of-lions set s =
     number_of-append (hand_bases set (on_board s)) (own_squares ∷ enemy_squares ∷ []) (hand_digits s) (lions_digits s) refl in
     omega (arith, split)
 
-local_of-below : (set : PieceSet) (s : Setup) → IsPositionOf set s → local_of s < local_size s
+pub local_of-below : (set : PieceSet) (s : Setup) → IsPositionOf set s → local_of s < local_size s
 unfolding local_of local_size
 local_of-below set s p =
     number_of-below (local_bases (on_board s)) (local_digits s) (HasDigits-digits set s (HasParts-from_position set s p)).1.1.1.1.1
@@ -77,18 +77,18 @@ count-mirror t ls eq = absurd (omega arith)
 three : (a b c d e f : ℕ) → a ≡ d → b ≡ e → c ≡ f → a ∷ b ∷ c ∷ [] ≡ d ∷ e ∷ f ∷ []
 three a b c d e f p q r = cc
 
-on_board-mirrored : (s : Setup) → length s.board ≡ 12 → on_board (mirrored s) ≡ on_board s
+pub on_board-mirrored : (s : Setup) → length s.board ≡ 12 → on_board (mirrored s) ≡ on_board s
 on_board-mirrored s eq =
     let twelve : length (map layer s.board) ≡ 12 = length-map s.board layer ∙ eq in
     let same : (t : ℕ) → count t (map layer (mirrored s).board) ≡ count t (map layer s.board) =
     λ t. ap (count t) (layers-mirrored s eq) ∙ count-mirror t (map layer s.board) twelve in
     three _ _ _ _ _ _ (same 2) (same 3) (same 4)
 
-hand_of-mirrored : (set : PieceSet) (s : Setup) → length s.board ≡ 12 → hand_of set (mirrored s) ≡ hand_of set s
+pub hand_of-mirrored : (set : PieceSet) (s : Setup) → length s.board ≡ 12 → hand_of set (mirrored s) ≡ hand_of set s
 unfolding hand_of mirrored
 hand_of-mirrored set s eq = ap (λ xs. number_of (hand_bases set xs) (hand_digits s)) (on_board-mirrored s eq)
 
-local_size-mirrored : (s : Setup) → length s.board ≡ 12 → local_size (mirrored s) ≡ local_size s
+pub local_size-mirrored : (s : Setup) → length s.board ≡ 12 → local_size (mirrored s) ≡ local_size s
 unfolding local_size
 local_size-mirrored s eq = ap (λ xs. product (local_bases xs)) (on_board-mirrored s eq)
 
@@ -103,13 +103,13 @@ runs_apart hand low high size local other less below =
     digit_below (hand * lion_pairs + low) (hand * lion_pairs + high) size local (omega arith) below in
     omega (arith, step)
 
-place-parts : (set : PieceSet) (s : Setup) (size lions : ℕ) → local_size s ≡ size → lions_of s ≡ lions →
+pub place-parts : (set : PieceSet) (s : Setup) (size lions : ℕ) → local_size s ≡ size → lions_of s ≡ lions →
     place_of set s ≡ (hand_of set s * lion_pairs + lions) * size + local_of s
 place-parts set s size lions same is =
     place_of-run set s ∙ ap (λ n. run_of set s * n + local_of s) same
     ∙ ap (λ n. n * size + local_of s) (run_of-lions set s ∙ ap (λ n. hand_of set s * lion_pairs + n) is)
 
-image-parts : (set : PieceSet) (s : Setup) → IsPositionOf set s →
+pub image-parts : (set : PieceSet) (s : Setup) → IsPositionOf set s →
     place_of set (mirrored s) ≡ (hand_of set s * lion_pairs + image_lions (lions_of s)) * local_size s + local_of (mirrored s)
 image-parts set s p =
     place-parts set (mirrored s) (local_size s) (image_lions (lions_of s)) (local_size-mirrored s p.legal.squares) (lions_of-mirrored set s p)
@@ -153,7 +153,7 @@ block_size-runs set block =
     let ob = digits_of (block_bases set) block in
     block_size-product set block ∙ product-append (run_bases set ob) (local_bases ob)
 
-local_size-block : (set : PieceSet) (block : ℕ) (s : Setup) → IsPositionOf set s → block_of set s ≡ block → local_size s ≡ run_size set block
+pub local_size-block : (set : PieceSet) (block : ℕ) (s : Setup) → IsPositionOf set s → block_of set s ≡ block → local_size s ≡ run_size set block
 unfolding local_size run_size
 local_size-block set block s p is =
     ap (λ xs. product (local_bases xs)) (sym (on_board-block set s p) ∙ ap (digits_of (block_bases set)) is)
@@ -235,7 +235,7 @@ spot_there set s of block run local p of_is block_is run_is local_is =
     (subst (λ n. HasSpot set s set (block_of set s) n local) (sym run_is)
     (subst (λ n. HasSpot set s set (block_of set s) (run_of set s) n) (sym local_is) (own_spot set s p))))
 
-mark_at : (set : PieceSet) (block run local : ℕ) (s : Setup) (on : Bool) → StandsIn set block run local s → is_first set (rank_of set s) ≡ on →
+pub mark_at : (set : PieceSet) (block run local : ℕ) (s : Setup) (on : Bool) → StandsIn set block run local s → is_first set (rank_of set s) ≡ on →
     marked set (run_start set block run + local) ≡ on
 mark_at set block run local s on there is =
     ap (marked set) (sym there.rank_is) ∙ marked-first_of set (rank_of set s) (rank_of-below set s there.position) ∙ is
@@ -273,7 +273,7 @@ marked_later set block run local h kind =
 
 -- ---- how many runs, and of which size
 
-positive_locals : (set : PieceSet) (ob : List ℕ) → All (λ (n : ℕ). 0 < n) (bases_by set ob) → All (λ (n : ℕ). 0 < n) (local_bases ob)
+pub positive_locals : (set : PieceSet) (ob : List ℕ) → All (λ (n : ℕ). 0 < n) (bases_by set ob) → All (λ (n : ℕ). 0 < n) (local_bases ob)
 positive_locals set ob all k other below = all (suc (suc (suc (suc (suc k))))) other (omega arith)
 
 positive_runs : (set : PieceSet) (ob : List ℕ) → All (λ (n : ℕ). 0 < n) (bases_by set ob) → All (λ (n : ℕ). 0 < n) (run_bases set ob)

@@ -1,219 +1,120 @@
--- The tables of runs and words as they grow.
-use Rattle.std.proofs.Common.{◌≡◌, ℕ, ◌+◌, ◌-◌, ◌*◌, ◌/◌, ◌%◌, ◌<◌, ◌≤◌, min, List, [], ◌∷◌, ◌++◌, length, map, slice_index_or, ◌^◌}
-use Rattle.std.proofs.Common.{append_assoc, refl, sym, ap, ◌∙◌, subst, inl, inr, arith}
-use Rattle.std.specs.List.{range_with_len}
+-- The tables of runs and of their marks as they grow.
+use Rattle.std.proofs.Common.{◌≡◌, ℕ, ◌+◌, ◌-◌, ◌*◌, ◌%◌, ◌<◌, ◌≤◌, List, [], ◌∷◌, ◌++◌, length, slice_index_or, refl, sym, ap, ◌∙◌, subst, inl, inr, arith}
 use Rattle.std.proofs.lemmas.Bool.{cases_lt}
-use Rattle.std.proofs.lemmas.List.{length-append, length_push, get_or_append_left, get_or-append_right, get_or_push}
-use Rattle.std.proofs.lemmas.List.FromFn.{length-map-range_with_len, get_or-map-range_with_len, map-range_with_len_more}
-use lib.Count.{ones}
+use Rattle.std.proofs.lemmas.List.{length-append, length_push, get_or_append_left, get_or_push}
 use Rattle.dob_pieces.specs.declared.piece_set.PieceSet.{PieceSet}
 use Rattle.dob_rank.specs.declared.runs.Run.{Run}
-use Rattle.dob_rank.specs.declared.runs.Word.{Word}
 use Rattle.dob_rank.specs.declared.runs.RunKind.{RunKind}
 use Rattle.dob_rank.specs.declared.runs.RunKind.TheVariants.{First, Later, Mixed}
-use Rattle.dob_rank.specs.Numbers.{product, block_bases, block_size, start_of}
-use Rattle.dob_rank.specs.Marks.{marks_below, marked, word_of}
+use Rattle.dob_rank.specs.declared.stretches.Stretches.{Stretches}
+use Rattle.dob_rank.specs.Numbers.{product, block_bases}
+use Rattle.dob_rank.specs.Marks.{marks_below, marked}
 use Rattle.dob_rank.specs.Runs.{runs_in, run_size, run_start, run_kind, lion_pairs}
-use Rattle.dob_rank.specs.RunTables.{IsRun, AreRuns, run_word, run_words, kept_words, words_by_kind, word_len}
-use Rattle.dob_rank.proofs.Blocks.{block_size-small}
-use Rattle.dob_rank.proofs.Words.{ones-word_of, marks_below-le}
-use Rattle.dob_rank.proofs.RunPlaces.{run_start-is}
-use Rattle.dob_rank.proofs.RunMarks.{run_start_next, run_upto, start_small, first_marks, later_marks}
+use Rattle.dob_rank.specs.Stretches.{local_marks}
+use Rattle.dob_rank.specs.RunTables.{IsRun, AreRuns, IsTable, HasTable}
+use Rattle.dob_rank.proofs.RunMarks.{run_start_next, first_marks, later_marks, marks_by_table}
 
--- ---- the words of a run
+-- ---- how many marks a run has
 
-abbrev make_word : ℕ → ℕ → Word
-make_word bits before = record { bits = bits; before = before }
-
--- one more word of a run
-pub record IsNextWord (set : PieceSet) (block run size word bits before count number : ℕ) : Type 0 where
-  pub word_is : make_word bits (before + count) ≡ run_word set block run word
-  pub count_is : before + (count + number) ≡ marks_below (marked set) (run_start set block run + min (word_len * (word + 1)) size)
-  pub small : before + (count + number) ≤ 2 ^ 42
-
-pub next_word : (set : PieceSet) (block run size word len bits before count number : ℕ) → block < product (block_bases set) → run < runs_in set block →
-    size ≡ run_size set block → word < (size + word_len - 1) / word_len → len ≡ min (size - word_len * word) word_len →
-    bits ≡ word_of (marked set) (run_start set block run + word_len * word) len → number ≡ ones bits →
-    before + count ≡ marks_below (marked set) (run_start set block run + min (word_len * word) size) →
-    IsNextWord set block run size word bits before count number
-unfolding run_word
-next_word set block run size word len bits before count number within below is inside len_is bits_is counted so_far =
-    let mark = marked set in
-    let start : run_start set block run ≡ start_of set block + run * size = run_start-is set block run ∙ ap (λ n. start_of set block + run * n) (sym is) in
-    let here : min (word_len * word) size ≡ word_len * word = all_inside word size inside in
-    let first : before + count ≡ marks_below mark (run_start set block run + word_len * word) =
-    so_far ∙ ap (λ n. marks_below mark (run_start set block run + n)) here in
-    let len_of : len ≡ min (run_size set block - word_len * word) word_len = len_is ∙ ap (λ n. min (n - word_len * word) word_len) is in
-    let end : run_start set block run + word_len * word + len ≡ run_start set block run + min (word_len * (word + 1)) size =
-    word_end (run_start set block run) word len size len_is inside in
-    let sum : marks_below mark (run_start set block run + word_len * word) + ones (word_of mark (run_start set block run + word_len * word) len)
-    ≡ marks_below mark (run_start set block run + word_len * word + len) = ones-word_of mark (run_start set block run + word_len * word) len in
-    let more : number ≡ ones (word_of mark (run_start set block run + word_len * word) len) = counted ∙ ap ones bits_is in
-    let total : before + (count + number) ≡ marks_below mark (run_start set block run + min (word_len * (word + 1)) size) =
-    summed before count number (marks_below mark (run_start set block run + word_len * word)) _ _ first more sum ∙ ap (marks_below mark) end in
-    let few = marks_below-le mark (run_start set block run + min (word_len * (word + 1)) size) in
-    let upto = run_upto set block run size below is in
-    let first_small = start_small set block (omega arith) in
-    let block_small = block_size-small set block within in
-    record {
-      word_is = ap (λ n. make_word n (before + count)) (bits_is ∙ ap (word_of mark (run_start set block run + word_len * word)) len_of)
-          ∙ ap (make_word (word_of mark (run_start set block run + word_len * word) (min (run_size set block - word_len * word) word_len))) first;
-      count_is = total;
-      small = bounded (before + (count + number)) (marks_below mark (run_start set block run + min (word_len * (word + 1)) size))
-          (run_start set block run) word size (start_of set block) (run * size) (block_size set block) total few start upto first_small block_small;
-    }
-  where
-    all_inside : (word size : ℕ) → word < (size + word_len - 1) / word_len → min (word_len * word) size ≡ word_len * word
-    all_inside word size h = omega arith
-
-    word_end : (run word len size : ℕ) → len ≡ min (size - word_len * word) word_len → word < (size + word_len - 1) / word_len
-        → run + word_len * word + len ≡ run + min (word_len * (word + 1)) size
-    word_end run word len size e h = omega arith
-
-    summed : (before count number first ones end : ℕ) → before + count ≡ first → number ≡ ones → first + ones ≡ end → before + (count + number) ≡ end
-    summed before count number first ones end a b c = omega arith
-
-    bounded : (sum marks run word size start first block : ℕ) → sum ≡ marks → marks ≤ run + min (word_len * (word + 1)) size → run ≡ start + first →
-        first + size ≤ block → start ≤ 27 * 2 ^ 36 → block ≤ 2 ^ 36 → sum ≤ 2 ^ 42
-    bounded sum marks run word size start first block a b c d e f = omega arith
-
--- the words of a run, one after another
-pub words_more : (set : PieceSet) (block run word : ℕ) (olds words news : List Word) (next : Word) →
-    words ≡ olds ++ map (run_word set block run) (range_with_len 0 word) → next ≡ run_word set block run word → news ≡ words ++ next ∷ [] →
-    news ≡ olds ++ map (run_word set block run) (range_with_len 0 (word + 1))
-words_more set block run word olds words news next so_far is grown =
-    grown ∙ ap (λ ws. ws ++ next ∷ []) so_far
-    ∙ append_assoc olds (map (run_word set block run) (range_with_len 0 word)) (next ∷ [])
-    ∙ ap (λ w. olds ++ (map (run_word set block run) (range_with_len 0 word) ++ w ∷ [])) is
-    ∙ ap (λ ws. olds ++ ws) (sym (map-range_with_len_more (run_word set block run) 0 word word (omega arith)))
-
-pub words_all : (set : PieceSet) (block run word size : ℕ) → size ≡ run_size set block → word ≤ (size + word_len - 1) / word_len
-    → (size + word_len - 1) / word_len ≤ word →
-    map (run_word set block run) (range_with_len 0 word) ≡ run_words set block run
-unfolding run_words
-words_all set block run word size is upto past =
-    ap (λ n. map (run_word set block run) (range_with_len 0 n)) (same word size (run_size set block) is upto past)
-  where
-    same : (word size run : ℕ) → size ≡ run → word ≤ (size + word_len - 1) / word_len → (size + word_len - 1) / word_len ≤ word
-        → word ≡ (run + (word_len - 1)) / word_len
-    same word size run a b c = omega arith
-
-pub count_all : (set : PieceSet) (block run word size total : ℕ) → size ≡ run_size set block → (size + word_len - 1) / word_len ≤ word →
-    total ≡ marks_below (marked set) (run_start set block run + min (word_len * word) size) → total ≡ marks_below (marked set) (run_start set block (run + 1))
-count_all set block run word size total is past so_far =
-    so_far ∙ ap (marks_below (marked set)) (ap (λ n. run_start set block run + n) (whole word size past ∙ is) ∙ sym (run_start_next set block run))
-  where
-    whole : (word size : ℕ) → (size + word_len - 1) / word_len ≤ word → min (word_len * word) size ≡ size
-    whole word size h = omega arith
-
-pub none_yet : (set : PieceSet) (block run size before : ℕ) → before ≡ marks_below (marked set) (run_start set block run) →
-    before + 0 ≡ marks_below (marked set) (run_start set block run + min (word_len * 0) size)
-none_yet set block run size before is =
-    let same : run_start set block run ≡ run_start set block run + min (word_len * 0) size = omega arith in
-    plus_none before _ (is ∙ ap (marks_below (marked set)) same)
-  where
-    plus_none : (a b : ℕ) → a ≡ b → a + 0 ≡ b
-    plus_none a b e = omega arith
-
--- ---- the words kept of a run, by its kind
-
-pub kept_by : (set : PieceSet) (block run : ℕ) (kind : RunKind) → run_kind (run % lion_pairs) ≡ kind
-    → kept_words set block run ≡ words_by_kind kind (run_words set block run)
-kept_by set block run kind is = ap (λ k. words_by_kind k (run_words set block run)) is
-
-pub count_first : (set : PieceSet) (block run size before : ℕ) → block < product (block_bases set) → run < runs_in set block → size ≡ run_size set block →
-    before ≡ marks_below (marked set) (run_start set block run) → run_kind (run % lion_pairs) ≡ First
-    → before + size ≡ marks_below (marked set) (run_start set block (run + 1))
-count_first set block run size before within below is before_is kind =
-    ap (λ n. n + size) before_is ∙ ap (λ n. marks_below (marked set) (run_start set block run) + n) is
+pub count_first : (set : PieceSet) (block run size : ℕ) → block < product (block_bases set) → run < runs_in set block → size ≡ run_size set block →
+    run_kind (run % lion_pairs) ≡ First → marks_below (marked set) (run_start set block run) + size ≡ marks_below (marked set) (run_start set block (run + 1))
+count_first set block run size within below is kind =
+    ap (λ n. marks_below (marked set) (run_start set block run) + n) is
     ∙ sym (first_marks set block run (run_size set block) within below (omega arith) kind)
     ∙ ap (marks_below (marked set)) (sym (run_start_next set block run))
 
-pub count_later : (set : PieceSet) (block run before : ℕ) → block < product (block_bases set) → run < runs_in set block →
-    before ≡ marks_below (marked set) (run_start set block run) → run_kind (run % lion_pairs) ≡ Later
-    → before + 0 ≡ marks_below (marked set) (run_start set block (run + 1))
-count_later set block run before within below before_is kind =
-    plus_none before _ (before_is ∙ sym (later_marks set block run (run_size set block) within below (omega arith) kind)
+pub count_later : (set : PieceSet) (block run : ℕ) → block < product (block_bases set) → run < runs_in set block →
+    run_kind (run % lion_pairs) ≡ Later → marks_below (marked set) (run_start set block run) + 0 ≡ marks_below (marked set) (run_start set block (run + 1))
+count_later set block run within below kind =
+    plus_none _ _ (sym (later_marks set block run (run_size set block) within below (omega arith) kind)
     ∙ ap (marks_below (marked set)) (sym (run_start_next set block run)))
   where
     plus_none : (a b : ℕ) → a ≡ b → a + 0 ≡ b
     plus_none a b e = omega arith
 
+pub count_mixed : (set : PieceSet) (block run number : ℕ) (tables : List Stretches) (table : Stretches) → block < product (block_bases set) →
+    run < runs_in set block → HasTable set block run number tables → run_kind (run % lion_pairs) ≡ Mixed → table ≡ slice_index_or tables number table →
+    marks_below (marked set) (run_start set block run) + table.count ≡ marks_below (marked set) (run_start set block (run + 1))
+count_mixed set block run number tables table within below has kind read =
+    let is : IsTable set block (run % lion_pairs) table = subst (IsTable set block (run % lion_pairs)) (sym read) ((has kind).1 table) in
+    ap (λ n. marks_below (marked set) (run_start set block run) + n)
+    (table.counted
+    ∙ ap (λ s. marks_below (local_marks s table.block table.run) (run_size s table.block)) is.set_is
+    ∙ ap (λ b. marks_below (local_marks set b table.run) (run_size set b)) is.block_is
+    ∙ ap (λ r. marks_below (local_marks set block r) (run_size set block)) is.run_is)
+    ∙ marks_by_table set block run (run_size set block) within below (omega arith) kind
+    ∙ ap (marks_below (marked set)) (sym (run_start_next set block run))
+
+-- ---- the tables of marks
+
+-- a table stays where it is when more are added
+HasTable-more : (set : PieceSet) (block run number : ℕ) (tables more : List Stretches) → HasTable set block run number tables →
+    HasTable set block run number (tables ++ more)
+HasTable-more set block run number tables more has kind =
+    let old = has kind in (
+      (let long = length-append tables more in let inside = old.0 in omega (arith, long, inside)),
+      λ other. subst (IsTable set block (run % lion_pairs)) (sym (get_or_append_left tables more other number old.0)) (old.1 other),
+    )
+
+pub AreRuns-more : (set : PieceSet) (block count : ℕ) (runs : List Run) (tables news : List Stretches) (table : Stretches) → news ≡ tables ++ table ∷ [] →
+    AreRuns set block count runs tables → AreRuns set block count runs news
+AreRuns-more set block count runs tables news table grown are = record {
+  long = are.long;
+  each = λ run other below.
+      (let is = are.each run other below in
+      record {
+        before_is = is.before_is;
+        kind_is = is.kind_is;
+        table_is = subst (HasTable set block run (slice_index_or runs run other).table) (sym grown)
+            (HasTable-more set block run (slice_index_or runs run other).table tables (table ∷ []) is.table_is);
+      });
+}
+
+-- the table just made of the first run of its lions
+pub HasTable-new : (set : PieceSet) (block run number : ℕ) (tables news : List Stretches) (table : Stretches) → run < lion_pairs → number ≡ length tables →
+    news ≡ tables ++ table ∷ [] → table.set ≡ set → table.block ≡ block → table.run ≡ run → HasTable set block run number news
+HasTable-new set block run number tables news table first at grown set_is block_is run_is kind =
+    let long = length_push tables table in
+    let lions : run ≡ run % lion_pairs = omega (arith, first) in (
+      subst (λ (ts : List Stretches). number < length ts) (sym grown) (omega (arith, at, long)),
+      λ other. subst (λ (ts : List Stretches). IsTable set block (run % lion_pairs) (slice_index_or ts number other)) (sym grown)
+          (subst (IsTable set block (run % lion_pairs)) (sym (get_or_push tables table other number (sym at)))
+          (record { set_is = set_is; block_is = block_is; run_is = run_is ∙ lions })),
+    )
+
+-- and that of a later one is the same
+pub HasTable-again : (set : PieceSet) (block run : ℕ) (runs : List Run) (tables : List Stretches) (entry : Run) → AreRuns set block run runs tables →
+    lion_pairs ≤ run → entry ≡ slice_index_or runs (run % lion_pairs) entry → HasTable set block run entry.table tables
+HasTable-again set block run runs tables entry are later read kind =
+    let same : run % lion_pairs % lion_pairs ≡ run % lion_pairs = omega arith in
+    let is : IsRun set block (run % lion_pairs) tables entry =
+    subst (IsRun set block (run % lion_pairs) tables) (sym read) (are.each (run % lion_pairs) entry (omega (arith, later))) in
+    let found = is.table_is (ap run_kind same ∙ kind) in
+    (found.0, λ other. subst (λ n. IsTable set block n (slice_index_or tables entry.table other)) same (found.1 other))
+
 -- ---- the entries of runs
 
--- an entry stays right when words are added
-IsRun-more : (set : PieceSet) (block run : ℕ) (words more : List Word) (entry : Run)
-    → IsRun set block run words entry → IsRun set block run (words ++ more) entry
-IsRun-more set block run words more entry is = record {
-  before_is = is.before_is;
-  kind_is = is.kind_is;
-  words_are = λ kind number other low.
-      let old = is.words_are kind number other low in (
-        (let long = length-append words more in let inside = old.0 in omega (arith, long, inside)),
-        get_or_append_left words more other (entry.word + number) old.0 ∙ old.1,
-      );
-}
-
-abbrev make_run : ℕ → ℕ → RunKind → Run
-make_run before word kind = record { before = before; word = word; kind = kind }
-
-run_words-are : (set : PieceSet) (block run : ℕ) → run_words set block run
-    ≡ map (run_word set block run) (range_with_len 0 ((run_size set block + (word_len - 1)) / word_len))
-unfolding run_words
-run_words-are set block run = refl
-
--- the entry of a run whose words have just been added
-IsRun-new : (set : PieceSet) (block run before : ℕ) (entry : RunKind) (words : List Word) → before ≡ marks_below (marked set) (run_start set block run) →
-    entry ≡ run_kind (run % lion_pairs) → IsRun set block run (words ++ kept_words set block run) (make_run before (length words) entry)
-IsRun-new set block run before entry words before_is kind_is = record {
-  before_is = before_is;
-  kind_is = kind_is;
-  words_are = λ kind number other low.
-      let kept : kept_words set block run ≡ run_words set block run = kept_by set block run Mixed kind in
-      let here = word_in set block run number other low in (
-        (let long = length-append words (kept_words set block run) in
-            let inside : number < length (kept_words set block run) = subst (λ ws. number < length ws) (sym kept) here.0 in
-            omega (arith, long, inside)),
-        get_or-append_right words (kept_words set block run) (length words) (length words + number) other refl (omega arith)
-            ∙ ap (λ n. slice_index_or (kept_words set block run) n other) (let back : length words + number - length words ≡ number = omega arith in back)
-            ∙ ap (λ ws. slice_index_or ws number other) kept ∙ here.1,
-      );
-}
-  where
-    word_in : (set : PieceSet) (block run number : ℕ) (other : Word) → word_len * number < run_size set block →
-        (number < length (run_words set block run)) × (slice_index_or (run_words set block run) number other ≡ run_word set block run number)
-    word_in set block run number other low =
-        let words = run_words-are set block run in
-        let inside : number < (run_size set block + (word_len - 1)) / word_len = omega arith in (
-          subst (λ ws. number < length ws) (sym words) (let long
-              = length-map-range_with_len (run_word set block run) 0 ((run_size set block + (word_len - 1)) / word_len) in omega (arith, long, inside)),
-          ap (λ ws. slice_index_or ws number other) words
-              ∙ get_or-map-range_with_len (run_word set block run) 0 ((run_size set block + (word_len - 1)) / word_len) number number other
-              inside (omega arith),
-        )
+abbrev pub make_run : ℕ → ℕ → RunKind → Run
+make_run before table kind = record { before = before; table = table; kind = kind }
 
 -- one more run
-pub AreRuns-push : (set : PieceSet) (block run before word : ℕ) (kind : RunKind) (runs news : List Run) (words longer : List Word) →
-    AreRuns set block run runs words → before ≡ marks_below (marked set) (run_start set block run) → kind ≡ run_kind (run % lion_pairs) →
-    word ≡ length words → longer ≡ words ++ kept_words set block run →
-    news ≡ runs ++ make_run before word kind ∷ [] → AreRuns set block (run + 1) news longer
-AreRuns-push set block run before word kind runs news words longer are before_is kind_is word_is longer_is news_are =
-    subst (λ ws. AreRuns set block (run + 1) news ws) (sym longer_is)
-    (subst (λ rs. AreRuns set block (run + 1) rs (words ++ kept_words set block run))
-    (sym (news_are ∙ ap (λ n. runs ++ make_run before n kind ∷ []) word_is)) (record {
-      long = length_push runs (make_run before (length words) kind) ∙ ap (λ n. n + 1) are.long;
+pub AreRuns-push : (set : PieceSet) (block run before table : ℕ) (kind : RunKind) (runs news : List Run) (tables : List Stretches) →
+    AreRuns set block run runs tables → before ≡ marks_below (marked set) (run_start set block run) → kind ≡ run_kind (run % lion_pairs) →
+    HasTable set block run table tables → news ≡ runs ++ make_run before table kind ∷ [] → AreRuns set block (run + 1) news tables
+AreRuns-push set block run before table kind runs news tables are before_is kind_is has news_are =
+    subst (λ rs. AreRuns set block (run + 1) rs tables) (sym news_are) (record {
+      long = length_push runs (make_run before table kind) ∙ ap (λ n. n + 1) are.long;
       each = λ k other below. elim (cases_lt k run) [
-        | inl earlier ↦ subst (IsRun set block k (words ++ kept_words set block run))
-            (sym (get_or_append_left runs (make_run before (length words) kind ∷ []) other k (let long = are.long in omega arith)))
-            (IsRun-more set block k words (kept_words set block run) _ (are.each k other earlier))
+        | inl earlier ↦ subst (IsRun set block k tables)
+            (sym (get_or_append_left runs (make_run before table kind ∷ []) other k (let long = are.long in omega arith)))
+            (are.each k other earlier)
         | inr later ↦
             let same : k ≡ run = omega arith in
-            subst (λ n. IsRun set block n (words ++ kept_words set block run)
-            (slice_index_or (runs ++ make_run before (length words) kind ∷ []) n other)) (sym same)
-            (subst (IsRun set block run (words ++ kept_words set block run)) (sym (get_or_push runs (make_run before (length words) kind) other run are.long))
-            (IsRun-new set block run before kind words before_is kind_is))
+            subst (λ n. IsRun set block n tables (slice_index_or (runs ++ make_run before table kind ∷ []) n other)) (sym same)
+            (subst (IsRun set block run tables) (sym (get_or_push runs (make_run before table kind) other run are.long))
+            (record { before_is = before_is; kind_is = kind_is; table_is = has }))
       ];
-    }))
+    })
 
-pub AreRuns-none : (set : PieceSet) (block : ℕ) (runs : List Run) (words : List Word) → runs ≡ [] → AreRuns set block 0 runs words
-AreRuns-none set block runs words none = record { long = ap length none; each = λ run other below. absurd (omega arith) }
+pub AreRuns-none : (set : PieceSet) (block : ℕ) (runs : List Run) (tables : List Stretches) → runs ≡ [] → AreRuns set block 0 runs tables
+AreRuns-none set block runs tables none = record { long = ap length none; each = λ run other below. absurd (omega arith) }

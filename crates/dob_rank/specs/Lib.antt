@@ -13,3 +13,4 @@ pub mod Limits
 pub mod Faults
 pub mod Segmented
 pub mod SegmentsLeft
+pub mod Stretches

@@ -1,4 +1,4 @@
--- Marked ranks, and their marks as the bits of words.
+-- Marked ranks.
 use Rattle.std.specs.Prelude.{ℕ, zero, suc, ◌+◌, ◌*◌, ◌&&◌, nat_lt, nat_le, min, Bool, true, false}
 use Rattle.dob_pieces.specs.declared.piece_set.PieceSet.{PieceSet}
 use Rattle.dob_pieces.specs.declared.setup.Setup.{Setup}
@@ -12,11 +12,6 @@ one_if false = 0
 -- how many places below a bound are marked
 unfoldable pub marks_below : (ℕ → Bool) → ℕ → ℕ
 marks_below mark n = sum_below (λ (r : ℕ). one_if (mark r)) n
-
--- the marks of so many places from one on, the first as the lowest bit
-unfoldable pub word_of : (ℕ → Bool) → ℕ → ℕ → ℕ
-word_of mark from zero = 0
-word_of mark from (suc n) = word_of mark (suc from) n * 2 + one_if (mark from)
 
 -- the setup of the rank is no later than its mirror image
 abbrev pub is_first : PieceSet → ℕ → Bool

@@ -83,6 +83,23 @@ pub(crate) fn choices_in(on_board: &EachKind) -> EachKind
     ]
 }
 
+/// The bases of the places in a run of that block.
+pub(crate) fn local_bases_in(set: PieceSet, block: u64) -> [u64; 6]
+    requires { block < product (block_bases set) }
+    ensures { result ≡ local_bases (digits_of (block_bases set) block) }
+{
+    let on_board = numbers_in(set, block);
+    let choices = choices_in(&on_board);
+    [
+        choices[0],
+        choices[1],
+        choices[2],
+        power(4, on_board[0]),
+        power(2, on_board[1]),
+        power(2, on_board[2]),
+    ]
+}
+
 /// The digits of a spot in the block of those numbers on the board and choices of squares.
 pub(crate) fn digits_in(
     set: PieceSet,

@@ -1,14 +1,16 @@
-// The classes of one block: for each of its runs the number of classes before it, and words of marks for the runs in
+// The classes of one block: for each of its runs the number of classes before it, and tables of marks for the runs in
 // which the lions don't tell which positions are representatives.
-ghost use Rattle.std.specs.Prelude.{◌≡◌, true, ◌<◌, ◌≤◌, ◌+◌, ◌*◌, ◌%◌, ◌++◌, IfOk, vec_len};
+ghost use Rattle.std.specs.Prelude.{◌≡◌, true, ◌<◌, ◌≤◌, ◌+◌, ◌*◌, ◌%◌, IfOk, vec_len, ℕ, List};
 ghost use Rattle.dob_rank.specs.Numbers.{product, digits_of, block_bases, block_size, start_of};
-ghost use Rattle.dob_rank.specs.Marks.{marked, word_of, one_if, marks_below};
+ghost use Rattle.dob_rank.specs.Marks.{marked, marks_below};
 ghost use Rattle.dob_rank.specs.Runs.{square_bases, runs_in, run_size, run_start, run_kind};
-ghost use Rattle.dob_rank.specs.RunTables.{AreRuns, run_words, kept_words};
+ghost use Rattle.dob_rank.specs.declared.runs.Run.{Run};
+ghost use Rattle.dob_rank.specs.declared.runs.RunKind.TheVariants.{Mixed};
+ghost use Rattle.dob_rank.specs.RunTables.{AreRuns, HasTable};
 
 use crate::block::{self, EachKind};
-use crate::ranks::{position_at, spot_of};
-use crate::runs::{LIONS, Run, RunKind, Spot, WORD, Word, kind_of};
+use crate::runs::{LIONS, Run, RunKind, Spot, kind_of};
+use crate::stretches::Stretches;
 use dob_pieces::{Memory, PieceSet};
 use std::alloc::Global;
 
@@ -25,7 +27,7 @@ pub(crate) struct BlockClasses {
     pub(crate) choices: EachKind,
     size: u64,
     runs: Vec<Run>,
-    words: Vec<Word>,
+    mixed: Vec<Stretches>,
     ghost within: { number < product (block_bases set) },
     ghost starts: { before ≡ marks_below (marked set) (start_of set number) },
     ghost ends: { after ≡ marks_below (marked set) (start_of set number + block_size set number) },
@@ -33,7 +35,7 @@ pub(crate) struct BlockClasses {
     ghost chosen: { choices ≡ square_bases on_board },
     ghost size_is: { size ≡ run_size set number },
     ghost whole: { vec_len runs ≡ runs_in set number },
-    ghost table: { AreRuns set number (vec_len runs) runs.items words.items },
+    ghost table: { AreRuns set number (vec_len runs) runs.items mixed.items },
 }
 
 impl BlockClasses {
@@ -55,15 +57,16 @@ impl BlockClasses {
         let choices = block::choices_in(&on_board);
         let size = block::run_size_in(set, number);
         let mut runs = Vec::new(alloc);
-        let mut words = Vec::new(alloc);
+        let mut mixed = Vec::new(alloc);
         let mut count = before;
         for run in 0..block::count_runs(set, number) {
+            let table = table_of(alloc, set, number, run, &runs, &mut mixed)?;
             runs.push(Run {
                 before: count,
-                word: words.len(),
+                table,
                 kind: kind_of(run % LIONS),
             })?;
-            count += push_marks(set, number, run, size, &mut words, count)?;
+            count += count_marks(set, number, run, size, table, &mixed);
         }
         Ok(BlockClasses {
             set,
@@ -74,7 +77,7 @@ impl BlockClasses {
             choices,
             size,
             runs,
-            words,
+            mixed,
         })
     }
 
@@ -90,7 +93,8 @@ impl BlockClasses {
             RunKind::First => (true, run.before + spot.local),
             RunKind::Later => (false, run.before),
             RunKind::Mixed => {
-                self.words[run.word + (spot.local / WORD) as usize].look_up(spot.local % WORD)
+                let (is_marked, marks) = self.mixed[run.table].look_up(spot.local);
+                (is_marked, run.before + marks)
             }
         }
     }
@@ -172,90 +176,78 @@ impl BlockClasses {
     }
 }
 
-/// Counts the marks of a run of that size, before which there are so many, and appends its words if its lions don't
-/// tell its marks.
+/// The number of a run's table, which is made for the first run of its lions; none is needed where these tell its marks.
 ///
 /// Error: `Memory`.
-fn push_marks(
+fn table_of(
+    alloc: Global,
     set: PieceSet,
     block: u64,
     run: u64,
-    size: u64,
-    words: &mut Vec<Word>,
-    before: u64,
-) -> Result<u64, Memory>
+    runs: &Vec<Run>,
+    mixed: &mut Vec<Stretches>,
+) -> Result<usize, Memory>
     requires block { block < product (block_bases set) }
     requires run { run < runs_in set block }
-    requires size { size ≡ run_size set block }
-    requires before { before ≡ marks_below (marked set) (run_start set block run) }
-    ensures words { IfOk result (λ _. words.new.items ≡ words.old.items ++ kept_words set block run) }
-    ensures count { IfOk result (λ count. before + count ≡ marks_below (marked set) (run_start set block (run + 1))) }
+    requires runs { AreRuns set block run runs.now.items mixed.old.items }
+    ensures table { IfOk result (λ table. HasTable set block run table mixed.new.items) }
+    ensures runs { IfOk result (λ _. AreRuns set block run runs.now.items mixed.new.items) }
 {
     match kind_of(run % LIONS) {
-        RunKind::First => Ok(size),
+        RunKind::First => Ok(0),
         RunKind::Later => Ok(0),
-        RunKind::Mixed => push_words(set, block, run, size, words, before),
+        RunKind::Mixed => {
+            if LIONS <= run {
+                Ok(runs[(run % LIONS) as usize].table)
+            } else {
+                push_table(alloc, set, block, run, mixed)
+            }
+        }
     }
 }
 
-/// Appends the words of a run of that size, before which there are so many marks, and counts its marks.
+/// Appends the table of the first run of its lions.
 ///
 /// Error: `Memory`.
-fn push_words(
+fn push_table(
+    alloc: Global,
+    set: PieceSet,
+    block: u64,
+    run: u64,
+    mixed: &mut Vec<Stretches>,
+) -> Result<usize, Memory>
+    requires block { block < product (block_bases set) }
+    requires run { run < runs_in set block }
+    requires first { run < LIONS }
+    requires kind { run_kind (run % LIONS) ≡ Mixed }
+    ensures table { IfOk result (λ table. HasTable set block run table mixed.new.items) }
+    ensures runs { (count : ℕ) (runs : List Run) → AreRuns set block count runs mixed.old.items
+        → IfOk result (λ _. AreRuns set block count runs mixed.new.items) }
+{
+    let number = mixed.len();
+    let table = Stretches::open(alloc, set, block, run)?;
+    mixed.push(table)?;
+    Ok(number)
+}
+
+/// How many classes a run of that size with that table has.
+fn count_marks(
     set: PieceSet,
     block: u64,
     run: u64,
     size: u64,
-    words: &mut Vec<Word>,
-    before: u64,
-) -> Result<u64, Memory>
+    table: usize,
+    mixed: &Vec<Stretches>,
+) -> u64
     requires block { block < product (block_bases set) }
     requires run { run < runs_in set block }
     requires size { size ≡ run_size set block }
-    requires before { before ≡ marks_below (marked set) (run_start set block run) }
-    ensures words { IfOk result (λ _. words.new.items ≡ words.old.items ++ run_words set block run) }
-    ensures count { IfOk result (λ count. before + count ≡ marks_below (marked set) (run_start set block (run + 1))) }
+    requires table { HasTable set block run table mixed.now.items }
+    ensures { marks_below (marked set) (run_start set block run) + result ≡ marks_below (marked set) (run_start set block (run + 1)) }
 {
-    let mut count = 0;
-    for word in 0..(size + WORD - 1) / WORD {
-        let len = (size - WORD * word).min(WORD);
-        let bits = word_from(set, block, run, WORD * word, len);
-        words.push(Word {
-            bits,
-            before: before + count,
-        })?;
-        count += u64::from(bits.count_ones());
-    }
-    Ok(count)
-}
-
-/// The marks of at most as many places of a run from one on as a word has.
-fn word_from(set: PieceSet, block: u64, run: u64, first: u64, len: u64) -> u64
-    requires block { block < product (block_bases set) }
-    requires run { run < runs_in set block }
-    requires within { first + len ≤ run_size set block }
-    requires few { len ≤ WORD }
-    ensures { result ≡ word_of (marked set) (run_start set block run + first) len }
-{
-    let mut word = 0;
-    for place in (0..len).rev() {
-        let local = first + place;
-        word = 2 * word + mark_of(set, block, Spot { run, local });
-    }
-    word
-}
-
-/// The mark of a spot of a block: 1 where its position is no later than its mirror image, and else 0.
-fn mark_of(set: PieceSet, block: u64, spot: Spot) -> u64
-    requires block { block < product (block_bases set) }
-    requires run { spot.run < runs_in set block }
-    requires local { spot.local < run_size set block }
-    ensures { result ≡ one_if (marked set (run_start set block spot.run + spot.local)) }
-{
-    let image = position_at(set, block, spot).mirrored();
-    if spot.is_up_to(spot_of(set, &image).1) {
-        1
-    } else {
-        0
+    match kind_of(run % LIONS) {
+        RunKind::First => size,
+        RunKind::Later => 0,
+        RunKind::Mixed => mixed[table].count,
     }
 }

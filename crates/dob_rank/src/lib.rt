@@ -22,6 +22,7 @@ mod ranks;
 mod runs;
 mod segmented;
 mod starts;
+mod stretches;
 
 pub use classes::Classes;
 pub use fault::Fault;

@@ -1,7 +1,6 @@
 // Runs: positions of a block with the same hands and the same lions stand in a row, and the columns of the lions say
 // of ten runs in eleven whether their positions are the earlier ones of their classes. In the others marks say it.
 ghost use Rattle.std.specs.Prelude.{◌≡◌, ℕ, Bool, true, false, ◌<◌, ◌≤◌, ◌+◌, ◌*◌, ◌^◌};
-ghost use Rattle.dob_rank.specs.Marks.{word_of, marks_below};
 ghost use Rattle.dob_rank.specs.Runs.{run_kind};
 
 /// On how many squares the mover's lion can stand: those off its far row.
@@ -67,37 +66,11 @@ impl Spot {
     }
 }
 
-/// A run of positions: the number of classes before it, where its words of marks begin if its kind is mixed, and that kind,
+/// A run of positions: the number of classes before it, the number of its table of marks if its kind is mixed, and that kind,
 /// so that a look-up needs no division for it.
 #[derive(Clone, Copy, Debug)]
 pub(crate) struct Run {
     pub(crate) before: u64,
-    pub(crate) word: usize,
+    pub(crate) table: usize,
     pub(crate) kind: RunKind,
-}
-
-/// How many marks a word has at most.
-pub(crate) const WORD: u64 = 64;
-
-/// A word of marks, the first place's as the lowest bit, and the number of marks before it.
-#[derive(Clone, Copy, Debug)]
-pub(crate) struct Word {
-    pub(crate) bits: u64,
-    pub(crate) before: u64,
-}
-
-impl Word {
-    /// Whether a place of the word is marked, and how many places before it are.
-    pub(crate) fn look_up(self, place: u64) -> (bool, u64)
-        requires place { place < WORD }
-        requires before { self.before ≤ 2 ^ 60 }
-        ensures mark { (mark : ℕ → Bool) (from len : ℕ) → self.bits ≡ word_of mark from len → place < len
-            → result.0 ≡ mark (from + place) }
-        ensures before { (mark : ℕ → Bool) (from len : ℕ) → self.bits ≡ word_of mark from len → place < len
-            → self.before ≡ marks_below mark from → result.1 ≡ marks_below mark (from + place) }
-    {
-        let low = self.bits & ((1 << place) - 1);
-        let is_marked = self.bits >> place & 1 == 1;
-        (is_marked, self.before + u64::from(low.count_ones()))
-    }
 }

@@ -74,8 +74,8 @@ module _ (set : PieceSet) (n size capacity : ℕ) (board : Board) (ended : List 
   }
 
   pub is_built : (result : Result Built Fault) →
-      IfOk result (λ built. (s : PieceSet) (m : ℕ) → HaveStopped s m ended → IsBuilt s board.nodes m built) → IfOk result (IsBuilt set n size)
-  is_built (Ok built) is = subst (λ (k : ℕ). IsBuilt set k size built) ran.opened.nodes (is set size have_stopped)
+      IfOk result (λ built. (m : ℕ) → HaveStopped set m ended → IsBuilt set board.nodes m built) → IfOk result (IsBuilt set n size)
+  is_built (Ok built) is = subst (λ (k : ℕ). IsBuilt set k size built) ran.opened.nodes (is size have_stopped)
   is_built (Err why) is = tt
 
   fault_for : (fault : Fault) → IsFailureOf ended fault → HasFault set n size capacity fault

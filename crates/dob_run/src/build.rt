@@ -37,6 +37,6 @@ pub fn run_nodes<R: Threads + Wait + Sync, G: Gate + Sync>(
     ensures fault { IfErr result (HasFault set n batch capacity) }
     ensures stopped { IfErr result (StopsSo IsFailureOf set n batch capacity) }
 {
-    let (board, ended) = run_crew(rt, alloc, set, n, batch, capacity, gate, &Until::Stopped)?;
-    finish(rt, alloc, board, ended)
+    let (classes, board, ended) = run_crew(rt, alloc, set, n, batch, capacity, gate, &Until::Stopped)?;
+    finish(rt, alloc, classes, board, ended)
 }

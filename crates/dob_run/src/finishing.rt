@@ -47,17 +47,17 @@ pub struct Built {
 pub fn finish<R: Wait>(
     rt: &R,
     alloc: Global,
+    classes: Classes,
     board: Board,
     runners: Vec<Runner>,
 ) -> Result<Built, Fault>
     requires crew { IsCrew board (map mail_of runners.items) }
-    requires stopped { (set : PieceSet) × (size : ℕ) × HaveStopped set size runners.items }
-    ensures built { IfOk result (λ built. (set : PieceSet) (size : ℕ) → HaveStopped set size runners.items →
-        IsBuilt set board.nodes size built) }
+    requires stopped { (size : ℕ) × HaveStopped classes.set size runners.items }
+    ensures built { IfOk result (λ built. (size : ℕ) → HaveStopped classes.set size runners.items →
+        IsBuilt classes.set board.nodes size built) }
     ensures unfailed { OnOk result (AreUnfailed runners.items) }
     ensures failed { IfErr result (IsFailureOf runners.items) }
 {
-    let set = set_of(&runners);
     let causes = causes_of(alloc, &runners)?;
     let late = find_failed(&runners);
     let (nodes, ended) = close_all(rt, alloc, board, runners)?;
@@ -68,21 +68,13 @@ pub fn finish<R: Wait>(
     if let Err(fault) = late {
         return Err(fault);
     }
-    let table = table_of(alloc, set, &nodes)?;
+    let table = table_of(alloc, classes, &nodes)?;
     let Ended { closed, links, .. } = ended;
     Ok(Built {
         table,
         closed,
         links,
     })
-}
-
-// The piece set of the first runner.
-fn set_of(runners: &[Runner]) -> PieceSet
-    requires { 0 < length runners.now }
-    ensures { (runner : Runner) → slice_get runners.now 0 ≡ Some runner → result ≡ runner.set }
-{
-    runners[0].set
 }
 
 // Why each runner has failed, if it has.
@@ -137,18 +129,12 @@ fn cause_at(causes: &[Option<Cause>], place: usize) -> Cause
 }
 
 // The table of the values that the nodes show.
-fn table_of(alloc: Global, set: PieceSet, nodes: &[Node]) -> Result<Table, Memory>
-    requires small { IsSmall set }
+fn table_of(alloc: Global, classes: Classes, nodes: &[Node]) -> Result<Table, Memory>
     requires some { 0 < length nodes.now }
-    requires owners { AreOwners set (length nodes.now) nodes.now }
-    ensures set { IfOk result (λ table. table.set ≡ set) }
-    ensures values { IfOk result (λ table. AreShownBelow (length nodes.now) (classes_of set) nodes.now table.values) }
+    requires owners { AreOwners classes.set (length nodes.now) nodes.now }
+    ensures set { IfOk result (λ table. table.set ≡ classes.set) }
+    ensures values { IfOk result (λ table. AreShownBelow (length nodes.now) (classes_of classes.set) nodes.now table.values) }
 {
-    let classes = match Classes::open(alloc, set) {
-        Ok(classes) => classes,
-        Err(dob_rank::Fault::Memory) => return Err(Memory),
-        Err(dob_rank::Fault::SetTooLarge) => unreachable!(),
-    };
     let codes = codes_of(alloc, &classes, nodes)?;
     Ok(Table::new(classes, codes))
 }

@@ -60,7 +60,7 @@ pub fn run_turns<R: Threads + Wait + Sync, G: Gate + Sync>(
     ensures stopped { IfErr result (StopsSo IsFirstFailed set n batch capacity) }
 {
     let until = Until::Turns(turns);
-    let (board, ended) = run_crew(rt, alloc, set, n, batch, capacity, gate, &until)?;
+    let (_, board, ended) = run_crew(rt, alloc, set, n, batch, capacity, gate, &until)?;
     find_failed(&ended)?;
     let turned = close_crew(rt, alloc, board, ended)?;
     Ok(turned)

@@ -55,15 +55,16 @@ pub(crate) fn run_crew<R: Threads + Wait + Sync, G: Gate + Sync>(
     capacity: usize,
     gate: &G,
     until: &Until,
-) -> Result<(Board, Vec<Runner>), Fault>
-    ensures ran { IfOk result (λ ran. HasRun until.now set n batch capacity ran.0 ran.1.items) }
+) -> Result<(Classes, Board, Vec<Runner>), Fault>
+    ensures set { IfOk result (λ ran. ran.0.set ≡ set) }
+    ensures ran { IfOk result (λ ran. HasRun until.now set n batch capacity ran.1 ran.2.items) }
     ensures fault { IfErr result (HasStartFault set n batch capacity) }
 {
     let classes = classes_within(alloc, set, n, batch, capacity)?;
     let openings = scan(rt, alloc, &classes)?;
     let (board, runners) = crew_of(alloc, set, openings, n, batch, capacity)?;
     let ended = run_each(rt, alloc, runners, &classes, gate, until)?;
-    Ok((board, ended))
+    Ok((classes, board, ended))
 }
 
 // Lets each runner make turns for so long, in a thread of its own, and waits for all of them. What became of each, in order.

@@ -10,7 +10,7 @@ use Rattle.dob_world.specs.Events.{CanHappen}
 use Rattle.dob_world.specs.Runs.{IsDoneOrSkipped, IsAfter}
 use Rattle.dob_world.specs.Rounds.{round_length, round_event, round_front, round_of, rounds_of, IsStill}
 use Rattle.dob_world.specs.Shown.{setting_of, state_of, IsStanding}
-use Rattle.dob_world.specs.Results.{HasMadeRound, HasDriven}
+use Rattle.dob_world.specs.Results.{HasMadeRound, HasDriven, SomeCan}
 use Rattle.dob_world.specs.declared.fault.Fault.{Fault}
 use Rattle.dob_world.specs.Stops.{IsStopBy, IsStopInRounds}
 use Rattle.dob_world.proofs.Still.{still_ended}
@@ -24,6 +24,7 @@ pub record Partway (old new : World) (upto : ℕ) : Type 0 where
   pub going : new.failed ≡ None
   pub least : old.steps ≤ new.steps
   pub most : new.steps ≤ old.steps + upto
+  pub done : old.steps < new.steps → SomeCan (setting_of old) (state_of old) upto
   pub quiet : new.steps ≡ old.steps → (state_of new ≡ state_of old)
       × ((place : ℕ) → place < upto → CanHappen (setting_of old) (state_of old) (round_event old.n place) → ⊥)
 
@@ -35,6 +36,7 @@ none_made world standing going = record {
   going = going;
   least = omega arith;
   most = omega arith;
+  done = λ less. absurd (omega (arith, less));
   quiet = λ same. (refl, λ place low. absurd (omega arith));
 }
 
@@ -50,6 +52,14 @@ one_more old mid new place before step standing going = record {
   going = going;
   least = omega (arith, step.least, before.least);
   most = omega (arith, step.steps, before.most);
+  done = λ less. elim step.step [
+    | inl both ↦ (place, omega arith, state_of mid, before.after,
+        subst (λ (s : Setting). CanHappen s (state_of mid) (round_event old.n place)) before.setting both.0)
+    | inr none ↦
+        let e : new.steps ≡ mid.steps = step.idle none.0 in
+        let w = before.done (omega (arith, e, less)) in
+        (w.0, (let low = w.1 in omega (arith, low)), w.2, w.3, w.4)
+  ];
   quiet = λ same.
       let still : mid.steps ≡ old.steps = omega (arith, step.least, before.least, same) in
       let were = before.quiet still in
@@ -75,10 +85,12 @@ round_made old new upto still way whole quiet busy = record {
   standing = way.standing;
   going = way.going;
   steps = subst (λ (m : ℕ). new.steps ≤ old.steps + m) whole way.most;
+  same = λ is. ((way.quiet (quiet is)).0, quiet is);
   still = left;
   ended = λ is. still_ended (setting_of new) (state_of new) way.standing.setting way.standing.linked way.standing.told
       (subst (λ (s : Setting). IsStill s (state_of new)) (sym way.setting) (left is));
   busy = busy;
+  done = λ no. let w = way.done (busy no) in (w.0, subst (λ (m : ℕ). w.0 < m) whole w.1, w.2, w.3, w.4);
 }
   where
     left : still ≡ true → IsStill (setting_of old) (state_of new)
@@ -99,6 +111,7 @@ pub no_rounds : (world : World) → IsStanding world → world.failed ≡ None �
 no_rounds world standing going = record {
   made = 0;
   few = omega arith;
+  some = λ yes. absurd cc;
   setting = refl;
   after = refl;
   standing = standing;
@@ -117,6 +130,7 @@ round_more old mid new rounds still before round =
     record {
       made = rounds + 1;
       few = omega arith;
+      some = λ yes. omega arith;
       setting = round.setting ∙ before.setting;
       after = subst (λ events. IsAfter (setting_of old) (state_of old) events (state_of new)) (sym (rw add-one refl))
           (after_both (setting_of old) (state_of old) (state_of mid) (state_of new) (rounds_of old.n rounds) (round_of old.n)
@@ -141,6 +155,7 @@ pub still_longer : (old new : World) (few rounds : ℕ) → HasDriven old few tr
 still_longer old new few rounds driven less = record {
   made = driven.made;
   few = omega (arith, driven.few);
+  some = driven.some;
   setting = driven.setting;
   after = driven.after;
   standing = driven.standing;

@@ -47,6 +47,7 @@ pub record Stepped (event : Event) (old new : World) : Type 0 where
   pub step : IsDoneOrSkipped (setting_of old) (state_of old) event (state_of new)
   pub steps : new.steps ≤ old.steps + 1
   pub least : old.steps ≤ new.steps
+  pub idle : (CanHappen (setting_of old) (state_of old) event → ⊥) → new.steps ≡ old.steps
   pub skipped : new.steps ≡ old.steps → (CanHappen (setting_of old) (state_of old) event → ⊥) × (state_of new ≡ state_of old)
 
 pub stepped : (event : Event) (old new : World) (given : Step) → (given ≡ Done → IsMade event old new × (new.steps ≡ old.steps + 1)) →
@@ -57,6 +58,7 @@ stepped event old new Done done skipped = let made = done refl in
       step = inl (made.0.can, made.0.happens);
       steps = omega (arith, made.1);
       least = omega (arith, made.1);
+      idle = λ no. absurd (no made.0.can);
       skipped = λ same. absurd (omega (arith, made.1, same));
     }
 stepped event old new Skipped done skipped = let none = skipped refl in
@@ -65,6 +67,7 @@ stepped event old new Skipped done skipped = let none = skipped refl in
       step = inr (none.0, state_same old new none.1);
       steps = omega (arith, none.1.steps);
       least = omega (arith, none.1.steps);
+      idle = λ no. none.1.steps;
       skipped = λ same. (none.0, state_same old new none.1);
     }
 

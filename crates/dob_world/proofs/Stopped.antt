@@ -21,9 +21,9 @@ use Rattle.dob_node.specs.Takes.{HasEntries, AreKept, IsReason, StopsAt}
 use Rattle.dob_node.specs.declared.node.Node.{Node}
 use Rattle.dob_node.specs.Nodes.{HasItemFault}
 use Rattle.dob_world.specs.declared.lane.Lane.{Lane}
-use Rattle.dob_world.specs.declared.event.Event.TheVariants.{Own, Take}
+use Rattle.dob_world.specs.declared.event.Event.TheVariants.{Expand, Own, Take}
 use Rattle.dob_world.specs.declared.fault.Fault.TheVariants.{Stopped}
-use Rattle.dob_world.specs.Worlds.{Setting, AreLawful, IsLinked, items_in}
+use Rattle.dob_world.specs.Worlds.{Setting, World as Seen, AreLawful, IsLinked, items_in}
 use Rattle.dob_world.specs.Lanes.{IsBatchFor}
 use Rattle.dob_world.specs.Stops.{IsStopBy}
 use Rattle.dob_world.specs.Shown.{lane_at, nodes_shown, world_shown, IsNodeOf, AreInPlace}
@@ -156,3 +156,19 @@ module _ (k : Setting) (nodes : List Node) (lanes : List Lane) (some : 0 < k.n) 
           ),
         )
       ]
+
+-- only a post stops a node since there are as many batches as are counted
+pub not_expand : (k : Setting) (world : Seen) (i node : ℕ) → IsStopBy k world (Expand i) (Stopped node cause.Counts) → ⊥
+not_expand k world i node stop = let e = stop.1 in absurd cc
+
+pub not_own : (k : Setting) (world : Seen) (i node : ℕ) → IsStopBy k world (Own i) (Stopped node cause.Counts) → ⊥
+not_own k world i node stop = elim stop.1 [
+  | inl e ↦ absurd cc
+  | inr d ↦ let e = d.0 in absurd cc
+]
+
+pub not_take : (k : Setting) (world : Seen) (i j node : ℕ) → IsStopBy k world (Take i j) (Stopped node cause.Counts) → ⊥
+not_take k world i j node stop = elim stop.1 [
+  | inl e ↦ absurd cc
+  | inr d ↦ let e = d.0 in absurd cc
+]

@@ -9,7 +9,8 @@ use Rattle.dob_world.specs.declared.fault.Fault.TheVariants.{SetTooLarge, Nodes,
 use Rattle.dob_world.specs.declared.world.World.{World}
 use Rattle.dob_world.specs.Worlds.{Setting, State}
 use Rattle.dob_world.specs.Runs.{IsAfter}
-use Rattle.dob_world.specs.Rounds.{round_length, round_of, rounds_of, IsStill}
+use Rattle.dob_world.specs.Events.{CanHappen}
+use Rattle.dob_world.specs.Rounds.{round_length, round_of, round_front, round_event, rounds_of, IsStill}
 use Rattle.dob_world.specs.Headline.{Headline}
 use Rattle.dob_world.specs.Stops.{IsStopIn}
 use Rattle.dob_world.specs.Shown.{setting_of, state_of, IsSetting, IsStanding, IsStart}
@@ -39,6 +40,11 @@ pub record HasStopped (k : Setting) (events : List Event) (fault : Fault) : Type
   pub is_start : IsStart k start
   pub stop : IsStopIn k start events fault
 
+-- One of the first so many events of a round can happen after those before it.
+abbrev pub SomeCan : Setting → State → ℕ → Type 0
+SomeCan k state upto = (place : ℕ) × (place < upto) × (between : State) × IsAfter k state (round_front k.n place) between
+    × CanHappen k between (round_event k.n place)
+
 -- A round of events is made. The answer is whether none of them was done; then none can happen in the world left, and the
 -- end is announced.
 pub record HasMadeRound (old : World) (given : Bool) (new : World) : Type 0 where
@@ -47,15 +53,18 @@ pub record HasMadeRound (old : World) (given : Bool) (new : World) : Type 0 wher
   pub standing : IsStanding new
   pub going : new.failed ≡ None
   pub steps : new.steps ≤ old.steps + round_length old.n
+  pub same : given ≡ true → (state_of new ≡ state_of old) × (new.steps ≡ old.steps)
   pub still : given ≡ true → IsStill (setting_of old) (state_of new)
   pub ended : given ≡ true → new.detector.announced ≡ true
   pub busy : given ≡ false → old.steps < new.steps
+  pub done : given ≡ false → SomeCan (setting_of old) (state_of old) (round_length old.n)
 
 -- The world is driven by that many rounds, or by fewer after the last of which it is still. Each round but that one has
 -- an event that was done.
 pub record HasDriven (old : World) (rounds : ℕ) (given : Bool) (new : World) : Type 0 where
   pub made : ℕ
   pub few : made ≤ rounds
+  pub some : given ≡ true → 0 < made
   pub setting : setting_of new ≡ setting_of old
   pub after : IsAfter (setting_of old) (state_of old) (rounds_of old.n made) (state_of new)
   pub standing : IsStanding new

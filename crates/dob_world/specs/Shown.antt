@@ -1,5 +1,5 @@
 -- What a world shows: its nodes, lanes and ring as functions of node numbers; and what it keeps while no node has stopped.
-use Rattle.std.specs.Prelude.{◌≡◌, ℕ, ◌+◌, ◌*◌, ◌<◌, ◌≤◌, nat_lt, false, cond, pos, List, [], length, Option}
+use Rattle.std.specs.Prelude.{◌≡◌, ℕ, ◌+◌, ◌*◌, ◌^◌, ◌<◌, ◌≤◌, nat_lt, false, cond, pos, List, [], length, Option}
 use Rattle.std.specs.Prelude.{None, Some, MatchOption, slice_get, slice_index, slice_index_or}
 use Rattle.std.specs.List.{All}
 use Rattle.dob_pieces.specs.declared.piece_set.PieceSet.{PieceSet}
@@ -20,6 +20,7 @@ use Rattle.dob_safra.specs.Laws.{IsSize}
 use Rattle.dob_safra.specs.Rings.{Ring, counter, IsStart as IsStartRing}
 use Rattle.dob_world.specs.declared.detector.Detector.{Detector}
 use Rattle.dob_world.specs.declared.event.Event.{Event}
+use Rattle.dob_world.specs.declared.event.Event.TheVariants.{Post}
 use Rattle.dob_world.specs.declared.lane.Lane.{Lane}
 use Rattle.dob_world.specs.declared.world.World.{World}
 use Rattle.dob_world.specs.Lanes.{IsBatchFor}
@@ -69,6 +70,14 @@ ring_of detector = record {
 
 abbrev pub state_of : World → State
 state_of world = record { world = world_shown world.classes.set world.n world.nodes.items world.lanes.items; ring = ring_of world.detector }
+
+-- how many batches node i has cut for node j
+abbrev pub cut_by : World → ℕ → ℕ → ℕ
+cut_by world i j = part 0 (λ (node : Node). (outbox_to node j).next) (slice_get world.nodes.items i)
+
+-- at the event the node posts a batch to another, for which it has cut as many as are counted
+abbrev pub HasCutAll : World → Event → ℕ → Type 0
+HasCutAll world event node = (to : ℕ) × (event ≡ Post node to) × (2 ^ 40 ≤ cut_by world node to)
 
 -- ---- what is kept
 

@@ -1,5 +1,5 @@
 // The world: nodes that own the classes of a piece set, a lane from each to each, and what detects the end.
-ghost use Rattle.std.specs.Prelude.{◌≡◌, ◌≢◌, ◌+◌, ◌*◌, ◌^◌, ◌<◌, ◌≤◌, ◌↔◌, true, false, IfOk, IfErr, IfSome, OnOk};
+ghost use Rattle.std.specs.Prelude.{◌≡◌, ◌≢◌, ◌+◌, ◌*◌, ◌^◌, ◌<◌, ◌≤◌, ◌↔◌, true, false, IfOk, IfErr, IfSome, OnOk, OnErr, Err, ℕ};
 ghost use Rattle.dob_node.specs.Openings.{AreOpenings};
 ghost use Rattle.dob_rank.specs.Limits.{IsTooLarge};
 ghost use Rattle.dob_world.specs.Shown.{AreOpenedNodes, AreEmptyLanes};
@@ -38,8 +38,9 @@ impl World {
     ghost use Rattle.dob_world.specs.Worlds.{IsLinked, IsIdle};
     ghost use Rattle.dob_world.specs.Events.{CanHappen, MayEnd};
     ghost use Rattle.dob_world.specs.declared.fault.Fault.TheVariants as fault;
+    ghost use Rattle.dob_node.specs.declared.cause.Cause.TheVariants as cause;
     ghost use Rattle.dob_world.specs.Stops.{IsStopBy, IsStop};
-    ghost use Rattle.dob_world.specs.Shown.{setting_of, state_of, IsStanding, WillStand, IsKept, IsUnchanged, IsMade, IsStart};
+    ghost use Rattle.dob_world.specs.Shown.{setting_of, state_of, HasCutAll, IsStanding, WillStand, IsKept, IsUnchanged, IsMade, IsStart};
     ghost use Rattle.dob_world.specs.Results.{HasSettingFault};
     ghost use Rattle.dob_world.specs.Headline.{Headline};
 
@@ -98,6 +99,8 @@ impl World {
         ensures done { result ≡ Ok Step.Done → IsMade event self.old self.new × (self.new.steps ≡ self.old.steps + 1) }
         ensures skipped { result ≡ Ok Step.Skipped → (¬ CanHappen (setting_of self.old) (state_of self.old) event) × IsUnchanged self.old self.new }
         ensures stopped { IfErr result (λ fault. IsStop fault × (self.new.failed ≡ Some fault)) }
+        ensures ring { OnErr result ((self.new.detector ≡ self.old.detector) × (self.new.steps ≡ self.old.steps)) }
+        ensures counts { self.old.failed ≡ None → (node : ℕ) → result ≡ Err (fault.Stopped node cause.Counts) → HasCutAll self.old event node }
         ensures named { self.old.failed ≡ None → IfErr result (λ fault. IsStopBy (setting_of self.old) (state_of self.old).world event fault) }
         ensures stays { IfSome self.old.failed (λ fault. result ≡ Err fault) }
         ensures silent { self.old.detector.announced ≡ true → result ≡ Ok Step.Done → ⊥ }
@@ -128,6 +131,8 @@ impl World {
         ensures done { result ≡ Ok true → IsMade event self.old self.new × WillStand self.new × (self.new.failed ≡ self.old.failed) × (self.new.steps ≡ self.old.steps) }
         ensures skipped { result ≡ Ok false → (¬ CanHappen (setting_of self.old) (state_of self.old) event) × IsUnchanged self.old self.new }
         ensures stopped { IfErr result (λ fault. IsStopBy (setting_of self.old) (state_of self.old).world event fault) }
+        ensures counts { (node : ℕ) → result ≡ Err (fault.Stopped node cause.Counts) → HasCutAll self.old event node }
+        ensures ring { OnErr result ((self.new.detector ≡ self.old.detector) × (self.new.steps ≡ self.old.steps)) }
     {
         match event {
             Event::Expand(node) => self.expand(node),
@@ -146,6 +151,7 @@ impl World {
         ensures done { result ≡ Ok true → IsMade (Expand node) self.old self.new × WillStand self.new × (self.new.failed ≡ self.old.failed) × (self.new.steps ≡ self.old.steps) }
         ensures skipped { result ≡ Ok false → (¬ CanHappen (setting_of self.old) (state_of self.old) (Expand node)) × IsUnchanged self.old self.new }
         ensures stopped { IfErr result (λ fault. IsStopBy (setting_of self.old) (state_of self.old).world (Expand node) fault) }
+        ensures ring { OnErr result ((self.new.detector ≡ self.old.detector) × (self.new.steps ≡ self.old.steps)) }
     {
         if node >= self.n {
             return Ok(false);
@@ -163,6 +169,7 @@ impl World {
         ensures done { result ≡ Ok true → IsMade (Own node) self.old self.new × WillStand self.new × (self.new.failed ≡ self.old.failed) × (self.new.steps ≡ self.old.steps) }
         ensures skipped { result ≡ Ok false → (¬ CanHappen (setting_of self.old) (state_of self.old) (Own node)) × IsUnchanged self.old self.new }
         ensures stopped { IfErr result (λ fault. IsStopBy (setting_of self.old) (state_of self.old).world (Own node) fault) }
+        ensures ring { OnErr result ((self.new.detector ≡ self.old.detector) × (self.new.steps ≡ self.old.steps)) }
     {
         if node >= self.n {
             return Ok(false);
@@ -181,6 +188,8 @@ impl World {
         ensures done { result ≡ Ok true → IsMade (Post from to) self.old self.new × WillStand self.new × (self.new.failed ≡ self.old.failed) × (self.new.steps ≡ self.old.steps) }
         ensures skipped { result ≡ Ok false → (¬ CanHappen (setting_of self.old) (state_of self.old) (Post from to)) × IsUnchanged self.old self.new }
         ensures stopped { IfErr result (λ fault. IsStopBy (setting_of self.old) (state_of self.old).world (Post from to) fault) }
+        ensures counts { (node : ℕ) → result ≡ Err (fault.Stopped node cause.Counts) → HasCutAll self.old (Post from to) node }
+        ensures ring { OnErr result ((self.new.detector ≡ self.old.detector) × (self.new.steps ≡ self.old.steps)) }
     {
         if from >= self.n || to >= self.n || from == to {
             return Ok(false);
@@ -208,6 +217,7 @@ impl World {
         ensures done { result ≡ Ok true → IsMade (Take from to) self.old self.new × WillStand self.new × (self.new.failed ≡ self.old.failed) × (self.new.steps ≡ self.old.steps) }
         ensures skipped { result ≡ Ok false → (¬ CanHappen (setting_of self.old) (state_of self.old) (Take from to)) × IsUnchanged self.old self.new }
         ensures stopped { IfErr result (λ fault. IsStopBy (setting_of self.old) (state_of self.old).world (Take from to) fault) }
+        ensures ring { OnErr result ((self.new.detector ≡ self.old.detector) × (self.new.steps ≡ self.old.steps)) }
     {
         if from >= self.n || to >= self.n || from == to {
             return Ok(false);

@@ -16,72 +16,58 @@ word_is : (g : _) (c : In_ok-nodes g) (words : List ℕ) (k : ℕ) → words ≡
     slice_index c.in_ok-nodes.ended.closed.words.items 2 ≡ k
 word_is g c words k same is = ap (λ (l : List ℕ). slice_index l 2) (sym same) ∙ is
 
--- the piece set, as it was read off the first runner
-set_is : (g : _) (c : In_ok-nodes g) (size : ℕ) (set : PieceSet) → HaveStopped set size c.args.runners.items → c.set_of-set.result ≡ set
-set_is g c size set stopped =
-    set_same c.args.board set size c.args.runners.items c.in_ok-nodes.ended.closed.words.items c.requires.crew stopped c.in_ok-nodes.ensures.ended.words
-    c.set_of-set.result (λ runner at. c.set_of-set.ensures runner (ap (λ (l : List Runner). slice_get l 0) c.deref.ensures.value ∙ at))
-
 causes_are : (g : _) (c : In_ok-nodes g) → c.in_ok-causes.causes.items ≡ map failed_of c.args.runners.items
-causes_are g c = c.in_ok-causes.ensures ∙ ap (λ (l : List Runner). map failed_of l) c.deref-2.ensures.value
+causes_are g c = c.in_ok-causes.ensures ∙ ap (λ (l : List Runner). map failed_of l) c.deref.ensures.value
 
 pub failed_in-requires-clause-stopped : goal.failed_in-requires-clause-stopped
 failed_in-requires-clause-stopped g c = λ none.
     let here = (goal.at.failed_in-requires-clause-stopped g c).In_ok-nodes in
     let stopped = c.requires.stopped in
-    not_running c.args.board stopped.0 stopped.1 c.args.runners.items c.in_ok-nodes.ended.closed.words.items c.requires.crew stopped.2 c.in_ok-nodes.ensures.ended.words
-    (word_is g here c.deref-4.result.now 0 c.deref-4.ensures.value none)
+    not_running c.args.board c.args.classes.set stopped.0 c.args.runners.items c.in_ok-nodes.ended.closed.words.items c.requires.crew stopped.1 c.in_ok-nodes.ensures.ended.words
+    (word_is g here c.deref-3.result.now 0 c.deref-3.ensures.value none)
 
 pub cause_at-cause-requires : goal.cause_at-cause-requires
 cause_at-cause-requires g c =
     let here = (goal.at.cause_at-cause-requires g c).In_ok-nodes in
     let stopped = c.requires.stopped in
-    some_cause c.args.board stopped.0 stopped.1 c.args.runners.items c.in_ok-nodes.ended.closed.words.items c.requires.crew stopped.2 c.in_ok-nodes.ensures.ended.words
+    some_cause c.args.board c.args.classes.set stopped.0 c.args.runners.items c.in_ok-nodes.ended.closed.words.items c.requires.crew stopped.1 c.in_ok-nodes.ensures.ended.words
     c.deref-in-Some.result.now (c.deref-in-Some.ensures.value ∙ causes_are g here) c.in-Some.node
-    (word_is g here c.deref-4.result.now (2 + c.in-Some.node) c.deref-4.ensures.value c.in-Some.ensures)
+    (word_is g here c.deref-3.result.now (2 + c.in-Some.node) c.deref-3.ensures.value c.in-Some.ensures)
 
 pub returns-in-Some-clause-failed : goal.returns-in-Some-clause-failed
 returns-in-Some-clause-failed g c =
     let here = (goal.at.returns-in-Some-clause-failed g c).In_ok-nodes in
     let stopped = c.requires.stopped in
-    is_failure c.args.board stopped.0 stopped.1 c.args.runners.items c.in_ok-nodes.ended.closed.words.items c.requires.crew stopped.2 c.in_ok-nodes.ensures.ended.words
+    is_failure c.args.board c.args.classes.set stopped.0 c.args.runners.items c.in_ok-nodes.ended.closed.words.items c.requires.crew stopped.1 c.in_ok-nodes.ensures.ended.words
     c.deref-in-Some.result.now (c.deref-in-Some.ensures.value ∙ causes_are g here) c.in-Some.node
-    (word_is g here c.deref-4.result.now (2 + c.in-Some.node) c.deref-4.ensures.value c.in-Some.ensures) c.cause_at-cause.result c.cause_at-cause.ensures
+    (word_is g here c.deref-3.result.now (2 + c.in-Some.node) c.deref-3.ensures.value c.in-Some.ensures) c.cause_at-cause.result c.cause_at-cause.ensures
 
 pub returns-in-Err-clause-failed : goal.returns-in-Err-clause-failed
 returns-in-Err-clause-failed g c =
     let here = (goal.at.returns-in-Err-clause-failed g c).In_ok-nodes in
     let stopped = c.requires.stopped in
-    late_failure c.args.board stopped.0 stopped.1 c.args.runners.items c.in_ok-nodes.ended.closed.words.items c.requires.crew stopped.2 c.in_ok-nodes.ensures.ended.words
-    (word_is g here c.deref-4.result.now 1 c.deref-4.ensures.value c.in_default.ensures) c.in-Err.fault
-    (subst (λ (l : List Runner). IsFirstFailed l c.in-Err.fault) c.deref-3.ensures.value c.in-Err.ensures.first)
-
-pub table_of-requires-clause-small : goal.table_of-requires-clause-small
-table_of-requires-clause-small g c =
-    let here = (goal.at.table_of-requires-clause-small g c).In_ok-nodes in
-    let stopped = c.requires.stopped in
-    subst IsSmall (sym (set_is g here stopped.1 stopped.0 stopped.2)) stopped.2.small
+    late_failure c.args.board c.args.classes.set stopped.0 c.args.runners.items c.in_ok-nodes.ended.closed.words.items c.requires.crew stopped.1 c.in_ok-nodes.ensures.ended.words
+    (word_is g here c.deref-3.result.now 1 c.deref-3.ensures.value c.in_default.ensures) c.in-Err.fault
+    (subst (λ (l : List Runner). IsFirstFailed l c.in-Err.fault) c.deref-2.ensures.value c.in-Err.ensures.first)
 
 pub table_of-requires-clause-owners : goal.table_of-requires-clause-owners
 table_of-requires-clause-owners g c =
     let here = (goal.at.table_of-requires-clause-owners g c).In_ok-nodes in
     let stopped = c.requires.stopped in
-    let nodes = c.deref-5.result.now in
-    subst (λ (s : PieceSet). AreOwners s (length nodes) nodes) (sym (set_is g here stopped.1 stopped.0 stopped.2))
-    (owners_are c.args.board stopped.0 stopped.1 c.args.runners.items c.in_ok-nodes.ended.closed.words.items c.requires.crew stopped.2
-    c.in_ok-nodes.ensures.ended.words (word_is g here c.deref-4.result.now 1 c.deref-4.ensures.value c.in_default.ensures) nodes
-    (c.deref-5.ensures.value ∙ c.in_ok-nodes.ensures.nodes))
+    let nodes = c.deref-4.result.now in
+    (owners_are c.args.board c.args.classes.set stopped.0 c.args.runners.items c.in_ok-nodes.ended.closed.words.items c.requires.crew stopped.1
+    c.in_ok-nodes.ensures.ended.words (word_is g here c.deref-3.result.now 1 c.deref-3.ensures.value c.in_default.ensures) nodes
+    (c.deref-4.ensures.value ∙ c.in_ok-nodes.ensures.nodes))
 
 pub returns-clause-built : goal.returns-clause-built
-returns-clause-built g c = λ set size stopped.
+returns-clause-built g c = λ size stopped.
     let here = (goal.at.returns-clause-built g c).In_ok-nodes in
-    let nodes = c.deref-5.result.now in
-    let same : c.set_of-set.result ≡ set = set_is g here size set stopped in
-    built_is c.args.board set size c.args.runners.items c.in_ok-nodes.ended.closed.words.items c.requires.crew stopped
-    c.in_ok-nodes.ensures.ended.words (word_is g here c.deref-4.result.now 1 c.deref-4.ensures.value c.in_default.ensures)
+    let nodes = c.deref-4.result.now in
+    built_is c.args.board c.args.classes.set size c.args.runners.items c.in_ok-nodes.ended.closed.words.items c.requires.crew stopped
+    c.in_ok-nodes.ensures.ended.words (word_is g here c.deref-3.result.now 1 c.deref-3.ensures.value c.in_default.ensures)
     c.in_ok-nodes.ended refl c.in_ok-nodes.ensures.ended nodes _
-    (c.deref-5.ensures.value ∙ c.in_ok-nodes.ensures.nodes) (c.in_ok-table.ensures.set ∙ same)
-    (subst (λ (s : PieceSet). AreShownBelow (length nodes) (classes_of s) nodes c.in_ok-table.table.values) same c.in_ok-table.ensures.values) refl refl
+    (c.deref-4.ensures.value ∙ c.in_ok-nodes.ensures.nodes) c.in_ok-table.ensures.set
+    c.in_ok-table.ensures.values refl refl
 
 pub returns-clause-unfailed : goal.returns-clause-unfailed
-returns-clause-unfailed g c = subst (λ (l : List Runner). AreUnfailed l) c.deref-3.ensures.value c.in_default-late.ensures.going
+returns-clause-unfailed g c = subst (λ (l : List Runner). AreUnfailed l) c.deref-2.ensures.value c.in_default-late.ensures.going

@@ -2,7 +2,7 @@
 use Rattle.std.proofs.Common.{◌≡◌, ◌+◌, vec_len, arith, sym, ap, subst, ◌∙◌}
 use Rattle.dob_rank.specs.Marks.{marked, marks_below}
 use Rattle.dob_rank.specs.Runs.{runs_in, run_start}
-use Rattle.dob_rank.specs.RunTables.{AreRuns}
+use Rattle.dob_rank.specs.RunTables.{AreRuns, HasTable}
 use Rattle.dob_rank.proofs.RunMarks.{run_start_first, run_start_end, run_marks_small}
 use Rattle.dob_rank.proofs.RunTables.{AreRuns-none, AreRuns-push}
 use Rattle.dob_rank.proofs.Blocks.{HasDigits-numbers}
@@ -15,24 +15,31 @@ choices_in-choices-requires c =
 
 pub loop-run-init : goal.loop-run-init
 loop-run-init c = record {
-  runs_are = AreRuns-none c.args.set c.args.number c.new-runs.result.items c.new-words.result.items c.new-runs.ensures.items;
+  runs_are = AreRuns-none c.args.set c.args.number c.new-runs.result.items c.new-mixed.result.items c.new-runs.ensures.items;
   count_is = c.requires.before ∙ ap (marks_below (marked c.args.set)) (sym (run_start_first c.args.set c.args.number));
 }
+
+pub count_marks-count-requires-clause-table : goal.count_marks-count-requires-clause-table
+count_marks-count-requires-clause-table c =
+    c.in_ok-table.ensures.table
 
 pub overflow_add-count : goal.overflow_add-count
 overflow_add-count c =
     let within = c.count_runs-run-end.ensures.value in
     let few = run_marks_small c.args.set c.args.number (c.loop-run.run + 1) c.requires.within (omega (arith, within, c.loop-run-test.true)) in
-    omega (arith, few, c.in_ok-count.ensures.count)
+    let sum = c.count_marks-count.ensures in
+    let before = c.loop-run.invariant.count_is in
+    omega (arith, few, sum, before)
 
 pub loop-run-preserved : goal.loop-run-preserved
-loop-run-preserved c = record {
-  runs_are = AreRuns-push c.args.set c.args.number c.loop-run.run c.loop-run.count c.len.result c.kind_of.result c.loop-run.runs.items _
-      c.loop-run.words.items _
-      c.loop-run.invariant.runs_are c.loop-run.invariant.count_is c.kind_of.ensures (c.len.ensures ∙ c.loop-run.words.ok.0) c.in_ok-count.ensures.words
-      c.in_ok-push.ensures.items;
-  count_is = c.in_ok-count.ensures.count;
-}
+loop-run-preserved c =
+    let sum = c.count_marks-count.ensures in
+    let before = c.loop-run.invariant.count_is in
+    record {
+      runs_are = AreRuns-push c.args.set c.args.number c.loop-run.run c.loop-run.count c.in_ok-table.table c.kind_of.result c.loop-run.runs.items _ _
+          c.in_ok-table.ensures.runs before c.kind_of.ensures c.in_ok-table.ensures.table c.in_ok-push.ensures.items;
+      count_is = ap (λ n. n + c.count_marks-count.result) before ∙ sum;
+    }
 
 pub invariant_of-result : goal.invariant_of-result
 invariant_of-result c =
@@ -49,5 +56,5 @@ invariant_of-result c =
       chosen = c.choices_in-choices.ensures;
       size_is = c.run_size_in-size.ensures.value;
       whole = long ∙ whole;
-      table = subst (λ n. AreRuns c.args.set c.args.number n c.loop-run.runs.items c.loop-run.words.items) (sym long) c.loop-run.invariant.runs_are;
+      table = subst (λ n. AreRuns c.args.set c.args.number n c.loop-run.runs.items c.loop-run.mixed.items) (sym long) c.loop-run.invariant.runs_are;
     }

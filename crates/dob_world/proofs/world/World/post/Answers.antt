@@ -1,8 +1,11 @@
 -- The node that posts.
-use Rattle.std.proofs.Common.{ℕ, ◌<◌, ◌+◌, ◌*◌, refl, sym, ap, ◌∙◌, subst, Ok, slice_set}
+use Rattle.dob_node.specs.declared.cause.Cause.TheVariants as cause
+use Rattle.dob_node.specs.declared.node.Node.{Node}
+use Rattle.dob_node.specs.Nodes.{outbox_to}
+use Rattle.std.proofs.Common.{ℕ, ◌≡◌, ◌≤◌, ◌^◌, Err, ◌<◌, ◌+◌, ◌*◌, refl, sym, ap, ◌∙◌, subst, Ok, slice_set}
 use Rattle.dob_world.specs.declared.event.Event.TheVariants.{Post}
 use Rattle.dob_safra.specs.declared.event.RingEvent.TheVariants as ring
-use Rattle.dob_world.specs.Shown.{setting_of, ring_of}
+use Rattle.dob_world.specs.Shown.{setting_of, ring_of, part, cut_by}
 use Rattle.dob_world.proofs.Slots.{set_same}
 use Rattle.dob_world.proofs.Stands.{node_there, lane_there, slot_there}
 use Rattle.dob_world.proofs.Outcomes.{posted, cant_post}
@@ -146,3 +149,20 @@ returns-in-Ok-false-clause-skipped c = λ e.
         failed = refl;
       },
     )
+
+pub returns-in-Err-clause-counts : goal.returns-in-Err-clause-counts
+returns-in-Err-clause-counts c = λ by same.
+    let k = setting_of c.args.self.now in
+    let nodes = c.args.self.now.nodes.items in
+    let lanes = c.args.self.now.lanes.items in
+    let i = c.args.from in
+    let j = c.args.to in
+    let node = c.index_mut.result.now in
+    let low_i : i < c.args.self.now.n = c.if-from-self.false in
+    let there_n = node_there k nodes lanes c.requires.standing.places i node low_i c.index_mut.ensures.value in
+    let why : c.in-Err.cause ≡ cause.Counts = (cc) in
+    let who : c.args.from ≡ by = (cc) in
+    let much = (c.in-Err.ensures.counts (ap Err why)).1 in
+    (j, ap (λ (m : ℕ). Post m j) who,
+      subst (λ (m : ℕ). 2 ^ 40 ≤ cut_by c.args.self.now m j) who
+      (subst (λ o. 2 ^ 40 ≤ part 0 (λ (node : Node). (outbox_to node j).next) o) (sym there_n) much))

@@ -1,0 +1,48 @@
+-- The entry found is the one of the place.
+use Rattle.std.proofs.Common.{◌≡◌, ◌<◌, ◌≤◌, ◌+◌, ◌-◌, ◌^◌, ℕ, sym, ap, subst, ◌∙◌, arith}
+use Rattle.dob_rank.specs.Stretches.{local_marks}
+use Rattle.dob_rank.specs.Runs.{run_size}
+use Rattle.dob_rank.specs.Marks.{marks_below}
+use Rattle.dob_rank.proofs.Words.{marks_below-le}
+use Rattle.dob_rank.proofs.RunPlaces.{run_size-small}
+use Rattle.dob_rank.proofs.StretchLists.{IsRead, read_found, between_all}
+use Rattle.dob_rank.proofs.stretches.Stretches.look_up.Goals as goal
+
+pub overflow_add-result : goal.overflow_add-result
+overflow_add-result c =
+    let at = c.args.self.now in
+    let mark = local_marks at.set at.block at.run in
+    let found = read_found mark (run_size at.set at.block) c.loop-high.low c.loop-high.high c.args.place at.list.items _ at.table c.requires
+    c.loop-high.invariant c.loop-high-test.false c.index-stretch.ensures in
+    let sum = found.marked_before c.if-stretch.true in
+    let few = marks_below-le mark c.args.place in
+    let small = run_size-small at.set at.block at.within in
+    omega (arith, sum, few, small, c.requires)
+
+pub returns-then-stretch-clause-mark : goal.returns-then-stretch-clause-mark
+returns-then-stretch-clause-mark c =
+    let at = c.args.self.now in
+    let found = read_found (local_marks at.set at.block at.run) (run_size at.set at.block) c.loop-high.low c.loop-high.high c.args.place at.list.items _
+    at.table c.requires c.loop-high.invariant c.loop-high-test.false c.index-stretch.ensures in
+    sym c.if-stretch.true ∙ found.mark_is
+
+pub returns-then-stretch-clause-before : goal.returns-then-stretch-clause-before
+returns-then-stretch-clause-before c =
+    let at = c.args.self.now in
+    let found = read_found (local_marks at.set at.block at.run) (run_size at.set at.block) c.loop-high.low c.loop-high.high c.args.place at.list.items _
+    at.table c.requires c.loop-high.invariant c.loop-high-test.false c.index-stretch.ensures in
+    found.marked_before c.if-stretch.true
+
+pub returns-else-stretch-clause-mark : goal.returns-else-stretch-clause-mark
+returns-else-stretch-clause-mark c =
+    let at = c.args.self.now in
+    let found = read_found (local_marks at.set at.block at.run) (run_size at.set at.block) c.loop-high.low c.loop-high.high c.args.place at.list.items _
+    at.table c.requires c.loop-high.invariant c.loop-high-test.false c.index-stretch.ensures in
+    sym c.if-stretch.false ∙ found.mark_is
+
+pub returns-else-stretch-clause-before : goal.returns-else-stretch-clause-before
+returns-else-stretch-clause-before c =
+    let at = c.args.self.now in
+    let found = read_found (local_marks at.set at.block at.run) (run_size at.set at.block) c.loop-high.low c.loop-high.high c.args.place at.list.items _
+    at.table c.requires c.loop-high.invariant c.loop-high-test.false c.index-stretch.ensures in
+    found.unmarked_before c.if-stretch.false
