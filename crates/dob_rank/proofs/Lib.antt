@@ -27,7 +27,7 @@ pub mod Planes  -- masks of layers and what their bits count
 pub mod BoardMasks  -- what the masks of a position say
 -- Classes.
 pub mod Marks  -- marked ranks are representatives
-pub mod Words  -- words of marks
+pub mod Words  -- marks below a place
 pub mod ClassNumbers  -- class numbers are marks below
 pub mod Representatives  -- one representative and one number a class
 -- Runs of ranks with the same hands and lions.
@@ -36,9 +36,8 @@ pub mod RunPlaces  -- a place is a run and a place in it
 pub mod ImageDigits  -- the digits of a mirror image, one after another
 pub mod MixedRuns  -- the marks of mixed runs
 pub mod StretchLists  -- stretches of marks
-pub mod Levels  -- trees of marks
 pub mod RunMarks  -- the marks of runs
-pub mod RunTables  -- the tables of runs and words grow
+pub mod RunTables  -- the tables of runs and stretches grow
 pub mod BlockTables  -- the blocks of a set
 pub mod DigitParts  -- the digits of a place, part by part
 pub mod Pairs  -- the tables of choices of two squares

@@ -94,11 +94,16 @@ pub run_read : (set : PieceSet) (block count run : ℕ) (runs : List Run) (table
     entry ≡ slice_index_or runs run entry → IsRun set block run tables entry
 run_read set block count run runs tables entry are below read = subst (IsRun set block run tables) (sym read) (are.each run entry below)
 
+pub entry_in : (block : BlockClasses) (run : ℕ) (entry : Run) → run < runs_in block.set block.number →
+    entry ≡ slice_index_or block.runs.items run entry → IsRun block.set block.number run block.mixed.items entry
+entry_in block run entry below read =
+    run_read block.set block.number _ run block.runs.items block.mixed.items entry block.table (subst (λ n. run < n) (sym block.whole) below) read
+
 pub there_in : (block : BlockClasses) (run local : ℕ) (entry : Run) → run < runs_in block.set block.number → local < run_size block.set block.number →
     entry ≡ slice_index_or block.runs.items run entry → IsThere block.set block.number run local block.mixed.items entry
 there_in block run local entry run_below local_below read = record {
   in_run = record { block_below = block.within; run_below = run_below; local_below = local_below };
-  entry_is = run_read block.set block.number _ run block.runs.items block.mixed.items entry block.table (subst (λ n. run < n) (sym block.whole) run_below) read;
+  entry_is = entry_in block run entry run_below read;
 }
 
 pub size_positive : (set : PieceSet) (block size : ℕ) → block < product (block_bases set) → size ≡ run_size set block → 0 < size
@@ -277,37 +282,38 @@ first_spot set block run before class within at kind before_is =
     sum_back : (low before class : ℕ) → before ≡ low → low ≤ class → low + (class - before) ≡ class
     sum_back low before class a b = omega arith
 
--- the places of a run between which one lies
-pub record IsPlaceStart (set : PieceSet) (block run high class : ℕ) : Type 0 where
-  pub some : 0 < high
-  pub within : high ≤ run_size set block
-  pub low_is : marks_below (marked set) (run_start set block run + 0) ≤ class
-  pub high_is : class < marks_below (marked set) (run_start set block run + high)
+-- a mixed run's table has the marks that are left
+pub mixed_left : (before marks count next class : ℕ) → before ≡ marks → marks + count ≡ next → marks ≤ class → class < next → class - before < count
+mixed_left before marks count next class is whole low high = omega arith
 
-pub place_search : (set : PieceSet) (block run size class : ℕ) → block < product (block_bases set) → size ≡ run_size set block →
-    marks_below (marked set) (run_start set block run) ≤ class → class < marks_below (marked set) (run_start set block (run + 1)) →
-    IsPlaceStart set block run size class
-place_search set block run size class within is low high =
-    let positive = size_positive set block size within is in
-    record {
-      some = positive;
-      within = at_most size (run_size set block) is;
-      low_is = subst (λ n. marks_below (marked set) n ≤ class) (none (run_start set block run)) low;
-      high_is = subst (λ n. class < marks_below (marked set) n) (run_start_next set block run ∙ ap (λ n. run_start set block run + n) (sym is)) high;
-    }
-  where
-    at_most : (a b : ℕ) → a ≡ b → a ≤ b
-    at_most a b e = omega arith
+-- a place of the table is one of the run
+pub place_in_table : (set : PieceSet) (block run local : ℕ) (tables : List Stretches) (entry : Run) (table : Stretches) → IsRun set block run tables entry →
+    run_kind (run % lion_pairs) ≡ Mixed → table ≡ slice_index_or tables entry.table table → local < run_size table.set table.block → local < run_size set block
+place_in_table set block run local tables entry table is kind read inside =
+    let of_lions : IsTable set block (run % lion_pairs) table = subst (IsTable set block (run % lion_pairs)) (sym read) ((is.table_is kind).1 table) in
+    subst (λ b. local < run_size set b) of_lions.block_is (subst (λ s. local < run_size s table.block) of_lions.set_is inside)
 
-    none : (run : ℕ) → run ≡ run + 0
-    none run = omega arith
+-- the place of a class in a mixed run, by the run's table
+pub mixed_spot : (set : PieceSet) (block run local class : ℕ) (tables : List Stretches) (entry : Run) (table : Stretches) →
+    IsThere set block run local tables entry → run_kind (run % lion_pairs) ≡ Mixed → table ≡ slice_index_or tables entry.table table →
+    marks_below (marked set) (run_start set block run) ≤ class →
+    local_marks table.set table.block table.run local ≡ true →
+    marks_below (local_marks table.set table.block table.run) local ≡ class - entry.before → IsSpotOfClass set block run local class
+mixed_spot set block run local class tables entry table at kind read low on number =
+    let found = mixed_found set block run local tables entry table true (class - entry.before) at kind read (sym on) (sym number) in
+    let before = at.entry_is.before_is in
+    let whole : entry.before + (class - entry.before) ≡ class = omega (arith, before, low) in
+    record { local_below = at.in_run.local_below; mark_is = sym found.mark_is; class_is = sym found.before_is ∙ whole }
 
--- the place found there, as one of the block
--- two neighbours between which the last search ends
-pub last_place : (mark : ℕ → Bool) (start low high class : ℕ) → low < high → high - low ≤ 1 → marks_below mark (start + low) ≤ class →
-    class < marks_below mark (start + high) → IsMarkedAt mark (start + low) class
-last_place mark start low high class some near low_is high_is =
-    one_left mark (start + low) (start + high) class (omega arith) (omega arith) low_is high_is
+-- no class stands in a run whose lions say later
+pub none_in_later : (set : PieceSet) (block run class : ℕ) → block < product (block_bases set) → IsSearched set block run class →
+    run_kind (run % lion_pairs) ≡ Later → ⊥
+none_in_later set block run class within at kind =
+    let none = later_marks set block run (run_size set block) within at.run_below (omega arith) kind in
+    let next = ap (marks_below (marked set)) (run_start_next set block run) in
+    let low = at.low_is in
+    let high = at.high_is in
+    omega (arith, none, next, low, high)
 
 pub run_marks_small : (set : PieceSet) (block run : ℕ) → block < product (block_bases set) → run ≤ runs_in set block →
     marks_below (marked set) (run_start set block run) ≤ 2 ^ 42

@@ -363,27 +363,6 @@ unmarked_by_place set block place other s t there image is lt =
     ordered : (own image place other : ℕ) → own ≡ place → other ≡ image → other < place → image < own
     ordered own image place other p q lt = omega arith
 
--- in an earlier run each place is earlier
-pub earlier_run : (run other size local place : ℕ) → run < other → local < size → run * size + local ≤ other * size + place
-earlier_run run other size local place less low = omega (arith, digit_below run other size local less low)
-
--- the spot of the mirror image of the position at a place
-pub record HasImageAt (set : PieceSet) (block run local : ℕ) (image : Setup) : Type 0 where
-  pub local_below : local < run_size set block
-  pub place_is : run * run_size set block + local ≡ place_of set image
-
-pub image_spot : (set : PieceSet) (block place run local : ℕ) (s t : Setup) → HasBlock set block place s → t ≡ mirrored s → run ≡ run_of set t →
-    local ≡ local_of t → HasImageAt set block run local t
-image_spot set block place run local s t there image run_is local_is =
-    let p : IsPositionOf set t = subst (IsPositionOf set) (sym image) (IsPositionOf-mirrored set s there.position) in
-    let same : block_of set t ≡ block = ap (block_of set) image ∙ block_of-mirrored set s there.position ∙ there.block_is in
-    let size : local_size t ≡ run_size set block = local_size-block set block t p same in
-    record {
-      local_below = subst (λ n. n < run_size set block) (sym local_is) (subst (λ n. local_of t < n) size (local_of-below set t p));
-      place_is = ap (λ n. n * run_size set block + local) run_is ∙ ap (λ n. run_of set t * run_size set block + n) local_is
-          ∙ ap (λ n. run_of set t * n + local_of t) (sym size) ∙ sym (place_of-run set t);
-    }
-
 -- the mark of a spot is that of its place
 pub mark_of_spot : (set : PieceSet) (block run local : ℕ) (on : Bool) →
     marked set (sum_below (block_size set) block + (run * run_size set block + local)) ≡ on → marked set (run_start set block run + local) ≡ on

@@ -10,7 +10,7 @@ use Rattle.dob_rank.specs.Numbers.{product}
 use Rattle.dob_rank.specs.Marks.{marks_below}
 use Rattle.dob_rank.specs.Stretches.{IsStretch, AreStretches, IsGrowing, EndsWith, IsWidth}
 use Rattle.dob_rank.proofs.Loops.{drop_back, product-positive}
-use Rattle.dob_rank.proofs.Words.{marks_below-all, marks_below-unmarked, marks_below_none}
+use Rattle.dob_rank.proofs.Words.{marks_below-all, marks_below-le, marks_below-unmarked, marks_below-up, marks_below_none}
 
 -- ---- reading
 
@@ -73,6 +73,105 @@ read_found mark upto low high place list entry are below between near read =
       | inr outside ↦
           read_stretch mark upto place (slice_index_or list low entry) (are.last low entry (omega (arith, next, outside, within))) (between.low_is entry) below
     ])
+
+-- ---- counting
+
+-- the count of marks after a stretch
+pub counted_on : (mark : ℕ → Bool) (upto end count : ℕ) → upto ≤ end → count ≡ marks_below mark upto → ((k : ℕ) → upto ≤ k → k < end → mark k ≡ true) →
+    count + (end - upto) ≡ marks_below mark end
+counted_on mark upto end count further counted same =
+    let there : upto + (end - upto) ≡ end = omega (arith, further) in
+    ap (λ n. n + (end - upto)) counted ∙ sym (marks_below-all mark upto (end - upto) (λ k below. same (upto + k) (omega arith) (omega (arith, below, further))))
+    ∙ ap (marks_below mark) there
+
+pub counted_off : (mark : ℕ → Bool) (upto end count : ℕ) → upto ≤ end → count ≡ marks_below mark upto → ((k : ℕ) → upto ≤ k → k < end → mark k ≡ false) →
+    count ≡ marks_below mark end
+counted_off mark upto end count further counted same =
+    let there : upto + (end - upto) ≡ end = omega (arith, further) in
+    counted ∙ sym (marks_below-unmarked mark upto (end - upto) (λ k below. same (upto + k) (omega arith) (omega (arith, below, further))))
+    ∙ ap (marks_below mark) there
+
+-- ---- searching by the marks before
+
+-- a search between two entries, by how many marks are before them
+pub record IsAmong (list : List Stretch) (low high number : ℕ) : Type 0 where
+  pub some : low < high
+  pub within : high ≤ length list
+  pub low_is : (other : Stretch) → (slice_index_or list low other).before ≤ number
+  pub high_is : (other : Stretch) → high < length list → number < (slice_index_or list high other).before
+
+-- how many marks are before an entry
+before_entry : (mark : ℕ → Bool) (upto k : ℕ) (list : List Stretch) (other : Stretch) → AreStretches mark upto list → k < length list →
+    (slice_index_or list k other).before ≡ marks_below mark (slice_index_or list k other).start
+before_entry mark upto k list other are inside = elim (cases_lt (k + 1) (length list)) [
+  | inl more ↦ (are.each k other more).before_is
+  | inr last ↦ (are.last k other (omega (arith, inside, last))).before_is
+]
+
+-- the whole list
+pub among_all : (mark : ℕ → Bool) (upto high number : ℕ) (list : List Stretch) → AreStretches mark upto list → number < marks_below mark upto →
+    high ≡ length list → IsAmong list 0 high number
+among_all mark upto high number list are below whole =
+    let few = marks_below-le mark upto in
+    let some = are.some (omega (arith, few, below)) in
+    record {
+      some = omega (arith, some, whole);
+      within = omega (arith, whole);
+      low_is = λ other. (let none = before_entry mark upto 0 list other are some ∙ ap (marks_below mark) (are.first_is other some) ∙ marks_below_none mark in
+          omega (arith, none));
+      high_is = λ other inside. absurd (omega (arith, inside, whole));
+    }
+
+-- a marked place, and how many marks are before it
+pub record IsMarkedPlace (mark : ℕ → Bool) (number place : ℕ) : Type 0 where
+  pub mark_is : mark place ≡ true
+  pub number_is : marks_below mark place ≡ number
+
+place_in_stretch : (mark : ℕ → Bool) (end number : ℕ) (entry : Stretch) → IsStretch mark end entry → entry.before ≤ number → number < marks_below mark end →
+    IsMarkedPlace mark number (entry.start + (number - entry.before))
+place_in_stretch mark end number entry is from upto = by_mark entry.is_marked refl
+  where
+    by_mark : (on : Bool) → entry.is_marked ≡ on → IsMarkedPlace mark number (entry.start + (number - entry.before))
+    by_mark false off =
+        let none = counted_off mark entry.start end entry.before is.upto is.before_is (λ k low high. is.same k low high ∙ off) in
+        absurd (omega (arith, none, from, upto))
+    by_mark true on =
+        let all = counted_on mark entry.start end entry.before is.upto is.before_is (λ k low high. is.same k low high ∙ on) in
+        let place : ℕ = entry.start + (number - entry.before) in
+        let inside : place < end = (let low = is.upto in omega (arith, all, from, upto, low)) in
+        let here = counted_on mark entry.start place entry.before (omega arith) is.before_is
+        (λ k low high. is.same k low (omega (arith, high, inside)) ∙ on) in
+        record { mark_is = is.same place (omega arith) inside ∙ on; number_is = omega (arith, here, from) }
+
+-- the place of the entry found
+pub place_found : (mark : ℕ → Bool) (upto low high number : ℕ) (list : List Stretch) (entry : Stretch) → AreStretches mark upto list →
+    number < marks_below mark upto → IsAmong list low high number → high - low ≤ 1 → entry ≡ slice_index_or list low entry →
+    IsMarkedPlace mark number (entry.start + (number - entry.before))
+place_found mark upto low high number list entry are below among near read =
+    let some = among.some in
+    let next : low + 1 ≡ high = omega (arith, some, near) in
+    let within = among.within in
+    let at : Stretch = slice_index_or list low entry in
+    subst (λ (e : Stretch). IsMarkedPlace mark number (e.start + (number - e.before))) (sym read) (elim (cases_lt high (length list)) [
+      | inl inside ↦
+          let end = among.high_is entry inside in
+          let counted = before_entry mark upto high list entry are inside in
+          place_in_stretch mark (slice_index_or list (low + 1) entry).start number at
+          (are.each low entry (omega (arith, next, inside))) (among.low_is entry)
+          (subst (λ n. number < marks_below mark (slice_index_or list n entry).start) (sym next) (omega (arith, end, counted)))
+      | inr outside ↦
+          place_in_stretch mark upto number at (are.last low entry (omega (arith, next, outside, within))) (among.low_is entry) below
+    ])
+
+-- a place before which there are fewer marks than before the end is below the end
+pub place_below : (mark : ℕ → Bool) (upto number place : ℕ) → IsMarkedPlace mark number place → number < marks_below mark upto → place < upto
+place_below mark upto number place is below = elim (cases_lt place upto) [
+  | inl inside ↦ inside
+  | inr outside ↦ absurd (let more = marks_below-up mark upto (place - upto) in
+      let same : marks_below mark (upto + (place - upto)) ≡ marks_below mark place = ap (marks_below mark) (let e : upto + (place - upto) ≡ place = omega (arith, outside) in e) in
+      let number_is = is.number_is in
+      omega (arith, more, same, number_is, below))
+]
 
 -- ---- growing
 
@@ -153,21 +252,6 @@ last_pushed list news start before on grown k other at =
     let here : length list ≡ k = omega (arith, long, at, ap (length {A = Stretch}) grown) in
     ap (λ (ns : List Stretch). (slice_index_or ns k other).is_marked) grown
     ∙ ap (λ (s : Stretch). s.is_marked) (get_or_push list (make_stretch start before on) other k here)
-
--- the count of marks after a stretch
-pub counted_on : (mark : ℕ → Bool) (upto end count : ℕ) → upto ≤ end → count ≡ marks_below mark upto → ((k : ℕ) → upto ≤ k → k < end → mark k ≡ true) →
-    count + (end - upto) ≡ marks_below mark end
-counted_on mark upto end count further counted same =
-    let there : upto + (end - upto) ≡ end = omega (arith, further) in
-    ap (λ n. n + (end - upto)) counted ∙ sym (marks_below-all mark upto (end - upto) (λ k below. same (upto + k) (omega arith) (omega (arith, below, further))))
-    ∙ ap (marks_below mark) there
-
-pub counted_off : (mark : ℕ → Bool) (upto end count : ℕ) → upto ≤ end → count ≡ marks_below mark upto → ((k : ℕ) → upto ≤ k → k < end → mark k ≡ false) →
-    count ≡ marks_below mark end
-counted_off mark upto end count further counted same =
-    let there : upto + (end - upto) ≡ end = omega (arith, further) in
-    counted ∙ sym (marks_below-unmarked mark upto (end - upto) (λ k below. same (upto + k) (omega arith) (omega (arith, below, further))))
-    ∙ ap (marks_below mark) there
 
 -- the list after one more stretch
 pub pushed : (mark : ℕ → Bool) (upto end count : ℕ) (on last : Bool) (list news : List Stretch) → IsGrowing mark upto end count on last list →

@@ -23,6 +23,17 @@ pub marks_below_none : (mark : ℕ → Bool) → marks_below mark 0 ≡ 0
 unfolding marks_below
 marks_below_none mark = refl
 
+pub marks_below-up : (mark : ℕ → Bool) (from n : ℕ) → marks_below mark from ≤ marks_below mark (from + n)
+marks_below-up mark from zero =
+    let same : marks_below mark (from + 0) ≡ marks_below mark from = ap (marks_below mark) (let e : from + 0 ≡ from = omega arith in e) in
+    omega (arith, same)
+marks_below-up mark from (suc n) =
+    let rest = marks_below-up mark from n in
+    let more = marks_below_more mark (from + n) in
+    let same : marks_below mark (from + suc n) ≡ marks_below mark (suc (from + n)) =
+    ap (marks_below mark) (let e : from + suc n ≡ suc (from + n) = omega arith in e) in
+    omega (arith, rest, more, same)
+
 -- a stretch of marked places
 pub marks_below-all : (mark : ℕ → Bool) (from n : ℕ) → ((k : ℕ) → k < n → mark (from + k) ≡ true) →
     marks_below mark (from + n) ≡ marks_below mark from + n

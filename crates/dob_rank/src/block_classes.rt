@@ -111,7 +111,8 @@ impl BlockClasses {
         let run = self.run_at(class);
         let local = match self.kind_of(run) {
             RunKind::First => class - self.before_run(run),
-            RunKind::Later | RunKind::Mixed => self.search(run, class),
+            RunKind::Mixed => self.place_in_mixed(run, class),
+            RunKind::Later => unreachable!("such a run has no representative"),
         };
         Spot { run, local }
     }
@@ -153,26 +154,18 @@ impl BlockClasses {
         self.runs[run as usize].kind
     }
 
-    /// The place of that representative in its run.
-    fn search(&self, run: u64, class: u64) -> u64
+    /// The place of that representative in its run, whose lions both stand on column b.
+    fn place_in_mixed(&self, run: u64, class: u64) -> u64
         requires run { run < runs_in self.now.set self.now.number }
+        requires kind { run_kind (run % LIONS) ≡ Mixed }
         requires low { marks_below (marked self.now.set) (run_start self.now.set self.now.number run) ≤ class }
         requires high { class < marks_below (marked self.now.set) (run_start self.now.set self.now.number (run + 1)) }
         ensures local { result < run_size self.now.set self.now.number }
         ensures mark { marked self.now.set (run_start self.now.set self.now.number run + result) ≡ true }
         ensures class { marks_below (marked self.now.set) (run_start self.now.set self.now.number run + result) ≡ class }
     {
-        let mut low = 0;
-        let mut high = self.size;
-        while 1 < high - low {
-            let middle = low + (high - low) / 2;
-            if self.look_up(Spot { run, local: middle }).1 <= class {
-                low = middle;
-            } else {
-                high = middle;
-            }
-        }
-        low
+        let entry = self.runs[run as usize];
+        self.mixed[entry.table].place_at(class - entry.before)
     }
 }
 

@@ -1,6 +1,6 @@
 // Runs: positions of a block with the same hands and the same lions stand in a row, and the columns of the lions say
-// of ten runs in eleven whether their positions are the earlier ones of their classes. In the others marks say it.
-ghost use Rattle.std.specs.Prelude.{◌≡◌, ℕ, Bool, true, false, ◌<◌, ◌≤◌, ◌+◌, ◌*◌, ◌^◌};
+// of ten runs in eleven whether their positions are the earlier ones of their classes. In the others stretches say it.
+ghost use Rattle.std.specs.Prelude.{◌≡◌, ◌<◌};
 ghost use Rattle.dob_rank.specs.Runs.{run_kind};
 
 /// On how many squares the mover's lion can stand: those off its far row.
@@ -48,25 +48,7 @@ pub(crate) struct Spot {
     pub(crate) local: u64,
 }
 
-impl Spot {
-    /// Whether the place is no later than the other one.
-    pub(crate) fn is_up_to(self, other: Spot) -> bool
-        ensures up_to { (size : ℕ) → self.local < size → result ≡ true
-            → self.run * size + self.local ≤ other.run * size + other.local }
-        ensures later { (size : ℕ) → other.local < size → result ≡ false
-            → other.run * size + other.local < self.run * size + self.local }
-    {
-        if self.run < other.run {
-            true
-        } else if self.run == other.run {
-            self.local <= other.local
-        } else {
-            false
-        }
-    }
-}
-
-/// A run of positions: the number of classes before it, the number of its table of marks if its kind is mixed, and that kind,
+/// A run of positions: the number of classes before it, the number of its table of stretches if its kind is mixed, and that kind,
 /// so that a look-up needs no division for it.
 #[derive(Clone, Copy, Debug)]
 pub(crate) struct Run {

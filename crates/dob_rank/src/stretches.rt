@@ -1,7 +1,7 @@
 // The marks of a run whose lions both stand on column b, as stretches of places that are all marked or all not. The first digit
 // in which a position differs from its mirror image decides for all places that have the same digits up to there, so that the
 // stretches are few: some 2,700 where there are 4.8 million places.
-ghost use Rattle.std.specs.Prelude.{◌≡◌, ◌<◌, ◌≤◌, ◌+◌, ◌%◌, ◌^◌, ℕ, Bool, IfOk};
+ghost use Rattle.std.specs.Prelude.{◌≡◌, true, ◌<◌, ◌≤◌, ◌+◌, ◌%◌, ◌^◌, ℕ, Bool, IfOk};
 ghost use Rattle.dob_rank.specs.Numbers.{product, block_bases, digits_of};
 ghost use Rattle.dob_rank.specs.Marks.{marked, marks_below};
 ghost use Rattle.dob_rank.specs.Runs.{runs_in, run_size, run_start, run_kind, lion_pairs, local_bases};
@@ -95,6 +95,27 @@ impl Stretches {
         } else {
             (false, stretch.before)
         }
+    }
+
+    /// The marked place of the run before which there are so many marked ones in the run.
+    pub(crate) fn place_at(&self, number: u64) -> u64
+        requires { number < self.now.count }
+        ensures place { result < run_size self.now.set self.now.block }
+        ensures mark { local_marks self.now.set self.now.block self.now.run result ≡ true }
+        ensures number { marks_below (local_marks self.now.set self.now.block self.now.run) result ≡ number }
+    {
+        let mut low = 0;
+        let mut high = self.list.len();
+        while 1 < high - low {
+            let middle = low + (high - low) / 2;
+            if self.list[middle].before <= number {
+                low = middle;
+            } else {
+                high = middle;
+            }
+        }
+        let stretch = self.list[low];
+        stretch.start + (number - stretch.before)
     }
 }
 
