@@ -9,7 +9,8 @@ use Rattle.dob_moves.specs.declared.game_move.Move.TheVariants.{Step}
 use Rattle.dob_moves.specs.declared.position_status.Status.{Status}
 use Rattle.dob_moves.specs.declared.position_status.Status.TheVariants.{Open}
 use Rattle.dob_moves.specs.Moves.{Goes, CanGo, CatchesLion}
-use Rattle.dob_moves.specs.Statuses.{HasStatus}
+use Rattle.dob_moves.specs.Statuses.{HasStatus, AreMoves}
+use Rattle.dob_moves.specs.MoveLists.{moves_of}
 use Rattle.dob_moves.specs.Mirrors.{mirrored_move}
 
 -- every outcome of a move of an open position is a position
@@ -46,3 +47,7 @@ StepsExclude = (p : Setup) (kind other : Kind) (from to : ℕ) (catch catches gr
 -- a step onto the enemy lion isn't a move
 abbrev pub LionsAreNotTaken : Type 0
 LionsAreNotTaken = (p : Setup) (move : Move) → CatchesLion p move → ¬ CanGo p move
+
+-- the list that computes has just the moves
+abbrev pub ListsHaveMoves : Type 0
+ListsHaveMoves = (p : Setup) → IsLegal p → AreMoves p (moves_of p)

@@ -1,7 +1,7 @@
 // Laws of the rules. Each function's contract is one law, of every position and every move; a proof that calls
 // the function may use the law. They do nothing when they run.
 ghost use Rattle.dob_moves.specs.Laws.{OutcomesAreLegal, OutcomesKeepPieces, MovesHaveOneOutcome, StatusesExclude, StatusesMirror};
-ghost use Rattle.dob_moves.specs.Laws.{OutcomesMirror, StepsExclude, LionsAreNotTaken};
+ghost use Rattle.dob_moves.specs.Laws.{OutcomesMirror, StepsExclude, LionsAreNotTaken, ListsHaveMoves};
 
 /// Every outcome of a move of an open position is a position.
 pub fn outcomes_are_legal()
@@ -42,4 +42,10 @@ pub fn steps_exclude()
 /// A step onto the enemy lion isn't a move.
 pub fn lions_are_not_taken()
     ensures { LionsAreNotTaken }
+{}
+
+/// The list of moves that definitions compute has each move of an open position, once, in the move order, and none of
+/// any other position.
+pub fn lists_have_moves()
+    ensures { ListsHaveMoves }
 {}

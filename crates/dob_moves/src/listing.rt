@@ -1,5 +1,5 @@
 // The list of a position's moves: the squares that masks tell, from the lowest on, which is the move order.
-ghost use Rattle.std.specs.Prelude.{◌≡◌, ◌++◌, IfOk, OnOk};
+ghost use Rattle.std.specs.Prelude.{◌≡◌, [], ◌++◌, IfOk, OnOk, OnErr};
 ghost use Rattle.dob_pieces.specs.Masks.{AreMasks};
 ghost use Rattle.dob_moves.specs.Statuses.{HasStatus, AreMoves};
 ghost use Rattle.dob_moves.specs.Walks.{steps_by, steps_from, all_steps, drops_of, all_drops};
@@ -14,8 +14,8 @@ use dob_pieces::{
 };
 use std::alloc::Global;
 
-// Room that the list of an open position is given at once, so that most lists grow no further; a set of three pieces has
-// up to 38 moves. Other positions have none, and cost no memory.
+// Room that the list of an open position is given at once, so that most lists grow no further; no position was seen to have
+// more than 38 moves. Other positions have none, and cost no memory.
 const ROOM: usize = 40;
 
 /// Appends the steps of a piece of that kind on that square, other than onto the enemy lion.
@@ -109,22 +109,34 @@ fn push_drops(moves: &mut Vec<Move>, setup: &Setup, masks: &Masks) -> Result<(),
 }
 
 /// Clears the list, writes the moves of an open position into it, each once, in the move order, and no moves of any
-/// other position, and gives the position's status. Fails where memory runs out, and leaves a part of them then.
+/// other position, and gives the position's status. Fails where memory runs out, and leaves the list empty then.
 pub fn moves_into(moves: &mut Vec<Move>, position: &Position) -> Result<Status, Memory>
     ensures moves { OnOk result (AreMoves position.now.setup moves.new.items) }
     ensures status { IfOk result (λ s. HasStatus position.now.setup s) }
+    ensures memory { OnErr result (moves.new.items ≡ []) }
 {
     moves.clear();
     let masks = Masks::of(&position.setup);
     match status_by(position, &masks) {
         Status::Open => {
-            moves.reserve(ROOM)?;
-            push_steps(moves, &position.setup, &masks)?;
-            push_drops(moves, &position.setup, &masks)?;
+            let Ok(()) = push_moves(moves, &position.setup, &masks) else {
+                moves.clear();
+                return Err(Memory);
+            };
             Ok(Status::Open)
         }
         other => Ok(other),
     }
+}
+
+/// Appends the steps and drops.
+fn push_moves(moves: &mut Vec<Move>, setup: &Setup, masks: &Masks) -> Result<(), Memory>
+    requires { AreMasks setup.now masks.now }
+    ensures { OnOk result (moves.new.items ≡ moves.old.items ++ (all_steps Elsewhere setup.now ++ all_drops setup.now)) }
+{
+    moves.reserve(ROOM)?;
+    push_steps(moves, setup, masks)?;
+    push_drops(moves, setup, masks)
 }
 
 /// The moves of an open position, each once, in the move order; no moves of any other position. Fails where memory

@@ -1,5 +1,5 @@
 -- The digits of a mirror image up to one of them follow from the position's own digits up to there.
-use Rattle.std.proofs.Common.{◌≡◌, ℕ, zero, suc, ◌+◌, ◌*◌, ◌/◌, ◌^◌, ◌<◌, cond, eqb, List, [], ◌∷◌, None, length, map, take, drop, refl, sym, ap, ◌∙◌, subst}
+use Rattle.std.proofs.Common.{◌≡◌, ℕ, zero, suc, ◌+◌, ◌*◌, ◌^◌, ◌<◌, cond, eqb, List, [], ◌∷◌, None, length, map, take, drop, refl, sym, ap, ◌∙◌, subst}
 use Rattle.std.proofs.Common.{slice_index_or, inl, inr, arith}
 use Rattle.std.proofs.lemmas.Bool.{cases_eq, eq-eqb, ne_eqb}
 use Rattle.std.proofs.lemmas.List.{length-map}
@@ -8,12 +8,12 @@ use Rattle.dob_pieces.specs.declared.piece_set.PieceSet.{PieceSet}
 use Rattle.dob_pieces.specs.declared.setup.Setup.{Setup}
 use Rattle.dob_pieces.specs.Squares.{mirrored_square}
 use Rattle.dob_pieces.specs.Setups.{Cell, board_by, mirrored}
-use Rattle.dob_rank.specs.declared.layers.Layer.TheVariants.{OwnLion, EnemyLion, Chicks, Elephants, Giraffes, Empty}
+use Rattle.dob_rank.specs.declared.layers.Layer.TheVariants.{Chicks, Elephants, Giraffes, Empty}
 use Rattle.dob_rank.specs.Order.{IsPositionOf, form}
 use Rattle.dob_rank.specs.Numbers.{order, layer, count, choice, settle, base_of, cell_of, forms_number, on_board}
 use Rattle.dob_rank.specs.Runs.{lions_of}
-use Rattle.dob_rank.proofs.Choices.{count_same, count_other}
-use Rattle.dob_rank.proofs.Settled.{hide, AreLayers, settle-choice, choice_hide_next}
+use Rattle.dob_rank.proofs.Choices.{count_other}
+use Rattle.dob_rank.proofs.Settled.{hide, settle-choice, choice_hide_next}
 use Rattle.dob_rank.proofs.FormDigits.{AreLayers-map, cell_of-cell, forms_number_same, forms_number_other, forms_number-below}
 use Rattle.dob_rank.proofs.Digits.{hide_all}
 use Rattle.dob_rank.proofs.Lions.{mirror_layers, layers-mirrored, hide-mirror, lions_layers, lions_layers-of, HasPair-from_position}

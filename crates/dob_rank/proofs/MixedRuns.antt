@@ -12,18 +12,18 @@ use Rattle.dob_pieces.specs.declared.setup.Setup.{Setup}
 use Rattle.dob_pieces.specs.Setups.{mirrored}
 use Rattle.dob_rank.specs.declared.runs.RunKind.TheVariants.{Mixed}
 use Rattle.dob_rank.specs.Order.{IsPositionOf}
-use Rattle.dob_rank.specs.Numbers.{product, number_of, digits_of, HasDigits, block_bases, block_of, block_size, sum_below, on_board, HasBlock, place_of}
+use Rattle.dob_rank.specs.Numbers.{product, number_of, digits_of, HasDigits, block_bases, on_board, HasBlock, place_of}
 use Rattle.dob_rank.specs.Numbers.{setup_in, bases_by}
 use Rattle.dob_rank.specs.Marks.{marked}
 use Rattle.dob_rank.specs.Stretches.{IsWidth, local_marks}
-use Rattle.dob_rank.specs.Runs.{local_bases, runs_in, run_size, run_start, run_of, local_of, IsInRun, lions_of, run_kind, lion_pairs}
+use Rattle.dob_rank.specs.Runs.{local_bases, run_size, run_start, run_of, local_of, IsInRun, lions_of, run_kind, lion_pairs}
 use Rattle.dob_rank.proofs.MixedRadix.{number_of-below, number_of-append, digits_of-number_of, product-append}
 use Rattle.dob_rank.proofs.Loops.{HasDigits-drop, HasDigits-length}
 use Rattle.dob_rank.proofs.Digits.{HasParts-from_position, HasDigits-digits}
 use Rattle.dob_rank.proofs.Numbering.{on_board-block, HasBlock-setup_in}
 use Rattle.dob_rank.proofs.Found.{IsPositionOf-mirrored}
 use Rattle.dob_rank.proofs.Lions.{image_lions, lions_of-below, mixed_lions}
-use Rattle.dob_rank.proofs.RunPlaces.{local_digits, local_size, local_size-block, local_of-below, local_size-mirrored, place_of-run, run_of-lions, hand_of}
+use Rattle.dob_rank.proofs.RunPlaces.{local_digits, local_size, local_size-block, local_of-below, place_of-run, run_of-lions, hand_of}
 use Rattle.dob_rank.proofs.RunPlaces.{on_board-mirrored, place-parts, image-parts, place_in_run, marked_by_place, unmarked_by_place, mark_of_spot}
 use Rattle.dob_rank.proofs.RunPlaces.{positive_locals}
 use Rattle.dob_rank.proofs.Blocks.{AreBases-by, few_in_block}

@@ -1,5 +1,5 @@
 -- The marks of runs: how many there are before each place of a block, and the tables that say so.
-use Rattle.std.proofs.Common.{◌≡◌, ℕ, zero, suc, ◌+◌, ◌-◌, ◌*◌, ◌/◌, ◌%◌, ◌^◌, ◌<◌, ◌≤◌, min, Bool, true, false, List, length}
+use Rattle.std.proofs.Common.{◌≡◌, ℕ, zero, suc, ◌+◌, ◌-◌, ◌*◌, ◌%◌, ◌^◌, ◌<◌, ◌≤◌, Bool, true, false, List}
 use Rattle.std.proofs.Common.{slice_index_or, refl, sym, ap, ◌∙◌, subst, arith}
 use Rattle.std.proofs.Math.Nat.{add-mul, mul-le-mul_right}
 use Rattle.dob_pieces.specs.declared.piece_set.PieceSet.{PieceSet}
@@ -15,7 +15,6 @@ use Rattle.dob_rank.specs.Runs.{runs_in, run_size, run_start, IsInRun, run_kind,
 use Rattle.dob_rank.specs.RunTables.{IsRun, AreRuns, IsTable}
 use Rattle.dob_rank.proofs.Blocks.{block_size-small, blocks_small}
 use Rattle.dob_rank.proofs.Words.{marks_below-le, marks_below-all, marks_below-unmarked, marks_below_more, marks_below_none}
-use Rattle.dob_rank.proofs.ClassNumbers.{IsMarkedAt, one_left}
 use Rattle.dob_rank.proofs.RunPlaces.{block_size-runs, place_in_run, run_start-is, marked_first, marked_later, run_size-some}
 
 -- ---- places of runs

@@ -2,7 +2,8 @@
 use Rattle.std.specs.Prelude.{◌≡◌, ℕ, ◌<◌, ◌↔◌}
 use Rattle.dob_pieces.specs.declared.piece_set.PieceSet.{PieceSet}
 use Rattle.dob_pieces.specs.declared.setup.Setup.{Setup}
-use Rattle.dob_rank.specs.Order.{IsPositionOf, Before, HasRank, RepresentsIn, IsInClass}
+use Rattle.dob_rank.specs.Order.{IsPositionOf, Before, HasRank, HasClasses, RepresentsIn, IsInClass}
+use Rattle.dob_rank.specs.ClassRows.{class_setup}
 
 -- a position has one class number
 abbrev pub OneClass : Type 0
@@ -21,3 +22,8 @@ RanksKeepOrder = (set : PieceSet) (p q : Setup) (a b : ℕ) → IsPositionOf set
 abbrev pub ClassesKeepOrder : Type 0
 ClassesKeepOrder = (set : PieceSet) (p q : Setup) (a b : ℕ) → RepresentsIn set p a → RepresentsIn set q b →
     (Before p q ↔ (a < b))
+
+-- each class of a row stands there by its representative
+abbrev pub RowsAreRepresentatives : Type 0
+RowsAreRepresentatives = (set : PieceSet) (class classes : ℕ) → HasClasses set classes → class < classes →
+    RepresentsIn set (class_setup set class) class

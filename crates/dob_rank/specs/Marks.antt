@@ -1,5 +1,5 @@
 -- Marked ranks.
-use Rattle.std.specs.Prelude.{ℕ, zero, suc, ◌+◌, ◌*◌, ◌&&◌, nat_lt, nat_le, min, Bool, true, false}
+use Rattle.std.specs.Prelude.{ℕ, ◌&&◌, nat_lt, nat_le, min, Bool, true, false}
 use Rattle.dob_pieces.specs.declared.piece_set.PieceSet.{PieceSet}
 use Rattle.dob_pieces.specs.declared.setup.Setup.{Setup}
 use Rattle.dob_pieces.specs.Setups.{mirrored}

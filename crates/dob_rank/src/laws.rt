@@ -1,5 +1,5 @@
 // Laws of ranks and classes, each the contract of a function that does nothing.
-ghost use Rattle.dob_rank.specs.Laws.{OneClass, OneRepresentative, RanksKeepOrder, ClassesKeepOrder};
+ghost use Rattle.dob_rank.specs.Laws.{OneClass, OneRepresentative, RanksKeepOrder, ClassesKeepOrder, RowsAreRepresentatives};
 
 /// A position of a piece set is in one class, and that class has one number.
 pub fn one_class()
@@ -19,4 +19,9 @@ pub fn ranks_keep_order()
 /// Of two representatives the earlier has the lower class number.
 pub fn classes_keep_order()
     ensures { ClassesKeepOrder }
+{}
+
+/// The setup that stands for a class number in a row of classes is the representative of that number.
+pub fn rows_are_representatives()
+    ensures { RowsAreRepresentatives }
 {}

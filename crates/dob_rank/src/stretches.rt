@@ -41,7 +41,12 @@ impl Stretches {
     /// The stretches of a run whose lions both stand on column b.
     ///
     /// Error: `Memory`.
-    pub(crate) fn open(alloc: Global, set: PieceSet, block: u64, run: u64) -> Result<Stretches, Memory>
+    pub(crate) fn open(
+        alloc: Global,
+        set: PieceSet,
+        block: u64,
+        run: u64,
+    ) -> Result<Stretches, Memory>
         requires block { block < product (block_bases set) }
         requires run { run < runs_in set block }
         requires kind { run_kind (run % lion_pairs) ≡ Mixed }

@@ -1,7 +1,10 @@
 // Laws of values, each the contract of a function that does nothing.
+ghost use Rattle.std.specs.Prelude.{◌≡◌};
 ghost use Rattle.dob_value.specs.Depths.{WonStaysWon, LostStaysLost, NotWonAndLost, OneValue, MirrorsHaveOneOutlook, MirrorsHaveOneValue};
 ghost use Rattle.dob_value.specs.Follows.{ConsistentIsRight};
 ghost use Rattle.dob_value.specs.Codes.{ValuesHaveParity};
+
+use crate::sweep::MAX_DISTANCE;
 
 /// What is won within some number of plies is won within any greater number.
 pub fn won_stays_won()
@@ -42,4 +45,9 @@ pub fn law_consistent()
 /// Wins come at odd distances and losses at even ones.
 pub fn values_have_parity()
     ensures { ValuesHaveParity }
+{}
+
+/// The greatest distance is 65,534.
+pub fn distances_end()
+    ensures { MAX_DISTANCE ≡ 65534 }
 {}

@@ -1,5 +1,5 @@
 -- The kind of a run says how many marks it has, or its table does.
-use Rattle.std.proofs.Common.{◌≡◌, sym, ap, ◌∙◌, arith, rules}
+use Rattle.std.proofs.Common.{sym, ◌∙◌, arith}
 use Rattle.dob_rank.proofs.RunTables.{count_first, count_later, count_mixed}
 use Rattle.dob_rank.proofs.block_classes.count_marks.Goals as goal
 

@@ -1,5 +1,5 @@
 -- The weights are products of fewer and fewer bases, and the last at which the numbers differ is the width.
-use Rattle.std.proofs.Common.{◌≡◌, ◌^◌, ◌<◌, ◌≤◌, ◌*◌, ◌/◌, ℕ, length, refl, sym, ap, subst, ◌∙◌, inl, inr, arith, drop}
+use Rattle.std.proofs.Common.{◌^◌, ◌≤◌, length, sym, subst, arith}
 use Rattle.dob_rank.specs.Stretches.{IsWidth}
 use Rattle.dob_rank.proofs.Loops.{product_fits}
 use Rattle.dob_rank.proofs.StretchLists.{width_start, width_further, weight_start, weight_further}

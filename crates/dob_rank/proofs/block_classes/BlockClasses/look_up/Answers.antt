@@ -1,6 +1,5 @@
 -- The run says by its kind whether the place is marked, or its word does.
-use Rattle.std.proofs.Common.{arith, sym, ap, ◌∙◌}
-use Rattle.dob_rank.specs.Marks.{marked, marks_below}
+use Rattle.std.proofs.Common.{arith, sym, ◌∙◌}
 use Rattle.dob_rank.proofs.RunMarks.{there_in, first_found, later_found, mixed_found, table_local, run_marks_few}
 use Rattle.dob_rank.proofs.block_classes.BlockClasses.look_up.Goals as goal
 
@@ -74,4 +73,3 @@ returns-in-Later-clause-before c =
     let block = c.args.self.now in
     let at = there_in block c.args.spot.run c.args.spot.local _ c.requires.run c.requires.local c.index-run.ensures in
     (later_found block.set block.number c.args.spot.run c.args.spot.local _ _ at (sym c.kind_of.ensures ∙ c.in-Later.is)).before_is
-

@@ -2,7 +2,7 @@
 use Rattle.std.proofs.Common.{◌≡◌, ◌+◌, vec_len, arith, sym, ap, subst, ◌∙◌}
 use Rattle.dob_rank.specs.Marks.{marked, marks_below}
 use Rattle.dob_rank.specs.Runs.{runs_in, run_start}
-use Rattle.dob_rank.specs.RunTables.{AreRuns, HasTable}
+use Rattle.dob_rank.specs.RunTables.{AreRuns}
 use Rattle.dob_rank.proofs.RunMarks.{run_start_first, run_start_end, run_marks_small}
 use Rattle.dob_rank.proofs.RunTables.{AreRuns-none, AreRuns-push}
 use Rattle.dob_rank.proofs.Blocks.{HasDigits-numbers}

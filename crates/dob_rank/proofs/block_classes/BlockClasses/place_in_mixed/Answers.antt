@@ -1,6 +1,6 @@
 -- The run's table has the place.
-use Rattle.std.proofs.Common.{◌≡◌, ◌<◌, ◌+◌, ◌-◌, sym, ◌∙◌}
-use Rattle.dob_rank.specs.Runs.{run_size, run_start}
+use Rattle.std.proofs.Common.{◌+◌}
+use Rattle.dob_rank.specs.Runs.{run_start}
 use Rattle.dob_rank.specs.Marks.{marks_below, marked}
 use Rattle.dob_rank.proofs.RunMarks.{entry_in, place_in_table, there_in, mixed_left, mixed_spot}
 use Rattle.dob_rank.proofs.RunTables.{count_mixed}

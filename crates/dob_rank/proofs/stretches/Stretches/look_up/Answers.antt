@@ -1,11 +1,10 @@
 -- The entry found is the one of the place.
-use Rattle.std.proofs.Common.{◌≡◌, ◌<◌, ◌≤◌, ◌+◌, ◌-◌, ◌^◌, ℕ, sym, ap, subst, ◌∙◌, arith}
+use Rattle.std.proofs.Common.{sym, ◌∙◌, arith}
 use Rattle.dob_rank.specs.Stretches.{local_marks}
 use Rattle.dob_rank.specs.Runs.{run_size}
-use Rattle.dob_rank.specs.Marks.{marks_below}
 use Rattle.dob_rank.proofs.Words.{marks_below-le}
 use Rattle.dob_rank.proofs.RunPlaces.{run_size-small}
-use Rattle.dob_rank.proofs.StretchLists.{IsRead, read_found, between_all}
+use Rattle.dob_rank.proofs.StretchLists.{read_found}
 use Rattle.dob_rank.proofs.stretches.Stretches.look_up.Goals as goal
 
 pub overflow_add-result : goal.overflow_add-result

@@ -1,7 +1,6 @@
 -- Each stretch is appended or goes on with the last one.
-use Rattle.std.proofs.Common.{◌≡◌, ◌<◌, ◌≤◌, ◌+◌, ◌-◌, ◌^◌, ℕ, sym, ap, subst, ◌∙◌, arith}
-use Rattle.dob_rank.specs.Stretches.{AreStretches, IsGrowing, local_marks}
-use Rattle.dob_rank.specs.Marks.{marks_below}
+use Rattle.std.proofs.Common.{◌≤◌, sym, ◌∙◌, arith}
+use Rattle.dob_rank.specs.Stretches.{local_marks}
 use Rattle.dob_rank.proofs.Words.{marks_below-le, marks_below_none}
 use Rattle.dob_rank.proofs.RunPlaces.{run_size-small}
 use Rattle.dob_rank.proofs.StretchLists.{AreStretches-none, counted_on, counted_off}

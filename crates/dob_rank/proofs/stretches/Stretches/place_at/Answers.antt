@@ -1,10 +1,10 @@
 -- The entry found has the place.
-use Rattle.std.proofs.Common.{◌≡◌, ◌<◌, ◌≤◌, ◌+◌, ◌-◌, ◌^◌, ℕ, sym, ap, subst, ◌∙◌, arith}
+use Rattle.std.proofs.Common.{◌<◌, subst, arith}
 use Rattle.dob_rank.specs.Stretches.{local_marks}
 use Rattle.dob_rank.specs.Runs.{run_size}
 use Rattle.dob_rank.specs.Marks.{marks_below}
 use Rattle.dob_rank.proofs.RunPlaces.{run_size-small}
-use Rattle.dob_rank.proofs.StretchLists.{IsMarkedPlace, among_all, place_found, place_below}
+use Rattle.dob_rank.proofs.StretchLists.{among_all, place_found, place_below}
 use Rattle.dob_rank.proofs.stretches.Stretches.place_at.Goals as goal
 
 pub loop-high-init : goal.loop-high-init
