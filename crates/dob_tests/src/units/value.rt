@@ -76,11 +76,3 @@ fn codes_tell_values(rt: HostRuntime) {
     }
     assert!(rt; code_of_value(Value::Win(47)) == 48);
 }
-
-#[test]
-fn refuses_larger_sets(rt: HostRuntime) {
-    for text in ["220", "211", "222"] {
-        let swept = sweep_table(rt.alloc(), set_of(&rt, text));
-        assert!(rt; matches!(swept, Err(Fault::SetTooLarge)), "{text}");
-    }
-}

@@ -104,8 +104,8 @@ fn each_byte_turned(rt: HostRuntime) {
 fn other_sets(rt: HostRuntime) {
     let other = changed(&rt, 8, &[1]);
     assert!(rt; fault_of(&rt, MemSource::new(other)) == Some(Fault::ClassCount));
-    let large = changed(&rt, 8, &[2, 2, 2]);
-    assert!(rt; fault_of(&rt, MemSource::new(large)) == Some(Fault::SetTooLarge));
+    let largest = changed(&rt, 8, &[2, 2, 2]);
+    assert!(rt; fault_of(&rt, MemSource::new(largest)) == Some(Fault::ClassCount));
 }
 
 #[test]
