@@ -182,7 +182,7 @@ room_left old mid round rounds limit driven less room =
 
 -- An event of the round stops a node.
 pub round_stops : (old mid : World) (place : ℕ) (fault : Fault) → Partway old mid place → place < round_length old.n →
-    IsStopBy (setting_of mid) (state_of mid).world (round_event old.n place) fault → IsStopInRounds (setting_of old) (state_of old) 1 fault
+    IsStopBy (setting_of mid) (state_of mid) (round_event old.n place) fault → IsStopInRounds (setting_of old) (state_of old) 1 fault
 round_stops old mid place fault way low stop = record {
   made = 0;
   few = omega arith;
@@ -190,7 +190,7 @@ round_stops old mid place fault way low stop = record {
   low = low;
   state = state_of mid;
   after = way.after;
-  stop = subst (λ (k : Setting). IsStopBy k (state_of mid).world (round_event old.n place) fault) way.setting stop;
+  stop = subst (λ (k : Setting). IsStopBy k (state_of mid) (round_event old.n place) fault) way.setting stop;
 }
 
 -- An event of a round after others stops a node.

@@ -1,5 +1,6 @@
 -- A settlement that a node of the world expands.
-use Rattle.std.proofs.Common.{◌≡◌, ℕ, ◌+◌, ◌<◌, arith, refl, sym, ap, ◌∙◌, subst, cond, nat_lt, List, [], ◌++◌, length, Some, slice_get, set}
+use Rattle.std.proofs.Common.{◌≡◌, ℕ, ◌+◌, ◌<◌, ◌≤◌, inl, inr, arith, refl, sym, ap, ◌∙◌, subst, cond, nat_lt, List, [], ◌++◌, length, Some, slice_get, set}
+use Rattle.std.proofs.lemmas.Bool.{cases_lt, cases_eq}
 use Rattle.std.proofs.lemmas.Option.{slice_get_within}
 use Rattle.std.proofs.lemmas.List.{length-set}
 use Rattle.dob_moves.specs.Statuses.{HasStatus}
@@ -15,10 +16,12 @@ use Rattle.dob_update.specs.Batches.{OutboxView}
 use Rattle.dob_node.specs.Stores.{HistoryView}
 use Rattle.dob_node.specs.declared.node.Node.{Node}
 use Rattle.dob_node.specs.Nodes.{IsSound, IsExpanded, outbox_to}
+use Rattle.dob_safra.specs.Rings.{Ring}
 use Rattle.dob_world.specs.declared.lane.Lane.{Lane}
 use Rattle.dob_world.specs.Worlds.{Setting}
 use Rattle.dob_world.specs.Events.{Expands}
-use Rattle.dob_world.specs.Shown.{part, nodes_shown, world_shown, IsNodeOf, AreInPlace}
+use Rattle.dob_world.specs.Shown.{part, nodes_shown, world_shown, IsNodeOf, AreInPlace, AreCutsPosted}
+use Rattle.dob_world.proofs.Cuts.{cuts_stay}
 use Rattle.dob_world.proofs.Slots.{here, was, elsewhere, stays, set_cases}
 
 pub in_place_node : (k : Setting) (nodes : List Node) (lanes : List Lane) (i : ℕ) (node after : Node) → slice_get nodes i ≡ Some node →
@@ -87,3 +90,29 @@ module _ (k : Setting) (nodes : List Node) (lanes : List Lane) (i : ℕ) (node a
       let h : length (part [] (λ (x : Node). x.history.settlements) (slice_get nodes i)) ≡ length node.history.settlements =
       ap length (was nodes i node after there [] (λ (x : Node). x.history.settlements)) in
       omega arith
+
+  -- a settlement is left where not all of them are expanded
+  pub left_to_expand : node.expanded ≤ length node.history.settlements → (node.expanded ≡ length node.history.settlements → ⊥) →
+      (world_shown k.set k.n nodes lanes).expanded i < length ((world_shown k.set k.n nodes lanes).nodes.history i)
+  unfolding world_shown nodes_shown
+  left_to_expand told left =
+      let e : part 0 (λ (x : Node). x.expanded) (slice_get nodes i) ≡ node.expanded = was nodes i node node there 0 (λ (x : Node). x.expanded) in
+      let h : length (part [] (λ (x : Node). x.history.settlements) (slice_get nodes i)) ≡ length node.history.settlements =
+      ap length (was nodes i node node there [] (λ (x : Node). x.history.settlements)) in
+      elim (cases_eq node.expanded (length node.history.settlements)) [
+        | inl all ↦ absurd (left all)
+        | inr some ↦ by_order node.expanded (length node.history.settlements) _ _ told some e h
+      ]
+    where
+      by_order : (a b c d : ℕ) → a ≤ b → (a ≡ b → ⊥) → c ≡ a → d ≡ b → c < d
+      by_order a b c d most differs is same = elim (cases_lt a b) [
+        | inl less ↦ omega (arith, less, is, same)
+        | inr more ↦ absurd (differs (omega (arith, most, more)))
+      ]
+
+-- a settlement expanded adds to outboxes and cuts none of them
+pub cuts_expanded : (k : Setting) (nodes : List Node) (i : ℕ) (node after : Node) → slice_get nodes i ≡ Some node → IsNodeOf k i node → IsExpanded node after →
+    (ring : Ring) → AreCutsPosted k.n nodes ring → AreCutsPosted k.n (set nodes i after) ring
+cuts_expanded k nodes i node after there is step ring cuts = cuts_stay k.n nodes i node after ring ring there cuts
+    (λ j low differs. ap (λ (o : OutboxView). o.next) (step.sent j (subst (λ (m : ℕ). j < m) (sym is.of.2) low) (λ same. differs (sym (same ∙ is.of.1)))))
+    (λ m l low_m low_l. refl)

@@ -15,6 +15,7 @@ pub mod Over  -- what can happen where nothing is left to do
 pub mod Rest  -- a lawful and linked world at rest has the value table
 -- One event in a world that stands.
 pub mod Taken  -- items that a node's share takes are items that the node applies
+pub mod Cuts  -- each batch that a node has cut is posted
 pub mod Expanded  -- a settlement that a node expands
 pub mod Moves  -- items that a node applies, and batches that it posts
 pub mod Made  -- items applied, and batches taken and posted, where a world stands

@@ -128,3 +128,30 @@ module _ (k : Setting) (nodes : List Node) (lanes : List Lane) (node : Node) (la
       let e : length (part [] (λ (x : Lane). x.link.waiting) (lane_at k.n lanes i j)) ≡ length lane.link.waiting =
       ap length (lane_was k.n lanes i j lane lane low_i low_j whole there_l [] (λ (x : Lane). x.link.waiting)) in
       omega arith
+
+-- ---- what can happen where a node has something to do
+
+module _ (k : Setting) (nodes : List Node) (lanes : List Lane) (node : Node) (lane : Lane) (whole : length lanes ≡ k.n * k.n) where
+  pub some_own : (i : ℕ) → slice_get nodes i ≡ Some node → (node.own.items ≡ [] → ⊥) → 0 < length ((world_shown k.set k.n nodes lanes).own i)
+  unfolding world_shown
+  some_own i there some = subst (λ (xs : List Item). 0 < length xs) (sym (was nodes i node node there [] (λ (x : Node). x.own.items)))
+      (not_none node.own.items some)
+
+  pub some_waits : (i j : ℕ) → i < k.n → j < k.n → lane_at k.n lanes i j ≡ Some lane → (lane.link.waiting ≡ [] → ⊥) →
+      0 < length ((world_shown k.set k.n nodes lanes).waiting i j)
+  unfolding world_shown
+  some_waits i j low_i low_j there some =
+      subst (λ (xs : List BatchView). 0 < length xs) (sym (lane_was k.n lanes i j lane lane low_i low_j whole there [] (λ (x : Lane). x.link.waiting)))
+      (not_none lane.link.waiting some)
+
+  pub can_post : (i j : ℕ) → i < k.n → j < k.n → slice_get nodes i ≡ Some node → lane_at k.n lanes i j ≡ Some lane → lane.link.capacity ≡ k.capacity →
+      ((outbox_to node j).items ≡ [] → ⊥) → length lane.link.waiting < lane.link.capacity →
+      (0 < length ((world_shown k.set k.n nodes lanes).outbox i j)) × (length ((world_shown k.set k.n nodes lanes).waiting i j) < k.capacity)
+  unfolding world_shown
+  can_post i j low_i low_j there_n there_l cap some room = (
+    subst (λ (xs : List Item). 0 < length xs) (sym (was nodes i node node there_n [] (λ (x : Node). (outbox_to x j).items)))
+        (not_none (outbox_to node j).items some),
+    subst (λ (xs : List BatchView). length xs < k.capacity)
+        (sym (lane_was k.n lanes i j lane lane low_i low_j whole there_l [] (λ (x : Lane). x.link.waiting)))
+        (subst (λ (m : ℕ). length lane.link.waiting < m) cap room),
+  )

@@ -97,7 +97,7 @@ ran_more k events place default old new low run step going standing =
 
 -- the event after those of a run stops a node
 pub run_stops : (k : Setting) (events : List Event) (place : ℕ) (default : Event) (world : World) (fault : Fault) → place < length events →
-    HasRun k (take place events) world → IsStopBy (setting_of world) (state_of world).world (get_or events place default) fault → HasStopped k events fault
+    HasRun k (take place events) world → IsStopBy (setting_of world) (state_of world) (get_or events place default) fault → HasStopped k events fault
 run_stops k events place default world fault low run stop = record {
   setting = subst IsSetting run.setting run.standing.setting;
   start = run.start;
@@ -108,6 +108,6 @@ run_stops k events place default world fault low run stop = record {
     there = slice_get-get_or events place default low;
     state = state_of world;
     after = run.after;
-    stop = subst (λ (s : Setting). IsStopBy s (state_of world).world (get_or events place default) fault) run.setting stop;
+    stop = subst (λ (s : Setting). IsStopBy s (state_of world) (get_or events place default) fault) run.setting stop;
   };
 }

@@ -13,7 +13,7 @@ use Rattle.dob_world.specs.declared.event.Event.{Event}
 use Rattle.dob_world.specs.declared.lane.Lane.{Lane}
 use Rattle.dob_world.specs.Worlds.{Setting, State, IsIdle}
 use Rattle.dob_world.specs.Events.{CanHappen, Happens}
-use Rattle.dob_world.specs.Shown.{nodes_shown, world_shown, ring_of, AreInPlace, IsCounted, Stand, HasAtMost}
+use Rattle.dob_world.specs.Shown.{nodes_shown, world_shown, ring_of, AreInPlace, IsCounted, Stand, HasAtMost, AreCutsPosted}
 use Rattle.dob_world.proofs.Slots.{was}
 use Rattle.dob_world.proofs.Kept.{happening_keeps_all}
 use Rattle.dob_world.proofs.Told.{busy_black, happening_keeps_told, posted_most}
@@ -26,9 +26,9 @@ none_some xs is some = let e : length xs ≡ 0 = ap length is in omega arith
 
 module _ (k : Setting) (nodes : List Node) (lanes : List Lane) (detector : Detector) (steps : ℕ) (stand : Stand k nodes lanes detector steps) where
   pub stand_after : (after : List Node) (next : List Lane) (new : Detector) (event : Event) → steps < 2 ^ 40 → AreInPlace k after next → IsCounted new →
-      new.n ≡ detector.n → CanHappen k (state_at k nodes lanes detector) event →
+      new.n ≡ detector.n → AreCutsPosted k.n after (ring_of new) → CanHappen k (state_at k nodes lanes detector) event →
       Happens k (state_at k nodes lanes detector) event (state_at k after next new) → Stand k after next new (steps + 1)
-  stand_after after next new event room places counted same can happens =
+  stand_after after next new event room places counted same cuts can happens =
       let both = happening_keeps_all k (state_at k nodes lanes detector) (state_at k after next new) event stand.setting.nodes.0 stand.lawful stand.linked can happens in
       let few : HasAtMost k.n (steps + 1) (ring_of new) =
       posted_most k (state_at k nodes lanes detector) (state_at k after next new) event steps happens stand.few in
@@ -43,6 +43,7 @@ module _ (k : Setting) (nodes : List Node) (lanes : List Lane) (detector : Detec
         told = happening_keeps_told k (state_at k nodes lanes detector) (state_at k after next new) event stand.setting.nodes stand.told can happens
             (λ i j low_i low_j. omega (arith, few i j low_i low_j, room));
         few = few;
+        cuts = cuts;
       }
 
   -- ---- what the detector may count

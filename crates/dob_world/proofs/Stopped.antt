@@ -25,7 +25,7 @@ use Rattle.dob_world.specs.declared.event.Event.TheVariants.{Expand, Own, Take}
 use Rattle.dob_world.specs.declared.fault.Fault.TheVariants.{Stopped}
 use Rattle.dob_world.specs.Worlds.{Setting, World as Seen, AreLawful, IsLinked, items_in}
 use Rattle.dob_world.specs.Lanes.{IsBatchFor}
-use Rattle.dob_world.specs.Stops.{IsStopBy}
+use Rattle.dob_world.specs.Stops.{IsCauseOf}
 use Rattle.dob_world.specs.Shown.{lane_at, nodes_shown, world_shown, IsNodeOf, AreInPlace}
 use Rattle.dob_world.proofs.Kept.{own_item_fits, taken_item_fits, next_waiting}
 use Rattle.dob_world.proofs.Slots.{was, lane_was}
@@ -79,19 +79,17 @@ module _ (k : Setting) (nodes : List Node) (lanes : List Lane) (some : 0 < k.n) 
 
   -- An own item stops its node for want of memory, or since it goes too deep.
   pub own_stops : (i : ℕ) (node : Node) (lane : Lane) (why : Cause) → i < k.n → slice_get nodes i ≡ Some node →
-      lane_at k.n lanes i i ≡ Some lane → (why ≡ cause.Memory) ⊎ HasItemFault node why → IsStopBy k (world_shown k.set k.n nodes lanes) (Own i) (Stopped i why)
+      lane_at k.n lanes i i ≡ Some lane → (why ≡ cause.Memory) ⊎ HasItemFault node why → IsCauseOf k (world_shown k.set k.n nodes lanes) (Own i) (Stopped i why)
   unfolding world_shown
-  own_stops i node lane why low there_n there_l (inl memory) = (low, inl (ap (λ (c : Cause). Stopped i c) memory))
+  own_stops i node lane why low there_n there_l (inl memory) = inl (ap (λ (c : Cause). Stopped i c) memory)
   own_stops i node lane why low there_n there_l (inr fault) =
       let item = fault.item in
       let is = places.node i node there_n in
       let own = own_cell i node lane item fault.behind low there_n there_l fault.first in
       let fits = fits_by k i node node.share node.history (nodes_shown k.set k.n nodes lanes).cell item is (kept_of k i node is) (λ class. refl) own.0 own.1 in
       elim (reason_stop item node.share why fits fault.reason) [
-        | inl memory ↦ (low, inl (ap (λ (c : Cause). Stopped i c) memory))
-        | inr deep ↦ (
-          low,
-          inr (
+        | inl memory ↦ inl (ap (λ (c : Cause). Stopped i c) memory)
+        | inr deep ↦ inr (
             ap (λ (c : Cause). Stopped i c) deep.0,
             record {
               item = item;
@@ -99,16 +97,15 @@ module _ (k : Setting) (nodes : List Node) (lanes : List Lane) (some : 0 < k.n) 
               first = was nodes i node node there_n [] (λ (x : Node). x.own.items) ∙ fault.first;
               deep = deep_there node.share (nodes_shown k.set k.n nodes lanes).cell item own.1 deep.1;
             },
-          ),
-        )
+          )
       ]
 
   -- So is one of a batch.
   pub take_stops : (i j : ℕ) (node : Node) (lane : Lane) (why : Cause) → i < k.n → j < k.n → i ≢ j → slice_get nodes j ≡ Some node →
       lane_at k.n lanes i j ≡ Some lane → (why ≡ cause.Memory) ⊎ ((batch : BatchView) × (rest : List BatchView) × (lane.link.waiting ≡ batch ∷ rest)
-      × StopsAt batch.items node.share node.history why) → IsStopBy k (world_shown k.set k.n nodes lanes) (Take i j) (Stopped j why)
+      × StopsAt batch.items node.share node.history why) → IsCauseOf k (world_shown k.set k.n nodes lanes) (Take i j) (Stopped j why)
   unfolding world_shown
-  take_stops i j node lane why low_i low_j differs there_n there_l (inl memory) = (low_j, inl (ap (λ (c : Cause). Stopped j c) memory))
+  take_stops i j node lane why low_i low_j differs there_n there_l (inl memory) = inl (ap (λ (c : Cause). Stopped j c) memory)
   take_stops i j node lane why low_i low_j differs there_n there_l (inr stopped) =
       let batch = stopped.0 in
       let at = stopped.3 in
@@ -136,10 +133,8 @@ module _ (k : Setting) (nodes : List Node) (lanes : List Lane) (some : 0 < k.n) 
       let fits = fits_by k j node at.after at.grown between.cell at.item here both.1
       (chain_statuses at.front node.share at.after node.history at.grown at.taken) can same in
       elim (reason_stop at.item at.after why fits at.reason) [
-        | inl memory ↦ (low_j, inl (ap (λ (c : Cause). Stopped j c) memory))
-        | inr deep ↦ (
-          low_j,
-          inr (
+        | inl memory ↦ inl (ap (λ (c : Cause). Stopped j c) memory)
+        | inr deep ↦ inr (
             ap (λ (c : Cause). Stopped j c) deep.0,
             record {
               batch = batch;
@@ -153,22 +148,5 @@ module _ (k : Setting) (nodes : List Node) (lanes : List Lane) (some : 0 < k.n) 
               applied = both.0;
               deep = deep_there at.after between.cell at.item same deep.1;
             },
-          ),
-        )
+          )
       ]
-
--- only a post stops a node since there are as many batches as are counted
-pub not_expand : (k : Setting) (world : Seen) (i node : ℕ) → IsStopBy k world (Expand i) (Stopped node cause.Counts) → ⊥
-not_expand k world i node stop = let e = stop.1 in absurd cc
-
-pub not_own : (k : Setting) (world : Seen) (i node : ℕ) → IsStopBy k world (Own i) (Stopped node cause.Counts) → ⊥
-not_own k world i node stop = elim stop.1 [
-  | inl e ↦ absurd cc
-  | inr d ↦ let e = d.0 in absurd cc
-]
-
-pub not_take : (k : Setting) (world : Seen) (i j node : ℕ) → IsStopBy k world (Take i j) (Stopped node cause.Counts) → ⊥
-not_take k world i j node stop = elim stop.1 [
-  | inl e ↦ absurd cc
-  | inr d ↦ let e = d.0 in absurd cc
-]

@@ -1,5 +1,5 @@
 -- What a world shows: its nodes, lanes and ring as functions of node numbers; and what it keeps while no node has stopped.
-use Rattle.std.specs.Prelude.{◌≡◌, ℕ, ◌+◌, ◌*◌, ◌^◌, ◌<◌, ◌≤◌, nat_lt, false, cond, pos, List, [], length, Option}
+use Rattle.std.specs.Prelude.{◌≡◌, ◌≢◌, ℕ, ◌+◌, ◌*◌, ◌<◌, ◌≤◌, nat_lt, false, cond, pos, List, [], length, Option}
 use Rattle.std.specs.Prelude.{None, Some, MatchOption, slice_get, slice_index, slice_index_or}
 use Rattle.std.specs.List.{All}
 use Rattle.dob_pieces.specs.declared.piece_set.PieceSet.{PieceSet}
@@ -20,7 +20,6 @@ use Rattle.dob_safra.specs.Laws.{IsSize}
 use Rattle.dob_safra.specs.Rings.{Ring, counter, IsStart as IsStartRing}
 use Rattle.dob_world.specs.declared.detector.Detector.{Detector}
 use Rattle.dob_world.specs.declared.event.Event.{Event}
-use Rattle.dob_world.specs.declared.event.Event.TheVariants.{Post}
 use Rattle.dob_world.specs.declared.lane.Lane.{Lane}
 use Rattle.dob_world.specs.declared.world.World.{World}
 use Rattle.dob_world.specs.Lanes.{IsBatchFor}
@@ -72,12 +71,8 @@ abbrev pub state_of : World → State
 state_of world = record { world = world_shown world.classes.set world.n world.nodes.items world.lanes.items; ring = ring_of world.detector }
 
 -- how many batches node i has cut for node j
-abbrev pub cut_by : World → ℕ → ℕ → ℕ
-cut_by world i j = part 0 (λ (node : Node). (outbox_to node j).next) (slice_get world.nodes.items i)
-
--- at the event the node posts a batch to another, for which it has cut as many as are counted
-abbrev pub HasCutAll : World → Event → ℕ → Type 0
-HasCutAll world event node = (to : ℕ) × (event ≡ Post node to) × (2 ^ 40 ≤ cut_by world node to)
+abbrev pub cut_by : List Node → ℕ → ℕ → ℕ
+cut_by nodes i j = part 0 (λ (node : Node). (outbox_to node j).next) (slice_get nodes i)
 
 -- ---- what is kept
 
@@ -122,6 +117,10 @@ pub record IsCounted (detector : Detector) : Type 0 where
 abbrev pub HasAtMost : ℕ → ℕ → Ring → Type 0
 HasAtMost n bound ring = (i j : ℕ) → i < n → j < n → ring.posted i j ≤ bound
 
+-- each batch that a node has cut for another one is posted
+abbrev pub AreCutsPosted : ℕ → List Node → Ring → Type 0
+AreCutsPosted n nodes ring = (i j : ℕ) → i < n → j < n → i ≢ j → cut_by nodes i j ≡ ring.posted i j
+
 -- Nodes, lanes and detector of a world of which no node has stopped, after so many events: what they show is lawful and
 -- linked, and the ring tells what is so.
 pub record Stand (k : Setting) (nodes : List Node) (lanes : List Lane) (detector : Detector) (steps : ℕ) : Type 0 where
@@ -134,6 +133,7 @@ pub record Stand (k : Setting) (nodes : List Node) (lanes : List Lane) (detector
   pub linked : IsLinked k (world_shown k.set k.n nodes lanes)
   pub told : IsTold k (record { world = world_shown k.set k.n nodes lanes; ring = ring_of detector })
   pub few : HasAtMost k.n steps (ring_of detector)
+  pub cuts : AreCutsPosted k.n nodes (ring_of detector)
 
 abbrev pub IsStanding : World → Type 0
 IsStanding world = Stand (setting_of world) world.nodes.items world.lanes.items world.detector world.steps

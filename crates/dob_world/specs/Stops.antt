@@ -10,7 +10,7 @@ use Rattle.dob_world.specs.declared.event.Event.TheVariants.{Expand, Own, Post, 
 use Rattle.dob_world.specs.declared.fault.Fault.{Fault}
 use Rattle.dob_world.specs.declared.fault.Fault.TheVariants.{Stopped}
 use Rattle.dob_world.specs.Worlds.{Setting, Nodes, World, State}
-use Rattle.dob_world.specs.Events.{AppliesAll}
+use Rattle.dob_world.specs.Events.{CanHappen, AppliesAll}
 use Rattle.dob_world.specs.Runs.{IsAfter}
 use Rattle.dob_world.specs.Rounds.{round_length, round_event, round_front, rounds_of}
 
@@ -38,19 +38,23 @@ pub record TakenGoesTooDeep (k : Setting) (world : World) (i j : ℕ) : Type 0 w
   pub applied : AppliesAll k i j front world.nodes between
   pub deep : GoesTooDeep between item
 
--- The event stops the node that makes a step at it: since a growth was refused; or since an item that it applies goes too
--- deep, or there are as many batches as are counted. No node stops as it passes the token or announces the end.
-abbrev pub IsStopBy : Setting → World → Event → Fault → Type 0
-IsStopBy k world (Expand i) fault = (i < k.n) × (fault ≡ Stopped i cause.Memory)
-IsStopBy k world (Own i) fault = (i < k.n) × ((fault ≡ Stopped i cause.Memory) ⊎ ((fault ≡ Stopped i cause.TooDeep) × OwnGoesTooDeep world i))
-IsStopBy k world (Post i j) fault = (i < k.n) × ((fault ≡ Stopped i cause.Memory) ⊎ (fault ≡ Stopped i cause.Counts))
-IsStopBy k world (Take i j) fault = (j < k.n) × ((fault ≡ Stopped j cause.Memory) ⊎ ((fault ≡ Stopped j cause.TooDeep) × TakenGoesTooDeep k world i j))
-IsStopBy k world (Pass i) fault = ⊥
-IsStopBy k world Announce fault = ⊥
+-- What stops the node that makes a step at the event: that a growth was refused, or that an item which it applies goes too
+-- deep. No node stops as it passes the token or announces the end.
+abbrev pub IsCauseOf : Setting → World → Event → Fault → Type 0
+IsCauseOf k world (Expand i) fault = fault ≡ Stopped i cause.Memory
+IsCauseOf k world (Own i) fault = (fault ≡ Stopped i cause.Memory) ⊎ ((fault ≡ Stopped i cause.TooDeep) × OwnGoesTooDeep world i)
+IsCauseOf k world (Post i j) fault = fault ≡ Stopped i cause.Memory
+IsCauseOf k world (Take i j) fault = (fault ≡ Stopped j cause.Memory) ⊎ ((fault ≡ Stopped j cause.TooDeep) × TakenGoesTooDeep k world i j)
+IsCauseOf k world (Pass i) fault = ⊥
+IsCauseOf k world Announce fault = ⊥
 
--- Some event of some world stops a node so; thus never because an item contradicts its cell.
+-- The event could happen, and it stops its node in its place.
+abbrev pub IsStopBy : Setting → State → Event → Fault → Type 0
+IsStopBy k state event fault = CanHappen k state event × IsCauseOf k state.world event fault
+
+-- Some event of some state stops a node so; thus never because an item contradicts its cell.
 abbrev pub IsStop : Fault → Type 0
-IsStop fault = (k : Setting) × (world : World) × (event : Event) × IsStopBy k world event fault
+IsStop fault = (k : Setting) × (state : State) × (event : Event) × IsStopBy k state event fault
 
 -- One of the events stops a node, after those before it.
 pub record IsStopIn (k : Setting) (start : State) (events : List Event) (fault : Fault) : Type 0 where
@@ -59,7 +63,7 @@ pub record IsStopIn (k : Setting) (start : State) (events : List Event) (fault :
   pub there : slice_get events place ≡ Some event
   pub state : State
   pub after : IsAfter k start (take place events) state
-  pub stop : IsStopBy k state.world event fault
+  pub stop : IsStopBy k state event fault
 
 -- An event of one of so many rounds stops a node, after the rounds before it and the events before it in its own.
 pub record IsStopInRounds (k : Setting) (start : State) (rounds : ℕ) (fault : Fault) : Type 0 where
@@ -69,4 +73,4 @@ pub record IsStopInRounds (k : Setting) (start : State) (rounds : ℕ) (fault : 
   pub low : place < round_length k.n
   pub state : State
   pub after : IsAfter k start (rounds_of k.n made ++ round_front k.n place) state
-  pub stop : IsStopBy k state.world (round_event k.n place) fault
+  pub stop : IsStopBy k state (round_event k.n place) fault

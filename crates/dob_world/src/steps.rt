@@ -1,5 +1,5 @@
 // What an event does to the nodes and the lane that it names.
-ghost use Rattle.std.specs.Prelude.{◌≡◌, ◌<◌, ◌≤◌, ◌^◌, Err, ◌↔◌, ◌⊎◌, List, [], ◌∷◌, length, true, false, IfErr, OnOk};
+ghost use Rattle.std.specs.Prelude.{◌≡◌, ◌<◌, ◌≤◌, ◌^◌, Err, ◌↔◌, ◌⊎◌, List, [], ◌∷◌, length, true, false, IfErr, OnOk, OnErr};
 ghost use Rattle.std.specs.List.{All};
 ghost use Rattle.dob_update.specs.Batches.{BatchView};
 ghost use Rattle.dob_node.specs.declared.cause.Cause.TheVariants as cause;
@@ -47,8 +47,8 @@ pub(crate) fn post(node: &mut Node, lane: &mut Lane, to: usize, size: usize) -> 
     ensures nothing { result ≡ Ok false → (node.new ≡ node.old) × (lane.new ≡ lane.old) }
     ensures some { result ≡ Ok true → ((outbox_to node.old to).items ≡ [] → ⊥) × (length lane.old.link.waiting < lane.old.link.capacity) }
     ensures posted { result ≡ Ok true → HasPosted to size node.old lane.old node.new lane.new }
-    ensures stopped { IfErr result (λ why. (why ≡ cause.Counts) ⊎ (why ≡ cause.Memory)) }
-    ensures counts { result ≡ Err cause.Counts → ((outbox_to node.old to).items ≡ [] → ⊥) × (2 ^ 40 ≤ (outbox_to node.old to).next) × (length lane.old.link.waiting < lane.old.link.capacity) }
+    ensures stopped { IfErr result (λ why. ((why ≡ cause.Counts) × (2 ^ 40 ≤ (outbox_to node.old to).next)) ⊎ (why ≡ cause.Memory)) }
+    ensures moment { OnErr result (((outbox_to node.old to).items ≡ [] → ⊥) × (length lane.old.link.waiting < lane.old.link.capacity)) }
     ensures sound { OnOk result (IsSound node.new) }
 {
     if lane.link.is_full() {

@@ -38,9 +38,8 @@ impl World {
     ghost use Rattle.dob_world.specs.Worlds.{IsLinked, IsIdle};
     ghost use Rattle.dob_world.specs.Events.{CanHappen, MayEnd};
     ghost use Rattle.dob_world.specs.declared.fault.Fault.TheVariants as fault;
-    ghost use Rattle.dob_node.specs.declared.cause.Cause.TheVariants as cause;
     ghost use Rattle.dob_world.specs.Stops.{IsStopBy, IsStop};
-    ghost use Rattle.dob_world.specs.Shown.{setting_of, state_of, HasCutAll, IsStanding, WillStand, IsKept, IsUnchanged, IsMade, IsStart};
+    ghost use Rattle.dob_world.specs.Shown.{setting_of, state_of, IsStanding, WillStand, IsKept, IsUnchanged, IsMade, IsStart};
     ghost use Rattle.dob_world.specs.Results.{HasSettingFault};
     ghost use Rattle.dob_world.specs.Headline.{Headline};
 
@@ -100,10 +99,9 @@ impl World {
         ensures skipped { result ≡ Ok Step.Skipped → (¬ CanHappen (setting_of self.old) (state_of self.old) event) × IsUnchanged self.old self.new }
         ensures stopped { IfErr result (λ fault. IsStop fault × (self.new.failed ≡ Some fault)) }
         ensures ring { OnErr result ((self.new.detector ≡ self.old.detector) × (self.new.steps ≡ self.old.steps)) }
-        ensures counts { self.old.failed ≡ None → (node : ℕ) → result ≡ Err (fault.Stopped node cause.Counts) → HasCutAll self.old event node }
-        ensures named { self.old.failed ≡ None → IfErr result (λ fault. IsStopBy (setting_of self.old) (state_of self.old).world event fault) }
+        ensures named { self.old.failed ≡ None → IfErr result (λ fault. IsStopBy (setting_of self.old) (state_of self.old) event fault) }
         ensures stays { IfSome self.old.failed (λ fault. result ≡ Err fault) }
-        ensures silent { self.old.detector.announced ≡ true → result ≡ Ok Step.Done → ⊥ }
+        ensures silent { self.old.failed ≡ None → self.old.detector.announced ≡ true → result ≡ Ok Step.Skipped }
         ensures headline { OnOk result (Headline (setting_of self.new) (state_of self.new)) }
         ensures going { OnOk result ((self.new.failed ≡ None) × IsStanding self.new) }
         ensures kept { IsKept self.new }
@@ -130,8 +128,7 @@ impl World {
         requires few { self.old.steps < 2 ^ 40 }
         ensures done { result ≡ Ok true → IsMade event self.old self.new × WillStand self.new × (self.new.failed ≡ self.old.failed) × (self.new.steps ≡ self.old.steps) }
         ensures skipped { result ≡ Ok false → (¬ CanHappen (setting_of self.old) (state_of self.old) event) × IsUnchanged self.old self.new }
-        ensures stopped { IfErr result (λ fault. IsStopBy (setting_of self.old) (state_of self.old).world event fault) }
-        ensures counts { (node : ℕ) → result ≡ Err (fault.Stopped node cause.Counts) → HasCutAll self.old event node }
+        ensures stopped { IfErr result (λ fault. IsStopBy (setting_of self.old) (state_of self.old) event fault) }
         ensures ring { OnErr result ((self.new.detector ≡ self.old.detector) × (self.new.steps ≡ self.old.steps)) }
     {
         match event {
@@ -150,7 +147,7 @@ impl World {
         requires few { self.old.steps < 2 ^ 40 }
         ensures done { result ≡ Ok true → IsMade (Expand node) self.old self.new × WillStand self.new × (self.new.failed ≡ self.old.failed) × (self.new.steps ≡ self.old.steps) }
         ensures skipped { result ≡ Ok false → (¬ CanHappen (setting_of self.old) (state_of self.old) (Expand node)) × IsUnchanged self.old self.new }
-        ensures stopped { IfErr result (λ fault. IsStopBy (setting_of self.old) (state_of self.old).world (Expand node) fault) }
+        ensures stopped { IfErr result (λ fault. IsStopBy (setting_of self.old) (state_of self.old) (Expand node) fault) }
         ensures ring { OnErr result ((self.new.detector ≡ self.old.detector) × (self.new.steps ≡ self.old.steps)) }
     {
         if node >= self.n {
@@ -168,7 +165,7 @@ impl World {
         requires few { self.old.steps < 2 ^ 40 }
         ensures done { result ≡ Ok true → IsMade (Own node) self.old self.new × WillStand self.new × (self.new.failed ≡ self.old.failed) × (self.new.steps ≡ self.old.steps) }
         ensures skipped { result ≡ Ok false → (¬ CanHappen (setting_of self.old) (state_of self.old) (Own node)) × IsUnchanged self.old self.new }
-        ensures stopped { IfErr result (λ fault. IsStopBy (setting_of self.old) (state_of self.old).world (Own node) fault) }
+        ensures stopped { IfErr result (λ fault. IsStopBy (setting_of self.old) (state_of self.old) (Own node) fault) }
         ensures ring { OnErr result ((self.new.detector ≡ self.old.detector) × (self.new.steps ≡ self.old.steps)) }
     {
         if node >= self.n {
@@ -187,8 +184,7 @@ impl World {
         requires few { self.old.steps < 2 ^ 40 }
         ensures done { result ≡ Ok true → IsMade (Post from to) self.old self.new × WillStand self.new × (self.new.failed ≡ self.old.failed) × (self.new.steps ≡ self.old.steps) }
         ensures skipped { result ≡ Ok false → (¬ CanHappen (setting_of self.old) (state_of self.old) (Post from to)) × IsUnchanged self.old self.new }
-        ensures stopped { IfErr result (λ fault. IsStopBy (setting_of self.old) (state_of self.old).world (Post from to) fault) }
-        ensures counts { (node : ℕ) → result ≡ Err (fault.Stopped node cause.Counts) → HasCutAll self.old (Post from to) node }
+        ensures stopped { IfErr result (λ fault. IsStopBy (setting_of self.old) (state_of self.old) (Post from to) fault) }
         ensures ring { OnErr result ((self.new.detector ≡ self.old.detector) × (self.new.steps ≡ self.old.steps)) }
     {
         if from >= self.n || to >= self.n || from == to {
@@ -216,7 +212,7 @@ impl World {
         requires few { self.old.steps < 2 ^ 40 }
         ensures done { result ≡ Ok true → IsMade (Take from to) self.old self.new × WillStand self.new × (self.new.failed ≡ self.old.failed) × (self.new.steps ≡ self.old.steps) }
         ensures skipped { result ≡ Ok false → (¬ CanHappen (setting_of self.old) (state_of self.old) (Take from to)) × IsUnchanged self.old self.new }
-        ensures stopped { IfErr result (λ fault. IsStopBy (setting_of self.old) (state_of self.old).world (Take from to) fault) }
+        ensures stopped { IfErr result (λ fault. IsStopBy (setting_of self.old) (state_of self.old) (Take from to) fault) }
         ensures ring { OnErr result ((self.new.detector ≡ self.old.detector) × (self.new.steps ≡ self.old.steps)) }
     {
         if from >= self.n || to >= self.n || from == to {

@@ -1,11 +1,13 @@
 -- The node that expands.
-use Rattle.std.proofs.Common.{◌≡◌, ◌<◌, refl, sym, ap, ◌∙◌, arith, true, false, Ok, Some, slice_get, slice_set, length}
+use Rattle.std.proofs.Common.{◌≡◌, ◌≤◌, ◌<◌, refl, sym, ap, ◌∙◌, arith, true, false, Ok, Some, slice_get, slice_set, length}
 use Rattle.dob_pieces.proofs.Elements.{read_there}
+use Rattle.dob_node.specs.declared.cause.Cause.{Cause}
 use Rattle.dob_world.specs.declared.event.Event.TheVariants.{Expand}
+use Rattle.dob_world.specs.declared.fault.Fault.TheVariants.{Stopped}
 use Rattle.dob_world.specs.Events.{CanHappen}
-use Rattle.dob_world.specs.Shown.{setting_of, state_of, IsNodeOf}
+use Rattle.dob_world.specs.Shown.{setting_of, state_of, ring_of, IsNodeOf}
 use Rattle.dob_world.proofs.Slots.{set_same}
-use Rattle.dob_world.proofs.Expanded.{in_place_node, still_node, expands, can_expand, cant_expand}
+use Rattle.dob_world.proofs.Expanded.{in_place_node, still_node, expands, can_expand, cant_expand, left_to_expand, cuts_expanded}
 use Rattle.dob_world.proofs.Firsts.{ok_is}
 use Rattle.dob_world.proofs.Stood.{stand_after}
 use Rattle.dob_world.proofs.world.World.expand.Goals as goal
@@ -39,7 +41,7 @@ returns-in-Ok-clause-done c = λ e.
     let places = in_place_node k nodes lanes i node after there c.requires.standing.places (still_node k nodes lanes i node after there is step c.in-Ok.ensures.sound) in (
       record { setting = refl; can = can; happens = (expanded, refl) },
       stand_after k nodes lanes c.args.self.now.detector c.args.self.now.steps c.requires.standing (slice_set nodes i after) lanes c.args.self.now.detector
-          (Expand i) c.requires.few places c.requires.standing.counted refl can (expanded, refl),
+          (Expand i) c.requires.few places c.requires.standing.counted refl (cuts_expanded k nodes i node after there is step (ring_of c.args.self.now.detector) c.requires.standing.cuts) can (expanded, refl),
       refl,
       refl,
     )
@@ -63,4 +65,19 @@ returns-in-Ok-clause-skipped c = λ e.
         steps = refl;
         failed = refl;
       },
+    )
+
+pub returns-in-Err-clause-stopped : goal.returns-in-Err-clause-stopped
+returns-in-Err-clause-stopped c =
+    let k = setting_of c.args.self.now in
+    let nodes = c.args.self.now.nodes.items in
+    let i = c.args.node in
+    let node = c.index_mut.result.now in
+    let low : i < length nodes = omega (arith, c.requires.standing.places.nodes_whole) in
+    let below : i < c.args.self.now.n = c.if-node-self.false in
+    let there : slice_get nodes i ≡ Some node = read_there nodes i node low c.index_mut.ensures.value in
+    let told : node.expanded ≤ length node.history.settlements = (c.requires.standing.places.node i node there).sound.told in (
+      (below, left_to_expand k nodes c.args.self.now.lanes.items i node node there told
+          (λ all. let no = c.in-Err.ensures.done.1 all in absurd (cc))),
+      ap (λ (why : Cause). Stopped i why) c.in-Err.ensures.memory,
     )

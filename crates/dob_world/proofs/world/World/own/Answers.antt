@@ -2,10 +2,11 @@
 use Rattle.std.proofs.Common.{◌<◌, ◌+◌, ◌*◌, refl, ap, ◌∙◌, arith, true, false, Ok, slice_set, length}
 use Rattle.dob_pieces.proofs.Elements.{read_there}
 use Rattle.dob_world.specs.declared.event.Event.TheVariants.{Own}
-use Rattle.dob_world.specs.Shown.{setting_of}
+use Rattle.dob_world.specs.Shown.{setting_of, ring_of}
 use Rattle.dob_world.proofs.Slots.{set_same}
 use Rattle.dob_world.proofs.Stands.{node_there, lane_there, slot_there}
-use Rattle.dob_world.proofs.Outcomes.{owned, cant_own}
+use Rattle.dob_world.proofs.Cuts.{cuts_stay, next_same}
+use Rattle.dob_world.proofs.Outcomes.{owned, cant_own, some_own}
 use Rattle.dob_world.proofs.Stopped.{own_stops}
 use Rattle.dob_world.proofs.Firsts.{ok_is}
 use Rattle.dob_world.proofs.Stood.{stand_after}
@@ -29,13 +30,17 @@ returns-in-Ok-clause-done c = λ e.
     let below : i < c.args.self.now.n = c.if-node-self.false in
     let there_n = node_there k nodes lanes c.requires.standing.places i node below c.index_mut.ensures.value in
     let there_l = lane_there k nodes lanes c.requires.standing.places i i lane below below c.index_mut-2.ensures.value in
+    let step = c.in-Ok.ensures.applied (ap Ok (ok_is c.in-Ok.happened true e)) in
     let o = owned k nodes lanes c.requires.standing.setting.nodes.0 c.requires.standing.places c.requires.standing.lawful c.requires.standing.linked
     node c.apply_own.new.node lane c.apply_own.new.lane
-    c.in-Ok.ensures.sound i below there_n there_l (c.in-Ok.ensures.applied (ap Ok (ok_is c.in-Ok.happened true e))) in (
+    c.in-Ok.ensures.sound i below there_n there_l step in (
       record { setting = refl; can = o.can; happens = (o.happens, refl) },
       stand_after k nodes lanes c.args.self.now.detector c.args.self.now.steps c.requires.standing (slice_set nodes i c.apply_own.new.node)
           (slice_set lanes (i * c.args.self.now.n + i) c.apply_own.new.lane) c.args.self.now.detector
-          (Own i) c.requires.few o.places c.requires.standing.counted refl o.can (o.happens, refl),
+          (Own i) c.requires.few o.places c.requires.standing.counted refl
+          (cuts_stay k.n nodes i node c.apply_own.new.node (ring_of c.args.self.now.detector) (ring_of c.args.self.now.detector) there_n c.requires.standing.cuts
+          (λ j low differs. next_same node c.apply_own.new.node step.applied.same.0 step.applied.same.1 step.applied.same.2 step.applied.outboxes j) (λ m l low_m low_l. refl))
+          o.can (o.happens, refl),
       refl,
       refl,
     )
@@ -75,5 +80,9 @@ returns-in-Err-clause-stopped c =
     let below : i < c.args.self.now.n = c.if-node-self.false in
     let there_n = node_there k nodes lanes c.requires.standing.places i node below c.index_mut.ensures.value in
     let there_l = lane_there k nodes lanes c.requires.standing.places i i lane below below c.index_mut-2.ensures.value in
-    own_stops k nodes lanes c.requires.standing.setting.nodes.0 c.requires.standing.places c.requires.standing.lawful c.requires.standing.linked i node lane
-    c.in-Err.cause below there_n there_l c.in-Err.ensures.stopped
+    (
+      (below, some_own k nodes lanes node lane c.requires.standing.places.lanes_whole i there_n
+          (λ empty. let no = c.in-Err.ensures.none.1 empty in absurd (cc))),
+      own_stops k nodes lanes c.requires.standing.setting.nodes.0 c.requires.standing.places c.requires.standing.lawful c.requires.standing.linked i node lane
+          c.in-Err.cause below there_n there_l c.in-Err.ensures.stopped,
+    )

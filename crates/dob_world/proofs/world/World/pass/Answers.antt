@@ -6,6 +6,7 @@ use Rattle.dob_world.specs.declared.event.Event.TheVariants.{Pass}
 use Rattle.dob_world.specs.Events.{CanHappen, MayEnd}
 use Rattle.dob_world.specs.Shown.{setting_of, state_of, ring_of}
 use Rattle.dob_world.proofs.Stands.{node_there}
+use Rattle.dob_world.proofs.Cuts.{cuts_same}
 use Rattle.dob_world.proofs.Stood.{stand_after, moved_here, announceable_there, idle_shown, shown_idle}
 use Rattle.dob_world.proofs.world.World.pass.Goals as goal
 use Rattle.dob_world.proofs.world.World.pass.Goals.{else-node-eq0-via-then-node-eq0+else-may_end, else-node-eq0-via-else-node-eq0}
@@ -51,7 +52,8 @@ returns-clause-done c = λ e.
     (moved_here k nodes lanes detector steps stand (ring.Pass detector.token.at) (ring_of c.pass_token.new.self) c.pass_token.ensures.moved) in (
       record { setting = refl; can = can; happens = (refl, moved) },
       stand_after k nodes lanes detector steps stand nodes lanes c.pass_token.new.self (Pass c.args.node) c.requires.few stand.places
-          c.pass_token.ensures.counted.0 c.pass_token.ensures.counted.1 can (refl, moved),
+          c.pass_token.ensures.counted.0 c.pass_token.ensures.counted.1
+          (cuts_same k.n nodes (ring_of detector) (ring_of c.pass_token.new.self) moved.posted stand.cuts) can (refl, moved),
       refl,
       refl,
     )

@@ -1,14 +1,14 @@
 -- The node that posts.
-use Rattle.dob_node.specs.declared.cause.Cause.TheVariants as cause
-use Rattle.dob_node.specs.declared.node.Node.{Node}
-use Rattle.dob_node.specs.Nodes.{outbox_to}
-use Rattle.std.proofs.Common.{ℕ, ◌≡◌, ◌≤◌, ◌^◌, Err, ◌<◌, ◌+◌, ◌*◌, refl, sym, ap, ◌∙◌, subst, Ok, slice_set}
+use Rattle.std.proofs.Common.{ℕ, ◌<◌, ◌+◌, ◌*◌, inl, inr, refl, sym, ap, ◌∙◌, subst, Ok, slice_set}
+use Rattle.dob_node.specs.declared.cause.Cause.{Cause}
+use Rattle.dob_world.specs.declared.fault.Fault.TheVariants.{Stopped}
 use Rattle.dob_world.specs.declared.event.Event.TheVariants.{Post}
 use Rattle.dob_safra.specs.declared.event.RingEvent.TheVariants as ring
-use Rattle.dob_world.specs.Shown.{setting_of, ring_of, part, cut_by}
+use Rattle.dob_world.specs.Shown.{setting_of, ring_of}
 use Rattle.dob_world.proofs.Slots.{set_same}
 use Rattle.dob_world.proofs.Stands.{node_there, lane_there, slot_there}
-use Rattle.dob_world.proofs.Outcomes.{posted, cant_post}
+use Rattle.dob_world.proofs.Cuts.{cuts_posted, few_cut}
+use Rattle.dob_world.proofs.Outcomes.{posted, cant_post, can_post}
 use Rattle.dob_world.proofs.Stood.{stand_after, ring_lawful, low_ring, moved_here, sender_black, room_to_post}
 use Rattle.dob_world.proofs.world.World.post.Goals as goal
 
@@ -112,10 +112,14 @@ returns-in-Ok-true-clause-done c = λ e.
     let some = c.in-Ok-true.ensures.some done in
     let o = posted k nodes lanes stand.setting.nodes.0 stand.places stand.lawful stand.linked node c.post.new.node lane c.post.new.lane
     c.in-Ok-true.ensures.sound i j low_i low_j c.if-from-to.false there_n there_l (c.in-Ok-true.ensures.posted done) some.0 some.1 in
+    let step = c.in-Ok-true.ensures.posted done in
     let moved = moved_here k nodes lanes detector c.args.self.now.steps stand (ring.Post i j) (ring_of c.count_post.new.self) c.count_post.ensures.moved in (
       record { setting = refl; can = o.can; happens = (o.happens, moved) },
       stand_after k nodes lanes detector c.args.self.now.steps stand (slice_set nodes i c.post.new.node) (slice_set lanes (i * c.args.self.now.n + j) c.post.new.lane)
-          c.count_post.new.self (Post i j) c.requires.few o.places c.count_post.ensures.counted.0 c.count_post.ensures.counted.1 o.can (o.happens, moved),
+          c.count_post.new.self (Post i j) c.requires.few o.places c.count_post.ensures.counted.0 c.count_post.ensures.counted.1
+          (cuts_posted k.n nodes i node c.post.new.node (ring_of detector) (ring_of c.count_post.new.self) there_n stand.cuts j low_i low_j c.if-from-to.false
+          step.cut.cut.next step.cut.others moved.posted)
+          o.can (o.happens, moved),
       refl,
       refl,
     )
@@ -150,19 +154,32 @@ returns-in-Ok-false-clause-skipped c = λ e.
       },
     )
 
-pub returns-in-Err-clause-counts : goal.returns-in-Err-clause-counts
-returns-in-Err-clause-counts c = λ by same.
+pub returns-in-Err-clause-stopped : goal.returns-in-Err-clause-stopped
+returns-in-Err-clause-stopped c =
     let k = setting_of c.args.self.now in
     let nodes = c.args.self.now.nodes.items in
     let lanes = c.args.self.now.lanes.items in
     let i = c.args.from in
     let j = c.args.to in
     let node = c.index_mut.result.now in
+    let lane = c.index_mut-2.result.now in
     let low_i : i < c.args.self.now.n = c.if-from-self.false in
-    let there_n = node_there k nodes lanes c.requires.standing.places i node low_i c.index_mut.ensures.value in
-    let why : c.in-Err.cause ≡ cause.Counts = (cc) in
-    let who : c.args.from ≡ by = (cc) in
-    let much = (c.in-Err.ensures.counts (ap Err why)).1 in
-    (j, ap (λ (m : ℕ). Post m j) who,
-      subst (λ (m : ℕ). 2 ^ 40 ≤ cut_by c.args.self.now m j) who
-      (subst (λ o. 2 ^ 40 ≤ part 0 (λ (node : Node). (outbox_to node j).next) o) (sym there_n) much))
+    let low_j : j < c.args.self.now.n = c.if-to-self.false in
+    let stand = c.requires.standing in
+    let there_n = node_there k nodes lanes stand.places i node low_i c.index_mut.ensures.value in
+    let there_l = lane_there k nodes lanes stand.places i j lane low_i low_j c.index_mut-2.ensures.value in
+    let can = can_post k nodes lanes node lane stand.places.lanes_whole i j low_i low_j there_n there_l (stand.places.lane i j lane there_l).capacity
+    c.in-Err.ensures.moment.0 c.in-Err.ensures.moment.1 in (
+      (
+        low_i,
+        low_j,
+        c.if-from-to.false,
+        can.0,
+        can.1,
+      ),
+      elim c.in-Err.ensures.stopped [
+        | inl counts ↦ absurd (few_cut k.n nodes i node node (ring_of c.args.self.now.detector) (ring_of c.args.self.now.detector) there_n stand.cuts j
+            c.args.self.now.steps low_i low_j c.if-from-to.false c.requires.few stand.few counts.1)
+        | inr memory ↦ ap (λ (why : Cause). Stopped i why) memory
+      ],
+    )

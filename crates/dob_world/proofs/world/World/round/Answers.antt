@@ -30,6 +30,6 @@ returns-in-Err-clause-stopped c =
     let way = c.loop-place.invariant.way in
     let low : c.loop-place.place < round_length c.args.self.now.n = omega (arith, c.loop-place-test.true) in (
       round_stops c.args.self.now mid c.loop-place.place c.in-Err.fault way low
-          (subst (λ (e : Event). IsStopBy (setting_of mid) (state_of mid).world e c.in-Err.fault) c.event_at.ensures (c.in-Err.ensures.named way.going)),
+          (subst (λ (e : Event). IsStopBy (setting_of mid) (state_of mid) e c.in-Err.fault) c.event_at.ensures (c.in-Err.ensures.named way.going)),
       c.in-Err.ensures.stopped.1,
     )

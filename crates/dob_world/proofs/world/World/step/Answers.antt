@@ -32,9 +32,20 @@ returns-in-Ok-false-clause-going c =
 pub returns-in-Err-clause-stopped : goal.returns-in-Err-clause-stopped
 returns-in-Err-clause-stopped c =
     let old = c.args.self.now in
-    ((setting_of old, (state_of old).world, c.args.event, c.in-Err.ensures.stopped), refl)
+    ((setting_of old, state_of old, c.args.event, c.in-Err.ensures.stopped), refl)
 
 pub returns-in-Err-clause-kept : goal.returns-in-Err-clause-kept
 returns-in-Err-clause-kept c =
     let old = c.args.self.now in
-    (setting_of old, (state_of old).world, c.args.event, c.in-Err.ensures.stopped)
+    (setting_of old, state_of old, c.args.event, c.in-Err.ensures.stopped)
+
+pub returns-in-Ok-true-clause-silent : goal.returns-in-Ok-true-clause-silent
+returns-in-Ok-true-clause-silent c = λ going ended.
+    let made = c.in-Ok-true.ensures.done (ap Ok c.in-Ok-true.field-0-test) in
+    let standing : IsStanding c.args.self.now = search rules in
+    absurd (((standing_headline c.args.self.now standing).silence ended).nothing c.args.event made.0.can)
+
+pub returns-in-Err-clause-silent : goal.returns-in-Err-clause-silent
+returns-in-Err-clause-silent c = λ going ended.
+    let standing : IsStanding c.args.self.now = search rules in
+    absurd (((standing_headline c.args.self.now standing).silence ended).nothing c.args.event c.in-Err.ensures.stopped.0)

@@ -9,7 +9,8 @@ use Rattle.dob_safra.specs.declared.event.RingEvent.TheVariants as ring
 use Rattle.dob_world.specs.Shown.{setting_of, ring_of}
 use Rattle.dob_world.proofs.Slots.{set_same}
 use Rattle.dob_world.proofs.Stands.{node_there, lane_there, slot_there}
-use Rattle.dob_world.proofs.Outcomes.{received, cant_take}
+use Rattle.dob_world.proofs.Cuts.{cuts_stay, next_same}
+use Rattle.dob_world.proofs.Outcomes.{received, cant_take, some_waits}
 use Rattle.dob_world.proofs.Stopped.{take_stops}
 use Rattle.dob_world.proofs.Stood.{stand_after, ring_lawful, low_ring, moved_here, batch_waits}
 use Rattle.dob_world.proofs.world.World.take.Goals as goal
@@ -109,10 +110,14 @@ returns-in-Ok-true-clause-done c = λ e.
     let done = ap Ok c.in-Ok-true.field-0-test in
     let o = received k nodes lanes stand.setting.nodes.0 stand.places stand.lawful stand.linked node c.receive.new.node lane c.receive.new.lane
     c.in-Ok-true.ensures.sound i j low_i low_j c.if-from-to.false there_n there_l (c.in-Ok-true.ensures.received done) in
+    let step = c.in-Ok-true.ensures.received done in
     let moved = moved_here k nodes lanes detector c.args.self.now.steps stand (ring.Take i j) (ring_of c.count_take.new.self) c.count_take.ensures.moved in (
       record { setting = refl; can = o.can; happens = (o.happens, moved) },
       stand_after k nodes lanes detector c.args.self.now.steps stand (slice_set nodes j c.receive.new.node) (slice_set lanes (i * c.args.self.now.n + j) c.receive.new.lane)
-          c.count_take.new.self (Take i j) c.requires.few o.places c.count_take.ensures.counted.0 c.count_take.ensures.counted.1 o.can (o.happens, moved),
+          c.count_take.new.self (Take i j) c.requires.few o.places c.count_take.ensures.counted.0 c.count_take.ensures.counted.1
+          (cuts_stay k.n nodes j node c.receive.new.node (ring_of detector) (ring_of c.count_take.new.self) there_n stand.cuts
+          (λ l low differs. next_same node c.receive.new.node step.taken.same.0 step.taken.same.1 step.taken.same.2 step.taken.outboxes l) moved.posted)
+          o.can (o.happens, moved),
       refl,
       refl,
     )
@@ -159,5 +164,9 @@ returns-in-Err-clause-stopped c =
     let low_j : j < c.args.self.now.n = c.if-to-self.false in
     let there_n = node_there k nodes lanes c.requires.standing.places j node low_j c.index_mut.ensures.value in
     let there_l = lane_there k nodes lanes c.requires.standing.places i j lane low_i low_j c.index_mut-2.ensures.value in
-    take_stops k nodes lanes c.requires.standing.setting.nodes.0 c.requires.standing.places c.requires.standing.lawful c.requires.standing.linked i j node lane
-    c.in-Err.cause low_i low_j c.if-from-to.false there_n there_l c.in-Err.ensures.stopped
+    (
+      (low_i, low_j, c.if-from-to.false, some_waits k nodes lanes node lane c.requires.standing.places.lanes_whole i j low_i low_j there_l
+          (λ empty. let no = c.in-Err.ensures.none.1 empty in absurd (cc))),
+      take_stops k nodes lanes c.requires.standing.setting.nodes.0 c.requires.standing.places c.requires.standing.lawful c.requires.standing.linked i j node lane
+          c.in-Err.cause low_i low_j c.if-from-to.false there_n there_l c.in-Err.ensures.stopped,
+    )
