@@ -1,25 +1,25 @@
 -- One event more of a round, and one round more.
-use Rattle.std.proofs.Common.{◌≡◌, ℕ, ◌+◌, ◌*◌, ◌<◌, ◌≤◌, inl, inr, refl, sym, ap, ◌∙◌, subst, arith, add-one, nat_eq, Bool, true, false, None, ◌++◌}
+use Rattle.std.proofs.Common.{◌≡◌, ℕ, ◌+◌, ◌-◌, ◌*◌, ◌<◌, ◌≤◌, inl, inr, refl, sym, ap, ◌∙◌, subst, arith, add-one, nat_eq, Bool, true, false, None, [], ◌∷◌, ◌++◌}
 use Rattle.std.proofs.Math.Nat.{mul-le-mul_right}
-use Rattle.std.proofs.lemmas.Bool.{cases_order, eqb-true}
+use Rattle.std.proofs.lemmas.Bool.{cases_order, cases_lt, eqb-true}
 use Rattle.std.proofs.lemmas.Bool.Decides.{nat_tests}
 use Rattle.std.proofs.lemmas.List.FromFn.{map-range_with_len_more}
 use Rattle.dob_world.specs.declared.world.World.{World}
 use Rattle.dob_world.specs.Worlds.{Setting, State}
 use Rattle.dob_world.specs.Events.{CanHappen}
-use Rattle.dob_world.specs.Runs.{IsDoneOrSkipped, IsAfter}
+use Rattle.dob_world.specs.Runs.{IsAfter, IsStepOf, IsAfterSteps}
 use Rattle.dob_world.specs.Rounds.{round_length, round_event, round_front, round_of, rounds_of, IsStill}
 use Rattle.dob_world.specs.Shown.{setting_of, state_of, IsStanding}
-use Rattle.dob_world.specs.Results.{HasMadeRound, HasDriven, SomeCan}
+use Rattle.dob_world.specs.Results.{HasMadeRound, HasDriven, SomeCan, IsBusyRound, IsStillRound}
 use Rattle.dob_world.specs.declared.fault.Fault.{Fault}
 use Rattle.dob_world.specs.Stops.{IsStopBy, IsStopInRounds}
 use Rattle.dob_world.proofs.Still.{still_ended}
-use Rattle.dob_world.proofs.Ran.{Stepped, after_both, after_more}
+use Rattle.dob_world.proofs.Ran.{Stepped, is_after, after_both, after_both_steps, after_more}
 
 -- The first so many events of a round are made.
 pub record Partway (old new : World) (upto : ℕ) : Type 0 where
   pub setting : setting_of new ≡ setting_of old
-  pub after : IsAfter (setting_of old) (state_of old) (round_front old.n upto) (state_of new)
+  pub after : IsAfterSteps (setting_of old) (state_of old) (round_front old.n upto) (new.steps - old.steps) (state_of new)
   pub standing : IsStanding new
   pub going : new.failed ≡ None
   pub least : old.steps ≤ new.steps
@@ -31,7 +31,7 @@ pub record Partway (old new : World) (upto : ℕ) : Type 0 where
 pub none_made : (world : World) → IsStanding world → world.failed ≡ None → Partway world world 0
 none_made world standing going = record {
   setting = refl;
-  after = refl;
+  after = (refl, omega arith);
   standing = standing;
   going = going;
   least = omega arith;
@@ -40,21 +40,33 @@ none_made world standing going = record {
   quiet = λ same. (refl, λ place low. absurd (omega arith));
 }
 
+-- the events done from one world to the next, and from there
+steps_between : (a b c : ℕ) → a ≤ b → b ≤ c → (b - a) + (c - b) ≡ c - a
+steps_between a b c low high = omega arith
+
 pub one_more : (old mid new : World) (place : ℕ) → Partway old mid place → Stepped (round_event old.n place) mid new → IsStanding new → new.failed ≡ None →
     Partway old new (place + 1)
 one_more old mid new place before step standing going = record {
   setting = step.setting ∙ before.setting;
-  after = subst (λ events. IsAfter (setting_of old) (state_of old) events (state_of new))
+  after = subst (λ events. IsAfterSteps (setting_of old) (state_of old) events (new.steps - old.steps) (state_of new))
       (sym (map-range_with_len_more (round_event old.n) 0 place place (let same : 0 + place ≡ place = omega arith in same)))
-      (after_more (setting_of old) (state_of old) (state_of mid) (state_of new) (round_front old.n place) (round_event old.n place) before.after
-      (subst (λ (s : Setting). IsDoneOrSkipped s (state_of mid) (round_event old.n place) (state_of new)) before.setting step.step));
+      (subst (λ (m : ℕ). IsAfterSteps (setting_of old) (state_of old) (round_front old.n place ++ round_event old.n place ∷ []) m (state_of new))
+      (steps_between old.steps mid.steps new.steps before.least step.least)
+      (after_more (setting_of old) (state_of old) (state_of mid) (state_of new) (round_front old.n place) (round_event old.n place)
+      (mid.steps - old.steps) (new.steps - mid.steps) before.after
+      (subst (λ (s : Setting). IsStepOf s (state_of mid) (round_event old.n place) (new.steps - mid.steps) (state_of new)) before.setting step.step)));
   standing = standing;
   going = going;
   least = omega (arith, step.least, before.least);
   most = omega (arith, step.steps, before.most);
   done = λ less. elim step.step [
-    | inl both ↦ (place, omega arith, state_of mid, before.after,
-        subst (λ (s : Setting). CanHappen s (state_of mid) (round_event old.n place)) before.setting both.0)
+    | inl both ↦ (
+      place,
+      omega arith,
+      state_of mid,
+      is_after (setting_of old) (state_of old) (state_of mid) (round_front old.n place) (mid.steps - old.steps) before.after,
+      subst (λ (s : Setting). CanHappen s (state_of mid) (round_event old.n place)) before.setting both.0,
+    )
     | inr none ↦
         let e : new.steps ≡ mid.steps = step.idle none.0 in
         let w = before.done (omega (arith, e, less)) in
@@ -81,7 +93,8 @@ pub round_made : (old new : World) (upto : ℕ) (still : Bool) → Partway old n
     (still ≡ false → old.steps < new.steps) → HasMadeRound old still new
 round_made old new upto still way whole quiet busy = record {
   setting = way.setting;
-  after = subst (λ (m : ℕ). IsAfter (setting_of old) (state_of old) (round_front old.n m) (state_of new)) whole way.after;
+  least = way.least;
+  after = subst (λ (m : ℕ). IsAfterSteps (setting_of old) (state_of old) (round_front old.n m) (new.steps - old.steps) (state_of new)) whole way.after;
   standing = way.standing;
   going = way.going;
   steps = subst (λ (m : ℕ). new.steps ≤ old.steps + m) whole way.most;
@@ -111,13 +124,14 @@ pub no_rounds : (world : World) → IsStanding world → world.failed ≡ None �
 no_rounds world standing going = record {
   made = 0;
   few = omega arith;
-  some = λ yes. absurd cc;
   setting = refl;
-  after = refl;
+  least = omega arith;
+  after = (refl, omega arith);
   standing = standing;
   going = going;
   steps = omega arith;
-  busy = λ no. (refl, omega arith);
+  before = λ round low. absurd (omega (arith, low));
+  busy = λ no. (refl, λ round is. absurd (omega (arith, is)));
   still = λ yes. absurd cc;
   ended = λ yes. absurd cc;
 }
@@ -127,40 +141,71 @@ pub round_more : (old mid new : World) (rounds : ℕ) (still : Bool) → HasDriv
 round_more old mid new rounds still before round =
     let all = before.busy refl in
     let same_n : mid.n ≡ old.n = ap (λ (k : Setting). k.n) before.setting in
+    let first : IsAfterSteps (setting_of old) (state_of old) (rounds_of old.n rounds) (mid.steps - old.steps) (state_of mid) =
+    subst (λ (m : ℕ). IsAfterSteps (setting_of old) (state_of old) (rounds_of old.n m) (mid.steps - old.steps) (state_of mid)) all.0 before.after in
+    let front : IsAfter (setting_of old) (state_of old) (rounds_of old.n rounds) (state_of mid) =
+    is_after (setting_of old) (state_of old) (state_of mid) (rounds_of old.n rounds) (mid.steps - old.steps) first in
     record {
       made = rounds + 1;
       few = omega arith;
-      some = λ yes. omega arith;
       setting = round.setting ∙ before.setting;
-      after = subst (λ events. IsAfter (setting_of old) (state_of old) events (state_of new)) (sym (rw add-one refl))
-          (after_both (setting_of old) (state_of old) (state_of mid) (state_of new) (rounds_of old.n rounds) (round_of old.n)
-          (subst (λ (m : ℕ). IsAfter (setting_of old) (state_of old) (rounds_of old.n m) (state_of mid)) all.0 before.after)
-          (subst (λ (m : ℕ). IsAfter (setting_of old) (state_of mid) (round_of m) (state_of new)) same_n
-          (subst (λ (s : Setting). IsAfter s (state_of mid) (round_of mid.n) (state_of new)) before.setting round.after)));
+      least = omega (arith, before.least, round.least);
+      after = subst (λ events. IsAfterSteps (setting_of old) (state_of old) events (new.steps - old.steps) (state_of new)) (sym (rw add-one refl))
+          (subst (λ (m : ℕ). IsAfterSteps (setting_of old) (state_of old) (rounds_of old.n rounds ++ round_of old.n) m (state_of new))
+          (steps_between old.steps mid.steps new.steps before.least round.least)
+          (after_both_steps (setting_of old) (state_of old) (state_of mid) (state_of new) (rounds_of old.n rounds) (round_of old.n)
+          (mid.steps - old.steps) (new.steps - mid.steps) first
+          (subst (λ (m : ℕ). IsAfterSteps (setting_of old) (state_of mid) (round_of m) (new.steps - mid.steps) (state_of new)) same_n
+          (subst (λ (s : Setting). IsAfterSteps s (state_of mid) (round_of mid.n) (new.steps - mid.steps) (state_of new)) before.setting round.after))));
       standing = round.standing;
       going = round.going;
       steps = steps_more old.steps mid.steps new.steps rounds (round_length old.n)
           (subst (λ (m : ℕ). mid.steps ≤ old.steps + m * round_length old.n) all.0 before.steps)
           (subst (λ (m : ℕ). new.steps ≤ mid.steps + round_length m) same_n round.steps);
-      busy = λ no. (refl, let more : mid.steps < new.steps = round.busy no in omega (arith, all.1));
-      still = λ yes. subst (λ (s : Setting). IsStill s (state_of new)) before.setting (round.still yes);
+      before = λ r low. each_before old mid rounds before all.0 r (omega (arith, low));
+      busy = λ no. (
+        refl,
+        λ r is. (
+          state_of mid,
+          subst (λ (m : ℕ). IsAfter (setting_of old) (state_of old) (rounds_of old.n m) (state_of mid)) (let e : rounds ≡ r = omega (arith, is) in e) front,
+          subst (λ (m : ℕ). SomeCan (setting_of old) (state_of mid) (round_length m)) same_n
+              (subst (λ (s : Setting). SomeCan s (state_of mid) (round_length mid.n)) before.setting (round.done no)),
+        ),
+      );
+      still = λ yes. (
+        rounds,
+        refl,
+        (
+          subst (λ (w : State). IsAfter (setting_of old) (state_of old) (rounds_of old.n rounds) w) (sym (round.same yes).0) front,
+          subst (λ (s : Setting). IsStill s (state_of new)) before.setting (round.still yes),
+        ),
+      );
       ended = round.ended;
     }
   where
     steps_more : (a b c r l : ℕ) → b ≤ a + r * l → c ≤ b + l → c ≤ a + (r + 1) * l
     steps_more a b c r l one other = let is : (r + 1) * l ≡ r * l + l = rw add-one (omega arith) in omega (arith, one, other, is)
 
+    -- each round made before is busy
+    each_before : (old mid : World) (rounds : ℕ) (driven : HasDriven old rounds false mid) → driven.made ≡ rounds → (r : ℕ) → r < rounds →
+        IsBusyRound (setting_of old) (state_of old) r
+    each_before old mid rounds driven made r low = elim (cases_lt (r + 1) rounds) [
+      | inl less ↦ driven.before r (omega (arith, less, made))
+      | inr last ↦ (driven.busy refl).1 r (omega (arith, last, low, made))
+    ]
+
 -- a still world is driven by more rounds too
 pub still_longer : (old new : World) (few rounds : ℕ) → HasDriven old few true new → few ≤ rounds → HasDriven old rounds true new
 still_longer old new few rounds driven less = record {
   made = driven.made;
   few = omega (arith, driven.few);
-  some = driven.some;
   setting = driven.setting;
+  least = driven.least;
   after = driven.after;
   standing = driven.standing;
   going = driven.going;
   steps = driven.steps;
+  before = driven.before;
   busy = λ no. absurd cc;
   still = driven.still;
   ended = driven.ended;
@@ -189,7 +234,7 @@ round_stops old mid place fault way low stop = record {
   place = place;
   low = low;
   state = state_of mid;
-  after = way.after;
+  after = is_after (setting_of old) (state_of old) (state_of mid) (round_front old.n place) (mid.steps - old.steps) way.after;
   stop = subst (λ (k : Setting). IsStopBy k (state_of mid) (round_event old.n place) fault) way.setting stop;
 }
 
@@ -208,7 +253,8 @@ drive_stops old mid made rounds fault driven few stopped =
       low = here.low;
       state = here.state;
       after = after_both (setting_of old) (state_of old) (state_of mid) here.state (rounds_of old.n made) (round_front old.n here.place)
-          (subst (λ (m : ℕ). IsAfter (setting_of old) (state_of old) (rounds_of old.n m) (state_of mid)) before driven.after)
+          (is_after (setting_of old) (state_of old) (state_of mid) (rounds_of old.n made) (mid.steps - old.steps)
+          (subst (λ (m : ℕ). IsAfterSteps (setting_of old) (state_of old) (rounds_of old.n m) (mid.steps - old.steps) (state_of mid)) before driven.after))
           (subst (λ (m : ℕ). IsAfter (setting_of old) (state_of mid) (rounds_of old.n m ++ round_front old.n here.place) here.state) first here.after);
       stop = here.stop;
     }

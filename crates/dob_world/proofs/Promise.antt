@@ -4,15 +4,20 @@ use Rattle.std.proofs.Math.IntN.{pos}
 use Rattle.std.proofs.lemmas.Int.{ints}
 use Rattle.dob_safra.specs.declared.token.Token.{Token}
 use Rattle.dob_safra.specs.Rings.{Ring, IsLawful, black_token, IsStart as IsStartRing}
+use Rattle.dob_moves.specs.declared.position_status.Status.TheVariants.{Caught, Tried, Stuck, Open}
+use Rattle.dob_share.specs.Owners.{owner_of}
 use Rattle.dob_node.specs.declared.node.Node.{Node}
+use Rattle.dob_node.specs.Lawful.{known_of}
+use Rattle.dob_node.proofs.Takes.{value_follows}
+use Rattle.dob_node.proofs.Totals.{some_known}
 use Rattle.dob_world.specs.declared.lane.Lane.{Lane}
 use Rattle.dob_world.specs.declared.detector.Detector.{Detector}
 use Rattle.dob_world.specs.declared.event.Event.{Event}
 use Rattle.dob_world.specs.declared.world.World.{World}
-use Rattle.dob_world.specs.Worlds.{Setting, World as Shown, State, AreLawful, IsLinked, IsTold, IsAtRest}
+use Rattle.dob_world.specs.Worlds.{Setting, Nodes, World as Shown, State, value_in, AreLawful, IsLinked, IsTold, IsAtRest}
 use Rattle.dob_world.specs.Events.{CanHappen, Happens}
 use Rattle.dob_world.specs.Runs.{IsAfter}
-use Rattle.dob_world.specs.Headline.{HasRightValues, Headline}
+use Rattle.dob_world.specs.Headline.{HaveKnownValues, HasRightValues, Headline}
 use Rattle.dob_world.specs.Shown.{setting_of, state_of, world_shown, ring_of, IsSetting, HasOpenings, HasAtMost, Stand, IsStanding, IsUnchanged, IsStart}
 use Rattle.dob_world.specs.Laws.{HeadlineHolds}
 use Rattle.dob_world.proofs.Kept.{lists_are_beginnings, happening_keeps_all}
@@ -28,6 +33,15 @@ pub record Keeps (k : Setting) (state : State) (steps : ℕ) : Type 0 where
   pub told : IsTold k state
   pub few : HasAtMost k.n steps state.ring
 
+-- the cells sum up what is known, and give the values
+known_values : (k : Setting) (nodes : Nodes) → AreLawful k nodes → HaveKnownValues k nodes
+known_values k nodes lawful class Caught below is = lawful.over class Caught below is (λ same. cc)
+known_values k nodes lawful class Tried below is = lawful.over class Tried below is (λ same. cc)
+known_values k nodes lawful class Stuck below is = lawful.over class Stuck below is (λ same. cc)
+known_values k nodes lawful class Open below is =
+    value_follows (known_of k.set k.n nodes.history nodes.applied class) (nodes.cell class) (value_in k.n nodes class) (lawful.sums class below is)
+    (some_known k.set class below k.n nodes.history (λ i. nodes.applied i (owner_of k.n class)) is) (lawful.cell_values class below is)
+
 module _ (k : Setting) (setting : IsSetting k) (openings : HasOpenings k.set) where
   pub right_at_rest : (world : Shown) → AreLawful k world.nodes → IsLinked k world → IsAtRest k world → HasRightValues k world
   right_at_rest world lawful linked rest values are =
@@ -40,6 +54,7 @@ module _ (k : Setting) (setting : IsSetting k) (openings : HasOpenings k.set) wh
       applied = λ i j low_i low_j differs. (lists_are_beginnings k state.world i j linked low_i low_j differs).1;
       own = λ i low. lawful.begun i i low low;
       cells = lawful;
+      known = known_values k state.world.nodes lawful;
     };
     silence = λ ended. end_is_silent k state told ended;
     gathering = λ ended. right_at_rest state.world lawful linked (end_is_silent k state told ended).rest;

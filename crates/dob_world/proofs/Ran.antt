@@ -1,5 +1,5 @@
 -- One event more of a run.
-use Rattle.std.proofs.Common.{◌≡◌, ℕ, ◌+◌, ◌<◌, ◌≤◌, inl, inr, refl, sym, ap, ◌∙◌, subst, arith, add-one, List, [], ◌∷◌, ◌++◌, length, take, get_or, None}
+use Rattle.std.proofs.Common.{◌≡◌, ℕ, ◌+◌, ◌-◌, ◌<◌, ◌≤◌, inl, inr, refl, sym, ap, ◌∙◌, subst, arith, add-one, List, [], ◌∷◌, ◌++◌, length, take, get_or, None}
 use Rattle.std.proofs.Math.Seq.{take-suc}
 use Rattle.std.proofs.lemmas.Option.{slice_get-get_or}
 use Rattle.dob_world.specs.declared.event.Event.{Event}
@@ -8,7 +8,7 @@ use Rattle.dob_world.specs.declared.step.Step.TheVariants.{Done, Skipped}
 use Rattle.dob_world.specs.declared.world.World.{World}
 use Rattle.dob_world.specs.Worlds.{Setting, World as Shown, State}
 use Rattle.dob_world.specs.Events.{CanHappen}
-use Rattle.dob_world.specs.Runs.{IsDoneOrSkipped, IsAfter}
+use Rattle.dob_world.specs.Runs.{IsDoneOrSkipped, IsAfter, IsStepOf, IsAfterSteps}
 use Rattle.dob_world.specs.Shown.{setting_of, state_of, world_shown, ring_of, IsSetting, IsStanding, IsUnchanged, IsMade, IsStart}
 use Rattle.dob_world.specs.Results.{HasRun, HasStopped}
 use Rattle.dob_world.specs.declared.fault.Fault.{Fault}
@@ -24,10 +24,37 @@ pub after_both : (k : Setting) (old between new : State) (front behind : List Ev
 after_both k old between new [] behind one other = subst (λ (w : State). IsAfter k w behind new) one other
 after_both k old between new (event ∷ front) behind one other = (one.0, one.1, after_both k one.0 between new front behind one.2 other)
 
+-- ---- the same with the number of events that are done
+
+-- without it
+pub is_after : (k : Setting) (old new : State) (events : List Event) (done : ℕ) → IsAfterSteps k old events done new → IsAfter k old events new
+is_after k old new [] done after = after.0
+is_after k old new (event ∷ events) done after = (after.0, is_step after.3, is_after k after.0 new events after.2 after.4)
+  where
+    is_step : IsStepOf k old event after.1 after.0 → IsDoneOrSkipped k old event after.0
+    is_step (inl made) = inl (made.0, made.1)
+    is_step (inr none) = inr (none.0, none.1)
+
+-- events, and then others
+pub after_both_steps : (k : Setting) (old between new : State) (front behind : List Event) (one other : ℕ) → IsAfterSteps k old front one between →
+    IsAfterSteps k between behind other new → IsAfterSteps k old (front ++ behind) (one + other) new
+after_both_steps k old between new [] behind one other first then =
+    subst (λ (w : State). IsAfterSteps k w behind (one + other) new) first.0
+    (subst (λ (m : ℕ). IsAfterSteps k between behind m new) (let e : other ≡ one + other = omega (arith, first.1) in e) then)
+after_both_steps k old between new (event ∷ front) behind one other first then = (
+  first.0,
+  first.1,
+  first.2 + other,
+  first.3,
+  after_both_steps k first.0 between new front behind first.2 other first.4 then,
+  omega (arith, first.5),
+)
+
 -- one event more at the end
-pub after_more : (k : Setting) (old between new : State) (events : List Event) (event : Event) → IsAfter k old events between →
-    IsDoneOrSkipped k between event new → IsAfter k old (events ++ event ∷ []) new
-after_more k old between new events event after step = after_both k old between new events (event ∷ []) after (new, step, refl)
+pub after_more : (k : Setting) (old between new : State) (events : List Event) (event : Event) (one other : ℕ) → IsAfterSteps k old events one between →
+    IsStepOf k between event other new → IsAfterSteps k old (events ++ event ∷ []) (one + other) new
+after_more k old between new events event one other after step =
+    after_both_steps k old between new events (event ∷ []) one other after (new, other, 0, step, (refl, refl), (let e : other ≡ other + 0 = omega arith in e))
 
 state_same : (old new : World) → IsUnchanged old new → state_of new ≡ state_of old
 state_same old new same =
@@ -44,7 +71,7 @@ state_same old new same =
 -- What a step makes of a world.
 pub record Stepped (event : Event) (old new : World) : Type 0 where
   pub setting : setting_of new ≡ setting_of old
-  pub step : IsDoneOrSkipped (setting_of old) (state_of old) event (state_of new)
+  pub step : IsStepOf (setting_of old) (state_of old) event (new.steps - old.steps) (state_of new)
   pub steps : new.steps ≤ old.steps + 1
   pub least : old.steps ≤ new.steps
   pub idle : (CanHappen (setting_of old) (state_of old) event → ⊥) → new.steps ≡ old.steps
@@ -55,7 +82,7 @@ pub stepped : (event : Event) (old new : World) (given : Step) → (given ≡ Do
 stepped event old new Done done skipped = let made = done refl in
     record {
       setting = made.0.setting;
-      step = inl (made.0.can, made.0.happens);
+      step = inl (made.0.can, made.0.happens, omega (arith, made.1));
       steps = omega (arith, made.1);
       least = omega (arith, made.1);
       idle = λ no. absurd (no made.0.can);
@@ -64,7 +91,7 @@ stepped event old new Done done skipped = let made = done refl in
 stepped event old new Skipped done skipped = let none = skipped refl in
     record {
       setting = none.1.setting;
-      step = inr (none.0, state_same old new none.1);
+      step = inr (none.0, state_same old new none.1, omega (arith, none.1.steps));
       steps = omega (arith, none.1.steps);
       least = omega (arith, none.1.steps);
       idle = λ no. none.1.steps;
@@ -73,7 +100,7 @@ stepped event old new Skipped done skipped = let none = skipped refl in
 
 -- what holds of a run where its end is such a world
 pub ran : (k : Setting) (start : State) (events : List Event) (world : World) → setting_of world ≡ k → IsStart k start →
-    IsAfter k start events (state_of world) → IsStanding world → world.failed ≡ None → HasRun k events world
+    IsAfterSteps k start events world.steps (state_of world) → IsStanding world → world.failed ≡ None → HasRun k events world
 ran k start events world setting is_start after standing going = record {
   setting = setting;
   start = start;
@@ -91,8 +118,10 @@ pub ran_more : (k : Setting) (events : List Event) (place : ℕ) (default : Even
 ran_more k events place default old new low run step going standing =
     subst (λ xs. HasRun k xs new) (sym (rw add-one (take-suc events place default low)))
     (ran k run.start (take place events ++ get_or events place default ∷ []) new (step.setting ∙ run.setting) run.is_start
-    (after_more k run.start (state_of old) (state_of new) (take place events) (get_or events place default) run.after
-    (subst (λ (s : Setting). IsDoneOrSkipped s (state_of old) (get_or events place default) (state_of new)) run.setting step.step))
+    (subst (λ (m : ℕ). IsAfterSteps k run.start (take place events ++ get_or events place default ∷ []) m (state_of new))
+    (let least = step.least in let e : old.steps + (new.steps - old.steps) ≡ new.steps = omega (arith, least) in e)
+    (after_more k run.start (state_of old) (state_of new) (take place events) (get_or events place default) old.steps (new.steps - old.steps) run.after
+    (subst (λ (s : Setting). IsStepOf s (state_of old) (get_or events place default) (new.steps - old.steps) (state_of new)) run.setting step.step)))
     standing going)
 
 -- the event after those of a run stops a node
@@ -107,7 +136,7 @@ run_stops k events place default world fault low run stop = record {
     event = get_or events place default;
     there = slice_get-get_or events place default low;
     state = state_of world;
-    after = run.after;
+    after = is_after k run.start (state_of world) (take place events) world.steps run.after;
     stop = subst (λ (s : Setting). IsStopBy s (state_of world) (get_or events place default) fault) run.setting stop;
   };
 }

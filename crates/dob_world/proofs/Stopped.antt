@@ -90,14 +90,14 @@ module _ (k : Setting) (nodes : List Node) (lanes : List Lane) (some : 0 < k.n) 
       elim (reason_stop item node.share why fits fault.reason) [
         | inl memory ↦ inl (ap (λ (c : Cause). Stopped i c) memory)
         | inr deep ↦ inr (
-            ap (λ (c : Cause). Stopped i c) deep.0,
-            record {
-              item = item;
-              behind = fault.behind;
-              first = was nodes i node node there_n [] (λ (x : Node). x.own.items) ∙ fault.first;
-              deep = deep_there node.share (nodes_shown k.set k.n nodes lanes).cell item own.1 deep.1;
-            },
-          )
+          ap (λ (c : Cause). Stopped i c) deep.0,
+          record {
+            item = item;
+            behind = fault.behind;
+            first = was nodes i node node there_n [] (λ (x : Node). x.own.items) ∙ fault.first;
+            deep = deep_there node.share (nodes_shown k.set k.n nodes lanes).cell item own.1 deep.1;
+          },
+        )
       ]
 
   -- So is one of a batch.
@@ -135,18 +135,18 @@ module _ (k : Setting) (nodes : List Node) (lanes : List Lane) (some : 0 < k.n) 
       elim (reason_stop at.item at.after why fits at.reason) [
         | inl memory ↦ inl (ap (λ (c : Cause). Stopped j c) memory)
         | inr deep ↦ inr (
-            ap (λ (c : Cause). Stopped j c) deep.0,
-            record {
-              batch = batch;
-              batches = stopped.1;
-              first = first;
-              front = at.front;
-              item = at.item;
-              behind = at.behind;
-              items_are = at.items_are;
-              between = between;
-              applied = both.0;
-              deep = deep_there at.after between.cell at.item same deep.1;
-            },
-          )
+          ap (λ (c : Cause). Stopped j c) deep.0,
+          record {
+            batch = batch;
+            batches = stopped.1;
+            first = first;
+            front = at.front;
+            item = at.item;
+            behind = at.behind;
+            items_are = at.items_are;
+            between = between;
+            applied = both.0;
+            deep = deep_there at.after between.cell at.item same deep.1;
+          },
+        )
       ]

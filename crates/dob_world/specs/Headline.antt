@@ -1,14 +1,24 @@
 -- The promise of the whole, in three parts, of which each holds in every world after any events.
 use Rattle.std.specs.Prelude.{◌≡◌, ◌≢◌, ℕ, ◌<◌, true, List}
 use Rattle.dob_pieces.specs.Lists.{IsBeginning}
+use Rattle.dob_moves.specs.declared.position_status.Status.{Status}
+use Rattle.dob_moves.specs.Statuses.{HasStatus}
 use Rattle.dob_rank.specs.Marks.{classes_of}
+use Rattle.dob_rank.specs.ClassRows.{class_setup}
 use Rattle.dob_value.specs.declared.value.Value.{Value}
 use Rattle.dob_value.specs.Follows.{IsValueTable}
 use Rattle.dob_node.specs.Histories.{AreValuesBelow}
+use Rattle.dob_node.specs.Lawful.{known_of}
+use Rattle.dob_node.specs.Quiet.{FollowsAtStatus}
 use Rattle.dob_safra.specs.Rings.{in_flight}
 use Rattle.dob_world.specs.declared.event.Event.{Event}
-use Rattle.dob_world.specs.Worlds.{Setting, World, State, value_in, items_in, AreLawful, IsAtRest, IsTold, waiting_batches}
+use Rattle.dob_world.specs.Worlds.{Setting, Nodes, World, State, value_in, items_in, AreLawful, IsAtRest, IsTold, waiting_batches}
 use Rattle.dob_world.specs.Events.{CanHappen, MayEnd}
+
+-- Each class has the value that follows, at its status, from what the copies of its moves know by the items applied.
+abbrev pub HaveKnownValues : Setting → Nodes → Type 0
+HaveKnownValues k nodes = (class : ℕ) (status : Status) → class < classes_of k.set → HasStatus (class_setup k.set class) status →
+    FollowsAtStatus status (known_of k.set k.n nodes.history nodes.applied class) (value_in k.n nodes class)
 
 -- What was sent over each link is a beginning of the items of the sender's history, and what its receiver has applied is a
 -- beginning of what was sent, in its order and each item once; of its own items a node has applied a beginning. Each cell
@@ -18,6 +28,7 @@ pub record AreBeginnings (k : Setting) (world : World) : Type 0 where
   pub applied : (i j : ℕ) → i < k.n → j < k.n → i ≢ j → IsBeginning (world.nodes.applied i j) (world.sent i j)
   pub own : (i : ℕ) → i < k.n → IsBeginning (world.nodes.applied i i) (items_in k world.nodes i i)
   pub cells : AreLawful k world.nodes
+  pub known : HaveKnownValues k world.nodes
 
 -- Nothing is left to do, and so no event can happen.
 pub record IsSilent (k : Setting) (state : State) : Type 0 where

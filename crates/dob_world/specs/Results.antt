@@ -1,5 +1,5 @@
 -- Which worlds there are, and what a run of events leaves.
-use Rattle.std.specs.Prelude.{◌≡◌, ℕ, ◌+◌, ◌*◌, ◌<◌, ◌≤◌, Bool, true, false, None, List}
+use Rattle.std.specs.Prelude.{◌≡◌, ℕ, ◌+◌, ◌-◌, ◌*◌, ◌<◌, ◌≤◌, Bool, true, false, None, List}
 use Rattle.dob_rank.specs.Limits.{IsSmall}
 use Rattle.dob_update.specs.Batches.{AreSizes}
 use Rattle.dob_safra.specs.Laws.{IsSize}
@@ -8,7 +8,7 @@ use Rattle.dob_world.specs.declared.fault.Fault.{Fault}
 use Rattle.dob_world.specs.declared.fault.Fault.TheVariants.{SetTooLarge, Nodes, Sizes, Stopped, Memory}
 use Rattle.dob_world.specs.declared.world.World.{World}
 use Rattle.dob_world.specs.Worlds.{Setting, State}
-use Rattle.dob_world.specs.Runs.{IsAfter}
+use Rattle.dob_world.specs.Runs.{IsAfter, IsAfterSteps}
 use Rattle.dob_world.specs.Events.{CanHappen}
 use Rattle.dob_world.specs.Rounds.{round_length, round_of, round_front, round_event, rounds_of, IsStill}
 use Rattle.dob_world.specs.Headline.{Headline}
@@ -23,12 +23,13 @@ HasSettingFault k Sizes = IsSmall k.set × IsSize k.n × (¬ AreSizes k.batch k.
 HasSettingFault k (Stopped node why) = ⊥
 HasSettingFault k Memory = IsSetting k
 
--- The world is the opening world changed by the events, in order, and the promise of the whole holds of it.
+-- The world is the opening world changed by the events, in order, it counts how many of them were done, and the promise of the
+-- whole holds of it.
 pub record HasRun (k : Setting) (events : List Event) (world : World) : Type 0 where
   pub setting : setting_of world ≡ k
   pub start : State
   pub is_start : IsStart k start
-  pub after : IsAfter k start events (state_of world)
+  pub after : IsAfterSteps k start events world.steps (state_of world)
   pub standing : IsStanding world
   pub going : world.failed ≡ None
   pub headline : Headline k (state_of world)
@@ -49,7 +50,8 @@ SomeCan k state upto = (place : ℕ) × (place < upto) × (between : State) × I
 -- end is announced.
 pub record HasMadeRound (old : World) (given : Bool) (new : World) : Type 0 where
   pub setting : setting_of new ≡ setting_of old
-  pub after : IsAfter (setting_of old) (state_of old) (round_of old.n) (state_of new)
+  pub least : old.steps ≤ new.steps
+  pub after : IsAfterSteps (setting_of old) (state_of old) (round_of old.n) (new.steps - old.steps) (state_of new)
   pub standing : IsStanding new
   pub going : new.failed ≡ None
   pub steps : new.steps ≤ old.steps + round_length old.n
@@ -59,17 +61,26 @@ pub record HasMadeRound (old : World) (given : Bool) (new : World) : Type 0 wher
   pub busy : given ≡ false → old.steps < new.steps
   pub done : given ≡ false → SomeCan (setting_of old) (state_of old) (round_length old.n)
 
--- The world is driven by that many rounds, or by fewer after the last of which it is still. Each round but that one has
--- an event that was done.
+-- Some event of the round after so many rounds is done.
+abbrev pub IsBusyRound : Setting → State → ℕ → Type 0
+IsBusyRound k state rounds = (before : State) × IsAfter k state (rounds_of k.n rounds) before × SomeCan k before (round_length k.n)
+
+-- None is: the state is that before the round.
+abbrev pub IsStillRound : Setting → State → ℕ → State → Type 0
+IsStillRound k state rounds new = IsAfter k state (rounds_of k.n rounds) new × IsStill k new
+
+-- The world is driven by that many rounds, each of which has an event that is done, or by fewer: then the last of them has
+-- none, each before it has, and the end is announced.
 pub record HasDriven (old : World) (rounds : ℕ) (given : Bool) (new : World) : Type 0 where
   pub made : ℕ
   pub few : made ≤ rounds
-  pub some : given ≡ true → 0 < made
   pub setting : setting_of new ≡ setting_of old
-  pub after : IsAfter (setting_of old) (state_of old) (rounds_of old.n made) (state_of new)
+  pub least : old.steps ≤ new.steps
+  pub after : IsAfterSteps (setting_of old) (state_of old) (rounds_of old.n made) (new.steps - old.steps) (state_of new)
   pub standing : IsStanding new
   pub going : new.failed ≡ None
   pub steps : new.steps ≤ old.steps + made * round_length old.n
-  pub busy : given ≡ false → (made ≡ rounds) × (old.steps + made ≤ new.steps)
-  pub still : given ≡ true → IsStill (setting_of old) (state_of new)
+  pub before : (round : ℕ) → round + 1 < made → IsBusyRound (setting_of old) (state_of old) round
+  pub busy : given ≡ false → (made ≡ rounds) × ((round : ℕ) → round + 1 ≡ made → IsBusyRound (setting_of old) (state_of old) round)
+  pub still : given ≡ true → (round : ℕ) × (round + 1 ≡ made) × IsStillRound (setting_of old) (state_of old) round (state_of new)
   pub ended : given ≡ true → new.detector.announced ≡ true

@@ -11,8 +11,8 @@ loop-event-init c =
     let world = c.in-Ok.world in
     let opened = c.in-Ok.ensures in
     record {
-      run = ran k (state_of world) [] world opened.setting (subst (λ (s : Setting). IsStart s (state_of world)) opened.setting opened.opened) refl
-          opened.standing.0 opened.standing.1;
+      run = ran k (state_of world) [] world opened.setting (subst (λ (s : Setting). IsStart s (state_of world)) opened.setting opened.opened)
+          (refl, opened.standing.2) opened.standing.0 opened.standing.1;
       steps = omega (arith, opened.standing.2);
     }
 

@@ -1,8 +1,11 @@
 -- One round more, after which the world is still or not.
 use Rattle.std.proofs.Common.{◌+◌, ◌≤◌, Bool, true, false, arith, subst}
 use Rattle.dob_world.specs.Results.{HasMadeRound}
-use Rattle.dob_world.proofs.Driven.{round_more, still_longer, drive_stops}
+use Rattle.dob_world.proofs.Driven.{no_rounds, round_more, still_longer, drive_stops}
 use Rattle.dob_world.proofs.world.World.drive.Goals as goal
+
+pub loop-round-init : goal.loop-round-init
+loop-round-init c = no_rounds c.args.self.now c.requires.standing c.requires.going
 
 pub returns-in-Ok-true-clause-driven : goal.returns-in-Ok-true-clause-driven
 returns-in-Ok-true-clause-driven c =

@@ -77,7 +77,10 @@ returns-in-Err-clause-stopped c =
     let below : i < c.args.self.now.n = c.if-node-self.false in
     let there : slice_get nodes i ≡ Some node = read_there nodes i node low c.index_mut.ensures.value in
     let told : node.expanded ≤ length node.history.settlements = (c.requires.standing.places.node i node there).sound.told in (
-      (below, left_to_expand k nodes c.args.self.now.lanes.items i node node there told
-          (λ all. let no = c.in-Err.ensures.done.1 all in absurd (cc))),
+      (
+        below,
+        left_to_expand k nodes c.args.self.now.lanes.items i node node there told
+            (λ all. let no = c.in-Err.ensures.done.1 all in absurd (cc)),
+      ),
       ap (λ (why : Cause). Stopped i why) c.in-Err.ensures.memory,
     )

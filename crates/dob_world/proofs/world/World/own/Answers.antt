@@ -79,10 +79,12 @@ returns-in-Err-clause-stopped c =
     let lane = c.index_mut-2.result.now in
     let below : i < c.args.self.now.n = c.if-node-self.false in
     let there_n = node_there k nodes lanes c.requires.standing.places i node below c.index_mut.ensures.value in
-    let there_l = lane_there k nodes lanes c.requires.standing.places i i lane below below c.index_mut-2.ensures.value in
-    (
-      (below, some_own k nodes lanes node lane c.requires.standing.places.lanes_whole i there_n
-          (λ empty. let no = c.in-Err.ensures.none.1 empty in absurd (cc))),
+    let there_l = lane_there k nodes lanes c.requires.standing.places i i lane below below c.index_mut-2.ensures.value in (
+      (
+        below,
+        some_own k nodes lanes node lane c.requires.standing.places.lanes_whole i there_n
+            (λ empty. let no = c.in-Err.ensures.none.1 empty in absurd (cc)),
+      ),
       own_stops k nodes lanes c.requires.standing.setting.nodes.0 c.requires.standing.places c.requires.standing.lawful c.requires.standing.linked i node lane
           c.in-Err.cause below there_n there_l c.in-Err.ensures.stopped,
     )

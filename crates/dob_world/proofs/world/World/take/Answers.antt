@@ -163,10 +163,14 @@ returns-in-Err-clause-stopped c =
     let low_i : i < c.args.self.now.n = c.if-from-self.false in
     let low_j : j < c.args.self.now.n = c.if-to-self.false in
     let there_n = node_there k nodes lanes c.requires.standing.places j node low_j c.index_mut.ensures.value in
-    let there_l = lane_there k nodes lanes c.requires.standing.places i j lane low_i low_j c.index_mut-2.ensures.value in
-    (
-      (low_i, low_j, c.if-from-to.false, some_waits k nodes lanes node lane c.requires.standing.places.lanes_whole i j low_i low_j there_l
-          (λ empty. let no = c.in-Err.ensures.none.1 empty in absurd (cc))),
+    let there_l = lane_there k nodes lanes c.requires.standing.places i j lane low_i low_j c.index_mut-2.ensures.value in (
+      (
+        low_i,
+        low_j,
+        c.if-from-to.false,
+        some_waits k nodes lanes node lane c.requires.standing.places.lanes_whole i j low_i low_j there_l
+            (λ empty. let no = c.in-Err.ensures.none.1 empty in absurd (cc)),
+      ),
       take_stops k nodes lanes c.requires.standing.setting.nodes.0 c.requires.standing.places c.requires.standing.lawful c.requires.standing.linked i j node lane
           c.in-Err.cause low_i low_j c.if-from-to.false there_n there_l c.in-Err.ensures.stopped,
     )
