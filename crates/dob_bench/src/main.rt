@@ -85,6 +85,6 @@ fn measure_build<R: Print + Clock + AllocGlobal + Files + Threads + Wait + Sync>
 fn small_set(text: &str) -> Result<PieceSet> {
     match PieceSet::read(text) {
         Ok(set) if !is_too_large(set) => Ok(set),
-        _ => bail!("no set of up to three pieces besides the lions, as 111\n{USAGE}"),
+        _ => bail!("no piece set, as 111\n{USAGE}"),
     }
 }

@@ -1,5 +1,5 @@
 -- What the program owes where it is asked to build a database file.
-use Rattle.std.specs.Prelude.{◌≡◌, ◌≢◌, ◌≤◌, ℕ, Bool, true, false, IsTrue, cond, List, [], ◌+◌, ◌++◌, codes, length}
+use Rattle.std.specs.Prelude.{◌≡◌, ◌≢◌, ◌≤◌, ℕ, Bool, true, false, IsTrue, cond, List, [], ◌+◌, ◌++◌, ◌⊎◌, codes, length}
 use Rattle.std.specs.List.{count_by}
 use Rattle.dob_pieces.specs.declared.piece_set.PieceSet.{PieceSet}
 use Rattle.dob_pieces.specs.Sets.{set_text}
@@ -68,11 +68,12 @@ pub record AreBuildLines (tells : Bool) (New : Files) (text : List ℕ) (nodes :
 
 -- ---- faults
 
--- The fault of keeping a table's file, by its moment. The file couldn't be made: each file has what it had. Then the file was
--- made and nothing of it is kept: where the shelf tells its bytes it is empty, and so no table's. Memory for its bytes was
--- refused before any of them went out, or a write or the flush failed after so many.
+-- The fault of keeping a table's file, by its moment. The file couldn't be made: each file has what it had. Or it could be
+-- neither made nor kept, on a shelf that doesn't tell its bytes. Then the file was made and nothing of it is kept: where the shelf
+-- tells its bytes it is empty, and so no table's. Memory for its bytes was refused before any of them went out, or a write or the
+-- flush failed after so many.
 abbrev pub IsKeepingFault : Files → Files → Bool → List ℕ → ClassTable → Fault → Type 0
-IsKeepingFault Old New tells file table Io = SameFiles Old New
+IsKeepingFault Old New tells file table Io = SameFiles Old New ⊎ (tells ≡ false)
 IsKeepingFault Old New tells file table (File file_fault.Memory) = IsTrue tells → HasJust file [] New
 IsKeepingFault Old New tells file table (File (file_fault.Io count)) =
     (count ≤ length (bytes_of table)) × (IsTrue tells → HasJust file [] New)

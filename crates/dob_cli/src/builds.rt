@@ -7,7 +7,7 @@ ghost use Rattle.dob_cli.specs.Builds.{AreBuildLines, IsBuildFault, IsKeepingFau
 use crate::fault::Fault;
 use crate::shelf::Shelf;
 use crate::tally::tally_of;
-use dob_dbfile::write_table;
+use dob_dbfile::{Failed, write_table};
 use dob_pieces::PieceSet;
 use dob_run::{BATCH, CAPACITY, Free, run_nodes};
 use dob_value::Table;
@@ -18,8 +18,8 @@ use std::thread::Threads;
 /// Builds the table of the piece set that the text names by so many nodes, and keeps it under the name. The lines that
 /// tell how many classes have which value. Its promises hold if it returns.
 ///
-/// The file is made when the table is there, and the lines too. A fault before that leaves all files as they were; want of
-/// memory then leaves the file empty, and a sink that fails a beginning of it, as far as the sink took it.
+/// The file is made when the table is there, and the lines too, and kept when it is whole. A fault before it is made leaves all
+/// files as they were. After that the disk's file is as it was until it is kept; in memory it is empty.
 pub(crate) fn answer_build<R: Threads + Wait + Sync, S: Shelf>(
     rt: &R,
     alloc: Global,
@@ -39,7 +39,7 @@ pub(crate) fn answer_build<R: Threads + Wait + Sync, S: Shelf>(
     Ok(lines)
 }
 
-// Keeps the table's file under the name, which is made empty first.
+// Keeps the table's file under the name. Where it can't be written its sink is given up.
 fn keep_table<S: Shelf>(
     alloc: Global,
     shelf: &mut S,
@@ -53,9 +53,17 @@ fn keep_table<S: Shelf>(
     let Some(mut sink) = shelf.make(file) else {
         return Err(Fault::Io);
     };
-    write_table(alloc, table, &mut sink)?;
-    shelf.keep(file, sink);
-    Ok(())
+    match write_table(alloc, table, &mut sink) {
+        Ok(()) => {}
+        Err(fault) => {
+            shelf.discard(file, sink);
+            return Err(Fault::File(fault));
+        }
+    }
+    match shelf.keep(file, sink) {
+        Ok(()) => Ok(()),
+        Err(Failed) => Err(Fault::Io),
+    }
 }
 
 // The lines that tell how many classes the table has, and how many of them have which value.

@@ -78,7 +78,7 @@ A fault is one line on standard error. The status is 1, and 3 for E12, E14, E23 
   E5 Count         there are more than two pieces of a kind, hens counted as chicks
   E6 FarLion       the lion of the side to move stands on row 4
   E7 OtherSet      the position's piece set isn't the file's
-  E8 SetTooLarge   there are more than three pieces besides the lions
+  E8 SetTooLarge   there are more than six pieces besides the lions, which no piece set has
   E9 Nodes         there aren't 1 to 16 nodes
   E12 TooDeep      of `value`: a distance would be above 65534 plies
   E14 Stopped node N: CAUSE
@@ -112,8 +112,8 @@ Example: dobutsu value \"..l/.../L../... - -\" prints `win 3`.";
 
 const SET_HELP: &str =
     "A piece set: three digits CEG, each 0, 1 or 2: how many chicks (hens counted with them), elephants
-and giraffes there are besides the lions, on the board and in the hands together. Sets of at most
-three such pieces are counted.
+and giraffes there are besides the lions, on the board and in the hands together. `222` is the whole
+game.
 
 Answers: `positions N` and `classes N`, where a class is a position with its mirror image.
 
@@ -124,9 +124,12 @@ const BUILD_HELP: &str =
 its own and owns a part of the positions; with more nodes than processors it works too, only slower.
 The file is the same whatever their number.
 
-The file has 2 bytes a class and 52 more. `dobutsu count --set 111` gives the classes of the largest
-set, which makes 1.5 MB; its build takes seconds. The file is begun when the whole table is there, so
-that an interrupted build leaves no file that looks whole: a part of it is refused as `E15 Truncated`.
+The file has 2 bytes a class and 52 more, and its build takes some 26 bytes of memory a class.
+`dobutsu count --set 111` gives the classes of a set: 765360 of three pieces, which take a second or two.
+The whole game, `222`, has 588021930, which take a quarter of an hour, 16 GB of memory and 1.2 GB of disk.
+
+The table is written to FILE with `.part` behind it, and takes the place of FILE when it is whole and on
+the disk: until then FILE is as it was, whatever happens. A pipe, a device or a link is written where it is.
 
 Answers: `classes N`, `win N`, `loss N` and `draw N`, where a class is a position with its mirror image.
 

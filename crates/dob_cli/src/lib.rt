@@ -4,12 +4,14 @@
 mod builds;
 pub mod command;
 mod counts;
+mod disk;
 mod fault;
 mod program;
 mod shelf;
 mod tables;
 mod tally;
 
+pub use disk::{DiskFile, DiskShelf};
 pub use fault::Fault;
 pub use program::{run_given, run_over, run_words, tell_memory};
-pub use shelf::{DiskShelf, MemShelf, Shelf};
+pub use shelf::{MemShelf, Shelf};

@@ -3,11 +3,9 @@ ghost use Rattle.std.specs.Prelude.{◌≡◌, ℕ, List, [], Bool, Some, false,
 ghost use Rattle.dob_dbfile.specs.Devices.{whole};
 ghost use Rattle.dob_cli.specs.Shelves.{HasJust, SameFiles, SameOthers, bytes_in};
 
-use dob_dbfile::{MemSink, MemSource, Sink, Source, Std};
+use dob_dbfile::{Failed, MemSink, MemSource, Sink, Source};
 use std::alloc::{AllocError, Global};
 use std::collections::BTreeMap;
-use std::fs;
-use std::rt::Files;
 
 /// Files by name.
 pub trait Shelf {
@@ -41,11 +39,18 @@ pub trait Shelf {
         ensures unchanged { IfNone result (SameFiles (has self.old) (has self.new)) }
         ensures told { tells self.new ≡ tells self.old };
 
-    /// Keeps just the sink's bytes under that name, for which `make` gave a sink. Other files keep their bytes.
-    fn keep(&mut self, name: &str, sink: Self::Dst)
+    /// Keeps just the sink's bytes under that name, for which `make` gave a sink. Other files keep their bytes. It fails where
+    /// the device does, which no shelf does that tells its bytes; the sink is gone then, as after `discard`.
+    fn keep(&mut self, name: &str, sink: Self::Dst) -> Result<(), Failed>
         requires { IsTrue (tells self.old) → (bytes : List ℕ) × has self.old name.now bytes }
         ensures kept { (bytes : List ℕ) → IsTrue (tells self.old) → (Self.Dst.state sink).received ≡ Some bytes → HasJust name.now bytes (has self.new) }
+        ensures failed { OnErr result (tells self.old ≡ false) }
         ensures others { SameOthers name.now (has self.old) (has self.new) }
+        ensures told { tells self.new ≡ tells self.old };
+
+    /// Gives up the sink that `make` gave for that name, and what it has received. The files keep their bytes.
+    fn discard(&mut self, name: &str, sink: Self::Dst)
+        ensures kept { SameFiles (has self.old) (has self.new) }
         ensures told { tells self.new ≡ tells self.old };
 }
 
@@ -100,37 +105,12 @@ impl Shelf for MemShelf {
         }
     }
 
-    fn keep(&mut self, name: &str, sink: MemSink) {
+    fn keep(&mut self, name: &str, sink: MemSink) -> Result<(), Failed> {
         if let Some(bytes) = self.files.get_mut(name) {
             *bytes = sink.into_bytes();
         }
-    }
-}
-
-/// The files that the system has, of which no bytes are told.
-#[derive(Drop)]
-pub struct DiskShelf<'a, R> {
-    pub rt: &'a R,
-}
-
-impl<R: Files> Shelf for DiskShelf<'_, R> {
-    type Src = Std<R::File>;
-
-    type Dst = Std<R::File>;
-
-    ghost has = { λ _ _ _. ⊥ };
-
-    ghost tells = { λ _. false };
-
-    fn find(&mut self, name: &str) -> Option<Std<R::File>> {
-        let file = fs::open(self.rt, name).ok()?;
-        Some(Std::new(file))
+        Ok(())
     }
 
-    fn make(&mut self, name: &str) -> Option<Std<R::File>> {
-        let file = fs::create(self.rt, name).ok()?;
-        Some(Std::new(file))
-    }
-
-    fn keep(&mut self, _name: &str, _sink: Std<R::File>) {}
+    fn discard(&mut self, _name: &str, _sink: MemSink) {}
 }

@@ -21,7 +21,7 @@ use std::alloc::Global;
 /// The value table of a piece set, made by one node that owns all its classes in at most `limit` steps: each applies the
 /// first of its own items, or where it has none is an expansion. `None` where the node has something left to do after them.
 ///
-/// Errors: `SetTooLarge` where the set has more than three pieces beside the lions; `TooDeep` where a class came to a
+/// Errors: `SetTooLarge` where the set has more than six pieces besides the lions; `TooDeep` where a class came to a
 /// value with a distance above the greatest that is kept; `Memory`. An item that doesn't fit its cell never comes.
 pub fn alone(alloc: Global, set: PieceSet, limit: u64) -> Result<Option<Table>, Fault>
     ensures too_large { IsErrOf result Fault.SetTooLarge ↔ IsTooLarge set }

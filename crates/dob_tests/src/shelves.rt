@@ -7,6 +7,8 @@ use std::rt::Files;
 
 const NAME: &str = "kept_by_a_test.db";
 
+const PART: &str = "kept_by_a_test.db.part";
+
 const OTHER: &str = "other_kept_by_a_test.db";
 
 // Puts the bytes under the name, and answers whether that was done.
@@ -15,8 +17,7 @@ pub(crate) fn put<S: Shelf>(shelf: &mut S, name: &str, bytes: &[u8]) -> bool {
         return false;
     };
     let is_whole = put_all(&mut sink, bytes).is_ok() && !sink.failed();
-    shelf.keep(name, sink);
-    is_whole
+    shelf.keep(name, sink).is_ok() && is_whole
 }
 
 // Whether the shelf has just these bytes under the name, at most seven.
@@ -37,10 +38,13 @@ fn keeps_file<S: Shelf>(rt: &impl Abort, shelf: &mut S, name: &str, bytes: &[u8]
     assert!(rt; has(shelf, name, bytes));
 }
 
-// A file made anew is empty until it is kept; the other one stays.
-fn empties_file<S: Shelf>(rt: &impl Abort, shelf: &mut S) {
-    let made = shelf.make(NAME);
-    assert!(rt; made.is_some() && has(shelf, NAME, b"") && has(shelf, OTHER, b"other"));
+// A file made anew on the disk is as it was until it is kept, and stays so where it is given up; its part is gone then.
+fn leaves_file<R: Abort + Files>(rt: &R, shelf: &mut DiskShelf<'_, R>) {
+    keeps_file(rt, shelf, NAME, b"kept");
+    let mut sink = shelf.make(NAME).expect(rt, "a file on the disk");
+    assert!(rt; put_all(&mut sink, b"new").is_ok() && has(shelf, NAME, b"kept") && has(shelf, PART, b"new"));
+    shelf.discard(NAME, sink);
+    assert!(rt; has(shelf, NAME, b"kept") && shelf.find(PART).is_none() && has(shelf, OTHER, b"other"));
 }
 
 // Files are found as they were kept, also one that is kept again, and the other one stays.
@@ -50,7 +54,6 @@ fn keeps_files<S: Shelf>(rt: &impl Abort, shelf: &mut S) {
     keeps_file(rt, shelf, NAME, b"2nd");
     keeps_file(rt, shelf, NAME, b"");
     assert!(rt; has(shelf, OTHER, b"other"));
-    empties_file(rt, shelf);
 }
 
 // Neither a file that was removed is found, nor is one made where none can be.
@@ -66,8 +69,12 @@ fn removes(rt: &(impl Abort + Files), name: &str) {
 
 #[test]
 fn files_on_a_disk(rt: HostRuntime) {
-    let mut shelf = DiskShelf { rt: &rt };
+    let mut shelf = DiskShelf {
+        rt: &rt,
+        alloc: rt.alloc(),
+    };
     keeps_files(&rt, &mut shelf);
+    leaves_file(&rt, &mut shelf);
     removes(&rt, NAME);
     removes(&rt, OTHER);
     has_no_others(&rt, &mut shelf);

@@ -10,7 +10,10 @@ fn main(rt: HostRuntime) -> ExitCode {
         &rt,
         rt.alloc(),
         std::env::args(&rt),
-        &mut DiskShelf { rt: &rt },
+        &mut DiskShelf {
+            rt: &rt,
+            alloc: rt.alloc(),
+        },
         &mut Std::new(rt.stdout()),
         &mut Std::new(rt.stderr()),
     ))

@@ -1,0 +1,133 @@
+// The files that the system has, each written beside its name and put there when it is whole.
+ghost use Rattle.std.specs.Prelude.{false};
+
+use crate::shelf::Shelf;
+use dob_dbfile::{Failed, Std};
+use std::alloc::{AllocError, Global};
+use std::fs::{self, File, OpenFile};
+use std::io::{self, ErrorKind, Write};
+use std::os::unix::fs::MetadataExt;
+use std::rt::Files;
+
+/// The files that the system has, of which no bytes are told.
+///
+/// A file is written under its name with `.part` behind it, and takes its name once its bytes are on the disk. So the file of
+/// that name is as it was until then, whatever happens, and whole from then on. A part that a run left behind is taken away
+/// by the next one; so of two that write one name at once the later one keeps its file, and the other one fails. What is no
+/// regular file (a pipe, a device, a link) is written where it is.
+#[derive(Drop)]
+pub struct DiskShelf<'a, R> {
+    pub rt: &'a R,
+    pub alloc: Global,
+}
+
+/// A file that is being written, and its name until it is kept, where that is another one.
+#[derive(Drop)]
+pub struct DiskFile<F> {
+    file: F,
+    part: Option<String>,
+}
+
+impl<F: Write> Write for DiskFile<F> {
+    fn write(&mut self, bytes: &[u8]) -> io::Result<usize> {
+        self.file.write(bytes)
+    }
+
+    fn flush(&mut self) -> io::Result<()> {
+        self.file.flush()
+    }
+}
+
+impl<R: Files> DiskShelf<'_, R> {
+    // Whether the name has a regular file or none, so that another file may take its place.
+    fn can_be_replaced(&self, name: &str) -> bool {
+        match fs::symlink_metadata(self.rt, name) {
+            Ok(found) => found.is_file(),
+            Err(error) => error.kind() == ErrorKind::NotFound,
+        }
+    }
+
+    // The name under which the file of that name is written; `None` where that is the same.
+    fn part_of(&self, name: &str) -> Result<Option<String>, AllocError> {
+        if self.can_be_replaced(name) {
+            Ok(Some(format!(in self.alloc; "{name}.part")?))
+        } else {
+            Ok(None)
+        }
+    }
+
+    // The file of a part that is new, where a part of an earlier run may be left.
+    fn begin(&self, part: &str) -> io::Result<R::File> {
+        let _ = fs::remove_file(self.rt, part);
+        File::create_new(self.rt, part)
+    }
+
+    // Whether the part's name still has that file, and no other run's.
+    fn is_own(&self, file: &R::File, part: &str) -> io::Result<bool> {
+        let made = file.metadata()?;
+        let found = fs::symlink_metadata(self.rt, part)?;
+        Ok(found.dev() == made.dev() && found.ino() == made.ino())
+    }
+
+    // Puts the bytes on the disk, and the part under the name.
+    fn put_in_place(&self, file: &R::File, part: &str, name: &str) -> io::Result<()> {
+        file.sync_all()?;
+        if self.is_own(file, part)? {
+            fs::rename(self.rt, part, name)
+        } else {
+            Err(ErrorKind::AlreadyExists.into())
+        }
+    }
+
+    // Takes the part away, where it is still that file's.
+    fn take_away(&self, file: &R::File, part: &str) {
+        if let Ok(true) = self.is_own(file, part) {
+            let _ = fs::remove_file(self.rt, part);
+        }
+    }
+}
+
+impl<R: Files> Shelf for DiskShelf<'_, R> {
+    type Src = Std<R::File>;
+
+    type Dst = Std<DiskFile<R::File>>;
+
+    ghost has = { λ _ _ _. ⊥ };
+
+    ghost tells = { λ _. false };
+
+    fn find(&mut self, name: &str) -> Option<Std<R::File>> {
+        let file = fs::open(self.rt, name).ok()?;
+        Some(Std::new(file))
+    }
+
+    fn make(&mut self, name: &str) -> Option<Std<DiskFile<R::File>>> {
+        let part = self.part_of(name).ok()?;
+        let file = match &part {
+            Some(part) => self.begin(part.as_str()).ok()?,
+            None => fs::create(self.rt, name).ok()?,
+        };
+        Some(Std::new(DiskFile { file, part }))
+    }
+
+    fn keep(&mut self, name: &str, sink: Std<DiskFile<R::File>>) -> Result<(), Failed> {
+        let DiskFile { file, part } = sink.into_inner();
+        let Some(part) = part else {
+            return Ok(());
+        };
+        match self.put_in_place(&file, part.as_str(), name) {
+            Ok(()) => Ok(()),
+            Err(_) => {
+                self.take_away(&file, part.as_str());
+                Err(Failed)
+            }
+        }
+    }
+
+    fn discard(&mut self, _name: &str, sink: Std<DiskFile<R::File>>) {
+        let DiskFile { file, part } = sink.into_inner();
+        if let Some(part) = part {
+            self.take_away(&file, part.as_str());
+        }
+    }
+}
