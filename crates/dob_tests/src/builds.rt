@@ -3,7 +3,7 @@ ghost use Rattle.std.specs.Prelude.{false};
 
 use crate::program::{FILE, run_on};
 use dob_cli::Shelf;
-use dob_dbfile::{MemSink, MemSource};
+use dob_dbfile::{Failed, MemSink, MemSource};
 use std::alloc::Global;
 use std::process::Abort;
 use std::sync::Wait;
@@ -11,7 +11,7 @@ use std::thread::Threads;
 
 const BUILD: [&str; 7] = ["build", "--set", "000", "--nodes", "2", "--out", FILE];
 
-/// A shelf that is full: it makes no file, or one that takes so many bytes.
+/// A shelf that is full: it makes no file, or one that takes so many bytes, and keeps none.
 #[derive(Drop)]
 struct FullShelf {
     alloc: Global,
@@ -38,7 +38,11 @@ impl Shelf for FullShelf {
         }
     }
 
-    fn keep(&mut self, _name: &str, _sink: MemSink) {}
+    fn keep(&mut self, _name: &str, _sink: MemSink) -> Result<(), Failed> {
+        Err(Failed)
+    }
+
+    fn discard(&mut self, _name: &str, _sink: MemSink) {}
 }
 
 // A build with so much room for its file tells that it failed.
@@ -53,4 +57,5 @@ fn a_full_disk(rt: HostRuntime) {
     tells_failure(&rt, rt.alloc(), None);
     tells_failure(&rt, rt.alloc(), Some(0));
     tells_failure(&rt, rt.alloc(), Some(159));
+    tells_failure(&rt, rt.alloc(), Some(160));
 }

@@ -91,7 +91,7 @@ fn turned_by_hand(rt: HostRuntime) -> Result<(), Fail> {
     assert!(rt; turn_once(&rt, &mut second, &classes, &Free) == Ok(Halt::Ended));
     assert!(rt; first.stopped() && second.stopped());
     let runners = both(rt.alloc(), first, second)?;
-    let built = finish(&rt, rt.alloc(), board, runners).expect(&rt, "a table");
+    let built = finish(&rt, rt.alloc(), classes, board, runners).expect(&rt, "a table");
     assert!(rt; is_done(&built, 2) && is_table_of_lions(&built.table) && has_sent(&built));
     Ok(())
 }

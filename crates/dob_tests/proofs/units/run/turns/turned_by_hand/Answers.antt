@@ -42,4 +42,4 @@ finish-requires-clause-crew g c =
 pub finish-requires-clause-stopped : goal.finish-requires-clause-stopped
 finish-requires-clause-stopped g c =
     let made = c.two_runners-classes.result in
-    (made.0.set, 1, have_stopped made.0.set 2 1 1 made.1 c.in_ok-runners.runners.items (ran g (goal.at.finish-requires-clause-stopped g c).In_ok-runners))
+    (1, have_stopped made.0.set 2 1 1 made.1 c.in_ok-runners.runners.items (ran g (goal.at.finish-requires-clause-stopped g c).In_ok-runners))
