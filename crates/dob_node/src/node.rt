@@ -161,7 +161,8 @@ impl Node {
         Ok(true)
     }
 
-    /// Applies the items of a batch of the node's piece set and number of nodes that is for it, in order.
+    /// Applies the items of a batch of the node's piece set and number of nodes, with values that a table can have, in order.
+    /// One for a class of another node doesn't fit.
     ///
     /// Errors, after which just the items before one are applied: `Contradiction` where it doesn't fit its class's cell then;
     /// `TooDeep` where it fits and its class's value would be too deep; `Memory`.
@@ -169,7 +170,6 @@ impl Node {
         requires sound { IsSound self.old }
         requires set { batch.now.set ≡ self.old.set }
         requires n { batch.now.n ≡ self.old.n }
-        requires to { batch.now.to ≡ self.old.id }
         requires entries { All HasEntries batch.now.items }
         ensures taken { OnOk result (HasTaken batch.now.items self.old self.new) }
         ensures stopped { IfErr result (λ why. StopsAt batch.now.items self.old.share self.old.history why) }

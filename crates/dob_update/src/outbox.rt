@@ -86,12 +86,12 @@ impl Outbox {
         self.next
     }
 
-    /// Adds a settlement with its items for the receiver; one without items isn't listed. After `Memory` the outbox is
-    /// unchanged.
+    /// Adds a settlement with its items for the receiver; one without items isn't listed, and takes no memory. After `Memory`
+    /// the outbox is unchanged.
     pub fn add(&mut self, settlement: Settlement, items: &[Item]) -> Result<(), Memory>
         requires { items.now ≡ items_of (predecessors self.old.set) self.old.n self.old.to settlement }
         ensures ok { OnOk result (self.new ≡ added self.old settlement items.now) }
-        ensures err { OnErr result (self.new ≡ self.old) }
+        ensures err { OnErr result ((self.new ≡ self.old) × (items.now ≢ [])) }
     {
         if items.is_empty() {
             return Ok(());
@@ -121,7 +121,7 @@ impl Outbox {
     }
 
     /// Cuts a batch of the first `size` items, from 1 to 4096, or of all where fewer are left, and `None` where none
-    /// is. After `Memory` the outbox is unchanged. The outbox has cut fewer than 2^64 - 1 batches before.
+    /// is, which takes no memory. After `Memory` the outbox is unchanged. The outbox has cut fewer than 2^64 - 1 batches before.
     pub fn cut(&mut self, size: usize) -> Result<Option<Batch>, Memory>
         requires some { 0 < size }
         requires at_most { size ≤ 4096 }
@@ -129,7 +129,7 @@ impl Outbox {
         ensures none { IfOk result (λ batch. IsNone batch ↔ (self.old.items ≡ [])) }
         ensures nothing { IfOk result (λ batch. IsNone batch → self.new ≡ self.old) }
         ensures batch { IfOk result (λ batch. IfSome batch (λ b. IsCut self.old size b self.new)) }
-        ensures err { OnErr result (self.new ≡ self.old) }
+        ensures err { OnErr result ((self.new ≡ self.old) × (self.old.items ≢ [])) }
     {
         let taken = size.min(self.classes.len());
         if taken == 0 {

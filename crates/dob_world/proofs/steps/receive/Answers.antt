@@ -15,10 +15,6 @@ pub apply_batch-requires-clause-set : goal.apply_batch-requires-clause-set
 apply_batch-requires-clause-set c = let P = λ (b : BatchView). IsBatchFor c.args.node.now.set c.args.node.now.n c.args.node.now.id b in
     (All-head P c.in-Some.batch c.next.new.self.waiting (subst (λ xs. All P xs) c.in-Some.ensures.some c.requires.batches)).of.0
 
-pub apply_batch-requires-clause-to : goal.apply_batch-requires-clause-to
-apply_batch-requires-clause-to c = let P = λ (b : BatchView). IsBatchFor c.args.node.now.set c.args.node.now.n c.args.node.now.id b in
-    (All-head P c.in-Some.batch c.next.new.self.waiting (subst (λ xs. All P xs) c.in-Some.ensures.some c.requires.batches)).of.2
-
 pub apply_batch-requires-clause-entries : goal.apply_batch-requires-clause-entries
 apply_batch-requires-clause-entries c = let P = λ (b : BatchView). IsBatchFor c.args.node.now.set c.args.node.now.n c.args.node.now.id b in
     (All-head P c.in-Some.batch c.next.new.self.waiting (subst (λ xs. All P xs) c.in-Some.ensures.some c.requires.batches)).entries

@@ -1,5 +1,6 @@
 -- What is cut is a run of the items, and so is what is left.
-use Rattle.std.proofs.Common.{◌≡◌, ◌≤◌, ◌+◌, List, [], length, take, drop, min, refl, sym, ap, ◌∙◌, subst, arith, rules}
+use Rattle.std.specs.Prelude.{OnErr}
+use Rattle.std.proofs.Common.{Result, Ok, Err, ◌≡◌, ◌≤◌, ◌+◌, List, [], length, take, drop, min, refl, sym, ap, ◌∙◌, subst, arith, rules}
 use Rattle.dob_share.specs.declared.news.Item.{Item}
 use Rattle.dob_update.specs.declared.part.Part.{Part}
 use Rattle.dob_update.specs.Batches.{OutboxView, BatchView, IsCut}
@@ -8,6 +9,11 @@ use Rattle.dob_update.specs.Runs.{IsRun}
 use Rattle.dob_update.proofs.Runs.{run_cut, IsCut-from_parts, total-front}
 use Rattle.dob_update.proofs.Told.{told-length, told-front, told-behind, told_none, listed_behind}
 use Rattle.dob_update.proofs.outbox.Outbox.cut.Goals as goal
+
+-- what holds whatever the result holds after an error
+on_err : {T E : Type 0} (r : Result T E) (P : Type 0) → P → OnErr r P
+on_err (Ok v) P p = tt
+on_err (Err e) P p = p
 
 pub front_items-requires : goal.front_items-requires
 front_items-requires c =
@@ -94,4 +100,30 @@ returns-clause-none c =
       (λ none.
           let empty = both.0 (subst (λ (o : OutboxView). o.items ≡ []) (sym c.self.view_is) none) in
           absurd (omega (arith, size_is, some, empty))),
+    )
+
+pub returns-in_err-parts-clause-err : goal.returns-in_err-parts-clause-err
+returns-in_err-parts-clause-err c =
+    let old = c.self.inside in
+    let within : c.min-taken.result ≤ length old.classes.items = search rules in
+    let some = c.if-taken-eq0.false in
+    let both = told_none old.parts.items old.classes.items c.self.invariant.counted in
+    on_err c.from_residual.result _ (
+      refl,
+      λ none.
+          let empty = both.0 (subst (λ (o : OutboxView). o.items ≡ []) (sym c.self.view_is) none) in
+          absurd (omega (arith, some, within, empty)),
+    )
+
+pub returns-in_err-items-clause-err : goal.returns-in_err-items-clause-err
+returns-in_err-items-clause-err c =
+    let old = c.self.inside in
+    let within : c.min-taken.result ≤ length old.classes.items = search rules in
+    let some = c.if-taken-eq0.false in
+    let both = told_none old.parts.items old.classes.items c.self.invariant.counted in
+    on_err c.from_residual-in_err-items.result _ (
+      refl,
+      λ none.
+          let empty = both.0 (subst (λ (o : OutboxView). o.items ≡ []) (sym c.self.view_is) none) in
+          absurd (omega (arith, some, within, empty)),
     )
