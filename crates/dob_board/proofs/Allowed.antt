@@ -1,5 +1,5 @@
 -- What the steps of a seat ask of the table, and what they tell.
-use Rattle.std.proofs.Common.{◌≡◌, ℕ, zero, suc, ◌+◌, ◌^◌, ◌%◌, ◌<◌, ◌≤◌, List, [], ◌∷◌, length, set, get_or, true, refl, sym, ap, subst, arith}
+use Rattle.std.proofs.Common.{◌≡◌, ◌≢◌, ℕ, zero, suc, ◌+◌, ◌^◌, ◌%◌, ◌<◌, ◌≤◌, List, [], ◌∷◌, length, set, get_or, true, refl, sym, ap, subst, arith}
 use Rattle.std.specs.Prelude.{slice_index, slice_set}
 use mathlib.Core.Option.{none}
 use Rattle.atomic_table.specs.Table.{State, Me, step, keeps, Allows}
@@ -31,11 +31,11 @@ seated n i stand told = (one n i stand told, [])
 
 -- ---- post
 
-posts_allows : (n i j id slots : ℕ) (stand : Stand) (told : List RingEvent) → j < n → stand.black ≡ true → slice_index stand.posted j < 2 ^ 40 →
+posts_allows : (n i j id slots : ℕ) (stand : Stand) (told : List RingEvent) → j < n → j ≢ i → stand.black ≡ true → slice_index stand.posted j < 2 ^ 40 →
     Allows (Held n) slots id (seated n i stand told) (posted_word n i j) (λ x. (x + 1) % 2 ^ 64)
     (Posted (step slots (posted_word n i j) 1 0 none) (seated n i stand told))
-posts_allows n i j id slots stand told j_in is_black room s held len at small =
-    let made = posts n i j id s.words s.views stand told held at j_in is_black room in
+posts_allows n i j id slots stand told j_in other is_black room s held len at small =
+    let made = posts n i j id s.words s.views stand told held at j_in other is_black room in
     let mine = own_node n i id s.words s.views stand told held at in
     let x : ℕ = slice_index s.words (posted_word n i j) in
     let fits : (x + 1) % 2 ^ 64 ≡ suc x = omega (arith, mine.is_stand.shows.posted j j_in, room) in
@@ -55,11 +55,11 @@ posts_allows n i j id slots stand told j_in is_black room s held len at small =
 
 pub posts_call : (key n i j id slots word : ℕ) (me : Seated) (stand : Stand) (told : List RingEvent) → key ≡ n → me ≡ seated n i stand told
     → word ≡ posted_word n i j →
-    j < n → stand.black ≡ true → slice_index stand.posted j < 2 ^ 40 →
+    j < n → j ≢ i → stand.black ≡ true → slice_index stand.posted j < 2 ^ 40 →
     Allows (Held key) slots id me word (λ x. (x + 1) % 2 ^ 64) (Posted (step slots word 1 0 none) me)
-posts_call key n i j id slots word me stand told key_is me_is word_is j_in is_black room =
+posts_call key n i j id slots word me stand told key_is me_is word_is j_in other is_black room =
     subst (λ (p : ℕ × Seated × ℕ). Allows (Held p.0) slots id p.1 p.2 (λ x. (x + 1) % 2 ^ 64) (Posted (step slots p.2 1 0 none) p.1))
-    (λ q. (sym key_is q, sym me_is q, sym word_is q)) (posts_allows n i j id slots stand told j_in is_black room)
+    (λ q. (sym key_is q, sym me_is q, sym word_is q)) (posts_allows n i j id slots stand told j_in other is_black room)
 
 pub posts_tell : (n i j word found : ℕ) (me after : Seated) (stand : Stand) (told : List RingEvent) → me ≡ seated n i stand told → word ≡ posted_word n i j
     → j < n →

@@ -1,15 +1,17 @@
 -- What a seat's fields are after its steps.
-use Rattle.std.proofs.Common.{◌≡◌, ℕ, suc, ◌+◌, ◌^◌, ◌<◌, ◌≤◌, List, ◌++◌, length, set, get_or, Bool, true, Option, sym, ap, ◌∙◌, subst, arith, append_assoc}
+use Rattle.std.proofs.Common.{◌≡◌, ◌≢◌, ℕ, suc, ◌+◌, ◌^◌, ◌<◌, ◌≤◌, List, ◌++◌, length, set, get_or, Bool, true, false, Option, sym, ap, ◌∙◌, subst, arith}
+use Rattle.std.proofs.Common.{append_assoc}
 use Rattle.std.specs.Prelude.{slice_index}
 use mathlib.Core.Option.{none}
 use Rattle.atomic_table.specs.Table.{step}
 use Rattle.dob_safra.specs.declared.token.Token.{Token}
 use Rattle.dob_safra.specs.declared.event.RingEvent.{RingEvent}
 use Rattle.dob_safra.specs.declared.event.RingEvent.TheVariants.{Post, Take}
+use Rattle.dob_safra.specs.Rings.{Ring, IsLawful}
 use Rattle.dob_board.specs.declared.halt.Halt.{Halt}
 use Rattle.dob_board.specs.declared.view.Stand.{Stand}
 use Rattle.dob_board.specs.Words.{posted_word, taken_word}
-use Rattle.dob_board.specs.Views.{sees, stand_from}
+use Rattle.dob_board.specs.Views.{Shows, sees, stand_from}
 use Rattle.dob_board.specs.Histories.{GoesOn, Makes}
 use Rattle.dob_board.specs.Plays.{Posted, Took}
 use Rattle.dob_board.proofs.Allowed.{Seated, seated, posts_tell, takes_tell, one_more, same_default}
@@ -25,6 +27,17 @@ makes_few n i event before after told now i_in made = record {
   posted = λ k k_in. omega (arith, made.shows_after.posted k k_in, made.is_lawful.few i k i_in k_in);
   taken = λ k k_in. omega (arith, made.shows_after.taken k k_in, made.is_lawful.in_order k i k_in i_in, made.is_lawful.few k i k_in i_in);
 }
+
+-- a node that knows that the end was announced is white
+pub white_shown : (n i : ℕ) (ring : Ring) (stand : Stand) → i < n → IsLawful n ring → Shows n ring i stand → stand.halt ≡ 1 → stand.black ≡ false
+white_shown n i ring stand i_in lawful shows ended = shows.colour ∙ lawful.all_white (shows.ended ended) i i_in
+
+-- and takes nothing
+pub takes_before : (n i j : ℕ) (before after : Stand) (told now : List RingEvent) → Makes n i (Take j i) before after told now → before.halt ≢ 1
+takes_before n i j before after told now made ended =
+    let announced : made.old.announced ≡ true = made.shows_before.ended ended in
+    let going : made.old.announced ≡ false = made.in_time in
+    cc
 
 -- the seat's view after a step, and the event that it made
 pub record Stepped (n i : ℕ) (event : RingEvent) (before after : Stand) (told : List RingEvent) (me : Seated) : Type 0 where
@@ -83,11 +96,17 @@ makes_later n i j number event stand after told middle now on made = record {
   old = made.old;
   new = made.new;
   runs = made.runs;
+  in_time = made.in_time;
   moved = made.moved;
   was_lawful = made.was_lawful;
   is_lawful = made.is_lawful;
-  shows_before =
-      record { posted = made.shows_before.posted; taken = made.shows_before.taken; colour = made.shows_before.colour; token = made.shows_before.token };
+  shows_before = record {
+    posted = made.shows_before.posted;
+    taken = made.shows_before.taken;
+    colour = made.shows_before.colour;
+    token = made.shows_before.token;
+    ended = made.shows_before.ended;
+  };
   shows_after = made.shows_after;
 }
 

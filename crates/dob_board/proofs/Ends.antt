@@ -1,31 +1,38 @@
 -- How seats come back, and what is read at the end.
-use Rattle.std.proofs.Common.{◌≡◌, ◌≢◌, ℕ, zero, suc, ◌+◌, ◌-◌, ◌<◌, List, [], ◌∷◌, ◌++◌, length, set, get_or, Some, true, eq-eqb, refl, sym, ap, ◌∙◌, subst}
+use Rattle.std.proofs.Common.{◌≡◌, ◌≢◌, ℕ, zero, suc, ◌+◌, ◌-◌, ◌<◌, ◌⊎◌, List, [], ◌∷◌, ◌++◌, length, set, get_or, Some, Bool, true, false, eqb, eq-eqb}
+use Rattle.std.proofs.Common.{refl, sym, ap, ◌∙◌, subst}
 use Rattle.std.proofs.Common.{⊎_elim, inl, inr, arith, map, append-nil, append_assoc, length-append, get_or-set_same, get_or-set_other}
 use Rattle.std.specs.Prelude.{slice_index, slice_set, slice_get, replicate}
 use Rattle.std.proofs.lemmas.Bool.{cases_eq}
+use Rattle.std.proofs.lemmas.Int.{ints}
+use Rattle.std.proofs.lemmas.Option.{same_Some}
 use mathlib.Core.Option.{none, some, some-ne-none, some-injective}
 use lib.ListN.{get_elem?}
 use Rattle.atomic_table.specs.Table.{State, step, keeps, Allows, Joins}
-use Rattle.atomic_table.proofs.Lists.{at_set, set_again, set_else}
+use Rattle.atomic_table.proofs.Lists.{at_set, set_else}
 use Rattle.dob_safra.specs.declared.event.RingEvent.{RingEvent}
+use Rattle.dob_safra.specs.declared.token.Token.{Token}
 use Rattle.dob_safra.specs.Tokens.{IsPacked}
 use Rattle.dob_safra.specs.Rings.{Ring}
 use Rattle.dob_board.specs.declared.view.Stand.{Stand}
 use Rattle.dob_board.specs.declared.view.View.{View}
-use Rattle.dob_board.specs.declared.halt.Halt.TheVariants.{Failed}
+use Rattle.dob_board.specs.declared.halt.Halt.TheVariants.{Ended, Failed}
 use Rattle.dob_board.specs.Words.{posted_word, taken_word, ring_of}
 use Rattle.dob_board.specs.Views.{one, IsStand}
 use Rattle.dob_board.specs.Rule.{IsNode, IsView, IsHeld}
 use Rattle.atomic_table.specs.Seated.{TableId}
 use Rattle.dob_board.specs.declared.seat.NodeSeat.{NodeSeat}
+use Rattle.dob_board.specs.declared.board.Closed.{Closed}
+use Rattle.dob_board.specs.Histories.{GoesOn}
 use Rattle.dob_board.specs.Rule.{fresh}
-use Rattle.dob_board.specs.Seats.{stand_of, IsSeatOf, AreSeats, AreWords}
-use Rattle.dob_board.specs.Boards.{joined, nobody, behind, gathered, IsWord, AreRead, Read}
+use Rattle.dob_board.specs.Seats.{stand_of, told_of, log_of, IsSeatOf, AreSeats, AreWords, IsHistory}
+use Rattle.dob_board.specs.Boards.{joined, nobody, behind, gathered, closed_view, LeadsTo, IsWord, AreRead, AreTold, Read}
 use Rattle.dob_pieces.proofs.Elements.{get_front, middle}
 use Rattle.dob_board.proofs.Places.{posted_within, taken_within}
 use Rattle.dob_board.proofs.Kept.{own_node}
 use Rattle.dob_board.proofs.Allowed.{Seated, seated, Held, set_same}
 use Rattle.dob_board.proofs.Halting.{same_halt, runs_on}
+use Rattle.dob_board.proofs.Once.{run_once}
 use Rattle.dob_board.proofs.Starts.{port_of, port_here, port_else, elsewhere, view_from}
 
 -- ---- join
@@ -34,20 +41,25 @@ nobody_is_view : (n port halt : ℕ) (owner : ℕ → ℕ) (ring : Ring) (log : 
 nobody_is_view n port halt owner ring log = record {
   was_told = (log, sym (append-nil log));
   nodes = λ k stand e. absurd (some-ne-none stand (sym e));
+  is_closed = λ e. absurd (cc);
 }
 
-joins : (n i id other size : ℕ) (words : List ℕ) (views : List View) (stand : Stand) (behind : List Stand) (told heard : List RingEvent)
+-- the rest's view, closed or not
+abbrev rest_view : ℕ → ℕ → List Stand → List RingEvent → Bool → View
+rest_view n from stands told closed = record { size = n; from = from; stands = stands; told = told; closed = closed }
+
+joins : (n i id other size : ℕ) (words : List ℕ) (views : List View) (stand : Stand) (behind : List Stand) (told heard : List RingEvent) (closed : Bool)
     (held : IsHeld n words views) →
-    get_elem? views id ≡ some (view_from size (suc i) behind told) → other ≢ id →
+    get_elem? views id ≡ some (rest_view size (suc i) behind told closed) → other ≢ id →
     get_elem? (slice_set views id (view_from n i (stand ∷ behind) heard)) other ≡ some (one n i stand heard) →
     IsHeld n words (slice_set (slice_set views id (view_from n i (stand ∷ behind) heard)) other nobody)
-joins n i id other size words views stand behind told heard held at apart there =
+joins n i id other size words views stand behind told heard closed held at apart there =
     let ring : Ring = ring_of n words held.black held.token in
     let halt : ℕ = slice_index words 2 in
     let both : View = view_from n i (stand ∷ behind) heard in
     let at_other : get_elem? views other ≡ some (one n i stand heard) = sym (set_else views id other both apart) ∙ there in
     let mine : IsNode n held.owner ring halt other n i stand = own_node n i other words views stand heard held at_other in
-    let rest = held.views_are id (view_from size (suc i) behind told) at in
+    let rest = held.views_are id (rest_view size (suc i) behind told closed) at in
     let owner : ℕ → ℕ = port_of i id held.owner in
     record {
       size = held.size;
@@ -72,9 +84,10 @@ joins n i id other size words views stand behind told heard held at apart there 
           (record {
             was_told = (held.views_are other (one n i stand heard) at_other).was_told;
             nodes = both_nodes n i id halt size held.owner ring stand behind mine.within mine.is_stand rest.nodes;
+            is_closed = λ e'. absurd (cc);
           }))
           (λ (y : (port ≢ id) × (get_elem? views port ≡ some view)).
-          elsewhere n i other id port halt held.owner ring held.log view mine.owned x.0 (held.views_are port view y.1))
+          elsewhere n i other id port halt held.owner ring held.log view mine.within mine.owned x.0 (held.views_are port view y.1))
           (at_set views id port both view x.1))
           (at_set (set views id both) other port nobody view e);
     }
@@ -101,29 +114,45 @@ joins_call key n i id other view me stand heard key_is from_is me_is =
     let from_here : (s : State (Unit {0}) View) → Held n s → get_elem? s.views id ≡ some view → ¬ (other ≡ id) →
     get_elem? (slice_set s.views id (joined view (one n i stand heard))) other ≡ some (one n i stand heard) →
     IsHeld n s.words (slice_set (slice_set s.views id (joined view (one n i stand heard))) other nobody) =
-    λ s held at apart there. joins n i id other view.size s.words s.views stand view.stands view.told heard held
-    (at ∙ ap (λ (from : ℕ). some (view_from view.size from view.stands view.told)) from_is) apart there in
+    λ s held at apart there. joins n i id other view.size s.words s.views stand view.stands view.told heard view.closed held
+    (at ∙ ap (λ (from : ℕ). some (rest_view view.size from view.stands view.told view.closed)) from_is) apart there in
     let view_is : me.0 ≡ one n i stand heard = ap (λ (x : Seated). x.0) me_is in
     subst (λ (p : ℕ × View). Joins (Held p.0) id view other p.1 (joined view p.1) nobody) (λ q. (sym key_is q, sym view_is q)) from_here
 
 -- ---- read
 
-reads : (n w id : ℕ) (words : List ℕ) (views : List View) (stands : List Stand) (told : List RingEvent) (held : IsHeld n words views) →
-    get_elem? views id ≡ some (view_from n 0 stands told) → IsWord n stands w (slice_index words w)
-reads n w id words views stands told held at =
+reads : (n w id : ℕ) (words : List ℕ) (views : List View) (view : View) (held : IsHeld n words views) → get_elem? views id ≡ some view → view.from ≡ 0 →
+    IsWord n view.stands held.log w (slice_index words w)
+reads n w id words views view held at from_is =
     let ring : Ring = ring_of n words held.black held.token in
     let halt : ℕ = slice_index words 2 in
-    let was = held.views_are id (view_from n 0 stands told) at in
-    let node : (k : ℕ) (stand : Stand) → get_elem? stands k ≡ some stand → IsNode n held.owner ring halt id n k stand =
-    λ k stand e. let place : 0 + k ≡ k = omega arith in subst (λ (x : ℕ). IsNode n held.owner ring halt id n x stand) place (was.nodes k stand e) in
+    let was = held.views_are id view at in
+    let node : (k : ℕ) (stand : Stand) → get_elem? view.stands k ≡ some stand → IsNode n held.owner ring halt id view.size k stand =
+    λ k stand e. let place : view.from + k ≡ k = omega (arith, from_is) in
+    subst (λ (x : ℕ). IsNode n held.owner ring halt id view.size x stand) place (was.nodes k stand e) in
     let announced : w ≡ 2 → slice_index words w ≡ 1 → ring.announced ≡ true =
     λ w_is found. eq-eqb (slice_index words 2) 1 (ap (slice_index words) (sym w_is) ∙ found) in
     record {
+      ring = ring;
+      leads = record { runs = held.runs; is_lawful = held.lawful; shows = λ i stand e. (node i stand e).is_stand.shows };
       nodes = λ w_is. ap (slice_index words) w_is ∙ held.nodes;
-      token = λ w_is. (held.token, subst (λ (x : ℕ). IsPacked held.token (slice_index words x)) (sym w_is) held.packed);
+      token = λ w_is. subst (λ (x : ℕ). IsPacked held.token (slice_index words x)) (sym w_is) held.packed;
       posted = λ i j stand e j_in w_is. ap (slice_index words) w_is ∙ sym ((node i stand e).is_stand.shows.posted j j_in);
       taken = λ i j stand e j_in w_is. ap (slice_index words) w_is ∙ sym ((node i stand e).is_stand.shows.taken j j_in);
+      none_own = λ i stand e.
+          let at_i = node i stand e in (
+            at_i.is_stand.none_own,
+            omega (
+              arith,
+              at_i.is_stand.none_own,
+              at_i.is_stand.shows.posted i at_i.within,
+              at_i.is_stand.shows.taken i at_i.within,
+              held.lawful.in_order i i at_i.within at_i.within,
+            ),
+          );
       halt_within = λ w_is. omega (arith, ap (slice_index words) w_is, held.halt_within);
+      halt_is = λ w_is. ap (λ (x : ℕ). eqb (slice_index words x) 1) (sym w_is);
+      announced = λ w_is found stand e. (node 0 stand e).is_stand.announced refl (ap (slice_index words) (sym w_is) ∙ found);
       halt_seen = λ w_is i stand e seen. ap (slice_index words) w_is ∙ (node i stand e).is_stand.halt_seen seen;
       failed = λ w_is i stand e found. (node i stand e).is_stand.failed (ap (slice_index words) (sym w_is) ∙ found);
       all_white = λ w_is found i stand e. let at_i = node i stand e in at_i.is_stand.shows.colour ∙ held.lawful.all_white (announced w_is found) i at_i.within;
@@ -134,18 +163,56 @@ reads n w id words views stands told held at =
           ∙ sym (at_j.is_stand.shows.taken i at_i.within);
     }
 
-pub reads_call : (key n w id slots : ℕ) (me : Seated) → key ≡ n → me.0.size ≡ n → me.0.from ≡ 0 → me.1 ≡ [] →
+-- a read by the seat of all nodes closes its view
+closes : (n id : ℕ) (words : List ℕ) (views : List View) (view : View) (held : IsHeld n words views) → get_elem? views id ≡ some view → view.from ≡ 0 →
+    length view.stands ≡ n → IsHeld n words (slice_set views id (closed_view view.size view.stands held.log))
+closes n id words views view held at from_is all_is =
+    let ring : Ring = ring_of n words held.black held.token in
+    let halt : ℕ = slice_index words 2 in
+    let was = held.views_are id view at in
+    let after : View = closed_view view.size view.stands held.log in
+    record {
+      size = held.size;
+      wide = held.wide;
+      nodes = held.nodes;
+      black = held.black;
+      token = held.token;
+      packed = held.packed;
+      lawful = held.lawful;
+      halt_within = held.halt_within;
+      log = held.log;
+      runs = held.runs;
+      owner = held.owner;
+      views_are = λ port other e.
+          ⊎_elim
+          (λ (x : (port ≡ id) × (after ≡ other)).
+          subst (λ (p : ℕ × View). IsView n held.owner ring halt held.log p.0 p.1) (λ q. (sym x.0 q, x.1 q))
+          (record {
+            was_told = ([], refl);
+            nodes = λ k stand e'. subst (λ (from : ℕ). IsNode n held.owner ring halt id view.size (from + k) stand) from_is (was.nodes k stand e');
+            is_closed = λ e'. record { from_first = refl; all_nodes = all_is; all_told = refl };
+          }))
+          (λ (x : (port ≢ id) × (get_elem? views port ≡ some other)). held.views_are port other x.1)
+          (at_set views id port after other e);
+    }
+
+pub reads_call : (key n w id slots : ℕ) (me : Seated) → key ≡ n → me.0.size ≡ n → me.0.from ≡ 0 → length me.0.stands ≡ n →
     Allows (Held key) slots id me w (λ x. x) (Read (step slots w 0 0 none) me)
-reads_call key n w id slots me key_is size_is from_is none_is s held len at small =
-    let held_n : IsHeld n s.words s.views = subst (λ (k : ℕ). IsHeld k s.words s.views) key_is held in
-    let view_is : me.0 ≡ view_from n 0 me.0.stands me.0.told = λ q. record { size = size_is q; from = from_is q; stands = me.0.stands; told = me.0.told } in
-    let at_n : get_elem? s.views id ≡ some (view_from n 0 me.0.stands me.0.told) = at ∙ ap some view_is in
-    let word = reads n w id s.words s.views me.0.stands me.0.told held_n at_n in (
-      me.0,
+reads_call key n w id slots me key_is size_is from_is all_is s held len at small =
+    let was = held.views_are id me.0 at in
+    let after : View = closed_view me.0.size me.0.stands held.log in
+    let word = reads key w id s.words s.views me.0 held at from_is in (
+      after,
       keeps,
       tt,
-      subst (λ (p : List ℕ × List View). IsHeld key p.0 p.1) (λ q. (sym (set_same s.words w) q, sym (set_again s.views id me.0 at) q)) held,
-      (refl, λ from. subst (λ (m : ℕ). IsWord m me.0.stands w (slice_index s.words w)) (sym size_is) word),
+      subst (λ (ws : List ℕ). IsHeld key ws (slice_set s.views id after)) (sym (set_same s.words w))
+          (closes key id s.words s.views me.0 held at from_is (all_is ∙ sym key_is)),
+      (
+        refl,
+        (λ e. sym (was.is_closed e).all_told),
+        was.was_told,
+        subst (λ (m : ℕ). IsWord m me.0.stands held.log w (slice_index s.words w)) (key_is ∙ sym size_is) word,
+      ),
     )
 
 -- ---- one seat less
@@ -155,6 +222,7 @@ pub record AreLeft (board : TableId) (n : ℕ) (all : List Stand) (seats : List 
   pub size_is : me.0.size ≡ n
   pub from_is : me.0.from ≡ length seats
   pub no_slot : me.1 ≡ []
+  pub not_closed : me.0.closed ≡ false
   pub all_are : all ≡ map stand_of seats ++ me.0.stands
   pub seats_are : (k : ℕ) (seat : NodeSeat) → slice_get seats k ≡ Some seat → IsSeatOf board n k seat
 
@@ -180,6 +248,7 @@ one_less board n all seats fewer seat me after left seats_is after_is =
       size_is = ap (λ (v : View). v.size) after_view ∙ is.nodes;
       from_is = ap (λ (v : View). v.from) after_view ∙ is.node;
       no_slot = ap (λ (x : Seated). x.1) after_is;
+      not_closed = ap (λ (v : View). v.closed) after_view;
       all_are = left.all_are ∙ ap (λ (xs : List NodeSeat). map stand_of xs ++ me.0.stands) seats_is
           ∙ ap (λ (ss : List Stand). ss ++ me.0.stands) (map_push fewer seat)
           ∙ append_assoc (map stand_of fewer) (stand_of seat ∷ []) me.0.stands
@@ -192,7 +261,7 @@ pub none_left : (board : TableId) (n : ℕ) (all : List Stand) (seats : List Nod
 none_left board n all seats me left none_is =
     let from_is : me.0.from ≡ 0 = left.from_is ∙ ap length none_is in
     let stands_are : me.0.stands ≡ all = sym (left.all_are ∙ ap (λ (xs : List NodeSeat). map stand_of xs ++ me.0.stands) none_is) in
-    λ q. (record { size = left.size_is q; from = from_is q; stands = stands_are q; told = me.0.told }, left.no_slot q)
+    λ q. (record { size = left.size_is q; from = from_is q; stands = stands_are q; told = me.0.told; closed = left.not_closed q }, left.no_slot q)
 
 pub all_left : (board : TableId) (n : ℕ) (seats : List NodeSeat) (me : Seated) → AreSeats board n seats → me ≡ (behind n n, [])
     → AreLeft board n (map stand_of seats) seats me
@@ -203,6 +272,7 @@ all_left board n seats me are me_is =
       size_is = ap (λ (v : View). v.size) view_is;
       from_is = ap (λ (v : View). v.from) view_is ∙ sym are.count;
       no_slot = ap (λ (x : Seated). x.1) me_is;
+      not_closed = ap (λ (v : View). v.closed) view_is;
       all_are =
           sym (ap (λ (v : View). map stand_of seats ++ v.stands) view_is ∙ ap (λ (m : ℕ). map stand_of seats ++ replicate m (fresh n)) none
           ∙ append-nil (map stand_of seats));
@@ -211,15 +281,18 @@ all_left board n seats me are me_is =
 
 -- ---- the words
 
-pub read_more : (n word found : ℕ) (stands : List Stand) (words : List ℕ) → word < length words → ((w : ℕ) → w < word → IsWord n stands w (get_or words w 0)) →
-    IsWord n stands word found → (w : ℕ) → w < word + 1 → IsWord n stands w (get_or (set words word found) w 0)
-read_more n word found stands words within before here w lt =
+pub read_more : (n word found : ℕ) (stands : List Stand) (was log : List RingEvent) (words : List ℕ) → word < length words → (0 < word → log ≡ was) →
+    ((w : ℕ) → w < word → IsWord n stands was w (get_or words w 0)) → IsWord n stands log word found →
+    (w : ℕ) → w < word + 1 → IsWord n stands log w (get_or (set words word found) w 0)
+read_more n word found stands was log words within same before here w lt =
     elim (cases_eq w word) [
       | inl is ↦
           let read : get_or (set words word found) w 0 ≡ found =
           ap (λ (m : ℕ). get_or (set words word found) m 0) is ∙ get_or-set_same words word found 0 within in
-          subst (λ (p : ℕ × ℕ). IsWord n stands p.0 p.1) (λ q. (sym is q, sym read q)) here
-      | inr apart ↦ subst (IsWord n stands w) (sym (get_or-set_other words word w found 0 apart)) (before w (omega (arith, lt, apart)))
+          subst (λ (p : ℕ × ℕ). IsWord n stands log p.0 p.1) (λ q. (sym is q, sym read q)) here
+      | inr apart ↦ let below : w < word = omega (arith, lt, apart) in
+          subst (λ (p : List RingEvent × ℕ). IsWord n stands p.0 w p.1)
+          (λ q. (sym (same (omega (arith, below))) q, sym (get_or-set_other words word w found 0 apart) q)) (before w below)
     ]
 
 mapped_there : {A B : Type 0} → (f : A → B) (xs : List A) (k : ℕ) (x : A) → slice_get xs k ≡ Some x → get_elem? (map f xs) k ≡ some (f x)
@@ -235,19 +308,107 @@ seat_there [] k lt = absurd (omega arith)
 seat_there (x ∷ xs) zero lt = (x, refl)
 seat_there (x ∷ xs) (suc k) lt = seat_there xs k (omega arith)
 
-pub are_words : (board : TableId) (n : ℕ) (seats : List NodeSeat) (words : List ℕ) → AreSeats board n seats → AreRead n (map stand_of seats) words
-    → AreWords n seats words
-are_words board n seats words are read = record {
+-- the ring of a closed board: word 1 is its token's, and word 2 says whether it is announced
+pub read_ring : (n : ℕ) (stands : List Stand) (log : List RingEvent) (words : List ℕ) → 0 < n → AreRead n stands log words →
+    (ring : Ring) × LeadsTo n stands log ring × IsPacked ring.token (slice_index words 1) × (ring.announced ≡ eqb (slice_index words 2) 1)
+read_ring n stands log words some_nodes read =
+    let first = read.words_are 1 (omega arith) in
+    let second = read.words_are 2 (omega arith) in
+    let same = run_once n log first.ring second.ring some_nodes first.leads.runs second.leads.runs in
+    (second.ring, second.leads, subst (λ (t : Token). IsPacked t (slice_index words 1)) same.token (first.token refl), second.halt_is refl)
+
+-- a token has one word
+word_once : (token : Token) (one other : ℕ) → IsPacked token one → IsPacked token other → one ≡ other
+word_once token one other first second = omega (arith, ints, first.word_is, second.word_is)
+
+pub are_told : (n : ℕ) (stands : List Stand) (log : List RingEvent) (words : List ℕ) → 0 < n → length stands ≡ n → AreRead n stands log words →
+    AreTold (closed_view n stands log) words
+are_told n stands log words some_nodes all_nodes read =
+    let has = read_ring n stands log words some_nodes read in
+    let halt = read.words_are 2 (omega arith) in
+    let within : (k : ℕ) (stand : Stand) → get_elem? stands k ≡ some stand → k < n = λ k stand e. omega (arith, there_in stands k stand e, all_nodes) in
+    record {
+      is_closed = refl;
+      count = read.count;
+      nodes = (read.words_are 0 (omega arith)).nodes refl;
+      token = λ ring word runs packed.
+          let same = run_once n log ring has.0 some_nodes runs has.1.runs in
+          word_once has.0.token (slice_index words 1) word has.2 (subst (λ (t : Token). IsPacked t word) same.token packed);
+      announced = λ ring runs. (run_once n log ring has.0 some_nodes runs has.1.runs).announced ∙ has.3;
+      halt_seen = halt.halt_seen refl;
+      failed = halt.failed refl;
+      posted = λ i j stand e j_in. (read.words_are (posted_word n i j) (posted_within n i j (within i stand e) j_in)).posted i j stand e j_in refl;
+      taken = λ i j stand e j_in. (read.words_are (taken_word n j i) (taken_within n j i j_in (within i stand e))).taken i j stand e j_in refl;
+    }
+  where
+    there_in : (xs : List Stand) (k : ℕ) (stand : Stand) → get_elem? xs k ≡ some stand → k < length xs
+    there_in [] k stand e = absurd (some-ne-none stand (sym e))
+    there_in (x ∷ xs) zero stand e = omega arith
+    there_in (x ∷ xs) (suc k) stand e = omega (arith, there_in xs k stand e)
+
+-- ---- the seat of node 0
+
+-- Of the seats that are left the first is the first of all; or none is left, and the rest was told what that one was.
+abbrev pub IsFirstTold : List NodeSeat → List NodeSeat → Seated → Type 0
+IsFirstTold all seats me = (seat : NodeSeat) → slice_get all 0 ≡ Some seat → (slice_get seats 0 ≡ Some seat) ⊎ ((seats ≡ []) × (me.0.told ≡ told_of seat))
+
+one_more_there : {A : Type 0} (x : A) (xs : List A) → [] ≡ x ∷ xs → ⊥
+one_more_there x xs e = cc
+
+nothing_there : {A : Type 0} (x : A) → slice_get [] 0 ≡ Some x → ⊥
+nothing_there x e = cc
+
+-- what stands first, with one at the end less
+first_of_fewer : {A : Type 0} (all fewer : List A) (last x : A) → all ≡ fewer ++ last ∷ [] → slice_get all 0 ≡ Some x →
+    (slice_get fewer 0 ≡ Some x) ⊎ ((fewer ≡ []) × (last ≡ x))
+first_of_fewer all [] last x all_is e = inr (refl, same_Some last x (ap (λ xs. slice_get xs 0) (sym all_is) ∙ e))
+first_of_fewer all (y ∷ fewer) last x all_is e = inl (ap (λ xs. slice_get xs 0) (sym all_is) ∙ e)
+
+never_none : {A : Type 0} (all fewer : List A) (last : A) → all ≡ fewer ++ last ∷ [] → all ≡ [] → ⊥
+never_none all [] last all_is none_is = one_more_there last [] (sym none_is ∙ all_is)
+never_none all (y ∷ fewer) last all_is none_is = one_more_there y (fewer ++ last ∷ []) (sym none_is ∙ all_is)
+
+pub first_less : (all seats fewer : List NodeSeat) (last : NodeSeat) (me after : Seated) → IsFirstTold all seats me → seats ≡ fewer ++ last ∷ [] →
+    after.0.told ≡ told_of last → IsFirstTold all fewer after
+first_less all seats fewer last me after first seats_is told seat e =
+    ⊎_elim
+    (λ (here : slice_get seats 0 ≡ Some seat).
+    ⊎_elim (λ (there : slice_get fewer 0 ≡ Some seat). inl there)
+    (λ (it : (fewer ≡ []) × (last ≡ seat)). inr (it.0, told ∙ ap told_of it.1))
+    (first_of_fewer seats fewer last seat seats_is here))
+    (λ (none : (seats ≡ []) × (me.0.told ≡ told_of seat)). absurd (never_none seats fewer last seats_is none.0))
+    (first seat e)
+
+pub first_done : (all seats : List NodeSeat) (me : Seated) → IsFirstTold all seats me → seats ≡ [] → (seat : NodeSeat) → slice_get all 0 ≡ Some seat →
+    me.0.told ≡ told_of seat
+first_done all seats me first none_is seat e =
+    ⊎_elim
+    (λ (here : slice_get seats 0 ≡ Some seat). absurd (nothing_there seat (ap (λ (xs : List NodeSeat). slice_get xs 0) (sym none_is) ∙ here)))
+    (λ (none : (seats ≡ []) × (me.0.told ≡ told_of seat)). none.1)
+    (first seat e)
+
+pub are_words : (board : TableId) (n : ℕ) (seats : List NodeSeat) (log : List RingEvent) (words : List ℕ) → AreSeats board n seats →
+    AreRead n (map stand_of seats) log words → AreWords n seats words
+are_words board n seats log words are read = record {
   count = read.count;
   nodes = (read.words_are 0 (omega arith)).nodes refl;
-  token = (read.words_are 1 (omega arith)).token refl;
+  token = ((read.words_are 1 (omega arith)).ring.token, (read.words_are 1 (omega arith)).token refl);
   posted =
       λ i j seat e j_in. (read.words_are (posted_word n i j) (posted_within n i j (seat_within i seat e) j_in)).posted i j (stand_of seat)
       (stand_there seats i seat e) j_in refl;
   taken =
       λ i j seat e j_in. (read.words_are (taken_word n j i) (taken_within n j i j_in (seat_within i seat e))).taken i j (stand_of seat)
       (stand_there seats i seat e) j_in refl;
+  none_own = λ i i_in.
+      let here = seat_there seats i (omega (arith, are.count, i_in)) in
+      let found = stand_there seats i here.0 here.1 in
+      let posted = read.words_are (posted_word n i i) (posted_within n i i i_in i_in) in
+      let taken = read.words_are (taken_word n i i) (taken_within n i i i_in i_in) in (
+        posted.posted i i (stand_of here.0) found i_in refl ∙ (posted.none_own i (stand_of here.0) found).0,
+        taken.taken i i (stand_of here.0) found i_in refl ∙ (taken.none_own i (stand_of here.0) found).1,
+      );
   halt_within = (read.words_are 2 (omega arith)).halt_within refl;
+  announced = λ ended seat e. same_halt seat.halt Ended ((read.words_are 2 (omega arith)).announced refl ended (stand_of seat) (stand_there seats 0 seat e));
   halt_seen = λ i seat e seen. (read.words_are 2 (omega arith)).halt_seen refl i (stand_of seat) (stand_there seats i seat e) (runs_on seat.halt seen);
   failed = λ i seat e found. same_halt seat.halt (Failed i) ((read.words_are 2 (omega arith)).failed refl i (stand_of seat) (stand_there seats i seat e) found);
   all_white = λ ended i seat e. (read.words_are 2 (omega arith)).all_white refl ended i (stand_of seat) (stand_there seats i seat e);
@@ -267,3 +428,23 @@ are_words board n seats words are read = record {
 
     seat_within : (k : ℕ) (seat : NodeSeat) → slice_get seats k ≡ Some seat → k < n
     seat_within k seat e = omega (arith, found_within seats k seat e, are.count)
+
+-- what happened on a closed board
+pub is_history : (n : ℕ) (seats : List NodeSeat) (closed : Closed) (told : List RingEvent) → 0 < n →
+    ((seat : NodeSeat) → slice_get seats 0 ≡ Some seat → told ≡ told_of seat) → GoesOn told (log_of closed) →
+    AreRead n (map stand_of seats) (log_of closed) closed.words.items → IsHistory n seats closed
+is_history n seats closed told some_nodes first on read =
+    let has = read_ring n (map stand_of seats) (log_of closed) closed.words.items some_nodes read in
+    record {
+      told = λ seat e. subst (λ (l : List RingEvent). GoesOn l (log_of closed)) (first seat e) on;
+      ring = has.0;
+      runs = has.1.runs;
+      is_lawful = has.1.is_lawful;
+      shows = λ i seat e. has.1.shows i (stand_of seat) (stand_there seats i seat e);
+      token = has.2;
+      announced = has.3;
+    }
+
+pub stands_len : (seats : List NodeSeat) → length (map stand_of seats) ≡ length seats
+stands_len [] = refl
+stands_len (x ∷ xs) = ap suc (stands_len xs)

@@ -1,5 +1,6 @@
 -- The halt of a board: a look at it, a failure, and the announcement of the end.
-use Rattle.std.proofs.Common.{◌≡◌, ◌≢◌, ℕ, ◌+◌, ◌<◌, ◌⊎◌, List, [], ◌∷◌, length, set, get_or, Bool, true, false, Option, cond, eqb, eq-eqb, ne_eqb, refl, sym}
+use Rattle.std.proofs.Common.{◌≡◌, ◌≢◌, ℕ, zero, suc, ◌+◌, ◌<◌, ◌⊎◌, List, [], ◌∷◌, length, set, get_or, Bool, true, false, Option, cond, eqb, eq-eqb}
+use Rattle.std.proofs.Common.{ne_eqb, refl, sym}
 use Rattle.std.proofs.Common.{ap, ◌∙◌, subst, inl, inr, arith, length-set, get_or-set_same, get_or-set_other}
 use Rattle.std.specs.Prelude.{slice_index, slice_set}
 use Rattle.std.proofs.lemmas.Bool.{cases_eq}
@@ -22,11 +23,12 @@ use Rattle.dob_board.specs.Words.{halt_word, halt_after, ring_of}
 use Rattle.dob_board.specs.Views.{one, counter_of, finds, stand_from, IsStand}
 use Rattle.dob_board.specs.Histories.{Runs, Makes, Hears, HasHalt}
 use Rattle.dob_board.specs.Rule.{IsHeld}
-use Rattle.dob_board.specs.Seats.{MayEnd}
+use Rattle.dob_board.specs.Seats.{MayEnd, failed_after}
 use Rattle.dob_board.specs.Plays.{Found, Halted, FailedRun, Announced}
 use Rattle.dob_board.proofs.Kept.{Leaves, own_node, kept}
 use Rattle.dob_board.proofs.Steps.{known}
 use Rattle.dob_board.proofs.Allowed.{Seated, Held, seated, same_stand, set_same}
+use Rattle.dob_board.proofs.Done.{white_shown}
 use Rattle.dob_board.proofs.Passing.{posted_apart, taken_apart, counter_is}
 
 -- the word of a halt is no other's
@@ -61,24 +63,34 @@ halt_found found mark some_is = let no' : eqb found 0 ≡ false = ne_eqb found 0
 
 -- ---- what a node knows of the halt
 
-pub finds_stand : (n i halt : ℕ) (ring : Ring) (stand : Stand) → IsStand n ring halt i stand → IsStand n ring halt i (finds stand halt)
-finds_stand n i halt ring stand is = record {
+pub finds_stand : (n i halt : ℕ) (ring : Ring) (stand : Stand) → ring.announced ≡ eqb halt 1 → IsStand n ring halt i stand →
+    IsStand n ring halt i (finds stand halt)
+finds_stand n i halt ring stand so is = record {
   posted_len = is.posted_len;
   taken_len = is.taken_len;
   seen_len = is.seen_len;
-  shows = record { posted = is.shows.posted; taken = is.shows.taken; colour = is.shows.colour; token = is.shows.token };
+  shows = record {
+    posted = is.shows.posted;
+    taken = is.shows.taken;
+    colour = is.shows.colour;
+    token = is.shows.token;
+    ended = λ e. so ∙ eq-eqb halt 1 e;
+  };
+  none_own = is.none_own;
   seen = is.seen;
   halt_seen = λ ne. refl;
   failed = λ e. e;
+  announced = λ first e. e;
 }
 
--- What a step that left the halt word at that number, and made no event, tells.
+-- What a step that found the halt word at one number and left it at another, and made no event, tells.
 pub record Finding (n i id : ℕ) (words : List ℕ) (views : List View) (log : List RingEvent) (stand : Stand) (told : List RingEvent) (now : List ℕ)
-    (word : ℕ) : Type 0 where
+    (was word : ℕ) : Type 0 where
   pub held : IsHeld n now (slice_set views id (one n i (finds stand word) log))
   pub within : word < 2 + n
   pub stays : stand.halt ≢ 0 → word ≡ stand.halt
-  pub heard : Hears n i (finds stand word) told log (HasHalt word)
+  pub announced : i ≡ 0 → word ≡ 1 → stand.halt ≡ 1
+  pub heard : Hears n i (finds stand word) told log (HasHalt was)
 
 -- the halt word is this node's failure only where it knew that
 abbrev pub IsKnown : ℕ → Stand → ℕ → Type 0
@@ -90,15 +102,17 @@ knew_own n i id words views stand told held at = (own_node n i id words views st
 
 -- a look
 pub looks_at_halt : (n i id : ℕ) (words : List ℕ) (views : List View) (stand : Stand) (told : List RingEvent) (held : IsHeld n words views) →
-    get_elem? views id ≡ some (one n i stand told) → Finding n i id words views held.log stand told words (slice_index words 2)
+    get_elem? views id ≡ some (one n i stand told) → Finding n i id words views held.log stand told words (slice_index words 2) (slice_index words 2)
 looks_at_halt n i id words views stand told held at =
     let ring : Ring = ring_of n words held.black held.token in
     let mine = own_node n i id words views stand told held at in
-    let now : IsStand n ring (slice_index words 2) i (finds stand (slice_index words 2)) = finds_stand n i (slice_index words 2) ring stand mine.is_stand in
+    let now : IsStand n ring (slice_index words 2) i (finds stand (slice_index words 2)) =
+    finds_stand n i (slice_index words 2) ring stand refl mine.is_stand in
     record {
       held = known n i id words views stand (finds stand (slice_index words 2)) told held at now;
       within = held.halt_within;
       stays = mine.is_stand.halt_seen;
+      announced = mine.is_stand.announced;
       heard = record {
         went_on = (held.views_are id (one n i stand told) at).was_told;
         ring = ring;
@@ -135,6 +149,8 @@ fails_leaves n i ring = record {
   token = λ k apart e. refl;
   halt_seen = λ word ne e. absurd (ne (sym e));
   failed = λ k apart e. absurd (apart (omega (arith, e)));
+  ended = λ k apart first e. absurd (omega (arith, e));
+  announced = λ e. e;
 }
 
 fails_stand : (n i : ℕ) (ring : Ring) (stand : Stand) → IsStand n ring 0 i stand → IsStand n ring (2 + i) i (finds stand (2 + i))
@@ -142,15 +158,23 @@ fails_stand n i ring stand is = record {
   posted_len = is.posted_len;
   taken_len = is.taken_len;
   seen_len = is.seen_len;
-  shows = record { posted = is.shows.posted; taken = is.shows.taken; colour = is.shows.colour; token = is.shows.token };
+  shows = record {
+    posted = is.shows.posted;
+    taken = is.shows.taken;
+    colour = is.shows.colour;
+    token = is.shows.token;
+    ended = λ e. absurd (omega (arith, e));
+  };
+  none_own = is.none_own;
   seen = is.seen;
   halt_seen = λ ne. refl;
   failed = λ e. e;
+  announced = λ first e. absurd (omega (arith, e));
 }
 
 pub fails : (n i id : ℕ) (words : List ℕ) (views : List View) (stand : Stand) (told : List RingEvent) (held : IsHeld n words views) →
     get_elem? views id ≡ some (one n i stand told) → slice_index words 2 ≡ 0 →
-    Finding n i id words views held.log stand told (set words 2 (2 + i)) (2 + i)
+    Finding n i id words views held.log stand told (set words 2 (2 + i)) 0 (2 + i)
 fails n i id words views stand told held at running =
     let after : List ℕ = set words 2 (2 + i) in
     let old : Ring = ring_of n words held.black held.token in
@@ -176,13 +200,14 @@ fails n i id words views stand told held at running =
           now;
       within = omega (arith, mine.within);
       stays = λ ne. absurd (ne (sym (is.halt_seen ne)));
+      announced = λ first e. absurd (omega (arith, e));
       heard = record {
         went_on = (held.views_are id (one n i stand told) at).was_told;
         ring = new;
         runs = subst (Runs n held.log) same held.runs;
         is_lawful = subst (IsLawful n) same held.lawful;
         shows = now.shows;
-        is_so = ap (λ (h : ℕ). eqb h 1) there;
+        is_so = ap (λ (h : ℕ). eqb h 1) there ∙ ne_eqb (2 + i) 1 (λ e. omega (arith, e));
       };
     }
 
@@ -200,8 +225,8 @@ announces_moved n words black token wide may = record {
   announced = eq-eqb (get_or (set words 2 1) 2 0) 1 (get_or-set_same words 2 1 0 wide);
 }
 
-announces_leaves : (n i : ℕ) (old new : Ring) → Announces n old new → Leaves n i old new 0 1
-announces_leaves n i old new moved = record {
+announces_leaves : (n i : ℕ) (old new : Ring) → i ≡ 0 → Announces n old new → Leaves n i old new 0 1
+announces_leaves n i old new first moved = record {
   posted = λ k l k_in l_in apart. moved.posted k l k_in l_in;
   grows = λ k l k_in l_in. omega (arith, moved.posted k l k_in l_in);
   taken = λ k l k_in l_in apart. moved.taken k l k_in l_in;
@@ -209,6 +234,8 @@ announces_leaves n i old new moved = record {
   token = λ k apart e. moved.token;
   halt_seen = λ word ne e. absurd (ne (sym e));
   failed = λ k apart e. absurd (omega (arith, e));
+  ended = λ k apart zero e. absurd (apart (zero ∙ sym first));
+  announced = λ e. moved.announced;
 }
 
 announces_stand : (n i : ℕ) (old new : Ring) (stand : Stand) → i < n → Announces n old new → IsStand n old 0 i stand → IsStand n new 1 i (finds stand 1)
@@ -221,10 +248,13 @@ announces_stand n i old new stand within moved is = record {
     taken = λ k k_in. is.shows.taken k k_in ∙ sym (moved.taken k i k_in within);
     colour = is.shows.colour ∙ sym (moved.colours i within);
     token = λ token e. let had = is.shows.token token e in (had.0 ∙ sym moved.token, had.1);
+    ended = λ e. moved.announced;
   };
+  none_own = is.none_own;
   seen = λ k k_in. omega (arith, is.seen k k_in, moved.posted k i k_in within);
   halt_seen = λ ne. refl;
   failed = λ e. absurd (omega (arith, e));
+  announced = λ first e. refl;
 }
 
 pub announces : (n i id : ℕ) (words : List ℕ) (views : List View) (stand : Stand) (told : List RingEvent) (held : IsHeld n words views) →
@@ -253,7 +283,7 @@ announces n i id words views stand told held at may running =
     let now : IsStand n new (slice_index after 2) i (finds stand 1) =
     subst (λ (h : ℕ). IsStand n new h i (finds stand 1)) (sym there) (announces_stand n i old new stand mine.within moved is) in
     let leaves : Leaves n i old new (slice_index words 2) (slice_index after 2) =
-    subst (λ (p : ℕ × ℕ). Leaves n i old new p.0 p.1) (λ q. (sym running q, sym there q)) (announces_leaves n i old new moved) in (
+    subst (λ (p : ℕ × ℕ). Leaves n i old new p.0 p.1) (λ q. (sym running q, sym there q)) (announces_leaves n i old new first moved) in (
       kept n i id words after views stand (finds stand 1) told (Announce ∷ []) held.black held.token held at
           (length-set words 2 1)
           (get_or-set_other words 2 0 1 0 (λ e. omega (arith, e)))
@@ -271,6 +301,7 @@ announces n i id words views stand told held at may running =
         old = old;
         new = new;
         runs = held.runs;
+        in_time = ap (λ (h : ℕ). eqb h 1) running;
         moved = moved;
         was_lawful = held.lawful;
         is_lawful = lawful;
@@ -293,8 +324,8 @@ halts_allows n i id slots stand told s held len at small =
       subst (λ (ws : List ℕ). IsHeld n ws (slice_set s.views id (one n i (finds stand found) log))) (sym (set_same s.words 2)) made.held,
       λ stand' place stands.
           subst (λ (p : Stand). ((seated n i (finds stand found) log ≡ seated n i (finds p found) log) × (found < 2 + n) × (p.halt ≢ 0 → found ≡ p.halt))
-          × IsKnown i p found × Hears n i (finds p found) told log (HasHalt found))
-          (same_stand stand stand' stands) ((refl, made.within, made.stays), knew_own n i id s.words s.views stand told held at, made.heard),
+          × IsKnown i p found × (i ≡ 0 → found ≡ 1 → p.halt ≡ 1) × Hears n i (finds p found) told log (HasHalt found))
+          (same_stand stand stand' stands) ((refl, made.within, made.stays), knew_own n i id s.words s.views stand told held at, made.announced, made.heard),
     )
 
 pub halts_call : (key n i id slots : ℕ) (me : Seated) (stand : Stand) (told : List RingEvent) → key ≡ n → me ≡ seated n i stand told →
@@ -305,31 +336,33 @@ halts_call key n i id slots me stand told key_is me_is =
 
 pub halts_tell : (n i found : ℕ) (me after : Seated) (stand : Stand) (told : List RingEvent) → me ≡ seated n i stand told →
     Halted (step 0 2 0 0 none) me found after →
-    Found (seated n i stand told) stand found after × IsKnown i stand found × Hears n i (finds stand found) told after.0.told (HasHalt found)
+    Found (seated n i stand told) stand found after × IsKnown i stand found × (i ≡ 0 → found ≡ 1 → stand.halt ≡ 1)
+    × Hears n i (finds stand found) told after.0.told (HasHalt found)
 halts_tell n i found me after stand told me_is tells =
     (subst (λ (p : Seated). Halted (step 0 2 0 0 none) p found after) me_is tells) stand refl refl
 
 fails_finding : (n i id : ℕ) (words : List ℕ) (views : List View) (stand : Stand) (told : List RingEvent) (held : IsHeld n words views) →
     get_elem? views id ≡ some (one n i stand told) →
     Finding n i id words views held.log stand told (set words 2 (either (eqb (slice_index words 2) 0) (2 + i) (slice_index words 2)))
-    (halt_after (slice_index words 2) (2 + i))
+    (slice_index words 2) (halt_after (slice_index words 2) (2 + i))
 fails_finding n i id words views stand told held at =
     let found : ℕ = slice_index words 2 in
-    let with : (after : ℕ) → halt_after found (2 + i) ≡ after → Finding n i id words views held.log stand told (set words 2 after) after →
-    Finding n i id words views held.log stand told (set words 2 (either (eqb found 0) (2 + i) found)) (halt_after found (2 + i)) =
-    λ after is made. subst (λ (p : ℕ × ℕ). Finding n i id words views held.log stand told (set words 2 p.0) p.1)
-    (λ q. (sym (exchanged found (2 + i) ∙ is) q, sym is q)) made in
+    let with : (was after : ℕ) → found ≡ was → halt_after found (2 + i) ≡ after → Finding n i id words views held.log stand told (set words 2 after) was after →
+    Finding n i id words views held.log stand told (set words 2 (either (eqb found 0) (2 + i) found)) found (halt_after found (2 + i)) =
+    λ was after was_is is made. subst (λ (p : ℕ × ℕ × ℕ). Finding n i id words views held.log stand told (set words 2 p.0) p.1 p.2)
+    (λ q. (sym (exchanged found (2 + i) ∙ is) q, sym was_is q, sym is q)) made in
     elim (cases_eq found 0) [
-      | inl running ↦ with (2 + i) (halt_marked found (2 + i) running) (fails n i id words views stand told held at running)
-      | inr stopped ↦ with found (halt_found found (2 + i) stopped)
-          (subst (λ (ws : List ℕ). Finding n i id words views held.log stand told ws found) (sym (set_same words 2))
+      | inl running ↦ with 0 (2 + i) running (halt_marked found (2 + i) running) (fails n i id words views stand told held at running)
+      | inr stopped ↦ with found found refl (halt_found found (2 + i) stopped)
+          (subst (λ (ws : List ℕ). Finding n i id words views held.log stand told ws found found) (sym (set_same words 2))
           (looks_at_halt n i id words views stand told held at))
     ]
 
 fails_allows : (n i id slots : ℕ) (stand : Stand) (told : List RingEvent) →
     Allows (Held n) slots id (seated n i stand told) 2 (λ x. either (eqb x 0) (2 + i) x) (FailedRun (step slots 2 0 (2 + i) none) (seated n i stand told))
 fails_allows n i id slots stand told s held len at small =
-    let word : ℕ = halt_after (slice_index s.words 2) (2 + i) in
+    let found : ℕ = slice_index s.words 2 in
+    let word : ℕ = halt_after found (2 + i) in
     let log = held.log in
     let made = fails_finding n i id s.words s.views stand told held at in (
       one n i (finds stand word) log,
@@ -338,8 +371,8 @@ fails_allows n i id slots stand told s held len at small =
       made.held,
       λ stand' place mark stands.
           subst (λ (p : Stand). ((seated n i (finds stand word) log ≡ seated n i (finds p word) log) × (word < 2 + n) × (p.halt ≢ 0 → word ≡ p.halt))
-          × Hears n i (finds p word) told log (HasHalt word))
-          (same_stand stand stand' stands) ((refl, made.within, made.stays), made.heard),
+          × (i ≡ 0 → word ≡ 1 → p.halt ≡ 1) × Hears n i (finds p word) told log (HasHalt found))
+          (same_stand stand stand' stands) ((refl, made.within, made.stays), made.announced, made.heard),
     )
 
 pub fails_call : (key n i id slots mark : ℕ) (me : Seated) (stand : Stand) (told : List RingEvent) → key ≡ n → me ≡ seated n i stand told → mark ≡ 2 + i →
@@ -350,8 +383,8 @@ fails_call key n i id slots mark me stand told key_is me_is mark_is =
 
 pub fails_tell : (n i found mark : ℕ) (me after : Seated) (stand : Stand) (told : List RingEvent) → me ≡ seated n i stand told → mark ≡ 2 + i →
     FailedRun (step 0 2 0 mark none) me found after →
-    Found (seated n i stand told) stand (halt_after found mark) after
-    × Hears n i (finds stand (halt_after found mark)) told after.0.told (HasHalt (halt_after found mark))
+    Found (seated n i stand told) stand (halt_after found mark) after × (i ≡ 0 → halt_after found mark ≡ 1 → stand.halt ≡ 1)
+    × Hears n i (finds stand (halt_after found mark)) told after.0.told (HasHalt found)
 fails_tell n i found mark me after stand told me_is mark_is tells =
     (subst (λ (p : Seated). FailedRun (step 0 2 0 mark none) p found after) me_is tells) stand refl mark_is refl
 
@@ -371,7 +404,8 @@ announces_allows n i id slots stand told may s held len at small =
             subst (λ (w : ℕ). IsHeld n (set s.words 2 w) (slice_set s.views id (one n i (finds stand 1) log))) (sym (exchanged found 1 ∙ word_is)) made.0,
             λ stand' place stands.
                 subst (λ (p : Stand). ((seated n i (finds stand 1) log ≡ seated n i (finds p word) log) × (word < 2 + n) × (p.halt ≢ 0 → word ≡ p.halt))
-                × IsKnown i p word × (found ≡ 0 → Makes n i Announce p (finds p 1) told log) × (found ≢ 0 → Hears n i (finds p found) told log (HasHalt found)))
+                × IsKnown i p word × (found ≡ 0 → Makes n i Announce p (finds p 1) told log)
+                × (found ≢ 0 → (found ≡ 1 → p.halt ≡ 1) × Hears n i (finds p found) told log (HasHalt found)))
                 (same_stand stand stand' stands) (
                   (ap (λ (v : View). (v, [])) view_is, omega (arith, word_is, held.size.0), (λ ne. word_is ∙ made.1 ne)),
                   (λ e. absurd (omega (arith, e, word_is))),
@@ -381,6 +415,8 @@ announces_allows n i id slots stand told may s held len at small =
           )
       | inr stopped ↦ let made = looks_at_halt n i id s.words s.views stand told held at in
           let log = held.log in
+          let known_token = (own_node n i id s.words s.views stand told held at).is_stand.shows.token may.token may.known in
+          let first : i ≡ 0 = sym known_token.1 ∙ may.may.at_first in
           let word_is : word ≡ found = halt_found found 1 stopped in
           let view_is : one n i (finds stand found) log ≡ one n i (finds stand word) log = ap (λ (w : ℕ). one n i (finds stand w) log) (sym word_is) in (
             one n i (finds stand found) log,
@@ -390,12 +426,13 @@ announces_allows n i id slots stand told may s held len at small =
                 (sym (ap (set s.words 2) (exchanged found 1 ∙ word_is) ∙ set_same s.words 2)) made.held,
             λ stand' place stands.
                 subst (λ (p : Stand). ((seated n i (finds stand found) log ≡ seated n i (finds p word) log) × (word < 2 + n) × (p.halt ≢ 0 → word ≡ p.halt))
-                × IsKnown i p word × (found ≡ 0 → Makes n i Announce p (finds p 1) told log) × (found ≢ 0 → Hears n i (finds p found) told log (HasHalt found)))
+                × IsKnown i p word × (found ≡ 0 → Makes n i Announce p (finds p 1) told log)
+                × (found ≢ 0 → (found ≡ 1 → p.halt ≡ 1) × Hears n i (finds p found) told log (HasHalt found)))
                 (same_stand stand stand' stands) (
                   (ap (λ (v : View). (v, [])) view_is, omega (arith, word_is, made.within), (λ ne. word_is ∙ made.stays ne)),
                   (λ e. knew_own n i id s.words s.views stand told held at (sym word_is ∙ e)),
                   (λ e. absurd (stopped e)),
-                  (λ ne. made.heard),
+                  (λ ne. (made.announced first, made.heard)),
                 ),
           )
     ]
@@ -408,8 +445,9 @@ announces_call key n i id slots me stand told key_is me_is may =
 
 pub announces_tell : (n i found : ℕ) (me after : Seated) (stand : Stand) (told : List RingEvent) → me ≡ seated n i stand told →
     Announced (step 0 2 0 1 none) me found after →
-    Found (seated n i stand told) stand (halt_after found 1) after × IsKnown i stand (halt_after found 1) × (found ≡ 0 → Makes n i Announce stand (finds stand 1) told after.0.told)
-    × (found ≢ 0 → Hears n i (finds stand found) told after.0.told (HasHalt found))
+    Found (seated n i stand told) stand (halt_after found 1) after × IsKnown i stand (halt_after found 1)
+    × (found ≡ 0 → Makes n i Announce stand (finds stand 1) told after.0.told)
+    × (found ≢ 0 → (found ≡ 1 → stand.halt ≡ 1) × Hears n i (finds stand found) told after.0.told (HasHalt found))
 announces_tell n i found me after stand told me_is tells =
     (subst (λ (p : Seated). Announced (step 0 2 0 1 none) p found after) me_is tells) stand refl refl
 
@@ -437,31 +475,73 @@ knew_done i word posted taken seen black token old new knew new_is own =
     let mark : halt_word new ≡ 2 + i = ap halt_word own in
     same_halt old new (knew (sym new_is ∙ mark) ∙ sym mark)
 
--- what a black node hears isn't that the end was announced
-pub black_hears : (n i : ℕ) (stand : Stand) (told now : List RingEvent) (halt : Halt) → i < n → Hears n i stand told now (HasHalt (halt_word halt)) →
-    stand.black ≡ true → halt ≢ Ended
-black_hears n i stand told now halt within heard black ended =
-    let announced : heard.ring.announced ≡ true = heard.is_so ∙ ap (λ (h : Halt). eqb (halt_word h) 1) ended in
-    let white : heard.ring.black i ≡ false = heard.is_lawful.all_white announced i within in
-    let is : heard.ring.black i ≡ true = sym heard.shows.colour ∙ black in cc
+-- what was heard with the words was heard with their halts
+pub heard_halt : (n i was word : ℕ) (posted taken seen : List ℕ) (black : Bool) (token : Option Token) (old found new : Halt) (told now : List RingEvent) →
+    Hears n i (finds (stand_from posted taken seen black token old) word) told now (HasHalt was) → halt_word found ≡ was → halt_word new ≡ word →
+    Hears n i (stand_from posted taken seen black token new) told now (HasHalt (halt_word found))
+heard_halt n i was word posted taken seen black token old found new told now heard found_is new_is =
+    subst (λ (p : ℕ × ℕ). Hears n i (finds (stand_from posted taken seen black token old) p.0) told now (HasHalt p.1))
+    (λ q. (sym new_is q, sym found_is q)) heard
 
--- what was heard with the word was heard with its halt
-pub heard_halt : (n i word : ℕ) (posted taken seen : List ℕ) (black : Bool) (token : Option Token) (old new : Halt) (told now : List RingEvent) →
-    Hears n i (finds (stand_from posted taken seen black token old) word) told now (HasHalt word) → halt_word new ≡ word →
-    Hears n i (stand_from posted taken seen black token new) told now (HasHalt (halt_word new))
-heard_halt n i word posted taken seen black token old new told now heard new_is =
-    subst (λ (w : ℕ). Hears n i (finds (stand_from posted taken seen black token old) w) told now (HasHalt w)) (sym new_is) heard
+-- what node 0 knew of the end
+pub knew_end_done : (i word : ℕ) (posted taken seen : List ℕ) (black : Bool) (token : Option Token) (old new : Halt) →
+    (i ≡ 0 → word ≡ 1 → (stand_from posted taken seen black token old).halt ≡ 1) → halt_word new ≡ word → i ≡ 0 → new ≡ Ended → old ≡ Ended
+knew_end_done i word posted taken seen black token old new knew new_is first ended =
+    same_halt old Ended (knew first (sym new_is ∙ ap halt_word ended))
+
+-- a node that was told of all events and knows the end is white
+pub white_heard : (n i : ℕ) (stand : Stand) (told now : List RingEvent) (IsSo : Ring → Type 0) → i < n → Hears n i stand told now IsSo →
+    stand.halt ≡ 1 → stand.black ≡ false
+white_heard n i stand told now IsSo within heard ended = white_shown n i heard.ring stand within heard.is_lawful heard.shows ended
+
+-- so a black one doesn't know it
+pub black_hears : (n i : ℕ) (stand : Stand) (told now : List RingEvent) (IsSo : Ring → Type 0) → i < n → Hears n i stand told now IsSo →
+    stand.black ≡ true → stand.halt ≢ 1
+black_hears n i stand told now IsSo within heard black ended =
+    let white : stand.black ≡ false = white_heard n i stand told now IsSo within heard ended in cc
+
+-- a node that announced the end, or was told that it came, is white
+pub white_announced : (n i : ℕ) (before stand : Stand) (told now : List RingEvent) (halt old : Halt) → i < n →
+    ((halt ≡ Ended) × Makes n i Announce before stand told now) ⊎ ((halt ≡ Ended → old ≡ Ended) × Hears n i stand told now (HasHalt (halt_word halt))) →
+    stand.halt ≡ 1 → stand.black ≡ false
+white_announced n i before stand told now halt old within done ended =
+    elim done [
+      | inl made ↦ white_shown n i made.1.new stand within made.1.is_lawful made.1.shows_after ended
+      | inr heard ↦ white_heard n i stand told now (HasHalt (halt_word halt)) within heard.1 ended
+    ]
+
+-- the halt of each word
+pub halt_at : (word : ℕ) → (halt : Halt) × (halt_word halt ≡ word)
+halt_at zero = (Running, refl)
+halt_at (suc zero) = (Ended, refl)
+halt_at (suc (suc node)) = (Failed node, omega arith)
+
+-- the answer of a failure
+pub failed_answer : (i word : ℕ) (found new : Halt) → halt_word found ≡ word → halt_word new ≡ halt_after word (2 + i) → new ≡ failed_after found i
+failed_answer i word found new found_is new_is =
+    same_halt new (failed_after found i) (new_is ∙ ap (λ (w : ℕ). halt_after w (2 + i)) (sym found_is) ∙ answered found)
+  where
+    answered : (found : Halt) → halt_after (halt_word found) (2 + i) ≡ halt_word (failed_after found i)
+    answered Running = refl
+    answered Ended = refl
+    answered (Failed node) = halt_found (2 + node) (2 + i) (λ e. omega (arith, e))
 
 -- an announcement, or what was heard in its place
 pub announced_done : (n i found : ℕ) (posted taken seen : List ℕ) (black : Bool) (token : Option Token) (old new : Halt) (told now : List RingEvent) →
     (found ≡ 0 → Makes n i Announce (stand_from posted taken seen black token old) (finds (stand_from posted taken seen black token old) 1) told now) →
-    (found ≢ 0 → Hears n i (finds (stand_from posted taken seen black token old) found) told now (HasHalt found)) → halt_word new ≡ halt_after found 1 →
+    (found ≢ 0 → (found ≡ 1 → (stand_from posted taken seen black token old).halt ≡ 1)
+    × Hears n i (finds (stand_from posted taken seen black token old) found) told now (HasHalt found)) → halt_word new ≡ halt_after found 1 →
     ((new ≡ Ended) × Makes n i Announce (stand_from posted taken seen black token old) (stand_from posted taken seen black token new) told now)
-    ⊎ Hears n i (stand_from posted taken seen black token new) told now (HasHalt (halt_word new))
+    ⊎ ((new ≡ Ended → old ≡ Ended) × Hears n i (stand_from posted taken seen black token new) told now (HasHalt (halt_word new)))
 announced_done n i found posted taken seen black token old new told now made heard new_is =
     let before : Stand = stand_from posted taken seen black token old in
     elim (cases_eq found 0) [
       | inl running ↦ let word_is : halt_word new ≡ 1 = new_is ∙ halt_marked found 1 running in
           inl (same_halt new Ended word_is, subst (λ (w : ℕ). Makes n i Announce before (finds before w) told now) (sym word_is) (made running))
-      | inr stopped ↦ inr (heard_halt n i found posted taken seen black token old new told now (heard stopped) (new_is ∙ halt_found found 1 stopped))
+      | inr stopped ↦ let word_is : halt_word new ≡ found = new_is ∙ halt_found found 1 stopped in
+          let known = heard stopped in
+          inr (
+            (λ ended. same_halt old Ended (known.0 (sym word_is ∙ ap halt_word ended))),
+            heard_halt n i found found posted taken seen black token old new new told now known.1 word_is word_is,
+          )
     ]

@@ -1,5 +1,6 @@
 -- A step of one node's seat keeps the rule, where it leaves to the other nodes what they know.
-use Rattle.std.proofs.Common.{◌≡◌, ◌≢◌, ℕ, zero, suc, ◌+◌, ◌<◌, ◌≤◌, List, [], ◌∷◌, ◌++◌, length, Bool, refl, sym, ap, ◌∙◌, subst, ⊎_elim, arith, append_assoc}
+use Rattle.std.proofs.Common.{◌≡◌, ◌≢◌, ℕ, zero, suc, ◌+◌, ◌<◌, ◌≤◌, List, [], ◌∷◌, ◌++◌, length, Bool, true, refl, sym, ap, ◌∙◌, subst, ⊎_elim, arith}
+use Rattle.std.proofs.Common.{append_assoc}
 use Rattle.std.specs.Prelude.{slice_index, slice_set}
 use mathlib.Core.Option.{some, some-ne-none, some-injective}
 use lib.ListN.{get_elem?}
@@ -24,6 +25,8 @@ pub record Leaves (n i : ℕ) (old new : Ring) (halt now : ℕ) : Type 0 where
   pub token : (k : ℕ) → k ≢ i → old.token.at ≡ k → new.token ≡ old.token
   pub halt_seen : (word : ℕ) → word ≢ 0 → halt ≡ word → now ≡ word
   pub failed : (k : ℕ) → k ≢ i → now ≡ 2 + k → halt ≡ 2 + k
+  pub ended : (k : ℕ) → k ≢ i → k ≡ 0 → now ≡ 1 → halt ≡ 1
+  pub announced : old.announced ≡ true → new.announced ≡ true
 
 stand_stays : (n i k : ℕ) (old new : Ring) (halt now : ℕ) (stand : Stand) → k < n → k ≢ i → Leaves n i old new halt now →
     IsStand n old halt k stand → IsStand n new now k stand
@@ -37,10 +40,13 @@ stand_stays n i k old new halt now stand within apart leaves is = record {
     colour = is.shows.colour ∙ sym (leaves.colour k within apart);
     token = λ token e. let had = is.shows.token token e in
         (had.0 ∙ sym (leaves.token k apart (sym (ap (λ (t : Token). t.at) had.0) ∙ had.1)), had.1);
+    ended = λ e. leaves.announced (is.shows.ended e);
   };
+  none_own = is.none_own;
   seen = λ j j_in. omega (arith, is.seen j j_in, leaves.grows j k j_in within);
   halt_seen = λ ne. leaves.halt_seen stand.halt ne (is.halt_seen ne);
   failed = λ e. is.failed (leaves.failed k apart e);
+  announced = λ first e. is.announced first (leaves.ended k apart first e);
 }
 
 -- the log goes on from what was told
@@ -50,7 +56,7 @@ goes_further told log more on = (more ++ on.0, ap (λ (l : List RingEvent). more
 -- the view of one node is right where that node is
 pub one_is_view : (n i id halt : ℕ) (owner : ℕ → ℕ) (ring : Ring) (log told : List RingEvent) (stand : Stand) → i < n → owner i ≡ id →
     GoesOn told log → IsStand n ring halt i stand → IsView n owner ring halt log id (one n i stand told)
-one_is_view n i id halt owner ring log told stand within owned on is = record { was_told = on; nodes = node }
+one_is_view n i id halt owner ring log told stand within owned on is = record { was_told = on; nodes = node; is_closed = λ e. absurd (cc) }
   where
     node : (k : ℕ) (at : Stand) → get_elem? (stand ∷ []) k ≡ some at → IsNode n owner ring halt id n (i + k) at
     node zero at e =
@@ -59,10 +65,24 @@ one_is_view n i id halt owner ring log told stand within owned on is = record { 
         subst (λ (x : ℕ × Stand). IsNode n owner ring halt id n x.0 x.1) (λ q. (first q, some-injective stand at e q)) here
     node (suc k) at e = absurd (some-ne-none at (sym e))
 
+there_is : {A : Type 0} (xs : List A) (k : ℕ) → k < length xs → (x : A) × (get_elem? xs k ≡ some x)
+there_is [] k within = absurd (omega arith)
+there_is (x ∷ xs) zero within = (x, refl)
+there_is (x ∷ xs) (suc k) within = there_is xs k (omega arith)
+
+-- a view that is closed has node i too, so that no other seat has it
+pub has_all : (n i id port halt : ℕ) (owner : ℕ → ℕ) (ring : Ring) (log : List RingEvent) (view : View) → i < n → owner i ≡ id →
+    IsView n owner ring halt log port view → view.closed ≡ true → port ≡ id
+has_all n i id port halt owner ring log view within owned was closed =
+    let is = was.is_closed closed in
+    let there = there_is view.stands i (omega (arith, within, is.all_nodes)) in
+    let place : view.from + i ≡ i = omega (arith, is.from_first) in
+    sym (was.nodes i there.0 there.1).owned ∙ ap owner place ∙ owned
+
 -- the view of another seat stays right
-other_view : (n i id port halt now : ℕ) (owner : ℕ → ℕ) (old new : Ring) (log more : List RingEvent) (view : View) → owner i ≡ id → port ≢ id →
+other_view : (n i id port halt now : ℕ) (owner : ℕ → ℕ) (old new : Ring) (log more : List RingEvent) (view : View) → i < n → owner i ≡ id → port ≢ id →
     Leaves n i old new halt now → IsView n owner old halt log port view → IsView n owner new now (more ++ log) port view
-other_view n i id port halt now owner old new log more view owned apart leaves was = record {
+other_view n i id port halt now owner old new log more view within owned apart leaves was = record {
   was_told = goes_further view.told log more was.was_told;
   nodes = λ k stand e.
       let node = was.nodes k stand e in
@@ -73,6 +93,7 @@ other_view n i id port halt now owner old new log more view owned apart leaves w
         owned = node.owned;
         is_stand = stand_stays n i (view.from + k) old new halt now stand node.within other leaves node.is_stand;
       };
+  is_closed = λ e. absurd (apart (has_all n i id port halt owner old log view within owned was e));
 }
 
 -- node i is the seat's that stands for it alone, and what it knows is right
@@ -113,6 +134,6 @@ kept n i id words after views stand new told more black token held at long nodes
           mine.within mine.owned ([], refl) is))
           (λ (x : (port ≢ id) × (get_elem? views port ≡ some view)).
           other_view n i id port (slice_index words 2) (slice_index after 2) held.owner (ring_of n words held.black held.token) (ring_of n after black token)
-          held.log more view mine.owned x.0 leaves (held.views_are port view x.1))
+          held.log more view mine.within mine.owned x.0 leaves (held.views_are port view x.1))
           (at_set views id port (one n i new (more ++ held.log)) view e);
     }

@@ -11,5 +11,6 @@ pub mod Takings  -- a take is a look and an event
 pub mod Passing  -- the token's word, a look at it, and a pass
 pub mod Halting  -- a look at the halt, a failure, and the announcement of the end
 -- The start and the end of a board.
+pub mod Once  -- the events of a log lead to one ring
 pub mod Starts  -- the start of a board, and how the view of all nodes is split
 pub mod Ends  -- how seats come back, and what is read at the end

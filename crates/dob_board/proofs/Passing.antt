@@ -94,10 +94,18 @@ meets_stand n i halt ring stand is = record {
   posted_len = is.posted_len;
   taken_len = is.taken_len;
   seen_len = is.seen_len;
-  shows = record { posted = is.shows.posted; taken = is.shows.taken; colour = is.shows.colour; token = λ token e. seen_there i ring.token token e };
+  shows = record {
+    posted = is.shows.posted;
+    taken = is.shows.taken;
+    colour = is.shows.colour;
+    token = λ token e. seen_there i ring.token token e;
+    ended = is.shows.ended;
+  };
+  none_own = is.none_own;
   seen = is.seen;
   halt_seen = is.halt_seen;
   failed = is.failed;
+  announced = is.announced;
 }
 
 meets_allows : (n i id slots : ℕ) (stand : Stand) (told : List RingEvent) →
@@ -176,6 +184,8 @@ passes_leaves n i old new halt now moved same = record {
   token = λ k apart e. absurd (apart (sym e ∙ moved.at));
   halt_seen = λ word ne e. same ∙ e;
   failed = λ k apart e. sym same ∙ e;
+  ended = λ k apart first e. sym same ∙ e;
+  announced = λ e. moved.announced ∙ e;
 }
 
 passes_stand : (n i : ℕ) (old new : Ring) (halt now : ℕ) (stand : Stand) (token : Token) → i < n → Passes n old i new → now ≡ halt →
@@ -189,10 +199,13 @@ passes_stand n i old new halt now stand token within moved same next is = record
     taken = λ k k_in. is.shows.taken k k_in ∙ sym (moved.taken k i k_in within);
     colour = sym moved.colours.colour_is;
     token = λ seen e. let there = seen_there i (passed_by n stand token) seen e in (there.0 ∙ sym next, there.1);
+    ended = λ e. moved.announced ∙ is.shows.ended e;
   };
+  none_own = is.none_own;
   seen = λ k k_in. omega (arith, is.seen k k_in, moved.posted k i k_in within);
   halt_seen = λ ne. same ∙ is.halt_seen ne;
   failed = λ e. is.failed (sym same ∙ e);
+  announced = λ first e. is.announced first (sym same ∙ e);
 }
 
 pub passes_held : (n i id word : ℕ) (words : List ℕ) (views : List View) (stand : Stand) (token : Token) (told : List RingEvent) (held : IsHeld n words views) →
@@ -233,6 +246,7 @@ passes_held n i id word words views stand token told held at has packed =
         old = old;
         new = new;
         runs = held.runs;
+        in_time = tt;
         moved = moved;
         was_lawful = held.lawful;
         is_lawful = lawful;

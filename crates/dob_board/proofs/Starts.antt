@@ -22,7 +22,7 @@ use Rattle.atomic_table.specs.Seated.{TableId}
 use Rattle.dob_board.specs.declared.seat.NodeSeat.{NodeSeat}
 use Rattle.dob_board.specs.Seats.{stand_of, IsSeatOf}
 use Rattle.dob_pieces.proofs.Elements.{at_end}
-use Rattle.dob_board.proofs.Kept.{one_is_view}
+use Rattle.dob_board.proofs.Kept.{has_all, one_is_view}
 use Rattle.dob_board.proofs.Allowed.{Seated, Held}
 
 -- ---- split
@@ -44,9 +44,9 @@ views_end (x ∷ xs) a b zero e = inl e
 views_end (x ∷ xs) a b (suc j) e = ⊎_elim (λ l. inl l) (λ r. inr (ap suc r.0, r.1)) (views_end xs a b j e)
 
 -- the views of other seats, where another seat has node i now
-pub elsewhere : (n i id fresh_port port halt : ℕ) (owner : ℕ → ℕ) (ring : Ring) (log : List RingEvent) (view : View) → owner i ≡ id → port ≢ id →
-    IsView n owner ring halt log port view → IsView n (port_of i fresh_port owner) ring halt log port view
-elsewhere n i id fresh_port port halt owner ring log view owned apart was = record {
+pub elsewhere : (n i id fresh_port port halt : ℕ) (owner : ℕ → ℕ) (ring : Ring) (log : List RingEvent) (view : View) → i < n → owner i ≡ id
+    → port ≢ id → IsView n owner ring halt log port view → IsView n (port_of i fresh_port owner) ring halt log port view
+elsewhere n i id fresh_port port halt owner ring log view within owned apart was = record {
   was_told = was.was_told;
   nodes = λ k stand e.
       let node = was.nodes k stand e in
@@ -57,10 +57,11 @@ elsewhere n i id fresh_port port halt owner ring log view owned apart was = reco
         owned = port_else i fresh_port (view.from + k) owner other ∙ node.owned;
         is_stand = node.is_stand;
       };
+  is_closed = λ e. absurd (apart (has_all n i id port halt owner ring log view within owned was e));
 }
 
 abbrev pub view_from : ℕ → ℕ → List Stand → List RingEvent → View
-view_from n from stands told = record { size = n; from = from; stands = stands; told = told }
+view_from n from stands told = record { size = n; from = from; stands = stands; told = told; closed = false }
 
 splits : (n i id : ℕ) (words : List ℕ) (views : List View) (stand : Stand) (rest : List Stand) (told : List RingEvent) (held : IsHeld n words views) →
     get_elem? views id ≡ some (view_from n i (stand ∷ rest) told) →
@@ -100,9 +101,10 @@ splits n i id words views stand rest told held at =
                 subst (λ (x : ℕ). IsNode n owner ring halt id n x at') place
                 (record
                 { size_is = refl; within = node.within; owned = port_else i port' (i + suc k) held.owner apart ∙ node.owned; is_stand = node.is_stand });
+            is_closed = λ e'. absurd (cc);
           }))
           (λ (x : (port ≢ id) × (get_elem? views port ≡ some view)).
-          elsewhere n i id port' port halt held.owner ring held.log view own.owned x.0 (held.views_are port view x.1))
+          elsewhere n i id port' port halt held.owner ring held.log view own.within own.owned x.0 (held.views_are port view x.1))
           (at_set views id port (view_from n (suc i) rest told) view there))
           (λ (last : (port ≡ length (set views id (view_from n (suc i) rest told))) × (one n i stand told ≡ view)).
           let port_is : port' ≡ port = sym (length-set views id (view_from n (suc i) rest told)) ∙ sym last.0 in
@@ -192,10 +194,13 @@ fresh_stand n word i within =
         taken = λ j j_in. zeros n j ∙ sym (start.taken j i j_in within);
         colour = refl;
         token = λ token e. absurd (cc);
+        ended = λ e. absurd (omega (arith, e));
       };
+      none_own = zeros n i;
       seen = λ j j_in. omega (arith, zeros n j);
       halt_seen = λ ne. absurd (ne refl);
       failed = λ e. absurd (omega (arith, e, first_zero n word 2 (omega arith)));
+      announced = λ first e. absurd (omega (arith, e, first_zero n word 2 (omega arith)));
     }
 
 at_fresh : (m k : ℕ) (x stand : Stand) → get_elem? (replicate m x) k ≡ some stand → (k < m) × (x ≡ stand)
@@ -231,6 +236,7 @@ begins n word size packed = record {
               let place : k ≡ 0 + k = omega arith in
               subst (λ (p : ℕ × Stand). IsNode n (λ m. 0) (first_ring n word) (slice_index (first_words n word) 2) 0 n p.0 p.1) (λ q. (place q, found.1 q))
               (record { size_is = refl; within = found.0; owned = refl; is_stand = fresh_stand n word k found.0 });
+          is_closed = λ e'. absurd (cc);
         })
     view (suc port) v e = absurd (some-ne-none v (sym e))
 

@@ -2,7 +2,7 @@
 use Rattle.std.proofs.Common.{◌≡◌, ◌≢◌, ℕ, suc, ◌^◌, ◌<◌, ◌≤◌, List, [], ◌∷◌, length, set, get_or, Bool, true, false, cond, eqb, eq-eqb, ne_eqb, refl, sym, ap}
 use Rattle.std.proofs.Common.{◌∙◌, subst, inl, inr, arith, length-set, get_or-set_same, get_or-set_other}
 use Rattle.std.specs.Prelude.{slice_index, slice_set}
-use Rattle.std.proofs.lemmas.Bool.{cases_eq}
+use Rattle.std.proofs.lemmas.Bool.{cases_Bool, cases_eq}
 use mathlib.Core.Option.{some}
 use lib.ListN.{get_elem?}
 use Rattle.dob_safra.specs.declared.token.Token.{Token}
@@ -54,12 +54,14 @@ posts_leaves n i j old new halt now moved same = record {
   token = λ k apart e. moved.token;
   halt_seen = λ word ne e. same ∙ e;
   failed = λ k apart e. sym same ∙ e;
+  ended = λ k apart first e. sym same ∙ e;
+  announced = λ e. moved.announced ∙ e;
 }
 
 -- what node i knows after its post
-posts_stand : (n i j : ℕ) (old new : Ring) (halt now : ℕ) (stand : Stand) → Posts n old i j new → now ≡ halt → IsStand n old halt i stand →
+posts_stand : (n i j : ℕ) (old new : Ring) (halt now : ℕ) (stand : Stand) → j ≢ i → Posts n old i j new → now ≡ halt → IsStand n old halt i stand →
     IsStand n new now i (posts_more stand j)
-posts_stand n i j old new halt now stand moved same is = record {
+posts_stand n i j old new halt now stand other moved same is = record {
   posted_len = length-set stand.posted j (suc (slice_index stand.posted j)) ∙ is.posted_len;
   taken_len = is.taken_len;
   seen_len = is.seen_len;
@@ -73,11 +75,22 @@ posts_stand n i j old new halt now stand moved same is = record {
     taken = λ k k_in. is.shows.taken k k_in ∙ sym (moved.taken k i k_in moved.from);
     colour = is.shows.colour ∙ sym (moved.colours i moved.from);
     token = λ token e. let had = is.shows.token token e in (had.0 ∙ sym moved.token, had.1);
+    ended = λ e. moved.announced ∙ is.shows.ended e;
   };
+  none_own = get_or-set_other stand.posted j i (suc (slice_index stand.posted j)) 0 (λ e. other (sym e)) ∙ is.none_own;
   seen = λ k k_in. omega (arith, is.seen k k_in, raised_at_least n i j k i old.posted new.posted k_in moved.from moved.posted);
   halt_seen = λ ne. same ∙ is.halt_seen ne;
   failed = λ e. is.failed (sym same ∙ e);
+  announced = λ first e. is.announced first (sym same ∙ e);
 }
+
+-- a ring with a black node isn't announced
+not_announced : (n i : ℕ) (ring : Ring) → IsLawful n ring → i < n → ring.black i ≡ true → ring.announced ≡ false
+not_announced n i ring lawful within black =
+    elim (cases_Bool ring.announced) [
+      | inl ended ↦ let white : ring.black i ≡ false = lawful.all_white ended i within in absurd (cc)
+      | inr going ↦ going
+    ]
 
 -- no other count passes 2^40
 posts_few : (n i j : ℕ) (old new : Ring) → IsLawful n old → Posts n old i j new → old.posted i j < 2 ^ 40 → HasFew n new
@@ -85,21 +98,22 @@ posts_few n i j old new lawful moved room k l k_in l_in =
     raised_at_most n i j k l old.posted new.posted (λ a b. 2 ^ 40) k_in l_in moved.posted room (lawful.few k l k_in l_in)
 
 pub posts : (n i j id : ℕ) (words : List ℕ) (views : List View) (stand : Stand) (told : List RingEvent) (held : IsHeld n words views) →
-    get_elem? views id ≡ some (one n i stand told) → j < n → stand.black ≡ true → slice_index stand.posted j < 2 ^ 40 →
+    get_elem? views id ≡ some (one n i stand told) → j < n → j ≢ i → stand.black ≡ true → slice_index stand.posted j < 2 ^ 40 →
     IsHeld n (posted_after n i j words) (slice_set views id (one n i (posts_more stand j) (Post i j ∷ held.log)))
     × Makes n i (Post i j) stand (posts_more stand j) told (Post i j ∷ held.log)
-posts n i j id words views stand told held at j_in is_black room =
+posts n i j id words views stand told held at j_in other is_black room =
     let old : Ring = ring_of n words held.black held.token in
     let new : Ring = ring_of n (posted_after n i j words) held.black held.token in
     let mine = own_node n i id words views stand told held at in
     let is = mine.is_stand in
-    let moved : Posts n old i j new = posts_moved n i j words held.black held.token held.wide mine.within j_in (sym is.shows.colour ∙ is_black) in
+    let painted_black : old.black i ≡ true = sym is.shows.colour ∙ is_black in
+    let moved : Posts n old i j new = posts_moved n i j words held.black held.token held.wide mine.within j_in painted_black in
     let few : HasFew n new = posts_few n i j old new held.lawful moved (omega (arith, is.shows.posted j j_in, room)) in
     let lawful : IsLawful n new = moved_kept n old new (Post i j) held.size held.lawful moved few in
     let halt : slice_index (posted_after n i j words) 2 ≡ slice_index words 2 =
     head_stays words (posted_word n i j) (suc (posted_in n words i j)) 2 (omega arith) (omega arith) in
     let after : IsStand n new (slice_index (posted_after n i j words) 2) i (posts_more stand j) =
-    posts_stand n i j old new (slice_index words 2) (slice_index (posted_after n i j words) 2) stand moved halt is in (
+    posts_stand n i j old new (slice_index words 2) (slice_index (posted_after n i j words) 2) stand other moved halt is in (
       kept n i id words (posted_after n i j words) views stand (posts_more stand j) told (Post i j ∷ []) held.black held.token held at
           (length-set words (posted_word n i j) (suc (posted_in n words i j)))
           (head_stays words (posted_word n i j) (suc (posted_in n words i j)) 0 (omega arith) (omega arith))
@@ -116,6 +130,7 @@ posts n i j id words views stand told held at j_in is_black room =
         old = old;
         new = new;
         runs = held.runs;
+        in_time = not_announced n i old held.lawful mine.within painted_black;
         moved = moved;
         was_lawful = held.lawful;
         is_lawful = lawful;
@@ -135,6 +150,8 @@ stays n i ring halt = record {
   token = λ k apart e. refl;
   halt_seen = λ word ne e. e;
   failed = λ k apart e. e;
+  ended = λ k apart first e. e;
+  announced = λ e. e;
 }
 
 -- a step that changes no word, but what the node knows
@@ -152,7 +169,8 @@ sees_stand n i j halt ring stand i_in j_in is = record {
   posted_len = is.posted_len;
   taken_len = is.taken_len;
   seen_len = length-set stand.seen j (ring.posted j i) ∙ is.seen_len;
-  shows = record { posted = is.shows.posted; taken = is.shows.taken; colour = is.shows.colour; token = is.shows.token };
+  shows = record { posted = is.shows.posted; taken = is.shows.taken; colour = is.shows.colour; token = is.shows.token; ended = is.shows.ended };
+  none_own = is.none_own;
   seen = λ k k_in.
       let place = changed stand.seen j k (ring.posted j i) (omega (arith, is.seen_len, j_in)) in
       elim (cases_eq k j) [
@@ -161,6 +179,7 @@ sees_stand n i j halt ring stand i_in j_in is = record {
       ];
   halt_seen = is.halt_seen;
   failed = is.failed;
+  announced = is.announced;
 }
 
 pub looks : (n i j id : ℕ) (words : List ℕ) (views : List View) (stand : Stand) (told : List RingEvent) (held : IsHeld n words views) →
@@ -234,6 +253,8 @@ takes_leaves n i j old new halt now moved same = record {
   token = λ k apart e. moved.token;
   halt_seen = λ word ne e. same ∙ e;
   failed = λ k apart e. sym same ∙ e;
+  ended = λ k apart first e. sym same ∙ e;
+  announced = λ e. moved.announced ∙ e;
 }
 
 takes_stand : (n i j : ℕ) (old new : Ring) (halt now : ℕ) (stand : Stand) → Takes n old j i new → now ≡ halt → IsStand n old halt i stand →
@@ -252,11 +273,22 @@ takes_stand n i j old new halt now stand moved same is = record {
         ];
     colour = sym moved.colours.colour_is;
     token = λ token e. let had = is.shows.token token e in (had.0 ∙ sym moved.token, had.1);
+    ended = λ e. moved.announced ∙ is.shows.ended e;
   };
+  none_own = is.none_own;
   seen = λ k k_in. omega (arith, is.seen k k_in, moved.posted k i k_in moved.to);
   halt_seen = λ ne. same ∙ is.halt_seen ne;
   failed = λ e. is.failed (sym same ∙ e);
+  announced = λ first e. is.announced first (sym same ∙ e);
 }
+
+-- a ring with a batch that isn't taken isn't announced
+not_announced_yet : (n i j : ℕ) (ring : Ring) → IsLawful n ring → i < n → j < n → ring.taken i j < ring.posted i j → ring.announced ≡ false
+not_announced_yet n i j ring lawful i_in j_in waiting =
+    elim (cases_Bool ring.announced) [
+      | inl ended ↦ absurd (omega (arith, lawful.all_taken ended i j i_in j_in, waiting))
+      | inr going ↦ going
+    ]
 
 pub takes : (n i j id : ℕ) (words : List ℕ) (views : List View) (stand : Stand) (told : List RingEvent) (held : IsHeld n words views) →
     get_elem? views id ≡ some (one n i stand told) → j < n → slice_index stand.taken j < slice_index stand.seen j →
@@ -268,8 +300,8 @@ takes n i j id words views stand told held at j_in waiting =
     let new : Ring = ring_of n (taken_after n j i words) black held.token in
     let mine = own_node n i id words views stand told held at in
     let is = mine.is_stand in
-    let moved : Takes n old j i new = takes_moved n i j words held.black held.token held.wide mine.within j_in
-    (omega (arith, is.shows.taken j j_in, is.seen j j_in, waiting)) in
+    let in_flight : old.taken j i < old.posted j i = omega (arith, is.shows.taken j j_in, is.seen j j_in, waiting) in
+    let moved : Takes n old j i new = takes_moved n i j words held.black held.token held.wide mine.within j_in in_flight in
     let few : HasFew n new = λ k l k_in l_in. omega (arith, moved.posted k l k_in l_in, held.lawful.few k l k_in l_in) in
     let lawful : IsLawful n new = moved_kept n old new (Take j i) held.size held.lawful moved few in
     let write : ℕ = suc (taken_in n words j i) in
@@ -292,6 +324,7 @@ takes n i j id words views stand told held at j_in waiting =
         old = old;
         new = new;
         runs = held.runs;
+        in_time = not_announced_yet n j i old held.lawful j_in mine.within in_flight;
         moved = moved;
         was_lawful = held.lawful;
         is_lawful = lawful;

@@ -1,7 +1,8 @@
 -- The history of a board: the events so far, the newest first, and what calls tell of it.
-use Rattle.std.specs.Prelude.{◌≡◌, ℕ, List, [], ◌∷◌, ◌++◌, ◌==◌}
+use Rattle.std.specs.Prelude.{◌≡◌, ⊤, ℕ, List, [], ◌∷◌, ◌++◌, ◌==◌, false}
 use Rattle.dob_safra.specs.declared.token.Token.{Token}
 use Rattle.dob_safra.specs.declared.event.RingEvent.{RingEvent}
+use Rattle.dob_safra.specs.declared.event.RingEvent.TheVariants.{Post, Take, Pass, Announce}
 use Rattle.dob_safra.specs.Rings.{Ring, IsStart, IsLawful, Moved}
 use Rattle.dob_board.specs.declared.view.Stand.{Stand}
 use Rattle.dob_board.specs.Views.{Shows}
@@ -15,9 +16,16 @@ Runs n (event ∷ log) ring = (before : Ring) × Runs n log before × Moved n be
 abbrev pub GoesOn : List RingEvent → List RingEvent → Type 0
 GoesOn told log = (more : List RingEvent) × (log ≡ more ++ told)
 
+-- but for a pass, events happen only before the end is announced
+abbrev pub IsInTime : RingEvent → Ring → Type 0
+IsInTime (Post from to) ring = ring.announced ≡ false
+IsInTime (Take from to) ring = ring.announced ≡ false
+IsInTime (Pass node) ring = ⊤
+IsInTime Announce ring = ring.announced ≡ false
+
 -- Node i, which was told of some events and stood like that, made this event the next one: others had happened since; they
--- had led to a lawful ring that shows how the node stood; the event moved it to a lawful one that shows how the node
--- stands now; and the node was told all that.
+-- had led to a lawful ring that shows how the node stood; the event came in time, and moved it to a lawful one that shows how
+-- the node stands now; and the node was told all that.
 pub record Makes (n i : ℕ) (event : RingEvent) (before after : Stand) (told now : List RingEvent) : Type 0 where
   pub log : List RingEvent
   pub went_on : GoesOn told log
@@ -25,6 +33,7 @@ pub record Makes (n i : ℕ) (event : RingEvent) (before after : Stand) (told no
   pub old : Ring
   pub new : Ring
   pub runs : Runs n log old
+  pub in_time : IsInTime event old
   pub moved : Moved n old event new
   pub was_lawful : IsLawful n old
   pub is_lawful : IsLawful n new

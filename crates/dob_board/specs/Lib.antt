@@ -5,4 +5,5 @@ pub mod Rule
 pub mod Plays
 pub mod Seats
 pub mod Boards
+pub mod Props
 pub mod Faults

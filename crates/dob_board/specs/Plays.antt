@@ -53,23 +53,28 @@ module _ {S : Type 0} where
   abbrev pub Knew : Me S View → Stand → ℕ → Type 0
   Knew me stand word = word ≡ 2 + me.0.from → stand.halt ≡ 2 + me.0.from
 
+  -- and it is the end to node 0 only where that node knew it
+  abbrev pub KnewEnd : Me S View → Stand → ℕ → Type 0
+  KnewEnd me stand word = me.0.from ≡ 0 → word ≡ 1 → stand.halt ≡ 1
+
   -- a load of the halt word
   abbrev pub Halted : Step S → Me S View → ℕ → Me S View → Type 0
   Halted st me found after = (stand : Stand) → st.word ≡ 2 → me.0.stands ≡ stand ∷ [] →
-      Found me stand found after × Knew me stand found × Hears me.0.size me.0.from (finds stand found) me.0.told after.0.told (HasHalt found)
+      Found me stand found after × Knew me stand found × KnewEnd me stand found
+      × Hears me.0.size me.0.from (finds stand found) me.0.told after.0.told (HasHalt found)
 
   -- an exchange of the halt word from 0 to that of this node's failure
   abbrev pub FailedRun : Step S → Me S View → ℕ → Me S View → Type 0
   FailedRun st me found after = (stand : Stand) → st.word ≡ 2 → st.second ≡ 2 + me.0.from → me.0.stands ≡ stand ∷ [] →
-      Found me stand (halt_after found st.second) after
-      × Hears me.0.size me.0.from (finds stand (halt_after found st.second)) me.0.told after.0.told (HasHalt (halt_after found st.second))
+      Found me stand (halt_after found st.second) after × KnewEnd me stand (halt_after found st.second)
+      × Hears me.0.size me.0.from (finds stand (halt_after found st.second)) me.0.told after.0.told (HasHalt found)
 
   -- an exchange of the halt word from 0 to 1
   abbrev pub Announced : Step S → Me S View → ℕ → Me S View → Type 0
   Announced st me found after = (stand : Stand) → st.word ≡ 2 → me.0.stands ≡ stand ∷ [] →
       Found me stand (halt_after found 1) after × Knew me stand (halt_after found 1)
       × (found ≡ 0 → Makes me.0.size me.0.from Announce stand (finds stand 1) me.0.told after.0.told)
-      × (found ≢ 0 → Hears me.0.size me.0.from (finds stand found) me.0.told after.0.told (HasHalt found))
+      × (found ≢ 0 → (found ≡ 1 → stand.halt ≡ 1) × Hears me.0.size me.0.from (finds stand found) me.0.told after.0.told (HasHalt found))
 
 -- the first node of a view, with a seat of its own, and the others
 abbrev pub first_node : List Stand → List Stand

@@ -1,5 +1,5 @@
 -- The rule of the board, which each step keeps.
-use Rattle.std.specs.Prelude.{◌≡◌, ℕ, ◌+◌, ◌<◌, Bool, List, [], slice_index, length, true, None, replicate}
+use Rattle.std.specs.Prelude.{◌≡◌, ℕ, ◌+◌, ◌<◌, Bool, List, [], slice_index, length, true, false, None, replicate}
 use mathlib.Core.Option.{some}
 use lib.ListN.{get_elem?}
 use Rattle.dob_safra.specs.declared.token.Token.{Token}
@@ -20,11 +20,18 @@ pub record IsNode (n : ℕ) (owner : ℕ → ℕ) (ring : Ring) (halt port size 
   pub owned : owner node ≡ port
   pub is_stand : IsStand n ring halt node stand
 
--- The view of a seat is right: the log went on from what it was told, and what it says of each of its nodes, from the
--- first one on, is right.
+-- A view that is closed is that of all nodes, and was told the whole log: nothing happens any more without its seat.
+pub record IsClosed (n : ℕ) (log : List RingEvent) (view : View) : Type 0 where
+  pub from_first : view.from ≡ 0
+  pub all_nodes : length view.stands ≡ n
+  pub all_told : view.told ≡ log
+
+-- The view of a seat is right: the log went on from what it was told; what it says of each of its nodes, from the first one
+-- on, is right; and if it is closed it is that of all nodes.
 pub record IsView (n : ℕ) (owner : ℕ → ℕ) (ring : Ring) (halt : ℕ) (log : List RingEvent) (port : ℕ) (view : View) : Type 0 where
   pub was_told : GoesOn view.told log
   pub nodes : (k : ℕ) (stand : Stand) → get_elem? view.stands k ≡ some stand → IsNode n owner ring halt port view.size (view.from + k) stand
+  pub is_closed : view.closed ≡ true → IsClosed n log view
 
 -- The words and the views of a board of n nodes are right: word 0 is n; word 1 is the token's; the ring that the words
 -- show, with some colours, is lawful, and the events of some log led to it; word 2 is the halt's; and each view is right.
@@ -49,4 +56,4 @@ fresh n = record { posted = replicate n 0; taken = replicate n 0; seen = replica
 
 -- all nodes at the start, in one view
 abbrev pub whole : ℕ → View
-whole n = record { size = n; from = 0; stands = replicate n (fresh n); told = [] }
+whole n = record { size = n; from = 0; stands = replicate n (fresh n); told = []; closed = false }

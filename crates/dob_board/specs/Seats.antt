@@ -1,17 +1,19 @@
 -- Seats and boards as callers see them.
-use Rattle.std.specs.Prelude.{◌≡◌, ◌≢◌, ℕ, ◌+◌, ◌<◌, ◌≤◌, ◌⊎◌, List, Some, length, slice_get, slice_index, true, false}
+use Rattle.std.specs.Prelude.{◌≡◌, ◌≢◌, ℕ, ◌+◌, ◌<◌, ◌≤◌, ◌⊎◌, ◌==◌, List, Some, length, slice_get, slice_index, true, false}
 use Rattle.atomic_table.specs.Seated.{TableId}
 use Rattle.dob_safra.specs.declared.token.Token.{Token}
 use Rattle.dob_safra.specs.declared.event.RingEvent.{RingEvent}
 use Rattle.dob_safra.specs.declared.event.RingEvent.TheVariants.{Take, Announce}
 use Rattle.dob_safra.specs.Tokens.{IsPacked, MayAnnounce}
+use Rattle.dob_safra.specs.Rings.{Ring, IsLawful}
 use Rattle.dob_board.specs.declared.halt.Halt.{Halt}
 use Rattle.dob_board.specs.declared.halt.Halt.TheVariants.{Running, Ended, Failed}
 use Rattle.dob_board.specs.declared.view.Stand.{Stand}
 use Rattle.dob_board.specs.declared.seat.NodeSeat.{NodeSeat}
+use Rattle.dob_board.specs.declared.board.Closed.{Closed}
 use Rattle.dob_board.specs.Words.{posted_word, taken_word, word_count, halt_word}
-use Rattle.dob_board.specs.Histories.{Makes, Hears, HasPosted, HasHalt}
-use Rattle.dob_board.specs.Views.{stand_from, sees, takes_more, counter_of, finds}
+use Rattle.dob_board.specs.Histories.{Runs, GoesOn, Makes, Hears, HasPosted, HasHalt}
+use Rattle.dob_board.specs.Views.{Shows, stand_from, sees, takes_more, counter_of, finds}
 
 -- what the seat knows of its node
 abbrev pub stand_of : NodeSeat → Stand
@@ -72,26 +74,62 @@ pub record Finds (old new : NodeSeat) (halt : Halt) : Type 0 where
 abbrev pub KnewOwn : NodeSeat → Halt → Type 0
 KnewOwn old halt = halt ≡ Failed old.node → old.halt ≡ halt
 
+-- The seat of node 0, which alone announces the end, finds it only where it knew it.
+abbrev pub KnewEnd : NodeSeat → Halt → Type 0
+KnewEnd old halt = old.node ≡ 0 → halt ≡ Ended → old.halt ≡ Ended
+
 -- The seat was told of all events so far, and whether they announced the end.
 abbrev pub HearsHalt : NodeSeat → NodeSeat → Halt → Type 0
 HearsHalt old new halt = Hears old.nodes old.node (stand_of new) (told_of old) (told_of new) (HasHalt (halt_word halt))
 
--- The seat announced the end; or it was told of all events so far, and the run had ended or failed before.
+-- the halt where that one was found, and the node said that it failed the run if it went on
+abbrev pub failed_after : Halt → ℕ → Halt
+failed_after Running node = Failed node
+failed_after Ended node = Ended
+failed_after (Failed other) node = Failed other
+
+-- The seat said that its node failed the run: before it did it was told of all events so far, and found whether they announced
+-- the end; the halt is the one found, and the node's failure where the run went on.
+pub record FailsAfter (old new : NodeSeat) (halt : Halt) : Type 0 where
+  pub found : Halt
+  pub heard : HearsHalt old new found
+  pub answer : halt ≡ failed_after found old.node
+
+-- The seat announced the end; or it was told of all events so far, and the run had failed before, or ended, as it knew.
 abbrev pub HasAnnounced : NodeSeat → NodeSeat → Halt → Type 0
 HasAnnounced old new halt =
-    ((halt ≡ Ended) × Makes old.nodes old.node Announce (stand_of old) (stand_of new) (told_of old) (told_of new)) ⊎ HearsHalt old new halt
+    ((halt ≡ Ended) × Makes old.nodes old.node Announce (stand_of old) (stand_of new) (told_of old) (told_of new))
+    ⊎ ((halt ≡ Ended → old.halt ≡ Ended) × HearsHalt old new halt)
 
--- The words of a board of n nodes with these seats: the counts are those of the seats; the halt is the one that each seat
--- knows that knows one, and names a node that knows that it failed; and where the end was announced each node is white and
--- each batch posted is taken.
+-- The words of a board of n nodes with these seats: the counts are those of the seats, and 0 of a node with itself; the halt
+-- is the one that each seat knows that knows one, and names a node that knows that it failed; and where it is the end node 0
+-- knows that, each node is white and each batch posted is taken.
 pub record AreWords (n : ℕ) (seats : List NodeSeat) (words : List ℕ) : Type 0 where
   pub count : length words ≡ word_count n
   pub nodes : slice_index words 0 ≡ n
   pub token : (token : Token) × IsPacked token (slice_index words 1)
   pub posted : (i j : ℕ) (seat : NodeSeat) → slice_get seats i ≡ Some seat → j < n → slice_index words (posted_word n i j) ≡ slice_index seat.posted.items j
   pub taken : (i j : ℕ) (seat : NodeSeat) → slice_get seats i ≡ Some seat → j < n → slice_index words (taken_word n j i) ≡ slice_index seat.taken.items j
+  pub none_own : (i : ℕ) → i < n → (slice_index words (posted_word n i i) ≡ 0) × (slice_index words (taken_word n i i) ≡ 0)
   pub halt_within : slice_index words 2 < 2 + n
+  pub announced : slice_index words 2 ≡ 1 → (seat : NodeSeat) → slice_get seats 0 ≡ Some seat → seat.halt ≡ Ended
   pub halt_seen : (i : ℕ) (seat : NodeSeat) → slice_get seats i ≡ Some seat → seat.halt ≢ Running → slice_index words 2 ≡ halt_word seat.halt
   pub failed : (i : ℕ) (seat : NodeSeat) → slice_get seats i ≡ Some seat → slice_index words 2 ≡ 2 + i → seat.halt ≡ Failed i
   pub all_white : slice_index words 2 ≡ 1 → (i : ℕ) (seat : NodeSeat) → slice_get seats i ≡ Some seat → seat.black ≡ false
   pub all_taken : slice_index words 2 ≡ 1 → (i j : ℕ) → i < n → j < n → slice_index words (posted_word n i j) ≡ slice_index words (taken_word n i j)
+
+-- the events of a board that is closed
+abbrev pub log_of : Closed → List RingEvent
+log_of closed = closed.rest.me.0.told
+
+-- What happened on a board of n nodes with these seats until it was closed, the first of it as the seat of node 0 was told:
+-- it led to this lawful ring, which shows how each node stands; word 1 is that of its token; and its end is announced where
+-- word 2 is 1, and nowhere else.
+pub record IsHistory (n : ℕ) (seats : List NodeSeat) (closed : Closed) : Type 0 where
+  pub told : (seat : NodeSeat) → slice_get seats 0 ≡ Some seat → GoesOn (told_of seat) (log_of closed)
+  pub ring : Ring
+  pub runs : Runs n (log_of closed) ring
+  pub is_lawful : IsLawful n ring
+  pub shows : (i : ℕ) (seat : NodeSeat) → slice_get seats i ≡ Some seat → Shows n ring i (stand_of seat)
+  pub token : IsPacked ring.token (slice_index closed.words.items 1)
+  pub announced : ring.announced ≡ (slice_index closed.words.items 2 == 1)

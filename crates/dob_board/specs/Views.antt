@@ -12,7 +12,7 @@ use Rattle.dob_board.specs.Words.{halt_word}
 
 -- the view of the seat of node i alone
 abbrev pub one : ℕ → ℕ → Stand → List RingEvent → View
-one n i stand told = record { size = n; from = i; stands = stand ∷ []; told = told }
+one n i stand told = record { size = n; from = i; stands = stand ∷ []; told = told; closed = false }
 
 -- one batch more was posted to j
 abbrev pub posts_more : Stand → ℕ → Stand
@@ -54,24 +54,29 @@ passes n i stand token = record stand { black = false; token = token_at i (passe
 abbrev pub finds : Stand → ℕ → Stand
 finds stand word = record stand { halt = word }
 
--- the counts and the colour of node i are those of the ring, and a token that it knows is the ring's, at i
+-- The counts and the colour of node i are those of the ring; a token that it knows is the ring's, at i; and an end that it
+-- knows is announced.
 pub record Shows (n : ℕ) (ring : Ring) (i : ℕ) (stand : Stand) : Type 0 where
   pub posted : (j : ℕ) → j < n → slice_index stand.posted j ≡ ring.posted i j
   pub taken : (j : ℕ) → j < n → slice_index stand.taken j ≡ ring.taken j i
   pub colour : stand.black ≡ ring.black i
   pub token : (token : Token) → stand.token ≡ Some token → (token ≡ ring.token) × (token.at ≡ i)
+  pub ended : stand.halt ≡ 1 → ring.announced ≡ true
 
 -- What node i knows is right where the ring and the halt word are these: its lists have a number for each node; its
--- counts, its colour and a token that it knows are those of the ring; numbers seen are at most what was posted; a halt
--- seen is the halt; and the halt names i only where i knows that it failed the run.
+-- counts, its colour and a token that it knows are those of the ring; it posted nothing to itself; numbers seen are at most
+-- what was posted; a halt seen is the halt; the halt names i only where i knows that it failed the run; and it is the end
+-- only where node 0 knows that it announced it.
 pub record IsStand (n : ℕ) (ring : Ring) (halt i : ℕ) (stand : Stand) : Type 0 where
   pub posted_len : length stand.posted ≡ n
   pub taken_len : length stand.taken ≡ n
   pub seen_len : length stand.seen ≡ n
   pub shows : Shows n ring i stand
+  pub none_own : slice_index stand.posted i ≡ 0
   pub seen : (j : ℕ) → j < n → slice_index stand.seen j ≤ ring.posted j i
   pub halt_seen : stand.halt ≢ 0 → halt ≡ stand.halt
   pub failed : halt ≡ 2 + i → stand.halt ≡ 2 + i
+  pub announced : i ≡ 0 → halt ≡ 1 → stand.halt ≡ 1
 
 -- what a seat knows of its node, by its fields
 abbrev pub stand_from : List ℕ → List ℕ → List ℕ → Bool → Option Token → Halt → Stand

@@ -1,11 +1,14 @@
 // A board, from its opening to its close.
-ghost use Rattle.std.specs.Prelude.{◌≡◌, ◌≤◌, ◌<◌, [], vec_len};
+ghost use Rattle.std.specs.Prelude.{◌≡◌, ◌≤◌, ◌<◌, [], vec_len, slice_index};
 ghost use Rattle.std.specs.Arc.{arc_value};
-ghost use Rattle.dob_board.specs.Words.{word_count};
-ghost use Rattle.dob_board.specs.Boards.{behind};
+ghost use Rattle.dob_board.specs.Words.{word_count, halt_word};
+ghost use Rattle.dob_board.specs.Boards.{behind, AreTold};
+ghost use Rattle.dob_board.specs.Props.{AreTold-prop};
 
+use crate::Halt;
 use crate::seat::Words;
 use crate::view::View;
+use crate::words::{HALT, halt_of};
 use atomic_table::Seat;
 use std::sync::Arc;
 
@@ -28,10 +31,22 @@ pub struct Board {
     pub ghost rest_is: { rest.me ≡ (behind nodes nodes, []) },
 }
 
-/// The words of a board that is closed.
+/// The words of a board that is closed. Only `close` makes one.
 #[derive(Drop)]
 pub struct Closed {
     /// The number of nodes, the token, the halt, how many batches each node posted to each, and how many of those were
     /// taken.
     pub words: Vec<u64>,
+    // The seat that stands for all nodes. It takes no room, and knows all that happened.
+    pub(crate) rest: Seat<(), View>,
+    pub ghost told: { AreTold rest.me.0 words.items } by { AreTold-prop _ _ },
+}
+
+impl Closed {
+    /// What the word of the halt says: whether the run went on, ended or failed.
+    pub fn halt(&self) -> Halt
+        ensures { halt_word result ≡ slice_index self.now.words.items 2 }
+    {
+        halt_of(self.words[HALT])
+    }
 }

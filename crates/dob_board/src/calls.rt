@@ -1,40 +1,18 @@
 // What a seat does: it posts, looks and takes. No call waits, takes a lock or takes memory.
-ghost use Rattle.std.specs.Prelude.{◌≡◌, ◌≢◌, ℕ, suc, ◌+◌, ◌^◌, ◌<◌, ◌≤◌, true, slice_index, slice_set, OnOk, IfErr};
+ghost use Rattle.std.specs.Prelude.{◌≡◌, ◌≢◌, ◌^◌, ◌<◌, ◌≤◌, true, slice_index, OnOk, IfErr};
 ghost use Rattle.dob_safra.specs.declared.event.RingEvent.TheVariants.{Post, Take};
-ghost use Rattle.dob_board.specs.Words.{posted_word, taken_word};
+ghost use Rattle.dob_board.specs.declared.halt.Halt.TheVariants.{Ended};
 ghost use Rattle.dob_board.specs.Views.{posts_more, takes_more, sees};
 ghost use Rattle.dob_board.specs.Histories.{Makes, Hears, HasPosted};
 ghost use Rattle.dob_board.specs.Seats.{stand_of, told_of, IsSameSeat, TakesOne, TakesNone};
 
 use crate::rule::{Looks, Posts, Takes};
+use crate::words::{posted_index, taken_index};
 use crate::{NodeSeat, NotPosted};
-
-// The words before the counts.
-const COUNTS: usize = 3;
-
-// The word of what node `from` posted to node `to`, of so many nodes.
-fn posted_index(nodes: usize, from: usize, to: usize) -> usize
-    requires few { nodes ≤ 16 }
-    requires from { from < nodes }
-    requires to { to < nodes }
-    ensures { result ≡ posted_word nodes from to }
-{
-    COUNTS + (from * nodes + to)
-}
-
-// The word of what node `to` took of node `from`.
-fn taken_index(nodes: usize, from: usize, to: usize) -> usize
-    requires few { nodes ≤ 16 }
-    requires from { from < nodes }
-    requires to { to < nodes }
-    ensures { result ≡ taken_word nodes from to }
-{
-    COUNTS + (nodes * nodes + (from * nodes + to))
-}
 
 impl NodeSeat {
     /// Counts a batch for the node `to`, another one of the board: the count and its word rise by one. The node must be
-    /// black, and the count below 2^40.
+    /// black, which it isn't once the end was announced, and the count below 2^40.
     pub fn post(&mut self, to: usize)
         requires node { to < self.old.nodes }
         requires other { to ≢ self.old.node }
@@ -44,6 +22,7 @@ impl NodeSeat {
         ensures same { IsSameSeat self.old self.new }
         ensures event { Makes self.old.nodes self.old.node (Post self.old.node to) (stand_of self.old) (stand_of self.new)
             (told_of self.old) (told_of self.new) }
+        ensures goes_on { self.old.halt ≢ Ended }
     {
         let word = posted_index(self.nodes, self.node, to);
         self.board
@@ -86,12 +65,14 @@ impl NodeSeat {
     }
 
     /// Counts a batch of the node `from`, another one of the board, if its word says that it posted more than are taken:
-    /// the count and its word rise by one, and the node is black afterwards. A fault changes nothing but what was seen.
+    /// the count and its word rise by one, and the node is black afterwards. A fault changes nothing but what was seen, and
+    /// comes always once the end was announced.
     pub fn take(&mut self, from: usize) -> Result<(), NotPosted>
         requires node { from < self.old.nodes }
         requires other { from ≢ self.old.node }
         ensures ok { OnOk result (TakesOne self.old self.new from) }
         ensures err { IfErr result (λ fault. TakesNone self.old self.new from fault.seen) }
+        ensures goes_on { OnOk result (self.old.halt ≢ Ended) }
         ensures same { IsSameSeat self.old self.new }
     {
         let seen = self.look(from);

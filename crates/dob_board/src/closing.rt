@@ -1,9 +1,10 @@
 // How a board is closed.
-ghost use Rattle.std.specs.Prelude.{◌≡◌, suc, [], map, vec_len};
+ghost use Rattle.std.specs.Prelude.{◌≡◌, suc, [], Some, map, length, slice_get, vec_len};
 ghost use Rattle.std.specs.Arc.{arc_value};
 ghost use Rattle.dob_board.specs.Words.{word_count};
-ghost use Rattle.dob_board.specs.Boards.{behind, gathered, joined, AreRead};
-ghost use Rattle.dob_board.specs.Seats.{stand_of, IsSeatOf, AreSeats, AreWords};
+ghost use Rattle.dob_board.specs.Boards.{behind, gathered, joined, closed_view, AreRead};
+ghost use Rattle.dob_board.specs.Histories.{GoesOn};
+ghost use Rattle.dob_board.specs.Seats.{stand_of, told_of, IsSeatOf, AreSeats, AreWords, IsHistory};
 
 use crate::rule::{Back, Reads};
 use crate::seat::Words;
@@ -13,10 +14,12 @@ use atomic_table::Seat;
 use std::sync::Arc;
 
 impl Board {
-    /// The words, once the seats of all nodes are back. They are just what the seats counted.
+    /// The words, once the seats of all nodes are back. They are just what the seats counted, and what the events of the board
+    /// made of the token and the halt.
     pub fn close(self, seats: Vec<NodeSeat>) -> Closed
         requires { AreSeats self.rest.table_id self.nodes seats.items }
-        ensures { AreWords self.nodes seats.items result.words.items }
+        ensures words { AreWords self.nodes seats.items result.words.items }
+        ensures history { IsHistory self.nodes seats.items result }
     {
         let Board {
             shared,
@@ -26,7 +29,7 @@ impl Board {
         } = self;
         join_all(&shared, &mut rest, seats, nodes);
         let words = read_all(&shared, &mut rest, words, nodes);
-        Closed { words }
+        Closed { words, rest }
     }
 }
 
@@ -39,6 +42,7 @@ fn join_all(shared: &Arc<Words>, rest: &mut Seat<(), View>, mut seats: Vec<NodeS
     requires rest { rest.old.me ≡ (behind nodes nodes, []) }
     ensures of_board { rest.new.table_id ≡ rest.old.table_id }
     ensures rest { rest.new.me ≡ (gathered nodes (map stand_of seats.items) rest.new.me.0.told, []) }
+    ensures told { (seat : NodeSeat) → slice_get seats.items 0 ≡ Some seat → rest.new.me.0.told ≡ told_of seat }
 {
     while let Some(seat) = seats.pop() {
         join_last(shared, rest, seat, nodes);
@@ -61,7 +65,7 @@ fn join_last(shared: &Arc<Words>, rest: &mut Seat<(), View>, seat: NodeSeat, nod
     shared.shared.join_seat::<Back>(rest, seat);
 }
 
-// Reads all words by the seat that stands for all nodes.
+// Reads all words by the seat that stands for all nodes, which is closed by that.
 fn read_all(
     shared: &Arc<Words>,
     rest: &mut Seat<(), View>,
@@ -74,8 +78,11 @@ fn read_all(
     requires size { rest.old.me.0.size ≡ nodes }
     requires from { rest.old.me.0.from ≡ 0 }
     requires no_slot { rest.old.me.1 ≡ [] }
+    requires all { length rest.old.me.0.stands ≡ nodes }
     requires room { vec_len words ≡ word_count nodes }
-    ensures { AreRead nodes rest.old.me.0.stands result.items }
+    ensures rest { rest.new.me ≡ (closed_view nodes rest.old.me.0.stands rest.new.me.0.told, []) }
+    ensures told { GoesOn rest.old.me.0.told rest.new.me.0.told }
+    ensures read { AreRead nodes rest.old.me.0.stands rest.new.me.0.told result.items }
 {
     for word in 0..words.len() {
         words[word] = shared.shared.load::<Reads>(rest, word);

@@ -14,6 +14,7 @@ mod seat;
 mod stops;
 mod tokens;
 mod view;
+mod words;
 
 pub use board::{Board, Closed};
 pub use fault::{Fault, NotPosted};

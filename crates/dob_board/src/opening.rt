@@ -12,6 +12,7 @@ ghost use Rattle.dob_board.specs.Seats.{stand_of, IsSeatOf, AreSeats};
 use crate::rule::FirstNode;
 use crate::seat::Words;
 use crate::view::View;
+use crate::words::{NODES, TOKEN, word_count};
 use crate::{Board, Fault, Halt, NodeSeat};
 use atomic_table::{Seat, Table};
 use dob_safra::{Token, is_size, pack};
@@ -51,9 +52,9 @@ fn start_words(alloc: Global, nodes: usize) -> Result<Vec<u64>, AllocError>
     requires { nodes ≤ 16 }
     ensures { IfOk result (λ words. (word : ℕ) × IsPacked first_token word × (words.items ≡ first_words nodes word)) }
 {
-    let mut words = vec![in alloc; 0; 3 + 2 * nodes * nodes]?;
-    words[0] = nodes as u64;
-    words[1] = pack(Token {
+    let mut words = vec![in alloc; 0; word_count(nodes)]?;
+    words[NODES] = nodes as u64;
+    words[TOKEN] = pack(Token {
         at: 0,
         black: true,
         sum: 0,

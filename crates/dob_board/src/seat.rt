@@ -1,7 +1,8 @@
 // The seat of a node.
-ghost use Rattle.std.specs.Prelude.{◌≡◌, ◌+◌, ◌<◌, ◌≤◌, ◌^◌, ℕ, [], Some, slice_index, vec_len};
+ghost use Rattle.std.specs.Prelude.{◌≡◌, ◌+◌, ◌<◌, ◌≤◌, ◌^◌, ℕ, [], Some, slice_index, vec_len, false};
 ghost use Rattle.std.specs.Arc.{arc_value};
 ghost use Rattle.dob_safra.specs.declared.token.Token.{Token};
+ghost use Rattle.dob_board.specs.declared.halt.Halt.TheVariants.{Ended};
 ghost use Rattle.dob_board.specs.Words.{word_count, halt_word};
 ghost use Rattle.dob_board.specs.Views.{one, stand_from, IsInBounds};
 
@@ -16,7 +17,8 @@ use std::sync::Arc;
 // The words of a board.
 pub(crate) type Words = Table<(), View, usize, Order, Global>;
 
-/// The seat of one node of a board. One thread at a time steps with it. Its lists have a place for each node.
+/// The seat of one node of a board. One thread at a time steps with it. Its lists have a place for each node. A node whose
+/// seat saw that the end was announced is white.
 #[derive(Drop)]
 pub struct NodeSeat {
     pub(crate) board: Arc<Words>,
@@ -49,5 +51,6 @@ pub struct NodeSeat {
     pub ghost few_taken: { (k : ℕ) → k < nodes → slice_index taken.items k ≤ 2 ^ 40 },
     pub ghost in_bounds: { (t : Token) → token ≡ Some t → IsInBounds nodes node t },
     pub ghost halt_within: { halt_word halt < 2 + nodes },
+    pub ghost white: { halt ≡ Ended → black ≡ false },
     pub ghost view_is: { seat.me ≡ (one nodes node (stand_from posted.items taken.items seen.items black token halt) seat.me.0.told, []) },
 }

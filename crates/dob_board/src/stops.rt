@@ -1,47 +1,21 @@
 // How a seat finds out that the run ended or failed, and says so.
 ghost use Rattle.std.specs.Prelude.{◌≡◌, ◌≢◌, true};
 ghost use Rattle.dob_board.specs.declared.halt.Halt.TheVariants.{Running, Ended};
-ghost use Rattle.dob_board.specs.Words.{halt_word, halt_after};
-ghost use Rattle.dob_board.specs.Seats.{stand_of, IsSameSeat, MayEnd, Finds, KnewOwn, HearsHalt, HasAnnounced};
+ghost use Rattle.dob_board.specs.Seats.{stand_of, IsSameSeat, MayEnd, Finds, KnewOwn, KnewEnd, HearsHalt, FailsAfter, HasAnnounced};
 
 use crate::rule::{Announces, Fails, Halts};
+use crate::words::{ENDED, FAILED, HALT, RUNNING, halt_after, halt_of};
 use crate::{Halt, NodeSeat};
-
-// The word of the halt, and what it says.
-const HALT: usize = 2;
-
-const RUNNING: u64 = 0;
-
-const ENDED: u64 = 1;
-
-const FAILED: u64 = 2;
-
-// The halt of the word.
-fn halt_of(word: u64) -> Halt
-    ensures { halt_word result ≡ word }
-{
-    match word {
-        RUNNING => Halt::Running,
-        ENDED => Halt::Ended,
-        _ => Halt::Failed((word - FAILED) as usize),
-    }
-}
-
-// The halt word after it was found as it was and, if the run went on, exchanged for the mark.
-fn halt_after(found: u64, mark: u64) -> u64
-    ensures { result ≡ halt_after found mark }
-{
-    if found == RUNNING { mark } else { found }
-}
 
 impl NodeSeat {
     /// Whether the run goes on. Once a seat found that it doesn't, it finds the same for ever. It finds a failure of its own
-    /// node only after it said so itself, and an end only while it is white.
+    /// node only after it said so itself, an end only while it is white, and as node 0 an end only after it announced it.
     pub fn halted(&mut self) -> Halt
         ensures found { Finds self.old self.new result }
         ensures same { IsSameSeat self.old self.new }
         ensures heard { HearsHalt self.old self.new result }
         ensures own { KnewOwn self.old result }
+        ensures unannounced { KnewEnd self.old result }
         ensures black { self.old.black ≡ true → result ≢ Ended }
     {
         let word = self.board.shared.load::<Halts>(&mut self.seat, HALT);
@@ -68,12 +42,13 @@ impl NodeSeat {
     }
 
     /// Says that this node failed the run. The answer is its failure, or the failure of another node that came before, or, if
-    /// the node is white, the end.
+    /// the node is white, the end, which node 0 announced before.
     pub fn fail(&mut self) -> Halt
         ensures found { Finds self.old self.new result }
         ensures stopped { result ≢ Running }
         ensures same { IsSameSeat self.old self.new }
-        ensures heard { HearsHalt self.old self.new result }
+        ensures heard { FailsAfter self.old self.new result }
+        ensures unannounced { KnewEnd self.old result }
         ensures black { self.old.black ≡ true → result ≢ Ended }
     {
         let mark = FAILED + self.node as u64;

@@ -8,10 +8,8 @@ ghost use Rattle.dob_board.specs.Seats.{stand_of, told_of, IsSameSeat, MayEnd};
 
 use crate::NodeSeat;
 use crate::rule::{Meets, Passes};
+use crate::words::TOKEN;
 use dob_safra::{Token, may_announce, pack, passed, unpack};
-
-// The word of the token.
-const TOKEN: usize = 1;
 
 // The counts of a node, added up.
 fn total(counts: &[u64]) -> u64

@@ -26,9 +26,10 @@ use Rattle.dob_run.proofs.Manned.{zip_at, crew_low, crew_kept}
 use Rattle.dob_run.proofs.RunFaults.{stops_so}
 use Rattle.dob_run.proofs.Threaded.{all_kept}
 
-module _ (until : Until) (set : PieceSet) (n size capacity : ℕ) (board : Board) (ended : List Runner) (ran : HasRun until set n size capacity board ended) where
+module _ (No : ℕ → Type 0) (until : Until) (set : PieceSet) (n size capacity : ℕ) (board : Board) (ended : List Runner)
+    (ran : HasRun No until set n size capacity board ended) where
   kept : AllZip KeepsRunner ran.old ended
-  kept = all_kept until ran.old ended ran.ends
+  kept = all_kept No until ran.old ended ran.ends
 
   pub still_crew : IsCrew board (map mail_of ended)
   still_crew = crew_kept board ran.old ended ran.opened.crew kept
@@ -53,8 +54,8 @@ module _ (until : Until) (set : PieceSet) (n size capacity : ℕ) (board : Board
   first_fault Sizes first = absurd first
   first_fault Memory first = absurd first
 
-  pub first_stops : (fault : Fault) → IsFirstFailed ended fault → StopsSo IsFirstFailed set n size capacity fault
-  first_stops fault first = stops_so IsFirstFailed set n size capacity board ran.old ended fault ran.opened kept first
+  pub first_stops : (fault : Fault) → IsFirstFailed ended fault → StopsSo IsFirstFailed No until set n size capacity fault
+  first_stops fault first = stops_so IsFirstFailed No until set n size capacity board ended fault ran first
 
   pub has_turned : (turned : Turned) → AreUnfailed ended → HasLeft board.nodes ended turned → IsTurned set n size turned
   has_turned turned unfailed left =
@@ -63,12 +64,13 @@ module _ (until : Until) (set : PieceSet) (n size capacity : ℕ) (board : Board
 
 -- ---- where it was run to its end
 
-module _ (set : PieceSet) (n size capacity : ℕ) (board : Board) (ended : List Runner) (ran : HasRun until.Stopped set n size capacity board ended) where
+module _ (No : ℕ → Type 0) (set : PieceSet) (n size capacity : ℕ) (board : Board) (ended : List Runner)
+    (ran : HasRun No until.Stopped set n size capacity board ended) where
   pub have_stopped : HaveStopped set size ended
   have_stopped = record {
     small = ran.small;
     each = λ k runner at.
-        let was = zip_at (Ends until.Stopped) ran.old ended k runner ran.ends at in
+        let was = zip_at (Ends No until.Stopped) ran.old ended k runner ran.ends at in
         let is = ran.opened.each k was.0 was.1 in
         record { set_is = was.2.0.set ∙ is.set_is; size_is = was.2.0.size ∙ is.size_is; halted = was.2.1 };
   }
@@ -79,7 +81,7 @@ module _ (set : PieceSet) (n size capacity : ℕ) (board : Board) (ended : List 
   is_built (Err why) is = tt
 
   fault_for : (fault : Fault) → IsFailureOf ended fault → HasFault set n size capacity fault
-  fault_for (Stopped node why) failure = fault_by until.Stopped set n size capacity board ended ran node why failure.runner failure.at
+  fault_for (Stopped node why) failure = fault_by No until.Stopped set n size capacity board ended ran node why failure.runner failure.at
   fault_for Memory failure = (ran.small, ran.within)
   fault_for SetTooLarge failure = absurd failure
   fault_for Nodes failure = absurd failure
@@ -89,7 +91,7 @@ module _ (set : PieceSet) (n size capacity : ℕ) (board : Board) (ended : List 
   has_fault (Ok built) failure = tt
   has_fault (Err fault) failure = fault_for fault failure
 
-  pub is_stopped : (result : Result Built Fault) → IfErr result (IsFailureOf ended) → IfErr result (StopsSo IsFailureOf set n size capacity)
+  pub is_stopped : (result : Result Built Fault) → IfErr result (IsFailureOf ended) → IfErr result (StopsSo IsFailureOf No until.Stopped set n size capacity)
   is_stopped (Ok built) failure = tt
   is_stopped (Err fault) failure =
-      stops_so IsFailureOf set n size capacity board ran.old ended fault ran.opened (all_kept until.Stopped ran.old ended ran.ends) failure
+      stops_so IsFailureOf No until.Stopped set n size capacity board ended fault ran failure

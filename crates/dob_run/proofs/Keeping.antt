@@ -1,15 +1,14 @@
 -- What links, mails and runners keep, through one step and the next.
-use Rattle.std.proofs.Common.{◌≡◌, ◌≢◌, ℕ, zero, suc, List, [], ◌∷◌, ◌++◌, ◌⊎◌, length, set, Option, Some, None}
+use Rattle.std.proofs.Common.{◌≡◌, ◌≢◌, ℕ, zero, suc, List, [], ◌∷◌, ◌++◌, ◌⊎◌, length, set, Bool, true, false, Option, Some, None}
 use Rattle.std.proofs.Common.{refl, sym, ap, ◌∙◌, subst, inl, inr, arith, append_assoc}
 use Rattle.std.proofs.lemmas.List.{append-nil}
-use Rattle.std.specs.Prelude.{slice_get, Result, Ok, Err, MatchResult}
+use Rattle.std.specs.Prelude.{slice_get, Result, Ok, Err, IfErr, MatchResult}
 use Rattle.std.specs.Result.{IsErrAnd}
 use Rattle.std.proofs.lemmas.Result.{err_from_is_err_and}
 use Rattle.std.proofs.lemmas.Option.{same_Some}
 use Rattle.std.proofs.lemmas.Bool.{cases_eq}
 use Rattle.dob_pieces.proofs.Elements.{get_set_other}
 use Rattle.dob_pieces.specs.Lists.{IsBeginning}
-use Rattle.dob_share.specs.declared.news.Item.{Item}
 use Rattle.dob_share.specs.declared.share.Share.{Share}
 use Rattle.dob_update.specs.Batches.{BatchView}
 use Rattle.dob_board.specs.declared.seat.NodeSeat.{NodeSeat}
@@ -18,8 +17,11 @@ use Rattle.dob_board.specs.declared.halt.Halt.TheVariants.{Running, Ended, Faile
 use Rattle.dob_board.specs.Words.{halt_word}
 use Rattle.dob_board.specs.Seats.{IsSameSeat, KnewOwn}
 use Rattle.dob_node.specs.declared.cause.Cause.{Cause}
-use Rattle.dob_node.specs.declared.cause.Cause.TheVariants.{Held}
+use Rattle.dob_node.specs.declared.cause.Cause.TheVariants.{TooDeep, Contradiction, Memory, Held, Counts}
+use Rattle.dob_node.specs.declared.node.Node.{Node}
 use Rattle.dob_node.specs.Takes.{IsReason}
+use Rattle.dob_node.specs.Outboxes.{outbox_in}
+use Rattle.dob_node.specs.Nodes.{outbox_to, HasItemFault, IsUnchanged}
 use Rattle.dob_chan.specs.declared.ends.SendEnd.{SendEnd}
 use Rattle.dob_chan.specs.declared.ends.TakeEnd.{TakeEnd}
 use Rattle.dob_chan.specs.Ends.{sent_by, taken_by, SendsOnSame, TakesOnSame}
@@ -30,7 +32,7 @@ use Rattle.dob_run.specs.declared.runner.Runner.{Runner}
 use Rattle.dob_run.specs.Links.{KeepsOutlet, KeepsInlet}
 use Rattle.dob_run.specs.Mails.{KeepsEach, AreOut}
 use Rattle.dob_run.specs.Keeps.{KeepsMail, HasSameLinks}
-use Rattle.dob_run.specs.Runners.{KeepsRunner, GoesOn, HasFailed, HasBroken, HasTurned, Steps}
+use Rattle.dob_run.specs.Runners.{KeepsRunner, GoesOn, HasFailed, HasBroken, HasTurned, HasRefused, HasCutAll, IsReasonFor, IsReasoned, IsAsked, no_gate, Steps}
 use Rattle.dob_run.proofs.Counted.{there_set}
 
 -- ---- lists of batches
@@ -153,9 +155,62 @@ some_cause why none = absurd (cc)
 pub failed_first : {L : Type 0} (why : Cause) (halt : Halt) → halt ≢ Ended → (let failed : Option Cause = Some why in failed ≡ None) ⊎ (halt ≡ Ended) → L
 failed_first why halt unended still = elim still [ inl none ↦ absurd (some_cause why none) | inr ended ↦ absurd (unended ended) ]
 
--- an item is refused for no gate
-pub reason_unheld : (item : Item) (share : Share) (why : Cause) → IsReason item share why → why ≢ Held
-reason_unheld item share why reason held = subst (IsReason item share) held reason
+-- ---- reasons
+
+-- an item of the runner's own that can't be applied
+pub own_reason : (runner : Runner) (why : Cause) → HasItemFault runner.node why → IsReasonFor no_gate runner why
+own_reason runner TooDeep has = inl has
+own_reason runner (Contradiction class) has = inl has
+own_reason runner Memory has = tt
+own_reason runner Held has = absurd has.reason
+own_reason runner Counts has = absurd has.reason
+
+-- one of another node's
+pub refused_reason : (runner : Runner) (why : Cause) → HasRefused runner why → IsReasonFor no_gate runner why
+refused_reason runner TooDeep has = inr has
+refused_reason runner (Contradiction class) has = inr has
+refused_reason runner Memory has = tt
+refused_reason runner Held has = absurd has.before.reason
+refused_reason runner Counts has = absurd has.before.reason
+
+-- a batch that can't be cut
+pub cut_reason : (runner : Runner) (why : Cause) → (why ≡ Counts → HasCutAll runner) → (why ≡ Counts) ⊎ (why ≡ Memory) → IsReasonFor no_gate runner why
+cut_reason runner why all (inl counts) = subst (IsReasonFor no_gate runner) (sym counts) (all counts)
+cut_reason runner why all (inr memory) = subst (IsReasonFor no_gate runner) (sym memory) tt
+
+pub memory_reason : (No : ℕ → Type 0) (runner : Runner) (why : Cause) → why ≡ Memory → IsReasonFor No runner why
+memory_reason No runner why memory = subst (IsReasonFor No runner) (sym memory) tt
+
+-- where no gate says no, any gate may be there
+pub reason_with : (No : ℕ → Type 0) (runner : Runner) (why : Cause) → IsReasonFor no_gate runner why → IsReasonFor No runner why
+reason_with No runner TooDeep reason = reason
+reason_with No runner (Contradiction class) reason = reason
+reason_with No runner Memory reason = reason
+reason_with No runner Held reason = absurd reason
+reason_with No runner Counts reason = reason
+
+-- and the runner isn't held back
+pub reason_unheld : (runner : Runner) (why : Cause) → IsReasonFor no_gate runner why → why ≢ Held
+reason_unheld runner why reason held = subst (IsReasonFor no_gate runner) held reason
+
+-- one that hasn't failed needs no reason
+pub reasoned_unfailed : (No : ℕ → Type 0) (runner : Runner) → runner.failed ≡ None → IsReasoned No runner
+reasoned_unfailed No runner unfailed why failed = absurd (let both = sym unfailed ∙ failed in cc)
+
+pub reasoned_failed : (No : ℕ → Type 0) (runner : Runner) (why : Cause) → runner.failed ≡ Some why → IsReasonFor No runner why → IsReasoned No runner
+reasoned_failed No runner why failed reason other is = subst (IsReasonFor No runner) (same_Some why other (sym failed ∙ is)) reason
+
+-- a node that is as it was still can't apply its item, or cut its batch
+pub fault_still : (old new : Node) (why : Cause) → IsUnchanged old new → HasItemFault old why → HasItemFault new why
+fault_still old new why same fault = record {
+  item = fault.item;
+  behind = fault.behind;
+  first = same.kept.2 ∙ fault.first;
+  reason = subst (λ (share : Share). IsReason fault.item share why) (sym same.kept.0) fault.reason;
+}
+
+pub outbox_still : (old new : Node) (to : ℕ) → IsUnchanged old new → outbox_to new to ≡ outbox_to old to
+outbox_still old new to same = λ q. outbox_in (same.same.0 q) (same.same.2 q) (same.same.1 q) (same.outboxes q) to
 
 -- ---- runners
 
@@ -184,7 +239,7 @@ pub carried_on : {A : Type 0} (a b c : Runner) (r : Result A Cause) (why : Cause
     Steps a c r
 carried_on a b c r why is kept broken =
     let given = err_from_is_err_and r is in
-    let now : HasBroken a c why = record { failed = failed_after a b c why kept broken.failed; unheld = broken.unheld } in
+    let now : HasBroken a c why = record { failed = failed_after a b c why kept broken.failed; reason = broken.reason } in
     subst (λ s. Steps a c s) (sym given.1) (subst (HasBroken a c) (sym given.2) now)
 
 -- and it isn't that a gate held the runner back
@@ -203,3 +258,25 @@ turn_failed a b c r why is kept failed =
 pub turn_keeps : (a b : Runner) (r : Result Halt Cause) → MatchResult r (HasTurned a b) (HasFailed a b) → KeepsRunner a b
 turn_keeps a b (Ok halt) turned = turned.keeps
 turn_keeps a b (Err why) failed = failed.keeps
+
+-- a failure that is handed on with its reason
+pub reason_on : {A : Type 0} (No : ℕ → Type 0) (c : Runner) (r : Result A Cause) (why : Cause) → IsErrAnd r (λ given. given ≡ why) → IsReasonFor no_gate c why →
+    IfErr r (IsReasonFor No c)
+reason_on {A} No c r why is reason =
+    let given = err_from_is_err_and r is in
+    subst (λ (s : Result A Cause). IfErr s (IsReasonFor No c)) (sym given.1) (subst (IsReasonFor No c) (sym given.2) (reason_with No c why reason))
+
+-- the gate's answer, where the node wasn't held back, and where it was
+pub asked_yes : {A : Type 0} (Says : ℕ → Bool → Type 0) (node : ℕ) (answer : Bool) (r : Result A Cause) → Says node answer → answer ≡ true → r ≢ Err Held →
+    IsAsked Says node r
+asked_yes Says node answer r said is unheld = (answer, said, (λ no'. absurd (let both = sym is ∙ no' in cc), λ held. absurd (unheld held)))
+
+pub asked_no : {A : Type 0} (Says : ℕ → Bool → Type 0) (node : ℕ) (answer : Bool) (r : Result A Cause) → Says node answer → answer ≡ false → r ≡ Err Held →
+    IsAsked Says node r
+asked_no Says node answer r said is held = (answer, said, (λ no'. held, λ held'. is))
+
+-- a runner that has made a turn, or failed in one, has a reason where it failed
+pub turn_reasoned : (No : ℕ → Type 0) (a b : Runner) (r : Result Halt Cause) → MatchResult r (HasTurned a b) (HasFailed a b) →
+    IfErr r (IsReasonFor No b) → IsReasoned No b
+turn_reasoned No a b (Ok halt) turned reason = reasoned_unfailed No b turned.unfailed
+turn_reasoned No a b (Err why) failed reason = reasoned_failed No b why failed.cause reason

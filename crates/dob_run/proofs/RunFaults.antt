@@ -1,14 +1,13 @@
 -- Faults, from the ones that limits give to the ones that a crew gives.
 use Rattle.std.proofs.Common.{ℕ, List}
-use Rattle.std.specs.List.{AllZip}
 use Rattle.dob_pieces.specs.declared.piece_set.PieceSet.{PieceSet}
 use Rattle.dob_rank.specs.Limits.{IsSmall}
 use Rattle.dob_board.specs.declared.board.Board.{Board}
 use Rattle.dob_run.specs.declared.fault.Fault.{Fault}
 use Rattle.dob_run.specs.declared.fault.Fault.TheVariants.{SetTooLarge, Nodes, Sizes, Stopped, Memory}
 use Rattle.dob_run.specs.declared.runner.Runner.{Runner}
-use Rattle.dob_run.specs.Manned.{IsNewCrew}
-use Rattle.dob_run.specs.Runners.{KeepsRunner}
+use Rattle.dob_run.specs.declared.turns.Until.{Until}
+use Rattle.dob_run.specs.Turns.{HasRun}
 use Rattle.dob_run.specs.Faults.{HasSizeFault, HasCrewFault, HasStartFault, HasFault}
 use Rattle.dob_run.specs.Turned.{StopsSo}
 
@@ -37,21 +36,20 @@ unbegun_fault set n batch capacity Sizes why = why
 unbegun_fault set n batch capacity (Stopped node cause) why = absurd why
 unbegun_fault set n batch capacity Memory why = why
 
-module _ (Names : List Runner → Fault → Type 0) (set : PieceSet) (n size capacity : ℕ) where
+module _ (Names : List Runner → Fault → Type 0) (No : ℕ → Type 0) (until : Until) (set : PieceSet) (n size capacity : ℕ) where
   -- and no node of it is named
-  pub unbegun_stops : (fault : Fault) → HasStartFault set n size capacity fault → StopsSo Names set n size capacity fault
+  pub unbegun_stops : (fault : Fault) → HasStartFault set n size capacity fault → StopsSo Names No until set n size capacity fault
   unbegun_stops SetTooLarge why = tt
   unbegun_stops Nodes why = tt
   unbegun_stops Sizes why = tt
   unbegun_stops (Stopped node cause) why = absurd why
   unbegun_stops Memory why = tt
 
-  -- what stopped the runners of a new crew
-  pub stops_so : (board : Board) (old ended : List Runner) (fault : Fault) → IsNewCrew set n size capacity board old → AllZip KeepsRunner old ended →
-      Names ended fault → StopsSo Names set n size capacity fault
-  stops_so board old ended (Stopped node why) opened kept names =
-      record { board = board; old = old; ended = ended; opened = opened; kept = kept; names = names }
-  stops_so board old ended SetTooLarge opened kept names = tt
-  stops_so board old ended Nodes opened kept names = tt
-  stops_so board old ended Sizes opened kept names = tt
-  stops_so board old ended Memory opened kept names = tt
+  -- what stopped the runners of a crew that was run
+  pub stops_so : (board : Board) (ended : List Runner) (fault : Fault) → HasRun No until set n size capacity board ended →
+      Names ended fault → StopsSo Names No until set n size capacity fault
+  stops_so board ended (Stopped node why) ran names = record { board = board; ended = ended; ran = ran; names = names }
+  stops_so board ended SetTooLarge ran names = tt
+  stops_so board ended Nodes ran names = tt
+  stops_so board ended Sizes ran names = tt
+  stops_so board ended Memory ran names = tt

@@ -1,20 +1,22 @@
 -- Things that go one by one, each with its answer, and runners whose threads are started and ended so.
-use Rattle.std.proofs.Common.{◌≡◌, ◌≢◌, ℕ, List, [], ◌∷◌, ◌++◌, length, Some, sym, ap, ◌∙◌, subst, append_assoc, arith}
-use Rattle.std.specs.Prelude.{slice_get, IfOk, Result, MatchResult, Ok, Err}
+use Rattle.std.proofs.Common.{◌≡◌, ◌≢◌, ℕ, Bool, List, [], ◌∷◌, ◌++◌, length, Some, sym, ap, ◌∙◌, subst, append_assoc, arith}
+use Rattle.std.specs.Prelude.{slice_get, IfOk, IfErr, Result, MatchResult, Ok, Err}
 use Rattle.std.proofs.lemmas.List.{append-nil}
 use Rattle.std.specs.List.{AllZip}
 use Rattle.std.specs.declared.vec.Vec.{Vec}
 use Rattle.dob_pieces.proofs.Elements.{middle}
 use Rattle.dob_board.specs.declared.halt.Halt.TheVariants.{Running}
 use Rattle.dob_node.specs.declared.cause.Cause.{Cause}
+use Rattle.dob_node.specs.declared.cause.Cause.TheVariants.{Memory}
 use Rattle.dob_run.specs.declared.runner.Runner.{Runner}
 use Rattle.dob_run.specs.declared.threads.Started.{Started}
 use Rattle.dob_run.specs.declared.threads.Started.TheVariants.{Runs, GaveUp}
-use Rattle.dob_run.specs.Runners.{KeepsRunner, GoesOn, HasFailed}
+use Rattle.dob_run.specs.Runners.{KeepsRunner, GoesOn, HasFailed, IsReasonFor, IsReasoned, says_no}
 use Rattle.dob_run.specs.declared.turns.Until.{Until}
 use Rattle.dob_run.specs.declared.turns.Until.TheVariants.{Turns, Stopped}
 use Rattle.dob_run.specs.Started.{IsStartOf, IsEndOf}
 use Rattle.dob_run.specs.Turns.{IsThrough, Ends}
+use Rattle.dob_run.proofs.Keeping.{reasoned_failed, reasoned_unfailed}
 
 zip_one : {X Y : Type 0} → (R : X → Y → Type 0) (xs : List X) (ys : List Y) (x : X) (y : Y) → AllZip R xs ys → R x y → AllZip R (xs ++ x ∷ []) (ys ++ y ∷ [])
 zip_one R [] [] x y are is = (is, tt)
@@ -55,36 +57,43 @@ pub through : (until : Until) (runner : Runner) → runner.mail.seat.halt ≢ Ru
 through (Turns count) runner stopped = tt
 through Stopped runner stopped = stopped
 
-ended : (until : Until) (runner now : Runner) (started : Started) → IsStartOf until runner started → IsEndOf started now → Ends until runner now
-ended until runner now (Runs handle) start end = subst (λ (p : Until × Runner). Ends p.0 p.1 now) (λ i. (start.1 i, start.0 i)) end
-ended until runner now (GaveUp was) start end =
-    subst (λ (r : Runner). Ends until runner r) (sym end) (start.keeps, through until was start.stopped)
+module _ {G : Type 0} (Says : G → ℕ → Bool → Type 0) (gate : G) (until : Until) where
+  ended : (runner now : Runner) (started : Started G) → IsStartOf Says gate until runner started → IsEndOf Says started now →
+      Ends (says_no (Says gate)) until runner now
+  ended runner now (Runs handle) start end = subst (λ (p : G × Until × Runner). Ends (says_no (Says p.0)) p.1 p.2 now) (λ i. (start.2 i, start.1 i, start.0 i)) end
+  ended runner now (GaveUp was) start end =
+      subst (λ (r : Runner). Ends (says_no (Says gate)) until runner r) (sym end)
+      (start.keeps, through until was start.stopped, reasoned_failed (says_no (Says gate)) was Memory start.cause tt)
 
--- each runner that was started and ended is where it was in its crew, and through with its turns
-pub all_ended : (until : Until) (runners : List Runner) (started : List Started) (after : List Runner) → AllZip (IsStartOf until) runners started →
-    AllZip IsEndOf started after → AllZip (Ends until) runners after
-all_ended until [] [] [] starts ends = tt
-all_ended until [] [] (e ∷ after) starts ends = absurd ends
-all_ended until [] (s ∷ started) after starts ends = absurd starts
-all_ended until (r ∷ runners) [] after starts ends = absurd starts
-all_ended until (r ∷ runners) (s ∷ started) [] starts ends = absurd ends
-all_ended until (r ∷ runners) (s ∷ started) (e ∷ after) starts ends =
-    (ended until r e s starts.0 ends.0, all_ended until runners started after starts.1 ends.1)
+  -- each runner that was started and ended is where it was in its crew, and through with its turns
+  pub all_ended : (runners : List Runner) (started : List (Started G)) (after : List Runner) → AllZip (IsStartOf Says gate until) runners started →
+      AllZip (IsEndOf Says) started after → AllZip (Ends (says_no (Says gate)) until) runners after
+  all_ended [] [] [] starts ends = tt
+  all_ended [] [] (e ∷ after) starts ends = absurd ends
+  all_ended [] (s ∷ started) after starts ends = absurd starts
+  all_ended (r ∷ runners) [] after starts ends = absurd starts
+  all_ended (r ∷ runners) (s ∷ started) [] starts ends = absurd ends
+  all_ended (r ∷ runners) (s ∷ started) (e ∷ after) starts ends = (ended r e s starts.0 ends.0, all_ended runners started after starts.1 ends.1)
 
-pub if_all_ended : {E Z : Type 0} (until : Until) (runners : List Runner) (started : List Started) (result : Result (Vec Runner Z) E) →
-    AllZip (IsStartOf until) runners started → IfOk result (λ after. AllZip IsEndOf started after.items) →
-    IfOk result (λ after. AllZip (Ends until) runners after.items)
-if_all_ended until runners started (Ok after) starts ends = all_ended until runners started after.items starts ends
-if_all_ended until runners started (Err why) starts ends = tt
+  pub if_all_ended : {E Z : Type 0} (runners : List Runner) (started : List (Started G)) (result : Result (Vec Runner Z) E) →
+      AllZip (IsStartOf Says gate until) runners started → IfOk result (λ after. AllZip (IsEndOf Says) started after.items) →
+      IfOk result (λ after. AllZip (Ends (says_no (Says gate)) until) runners after.items)
+  if_all_ended runners started (Ok after) starts ends = all_ended runners started after.items starts ends
+  if_all_ended runners started (Err why) starts ends = tt
 
 -- what ended keeps its place
-pub all_kept : (until : Until) (old new : List Runner) → AllZip (Ends until) old new → AllZip KeepsRunner old new
-all_kept until [] [] ends = tt
-all_kept until [] (r ∷ new) ends = absurd ends
-all_kept until (r ∷ old) [] ends = absurd ends
-all_kept until (r ∷ old) (s ∷ new) ends = (ends.0.0, all_kept until old new ends.1)
+pub all_kept : (No : ℕ → Type 0) (until : Until) (old new : List Runner) → AllZip (Ends No until) old new → AllZip KeepsRunner old new
+all_kept No until [] [] ends = tt
+all_kept No until [] (r ∷ new) ends = absurd ends
+all_kept No until (r ∷ old) [] ends = absurd ends
+all_kept No until (r ∷ old) (s ∷ new) ends = (ends.0.0, all_kept No until old new ends.1)
 
 -- a step of a runner, whether it fails or not, keeps the runner where it was
 pub steps_keep : {A : Type 0} (a b : Runner) (r : Result A Cause) → MatchResult r (λ _. GoesOn a b) (HasFailed a b) → KeepsRunner a b
 steps_keep a b (Ok x) goes = goes.keeps
 steps_keep a b (Err why) failed = failed.keeps
+
+pub steps_reasoned : {A : Type 0} (No : ℕ → Type 0) (a b : Runner) (r : Result A Cause) → MatchResult r (λ _. GoesOn a b) (HasFailed a b) →
+    IfErr r (IsReasonFor No b) → IsReasoned No b
+steps_reasoned No a b (Ok x) goes reason = reasoned_unfailed No b goes.unfailed
+steps_reasoned No a b (Err why) failed reason = reasoned_failed No b why failed.cause reason

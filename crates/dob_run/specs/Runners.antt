@@ -1,18 +1,23 @@
 -- Runners, and what their steps make of them.
-use Rattle.std.specs.Prelude.{◌≡◌, ◌≢◌, ℕ, List, [], Some, None, Result, MatchResult, true, slice_get}
+use Rattle.std.specs.Prelude.{◌≡◌, ◌≢◌, ◌↔◌, ◌⊎◌, ⊤, ℕ, ◌^◌, ◌≤◌, ◌++◌, List, [], Bool, Some, None, Ok, Err, Result, MatchResult, true, false, slice_get}
 use Rattle.dob_pieces.specs.declared.piece_set.PieceSet.{PieceSet}
 use Rattle.dob_share.specs.declared.opening.Opening.{Opening}
 use Rattle.dob_board.specs.declared.halt.Halt.{Halt}
 use Rattle.dob_board.specs.declared.halt.Halt.TheVariants.{Running}
+use Rattle.dob_board.specs.declared.seat.NodeSeat.{NodeSeat}
+use Rattle.dob_board.specs.Seats.{IsSameSeat, HearsHalt}
 use Rattle.dob_node.specs.declared.cause.Cause.{Cause}
-use Rattle.dob_node.specs.declared.cause.Cause.TheVariants.{Held}
+use Rattle.dob_node.specs.declared.cause.Cause.TheVariants.{TooDeep, Contradiction, Memory, Held, Counts}
 use Rattle.dob_node.specs.declared.node.Node.{Node}
 use Rattle.dob_node.specs.Openings.{AreOpenings}
-use Rattle.dob_node.specs.Nodes.{IsIdle, IsSound, IsOpened}
+use Rattle.dob_node.specs.Nodes.{outbox_to, HasItemFault, HasTakenBefore, IsIdle, IsSound, IsOpened}
+use Rattle.dob_update.specs.Batches.{BatchView}
 use Rattle.dob_run.specs.declared.hands.Outlet.{Outlet}
 use Rattle.dob_run.specs.declared.hands.Inlet.{Inlet}
 use Rattle.dob_run.specs.declared.mail.Mail.{Mail}
+use Rattle.dob_run.specs.Batches.{IsBatchFor}
 use Rattle.dob_run.specs.Links.{offered, worked}
+use Rattle.dob_run.specs.Workers.{items_worked}
 use Rattle.dob_run.specs.declared.runner.Runner.{Runner}
 use Rattle.dob_run.specs.Mails.{AreOut, AreIn}
 use Rattle.dob_run.specs.Keeps.{KeepsMail, HasSameLinks}
@@ -40,10 +45,54 @@ pub record HasFailed (old new : Runner) (why : Cause) : Type 0 where
   pub cause : new.failed ≡ Some why
   pub stopped : new.mail.seat.halt ≢ Running
 
--- its node has failed for that cause, and no gate held it back
+-- An item of the last batch that came from another node can't be applied, for that cause; just those before it were.
+pub record HasRefused (runner : Runner) (why : Cause) : Type 0 where
+  pub was : Runner
+  pub going : was.failed ≡ None
+  pub kept : KeepsRunner was runner
+  pub from : ℕ
+  pub other : from ≢ was.mail.seat.node
+  pub batch : BatchView
+  pub fits : IsBatchFor was.set was.mail.seat.nodes from was.mail.seat.node batch
+  pub came : items_worked (slice_get runner.mail.inlets.items from) ≡ items_worked (slice_get was.mail.inlets.items from) ++ batch.items
+  pub before : HasTakenBefore batch.items was.node runner.node why
+
+-- the node has something to send to another one, for which it has cut 2^40 batches
+pub record HasCutAll (runner : Runner) : Type 0 where
+  pub to : ℕ
+  pub other : to ≢ runner.mail.seat.node
+  pub left : (outbox_to runner.node to).items ≢ []
+  pub many : 2 ^ 40 ≤ (outbox_to runner.node to).next
+
+-- Why a runner has failed, with a gate that may say no to some nodes: an item can't be applied, the first of its own or one
+-- that came; it has cut too many batches; or the gate said no. Of want of memory nothing is said.
+abbrev pub IsReasonFor : (ℕ → Type 0) → Runner → Cause → Type 0
+IsReasonFor No runner TooDeep = HasItemFault runner.node TooDeep ⊎ HasRefused runner TooDeep
+IsReasonFor No runner (Contradiction class) = HasItemFault runner.node (Contradiction class) ⊎ HasRefused runner (Contradiction class)
+IsReasonFor No runner Memory = ⊤
+IsReasonFor No runner Held = No runner.mail.seat.node
+IsReasonFor No runner Counts = HasCutAll runner
+
+-- one that has failed has a reason
+abbrev pub IsReasoned : (ℕ → Type 0) → Runner → Type 0
+IsReasoned No runner = (why : Cause) → runner.failed ≡ Some why → IsReasonFor No runner why
+
+-- no gate says no
+abbrev pub no_gate : ℕ → Type 0
+no_gate node = ⊥
+
+-- a gate that may answer so said no
+abbrev pub says_no : (ℕ → Bool → Type 0) → ℕ → Type 0
+says_no Says node = Says node false
+
+-- The gate was asked of the node, and the answer is that it was held back just where the gate said no.
+abbrev pub IsAsked : {A : Type 0} → (ℕ → Bool → Type 0) → ℕ → Result A Cause → Type 0
+IsAsked {A} Says node result = (yes : Bool) × Says node yes × ((yes ≡ false) ↔ (result ≡ Err Held))
+
+-- its node has failed for that cause, with a reason of its own
 pub record HasBroken (old new : Runner) (why : Cause) : Type 0 where
   pub failed : HasFailed old new why
-  pub unheld : why ≢ Held
+  pub reason : IsReasonFor no_gate new why
 
 -- it was held back: its node, its links and its colour are as they were
 pub record IsHeldBack (old new : Runner) : Type 0 where
@@ -51,11 +100,16 @@ pub record IsHeldBack (old new : Runner) : Type 0 where
   pub links : HasSameLinks old.mail new.mail
   pub colour : new.mail.seat.black ≡ old.mail.seat.black
 
--- it has made a turn, and the halt is the one that its seat knows
+-- It has made a turn, and the halt is the one that its seat knows: first it looked at the halt word, and where it found that
+-- the run doesn't go on this is what it found.
 pub record HasTurned (old new : Runner) (halt : Halt) : Type 0 where
   pub keeps : KeepsRunner old new
   pub unfailed : new.failed ≡ None
   pub halt_is : halt ≡ new.mail.seat.halt
+  pub looked : NodeSeat
+  pub same : IsSameSeat old.mail.seat looked
+  pub heard : HearsHalt old.mail.seat looked looked.halt
+  pub first : looked.halt ≢ Running → halt ≡ looked.halt
 
 -- a step of a runner: it goes on or its node has failed
 abbrev pub Steps : {A : Type 0} → Runner → Runner → Result A Cause → Type 0

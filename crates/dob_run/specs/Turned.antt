@@ -1,6 +1,5 @@
 -- What a crew leaves whose runners made some turns without the token.
 use Rattle.std.specs.Prelude.{◌≡◌, ◌≢◌, ⊤, ℕ, ◌+◌, ◌-◌, ◌*◌, ◌<◌, ◌≤◌, List, ◌++◌, Option, Some, None, length, map, take, slice_get, slice_index}
-use Rattle.std.specs.List.{AllZip}
 use Rattle.dob_pieces.specs.declared.piece_set.PieceSet.{PieceSet}
 use Rattle.dob_share.specs.declared.news.Item.{Item}
 use Rattle.dob_update.specs.Batches.{BatchView, items_of_batches}
@@ -22,8 +21,9 @@ use Rattle.dob_run.specs.Closing.{AreLinked, seat_in, hands_out, hands_in}
 use Rattle.dob_run.specs.Ending.{IsJoined}
 use Rattle.dob_run.specs.Hands.{in_hand}
 use Rattle.dob_run.specs.Knows.{KnowsRight}
-use Rattle.dob_run.specs.Manned.{mail_of, IsNewCrew}
-use Rattle.dob_run.specs.Runners.{KeepsRunner}
+use Rattle.dob_run.specs.declared.turns.Until.{Until}
+use Rattle.dob_run.specs.Manned.{mail_of}
+use Rattle.dob_run.specs.Turns.{HasRun}
 use Rattle.dob_run.specs.Workers.{planned}
 
 -- The worker is that of node i. It has applied what its node planned for itself and isn't left in its own list, and knows just
@@ -78,22 +78,20 @@ IsFirstFailed runners Nodes = ⊥
 IsFirstFailed runners Sizes = ⊥
 IsFirstFailed runners Memory = ⊥
 
--- A new crew's runners made turns, and the fault names what stopped them.
-pub record HasStopped (Names : List Runner → Fault → Type 0) (set : PieceSet) (n size capacity : ℕ) (fault : Fault) : Type 0 where
+-- The crew that was run for so long has stopped, and the fault names which of its runners and why.
+pub record HasStopped (Names : List Runner → Fault → Type 0) (No : ℕ → Type 0) (until : Until) (set : PieceSet) (n size capacity : ℕ) (fault : Fault) : Type 0 where
   pub board : Board
-  pub old : List Runner
   pub ended : List Runner
-  pub opened : IsNewCrew set n size capacity board old
-  pub kept : AllZip KeepsRunner old ended
+  pub ran : HasRun No until set n size capacity board ended
   pub names : Names ended fault
 
--- where a node is named a crew has stopped so
-abbrev pub StopsSo : (List Runner → Fault → Type 0) → PieceSet → ℕ → ℕ → ℕ → Fault → Type 0
-StopsSo Names set n size capacity (Stopped node why) = HasStopped Names set n size capacity (Stopped node why)
-StopsSo Names set n size capacity SetTooLarge = ⊤
-StopsSo Names set n size capacity Nodes = ⊤
-StopsSo Names set n size capacity Sizes = ⊤
-StopsSo Names set n size capacity Memory = ⊤
+-- where a node is named the crew has stopped so
+abbrev pub StopsSo : (List Runner → Fault → Type 0) → (ℕ → Type 0) → Until → PieceSet → ℕ → ℕ → ℕ → Fault → Type 0
+StopsSo Names No until set n size capacity (Stopped node why) = HasStopped Names No until set n size capacity (Stopped node why)
+StopsSo Names No until set n size capacity SetTooLarge = ⊤
+StopsSo Names No until set n size capacity Nodes = ⊤
+StopsSo Names No until set n size capacity Sizes = ⊤
+StopsSo Names No until set n size capacity Memory = ⊤
 
 -- The first workers have the nodes and the rows of hands that stand at their places.
 pub record AreWorkers (upto : ℕ) (nodes : List Node) (sending taking : List (List (Option BatchView))) (workers : List Worker) : Type 0 where

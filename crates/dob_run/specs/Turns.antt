@@ -10,7 +10,7 @@ use Rattle.dob_run.specs.declared.turns.Until.{Until}
 use Rattle.dob_run.specs.declared.turns.Until.TheVariants.{Turns, Stopped}
 use Rattle.dob_run.specs.Manned.{IsNewCrew}
 use Rattle.dob_run.specs.Faults.{AreWithin}
-use Rattle.dob_run.specs.Runners.{KeepsRunner}
+use Rattle.dob_run.specs.Runners.{KeepsRunner, IsReasoned}
 
 -- the runner can work with the classes of that piece set
 pub record Suits (set : PieceSet) (runner : Runner) : Type 0 where
@@ -25,19 +25,24 @@ AllSuit set runners = (k : ℕ) (runner : Runner) → slice_get runners k ≡ So
 abbrev pub until_stopped : Until
 until_stopped = Stopped
 
+-- until each has made so many turns
+abbrev pub until_turns : ℕ → Until
+until_turns count = Turns count
+
 -- the runner was to make turns for so long, and has
 abbrev pub IsThrough : Until → Runner → Type 0
 IsThrough (Turns count) runner = ⊤
 IsThrough Stopped runner = runner.mail.seat.halt ≢ Running
 
--- it keeps its place in its crew, and has
-abbrev pub Ends : Until → Runner → Runner → Type 0
-Ends until old new = KeepsRunner old new × IsThrough until new
+-- it keeps its place in its crew, and has; where it failed it has a reason, with a gate that may say no to some nodes
+abbrev pub Ends : (ℕ → Type 0) → Until → Runner → Runner → Type 0
+Ends No until old new = KeepsRunner old new × IsThrough until new × IsReasoned No new
 
--- The runners of a new crew of the piece set, of sizes within their limits, were to make turns for so long, and have.
-pub record HasRun (until : Until) (set : PieceSet) (n size capacity : ℕ) (board : Board) (ended : List Runner) : Type 0 where
+-- The runners of a new crew of the piece set, of sizes within their limits, were to make turns for so long, and have, with a
+-- gate that may say no to some nodes.
+pub record HasRun (No : ℕ → Type 0) (until : Until) (set : PieceSet) (n size capacity : ℕ) (board : Board) (ended : List Runner) : Type 0 where
   pub small : IsSmall set
   pub within : AreWithin n size capacity
   pub old : List Runner
   pub opened : IsNewCrew set n size capacity board old
-  pub ends : AllZip (Ends until) old ended
+  pub ends : AllZip (Ends No until) old ended

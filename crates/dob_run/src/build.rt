@@ -4,6 +4,8 @@ ghost use Rattle.dob_rank.specs.Limits.{IsSmall};
 ghost use Rattle.dob_run.specs.Built.{IsBuilt};
 ghost use Rattle.dob_run.specs.Finishing.{IsFailureOf};
 ghost use Rattle.dob_run.specs.Faults.{AreWithin, HasFault};
+ghost use Rattle.dob_run.specs.Runners.{says_no};
+ghost use Rattle.dob_run.specs.Turns.{until_stopped};
 ghost use Rattle.dob_run.specs.Turned.{StopsSo};
 
 use crate::fault::Fault;
@@ -22,7 +24,8 @@ use std::thread::Threads;
 ///
 /// Errors, tested in this order: `SetTooLarge` where the set has more than `MOST_PIECES` besides the lions; `Nodes` where `n`
 /// isn't 1 to 16; `Sizes` where `batch` isn't 1 to 4096 or `capacity` not 1 to 1024; `Stopped` with the node that failed
-/// first and its cause, which is `Held` where the gate said no and `Memory` where no thread could be made for it; `Memory`.
+/// first and its cause, which is `Held` only where the gate said no to it, and `Memory` where no thread could be made for it;
+/// `Memory`.
 pub fn run_nodes<R: Threads + Wait + Sync, G: Gate + Sync>(
     rt: &R,
     alloc: Global,
@@ -35,8 +38,17 @@ pub fn run_nodes<R: Threads + Wait + Sync, G: Gate + Sync>(
     ensures built { IfOk result (IsBuilt set n batch) }
     ensures within { OnOk result (IsSmall set × AreWithin n batch capacity) }
     ensures fault { IfErr result (HasFault set n batch capacity) }
-    ensures stopped { IfErr result (StopsSo IsFailureOf set n batch capacity) }
+    ensures stopped { IfErr result (StopsSo IsFailureOf (says_no (G.says gate.now)) until_stopped set n batch capacity) }
 {
-    let (classes, board, ended) = run_crew(rt, alloc, set, n, batch, capacity, gate, &Until::Stopped)?;
+    let (classes, board, ended) = run_crew(
+        rt,
+        alloc,
+        set,
+        n,
+        batch,
+        capacity,
+        gate,
+        &Until::Stopped,
+    )?;
     finish(rt, alloc, classes, board, ended)
 }

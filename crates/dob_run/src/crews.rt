@@ -1,5 +1,5 @@
 // How a crew begins: with a board, and for each of its nodes a seat, the ends of its channels, and a runner.
-ghost use Rattle.std.specs.Prelude.{◌≡◌, ◌<◌, ◌≤◌, ℕ, IfOk, IfErr, vec_len, map, replicate, length};
+ghost use Rattle.std.specs.Prelude.{◌≡◌, ◌<◌, ◌≤◌, ℕ, IfOk, IfErr, OnOk, vec_len, map, replicate, length};
 ghost use Rattle.std.specs.List.{AllZip};
 ghost use Rattle.dob_safra.specs.Laws.{IsSize};
 ghost use Rattle.dob_board.specs.Rule.{fresh};
@@ -37,6 +37,7 @@ pub fn crew(
     capacity: usize,
 ) -> Result<(Board, Vec<Runner>), Fault>
     ensures opened { IfOk result (λ opened. IsNewCrew classes.now.set n batch capacity opened.0 opened.1.items) }
+    ensures within { OnOk result (AreWithin n batch capacity) }
     ensures fault { IfErr result (HasCrewFault n batch capacity) }
 {
     if let Some(fault) = size_passed(n, batch, capacity) {

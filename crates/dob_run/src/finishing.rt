@@ -19,7 +19,7 @@ use crate::closing::{Ended, close_mails};
 use crate::fault::Fault;
 use crate::runner::Runner;
 use crate::runs::{find_failed, part_runners};
-use dob_board::{Board, Closed};
+use dob_board::{Board, Closed, Halt};
 use dob_chan::Rejoined;
 use dob_node::{Cause, Node};
 use dob_pieces::{Memory, PieceSet};
@@ -61,7 +61,7 @@ pub fn finish<R: Wait>(
     let causes = causes_of(alloc, &runners)?;
     let late = find_failed(&runners);
     let (nodes, ended) = close_all(rt, alloc, board, runners)?;
-    if let Some(node) = failed_in(&ended.closed.words) {
+    if let Some(node) = failed_in(&ended.closed) {
         let cause = cause_at(&causes, node);
         return Err(Fault::Stopped { node, cause });
     }
@@ -105,16 +105,15 @@ fn close_all<R: Wait>(
 }
 
 // The node that failed the run, as the words of the board say; none where the end was announced.
-fn failed_in(words: &[u64]) -> Option<usize>
-    requires whole { 2 < length words.now }
-    requires stopped { slice_index words.now 2 ≢ 0 }
-    ensures { MatchOption result (slice_index words.now 2 ≡ 1) (λ node. slice_index words.now 2 ≡ 2 + node) }
+fn failed_in(closed: &Closed) -> Option<usize>
+    requires { slice_index closed.now.words.items 2 ≢ 0 }
+    ensures { MatchOption result (slice_index closed.now.words.items 2 ≡ 1) (λ node. slice_index closed.now.words.items 2 ≡ 2 + node) }
 {
-    let halt = words[2];
-    if halt == 1 {
-        return None;
+    match closed.halt() {
+        Halt::Failed(node) => Some(node),
+        Halt::Ended => None,
+        Halt::Running => unreachable!(),
     }
-    Some((halt - 2) as usize)
 }
 
 // The cause that stands at that place.

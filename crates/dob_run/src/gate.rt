@@ -2,8 +2,14 @@
 
 /// Each node's worker asks it at the start of each turn whether it may go on. A worker that may not gives up.
 pub trait Gate {
+    ghost use Rattle.std.specs.Prelude.{ℕ, Bool};
+
+    // By `says gate node yes` the gate may answer so of that node.
+    ghost says: { Self → ℕ → Bool → Type 0 };
+
     /// Whether the worker of that node may go on.
-    fn enter(&self, node: usize) -> bool;
+    fn enter(&self, node: usize) -> bool
+        ensures { says self.now node result };
 }
 
 /// A gate that always answers yes.
@@ -12,9 +18,9 @@ pub struct Free;
 impl Gate for Free {
     ghost use Rattle.std.specs.Prelude.{◌≡◌, true};
 
-    fn enter(&self, _node: usize) -> bool
-        ensures { result ≡ true }
-    {
+    ghost says = { λ _ _ yes. yes ≡ true };
+
+    fn enter(&self, _node: usize) -> bool {
         true
     }
 }

@@ -4,6 +4,8 @@ ghost use Rattle.dob_rank.specs.Limits.{IsSmall};
 ghost use Rattle.dob_run.specs.Closing.{IsCrew, row_of};
 ghost use Rattle.dob_run.specs.Manned.{mail_of, node_of};
 ghost use Rattle.dob_run.specs.Faults.{AreWithin, HasFault};
+ghost use Rattle.dob_run.specs.Runners.{says_no};
+ghost use Rattle.dob_run.specs.Turns.{until_turns};
 ghost use Rattle.dob_run.specs.Turned.{IsTurned, AreUnfailed, IsFirstFailed, StopsSo, AreWorkers, HasLeft};
 
 use crate::closing::{Ended, close_mails};
@@ -57,7 +59,7 @@ pub fn run_turns<R: Threads + Wait + Sync, G: Gate + Sync>(
     ensures turned { IfOk result (IsTurned set n batch) }
     ensures within { OnOk result (IsSmall set × AreWithin n batch capacity) }
     ensures fault { IfErr result (HasFault set n batch capacity) }
-    ensures stopped { IfErr result (StopsSo IsFirstFailed set n batch capacity) }
+    ensures stopped { IfErr result (StopsSo IsFirstFailed (says_no (G.says gate.now)) (until_turns turns) set n batch capacity) }
 {
     let until = Until::Turns(turns);
     let (_, board, ended) = run_crew(rt, alloc, set, n, batch, capacity, gate, &until)?;

@@ -3,6 +3,7 @@ ghost use Rattle.std.specs.Prelude.{◌≡◌, IfOk, IfErr};
 ghost use Rattle.std.specs.List.{AllZip};
 ghost use Rattle.dob_run.specs.Faults.{HasStartFault};
 ghost use Rattle.dob_run.specs.Turns.{Suits, AllSuit, Ends, HasRun};
+ghost use Rattle.dob_run.specs.Runners.{says_no};
 ghost use Rattle.dob_run.specs.Started.{IsStartOf, IsEndOf};
 
 use crate::crews::crew_of;
@@ -25,19 +26,20 @@ use std::thread::{Promise, PromisedHandle, Scope, Threads};
 
 // What the thread of a runner promises.
 #[derive(Drop)]
-pub(crate) struct Kept {
+pub(crate) struct Kept<G> {
     was: Snapshot<Runner>,
     until: Snapshot<Until>,
+    gate: Snapshot<G>,
 }
 
-impl Promise<Runner> for Kept {
-    ghost kept_by = { λ p r. Ends p.until.value p.was.value r };
+impl<G: Gate> Promise<Runner> for Kept<G> {
+    ghost kept_by = { λ p r. Ends (says_no (G.says p.gate.value)) p.until.value p.was.value r };
 }
 
 // A runner whose thread runs, or one that gave up.
 #[derive(Drop)]
-pub(crate) enum Started {
-    Runs(PromisedHandle<Runner, Kept>),
+pub(crate) enum Started<G: Gate> {
+    Runs(PromisedHandle<Runner, Kept<G>>),
     GaveUp(Runner),
 }
 
@@ -57,7 +59,7 @@ pub(crate) fn run_crew<R: Threads + Wait + Sync, G: Gate + Sync>(
     until: &Until,
 ) -> Result<(Classes, Board, Vec<Runner>), Fault>
     ensures set { IfOk result (λ ran. ran.0.set ≡ set) }
-    ensures ran { IfOk result (λ ran. HasRun until.now set n batch capacity ran.1 ran.2.items) }
+    ensures ran { IfOk result (λ ran. HasRun (says_no (G.says gate.now)) until.now set n batch capacity ran.1 ran.2.items) }
     ensures fault { IfErr result (HasStartFault set n batch capacity) }
 {
     let classes = classes_within(alloc, set, n, batch, capacity)?;
@@ -78,7 +80,7 @@ fn run_each<R: Threads + Wait + Sync, G: Gate + Sync>(
     until: &Until,
 ) -> Result<Vec<Runner>, Memory>
     requires { AllSuit classes.now.set runners.items }
-    ensures { IfOk result (λ ended. AllZip (Ends until.now) runners.items ended.items) }
+    ensures { IfOk result (λ ended. AllZip (Ends (says_no (G.says gate.now)) until.now) runners.items ended.items) }
 {
     let unstarted = AtomicUsize::new(usize::MAX);
     let unstarted = &unstarted;
@@ -87,7 +89,7 @@ fn run_each<R: Threads + Wait + Sync, G: Gate + Sync>(
         rt,
         |scope| -> Result<Vec<Runner>, Memory>
             requires { AllSuit classes.now.set runners.items }
-            ensures { IfOk result (λ ended. AllZip (Ends until.entry.now) runners.items ended.items) }
+            ensures { IfOk result (λ ended. AllZip (Ends (says_no (G.says gate.entry.now)) until.entry.now) runners.items ended.items) }
         {
             let started = start_all(rt, alloc, scope, runners, classes, gate, until, unstarted)?;
             end_all(rt, alloc, started)
@@ -105,9 +107,9 @@ fn start_all<'s, E, R: Threads + Wait + Sync, G: Gate + Sync>(
     gate: &'s G,
     until: &'s Until,
     unstarted: &'s AtomicUsize,
-) -> Result<Vec<Started>, Memory>
+) -> Result<Vec<Started<G>>, Memory>
     requires { AllSuit classes.now.set runners.items }
-    ensures { IfOk result (λ started. AllZip (IsStartOf until.now) runners.items started.items) }
+    ensures { IfOk result (λ started. AllZip (IsStartOf G.says gate.now until.now) runners.items started.items) }
 {
     let mut started = Vec::with_capacity(alloc, runners.len())?;
     for runner in runners {
@@ -125,18 +127,19 @@ fn start<'s, E, R: Threads + Wait + Sync, G: Gate + Sync>(
     gate: &'s G,
     until: &'s Until,
     unstarted: &'s AtomicUsize,
-) -> Started
+) -> Started<G>
     requires { Suits classes.now.set runner }
-    ensures { IsStartOf until.now runner result }
+    ensures { IsStartOf G.says gate.now until.now runner result }
 {
     let node = runner.mail.seat.node;
     let promise = Kept {
         was: Snapshot::of(&runner),
         until: Snapshot::of(until),
+        gate: Snapshot::of(gate),
     };
     let run = move || -> Runner
         requires { Suits classes.now.set runner }
-        ensures { Ends until.entry.now runner result }
+        ensures { Ends (says_no (G.says gate.entry.now)) until.entry.now runner result }
     { go_unless(unstarted, rt, runner, classes, gate, until) };
     match scope.spawn_with(promise, run) {
         Ok(handle) => Started::Runs(handle),
@@ -159,7 +162,7 @@ fn go_unless<R: Wait, G: Gate>(
     until: &Until,
 ) -> Runner
     requires { Suits classes.now.set runner }
-    ensures { Ends until.now runner result }
+    ensures { Ends (says_no (G.says gate.now)) until.now runner result }
 {
     if unstarted.load(Ordering::SeqCst) == runner.mail.seat.node {
         runner.give_up(Cause::Memory);
@@ -170,8 +173,12 @@ fn go_unless<R: Wait, G: Gate>(
 }
 
 // Waits for the thread of each runner.
-fn end_all<R: Threads>(rt: &R, alloc: Global, started: Vec<Started>) -> Result<Vec<Runner>, Memory>
-    ensures { IfOk result (λ ended. AllZip IsEndOf started.items ended.items) }
+fn end_all<R: Threads, G: Gate>(
+    rt: &R,
+    alloc: Global,
+    started: Vec<Started<G>>,
+) -> Result<Vec<Runner>, Memory>
+    ensures { IfOk result (λ ended. AllZip (IsEndOf G.says) started.items ended.items) }
 {
     let mut ended = Vec::with_capacity(alloc, started.len())?;
     for one in started {
@@ -181,8 +188,8 @@ fn end_all<R: Threads>(rt: &R, alloc: Global, started: Vec<Started>) -> Result<V
 }
 
 // Waits for the thread of a runner.
-fn end<R: Threads>(rt: &R, started: Started) -> Runner
-    ensures { IsEndOf started result }
+fn end<R: Threads, G: Gate>(rt: &R, started: Started<G>) -> Runner
+    ensures { IsEndOf G.says started result }
 {
     match started {
         Started::Runs(handle) => handle.join(rt),

@@ -1,8 +1,9 @@
 // A turn of a runner.
-ghost use Rattle.std.specs.Prelude.{◌≡◌, ◌≢◌, ◌↔◌, ◌<◌, ◌≤◌, IsTrue, Err, None, MatchResult};
+ghost use Rattle.std.specs.Prelude.{◌≡◌, ◌≢◌, ◌↔◌, ◌<◌, ◌≤◌, IsTrue, Err, None, IfErr, MatchResult};
 ghost use Rattle.dob_board.specs.declared.halt.Halt.TheVariants.{Running};
 ghost use Rattle.dob_node.specs.declared.cause.Cause.TheVariants.{Held};
-ghost use Rattle.dob_run.specs.Runners.{Steps, GoesRound, HasFailed, HasTurned, IsHeldBack, IsNew};
+ghost use Rattle.dob_board.specs.Seats.{HearsHalt};
+ghost use Rattle.dob_run.specs.Runners.{Steps, GoesRound, HasFailed, HasTurned, IsHeldBack, IsNew, IsAsked, IsReasonFor, says_no};
 
 use crate::gate::Gate;
 use crate::mail::Mail;
@@ -57,9 +58,9 @@ impl Runner {
     /// One turn: a runner that the gate lets pass and whose run goes on does a turn's work for its node, and if there was
     /// none it looks for the token, or pauses. The answer is the halt that its seat knows.
     ///
-    /// Errors, after which the run has failed, if it hadn't ended or failed before: `Held` where the gate says no, and then the
-    /// runner has done nothing: its node and what went over its links are as they were; else the cause of the node, which
-    /// is never `Held`.
+    /// Errors, after which the run has failed, if it hadn't ended or failed before: `Held` just where the gate says no, and then
+    /// the runner has done nothing: its node and what went over its links are as they were; else the cause of the node: an
+    /// item that can't be applied, too many batches, or want of memory.
     pub fn turn<R: Wait, G: Gate>(
         &mut self,
         rt: &R,
@@ -69,6 +70,8 @@ impl Runner {
         requires running { self.old.mail.seat.halt ≡ Running }
         requires set { classes.now.set ≡ self.old.set }
         ensures turned { MatchResult result (HasTurned self.old self.new) (HasFailed self.old self.new) }
+        ensures asked { IsAsked (G.says gate.now) self.old.mail.seat.node result }
+        ensures reason { IfErr result (IsReasonFor (says_no (G.says gate.now)) self.new) }
         ensures held { result ≡ Err Held → IsHeldBack self.old self.new }
     {
         if !gate.enter(self.mail.seat.node) {
@@ -88,6 +91,7 @@ impl Runner {
     fn looks(&mut self) -> Halt
         requires { self.old.failed ≡ None }
         ensures goes { GoesRound self.old self.new }
+        ensures heard { HearsHalt self.old.mail.seat self.new.mail.seat self.new.mail.seat.halt }
         ensures halt { result ≡ self.new.mail.seat.halt }
     {
         self.mail.halted()

@@ -1,7 +1,7 @@
 // Turns of a runner, one after another.
-ghost use Rattle.std.specs.Prelude.{◌≡◌, ◌≢◌, None, MatchResult};
+ghost use Rattle.std.specs.Prelude.{◌≡◌, ◌≢◌, None, IfErr, MatchResult};
 ghost use Rattle.dob_board.specs.declared.halt.Halt.TheVariants.{Running};
-ghost use Rattle.dob_run.specs.Runners.{GoesOn, HasFailed, KeepsRunner};
+ghost use Rattle.dob_run.specs.Runners.{GoesOn, HasFailed, KeepsRunner, IsAsked, IsReasonFor, IsReasoned, says_no};
 
 use crate::gate::Gate;
 use crate::runner::Runner;
@@ -29,7 +29,7 @@ impl Runner {
         until: &Until,
     )
         requires { Suits classes.now.set self.old }
-        ensures { Ends until.now self.old self.new }
+        ensures { Ends (says_no (G.says gate.now)) until.now self.old self.new }
     {
         match until {
             Until::Turns(turns) => self.go(rt, classes, gate, *turns),
@@ -39,9 +39,11 @@ impl Runner {
 
     // Makes whole turns until its seat has seen that the run ended or failed. Its promises hold if it returns.
     fn run<R: Wait, G: Gate>(&mut self, rt: &R, classes: &Classes, gate: &G)
-        requires { classes.now.set ≡ self.old.set }
+        requires unfailed { self.old.failed ≡ None }
+        requires set { classes.now.set ≡ self.old.set }
         ensures keeps { KeepsRunner self.old self.new }
         ensures stopped { self.new.mail.seat.halt ≢ Running }
+        ensures reasoned { IsReasoned (says_no (G.says gate.now)) self.new }
     {
         for _ in rt.forever() {
             if self.stopped() {
@@ -56,7 +58,8 @@ impl Runner {
     fn go<R: Wait, G: Gate>(&mut self, rt: &R, classes: &Classes, gate: &G, turns: u64)
         requires unfailed { self.old.failed ≡ None }
         requires set { classes.now.set ≡ self.old.set }
-        ensures { KeepsRunner self.old self.new }
+        ensures keeps { KeepsRunner self.old self.new }
+        ensures reasoned { IsReasoned (says_no (G.says gate.now)) self.new }
     {
         for _ in 0..turns {
             let Ok(_) = self.turn_alone(rt, classes, gate) else {
@@ -75,7 +78,9 @@ impl Runner {
     ) -> Result<bool, Cause>
         requires unfailed { self.old.failed ≡ None }
         requires set { classes.now.set ≡ self.old.set }
-        ensures { MatchResult result (λ _. GoesOn self.old self.new) (HasFailed self.old self.new) }
+        ensures goes { MatchResult result (λ _. GoesOn self.old self.new) (HasFailed self.old self.new) }
+        ensures asked { IsAsked (G.says gate.now) self.old.mail.seat.node result }
+        ensures reason { IfErr result (IsReasonFor (says_no (G.says gate.now)) self.new) }
     {
         if !gate.enter(self.mail.seat.node) {
             self.give_up(Cause::Held);

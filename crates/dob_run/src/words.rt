@@ -1,7 +1,7 @@
 // What a worker does with the words of the board besides its counts: the token and the halt.
 ghost use Rattle.std.specs.Prelude.{◌≡◌, ◌≢◌, ◌↔◌, ℕ, IsTrue, Some, None, true, false};
 ghost use Rattle.dob_board.specs.declared.halt.Halt.TheVariants.{Running, Ended};
-ghost use Rattle.dob_board.specs.Seats.{stand_of, MayEnd, KnewOwn};
+ghost use Rattle.dob_board.specs.Seats.{stand_of, MayEnd, KnewOwn, HearsHalt};
 ghost use Rattle.dob_run.specs.Mails.{AreOut, AreIn};
 ghost use Rattle.dob_run.specs.Keeps.{HasSameLinks};
 
@@ -69,6 +69,7 @@ impl Mail {
         ensures colour { self.new.seat.black ≡ self.old.seat.black }
         ensures stays { self.old.seat.halt ≢ Running → self.new.seat.halt ≡ self.old.seat.halt }
         ensures own { KnewOwn self.old.seat self.new.seat.halt }
+        ensures heard { HearsHalt self.old.seat self.new.seat self.new.seat.halt }
     {
         self.seat.halted()
     }

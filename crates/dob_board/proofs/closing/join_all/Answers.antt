@@ -1,7 +1,8 @@
 -- One seat less is left: the last one's stand comes before those of the rest, on the same board.
-use Rattle.std.proofs.Common.{map, ◌∙◌}
+use Rattle.std.proofs.Common.{map, ap, ◌∙◌}
 use Rattle.dob_board.specs.Seats.{stand_of}
-use Rattle.dob_board.proofs.Ends.{one_less}
+use Rattle.dob_board.proofs.Allowed.{Seated}
+use Rattle.dob_board.proofs.Ends.{last_seat, one_less, first_less}
 use Rattle.dob_board.proofs.closing.join_all.Goals as goal
 
 pub loop-seat-preserved : goal.loop-seat-preserved
@@ -13,4 +14,16 @@ loop-seat-preserved c =
           one_less c.args.rest.now.table_id c.args.nodes (map stand_of c.args.seats.items) c.loop-seat.seats.items c.pop.new.self.items c.in-Some.seat
           c.loop-seat.rest.me c.join_last.new.rest.me
           inv.left c.in-Some.ensures.items c.join_last.ensures.rest;
+      first = first_less c.args.seats.items c.loop-seat.seats.items c.pop.new.self.items c.in-Some.seat c.loop-seat.rest.me c.join_last.new.rest.me
+          inv.first c.in-Some.ensures.items (ap (λ (me : Seated). me.0.told) c.join_last.ensures.rest);
     }
+
+pub join_last-requires-clause-nodes : goal.join_last-requires-clause-nodes
+join_last-requires-clause-nodes c =
+    (last_seat c.args.rest.now.table_id c.args.nodes (map stand_of c.args.seats.items) c.loop-seat.seats.items c.pop.new.self.items c.in-Some.seat
+    c.loop-seat.rest.me c.loop-seat.invariant.left c.in-Some.ensures.items).0.nodes
+
+pub join_last-requires-clause-before : goal.join_last-requires-clause-before
+join_last-requires-clause-before c =
+    (last_seat c.args.rest.now.table_id c.args.nodes (map stand_of c.args.seats.items) c.loop-seat.seats.items c.pop.new.self.items c.in-Some.seat
+    c.loop-seat.rest.me c.loop-seat.invariant.left c.in-Some.ensures.items).1

@@ -1,31 +1,49 @@
--- A read keeps the rule and changes no view, and one word more is as the stands of all nodes say.
-use Rattle.std.proofs.Common.{rules, arith, ℕ, List, ap, subst, ◌∙◌}
+-- A read keeps the rule and closes the view, and one word more is as the stands of all nodes say.
+use Rattle.std.proofs.Common.{rules, arith, ℕ, List, length, [], refl, ap, subst, ◌∙◌}
 use Rattle.dob_board.specs.declared.view.Stand.{Stand}
 use Rattle.dob_board.specs.Boards.{IsWord}
 use Rattle.dob_board.proofs.Allowed.{Seated}
+use Rattle.dob_board.proofs.Done.{goes_on}
 use Rattle.dob_board.proofs.Ends.{reads_call, read_more}
 use Rattle.dob_board.proofs.closing.read_all.Goals as goal
+
+pub loop-word-init : goal.loop-word-init
+loop-word-init c = record {
+  of_board = refl;
+  size = c.requires.size;
+  from = c.requires.from;
+  stands = refl;
+  no_slot = c.requires.no_slot;
+  closed = λ some. absurd (omega (arith, some));
+  told = ([], refl);
+  long = refl;
+  read = λ w lt. absurd (omega (arith, lt));
+}
 
 pub load-requires : goal.load-requires
 load-requires c =
     let inv = c.loop-word.invariant in (
       search rules,
       rw (c.deref.ensures, c.requires.board) (omega (arith, inv.long, c.requires.room)),
-      reads_call _ c.args.nodes c.loop-word.word _ _ c.loop-word.rest.me (search rules)
-          (ap (λ (me : Seated). me.0.size) inv.same ∙ c.requires.size) (ap (λ (me : Seated). me.0.from) inv.same ∙ c.requires.from)
-          (ap (λ (me : Seated). me.1) inv.same ∙ c.requires.no_slot),
+      reads_call _ c.args.nodes c.loop-word.word _ _ c.loop-word.rest.me (search rules) inv.size inv.from
+          (ap (λ (stands : List Stand). length stands) inv.stands ∙ c.requires.all),
     )
 
 pub loop-word-preserved : goal.loop-word-preserved
 loop-word-preserved c =
     let inv = c.loop-word.invariant in
     let told = c.load.ensures.2 in
-    let found = told.1 (ap (λ (me : Seated). me.0.from) inv.same ∙ c.requires.from) in
-    let here = subst (λ (p : ℕ × List Stand). IsWord p.0 p.1 c.loop-word.word c.load.result)
-    (λ q. ((ap (λ (me : Seated). me.0.size) inv.same ∙ c.requires.size) q, ap (λ (me : Seated). me.0.stands) inv.same q)) found in
+    let here = subst (λ (p : ℕ × List Stand). IsWord p.0 p.1 c.load.new.seat.me.0.told c.loop-word.word c.load.result)
+    (λ q. (inv.size q, inv.stands q)) told.3 in
     record {
       of_board = c.load.ensures.0 ∙ inv.of_board;
-      same = told.0 ∙ inv.same;
+      size = ap (λ (me : Seated). me.0.size) told.0 ∙ inv.size;
+      from = ap (λ (me : Seated). me.0.from) told.0;
+      stands = ap (λ (me : Seated). me.0.stands) told.0 ∙ inv.stands;
+      no_slot = ap (λ (me : Seated). me.1) told.0 ∙ inv.no_slot;
+      closed = λ some. ap (λ (me : Seated). me.0.closed) told.0;
+      told = goes_on c.args.rest.now.me.0.told c.loop-word.rest.me.0.told c.load.new.seat.me.0.told inv.told told.2;
       long = search rules;
-      read = read_more c.args.nodes c.loop-word.word c.load.result c.args.rest.now.me.0.stands c.loop-word.words.items (search rules) inv.read here;
+      read = read_more c.args.nodes c.loop-word.word c.load.result c.args.rest.now.me.0.stands c.loop-word.rest.me.0.told c.load.new.seat.me.0.told
+          c.loop-word.words.items (search rules) (λ some. told.1 (inv.closed some)) inv.read here;
     }

@@ -1,12 +1,18 @@
--- The words below the index are read as the stands of all nodes say, and the rest's view is what it was.
-use Rattle.std.proofs.Common.{◌≡◌, ◌<◌, ℕ, get_or, vec_len}
+-- The words below the index are read as the stands of all nodes say, and the rest's view is of these, closed by the first.
+use Rattle.std.proofs.Common.{◌≡◌, ◌<◌, ℕ, [], true, get_or, vec_len}
 use Rattle.dob_board.specs.Boards.{IsWord}
+use Rattle.dob_board.specs.Histories.{GoesOn}
 use Rattle.dob_board.proofs.closing.read_all.Given as goal
 
 abbrev pub invariant-loop-word : goal.invariant-loop-word
 invariant-loop-word l = record {
   of_board : l.rest.table_id ≡ l.fn.rest.table_id;
-  same : l.rest.me ≡ l.fn.rest.me;
+  size : l.rest.me.0.size ≡ l.nodes;
+  from : l.rest.me.0.from ≡ 0;
+  stands : l.rest.me.0.stands ≡ l.fn.rest.me.0.stands;
+  no_slot : l.rest.me.1 ≡ [];
+  closed : 0 < l.word → l.rest.me.0.closed ≡ true;
+  told : GoesOn l.fn.rest.me.0.told l.rest.me.0.told;
   long : vec_len l.words ≡ vec_len l.fn.words;
-  read : (w : ℕ) → w < l.word → IsWord l.nodes l.fn.rest.me.0.stands w (get_or l.words.items w 0);
+  read : (w : ℕ) → w < l.word → IsWord l.nodes l.fn.rest.me.0.stands l.rest.me.0.told w (get_or l.words.items w 0);
 }

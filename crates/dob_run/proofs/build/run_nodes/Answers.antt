@@ -7,6 +7,7 @@ use Rattle.dob_pieces.specs.declared.piece_set.PieceSet.{PieceSet}
 use Rattle.dob_run.specs.Built.{IsBuilt}
 use Rattle.dob_run.specs.Finishing.{IsFailureOf, HaveStopped}
 use Rattle.dob_run.specs.Faults.{HasFault}
+use Rattle.dob_run.specs.Runners.{says_no}
 use Rattle.dob_run.specs.Turned.{StopsSo}
 use Rattle.dob_run.proofs.ByThreads.{still_crew, have_stopped, is_built, is_within, has_fault, is_stopped}
 use Rattle.dob_run.proofs.RunFaults.{unbegun_fault, unbegun_stops}
@@ -21,36 +22,36 @@ returns-in_err-classes-clause-fault g c =
 pub returns-in_err-classes-clause-stopped : goal.returns-in_err-classes-clause-stopped
 returns-in_err-classes-clause-stopped g c =
     let fault = c.in_err-classes.field-0.0 in
-    carried (StopsSo IsFailureOf c.args.set c.args.n c.args.batch c.args.capacity) c.from_residual.result fault c.from_residual.ensures.1
-    (unbegun_stops IsFailureOf c.args.set c.args.n c.args.batch c.args.capacity fault c.in_err-classes.ensures.fault)
+    carried (StopsSo IsFailureOf (says_no (g.G.Gate.says c.args.gate.now)) Stopped c.args.set c.args.n c.args.batch c.args.capacity) c.from_residual.result fault c.from_residual.ensures.1
+    (unbegun_stops IsFailureOf (says_no (g.G.Gate.says c.args.gate.now)) Stopped c.args.set c.args.n c.args.batch c.args.capacity fault c.in_err-classes.ensures.fault)
 
 pub finish-requires-clause-crew : goal.finish-requires-clause-crew
 finish-requires-clause-crew g c =
-    still_crew Stopped c.args.set c.args.n c.args.batch c.args.capacity c.in_ok-classes.board c.in_ok-classes.ended.items c.in_ok-classes.ensures.ran
+    still_crew (says_no (g.G.Gate.says c.args.gate.now)) Stopped c.args.set c.args.n c.args.batch c.args.capacity c.in_ok-classes.board c.in_ok-classes.ended.items c.in_ok-classes.ensures.ran
 
 pub finish-requires-clause-stopped : goal.finish-requires-clause-stopped
 finish-requires-clause-stopped g c = (
   c.args.batch,
   subst (λ (s : PieceSet). HaveStopped s c.args.batch c.in_ok-classes.ended.items) (sym c.in_ok-classes.ensures.set)
-  (have_stopped c.args.set c.args.n c.args.batch c.args.capacity c.in_ok-classes.board c.in_ok-classes.ended.items c.in_ok-classes.ensures.ran),
+      (have_stopped (says_no (g.G.Gate.says c.args.gate.now)) c.args.set c.args.n c.args.batch c.args.capacity c.in_ok-classes.board c.in_ok-classes.ended.items c.in_ok-classes.ensures.ran),
 )
 
 pub returns-clause-built : goal.returns-clause-built
 returns-clause-built g c =
-    is_built c.args.set c.args.n c.args.batch c.args.capacity c.in_ok-classes.board c.in_ok-classes.ended.items c.in_ok-classes.ensures.ran
+    is_built (says_no (g.G.Gate.says c.args.gate.now)) c.args.set c.args.n c.args.batch c.args.capacity c.in_ok-classes.board c.in_ok-classes.ended.items c.in_ok-classes.ensures.ran
     c.finish.result (subst (λ (s : PieceSet). IfOk c.finish.result (λ built. (m : ℕ) → HaveStopped s m c.in_ok-classes.ended.items → IsBuilt s c.in_ok-classes.board.nodes m built))
     c.in_ok-classes.ensures.set c.finish.ensures.built)
 
 pub returns-clause-within : goal.returns-clause-within
 returns-clause-within g c =
-    is_within Stopped c.args.set c.args.n c.args.batch c.args.capacity c.in_ok-classes.board c.in_ok-classes.ended.items c.in_ok-classes.ensures.ran c.finish.result
+    is_within (says_no (g.G.Gate.says c.args.gate.now)) Stopped c.args.set c.args.n c.args.batch c.args.capacity c.in_ok-classes.board c.in_ok-classes.ended.items c.in_ok-classes.ensures.ran c.finish.result
 
 pub returns-clause-fault : goal.returns-clause-fault
 returns-clause-fault g c =
-    has_fault c.args.set c.args.n c.args.batch c.args.capacity c.in_ok-classes.board c.in_ok-classes.ended.items c.in_ok-classes.ensures.ran
+    has_fault (says_no (g.G.Gate.says c.args.gate.now)) c.args.set c.args.n c.args.batch c.args.capacity c.in_ok-classes.board c.in_ok-classes.ended.items c.in_ok-classes.ensures.ran
     c.finish.result c.finish.ensures.failed
 
 pub returns-clause-stopped : goal.returns-clause-stopped
 returns-clause-stopped g c =
-    is_stopped c.args.set c.args.n c.args.batch c.args.capacity c.in_ok-classes.board c.in_ok-classes.ended.items c.in_ok-classes.ensures.ran
+    is_stopped (says_no (g.G.Gate.says c.args.gate.now)) c.args.set c.args.n c.args.batch c.args.capacity c.in_ok-classes.board c.in_ok-classes.ended.items c.in_ok-classes.ensures.ran
     c.finish.result c.finish.ensures.failed

@@ -46,7 +46,7 @@ returns g c =
     let joined : AreJoined n n parts.sends.items parts.takes.items links =
     subst (λ (k : ℕ). AreJoined k k parts.sends.items parts.takes.items links) (sends_len g here) c.in_ok-links.ensures in
     record {
-      words = subst (λ (seats : List NodeSeat). AreWords n seats c.close-closed.result.words.items) (parted g here).seats c.close-closed.ensures;
+      words = subst (λ (seats : List NodeSeat). AreWords n seats c.close-closed.result.words.items) (parted g here).seats c.close-closed.ensures.words;
       count = joined.count;
       links = links_are c.args.board c.args.mails.items parts c.requires (parted g here) links joined;
       sending = (parted g here).sending;

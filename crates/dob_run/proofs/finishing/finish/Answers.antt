@@ -11,20 +11,15 @@ use Rattle.dob_run.proofs.Stopping.{set_same, not_running, some_cause, is_failur
 use Rattle.dob_run.proofs.finishing.finish.Goals as goal
 use Rattle.dob_run.proofs.finishing.finish.Goals.{In_ok-nodes}
 
--- the halt word, as it was read
-word_is : (g : _) (c : In_ok-nodes g) (words : List ℕ) (k : ℕ) → words ≡ c.in_ok-nodes.ended.closed.words.items → slice_index words 2 ≡ k →
-    slice_index c.in_ok-nodes.ended.closed.words.items 2 ≡ k
-word_is g c words k same is = ap (λ (l : List ℕ). slice_index l 2) (sym same) ∙ is
-
 causes_are : (g : _) (c : In_ok-nodes g) → c.in_ok-causes.causes.items ≡ map failed_of c.args.runners.items
 causes_are g c = c.in_ok-causes.ensures ∙ ap (λ (l : List Runner). map failed_of l) c.deref.ensures.value
 
-pub failed_in-requires-clause-stopped : goal.failed_in-requires-clause-stopped
-failed_in-requires-clause-stopped g c = λ none.
-    let here = (goal.at.failed_in-requires-clause-stopped g c).In_ok-nodes in
+pub failed_in-requires : goal.failed_in-requires
+failed_in-requires g c = λ none.
+    let here = (goal.at.failed_in-requires g c).In_ok-nodes in
     let stopped = c.requires.stopped in
     not_running c.args.board c.args.classes.set stopped.0 c.args.runners.items c.in_ok-nodes.ended.closed.words.items c.requires.crew stopped.1 c.in_ok-nodes.ensures.ended.words
-    (word_is g here c.deref-3.result.now 0 c.deref-3.ensures.value none)
+    none
 
 pub cause_at-cause-requires : goal.cause_at-cause-requires
 cause_at-cause-requires g c =
@@ -32,7 +27,7 @@ cause_at-cause-requires g c =
     let stopped = c.requires.stopped in
     some_cause c.args.board c.args.classes.set stopped.0 c.args.runners.items c.in_ok-nodes.ended.closed.words.items c.requires.crew stopped.1 c.in_ok-nodes.ensures.ended.words
     c.deref-in-Some.result.now (c.deref-in-Some.ensures.value ∙ causes_are g here) c.in-Some.node
-    (word_is g here c.deref-3.result.now (2 + c.in-Some.node) c.deref-3.ensures.value c.in-Some.ensures)
+    c.in-Some.ensures
 
 pub returns-in-Some-clause-failed : goal.returns-in-Some-clause-failed
 returns-in-Some-clause-failed g c =
@@ -40,33 +35,33 @@ returns-in-Some-clause-failed g c =
     let stopped = c.requires.stopped in
     is_failure c.args.board c.args.classes.set stopped.0 c.args.runners.items c.in_ok-nodes.ended.closed.words.items c.requires.crew stopped.1 c.in_ok-nodes.ensures.ended.words
     c.deref-in-Some.result.now (c.deref-in-Some.ensures.value ∙ causes_are g here) c.in-Some.node
-    (word_is g here c.deref-3.result.now (2 + c.in-Some.node) c.deref-3.ensures.value c.in-Some.ensures) c.cause_at-cause.result c.cause_at-cause.ensures
+    c.in-Some.ensures c.cause_at-cause.result c.cause_at-cause.ensures
 
 pub returns-in-Err-clause-failed : goal.returns-in-Err-clause-failed
 returns-in-Err-clause-failed g c =
     let here = (goal.at.returns-in-Err-clause-failed g c).In_ok-nodes in
     let stopped = c.requires.stopped in
     late_failure c.args.board c.args.classes.set stopped.0 c.args.runners.items c.in_ok-nodes.ended.closed.words.items c.requires.crew stopped.1 c.in_ok-nodes.ensures.ended.words
-    (word_is g here c.deref-3.result.now 1 c.deref-3.ensures.value c.in_default.ensures) c.in-Err.fault
+    c.in_default.ensures c.in-Err.fault
     (subst (λ (l : List Runner). IsFirstFailed l c.in-Err.fault) c.deref-2.ensures.value c.in-Err.ensures.first)
 
 pub table_of-requires-clause-owners : goal.table_of-requires-clause-owners
 table_of-requires-clause-owners g c =
     let here = (goal.at.table_of-requires-clause-owners g c).In_ok-nodes in
     let stopped = c.requires.stopped in
-    let nodes = c.deref-4.result.now in
+    let nodes = c.deref-3.result.now in
     (owners_are c.args.board c.args.classes.set stopped.0 c.args.runners.items c.in_ok-nodes.ended.closed.words.items c.requires.crew stopped.1
-    c.in_ok-nodes.ensures.ended.words (word_is g here c.deref-3.result.now 1 c.deref-3.ensures.value c.in_default.ensures) nodes
-    (c.deref-4.ensures.value ∙ c.in_ok-nodes.ensures.nodes))
+    c.in_ok-nodes.ensures.ended.words c.in_default.ensures nodes
+    (c.deref-3.ensures.value ∙ c.in_ok-nodes.ensures.nodes))
 
 pub returns-clause-built : goal.returns-clause-built
 returns-clause-built g c = λ size stopped.
     let here = (goal.at.returns-clause-built g c).In_ok-nodes in
-    let nodes = c.deref-4.result.now in
+    let nodes = c.deref-3.result.now in
     built_is c.args.board c.args.classes.set size c.args.runners.items c.in_ok-nodes.ended.closed.words.items c.requires.crew stopped
-    c.in_ok-nodes.ensures.ended.words (word_is g here c.deref-3.result.now 1 c.deref-3.ensures.value c.in_default.ensures)
+    c.in_ok-nodes.ensures.ended.words c.in_default.ensures
     c.in_ok-nodes.ended refl c.in_ok-nodes.ensures.ended nodes _
-    (c.deref-4.ensures.value ∙ c.in_ok-nodes.ensures.nodes) c.in_ok-table.ensures.set
+    (c.deref-3.ensures.value ∙ c.in_ok-nodes.ensures.nodes) c.in_ok-table.ensures.set
     c.in_ok-table.ensures.values refl refl
 
 pub returns-clause-unfailed : goal.returns-clause-unfailed

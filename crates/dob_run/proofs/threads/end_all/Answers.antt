@@ -5,11 +5,11 @@ use Rattle.dob_run.proofs.Threaded.{going_begins, goes_on, all_went}
 use Rattle.dob_run.proofs.threads.end_all.Goals as goal
 
 pub loop-one-init : goal.loop-one-init
-loop-one-init g c = going_begins IsEndOf c.args.started.items _ _ c.into_iter-one-iterator.ensures.into_iter_gives.0 (search rules)
+loop-one-init g c = going_begins (IsEndOf g.G.Gate.says) c.args.started.items _ _ c.into_iter-one-iterator.ensures.into_iter_gives.0 (search rules)
 
 pub loop-one-preserved : goal.loop-one-preserved
 loop-one-preserved g c =
-    goes_on IsEndOf c.args.started.items _ _ _ _ c.in-Some.one c.end.result c.loop-one.invariant c.in-Some.ensures.steps.0 c.end.ensures c.in_ok-push.ensures.items
+    goes_on (IsEndOf g.G.Gate.says) c.args.started.items _ _ _ _ c.in-Some.one c.end.result c.loop-one.invariant c.in-Some.ensures.steps.0 c.end.ensures c.in_ok-push.ensures.items
 
 pub returns : goal.returns
-returns g c = all_went IsEndOf c.args.started.items _ c.loop-one.ended.items c.loop-one.invariant (search rules)
+returns g c = all_went (IsEndOf g.G.Gate.says) c.args.started.items _ c.loop-one.ended.items c.loop-one.invariant (search rules)

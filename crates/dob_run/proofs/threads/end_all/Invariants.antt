@@ -5,4 +5,4 @@ use Rattle.dob_run.proofs.Threaded.{AreGoing}
 use Rattle.dob_run.proofs.threads.end_all.Given as goal
 
 abbrev pub invariant-loop-one : goal.invariant-loop-one
-invariant-loop-one g l = AreGoing IsEndOf l.fn.started.items (into_iter_items l.one-iterator) l.ended.items
+invariant-loop-one g l = AreGoing (IsEndOf g.G.Gate.says) l.fn.started.items (into_iter_items l.one-iterator) l.ended.items

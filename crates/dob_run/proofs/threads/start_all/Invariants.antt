@@ -5,4 +5,4 @@ use Rattle.dob_run.proofs.Threaded.{AreGoing}
 use Rattle.dob_run.proofs.threads.start_all.Given as goal
 
 abbrev pub invariant-loop-runner : goal.invariant-loop-runner
-invariant-loop-runner g l = AreGoing (IsStartOf l.fn.until) l.fn.runners.items (into_iter_items l.runner-iterator) l.started.items
+invariant-loop-runner g l = AreGoing (IsStartOf g.G.Gate.says l.fn.gate l.fn.until) l.fn.runners.items (into_iter_items l.runner-iterator) l.started.items

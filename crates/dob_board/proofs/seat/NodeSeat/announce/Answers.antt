@@ -1,7 +1,8 @@
 -- Announcing keeps the rule: the seat makes the event, or finds the halt that came before, and holds what it found.
-use Rattle.std.proofs.Common.{rules, refl, arith, ◌∙◌}
+use Rattle.std.proofs.Common.{rules, refl, arith, ap, ◌∙◌}
+use Rattle.dob_board.specs.Words.{halt_word}
 use Rattle.dob_board.specs.Views.{stand_from}
-use Rattle.dob_board.proofs.Halting.{announces_call, announces_tell, found_done, knew_done, announced_done}
+use Rattle.dob_board.proofs.Halting.{announces_call, announces_tell, found_done, knew_done, announced_done, white_announced}
 use Rattle.dob_board.proofs.seat.NodeSeat.announce.Goals as goal
 
 pub compare_exchange-found-requires : goal.compare_exchange-found-requires
@@ -35,6 +36,14 @@ invariant_of-self c =
       few_taken = seat.few_taken;
       in_bounds = seat.in_bounds;
       halt_within = done.within;
+      white = λ ended. white_announced seat.nodes seat.node
+          (stand_from seat.posted.items seat.taken.items seat.seen.items seat.black seat.token seat.halt)
+          (stand_from seat.posted.items seat.taken.items seat.seen.items seat.black seat.token c.halt_of-self.result)
+          seat.seat.me.0.told c.compare_exchange-found.new.seat.me.0.told c.halt_of-self.result seat.halt seat.within
+          (announced_done seat.nodes seat.node c.compare_exchange-found.result seat.posted.items seat.taken.items seat.seen.items seat.black seat.token
+          seat.halt c.halt_of-self.result
+          seat.seat.me.0.told c.compare_exchange-found.new.seat.me.0.told told.2 told.3 (c.halt_of-self.ensures ∙ c.halt_after.ensures))
+          (ap halt_word ended);
       view_is = done.view_is;
     }
 

@@ -1,8 +1,9 @@
 -- To count a batch that was seen keeps the rule: the count stays in bounds, and the seat makes the event of a take.
-use Rattle.std.proofs.Common.{rules, arith}
+use Rattle.std.proofs.Common.{rules, arith, ap}
+use Rattle.dob_board.specs.Words.{halt_word}
 use Rattle.dob_board.specs.Views.{stand_from}
 use Rattle.dob_board.proofs.Allowed.{takes_call, same_default}
-use Rattle.dob_board.proofs.Done.{takes_done}
+use Rattle.dob_board.proofs.Done.{takes_done, takes_before}
 use Rattle.dob_board.proofs.Places.{taken_within}
 use Rattle.dob_board.proofs.seat.NodeSeat.count_taken.Goals as goal
 
@@ -46,6 +47,7 @@ invariant_of-self c =
       few_taken = done.few.taken;
       in_bounds = seat.in_bounds;
       halt_within = seat.halt_within;
+      white = λ ended. absurd (takes_before seat.nodes seat.node c.args.from _ _ seat.seat.me.0.told _ done.made (ap halt_word ended));
       view_is = done.view_is;
     }
 

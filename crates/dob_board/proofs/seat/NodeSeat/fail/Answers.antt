@@ -1,7 +1,9 @@
 -- A failure keeps the rule: the seat holds the halt that it finds, and to a black node that is no end.
-use Rattle.std.proofs.Common.{rules, refl, arith, ◌∙◌}
+use Rattle.std.proofs.Common.{◌≡◌, ◌+◌, rules, refl, arith, ◌∙◌, ap}
+use Rattle.dob_board.specs.Words.{halt_word, halt_after}
 use Rattle.dob_board.specs.Views.{stand_from}
-use Rattle.dob_board.proofs.Halting.{fails_call, fails_tell, found_done, black_hears, heard_halt}
+use Rattle.dob_board.specs.Histories.{HasHalt}
+use Rattle.dob_board.proofs.Halting.{fails_call, fails_tell, found_done, knew_end_done, white_heard, black_hears, heard_halt, halt_at, failed_answer}
 use Rattle.dob_board.proofs.seat.NodeSeat.fail.Goals as goal
 
 pub compare_exchange-found-requires : goal.compare_exchange-found-requires
@@ -22,6 +24,7 @@ invariant_of-self c =
     (omega arith) c.compare_exchange-found.ensures.2 in
     let done = found_done seat.nodes seat.node _ seat.posted.items seat.taken.items seat.seen.items seat.black seat.token seat.halt c.halt_of-self.result
     seat.seat.me.0.told c.compare_exchange-found.new.seat.me told.0 (c.halt_of-self.ensures ∙ c.halt_after.ensures) in
+    let found = halt_at c.compare_exchange-found.result in
     record {
       size = seat.size;
       within = seat.within;
@@ -35,6 +38,13 @@ invariant_of-self c =
       few_taken = seat.few_taken;
       in_bounds = seat.in_bounds;
       halt_within = done.within;
+      white = λ ended. white_heard seat.nodes seat.node
+          (stand_from seat.posted.items seat.taken.items seat.seen.items seat.black seat.token c.halt_of-self.result)
+          seat.seat.me.0.told c.compare_exchange-found.new.seat.me.0.told (HasHalt (halt_word found.0)) seat.within
+          (heard_halt seat.nodes seat.node _ _ seat.posted.items seat.taken.items seat.seen.items seat.black seat.token seat.halt
+          found.0 c.halt_of-self.result seat.seat.me.0.told c.compare_exchange-found.new.seat.me.0.told told.2 found.1
+          (c.halt_of-self.ensures ∙ c.halt_after.ensures))
+          (ap halt_word ended);
       view_is = done.view_is;
     }
 
@@ -54,17 +64,37 @@ returns-clause-heard c =
     let told = fails_tell seat.nodes seat.node c.compare_exchange-found.result _ seat.seat.me c.compare_exchange-found.new.seat.me
     (stand_from seat.posted.items seat.taken.items seat.seen.items seat.black seat.token seat.halt) seat.seat.me.0.told seat.view_is
     (omega arith) c.compare_exchange-found.ensures.2 in
-    heard_halt seat.nodes seat.node _ seat.posted.items seat.taken.items seat.seen.items seat.black seat.token seat.halt c.halt_of-self.result
-    seat.seat.me.0.told c.compare_exchange-found.new.seat.me.0.told told.1 (c.halt_of-self.ensures ∙ c.halt_after.ensures)
+    let found = halt_at c.compare_exchange-found.result in
+    let word_is : halt_word c.halt_of-self.result ≡ halt_after c.compare_exchange-found.result (2 + seat.node) =
+    c.halt_of-self.ensures ∙ c.halt_after.ensures in
+    record {
+      found = found.0;
+      heard = heard_halt seat.nodes seat.node _ _ seat.posted.items seat.taken.items seat.seen.items seat.black seat.token seat.halt
+          found.0 c.halt_of-self.result seat.seat.me.0.told c.compare_exchange-found.new.seat.me.0.told told.2 found.1
+          (c.halt_of-self.ensures ∙ c.halt_after.ensures);
+      answer = failed_answer seat.node c.compare_exchange-found.result found.0 c.halt_of-self.result found.1 word_is;
+    }
 
-pub returns-clause-black : goal.returns-clause-black
-returns-clause-black c =
+pub returns-clause-unannounced : goal.returns-clause-unannounced
+returns-clause-unannounced c =
     let seat = c.args.self.now in
     let told = fails_tell seat.nodes seat.node c.compare_exchange-found.result _ seat.seat.me c.compare_exchange-found.new.seat.me
     (stand_from seat.posted.items seat.taken.items seat.seen.items seat.black seat.token seat.halt) seat.seat.me.0.told seat.view_is
     (omega arith) c.compare_exchange-found.ensures.2 in
+    knew_end_done seat.node _ seat.posted.items seat.taken.items seat.seen.items seat.black seat.token seat.halt c.halt_of-self.result
+    told.1 (c.halt_of-self.ensures ∙ c.halt_after.ensures)
+
+pub returns-clause-black : goal.returns-clause-black
+returns-clause-black c black ended =
+    let seat = c.args.self.now in
+    let told = fails_tell seat.nodes seat.node c.compare_exchange-found.result _ seat.seat.me c.compare_exchange-found.new.seat.me
+    (stand_from seat.posted.items seat.taken.items seat.seen.items seat.black seat.token seat.halt) seat.seat.me.0.told seat.view_is
+    (omega arith) c.compare_exchange-found.ensures.2 in
+    let found = halt_at c.compare_exchange-found.result in
     black_hears seat.nodes seat.node
     (stand_from seat.posted.items seat.taken.items seat.seen.items seat.black seat.token c.halt_of-self.result)
-    seat.seat.me.0.told c.compare_exchange-found.new.seat.me.0.told c.halt_of-self.result seat.within
-    (heard_halt seat.nodes seat.node _ seat.posted.items seat.taken.items seat.seen.items seat.black seat.token seat.halt c.halt_of-self.result
-    seat.seat.me.0.told c.compare_exchange-found.new.seat.me.0.told told.1 (c.halt_of-self.ensures ∙ c.halt_after.ensures))
+    seat.seat.me.0.told c.compare_exchange-found.new.seat.me.0.told (HasHalt (halt_word found.0)) seat.within
+    (heard_halt seat.nodes seat.node _ _ seat.posted.items seat.taken.items seat.seen.items seat.black seat.token seat.halt
+    found.0 c.halt_of-self.result seat.seat.me.0.told c.compare_exchange-found.new.seat.me.0.told told.2 found.1
+    (c.halt_of-self.ensures ∙ c.halt_after.ensures))
+    black (ap halt_word ended)

@@ -1,7 +1,9 @@
 -- A look at the halt keeps the rule: what is found stays, is no end to a black node, and no own failure that is new.
-use Rattle.std.proofs.Common.{rules, refl, arith}
+use Rattle.std.proofs.Common.{rules, refl, arith, ap}
+use Rattle.dob_board.specs.Words.{halt_word}
 use Rattle.dob_board.specs.Views.{stand_from}
-use Rattle.dob_board.proofs.Halting.{halts_call, halts_tell, found_done, knew_done, black_hears, heard_halt}
+use Rattle.dob_board.specs.Histories.{HasHalt}
+use Rattle.dob_board.proofs.Halting.{halts_call, halts_tell, found_done, knew_done, knew_end_done, white_heard, black_hears, heard_halt}
 use Rattle.dob_board.proofs.seat.NodeSeat.halted.Goals as goal
 
 pub load-word-requires : goal.load-word-requires
@@ -36,6 +38,12 @@ invariant_of-self c =
       few_taken = seat.few_taken;
       in_bounds = seat.in_bounds;
       halt_within = done.within;
+      white = λ ended. white_heard seat.nodes seat.node
+          (stand_from seat.posted.items seat.taken.items seat.seen.items seat.black seat.token c.halt_of-self.result)
+          seat.seat.me.0.told c.load-word.new.seat.me.0.told (HasHalt (halt_word c.halt_of-self.result)) seat.within
+          (heard_halt seat.nodes seat.node _ _ seat.posted.items seat.taken.items seat.seen.items seat.black seat.token seat.halt
+          c.halt_of-self.result c.halt_of-self.result seat.seat.me.0.told c.load-word.new.seat.me.0.told told.3 c.halt_of-self.ensures c.halt_of-self.ensures)
+          (ap halt_word ended);
       view_is = done.view_is;
     }
 
@@ -55,8 +63,8 @@ returns-clause-heard c =
     let seat = c.args.self.now in
     let told = halts_tell seat.nodes seat.node c.load-word.result seat.seat.me c.load-word.new.seat.me
     (stand_from seat.posted.items seat.taken.items seat.seen.items seat.black seat.token seat.halt) seat.seat.me.0.told seat.view_is c.load-word.ensures.2 in
-    heard_halt seat.nodes seat.node c.load-word.result seat.posted.items seat.taken.items seat.seen.items seat.black seat.token seat.halt c.halt_of-self.result
-    seat.seat.me.0.told c.load-word.new.seat.me.0.told told.2 c.halt_of-self.ensures
+    heard_halt seat.nodes seat.node _ _ seat.posted.items seat.taken.items seat.seen.items seat.black seat.token seat.halt
+    c.halt_of-self.result c.halt_of-self.result seat.seat.me.0.told c.load-word.new.seat.me.0.told told.3 c.halt_of-self.ensures c.halt_of-self.ensures
 
 pub returns-clause-own : goal.returns-clause-own
 returns-clause-own c =
@@ -66,13 +74,22 @@ returns-clause-own c =
     knew_done seat.node c.load-word.result seat.posted.items seat.taken.items seat.seen.items seat.black seat.token seat.halt c.halt_of-self.result
     told.1 c.halt_of-self.ensures
 
+pub returns-clause-unannounced : goal.returns-clause-unannounced
+returns-clause-unannounced c =
+    let seat = c.args.self.now in
+    let told = halts_tell seat.nodes seat.node c.load-word.result seat.seat.me c.load-word.new.seat.me
+    (stand_from seat.posted.items seat.taken.items seat.seen.items seat.black seat.token seat.halt) seat.seat.me.0.told seat.view_is c.load-word.ensures.2 in
+    knew_end_done seat.node c.load-word.result seat.posted.items seat.taken.items seat.seen.items seat.black seat.token seat.halt c.halt_of-self.result
+    told.2 c.halt_of-self.ensures
+
 pub returns-clause-black : goal.returns-clause-black
-returns-clause-black c =
+returns-clause-black c black ended =
     let seat = c.args.self.now in
     let told = halts_tell seat.nodes seat.node c.load-word.result seat.seat.me c.load-word.new.seat.me
     (stand_from seat.posted.items seat.taken.items seat.seen.items seat.black seat.token seat.halt) seat.seat.me.0.told seat.view_is c.load-word.ensures.2 in
     black_hears seat.nodes seat.node
     (stand_from seat.posted.items seat.taken.items seat.seen.items seat.black seat.token c.halt_of-self.result)
-    seat.seat.me.0.told c.load-word.new.seat.me.0.told c.halt_of-self.result seat.within
-    (heard_halt seat.nodes seat.node _ seat.posted.items seat.taken.items seat.seen.items seat.black seat.token seat.halt c.halt_of-self.result
-    seat.seat.me.0.told c.load-word.new.seat.me.0.told told.2 c.halt_of-self.ensures)
+    seat.seat.me.0.told c.load-word.new.seat.me.0.told (HasHalt (halt_word c.halt_of-self.result)) seat.within
+    (heard_halt seat.nodes seat.node _ _ seat.posted.items seat.taken.items seat.seen.items seat.black seat.token seat.halt
+    c.halt_of-self.result c.halt_of-self.result seat.seat.me.0.told c.load-word.new.seat.me.0.told told.3 c.halt_of-self.ensures c.halt_of-self.ensures)
+    black (ap halt_word ended)

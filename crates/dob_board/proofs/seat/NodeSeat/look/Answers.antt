@@ -34,6 +34,7 @@ invariant_of-self c =
       few_taken = seat.few_taken;
       in_bounds = seat.in_bounds;
       halt_within = seat.halt_within;
+      white = seat.white;
       view_is = told.0;
     }
 

@@ -1,5 +1,5 @@
 -- The token passed has a word, and to store it keeps the rule and makes the event; one that comes again is in bounds.
-use Rattle.std.proofs.Common.{◌≡◌, ℤ, to_z, of_z, w64, rules, arith, ap, sym, subst, ◌∙◌, Option, false}
+use Rattle.std.proofs.Common.{◌≡◌, refl, ℤ, to_z, of_z, w64, rules, arith, ap, sym, subst, ◌∙◌, Option, false}
 use Rattle.std.proofs.lemmas.Int.{ints, to_z-of_z}
 use Rattle.dob_safra.specs.declared.token.Token.{Token}
 use Rattle.dob_safra.specs.declared.event.RingEvent.TheVariants.{Pass}
@@ -76,6 +76,7 @@ invariant_of-self c =
       in_bounds = λ known e. passed_bounds seat.nodes seat.node c.in-Some.token known (counter_of (stand_of seat)) seat.black seat.within
           (seat.in_bounds c.in-Some.token c.in-Some.is) (sym token_is ∙ e);
       halt_within = seat.halt_within;
+      white = λ ended. refl;
       view_is =
           told.0
           ∙ ap (λ (t : Option Token). seated seat.nodes seat.node

@@ -1,5 +1,5 @@
 -- To post a batch keeps the rule: the count stays in bounds, and the seat makes the event of a post.
-use Rattle.std.proofs.Common.{rules}
+use Rattle.std.proofs.Common.{◌≡◌, false, rules}
 use Rattle.dob_board.specs.Views.{stand_from}
 use Rattle.dob_board.proofs.Allowed.{posts_call}
 use Rattle.dob_board.proofs.Done.{posts_done}
@@ -13,7 +13,7 @@ fetch_add-requires c =
       rw (c.deref.ensures, seat.words, c.posted_index-word.ensures) (posted_within seat.nodes seat.node c.args.to seat.within c.requires.node),
       posts_call _ seat.nodes seat.node c.args.to _ _ _ _
           (stand_from seat.posted.items seat.taken.items seat.seen.items seat.black seat.token seat.halt) seat.seat.me.0.told
-          (search rules) seat.view_is c.posted_index-word.ensures c.requires.node c.requires.black c.requires.few,
+          (search rules) seat.view_is c.posted_index-word.ensures c.requires.node c.requires.other c.requires.black c.requires.few,
     )
 
 pub invariant_of-self : goal.invariant_of-self
@@ -36,6 +36,7 @@ invariant_of-self c =
       few_taken = seat.few_taken;
       in_bounds = seat.in_bounds;
       halt_within = seat.halt_within;
+      white = seat.white;
       view_is = done.view_is;
     }
 
@@ -47,3 +48,9 @@ returns-clause-event c =
     seat.posted.items seat.taken.items seat.seen.items seat.black seat.token seat.halt seat.seat.me.0.told
     seat.view_is c.posted_index-word.ensures seat.within c.requires.node (search rules) c.index_mut.ensures.value c.fetch_add.ensures.2 in
     done.made
+
+pub returns-clause-goes_on : goal.returns-clause-goes_on
+returns-clause-goes_on c ended =
+    let white : c.args.self.now.black ≡ false = c.args.self.now.white ended in
+    let black = c.requires.black in
+    cc

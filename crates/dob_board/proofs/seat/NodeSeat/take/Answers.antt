@@ -1,8 +1,9 @@
 -- A look that shows more than is taken, and then the count, take one batch.
-use Rattle.std.proofs.Common.{rules, arith, ap}
+use Rattle.std.proofs.Common.{rules, arith, ap, ◌∙◌}
 use Rattle.std.proofs.lemmas.Grind.{common_steps}
 use Rattle.dob_board.specs.declared.view.Stand.{Stand}
-use Rattle.dob_board.proofs.Done.{read_there}
+use Rattle.dob_board.specs.Words.{halt_word}
+use Rattle.dob_board.proofs.Done.{read_there, takes_before}
 use Rattle.dob_board.proofs.Takings.{take_one}
 use Rattle.dob_board.proofs.seat.NodeSeat.take.Goals as goal
 
@@ -17,3 +18,9 @@ returns-clause-ok c =
 
 pub count_taken-requires-clause-waiting : goal.count_taken-requires-clause-waiting
 count_taken-requires-clause-waiting c = grind (arith, common_steps)
+
+pub returns-clause-goes_on : goal.returns-clause-goes_on
+returns-clause-goes_on c ended =
+    let between = c.look-seen.new.self in
+    takes_before between.nodes between.node c.args.from _ _ _ _ c.count_taken.ensures.event
+    (ap (λ (s : Stand). s.halt) c.look-seen.ensures.noted ∙ ap halt_word ended)

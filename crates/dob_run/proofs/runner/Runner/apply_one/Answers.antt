@@ -1,8 +1,9 @@
 -- The runner stays lawful where its first own item is applied, and is as it was where it has none.
-use Rattle.std.proofs.Common.{Ok, ap, sym, subst, inl, inr}
+use Rattle.std.proofs.Common.{Ok, refl, ap, sym, subst, inl, inr}
 use Rattle.std.proofs.lemmas.Bool.{cases_Bool}
 use Rattle.dob_node.specs.declared.node.Node.{Node}
 use Rattle.dob_run.specs.Workers.{IsLawful}
+use Rattle.dob_run.proofs.Keeping.{links_kept, own_reason, fault_still}
 use Rattle.dob_run.proofs.Lawfuls.{applied_own}
 use Rattle.dob_run.proofs.runner.Runner.apply_one.Goals as goal
 
@@ -19,3 +20,13 @@ invariant_of-self c =
         | inr none_left ↦ subst (λ (n : Node). IsLawful r.set r.size n r.mail) (sym (c.in-Ok.ensures.nothing (ap Ok none_left))) law
       ]);
     }
+
+pub returns-in-Err : goal.returns-in-Err
+returns-in-Err c = record {
+  failed = record {
+    keeps = record { mail = links_kept c.args.self.now.mail c.fail.new.self c.fail.ensures.links; set = refl; size = refl };
+    cause = refl;
+    stopped = c.fail.ensures.stopped;
+  };
+  reason = own_reason _ c.in-Err.why (fault_still c.args.self.now.node c.apply_own.new.self c.in-Err.why c.in-Err.ensures.unchanged c.in-Err.ensures.stopped);
+}

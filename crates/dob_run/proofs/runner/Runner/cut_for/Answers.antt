@@ -1,14 +1,14 @@
 -- A node that cuts a batch was black and had cut fewer than 2^40; with the batch in the hand the runner is lawful.
-use Rattle.std.proofs.Common.{◌≡◌, ◌≢◌, ◌<◌, ◌^◌, ◌⊎◌, true, refl, ap, ◌∙◌, subst, inl, inr, arith, Ok, Err, Some, None, IfSome, Option, Result}
+use Rattle.std.proofs.Common.{◌≡◌, ◌<◌, ◌≤◌, ◌^◌, true, refl, sym, ap, ◌∙◌, subst, inl, inr, arith, Ok, Err, Some, None, IfSome, Option, Result}
 use Rattle.std.proofs.lemmas.Bool.{cases_Bool}
 use Rattle.dob_pieces.proofs.Elements.{some_at}
-use Rattle.dob_update.specs.Batches.{BatchView}
+use Rattle.dob_update.specs.Batches.{BatchView, OutboxView}
 use Rattle.dob_board.specs.declared.view.Stand.{Stand}
 use Rattle.dob_board.proofs.Halting.{same_halt}
 use Rattle.dob_node.specs.declared.cause.Cause.{Cause}
-use Rattle.dob_node.specs.declared.cause.Cause.TheVariants.{Counts, Memory, Held}
+use Rattle.dob_node.specs.declared.cause.Cause.TheVariants.{Counts}
 use Rattle.dob_node.specs.Nodes.{outbox_to, HasCut}
-use Rattle.dob_run.proofs.Keeping.{own_still, links_kept}
+use Rattle.dob_run.proofs.Keeping.{own_still, links_kept, cut_reason, outbox_still}
 use Rattle.dob_run.proofs.Lawfuls.{cut_one, few_cut}
 use Rattle.dob_run.proofs.runner.Runner.cut_for.Goals as goal
 
@@ -18,9 +18,8 @@ cut_none cut batch some none = absurd (cc)
 cut_counts : (cut : Option BatchView) (why : Cause) → (let given : Result (Option BatchView) Cause = Ok cut in given ≡ Err why) → ⊥
 cut_counts cut why is = absurd (cc)
 
-unheld : (why : Cause) → (why ≡ Counts) ⊎ (why ≡ Memory) → why ≢ Held
-unheld why (inl counts) held = absurd (cc)
-unheld why (inr memory) held = absurd (cc)
+abbrev err_of : Cause → Result (Option BatchView) Cause
+err_of why = Err why
 
 pub returns-in-Err : goal.returns-in-Err
 returns-in-Err c = record {
@@ -29,7 +28,16 @@ returns-in-Err c = record {
     cause = refl;
     stopped = c.fail.ensures.stopped;
   };
-  unheld = unheld c.in-Err.why c.in-Err.ensures.why;
+  reason = cut_reason _ c.in-Err.why
+      (λ counts. (let still = outbox_still c.args.self.now.node c.cut_for.new.self c.args.to c.in-Err.ensures.unchanged in
+      let full = c.in-Err.ensures.counts.0 (ap (λ (w : Cause). err_of w) counts) in
+      record {
+        to = c.args.to;
+        other = λ same. c.requires.other (same ∙ c.fail.ensures.links.seat.node);
+        left = λ none. full.0 (ap (λ (o : OutboxView). o.items) (sym still) ∙ none);
+        many = subst (λ (o : OutboxView). 2 ^ 40 ≤ o.next) (sym still) full.1;
+      }))
+      c.in-Err.ensures.why;
 }
 
 pub post-requires-clause-few : goal.post-requires-clause-few

@@ -1,10 +1,11 @@
 -- An expanded settlement leaves the runner lawful; one that fails finds no end, as its seat was black.
-use Rattle.std.proofs.Common.{◌≡◌, Bool, false, Result, Ok, Err, ap, sym, subst, inl, inr}
+use Rattle.std.proofs.Common.{◌≡◌, Bool, false, Result, Ok, Err, refl, ap, sym, subst, inl, inr}
 use Rattle.std.proofs.lemmas.Bool.{cases_Bool}
 use Rattle.dob_node.specs.declared.cause.Cause.{Cause}
 use Rattle.dob_node.specs.declared.node.Node.{Node}
 use Rattle.dob_run.specs.Workers.{IsLawful}
-use Rattle.dob_run.proofs.Keeping.{some_cause, failed_first}
+use Rattle.dob_run.proofs.Keeping.{links_kept, memory_reason, some_cause, failed_first}
+use Rattle.dob_run.specs.Runners.{no_gate}
 use Rattle.dob_run.proofs.Lawfuls.{expanded_one, busy_black}
 use Rattle.dob_run.proofs.runner.Runner.expand_one.Goals as goal
 
@@ -36,3 +37,13 @@ invariant_of-self c =
         | inr none_left ↦ subst (λ (n : Node). IsLawful r.set r.size n r.mail) (sym (c.in-Ok.ensures.nothing (ap Ok none_left))) law
       ]);
     }
+
+pub returns-in-Err : goal.returns-in-Err
+returns-in-Err c = record {
+  failed = record {
+    keeps = record { mail = links_kept c.args.self.now.mail c.fail.new.self c.fail.ensures.links; set = refl; size = refl };
+    cause = refl;
+    stopped = c.fail.ensures.stopped;
+  };
+  reason = memory_reason no_gate _ c.in-Err.why c.in-Err.ensures.memory;
+}

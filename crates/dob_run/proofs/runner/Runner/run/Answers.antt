@@ -1,10 +1,20 @@
--- Each turn finds the classes of the runner's piece set, and keeps the runner's place whatever its answer.
+-- Each turn finds the classes of the runner's piece set, and keeps the runner's place whatever its answer; one that fails has a reason.
 use Rattle.std.proofs.Common.{sym, ◌∙◌}
-use Rattle.dob_run.proofs.Keeping.{runner_trans, turn_keeps}
+use Rattle.dob_run.specs.Runners.{says_no}
+use Rattle.dob_run.proofs.Keeping.{runner_trans, runner_same, turn_keeps, turn_reasoned, reasoned_unfailed}
 use Rattle.dob_run.proofs.runner.Runner.run.Goals as goal
 
 pub turn-requires-clause-set : goal.turn-requires-clause-set
-turn-requires-clause-set g c = c.requires ∙ sym c.loop.invariant.set
+turn-requires-clause-set g c = c.requires.set ∙ sym c.loop.invariant.keeps.set
+
+pub loop-init : goal.loop-init
+loop-init g c = record {
+  keeps = runner_same c.args.self.now;
+  reasoned = reasoned_unfailed (says_no (g.G.Gate.says c.args.gate.now)) c.args.self.now c.requires.unfailed;
+}
 
 pub loop-preserved : goal.loop-preserved
-loop-preserved g c = runner_trans c.args.self.now c.loop.self c.turn.new.self c.loop.invariant (turn_keeps c.loop.self c.turn.new.self c.turn.result c.turn.ensures.turned)
+loop-preserved g c = record {
+  keeps = runner_trans c.args.self.now c.loop.self c.turn.new.self c.loop.invariant.keeps (turn_keeps c.loop.self c.turn.new.self c.turn.result c.turn.ensures.turned);
+  reasoned = turn_reasoned (says_no (g.G.Gate.says c.args.gate.now)) c.loop.self c.turn.new.self c.turn.result c.turn.ensures.turned c.turn.ensures.reason;
+}

@@ -1,14 +1,16 @@
 -- The runner is lawful whether no batch came or one was applied; a refused one blackened its seat before any end.
-use Rattle.std.proofs.Common.{◌≡◌, ℕ, true, refl, sym, ap, ◌∙◌, ◌++◌, inl}
+use Rattle.std.proofs.Common.{◌≡◌, ℕ, true, refl, sym, ap, subst, ◌∙◌, ◌++◌, inl}
 use Rattle.std.specs.Prelude.{slice_get}
 use Rattle.dob_board.specs.declared.view.Stand.{Stand}
 use Rattle.dob_board.specs.Seats.{TakesOne}
+use Rattle.dob_board.specs.declared.seat.NodeSeat.{NodeSeat}
+use Rattle.dob_run.specs.Batches.{IsBatchFor}
 use Rattle.dob_run.specs.declared.hands.Inlet.{Inlet}
 use Rattle.dob_run.specs.declared.mail.Mail.{Mail}
 use Rattle.dob_run.specs.Links.{worked, KeepsInlet}
 use Rattle.dob_run.specs.Mails.{HasChangedOne}
 use Rattle.dob_run.specs.Workers.{items_worked}
-use Rattle.dob_run.proofs.Keeping.{mail_trans, links_kept, own_still, some_cause, failed_first, reason_unheld}
+use Rattle.dob_run.proofs.Keeping.{mail_trans, links_kept, own_still, some_cause, failed_first, refused_reason}
 use Rattle.dob_run.proofs.Applied.{worked_again, worked_else, worked_more}
 use Rattle.dob_run.proofs.Lawfuls.{recoloured, same_inlets, applied_batch}
 use Rattle.dob_run.proofs.runner.Runner.take_from.Goals as goal
@@ -91,5 +93,23 @@ returns g c =
         cause = refl;
         stopped = c.fail.ensures.stopped;
       };
-      unheld = reason_unheld c.in-Err.ensures.stopped.item c.in-Err.ensures.stopped.after c.in-Err.why c.in-Err.ensures.stopped.reason;
+      reason = refused_reason _ c.in-Err.why (record {
+        was = r;
+        going = c.requires.unfailed;
+        kept = record {
+          mail = mail_trans r.mail c.accept.new.self c.fail.new.self (mail_trans r.mail c.receive.new.self c.accept.new.self c.receive.ensures.keeps c.accept.ensures.keeps)
+              (links_kept c.accept.new.self c.fail.new.self c.fail.ensures.links);
+          set = refl;
+          size = refl;
+        };
+        from = c.args.from;
+        other = c.if-from-self.false;
+        batch = c.in-Some.batch;
+        fits = subst (λ (s : NodeSeat). IsBatchFor r.set s.nodes c.args.from s.node c.in-Some.batch) c.receive.ensures.seat c.in-Some.ensures.fit;
+        came = (let one = c.in-Some.ensures.worked in
+            same_inlets c.accept.new.self c.fail.new.self c.fail.ensures.links.inlets c.args.from
+            ∙ worked_more c.receive.new.self.inlets.items c.accept.new.self.inlets.items c.args.from one.0 one.1 c.in-Some.batch one.2 one.4 one.3.1
+            ∙ ap (λ xs. xs ++ c.in-Some.batch.items) (received r.mail c.receive.new.self c.args.from c.receive.ensures.worked c.args.from));
+        before = c.in-Err.ensures.before;
+      });
     }

@@ -1,0 +1,72 @@
+// Which word of a board is which, and what the halt's says.
+ghost use Rattle.std.specs.Prelude.{◌≡◌, ◌≤◌, ◌<◌};
+ghost use Rattle.dob_board.specs.Words.{posted_word, taken_word, word_count, halt_word, halt_after};
+
+use crate::Halt;
+
+// The word of the number of nodes.
+pub(crate) const NODES: usize = 0;
+
+// The word of the token.
+pub(crate) const TOKEN: usize = 1;
+
+// The word of the halt.
+pub(crate) const HALT: usize = 2;
+
+// The words before the counts.
+const COUNTS: usize = 3;
+
+// The halt where the run goes on.
+pub(crate) const RUNNING: u64 = 0;
+
+// The halt where its end was announced.
+pub(crate) const ENDED: u64 = 1;
+
+// The halt where node 0 failed it; those of the others come behind.
+pub(crate) const FAILED: u64 = 2;
+
+/// How many words a board of so many nodes has.
+pub(crate) fn word_count(nodes: usize) -> usize
+    requires { nodes ≤ 16 }
+    ensures { result ≡ word_count nodes }
+{
+    COUNTS + 2 * nodes * nodes
+}
+
+/// The word of what node `from` posted to node `to`, of so many nodes.
+pub(crate) fn posted_index(nodes: usize, from: usize, to: usize) -> usize
+    requires few { nodes ≤ 16 }
+    requires from { from < nodes }
+    requires to { to < nodes }
+    ensures { result ≡ posted_word nodes from to }
+{
+    COUNTS + (from * nodes + to)
+}
+
+/// The word of what node `to` took of node `from`.
+pub(crate) fn taken_index(nodes: usize, from: usize, to: usize) -> usize
+    requires few { nodes ≤ 16 }
+    requires from { from < nodes }
+    requires to { to < nodes }
+    ensures { result ≡ taken_word nodes from to }
+{
+    COUNTS + (nodes * nodes + (from * nodes + to))
+}
+
+/// The halt of the word.
+pub(crate) fn halt_of(word: u64) -> Halt
+    ensures { halt_word result ≡ word }
+{
+    match word {
+        RUNNING => Halt::Running,
+        ENDED => Halt::Ended,
+        _ => Halt::Failed((word - FAILED) as usize),
+    }
+}
+
+/// The halt word after it was found as it was and, if the run went on, exchanged for the mark.
+pub(crate) fn halt_after(found: u64, mark: u64) -> u64
+    ensures { result ≡ halt_after found mark }
+{
+    if found == RUNNING { mark } else { found }
+}
