@@ -57,6 +57,9 @@ impl<'a, R: Clock> Watch<'a, R> {
 }
 
 impl<R: Clock> Gate for Watch<'_, R> {
+    // It may answer both.
+    ghost says = { λ _ _ _. Unit {0} };
+
     fn enter(&self, _node: usize) -> bool {
         let gone = self.gone();
         self.turns.fetch_add(1, Ordering::SeqCst);

@@ -42,9 +42,13 @@ fn keeps_file<S: Shelf>(rt: &impl Abort, shelf: &mut S, name: &str, bytes: &[u8]
 fn leaves_file<R: Abort + Files>(rt: &R, shelf: &mut DiskShelf<'_, R>) {
     keeps_file(rt, shelf, NAME, b"kept");
     let mut sink = shelf.make(NAME).expect(rt, "a file on the disk");
-    assert!(rt; put_all(&mut sink, b"new").is_ok() && has(shelf, NAME, b"kept") && has(shelf, PART, b"new"));
+    assert!(rt;
+        put_all(&mut sink, b"new").is_ok() && has(shelf, NAME, b"kept") && has(shelf, PART, b"new")
+    );
     shelf.discard(NAME, sink);
-    assert!(rt; has(shelf, NAME, b"kept") && shelf.find(PART).is_none() && has(shelf, OTHER, b"other"));
+    assert!(rt;
+        has(shelf, NAME, b"kept") && shelf.find(PART).is_none() && has(shelf, OTHER, b"other")
+    );
 }
 
 // Files are found as they were kept, also one that is kept again, and the other one stays.

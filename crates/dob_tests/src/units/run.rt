@@ -93,6 +93,9 @@ impl Meeting {
 }
 
 impl Gate for Meeting {
+    // It may answer both.
+    ghost says = { λ _ _ _. Unit {0} };
+
     fn enter(&self, node: usize) -> bool {
         let (mine, other) = if node == 0 {
             (&self.first, &self.second)
@@ -124,6 +127,9 @@ const HELD: Fault = Fault::Stopped {
 };
 
 impl Gate for FirstAlone {
+    // It may answer both.
+    ghost says = { λ _ _ _. Unit {0} };
+
     fn enter(&self, node: usize) -> bool {
         node == 0
     }
