@@ -1,5 +1,5 @@
 // Runners that are turned by hand, one after the other, in one thread.
-ghost use Rattle.std.specs.Prelude.{◌≡◌, IfOk, ◌∷◌, []};
+ghost use Rattle.std.specs.Prelude.{◌≡◌, IfOk, OnOk, None, ◌∷◌, []};
 ghost use Rattle.dob_rank.specs.Limits.{IsSmall};
 ghost use Rattle.dob_run.specs.Manned.{IsNewCrew};
 ghost use Rattle.dob_run.specs.Runners.{KeepsRunner};
@@ -51,32 +51,36 @@ fn turn_once<G: Gate>(
     requires { classes.now.set ≡ runner.old.set }
     ensures keeps { KeepsRunner runner.old runner.new }
     ensures set { classes.now.set ≡ runner.new.set }
+    ensures going { OnOk result (runner.new.failed ≡ None) }
 {
     assert!(rt; !runner.stopped());
     runner.turn(rt, classes, gate)
 }
 
-// Turns the two runners one after the other, until the first one's turn announces the end. The other one was turned once less.
+// Turns the two runners one after the other, until the first one's turn announces the end: the answer is what it answered. The other
+// one was turned once less.
 fn turn_to_the_end(
     rt: &(impl Wait + Abort),
     first: &mut Runner,
     second: &mut Runner,
     classes: &Classes,
-)
+) -> Result<Halt, Cause>
     requires first { classes.now.set ≡ first.old.set }
     requires second { classes.now.set ≡ second.old.set }
     ensures first { KeepsRunner first.old first.new }
     ensures second { KeepsRunner second.old second.new }
     ensures set { classes.now.set ≡ second.new.set }
+    ensures going { OnOk result (first.new.failed ≡ None) }
 {
     for _ in 0..20_000 {
         let halt = turn_once(rt, first, classes, &Free);
         if halt == Ok(Halt::Ended) {
-            return;
+            return halt;
         }
         assert!(rt; halt == Ok(Halt::Running));
         assert!(rt; turn_once(rt, second, classes, &Free) == Ok(Halt::Running));
     }
+    Err(Cause::Held)
 }
 
 // Whether each of two nodes has sent ten batches or more to the other.
@@ -87,9 +91,9 @@ fn has_sent(built: &Built) -> bool {
 #[test]
 fn turned_by_hand(rt: HostRuntime) -> Result<(), Fail> {
     let (classes, board, mut first, mut second) = two_runners(&rt, rt.alloc());
-    turn_to_the_end(&rt, &mut first, &mut second, &classes);
-    assert!(rt; turn_once(&rt, &mut second, &classes, &Free) == Ok(Halt::Ended));
-    assert!(rt; first.stopped() && second.stopped());
+    turn_to_the_end(&rt, &mut first, &mut second, &classes).expect(&rt, "an end");
+    let last = turn_once(&rt, &mut second, &classes, &Free).expect(&rt, "a turn");
+    assert!(rt; last == Halt::Ended && first.stopped() && second.stopped());
     let runners = both(rt.alloc(), first, second)?;
     let built = finish(&rt, rt.alloc(), classes, board, runners).expect(&rt, "a table");
     assert!(rt; is_done(&built, 2) && is_table_of_lions(&built.table) && has_sent(&built));
@@ -165,7 +169,7 @@ fn held_after_three_turns(rt: HostRuntime) {
 #[test]
 fn held_after_the_end(rt: HostRuntime) {
     let (classes, _board, mut first, mut second) = two_runners(&rt, rt.alloc());
-    turn_to_the_end(&rt, &mut first, &mut second, &classes);
+    turn_to_the_end(&rt, &mut first, &mut second, &classes).expect(&rt, "an end");
     let held = Err(Cause::Held);
     answers(&rt, &mut second, &classes, &Counting::new(0), held);
 }

@@ -1,5 +1,10 @@
 -- A turn keeps the runner's place in its crew, and its set, which is still that of the classes.
-use Rattle.std.proofs.Common.{sym, ◌∙◌}
+use Rattle.std.proofs.Common.{◌≡◌, Result, Ok, Err, None, sym, ◌∙◌}
+use Rattle.std.specs.Prelude.{MatchResult, OnOk}
+use Rattle.dob_board.specs.declared.halt.Halt.{Halt}
+use Rattle.dob_node.specs.declared.cause.Cause.{Cause}
+use Rattle.dob_run.specs.declared.runner.Runner.{Runner}
+use Rattle.dob_run.specs.Runners.{HasTurned, HasFailed}
 use Rattle.dob_run.proofs.Keeping.{turn_keeps}
 use Rattle.dob_tests.proofs.units.run.turns.turn_once.Goals as goal
 
@@ -9,3 +14,11 @@ returns-clause-keeps g c = turn_keeps c.args.runner.now c.turn.new.self c.turn.r
 pub returns-clause-set : goal.returns-clause-set
 returns-clause-set g c =
     c.requires ∙ sym (turn_keeps c.args.runner.now c.turn.new.self c.turn.result c.turn.ensures.turned).set
+
+-- a turn that is answered is one of a runner that hasn't failed
+still_going : (old new : Runner) (result : Result Halt Cause) → MatchResult result (HasTurned old new) (HasFailed old new) → OnOk result (new.failed ≡ None)
+still_going old new (Ok halt) turned = turned.unfailed
+still_going old new (Err why) failed = tt
+
+pub returns-clause-going : goal.returns-clause-going
+returns-clause-going g c = still_going c.args.runner.now c.turn.new.self c.turn.result c.turn.ensures.turned
