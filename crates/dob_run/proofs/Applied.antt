@@ -1,6 +1,6 @@
 -- What a node has applied from each node, after each step of its worker.
 use Rattle.std.proofs.Common.{◌≡◌, ◌≢◌, ℕ, zero, suc, ◌-◌, eqb, cond, sym, ap, ◌∙◌, subst, arith, List, [], ◌∷◌, ◌++◌}
-use Rattle.std.proofs.Common.{length, length-append, length-drop, take, drop, set, Some, inl, inr}
+use Rattle.std.proofs.Common.{length, length-append, length-drop, take, drop, Some, inl, inr}
 use Rattle.std.proofs.lemmas.Bool.{eq-eqb, ne_eqb, cases_eq}
 use Rattle.std.proofs.lemmas.List.{take-append-le}
 use Rattle.std.specs.Prelude.{slice_get, slice_set}

@@ -32,7 +32,7 @@ use Rattle.dob_run.specs.declared.runner.Runner.{Runner}
 use Rattle.dob_run.specs.Links.{KeepsOutlet, KeepsInlet}
 use Rattle.dob_run.specs.Mails.{KeepsEach, AreOut}
 use Rattle.dob_run.specs.Keeps.{KeepsMail, HasSameLinks}
-use Rattle.dob_run.specs.Runners.{KeepsRunner, GoesOn, HasFailed, HasBroken, HasTurned, HasRefused, HasCutAll, IsReasonFor, IsReasoned, IsAsked, no_gate, Steps}
+use Rattle.dob_run.specs.Runners.{KeepsRunner, GoesOn, HasFailed, HasBroken, HasTurned, HasRefused, HasCutAll, IsReasonFor, IsReasoned, IsAsked, no_gate, StepsBy, Steps}
 use Rattle.dob_run.proofs.Counted.{there_set}
 
 -- ---- lists of batches
@@ -235,12 +235,16 @@ out_still old new nodes each out j after at =
     each j before.0 after before.1 at (out j before.0 before.1)
 
 -- a failure that is handed on
-pub carried_on : {A : Type 0} (a b c : Runner) (r : Result A Cause) (why : Cause) → IsErrAnd r (λ given. given ≡ why) → KeepsRunner a b → HasBroken b c why →
-    Steps a c r
-carried_on a b c r why is kept broken =
+pub broken_on : {A : Type 0} (Did : Runner → Runner → A → Type 0) (a b c : Runner) (r : Result A Cause) (why : Cause) → IsErrAnd r (λ given. given ≡ why) →
+    KeepsRunner a b → HasBroken b c why → StepsBy Did a c r
+broken_on {A} Did a b c r why is kept broken =
     let given = err_from_is_err_and r is in
     let now : HasBroken a c why = record { failed = failed_after a b c why kept broken.failed; reason = broken.reason } in
-    subst (λ s. Steps a c s) (sym given.1) (subst (HasBroken a c) (sym given.2) now)
+    subst (λ (s : Result A Cause). StepsBy Did a c s) (sym given.1) (subst (HasBroken a c) (sym given.2) now)
+
+pub carried_on : {A : Type 0} (a b c : Runner) (r : Result A Cause) (why : Cause) → IsErrAnd r (λ given. given ≡ why) → KeepsRunner a b → HasBroken b c why →
+    Steps a c r
+carried_on {A} a b c r why is kept broken = broken_on (λ (before after : Runner) (answer : A). GoesOn before after) a b c r why is kept broken
 
 -- and it isn't that a gate held the runner back
 pub unheld_on : {A L : Type 0} (r : Result A Cause) (why : Cause) → IsErrAnd r (λ given. given ≡ why) → why ≢ Held → r ≡ Err Held → L

@@ -14,6 +14,7 @@ pub mod Needed  -- enough batches were cut for what the classes have to tell
 pub mod Applied  -- what a node has applied from each node, after each step
 pub mod Keeping  -- what links, mails and runners keep, through each step
 pub mod Lawfuls  -- each step of a worker leaves it lawful
+pub mod Turning  -- what the parts of a turn do, by what their steps do
 -- The channels and mails of a crew.
 pub mod Laying  -- channels laid one by one
 pub mod Seated  -- seats that get their links one by one, and their mails then

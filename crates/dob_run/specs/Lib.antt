@@ -14,10 +14,12 @@ pub mod Mails
 pub mod Manned
 pub mod Opening
 pub mod Props
+pub mod Rounds
 pub mod Rows
 pub mod Runners
 pub mod Seating
 pub mod Started
+pub mod Tokens
 pub mod Turned
 pub mod Turns
 pub mod Workers

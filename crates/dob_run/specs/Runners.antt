@@ -1,5 +1,5 @@
 -- Runners, and what their steps make of them.
-use Rattle.std.specs.Prelude.{◌≡◌, ◌≢◌, ◌↔◌, ◌⊎◌, ⊤, ℕ, ◌^◌, ◌≤◌, ◌++◌, List, [], Bool, Some, None, Ok, Err, Result, MatchResult, true, false, slice_get}
+use Rattle.std.specs.Prelude.{◌≡◌, ◌≢◌, ◌↔◌, ◌⊎◌, ⊤, ℕ, ◌^◌, ◌≤◌, ◌++◌, List, [], Bool, Some, None, Err, Result, MatchResult, true, false, slice_get}
 use Rattle.dob_pieces.specs.declared.piece_set.PieceSet.{PieceSet}
 use Rattle.dob_share.specs.declared.opening.Opening.{Opening}
 use Rattle.dob_board.specs.declared.halt.Halt.{Halt}
@@ -111,9 +111,13 @@ pub record HasTurned (old new : Runner) (halt : Halt) : Type 0 where
   pub heard : HearsHalt old.mail.seat looked looked.halt
   pub first : looked.halt ≢ Running → halt ≡ looked.halt
 
--- a step of a runner: it goes on or its node has failed
+-- a step of a runner: it has done that and answers so, or its node has failed
+abbrev pub StepsBy : {A : Type 0} → (Runner → Runner → A → Type 0) → Runner → Runner → Result A Cause → Type 0
+StepsBy {A} Did old new result = MatchResult result (λ answer. Did old new answer) (λ why. HasBroken old new why)
+
+-- or it has done something
 abbrev pub Steps : {A : Type 0} → Runner → Runner → Result A Cause → Type 0
-Steps {A} old new result = MatchResult result (λ _. GoesOn old new) (λ why. HasBroken old new why)
+Steps {A} old new result = StepsBy (λ (before after : Runner) (answer : A). GoesOn before after) old new result
 
 -- The runner has nothing to expand, to apply or to send, and no batch in a hand.
 pub record IsAtRest (runner : Runner) : Type 0 where

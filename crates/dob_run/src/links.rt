@@ -1,5 +1,5 @@
 // What a worker does with its ends: it holds and offers batches, and receives and releases them.
-ghost use Rattle.std.specs.Prelude.{◌≡◌, ◌≢◌, ◌≤◌, ◌⊎◌, IsTrue, true, false, None, Some, ◌∷◌, [], ◌++◌, length, MatchOption};
+ghost use Rattle.std.specs.Prelude.{◌≡◌, ◌≢◌, ◌↔◌, ◌≤◌, ◌⊎◌, IsTrue, true, false, None, Some, ◌∷◌, [], ◌++◌, length, MatchOption};
 ghost use Rattle.dob_chan.specs.Channels.{most_batches};
 ghost use Rattle.dob_update.specs.Batches.{BatchView};
 ghost use Rattle.dob_chan.specs.Ends.{sent_by, taken_by};
@@ -77,7 +77,7 @@ impl Inlet {
     /// Whether the hand has a batch that the node `from` cut for the node `to` of that piece set, one of `n`, with items that
     /// such a node can work in. Any other batch is none of the node's.
     pub fn holds_for(&self, set: PieceSet, n: usize, from: usize, to: usize) -> bool
-        ensures { IsTrue result → (batch : BatchView) × (self.now.hand ≡ Some batch) × IsBatchFor set n from to batch }
+        ensures { IsTrue result ↔ ((batch : BatchView) × (self.now.hand ≡ Some batch) × IsBatchFor set n from to batch) }
     {
         match &self.hand {
             Some(batch) => is_for(batch, set, n, from, to),

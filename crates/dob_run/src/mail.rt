@@ -71,6 +71,7 @@ impl Mail {
     /// Whether a batch lies in the hand for the node `to`.
     pub fn is_full(&self, to: usize) -> bool
         requires { to < self.now.seat.nodes }
+        ensures full { result ≡ true → (outlet : Outlet) → slice_get self.now.outlets.items to ≡ Some outlet → outlet.hand ≢ None }
         ensures empty { result ≡ false → (outlet : Outlet) → slice_get self.now.outlets.items to ≡ Some outlet → outlet.hand ≡ None }
     {
         self.outlets[to].is_full()

@@ -1,14 +1,15 @@
 // What a runner does where a turn had no work: if it is idle and has the token it passes it, or announces the end; and else
 // it pauses.
-ghost use Rattle.std.specs.Prelude.{◌≡◌, IsTrue, None};
+ghost use Rattle.std.specs.Prelude.{◌≡◌, ◌↔◌, IsTrue, None};
 ghost use Rattle.dob_run.specs.Runners.{GoesRound, IsAtRest};
+ghost use Rattle.dob_run.specs.Tokens.{MovesToken};
 
 use crate::runner::Runner;
 
 impl Runner {
     /// Whether it has nothing to expand, to apply or to send, and no batch in a hand.
     pub(crate) fn is_idle(&self) -> bool
-        ensures { IsTrue result → IsAtRest self.now }
+        ensures { IsTrue result ↔ IsAtRest self.now }
     {
         if !self.node.is_idle() {
             return false;
@@ -44,7 +45,8 @@ impl Runner {
     fn move_token(&mut self) -> bool
         requires unfailed { self.old.failed ≡ None }
         requires idle { IsAtRest self.old }
-        ensures { GoesRound self.old self.new }
+        ensures goes { GoesRound self.old self.new }
+        ensures moves { MovesToken self.old.mail.seat self.new.mail.seat result }
     {
         if !self.mail.finds_token() {
             return false;

@@ -1,6 +1,7 @@
 // The rounds of a runner's turn: over all nodes, and over what there is to expand and to apply.
-ghost use Rattle.std.specs.Prelude.{◌≡◌, None};
-ghost use Rattle.dob_run.specs.Runners.{Steps};
+ghost use Rattle.std.specs.Prelude.{◌≡◌, ◌↔◌, ◌<◌, IsTrue, None};
+ghost use Rattle.dob_run.specs.Runners.{Steps, StepsBy};
+ghost use Rattle.dob_run.specs.Rounds.{HoldsUp, IsHeldUp, ExpandsSome, AppliesAll};
 
 use crate::runner::Runner;
 use dob_node::Cause;
@@ -25,40 +26,38 @@ impl Runner {
     pub(crate) fn expand_all(&mut self, classes: &Classes) -> Result<bool, Cause>
         requires unfailed { self.old.failed ≡ None }
         requires set { classes.now.set ≡ self.old.set }
-        ensures { Steps self.old self.new result }
+        ensures { StepsBy ExpandsSome self.old self.new result }
     {
         if self.is_held_up() {
             return Ok(false);
         }
         let enough = self.left().saturating_add(self.size);
-        let mut expanded = false;
+        let any = self.expand_one(classes)?;
+        if !any {
+            return Ok(false);
+        }
         for _ in 0..u64::MAX {
             if self.left() >= enough {
-                return Ok(expanded);
+                return Ok(true);
             }
             let more = self.expand_one(classes)?;
             if !more {
-                return Ok(expanded);
+                return Ok(true);
             }
-            expanded = true;
         }
-        Ok(expanded)
+        Ok(true)
     }
 
     /// Applies all own items. Whether there was any.
     pub(crate) fn apply_all(&mut self) -> Result<bool, Cause>
         requires { self.old.failed ≡ None }
-        ensures { Steps self.old self.new result }
+        ensures { StepsBy AppliesAll self.old self.new result }
     {
-        let mut applied = false;
-        for _ in 0..u64::MAX {
-            let more = self.apply_one()?;
-            if !more {
-                return Ok(applied);
-            }
-            applied = true;
+        let count = self.node.left_for_itself();
+        for _ in 0..count {
+            self.apply_one()?;
         }
-        Ok(applied)
+        Ok(count > 0)
     }
 
     /// Sends at most one batch to each node, also one that isn't whole where small ones are asked for. Whether any was sent.
@@ -76,13 +75,26 @@ impl Runner {
     // Whether a batch couldn't be sent, and another whole one is left to send to the same node.
     fn is_held_up(&self) -> bool
         requires { self.now.failed ≡ None }
+        ensures { IsTrue result ↔ IsHeldUp self.now }
     {
         for to in 0..self.mail.seat.nodes {
-            if self.mail.is_full(to) && self.node.left_for(to) >= self.size {
+            if self.is_held_up_by(to) {
                 return true;
             }
         }
         false
+    }
+
+    // Whether a batch for the node `to` couldn't be sent, and another whole one is left for it.
+    fn is_held_up_by(&self, to: usize) -> bool
+        requires unfailed { self.now.failed ≡ None }
+        requires node { to < self.now.mail.seat.nodes }
+        ensures { IsTrue result ↔ HoldsUp self.now to }
+    {
+        if !self.mail.is_full(to) {
+            return false;
+        }
+        self.node.left_for(to) >= self.size
     }
 
     // How many items are left to apply and to send.

@@ -1,9 +1,10 @@
 // What a worker does with the words of the board besides its counts: the token and the halt.
 ghost use Rattle.std.specs.Prelude.{◌≡◌, ◌≢◌, ◌↔◌, ℕ, IsTrue, Some, None, true, false};
 ghost use Rattle.dob_board.specs.declared.halt.Halt.TheVariants.{Running, Ended};
-ghost use Rattle.dob_board.specs.Seats.{stand_of, MayEnd, KnewOwn, HearsHalt};
+ghost use Rattle.dob_board.specs.Seats.{stand_of, MayEnd, KnewOwn, HearsHalt, HasAnnounced};
 ghost use Rattle.dob_run.specs.Mails.{AreOut, AreIn};
 ghost use Rattle.dob_run.specs.Keeps.{HasSameLinks};
+ghost use Rattle.dob_run.specs.Tokens.{HasLooked, HasPassed};
 
 use crate::hands::{Inlet, Outlet};
 use crate::mail::Mail;
@@ -12,7 +13,8 @@ use dob_board::Halt;
 impl Mail {
     /// Whether the board's token is at the node, which knows it from then on until it passes it.
     pub fn finds_token(&mut self) -> bool
-        ensures found { IsTrue result → self.new.seat.token ≢ None }
+        ensures found { IsTrue result ↔ (self.new.seat.token ≢ None) }
+        ensures looked { HasLooked self.old.seat self.new.seat }
         ensures links { HasSameLinks self.old self.new }
         ensures colour { self.new.seat.black ≡ self.old.seat.black }
         ensures halt { self.new.seat.halt ≡ self.old.seat.halt }
@@ -24,6 +26,7 @@ impl Mail {
     /// Passes the token, which the node knows; the node is white afterwards.
     pub fn pass(&mut self)
         requires { self.old.seat.token ≢ None }
+        ensures passed { HasPassed self.old.seat self.new.seat }
         ensures links { HasSameLinks self.old self.new }
         ensures colour { self.new.seat.black ≡ false }
         ensures halt { self.new.seat.halt ≡ self.old.seat.halt }
@@ -42,6 +45,7 @@ impl Mail {
     /// where the seat knew that.
     pub fn announce(&mut self)
         requires { MayEnd (stand_of self.old.seat) }
+        ensures announced { HasAnnounced self.old.seat self.new.seat self.new.seat.halt }
         ensures links { HasSameLinks self.old self.new }
         ensures colour { self.new.seat.black ≡ self.old.seat.black }
         ensures stopped { self.new.seat.halt ≢ Running }
@@ -76,8 +80,7 @@ impl Mail {
 
     /// Whether no batch lies in a hand.
     pub fn is_out_of_hand(&self) -> bool
-        ensures out { IsTrue result → AreOut self.now.outlets.items }
-        ensures in_hand { IsTrue result → AreIn self.now.inlets.items }
+        ensures { IsTrue result ↔ (AreOut self.now.outlets.items × AreIn self.now.inlets.items) }
     {
         are_out(&self.outlets) && are_in(&self.inlets)
     }
@@ -85,7 +88,7 @@ impl Mail {
 
 // Whether each sending hand is empty.
 fn are_out(outlets: &[Outlet]) -> bool
-    ensures { IsTrue result → AreOut outlets.now }
+    ensures { IsTrue result ↔ AreOut outlets.now }
 {
     for outlet in outlets {
         if outlet.is_full() {
@@ -97,7 +100,7 @@ fn are_out(outlets: &[Outlet]) -> bool
 
 // Whether each taking hand is empty.
 fn are_in(inlets: &[Inlet]) -> bool
-    ensures { IsTrue result → AreIn inlets.now }
+    ensures { IsTrue result ↔ AreIn inlets.now }
 {
     for inlet in inlets {
         if inlet.is_full() {

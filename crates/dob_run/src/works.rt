@@ -1,6 +1,7 @@
 // What a runner does for its node: it takes batches, expands settlements, applies items and sends batches.
 ghost use Rattle.std.specs.Prelude.{◌≡◌, ◌≢◌, ◌<◌, Some, None, slice_get};
-ghost use Rattle.dob_run.specs.Runners.{Steps};
+ghost use Rattle.dob_run.specs.Runners.{Steps, StepsBy};
+ghost use Rattle.dob_run.specs.Rounds.{ExpandsOne, AppliesOne};
 
 use crate::hands::Outlet;
 use crate::runner::Runner;
@@ -37,7 +38,7 @@ impl Runner {
     pub(crate) fn expand_one(&mut self, classes: &Classes) -> Result<bool, Cause>
         requires unfailed { self.old.failed ≡ None }
         requires set { classes.now.set ≡ self.old.set }
-        ensures { Steps self.old self.new result }
+        ensures { StepsBy ExpandsOne self.old self.new result }
     {
         match self.node.expand(classes) {
             Ok(expanded) => Ok(expanded),
@@ -52,7 +53,7 @@ impl Runner {
     /// Applies the first of the node's own items. False where there is none.
     pub(crate) fn apply_one(&mut self) -> Result<bool, Cause>
         requires { self.old.failed ≡ None }
-        ensures { Steps self.old self.new result }
+        ensures { StepsBy AppliesOne self.old self.new result }
     {
         match self.node.apply_own() {
             Ok(applied) => Ok(applied),

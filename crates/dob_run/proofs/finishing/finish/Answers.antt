@@ -1,13 +1,9 @@
 -- What the words say decides between a failure and the table.
-use Rattle.std.proofs.Common.{◌≡◌, ℕ, ◌+◌, List, length, map, refl, sym, ap, ◌∙◌, subst}
-use Rattle.std.specs.Prelude.{slice_get, slice_index}
-use Rattle.dob_pieces.specs.declared.piece_set.PieceSet.{PieceSet}
-use Rattle.dob_rank.specs.Limits.{IsSmall}
-use Rattle.dob_rank.specs.Marks.{classes_of}
+use Rattle.std.proofs.Common.{◌≡◌, List, map, refl, ap, ◌∙◌, subst}
 use Rattle.dob_run.specs.declared.runner.Runner.{Runner}
 use Rattle.dob_run.specs.Turned.{AreUnfailed, IsFirstFailed}
-use Rattle.dob_run.specs.Finishing.{HaveStopped, AreOwners, AreShownBelow, failed_of}
-use Rattle.dob_run.proofs.Stopping.{set_same, not_running, some_cause, is_failure, late_failure, owners_are, built_is}
+use Rattle.dob_run.specs.Finishing.{failed_of}
+use Rattle.dob_run.proofs.Stopping.{not_running, some_cause, is_failure, late_failure, owners_are, built_is}
 use Rattle.dob_run.proofs.finishing.finish.Goals as goal
 use Rattle.dob_run.proofs.finishing.finish.Goals.{In_ok-nodes}
 

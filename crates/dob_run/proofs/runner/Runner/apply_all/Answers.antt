@@ -1,13 +1,19 @@
--- The own items applied so far and the next make one step of the runner, which fails where the next is refused.
-use Rattle.dob_run.proofs.Keeping.{goes_trans, carried_on}
+-- The own items applied so far and the next make one step of the runner, which fails where the next is refused; and after as
+-- many rounds as there were items none is left.
+use Rattle.std.proofs.Common.{length, arith}
+use Rattle.dob_run.specs.Rounds.{AppliesAll}
+use Rattle.dob_run.proofs.Keeping.{goes_trans, broken_on}
+use Rattle.dob_run.proofs.Turning.{one_applied}
 use Rattle.dob_run.proofs.runner.Runner.apply_all.Goals as goal
 
-pub returns-in_err-more : goal.returns-in_err-more
-returns-in_err-more c = carried_on c.args.self.now c.loop.self c.apply_one.new.self c.from_residual.result c.in_err-more.field-0.0 c.from_residual.ensures.1
-    c.loop.invariant.keeps c.in_err-more.ensures
-
-pub returns-then-not-more : goal.returns-then-not-more
-returns-then-not-more c = goes_trans c.args.self.now c.loop.self c.apply_one.new.self c.loop.invariant c.in_ok-more.ensures
+pub returns-in_err-apply_one : goal.returns-in_err-apply_one
+returns-in_err-apply_one c = broken_on AppliesAll c.args.self.now c.loop.self c.apply_one.new.self c.from_residual.result c.in_err-apply_one.field-0.0
+    c.from_residual.ensures.1 c.loop.invariant.0.keeps c.in_err-apply_one.ensures
 
 pub loop-preserved : goal.loop-preserved
-loop-preserved c = goes_trans c.args.self.now c.loop.self c.apply_one.new.self c.loop.invariant c.in_ok-more.ensures
+loop-preserved c =
+    let one = c.in_ok-apply_one.ensures in (
+      goes_trans c.args.self.now c.loop.self c.apply_one.new.self c.loop.invariant.0 one.goes,
+      one_applied c.loop.self c.apply_one.new.self c.in_ok-apply_one.field-0 c.loop.counter (length c.args.self.now.node.own.items) one c.loop.invariant.1
+          (omega (arith, c.loop-test.true, c.left_for_itself-count.ensures)),
+    )

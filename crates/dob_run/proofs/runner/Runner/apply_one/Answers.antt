@@ -3,8 +3,9 @@ use Rattle.std.proofs.Common.{Ok, refl, ap, sym, subst, inl, inr}
 use Rattle.std.proofs.lemmas.Bool.{cases_Bool}
 use Rattle.dob_node.specs.declared.node.Node.{Node}
 use Rattle.dob_run.specs.Workers.{IsLawful}
-use Rattle.dob_run.proofs.Keeping.{links_kept, own_reason, fault_still}
+use Rattle.dob_run.proofs.Keeping.{mail_same, links_kept, own_reason, fault_still}
 use Rattle.dob_run.proofs.Lawfuls.{applied_own}
+use Rattle.dob_run.proofs.Turning.{same_answer}
 use Rattle.dob_run.proofs.runner.Runner.apply_one.Goals as goal
 
 pub invariant_of-self : goal.invariant_of-self
@@ -29,4 +30,12 @@ returns-in-Err c = record {
     stopped = c.fail.ensures.stopped;
   };
   reason = own_reason _ c.in-Err.why (fault_still c.args.self.now.node c.apply_own.new.self c.in-Err.why c.in-Err.ensures.unchanged c.in-Err.ensures.stopped);
+}
+
+pub returns-in-Ok : goal.returns-in-Ok
+returns-in-Ok c = record {
+  goes = record { keeps = record { mail = mail_same c.args.self.now.mail; set = refl; size = refl }; unfailed = c.requires; halt = refl };
+  done = (λ none. c.in-Ok.ensures.done.0 (ap Ok none), λ none. same_answer _ _ (c.in-Ok.ensures.done.1 none));
+  applied = λ did. c.in-Ok.ensures.applied (ap Ok did);
+  nothing = λ none. c.in-Ok.ensures.nothing (ap Ok none);
 }

@@ -6,7 +6,6 @@ use Rattle.dob_update.specs.Batches.{BatchView, OutboxView}
 use Rattle.dob_board.specs.declared.view.Stand.{Stand}
 use Rattle.dob_board.proofs.Halting.{same_halt}
 use Rattle.dob_node.specs.declared.cause.Cause.{Cause}
-use Rattle.dob_node.specs.declared.cause.Cause.TheVariants.{Counts}
 use Rattle.dob_node.specs.Nodes.{outbox_to, HasCut}
 use Rattle.dob_run.proofs.Keeping.{own_still, links_kept, cut_reason, outbox_still}
 use Rattle.dob_run.proofs.Lawfuls.{cut_one, few_cut}

@@ -1,17 +1,26 @@
 -- The settlements expanded so far and the next make one step, over classes of the same piece set, or a failed one.
-use Rattle.std.proofs.Common.{sym, ◌∙◌}
-use Rattle.dob_run.proofs.Keeping.{goes_trans, carried_on}
+use Rattle.dob_run.specs.Rounds.{ExpandsSome}
+use Rattle.dob_run.proofs.Keeping.{runner_same, goes_trans, broken_on}
+use Rattle.dob_run.proofs.Turning.{more_expanded, some_expanded}
 use Rattle.dob_run.proofs.runner.Runner.expand_all.Goals as goal
 
-pub expand_one-requires-clause-set : goal.expand_one-requires-clause-set
-expand_one-requires-clause-set c = c.requires.set ∙ sym c.loop.invariant.keeps.set
+pub returns-in_err-any : goal.returns-in_err-any
+returns-in_err-any c = broken_on ExpandsSome c.args.self.now c.args.self.now c.expand_one.new.self c.from_residual.result c.in_err-any.field-0.0
+    c.from_residual.ensures.1 (runner_same c.args.self.now) c.in_err-any.ensures
 
 pub returns-in_err-more : goal.returns-in_err-more
-returns-in_err-more c = carried_on c.args.self.now c.loop.self c.expand_one.new.self c.from_residual.result c.in_err-more.field-0.0 c.from_residual.ensures.1
-    c.loop.invariant.keeps c.in_err-more.ensures
+returns-in_err-more c = broken_on ExpandsSome c.args.self.now c.loop.self c.expand_one-in-loop.new.self c.from_residual-in_err-more.result c.in_err-more.field-0.0
+    c.from_residual-in_err-more.ensures.1 c.loop.invariant.0.keeps c.in_err-more.ensures
 
 pub returns-then-not-more : goal.returns-then-not-more
-returns-then-not-more c = goes_trans c.args.self.now c.loop.self c.expand_one.new.self c.loop.invariant c.in_ok-more.ensures
+returns-then-not-more c =
+    some_expanded c.args.self.now c.expand_one-in-loop.new.self c.is_held_up.result c.in_ok-any.any
+    (goes_trans c.args.self.now c.loop.self c.expand_one-in-loop.new.self c.loop.invariant.0 c.in_ok-more.ensures.goes)
+    (more_expanded c.loop.self c.expand_one-in-loop.new.self c.in_ok-more.more c.args.self.now.node.expanded c.in_ok-more.ensures c.loop.invariant.1)
+    c.if-is_held_up.false c.is_held_up.ensures.1 c.if-not-any.false c.in_ok-any.ensures.done.1
 
 pub loop-preserved : goal.loop-preserved
-loop-preserved c = goes_trans c.args.self.now c.loop.self c.expand_one.new.self c.loop.invariant c.in_ok-more.ensures
+loop-preserved c = (
+  goes_trans c.args.self.now c.loop.self c.expand_one-in-loop.new.self c.loop.invariant.0 c.in_ok-more.ensures.goes,
+  more_expanded c.loop.self c.expand_one-in-loop.new.self c.in_ok-more.more c.args.self.now.node.expanded c.in_ok-more.ensures c.loop.invariant.1,
+)

@@ -4,9 +4,10 @@ use Rattle.std.proofs.lemmas.Bool.{cases_Bool}
 use Rattle.dob_node.specs.declared.cause.Cause.{Cause}
 use Rattle.dob_node.specs.declared.node.Node.{Node}
 use Rattle.dob_run.specs.Workers.{IsLawful}
-use Rattle.dob_run.proofs.Keeping.{links_kept, memory_reason, some_cause, failed_first}
+use Rattle.dob_run.proofs.Keeping.{mail_same, links_kept, memory_reason, some_cause, failed_first}
 use Rattle.dob_run.specs.Runners.{no_gate}
 use Rattle.dob_run.proofs.Lawfuls.{expanded_one, busy_black}
+use Rattle.dob_run.proofs.Turning.{same_answer}
 use Rattle.dob_run.proofs.runner.Runner.expand_one.Goals as goal
 
 err_not_ok : (why : Cause) → (let given : Result Bool Cause = Err why in given ≡ Ok false) → ⊥
@@ -46,4 +47,12 @@ returns-in-Err c = record {
     stopped = c.fail.ensures.stopped;
   };
   reason = memory_reason no_gate _ c.in-Err.why c.in-Err.ensures.memory;
+}
+
+pub returns-in-Ok : goal.returns-in-Ok
+returns-in-Ok c = record {
+  goes = record { keeps = record { mail = mail_same c.args.self.now.mail; set = refl; size = refl }; unfailed = c.requires.unfailed; halt = refl };
+  done = (λ none. c.in-Ok.ensures.done.0 (ap Ok none), λ none. same_answer _ _ (c.in-Ok.ensures.done.1 none));
+  expanded = λ did. c.in-Ok.ensures.expanded (ap Ok did);
+  nothing = λ none. c.in-Ok.ensures.nothing (ap Ok none);
 }

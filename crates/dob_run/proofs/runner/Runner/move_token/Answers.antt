@@ -1,7 +1,10 @@
--- A runner at rest stays lawful without the token, when it announces the end, and when it passes the token on.
+-- A runner at rest stays lawful without the token, when it announces the end, and when it passes the token on; and it announces
+-- just where it may.
 use Rattle.std.proofs.Common.{sym, ap, ◌∙◌, inl}
+use Rattle.std.proofs.lemmas.Bool.{both_ways}
 use Rattle.dob_run.proofs.Keeping.{own_before, own_still}
 use Rattle.dob_run.proofs.Lawfuls.{recoloured, same_inlets}
+use Rattle.dob_run.proofs.Turning.{token_away, token_moved}
 use Rattle.dob_run.proofs.runner.Runner.move_token.Goals as goal
 
 pub invariant_of-self : goal.invariant_of-self
@@ -51,3 +54,19 @@ invariant_of-self-else-may_announce c =
           (same_inlets r.mail c.pass.new.self (c.pass.ensures.links.inlets ∙ c.finds_token.ensures.links.inlets))
           (λ is. (c.requires.idle.idle, c.requires.idle.sent));
     }
+
+pub returns-then-not-finds_token-clause-moves : goal.returns-then-not-finds_token-clause-moves
+returns-then-not-finds_token-clause-moves c =
+    token_away c.args.self.now.mail.seat c.finds_token.new.self.seat c.finds_token.result c.if-not-finds_token.true c.finds_token.ensures.looked c.finds_token.ensures.found
+
+pub returns-then-may_announce-clause-moves : goal.returns-then-may_announce-clause-moves
+returns-then-may_announce-clause-moves c =
+    token_moved c.args.self.now.mail.seat c.finds_token.new.self.seat c.announce.new.self.seat c.finds_token.result c.if-not-finds_token.false
+    c.finds_token.ensures.looked c.finds_token.ensures.found
+    (record { announced = λ may. c.announce.ensures.announced; passed = λ unable. absurd (unable (c.may_announce.ensures.0 c.if-may_announce.true)) })
+
+pub returns-else-may_announce-clause-moves : goal.returns-else-may_announce-clause-moves
+returns-else-may_announce-clause-moves c =
+    token_moved c.args.self.now.mail.seat c.finds_token.new.self.seat c.pass.new.self.seat c.finds_token.result c.if-not-finds_token.false
+    c.finds_token.ensures.looked c.finds_token.ensures.found
+    (record { announced = λ may. absurd (both_ways _ c.if-may_announce.false (c.may_announce.ensures.1 may)); passed = λ unable. c.pass.ensures.passed })

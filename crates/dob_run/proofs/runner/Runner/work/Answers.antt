@@ -22,31 +22,31 @@ returns-in_err-expanded g c =
 pub returns-in_err-applied : goal.returns-in_err-applied
 returns-in_err-applied g c =
     let expanded : GoesOn c.args.self.now c.expand_all.new.self =
-    goes_trans c.args.self.now c.take_all.new.self c.expand_all.new.self c.in_ok-took.ensures c.in_ok-expanded.ensures in
+    goes_trans c.args.self.now c.take_all.new.self c.expand_all.new.self c.in_ok-took.ensures c.in_ok-expanded.ensures.goes in
     carried_on c.args.self.now c.expand_all.new.self c.apply_all.new.self c.from_residual-in_err-applied.result c.in_err-applied.field-0.0
     c.from_residual-in_err-applied.ensures.1 expanded.keeps c.in_err-applied.ensures
 
 pub returns-in_err-sent : goal.returns-in_err-sent
 returns-in_err-sent g c =
     let expanded : GoesOn c.args.self.now c.expand_all.new.self =
-    goes_trans c.args.self.now c.take_all.new.self c.expand_all.new.self c.in_ok-took.ensures c.in_ok-expanded.ensures in
+    goes_trans c.args.self.now c.take_all.new.self c.expand_all.new.self c.in_ok-took.ensures c.in_ok-expanded.ensures.goes in
     let applied : GoesOn c.args.self.now c.apply_all.new.self =
-    goes_trans c.args.self.now c.expand_all.new.self c.apply_all.new.self expanded c.in_ok-applied.ensures in
+    goes_trans c.args.self.now c.expand_all.new.self c.apply_all.new.self expanded c.in_ok-applied.ensures.goes in
     carried_on c.args.self.now c.apply_all.new.self c.send_all.new.self c.from_residual-in_err-sent.result c.in_err-sent.field-0.0
     c.from_residual-in_err-sent.ensures.1 applied.keeps c.in_err-sent.ensures
 
 pub returns-then-applied : goal.returns-then-applied
 returns-then-applied g c =
     let expanded : GoesOn c.args.self.now c.expand_all.new.self =
-    goes_trans c.args.self.now c.take_all.new.self c.expand_all.new.self c.in_ok-took.ensures c.in_ok-expanded.ensures in
+    goes_trans c.args.self.now c.take_all.new.self c.expand_all.new.self c.in_ok-took.ensures c.in_ok-expanded.ensures.goes in
     let applied : GoesOn c.args.self.now c.apply_all.new.self =
-    goes_trans c.args.self.now c.expand_all.new.self c.apply_all.new.self expanded c.in_ok-applied.ensures in
+    goes_trans c.args.self.now c.expand_all.new.self c.apply_all.new.self expanded c.in_ok-applied.ensures.goes in
     goes_trans c.args.self.now c.apply_all.new.self c.send_all.new.self applied c.in_ok-sent.ensures
 
 pub returns-else-applied : goal.returns-else-applied
 returns-else-applied g c =
     let expanded : GoesOn c.args.self.now c.expand_all.new.self =
-    goes_trans c.args.self.now c.take_all.new.self c.expand_all.new.self c.in_ok-took.ensures c.in_ok-expanded.ensures in
+    goes_trans c.args.self.now c.take_all.new.self c.expand_all.new.self c.in_ok-took.ensures c.in_ok-expanded.ensures.goes in
     let applied : GoesOn c.args.self.now c.apply_all.new.self =
-    goes_trans c.args.self.now c.expand_all.new.self c.apply_all.new.self expanded c.in_ok-applied.ensures in
+    goes_trans c.args.self.now c.expand_all.new.self c.apply_all.new.self expanded c.in_ok-applied.ensures.goes in
     goes_trans c.args.self.now c.apply_all.new.self c.send_all.new.self applied c.in_ok-sent.ensures
