@@ -1,28 +1,36 @@
 -- A crew that was run, from what its threads promise to what is made of it.
-use Rattle.std.proofs.Common.{◌≡◌, ℕ, ◌<◌, List, Result, Ok, Err, map, subst, ◌∙◌, arith}
+use Rattle.std.proofs.Common.{◌≡◌, ℕ, ◌<◌, ◌≤◌, ◌++◌, List, Option, Result, Ok, Err, map, length, ap, subst, ◌∙◌, arith, length-append}
 use Rattle.std.specs.Prelude.{IfOk, IfErr, OnOk, Some, slice_get}
 use Rattle.std.specs.List.{AllZip}
+use Rattle.dob_pieces.proofs.Elements.{some_at}
 use Rattle.dob_pieces.specs.declared.piece_set.PieceSet.{PieceSet}
 use Rattle.dob_rank.specs.Limits.{IsSmall}
+use Rattle.dob_update.specs.Batches.{BatchView}
 use Rattle.dob_board.specs.declared.board.Board.{Board}
+use Rattle.dob_chan.specs.Ends.{sent_by, taken_by}
 use Rattle.dob_node.specs.declared.cause.Cause.{Cause}
 use Rattle.dob_run.specs.declared.fault.Fault.{Fault}
 use Rattle.dob_run.specs.declared.fault.Fault.TheVariants.{SetTooLarge, Nodes, Sizes, Stopped, Memory}
 use Rattle.dob_run.specs.declared.finishing.Built.{Built}
+use Rattle.dob_run.specs.declared.hands.Outlet.{Outlet}
+use Rattle.dob_run.specs.declared.hands.Inlet.{Inlet}
 use Rattle.dob_run.specs.declared.runner.Runner.{Runner}
 use Rattle.dob_run.specs.declared.runs.Turned.{Turned}
 use Rattle.dob_run.specs.declared.turns.Until.{Until}
 use Rattle.dob_run.specs.declared.turns.Until.TheVariants as until
 use Rattle.dob_run.specs.Built.{IsBuilt}
 use Rattle.dob_run.specs.Closing.{IsCrew}
+use Rattle.dob_run.specs.Hands.{in_hand, worked_of}
+use Rattle.dob_run.specs.Links.{offered, worked}
 use Rattle.dob_run.specs.Finishing.{HaveStopped, IsFailureOf}
 use Rattle.dob_run.specs.Manned.{mail_of}
 use Rattle.dob_run.specs.Faults.{AreWithin, HasFault}
 use Rattle.dob_run.specs.Runners.{KeepsRunner}
-use Rattle.dob_run.specs.Turned.{IsTurned, AreUnfailed, IsFirstFailed, HasLeft, StopsSo}
+use Rattle.dob_run.specs.Turned.{IsTurned, CarriesFew, AreUnfailed, IsFirstFailed, HasLeft, StopsSo}
 use Rattle.dob_run.specs.Turns.{Ends, HasRun}
 use Rattle.dob_run.proofs.Leaving.{for_kept, turned_is}
-use Rattle.dob_run.proofs.Manned.{zip_at, crew_low, crew_kept}
+use Rattle.dob_run.proofs.Keeping.{there_is}
+use Rattle.dob_run.proofs.Manned.{zip_at, seat_there, are_linked, crew_many, crew_low, outlet_at, inlet_at, crew_kept}
 use Rattle.dob_run.proofs.RunFaults.{stops_so}
 use Rattle.dob_run.proofs.Threaded.{all_kept}
 
@@ -61,6 +69,84 @@ module _ (No : ℕ → Type 0) (until : Until) (set : PieceSet) (n size capacity
   has_turned turned unfailed left =
       subst (λ (k : ℕ). IsTurned set k size turned) ran.opened.nodes
       (turned_is board set size ended turned still_crew left (for_kept set size ran.old ended ran.opened.each kept unfailed))
+
+-- ---- what went over its links by then
+
+module _ (No : ℕ → Type 0) (turns : ℕ) (set : PieceSet) (n size capacity : ℕ) (board : Board) (ended : List Runner)
+    (ran : HasRun No (until.Turns turns) set n size capacity board ended) (unfailed : AreUnfailed ended) where
+  few_offered : (i j : ℕ) (runner : Runner) (outlet : Outlet) → slice_get ended i ≡ Some runner → slice_get runner.mail.outlets.items j ≡ Some outlet →
+      length (offered outlet) ≤ turns
+  few_offered i j runner outlet at out =
+      let was = zip_at (Ends No (until.Turns turns)) ran.old ended i runner ran.ends at in
+      let few = was.2.1 (unfailed i runner at) in
+      let old = there_is runner.mail.outlets.items was.0.mail.outlets.items j outlet
+      (omega (arith, runner.mail.outlets_len, was.0.mail.outlets_len, was.2.0.mail.seat.nodes)) out in
+      let none = (ran.opened.new i was.0 was.1).1.unsent j old.0 old.1 in
+      omega (arith, few.out j old.0 outlet old.1 out, ap length none.0)
+
+  few_taken : (i j : ℕ) (runner : Runner) (inlet : Inlet) → slice_get ended j ≡ Some runner → slice_get runner.mail.inlets.items i ≡ Some inlet →
+      length (taken_by inlet.end) ≤ turns
+  few_taken i j runner inlet at into =
+      let was = zip_at (Ends No (until.Turns turns)) ran.old ended j runner ran.ends at in
+      let few = was.2.1 (unfailed j runner at) in
+      let old = there_is runner.mail.inlets.items was.0.mail.inlets.items i inlet
+      (omega (arith, runner.mail.inlets_len, was.0.mail.inlets_len, was.2.0.mail.seat.nodes)) into in
+      let none = (ran.opened.new j was.0 was.1).1.untaken i old.0 old.1 in
+      omega (
+        arith,
+        few.into i old.0 inlet old.1 into,
+        ap length old.0.last,
+        length-append (worked_of old.0.end old.0.hand) (in_hand old.0.hand),
+        ap length none.0,
+        ap (λ (h : Option BatchView). length (in_hand h)) none.1,
+      )
+
+  carried : (turned : Turned) → HasLeft board.nodes ended turned → CarriesFew board.nodes turns turned
+  carried turned left =
+      let crew = still_crew No (until.Turns turns) set n size capacity board ended ran in
+      let there : (k : ℕ) → k < board.nodes → (runner : Runner) × (slice_get ended k ≡ Some runner) =
+      λ k low. some_at ended k (omega (arith, crew_many board ended crew, low)) in
+      record {
+        counts = λ i j low_i low_j.
+            let from = there i low_i in
+            let to = there j low_j in
+            let outlet = outlet_at board ended crew i j from.0 from.1 low_j in
+            let inlet = inlet_at board ended crew i j to.0 to.1 low_i in (
+              omega (
+                arith,
+                left.words.posted i j from.0.mail.seat (seat_there ended i from.0 from.1) low_j,
+                from.0.mail.posted j outlet.0 outlet.1,
+                few_offered i j from.0 outlet.0 from.1 outlet.1,
+              ),
+              omega (
+                arith,
+                left.words.taken j i to.0.mail.seat (seat_there ended j to.0 to.1) low_i,
+                to.0.mail.taken i inlet.0 inlet.1,
+                few_taken i j to.0 inlet.0 to.1 inlet.1,
+                ap length inlet.0.last,
+                length-append (worked_of inlet.0.end inlet.0.hand) (in_hand inlet.0.hand),
+              ),
+            );
+        links = λ i j low_i low_j.
+            let from = there i low_i in
+            let to = there j low_j in
+            let outlet = outlet_at board ended crew i j from.0 from.1 low_j in
+            let inlet = inlet_at board ended crew i j to.0 to.1 low_i in
+            let link = left.links i j outlet.0 inlet.0 (are_linked ended i j from.0 to.0 outlet.0 inlet.0 from.1 to.1 outlet.1 inlet.1) in (
+              link.0,
+              link.1,
+              omega (
+                arith,
+                link.2.sent,
+                few_offered i j from.0 outlet.0 from.1 outlet.1,
+                length-append (sent_by outlet.0.end) (in_hand outlet.0.hand),
+              ),
+              omega (arith, link.2.received, few_taken i j to.0 inlet.0 to.1 inlet.1),
+            );
+      }
+
+  pub carries_few : (turned : Turned) → HasLeft board.nodes ended turned → CarriesFew n turns turned
+  carries_few turned left = subst (λ (k : ℕ). CarriesFew k turns turned) ran.opened.nodes (carried turned left)
 
 -- ---- where it was run to its end
 

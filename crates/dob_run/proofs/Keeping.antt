@@ -88,7 +88,7 @@ pub each_same : {L : Type 0} (Keeps : L → L → Type 0) → ((x : L) → Keeps
 each_same Keeps self xs ys same j before after old new =
     subst (Keeps before) (same_Some before after (sym old ∙ (ap (λ zs. slice_get zs j) (sym same) ∙ new))) (self before)
 
-there_is : {L : Type 0} (xs ys : List L) (j : ℕ) (x : L) → length xs ≡ length ys → slice_get xs j ≡ Some x → (y : L) × (slice_get ys j ≡ Some y)
+pub there_is : {L : Type 0} (xs ys : List L) (j : ℕ) (x : L) → length xs ≡ length ys → slice_get xs j ≡ Some x → (y : L) × (slice_get ys j ≡ Some y)
 there_is [] ys j x same at = absurd (cc)
 there_is (a ∷ xs) [] j x same at = absurd (omega (arith, same))
 there_is (a ∷ xs) (b ∷ ys) zero x same at = (b, refl)

@@ -15,6 +15,9 @@ pub mod Applied  -- what a node has applied from each node, after each step
 pub mod Keeping  -- what links, mails and runners keep, through each step
 pub mod Lawfuls  -- each step of a worker leaves it lawful
 pub mod Turning  -- what the parts of a turn do, by what their steps do
+pub mod Taking  -- what taking from one node after another does
+pub mod Sending  -- what sending to one node after another does
+pub mod Pacing  -- how many batches go over each link in so many turns
 -- The channels and mails of a crew.
 pub mod Laying  -- channels laid one by one
 pub mod Seated  -- seats that get their links one by one, and their mails then

@@ -16,6 +16,7 @@ use Rattle.dob_run.specs.declared.turns.Until.{Until}
 use Rattle.dob_run.specs.declared.turns.Until.TheVariants.{Turns, Stopped}
 use Rattle.dob_run.specs.Started.{IsStartOf, IsEndOf}
 use Rattle.dob_run.specs.Turns.{IsThrough, Ends}
+use Rattle.dob_run.proofs.Pacing.{unfailed_few}
 use Rattle.dob_run.proofs.Keeping.{reasoned_failed, reasoned_unfailed}
 
 zip_one : {X Y : Type 0} → (R : X → Y → Type 0) (xs : List X) (ys : List Y) (x : X) (y : Y) → AllZip R xs ys → R x y → AllZip R (xs ++ x ∷ []) (ys ++ y ∷ [])
@@ -53,9 +54,9 @@ module _ {X Y : Type 0} (R : X → Y → Type 0) where
       (length on.gone, ap (λ (l : List X). slice_get l (length on.gone)) (on.split ∙ ap (λ (l : List X). on.gone ++ l) is) ∙ middle on.gone after x)
 
 -- a runner that has failed is through with its turns, whatever they were
-pub through : (until : Until) (runner : Runner) → runner.mail.seat.halt ≢ Running → IsThrough until runner
-through (Turns count) runner stopped = tt
-through Stopped runner stopped = stopped
+pub through : (until : Until) (old new : Runner) (why : Cause) → HasFailed old new why → IsThrough until old new
+through (Turns count) old new why failed = λ unfailed. unfailed_few count old new why failed.cause unfailed
+through Stopped old new why failed = failed.stopped
 
 module _ {G : Type 0} (Says : G → ℕ → Bool → Type 0) (gate : G) (until : Until) where
   ended : (runner now : Runner) (started : Started G) → IsStartOf Says gate until runner started → IsEndOf Says started now →
@@ -63,7 +64,7 @@ module _ {G : Type 0} (Says : G → ℕ → Bool → Type 0) (gate : G) (until :
   ended runner now (Runs handle) start end = subst (λ (p : G × Until × Runner). Ends (says_no (Says p.0)) p.1 p.2 now) (λ i. (start.2 i, start.1 i, start.0 i)) end
   ended runner now (GaveUp was) start end =
       subst (λ (r : Runner). Ends (says_no (Says gate)) until runner r) (sym end)
-      (start.keeps, through until was start.stopped, reasoned_failed (says_no (Says gate)) was Memory start.cause tt)
+      (start.keeps, through until runner was Memory start, reasoned_failed (says_no (Says gate)) was Memory start.cause tt)
 
   -- each runner that was started and ended is where it was in its crew, and through with its turns
   pub all_ended : (runners : List Runner) (started : List (Started G)) (after : List Runner) → AllZip (IsStartOf Says gate until) runners started →

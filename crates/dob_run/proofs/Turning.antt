@@ -48,10 +48,11 @@ more_expanded old new did first one low = elim (cases_Bool did) [
 ]
 
 -- some are, where nothing held the runner up and there was one
-pub some_expanded : (old new : Runner) (held any : Bool) → GoesOn old new → old.node.expanded < new.node.expanded → held ≡ false → (IsHeldUp old → held ≡ true) →
+pub some_expanded : (old new : Runner) (held any : Bool) → GoesOn old new → new.mail ≡ old.mail → old.node.expanded < new.node.expanded → held ≡ false → (IsHeldUp old → held ≡ true) →
     any ≡ true → (old.node.expanded ≡ length old.node.history.settlements → any ≡ false) → ExpandsSome old new true
-some_expanded old new held any goes more free up is none_left = record {
+some_expanded old new held any goes mail more free up is none_left = record {
   goes = goes;
+  mail = mail;
   done = (
     λ never. absurd (cc),
     λ why. elim why [

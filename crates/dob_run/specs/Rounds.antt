@@ -1,8 +1,14 @@
 -- What the parts of a runner's turn do, and when each has something to do.
-use Rattle.std.specs.Prelude.{◌≡◌, ◌≢◌, ◌↔◌, ◌⊎◌, ℕ, ◌<◌, ◌≤◌, [], Bool, true, false, None, Some, length, slice_get}
+use Rattle.std.specs.Prelude.{◌≡◌, ◌≢◌, ◌↔◌, ◌⊎◌, ℕ, ◌+◌, ◌<◌, ◌≤◌, List, [], ◌∷◌, ◌++◌, Bool, true, false, None, Some, length, slice_get}
+use Rattle.dob_update.specs.Batches.{BatchView}
+use Rattle.dob_chan.specs.Ends.{sent_by, taken_by, WasEmpty}
 use Rattle.dob_node.specs.Nodes.{outbox_to, IsExpanded, HasApplied}
 use Rattle.dob_run.specs.declared.hands.Outlet.{Outlet}
+use Rattle.dob_run.specs.declared.hands.Inlet.{Inlet}
+use Rattle.dob_run.specs.declared.mail.Mail.{Mail}
 use Rattle.dob_run.specs.declared.runner.Runner.{Runner}
+use Rattle.dob_run.specs.Links.{offered, worked}
+use Rattle.dob_run.specs.Mails.{HasChangedOne}
 use Rattle.dob_run.specs.Runners.{GoesOn}
 
 -- a batch for that node couldn't be sent, and another whole one is left for it
@@ -19,6 +25,7 @@ IsHeldUp runner = (to : ℕ) × HoldsUp runner to
 -- It has expanded the next settlement, just where there is one.
 pub record ExpandsOne (old new : Runner) (did : Bool) : Type 0 where
   pub goes : GoesOn old new
+  pub mail : new.mail ≡ old.mail
   pub done : (did ≡ false) ↔ (old.node.expanded ≡ length old.node.history.settlements)
   pub expanded : did ≡ true → IsExpanded old.node new.node
   pub nothing : did ≡ false → new.node ≡ old.node
@@ -26,6 +33,7 @@ pub record ExpandsOne (old new : Runner) (did : Bool) : Type 0 where
 -- It has expanded settlements, just where it isn't held up and there is one.
 pub record ExpandsSome (old new : Runner) (did : Bool) : Type 0 where
   pub goes : GoesOn old new
+  pub mail : new.mail ≡ old.mail
   pub done : (did ≡ false) ↔ (IsHeldUp old ⊎ (old.node.expanded ≡ length old.node.history.settlements))
   pub expanded : did ≡ true → old.node.expanded < new.node.expanded
   pub nothing : did ≡ false → new.node ≡ old.node
@@ -33,6 +41,7 @@ pub record ExpandsSome (old new : Runner) (did : Bool) : Type 0 where
 -- It has applied the first of its own items, just where there is one.
 pub record AppliesOne (old new : Runner) (did : Bool) : Type 0 where
   pub goes : GoesOn old new
+  pub mail : new.mail ≡ old.mail
   pub done : (did ≡ false) ↔ (old.node.own.items ≡ [])
   pub applied : did ≡ true → HasApplied old.node new.node
   pub nothing : did ≡ false → new.node ≡ old.node
@@ -40,5 +49,122 @@ pub record AppliesOne (old new : Runner) (did : Bool) : Type 0 where
 -- It has applied all its own items, and none is left; whether there was any.
 pub record AppliesAll (old new : Runner) (did : Bool) : Type 0 where
   pub goes : GoesOn old new
+  pub mail : new.mail ≡ old.mail
   pub done : (did ≡ false) ↔ (old.node.own.items ≡ [])
   pub none : new.node.own.items ≡ []
+
+-- ---- taking
+
+-- The channel gave at most one batch, and the hand is empty only where the channel was.
+pub record IsAsked (before after : Inlet) : Type 0 where
+  pub few : length (taken_by after.end) ≤ length (taken_by before.end) + 1
+  pub empty : after.hand ≡ None → WasEmpty (taken_by after.end)
+
+-- The channel gave at most one batch. One more was worked in; or none was, and the hand is empty only where the channel was.
+pub record IsWorkedIn (did : Bool) (before after : Inlet) : Type 0 where
+  pub few : length (taken_by after.end) ≤ length (taken_by before.end) + 1
+  pub one : did ≡ true → (batch : BatchView) × (worked after ≡ worked before ++ batch ∷ [])
+  pub none : did ≡ false → worked after ≡ worked before
+  pub empty : did ≡ false → after.hand ≡ None → WasEmpty (taken_by after.end)
+
+-- It has taken from that node, if that is another one, and nothing has changed of the other links.
+pub record TakesFrom (from : ℕ) (old new : Runner) (did : Bool) : Type 0 where
+  pub goes : GoesOn old new
+  pub own : from ≡ old.mail.seat.node → (did ≡ false) × (new.mail.inlets.items ≡ old.mail.inlets.items)
+  pub taken : from ≢ old.mail.seat.node → (before after : Inlet) → slice_get old.mail.inlets.items from ≡ Some before →
+      slice_get new.mail.inlets.items from ≡ Some after → IsWorkedIn did before after
+  pub others : (j : ℕ) → j ≢ from → slice_get new.mail.inlets.items j ≡ slice_get old.mail.inlets.items j
+  pub outlets : new.mail.outlets.items ≡ old.mail.outlets.items
+
+-- It has taken from each of the other nodes below a number, and nothing has changed of the other links.
+pub record TakesBelow (upto : ℕ) (old new : Runner) (did : Bool) : Type 0 where
+  pub goes : GoesOn old new
+  pub taken : (from : ℕ) → from < upto → from ≢ old.mail.seat.node → (before after : Inlet) → slice_get old.mail.inlets.items from ≡ Some before →
+      slice_get new.mail.inlets.items from ≡ Some after → (one : Bool) × IsWorkedIn one before after × (one ≡ true → did ≡ true)
+  pub own : slice_get new.mail.inlets.items old.mail.seat.node ≡ slice_get old.mail.inlets.items old.mail.seat.node
+  pub later : (j : ℕ) → upto ≤ j → slice_get new.mail.inlets.items j ≡ slice_get old.mail.inlets.items j
+  pub outlets : new.mail.outlets.items ≡ old.mail.outlets.items
+
+-- so it has from each of them
+abbrev pub TakesAll : Runner → Runner → Bool → Type 0
+TakesAll old new did = TakesBelow old.mail.seat.nodes old new did
+
+-- ---- sending
+
+-- there is a whole batch to send to the node, or anything where small ones are asked for
+abbrev pub HasToSend : Runner → ℕ → Bool → Type 0
+HasToSend runner to small =
+    ((outbox_to runner.node to).items ≢ []) × ((runner.size ≤ length (outbox_to runner.node to).items) ⊎ (small ≡ true))
+
+-- and nothing lies in the hand for it
+abbrev pub IsToFill : Runner → ℕ → Bool → Type 0
+IsToFill runner to small = HasToSend runner to small × ((outlet : Outlet) → slice_get runner.mail.outlets.items to ≡ Some outlet → outlet.hand ≡ None)
+
+-- the batch was offered behind the others, and lies in the hand
+abbrev pub IsMoreOut : BatchView → Outlet → Outlet → Type 0
+IsMoreOut batch before after = (after.end ≡ before.end) × (offered after ≡ offered before ++ batch ∷ [])
+
+-- It has cut a batch for that node, or changed nothing.
+pub record CutsFor (to : ℕ) (old new : Runner) (did : Bool) : Type 0 where
+  pub goes : GoesOn old new
+  pub one : did ≡ true → (batch : BatchView) × HasChangedOne (IsMoreOut batch) to old.mail.outlets.items new.mail.outlets.items
+  pub nothing : did ≡ false → (new.node ≡ old.node) × (new.mail ≡ old.mail)
+  pub own : new.node.own.items ≡ old.node.own.items
+  pub others : (j : ℕ) → j ≢ to → outbox_to new.node j ≡ outbox_to old.node j
+  pub inlets : new.mail.inlets.items ≡ old.mail.inlets.items
+
+-- it has, just where something was left to send to it
+abbrev pub CutsLeft : ℕ → Runner → Runner → Bool → Type 0
+CutsLeft to old new did = CutsFor to old new did × ((did ≡ false) ↔ ((outbox_to old.node to).items ≡ []))
+
+-- it has, just where the hand was to be filled
+abbrev pub FillsFor : ℕ → Bool → Runner → Runner → Bool → Type 0
+FillsFor to small old new did = CutsFor to old new did × ((did ≡ true) ↔ IsToFill old to small)
+
+-- At most one batch more was offered to the outlet's channel, which took one, and then the hand is empty, or none; and then the
+-- hand is empty only where the runner has nothing to send to the node.
+pub record IsSent (small : Bool) (to : ℕ) (runner : Runner) (did : Bool) (before after : Outlet) : Type 0 where
+  pub few : length (offered after) ≤ length (offered before) + 1
+  pub one : did ≡ true → (batch : BatchView) × (sent_by after.end ≡ sent_by before.end ++ batch ∷ []) × (after.hand ≡ None)
+  pub none : did ≡ false → sent_by after.end ≡ sent_by before.end
+  pub spent : did ≡ false → after.hand ≡ None → ¬ HasToSend runner to small
+
+-- It has sent to that node, if that is another one, and nothing has changed of the other links.
+pub record SendsTo (to : ℕ) (small : Bool) (old new : Runner) (did : Bool) : Type 0 where
+  pub goes : GoesOn old new
+  pub itself : to ≡ old.mail.seat.node → (did ≡ false) × (new.mail.outlets.items ≡ old.mail.outlets.items)
+  pub sent : to ≢ old.mail.seat.node → (before after : Outlet) → slice_get old.mail.outlets.items to ≡ Some before →
+      slice_get new.mail.outlets.items to ≡ Some after → IsSent small to new did before after
+  pub own : new.node.own.items ≡ old.node.own.items
+  pub outboxes : (j : ℕ) → j ≢ to → outbox_to new.node j ≡ outbox_to old.node j
+  pub others : (j : ℕ) → j ≢ to → slice_get new.mail.outlets.items j ≡ slice_get old.mail.outlets.items j
+  pub inlets : new.mail.inlets.items ≡ old.mail.inlets.items
+
+-- It has sent to each of the other nodes below a number, and nothing has changed of the other links.
+pub record SendsBelow (upto : ℕ) (small : Bool) (old new : Runner) (did : Bool) : Type 0 where
+  pub goes : GoesOn old new
+  pub sent : (to : ℕ) → to < upto → to ≢ old.mail.seat.node → (before after : Outlet) → slice_get old.mail.outlets.items to ≡ Some before →
+      slice_get new.mail.outlets.items to ≡ Some after → (one : Bool) × IsSent small to new one before after × (one ≡ true → did ≡ true)
+  pub itself : slice_get new.mail.outlets.items old.mail.seat.node ≡ slice_get old.mail.outlets.items old.mail.seat.node
+  pub own : new.node.own.items ≡ old.node.own.items
+  pub later : (j : ℕ) → upto ≤ j → slice_get new.mail.outlets.items j ≡ slice_get old.mail.outlets.items j
+  pub inlets : new.mail.inlets.items ≡ old.mail.inlets.items
+
+-- so it has to each of them
+abbrev pub SendsAll : Bool → Runner → Runner → Bool → Type 0
+SendsAll small old new did = SendsBelow old.mail.seat.nodes small old new did
+
+-- ---- all of it
+
+-- over each link at most so many batches more were offered, and came out of its channel
+pub record AddsFew (count : ℕ) (old new : Mail) : Type 0 where
+  pub out : (j : ℕ) (before after : Outlet) → slice_get old.outlets.items j ≡ Some before → slice_get new.outlets.items j ≡ Some after →
+      length (offered after) ≤ length (offered before) + count
+  pub into : (j : ℕ) (before after : Inlet) → slice_get old.inlets.items j ≡ Some before → slice_get new.inlets.items j ≡ Some after →
+      length (taken_by after.end) ≤ length (taken_by before.end) + count
+
+-- It has done a turn's work: none of its own items is left, and over each link at most one batch more went.
+pub record Works (old new : Runner) (did : Bool) : Type 0 where
+  pub goes : GoesOn old new
+  pub none : new.node.own.items ≡ []
+  pub few : AddsFew 1 old.mail new.mail

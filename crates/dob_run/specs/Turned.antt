@@ -65,6 +65,13 @@ pub record IsTurned (set : PieceSet) (n size : ℕ) (turned : Turned) : Type 0 w
       (link : Rejoined) × (slice_get turned.links.items (i * n + j) ≡ Some link)
       × IsLink n size turned.closed.words.items i j sender taker (applied i j) link
 
+-- Over each link of n nodes went at most so many batches: by its counts, and by what was sent and received.
+pub record CarriesFew (n most : ℕ) (turned : Turned) : Type 0 where
+  pub counts : (i j : ℕ) → i < n → j < n →
+      (slice_index turned.closed.words.items (posted_word n i j) ≤ most) × (slice_index turned.closed.words.items (taken_word n i j) ≤ most)
+  pub links : (i j : ℕ) → i < n → j < n →
+      (link : Rejoined) × (slice_get turned.links.items (i * n + j) ≡ Some link) × (link.sent ≤ most) × (link.received ≤ most)
+
 -- no runner has failed
 abbrev pub AreUnfailed : List Runner → Type 0
 AreUnfailed runners = (k : ℕ) (runner : Runner) → slice_get runners k ≡ Some runner → runner.failed ≡ None

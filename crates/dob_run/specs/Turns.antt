@@ -1,5 +1,5 @@
 -- What runners need to make turns, and what they are afterwards.
-use Rattle.std.specs.Prelude.{◌≡◌, ◌≢◌, ⊤, ℕ, List, None, Some, slice_get}
+use Rattle.std.specs.Prelude.{◌≡◌, ◌≢◌, ℕ, List, None, Some, slice_get}
 use Rattle.std.specs.List.{AllZip}
 use Rattle.dob_pieces.specs.declared.piece_set.PieceSet.{PieceSet}
 use Rattle.dob_rank.specs.Limits.{IsSmall}
@@ -10,6 +10,7 @@ use Rattle.dob_run.specs.declared.turns.Until.{Until}
 use Rattle.dob_run.specs.declared.turns.Until.TheVariants.{Turns, Stopped}
 use Rattle.dob_run.specs.Manned.{IsNewCrew}
 use Rattle.dob_run.specs.Faults.{AreWithin}
+use Rattle.dob_run.specs.Rounds.{AddsFew}
 use Rattle.dob_run.specs.Runners.{KeepsRunner, IsReasoned}
 
 -- the runner can work with the classes of that piece set
@@ -29,14 +30,14 @@ until_stopped = Stopped
 abbrev pub until_turns : ℕ → Until
 until_turns count = Turns count
 
--- the runner was to make turns for so long, and has
-abbrev pub IsThrough : Until → Runner → Type 0
-IsThrough (Turns count) runner = ⊤
-IsThrough Stopped runner = runner.mail.seat.halt ≢ Running
+-- the runner was to make turns for so long, and has: with so many turns over each link went at most so many batches, if none failed
+abbrev pub IsThrough : Until → Runner → Runner → Type 0
+IsThrough (Turns count) old new = new.failed ≡ None → AddsFew count old.mail new.mail
+IsThrough Stopped old new = new.mail.seat.halt ≢ Running
 
 -- it keeps its place in its crew, and has; where it failed it has a reason, with a gate that may say no to some nodes
 abbrev pub Ends : (ℕ → Type 0) → Until → Runner → Runner → Type 0
-Ends No until old new = KeepsRunner old new × IsThrough until new × IsReasoned No new
+Ends No until old new = KeepsRunner old new × IsThrough until old new × IsReasoned No new
 
 -- The runners of a new crew of the piece set, of sizes within their limits, were to make turns for so long, and have, with a
 -- gate that may say no to some nodes.

@@ -58,6 +58,8 @@ impl Outlet {
 }
 
 impl Inlet {
+    ghost use Rattle.dob_run.specs.Rounds.{IsAsked};
+
     /// An inlet whose hand is empty.
     pub fn new(end: TakeEnd) -> Inlet
         ensures end { result.end ≡ end }
@@ -85,11 +87,13 @@ impl Inlet {
         }
     }
 
-    /// Takes the channel's next batch into the hand, if that is empty; tries once. Its promises hold if it returns.
+    /// Takes the channel's next batch into the hand, if that is empty; tries once. The hand is empty afterwards only where the
+    /// channel was. Its promises hold if it returns.
     pub fn receive<R: Wait>(&mut self, rt: &R)
         ensures worked { worked self.new ≡ worked self.old }
         ensures keeps { KeepsInlet self.old self.new }
         ensures held { self.old.hand ≢ None → self.new.hand ≡ self.old.hand }
+        ensures asked { IsAsked self.old self.new }
     {
         if self.hand.is_some() {
             return;

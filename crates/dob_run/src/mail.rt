@@ -1,5 +1,5 @@
 // What a worker has besides its node: its seat on the board and the ends of its channels.
-ghost use Rattle.std.specs.Prelude.{◌≡◌, ◌≢◌, ℕ, ◌^◌, ◌<◌, true, false, Some, None, ◌∷◌, [], ◌++◌, slice_get};
+ghost use Rattle.std.specs.Prelude.{◌≡◌, ◌≢◌, ◌⊎◌, ℕ, ◌^◌, ◌<◌, true, false, Some, None, ◌∷◌, [], ◌++◌, slice_get};
 ghost use Rattle.std.specs.Prelude.{slice_index, length, vec_len, slice_set, IfSome, IfNone};
 ghost use Rattle.dob_safra.specs.declared.event.RingEvent.TheVariants.{Post};
 ghost use Rattle.dob_board.specs.Views.{posts_more};
@@ -30,6 +30,7 @@ pub struct Mail {
 
 impl Mail {
     ghost use Rattle.dob_run.specs.Keeps.{KeepsMail};
+    ghost use Rattle.dob_run.specs.Rounds.{IsAsked};
 
     /// The mail of that seat, with an outlet and an inlet for each node, of which the seat has counted the batches.
     pub fn new(seat: NodeSeat, outlets: Vec<Outlet>, inlets: Vec<Inlet>) -> Mail
@@ -85,17 +86,20 @@ impl Mail {
         ensures inlets { self.new.inlets ≡ self.old.inlets }
         ensures hands { (j : ℕ) (before after : Outlet) → slice_get self.old.outlets.items j ≡ Some before →
             slice_get self.new.outlets.items j ≡ Some after → before.hand ≡ None → after.hand ≡ None }
+        ensures tried { (before after : Outlet) → slice_get self.old.outlets.items to ≡ Some before → slice_get self.new.outlets.items to ≡ Some after →
+            (after.hand ≡ before.hand) ⊎ (after.hand ≡ None) }
         ensures keeps { KeepsMail self.old self.new }
     {
         self.outlets[to].offer(rt);
     }
 
-    /// Takes the next batch of the channel from the node `from` into the hand for it, if that is empty; tries once. Its
-    /// promises hold if it returns.
+    /// Takes the next batch of the channel from the node `from` into the hand for it, if that is empty; tries once. The hand is
+    /// empty afterwards only where the channel was. Its promises hold if it returns.
     pub fn receive<R: Wait>(&mut self, rt: &R, from: usize)
         requires { from < self.old.seat.nodes }
         ensures seat { self.new.seat ≡ self.old.seat }
         ensures worked { HasChangedOne (λ old new. KeepsInlet old new × (worked new ≡ worked old)) from self.old.inlets.items self.new.inlets.items }
+        ensures asked { (before after : Inlet) → slice_get self.old.inlets.items from ≡ Some before → slice_get self.new.inlets.items from ≡ Some after → IsAsked before after }
         ensures outlets { self.new.outlets ≡ self.old.outlets }
         ensures keeps { KeepsMail self.old self.new }
     {

@@ -1,7 +1,7 @@
 // The rounds of a runner's turn: over all nodes, and over what there is to expand and to apply.
 ghost use Rattle.std.specs.Prelude.{◌≡◌, ◌↔◌, ◌<◌, IsTrue, None};
-ghost use Rattle.dob_run.specs.Runners.{Steps, StepsBy};
-ghost use Rattle.dob_run.specs.Rounds.{HoldsUp, IsHeldUp, ExpandsSome, AppliesAll};
+ghost use Rattle.dob_run.specs.Runners.{StepsBy};
+ghost use Rattle.dob_run.specs.Rounds.{HoldsUp, IsHeldUp, TakesAll, ExpandsSome, AppliesAll, SendsAll};
 
 use crate::runner::Runner;
 use dob_node::Cause;
@@ -12,7 +12,7 @@ impl Runner {
     /// Takes at most one batch from each node. Whether any came.
     pub(crate) fn take_all<R: Wait>(&mut self, rt: &R) -> Result<bool, Cause>
         requires { self.old.failed ≡ None }
-        ensures { Steps self.old self.new result }
+        ensures { StepsBy TakesAll self.old self.new result }
     {
         let mut took = false;
         for from in 0..self.mail.seat.nodes {
@@ -63,7 +63,7 @@ impl Runner {
     /// Sends at most one batch to each node, also one that isn't whole where small ones are asked for. Whether any was sent.
     pub(crate) fn send_all<R: Wait>(&mut self, rt: &R, small: bool) -> Result<bool, Cause>
         requires { self.old.failed ≡ None }
-        ensures { Steps self.old self.new result }
+        ensures { StepsBy (SendsAll small) self.old self.new result }
     {
         let mut sent = false;
         for to in 0..self.mail.seat.nodes {

@@ -6,7 +6,7 @@ ghost use Rattle.dob_run.specs.Manned.{mail_of, node_of};
 ghost use Rattle.dob_run.specs.Faults.{AreWithin, HasFault};
 ghost use Rattle.dob_run.specs.Runners.{says_no};
 ghost use Rattle.dob_run.specs.Turns.{until_turns};
-ghost use Rattle.dob_run.specs.Turned.{IsTurned, AreUnfailed, IsFirstFailed, StopsSo, AreWorkers, HasLeft};
+ghost use Rattle.dob_run.specs.Turned.{IsTurned, CarriesFew, AreUnfailed, IsFirstFailed, StopsSo, AreWorkers, HasLeft};
 
 use crate::closing::{Ended, close_mails};
 use crate::fault::Fault;
@@ -43,7 +43,8 @@ pub struct Turned {
 
 /// Lets each of `n` nodes of the piece set make `turns` turns, in a thread of its own, with batches of at most `batch` items
 /// and channels that hold at most `capacity` batches, and without the halt word and the token: each asks the gate at the
-/// start of each turn. One that fails ends, and the others make their turns. Its promises hold if it returns.
+/// start of each turn. At most one batch a turn goes over each link. One that fails ends, and the others make their turns. Its
+/// promises hold if it returns.
 ///
 /// Errors: those of `run_nodes`, but `Stopped` with the least node that failed and its cause.
 pub fn run_turns<R: Threads + Wait + Sync, G: Gate + Sync>(
@@ -57,6 +58,7 @@ pub fn run_turns<R: Threads + Wait + Sync, G: Gate + Sync>(
     gate: &G,
 ) -> Result<Turned, Fault>
     ensures turned { IfOk result (IsTurned set n batch) }
+    ensures few { IfOk result (CarriesFew n turns) }
     ensures within { OnOk result (IsSmall set × AreWithin n batch capacity) }
     ensures fault { IfErr result (HasFault set n batch capacity) }
     ensures stopped { IfErr result (StopsSo IsFirstFailed (says_no (G.says gate.now)) (until_turns turns) set n batch capacity) }

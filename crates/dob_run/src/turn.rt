@@ -3,7 +3,8 @@ ghost use Rattle.std.specs.Prelude.{◌≡◌, ◌≢◌, ◌↔◌, ◌<◌, �
 ghost use Rattle.dob_board.specs.declared.halt.Halt.TheVariants.{Running};
 ghost use Rattle.dob_node.specs.declared.cause.Cause.TheVariants.{Held};
 ghost use Rattle.dob_board.specs.Seats.{HearsHalt};
-ghost use Rattle.dob_run.specs.Runners.{Steps, GoesRound, HasFailed, HasTurned, IsHeldBack, IsNew, IsAsked, IsReasonFor, says_no};
+ghost use Rattle.dob_run.specs.Runners.{StepsBy, GoesRound, HasFailed, HasTurned, IsHeldBack, IsNew, IsAsked, IsReasonFor, says_no};
+ghost use Rattle.dob_run.specs.Rounds.{Works};
 
 use crate::gate::Gate;
 use crate::mail::Mail;
@@ -114,7 +115,7 @@ impl Runner {
     pub(crate) fn work<R: Wait>(&mut self, rt: &R, classes: &Classes) -> Result<bool, Cause>
         requires unfailed { self.old.failed ≡ None }
         requires set { classes.now.set ≡ self.old.set }
-        ensures { Steps self.old self.new result }
+        ensures { StepsBy Works self.old self.new result }
     {
         let took = self.take_all(rt)?;
         let expanded = self.expand_all(classes)?;

@@ -1,7 +1,8 @@
 // Turns of a runner, one after another.
-ghost use Rattle.std.specs.Prelude.{◌≡◌, ◌≢◌, None, IfErr, MatchResult};
+ghost use Rattle.std.specs.Prelude.{◌≡◌, ◌≢◌, None, IfErr, OnOk, MatchResult};
 ghost use Rattle.dob_board.specs.declared.halt.Halt.TheVariants.{Running};
 ghost use Rattle.dob_run.specs.Runners.{GoesOn, HasFailed, KeepsRunner, IsAsked, IsReasonFor, IsReasoned, says_no};
+ghost use Rattle.dob_run.specs.Rounds.{AddsFew};
 
 use crate::gate::Gate;
 use crate::runner::Runner;
@@ -54,11 +55,13 @@ impl Runner {
         unreachable!()
     }
 
-    // Makes so many turns of work for its node, or ends at the first that fails. Its promises hold if it returns.
+    // Makes so many turns of work for its node, or ends at the first that fails. If none did, at most one batch a turn went over
+    // each link. Its promises hold if it returns.
     fn go<R: Wait, G: Gate>(&mut self, rt: &R, classes: &Classes, gate: &G, turns: u64)
         requires unfailed { self.old.failed ≡ None }
         requires set { classes.now.set ≡ self.old.set }
         ensures keeps { KeepsRunner self.old self.new }
+        ensures few { self.new.failed ≡ None → AddsFew turns self.old.mail self.new.mail }
         ensures reasoned { IsReasoned (says_no (G.says gate.now)) self.new }
     {
         for _ in 0..turns {
@@ -79,6 +82,7 @@ impl Runner {
         requires unfailed { self.old.failed ≡ None }
         requires set { classes.now.set ≡ self.old.set }
         ensures goes { MatchResult result (λ _. GoesOn self.old self.new) (HasFailed self.old self.new) }
+        ensures few { OnOk result (AddsFew 1 self.old.mail self.new.mail) }
         ensures asked { IsAsked (G.says gate.now) self.old.mail.seat.node result }
         ensures reason { IfErr result (IsReasonFor (says_no (G.says gate.now)) self.new) }
     {

@@ -1,7 +1,7 @@
 // What a runner does for its node: it takes batches, expands settlements, applies items and sends batches.
-ghost use Rattle.std.specs.Prelude.{◌≡◌, ◌≢◌, ◌<◌, Some, None, slice_get};
-ghost use Rattle.dob_run.specs.Runners.{Steps, StepsBy};
-ghost use Rattle.dob_run.specs.Rounds.{ExpandsOne, AppliesOne};
+ghost use Rattle.std.specs.Prelude.{◌≡◌, ◌≢◌, ◌↔◌, ◌<◌, IsTrue, Some, None, slice_get};
+ghost use Rattle.dob_run.specs.Runners.{StepsBy};
+ghost use Rattle.dob_run.specs.Rounds.{TakesFrom, ExpandsOne, AppliesOne, HasToSend, CutsLeft, FillsFor, SendsTo};
 
 use crate::hands::Outlet;
 use crate::runner::Runner;
@@ -15,7 +15,7 @@ impl Runner {
     pub(crate) fn take_from<R: Wait>(&mut self, rt: &R, from: usize) -> Result<bool, Cause>
         requires unfailed { self.old.failed ≡ None }
         requires node { from < self.old.mail.seat.nodes }
-        ensures { Steps self.old self.new result }
+        ensures { StepsBy (TakesFrom from) self.old self.new result }
     {
         if from == self.mail.seat.node {
             return Ok(false);
@@ -72,7 +72,7 @@ impl Runner {
         requires node { to < self.old.mail.seat.nodes }
         requires other { to ≢ self.old.mail.seat.node }
         requires empty { (outlet : Outlet) → slice_get self.old.mail.outlets.items to ≡ Some outlet → outlet.hand ≡ None }
-        ensures { Steps self.old self.new result }
+        ensures { StepsBy (CutsLeft to) self.old self.new result }
     {
         let cut = match self.node.cut_for(to, self.size) {
             Ok(cut) => cut,
@@ -89,19 +89,34 @@ impl Runner {
         Ok(true)
     }
 
+    // Whether a whole batch is left to send to the node `to`, or anything where small ones are asked for.
+    fn has_to_send(&self, to: usize, small: bool) -> bool
+        requires unfailed { self.now.failed ≡ None }
+        requires node { to < self.now.mail.seat.nodes }
+        ensures { IsTrue result ↔ HasToSend self.now to small }
+    {
+        let left = self.node.left_for(to);
+        if left == 0 {
+            return false;
+        }
+        if small {
+            return true;
+        }
+        left >= self.size
+    }
+
     /// Cuts a batch for the node `to`, another one, as above, if none lies in the hand and a whole one is left to send, or
     /// anything where small ones are asked for.
     fn fill_for(&mut self, to: usize, small: bool) -> Result<bool, Cause>
         requires unfailed { self.old.failed ≡ None }
         requires node { to < self.old.mail.seat.nodes }
         requires other { to ≢ self.old.mail.seat.node }
-        ensures { Steps self.old self.new result }
+        ensures { StepsBy (FillsFor to small) self.old self.new result }
     {
         if self.mail.is_full(to) {
             return Ok(false);
         }
-        let left = self.node.left_for(to);
-        if left == 0 || (left < self.size && !small) {
+        if !self.has_to_send(to, small) {
             return Ok(false);
         }
         self.cut_for(to)
@@ -112,7 +127,7 @@ impl Runner {
     pub(crate) fn send_to<R: Wait>(&mut self, rt: &R, to: usize, small: bool) -> Result<bool, Cause>
         requires unfailed { self.old.failed ≡ None }
         requires node { to < self.old.mail.seat.nodes }
-        ensures { Steps self.old self.new result }
+        ensures { StepsBy (SendsTo to small) self.old self.new result }
     {
         if to == self.mail.seat.node {
             return Ok(false);

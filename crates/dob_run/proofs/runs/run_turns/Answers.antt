@@ -6,7 +6,7 @@ use Rattle.dob_run.specs.declared.turns.Until.TheVariants.{Turns}
 use Rattle.dob_run.specs.Faults.{HasFault}
 use Rattle.dob_run.specs.Runners.{says_no}
 use Rattle.dob_run.specs.Turned.{AreUnfailed, IsFirstFailed, StopsSo}
-use Rattle.dob_run.proofs.ByThreads.{still_crew, first_fault, first_stops, has_turned}
+use Rattle.dob_run.proofs.ByThreads.{still_crew, first_fault, first_stops, has_turned, carries_few}
 use Rattle.dob_run.proofs.RunFaults.{unbegun_fault, unbegun_stops}
 use Rattle.dob_run.proofs.runs.run_turns.Goals as goal
 
@@ -49,3 +49,8 @@ returns-clause-turned g c =
 
 pub returns-clause-within : goal.returns-clause-within
 returns-clause-within g c = (c.in_ok-board.ensures.ran.small, c.in_ok-board.ensures.ran.within)
+
+pub returns-clause-few : goal.returns-clause-few
+returns-clause-few g c =
+    carries_few (says_no (g.G.Gate.says c.args.gate.now)) c.args.turns c.args.set c.args.n c.args.batch c.args.capacity c.in_ok-board.board c.in_ok-board.ended.items c.in_ok-board.ensures.ran
+    (subst (λ (l : List Runner). AreUnfailed l) c.deref.ensures.value c.in_ok-find_failed.ensures.going) c.in_ok-turned.turned c.in_ok-turned.ensures

@@ -9,6 +9,7 @@ use Rattle.dob_node.specs.declared.cause.Cause.{Cause}
 use Rattle.dob_node.specs.Nodes.{outbox_to, HasCut}
 use Rattle.dob_run.proofs.Keeping.{own_still, links_kept, cut_reason, outbox_still}
 use Rattle.dob_run.proofs.Lawfuls.{cut_one, few_cut}
+use Rattle.dob_run.proofs.Sending.{cut_nothing, cut_more}
 use Rattle.dob_run.proofs.runner.Runner.cut_for.Goals as goal
 
 cut_none : (cut : Option BatchView) (batch : BatchView) → cut ≡ Some batch → (let given : Result (Option BatchView) Cause = Ok cut in given ≡ Ok None) → ⊥
@@ -68,3 +69,21 @@ invariant_of-self-2 c =
           c.post.ensures.same.node c.post.ensures.same.nodes (ap (λ (s : Stand). s.black) c.post.ensures.counted ∙ was_black) c.post.ensures.offered
           c.post.ensures.inlets;
     }
+
+pub returns-in_default : goal.returns-in_default
+returns-in_default c = cut_nothing c.args.to c.args.self.now _ c.requires.unfailed c.requires.unfailed
+    (c.in-Ok.ensures.nothing (ap Ok c.in_default.is)) refl refl refl (c.in-Ok.ensures.none.0 (ap Ok c.in_default.is))
+
+pub returns : goal.returns
+returns c =
+    let r = c.args.self.now in
+    let cut : HasCut c.args.to r.size c.in-Some.batch r.node c.cut_for.new.self =
+    subst (λ given. IfSome given (λ (b : BatchView). HasCut c.args.to r.size b r.node c.cut_for.new.self)) c.in-Some.is c.in-Ok.ensures.cut in
+    cut_more c.args.to r.size c.in-Some.batch r _
+    (record {
+      keeps = record { mail = c.post.ensures.keeps; set = refl; size = refl };
+      unfailed = c.requires.unfailed;
+      halt = same_halt c.post.new.self.seat.halt r.mail.seat.halt (ap (λ (s : Stand). s.halt) c.post.ensures.counted);
+    })
+    cut c.post.ensures.offered (ap (λ v. v.items) c.post.ensures.inlets)
+    (λ empty. cut_none c.in-Ok.cut c.in-Some.batch c.in-Some.is (c.in-Ok.ensures.none.1 empty))

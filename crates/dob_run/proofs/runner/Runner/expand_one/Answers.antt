@@ -52,6 +52,7 @@ returns-in-Err c = record {
 pub returns-in-Ok : goal.returns-in-Ok
 returns-in-Ok c = record {
   goes = record { keeps = record { mail = mail_same c.args.self.now.mail; set = refl; size = refl }; unfailed = c.requires.unfailed; halt = refl };
+  mail = refl;
   done = (λ none. c.in-Ok.ensures.done.0 (ap Ok none), λ none. same_answer _ _ (c.in-Ok.ensures.done.1 none));
   expanded = λ did. c.in-Ok.ensures.expanded (ap Ok did);
   nothing = λ none. c.in-Ok.ensures.nothing (ap Ok none);

@@ -3,17 +3,21 @@ use Rattle.std.proofs.Common.{sym, ◌∙◌}
 use Rattle.dob_run.specs.Runners.{says_no}
 use Rattle.dob_run.proofs.Keeping.{goes_trans, runner_trans, reasoned_unfailed}
 use Rattle.dob_run.proofs.Threaded.{steps_keep, steps_reasoned}
+use Rattle.dob_run.proofs.Pacing.{adds_none, adds_more}
 use Rattle.dob_run.proofs.runner.Runner.go.Goals as goal
 
 pub turn_alone-requires-clause-set : goal.turn_alone-requires-clause-set
-turn_alone-requires-clause-set g c = c.requires.set ∙ sym c.loop.invariant.keeps.set
+turn_alone-requires-clause-set g c = c.requires.set ∙ sym c.loop.invariant.0.keeps.set
 
 pub loop-preserved : goal.loop-preserved
-loop-preserved g c = goes_trans c.args.self.now c.loop.self c.turn_alone.new.self c.loop.invariant c.in-Ok.ensures.goes
+loop-preserved g c = (
+  goes_trans c.args.self.now c.loop.self c.turn_alone.new.self c.loop.invariant.0 c.in-Ok.ensures.goes,
+  adds_more c.loop.counter c.args.self.now.mail c.loop.self.mail c.turn_alone.new.self.mail c.loop.invariant.0.keeps.mail c.loop.invariant.1 c.in-Ok.ensures.few,
+)
 
 pub returns-in_default-clause-keeps : goal.returns-in_default-clause-keeps
 returns-in_default-clause-keeps g c =
-    runner_trans c.args.self.now c.loop.self c.turn_alone.new.self c.loop.invariant.keeps
+    runner_trans c.args.self.now c.loop.self c.turn_alone.new.self c.loop.invariant.0.keeps
     (steps_keep c.loop.self c.turn_alone.new.self c.turn_alone.result c.turn_alone.ensures.goes)
 
 pub returns-in_default-clause-reasoned : goal.returns-in_default-clause-reasoned
@@ -21,4 +25,4 @@ returns-in_default-clause-reasoned g c =
     steps_reasoned (says_no (g.G.Gate.says c.args.gate.now)) c.loop.self c.turn_alone.new.self c.turn_alone.result c.turn_alone.ensures.goes c.turn_alone.ensures.reason
 
 pub returns-clause-reasoned : goal.returns-clause-reasoned
-returns-clause-reasoned g c = reasoned_unfailed (says_no (g.G.Gate.says c.args.gate.now)) c.loop.self c.loop.invariant.unfailed
+returns-clause-reasoned g c = reasoned_unfailed (says_no (g.G.Gate.says c.args.gate.now)) c.loop.self c.loop.invariant.0.unfailed

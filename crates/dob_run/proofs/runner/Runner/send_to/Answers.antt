@@ -1,14 +1,16 @@
 -- The hand's filling and the offer of its batch make one step, and the offer leaves the runner lawful, sent or not.
-use Rattle.std.proofs.Common.{ap, ◌∙◌, inl}
+use Rattle.std.proofs.Common.{refl, ap, ◌∙◌, inl}
+use Rattle.dob_run.specs.Rounds.{SendsTo}
 use Rattle.dob_run.specs.Runners.{GoesOn}
-use Rattle.dob_run.proofs.Keeping.{mail_trans, own_still, out_still}
+use Rattle.dob_run.proofs.Keeping.{runner_same, broken_on, mail_trans, own_still, out_still}
 use Rattle.dob_run.proofs.Lawfuls.{offered_again}
+use Rattle.dob_run.proofs.Sending.{own_unsent, sends_none, sends_offered}
 use Rattle.dob_run.proofs.runner.Runner.send_to.Goals as goal
 
 pub invariant_of-self : goal.invariant_of-self
 invariant_of-self g c =
     let f = c.fill_for.new.self in
-    let went : GoesOn c.args.self.now f = c.in_ok-fill_for.ensures in
+    let went : GoesOn c.args.self.now f = c.in_ok-fill_for.ensures.0.goes in
     record {
       some = f.some;
       at_most = f.at_most;
@@ -18,13 +20,32 @@ invariant_of-self g c =
           (out_still f.mail c.offer.new.self (ap (λ s. s.nodes) c.offer.ensures.seat) c.offer.ensures.hands);
     }
 
+pub returns-in_err-fill_for : goal.returns-in_err-fill_for
+returns-in_err-fill_for g c = broken_on (SendsTo c.args.to c.args.small) c.args.self.now c.args.self.now c.fill_for.new.self c.from_residual.result c.in_err-fill_for.field-0.0
+    c.from_residual.ensures.1 (runner_same c.args.self.now) c.in_err-fill_for.ensures
+
+pub returns-then-to-self : goal.returns-then-to-self
+returns-then-to-self g c = own_unsent c.args.small c.args.self.now c.args.to c.requires.unfailed c.if-to-self.true
+
+pub returns-then-not-is_full : goal.returns-then-not-is_full
+returns-then-not-is_full g c =
+    sends_none c.args.to c.args.small c.args.self.now c.fill_for.new.self c.in_ok-fill_for.field-0 c.if-to-self.false c.in_ok-fill_for.ensures
+    (c.is_full.ensures.empty c.if-not-is_full.true)
+
 pub returns : goal.returns
 returns g c =
     let r = c.args.self.now in
     let f = c.fill_for.new.self in
-    let went : GoesOn r f = c.in_ok-fill_for.ensures in
-    record {
-      keeps = record { mail = mail_trans r.mail f.mail c.offer.new.self went.keeps.mail c.offer.ensures.keeps; set = went.keeps.set; size = went.keeps.size };
-      unfailed = went.unfailed;
-      halt = ap (λ s. s.halt) c.offer.ensures.seat ∙ went.halt;
-    }
+    let fills = c.in_ok-fill_for.ensures in
+    sends_offered c.args.to c.args.small r f c.in_ok-fill_for.field-0 c.if-to-self.false fills _
+    (record {
+      keeps = record {
+        mail = mail_trans r.mail f.mail c.offer.new.self fills.0.goes.keeps.mail c.offer.ensures.keeps;
+        set = fills.0.goes.keeps.set;
+        size = fills.0.goes.keeps.size;
+      };
+      unfailed = fills.0.goes.unfailed;
+      halt = ap (λ s. s.halt) c.offer.ensures.seat ∙ fills.0.goes.halt;
+    })
+    refl (ap (λ v. v.items) c.offer.ensures.inlets) (c.is_full.ensures.full c.if-not-is_full.false) c.offer.ensures.offered c.offer.ensures.tried
+    c.is_full-2.result c.is_full-2.ensures.full c.is_full-2.ensures.empty

@@ -1,6 +1,6 @@
--- The runner has gone on so far.
-use Rattle.dob_run.specs.Runners.{GoesOn}
+-- It has taken from each node so far.
+use Rattle.dob_run.specs.Rounds.{TakesBelow}
 use Rattle.dob_run.proofs.runner.Runner.take_all.Given as goal
 
 abbrev pub invariant-loop-from : goal.invariant-loop-from
-invariant-loop-from g l = GoesOn l.fn.self l.self
+invariant-loop-from g l = TakesBelow l.from l.fn.self l.self l.took

@@ -13,6 +13,7 @@ use Rattle.dob_run.specs.Workers.{items_worked}
 use Rattle.dob_run.proofs.Keeping.{mail_trans, links_kept, own_still, some_cause, failed_first, refused_reason}
 use Rattle.dob_run.proofs.Applied.{worked_again, worked_else, worked_more}
 use Rattle.dob_run.proofs.Lawfuls.{recoloured, same_inlets, applied_batch}
+use Rattle.dob_run.proofs.Taking.{own_untaken, takes_none, takes_one}
 use Rattle.dob_run.proofs.runner.Runner.take_from.Goals as goal
 
 -- what was worked in, after the next batch came into the hand
@@ -70,14 +71,32 @@ invariant_of-self-in-Ok g c =
           ∙ ap (λ xs. xs ++ c.in-Some.batch.items) (again c.args.from)));
     }
 
-pub returns-in-Ok : goal.returns-in-Ok
-returns-in-Ok g c =
+pub returns-then-from-self : goal.returns-then-from-self
+returns-then-from-self g c = own_untaken c.args.self.now c.args.from c.requires.unfailed c.if-from-self.true
+
+pub returns-in_default : goal.returns-in_default
+returns-in_default g c =
     let r = c.args.self.now in
-    record {
+    takes_none c.args.from r _ c.receive.new.self
+    (record {
       keeps = record { mail = mail_trans r.mail c.receive.new.self c.accept.new.self c.receive.ensures.keeps c.accept.ensures.keeps; set = refl; size = refl };
       unfailed = c.requires.unfailed;
       halt = c.accept.ensures.halt ∙ ap (λ s. s.halt) c.receive.ensures.seat;
-    }
+    })
+    c.if-from-self.false c.receive.ensures.worked c.receive.ensures.asked (ap (λ v. v.items) (c.accept.ensures.outlets ∙ c.receive.ensures.outlets))
+    (ap (λ v. v.items) c.in_default.ensures.kept)
+
+pub returns-in-Ok : goal.returns-in-Ok
+returns-in-Ok g c =
+    let r = c.args.self.now in
+    takes_one c.args.from r _ c.receive.new.self
+    (record {
+      keeps = record { mail = mail_trans r.mail c.receive.new.self c.accept.new.self c.receive.ensures.keeps c.accept.ensures.keeps; set = refl; size = refl };
+      unfailed = c.requires.unfailed;
+      halt = c.accept.ensures.halt ∙ ap (λ s. s.halt) c.receive.ensures.seat;
+    })
+    c.if-from-self.false c.receive.ensures.worked c.receive.ensures.asked (ap (λ v. v.items) (c.accept.ensures.outlets ∙ c.receive.ensures.outlets))
+    c.in-Some.batch c.in-Some.ensures.worked
 
 pub returns : goal.returns
 returns g c =

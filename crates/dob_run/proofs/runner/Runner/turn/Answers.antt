@@ -19,7 +19,7 @@ returns-in_err-did-clause-reason g c =
 
 pub returns-clause-turned : goal.returns-clause-turned
 returns-clause-turned g c =
-    let worked : GoesOn c.looks-halt.new.self c.work.new.self = c.in_ok-did.ensures in
+    let worked : GoesOn c.looks-halt.new.self c.work.new.self = c.in_ok-did.ensures.goes in
     let ended : GoesRound c.work.new.self c.ends_turn.new.self = c.ends_turn.ensures in
     let goes_on : c.looks-halt.result ≡ Running = search rules in
     record {

@@ -1,0 +1,77 @@
+-- How many batches go over each link in so many turns.
+use Rattle.std.proofs.Common.{◌≡◌, ◌≢◌, ℕ, ◌+◌, ◌<◌, ◌≤◌, List, length, Bool, Option, Some, None, Result, Ok, Err}
+use Rattle.std.proofs.Common.{refl, sym, ap, ◌∙◌, subst, inl, inr, arith}
+use Rattle.std.specs.Prelude.{slice_get, OnOk, MatchResult}
+use Rattle.std.proofs.lemmas.Bool.{cases_eq}
+use Rattle.std.proofs.lemmas.Option.{same_Some, slice_get_within}
+use Rattle.dob_chan.specs.Ends.{taken_by}
+use Rattle.dob_node.specs.declared.cause.Cause.{Cause}
+use Rattle.dob_run.specs.declared.hands.Outlet.{Outlet}
+use Rattle.dob_run.specs.declared.hands.Inlet.{Inlet}
+use Rattle.dob_run.specs.declared.mail.Mail.{Mail}
+use Rattle.dob_run.specs.declared.runner.Runner.{Runner}
+use Rattle.dob_run.specs.Keeps.{KeepsMail}
+use Rattle.dob_run.specs.Links.{offered}
+use Rattle.dob_run.specs.Rounds.{TakesAll, SendsAll, AddsFew, Works}
+use Rattle.dob_run.specs.Runners.{GoesOn, HasFailed, StepsBy}
+use Rattle.dob_run.proofs.Keeping.{there_is}
+
+-- none in no turn
+pub adds_none : (mail : Mail) → AddsFew 0 mail mail
+adds_none mail = record {
+  out = λ j before after was is. (let same : before ≡ after = same_Some before after (sym was ∙ is) in omega (arith, ap (λ (o : Outlet). length (offered o)) same));
+  into = λ j before after was is. (let same : before ≡ after = same_Some before after (sym was ∙ is) in omega (arith, ap (λ (i : Inlet). length (taken_by i.end)) same));
+}
+
+-- and one more in one turn more
+pub adds_more : (count : ℕ) (a b c : Mail) → KeepsMail a b → AddsFew count a b → AddsFew 1 b c → AddsFew (count + 1) a c
+adds_more count a b c kept few one = record {
+  out = λ j before after was is.
+      let there = there_is a.outlets.items b.outlets.items j before (omega (arith, a.outlets_len, b.outlets_len, kept.seat.nodes)) was in
+      omega (arith, few.out j before there.0 was there.1, one.out j there.0 after there.1 is);
+  into = λ j before after was is.
+      let there = there_is a.inlets.items b.inlets.items j before (omega (arith, a.inlets_len, b.inlets_len, kept.seat.nodes)) was in
+      omega (arith, few.into j before there.0 was there.1, one.into j there.0 after there.1 is);
+}
+
+-- one where batches were taken, and then others were sent
+pub adds_one : (a b d e : Runner) (small took sent : Bool) → TakesAll a b took → d.mail ≡ b.mail → SendsAll small d e sent → AddsFew 1 a.mail e.mail
+adds_one a b d e small took sent takes same sends = record {
+  out = λ j before after was is.
+      let there : slice_get d.mail.outlets.items j ≡ Some before =
+      ap (λ (m : Mail). slice_get m.outlets.items j) same ∙ ap (λ (l : List Outlet). slice_get l j) takes.outlets ∙ was in
+      let low : j < d.mail.seat.nodes = omega (arith, slice_get_within d.mail.outlets.items j before there, d.mail.outlets_len) in
+      elim (cases_eq j d.mail.seat.node) [
+        | inl itself ↦
+            let still : slice_get e.mail.outlets.items j ≡ slice_get d.mail.outlets.items j =
+            subst (λ (k : ℕ). slice_get e.mail.outlets.items k ≡ slice_get d.mail.outlets.items k) (sym itself) sends.itself in
+            let alike : before ≡ after = same_Some before after (sym there ∙ sym still ∙ is) in
+            omega (arith, ap (λ (o : Outlet). length (offered o)) alike)
+        | inr other ↦ (sends.sent j low other before after there is).1.few
+      ];
+  into = λ j before after was is.
+      let there : slice_get b.mail.inlets.items j ≡ Some after =
+      ap (λ (m : Mail). slice_get m.inlets.items j) (sym same) ∙ ap (λ (l : List Inlet). slice_get l j) (sym sends.inlets) ∙ is in
+      let low : j < a.mail.seat.nodes = omega (arith, slice_get_within a.mail.inlets.items j before was, a.mail.inlets_len) in
+      elim (cases_eq j a.mail.seat.node) [
+        | inl itself ↦
+            let still : slice_get b.mail.inlets.items j ≡ slice_get a.mail.inlets.items j =
+            subst (λ (k : ℕ). slice_get b.mail.inlets.items k ≡ slice_get a.mail.inlets.items k) (sym itself) takes.own in
+            let alike : before ≡ after = same_Some before after (sym was ∙ sym still ∙ there) in
+            omega (arith, ap (λ (i : Inlet). length (taken_by i.end)) alike)
+        | inr other ↦ (takes.taken j low other before after was there).1.few
+      ];
+}
+
+-- a turn's work is a step of the runner
+pub works_go : (a b : Runner) (r : Result Bool Cause) → StepsBy Works a b r → MatchResult r (λ _. GoesOn a b) (HasFailed a b)
+works_go a b (Ok did) works = works.goes
+works_go a b (Err why) broken = broken.failed
+
+pub works_few : (a b : Runner) (r : Result Bool Cause) → StepsBy Works a b r → OnOk r (AddsFew 1 a.mail b.mail)
+works_few a b (Ok did) works = works.few
+works_few a b (Err why) broken = tt
+
+-- where no turn failed
+pub unfailed_few : (count : ℕ) (a b : Runner) (why : Cause) → b.failed ≡ Some why → b.failed ≡ None → AddsFew count a.mail b.mail
+unfailed_few count a b why failed unfailed = absurd (let both = sym failed ∙ unfailed in cc)
