@@ -1,5 +1,5 @@
 -- A crew that was run, from what its threads promise to what is made of it.
-use Rattle.std.proofs.Common.{◌≡◌, ℕ, ◌<◌, ◌≤◌, ◌++◌, List, Option, Result, Ok, Err, map, length, ap, subst, ◌∙◌, arith, length-append}
+use Rattle.std.proofs.Common.{◌≡◌, ℕ, Bool, true, ◌<◌, ◌≤◌, List, Option, Result, Ok, Err, map, length, ap, subst, ◌∙◌, arith, length-append}
 use Rattle.std.specs.Prelude.{IfOk, IfErr, OnOk, Some, slice_get}
 use Rattle.std.specs.List.{AllZip}
 use Rattle.dob_pieces.proofs.Elements.{some_at}
@@ -21,16 +21,16 @@ use Rattle.dob_run.specs.declared.turns.Until.TheVariants as until
 use Rattle.dob_run.specs.Built.{IsBuilt}
 use Rattle.dob_run.specs.Closing.{IsCrew}
 use Rattle.dob_run.specs.Hands.{in_hand, worked_of}
-use Rattle.dob_run.specs.Links.{offered, worked}
+use Rattle.dob_run.specs.Links.{offered}
 use Rattle.dob_run.specs.Finishing.{HaveStopped, IsFailureOf}
-use Rattle.dob_run.specs.Manned.{mail_of}
+use Rattle.dob_run.specs.Manned.{mail_of, IsNewCrew}
 use Rattle.dob_run.specs.Faults.{AreWithin, HasFault}
-use Rattle.dob_run.specs.Runners.{KeepsRunner}
-use Rattle.dob_run.specs.Turned.{IsTurned, CarriesFew, AreUnfailed, IsFirstFailed, HasLeft, StopsSo}
-use Rattle.dob_run.specs.Turns.{Ends, HasRun}
+use Rattle.dob_run.specs.Runners.{KeepsRunner, IsReasonFor}
+use Rattle.dob_run.specs.Turned.{IsTurned, CarriesFew, AreUnfailed, IsFirstFailed, HasLeft, StopsSo, IsUnheld}
+use Rattle.dob_run.specs.Turns.{Ends, EndsBy, AreLetOn, HasRun}
 use Rattle.dob_run.proofs.Leaving.{for_kept, turned_is}
 use Rattle.dob_run.proofs.Keeping.{there_is}
-use Rattle.dob_run.proofs.Manned.{zip_at, seat_there, are_linked, crew_many, crew_low, outlet_at, inlet_at, crew_kept}
+use Rattle.dob_run.proofs.Manned.{zip_at, seat_at, seat_there, are_linked, crew_many, crew_low, outlet_at, inlet_at, crew_kept}
 use Rattle.dob_run.proofs.RunFaults.{stops_so}
 use Rattle.dob_run.proofs.Threaded.{all_kept}
 
@@ -69,6 +69,24 @@ module _ (No : ℕ → Type 0) (until : Until) (set : PieceSet) (n size capacity
   has_turned turned unfailed left =
       subst (λ (k : ℕ). IsTurned set k size turned) ran.opened.nodes
       (turned_is board set size ended turned still_crew left (for_kept set size ran.old ended ran.opened.each kept unfailed))
+
+-- ---- who was let on
+
+-- of a new crew, whose run went on
+pub are_let_on : (Says : ℕ → Bool → Type 0) (until : Until) (set : PieceSet) (n size capacity : ℕ) (board : Board) (old ended : List Runner) →
+    IsNewCrew set n size capacity board old → AllZip (EndsBy Says until) old ended → IsCrew board (map mail_of ended) → AreLetOn Says until ended
+are_let_on Says (until.Turns count) set n size capacity board old ended opened ends crew = tt
+are_let_on Says until.Stopped set n size capacity board old ended opened ends crew = λ k runner at unfailed.
+    let was = zip_at (EndsBy Says until.Stopped) old ended k runner ends at in
+    subst (λ (m : ℕ). Says m true) (seat_at board ended crew k runner at).node (was.2.1 (opened.new k was.0 was.1).0.running unfailed)
+
+-- and so each of its nodes, where none has failed
+pub all_let_on : (Says : ℕ → Bool → Type 0) (n : ℕ) (board : Board) (ended : List Runner) → board.nodes ≡ n → IsCrew board (map mail_of ended) →
+    AreLetOn Says until.Stopped ended → (result : Result Built Fault) → OnOk result (AreUnfailed ended) → OnOk result ((node : ℕ) → node < n → Says node true)
+all_let_on Says n board ended nodes crew are (Ok built) unfailed = λ node low.
+    let runner = some_at ended node (omega (arith, crew_many board ended crew, nodes, low)) in
+    are node runner.0 runner.1 (unfailed node runner.0 runner.1)
+all_let_on Says n board ended nodes crew are (Err why) unfailed = tt
 
 -- ---- what went over its links by then
 
@@ -149,6 +167,23 @@ module _ (No : ℕ → Type 0) (turns : ℕ) (set : PieceSet) (n size capacity :
   carries_few turned left = subst (λ (k : ℕ). CarriesFew k turns turned) ran.opened.nodes (carried turned left)
 
 -- ---- where it was run to its end
+
+-- no node was held back where the gate never says no
+unheld : (No : ℕ → Type 0) (set : PieceSet) (n size capacity : ℕ) → ((node : ℕ) → ¬ No node) → (fault : Fault) →
+    StopsSo IsFailureOf No until.Stopped set n size capacity fault → IsUnheld fault
+unheld No set n size capacity never (Stopped node why) stops = λ held.
+    let runner = stops.names.runner in
+    let was = zip_at (Ends No until.Stopped) stops.ran.old stops.ended node runner stops.ran.ends stops.names.at in
+    never runner.mail.seat.node (subst (IsReasonFor No runner) held (was.2.2 why stops.names.cause))
+unheld No set n size capacity never SetTooLarge stops = tt
+unheld No set n size capacity never Nodes stops = tt
+unheld No set n size capacity never Sizes stops = tt
+unheld No set n size capacity never Memory stops = tt
+
+pub if_unheld : (No : ℕ → Type 0) (set : PieceSet) (n size capacity : ℕ) (result : Result Built Fault) →
+    IfErr result (StopsSo IsFailureOf No until.Stopped set n size capacity) → ((node : ℕ) → ¬ No node) → IfErr result IsUnheld
+if_unheld No set n size capacity (Ok built) stops never = tt
+if_unheld No set n size capacity (Err fault) stops never = unheld No set n size capacity never fault stops
 
 module _ (No : ℕ → Type 0) (set : PieceSet) (n size capacity : ℕ) (board : Board) (ended : List Runner)
     (ran : HasRun No until.Stopped set n size capacity board ended) where

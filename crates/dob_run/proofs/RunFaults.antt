@@ -9,7 +9,7 @@ use Rattle.dob_run.specs.declared.runner.Runner.{Runner}
 use Rattle.dob_run.specs.declared.turns.Until.{Until}
 use Rattle.dob_run.specs.Turns.{HasRun}
 use Rattle.dob_run.specs.Faults.{HasSizeFault, HasCrewFault, HasStartFault, HasFault}
-use Rattle.dob_run.specs.Turned.{StopsSo}
+use Rattle.dob_run.specs.Turned.{StopsSo, IsUnheld}
 
 -- sizes outside their limits
 pub outside_none : (n batch capacity : ℕ) (fault : Fault) → HasSizeFault n batch capacity fault → HasCrewFault n batch capacity fault
@@ -35,6 +35,14 @@ unbegun_fault set n batch capacity Nodes why = why
 unbegun_fault set n batch capacity Sizes why = why
 unbegun_fault set n batch capacity (Stopped node cause) why = absurd why
 unbegun_fault set n batch capacity Memory why = why
+
+-- and holds no node back
+pub unbegun_unheld : (set : PieceSet) (n batch capacity : ℕ) (fault : Fault) → HasStartFault set n batch capacity fault → IsUnheld fault
+unbegun_unheld set n batch capacity SetTooLarge why = tt
+unbegun_unheld set n batch capacity Nodes why = tt
+unbegun_unheld set n batch capacity Sizes why = tt
+unbegun_unheld set n batch capacity (Stopped node cause) why = absurd why
+unbegun_unheld set n batch capacity Memory why = tt
 
 module _ (Names : List Runner → Fault → Type 0) (No : ℕ → Type 0) (until : Until) (set : PieceSet) (n size capacity : ℕ) where
   -- and no node of it is named

@@ -1,5 +1,5 @@
 -- What sending to one node after another does.
-use Rattle.std.proofs.Common.{◌≡◌, ◌≢◌, ◌⊎◌, ◌↔◌, ℕ, ◌+◌, ◌<◌, ◌≤◌, List, ◌∷◌, [], ◌++◌, length, Bool, true, false, not, ◌||◌, Option, Some, None, Result, Ok, Err}
+use Rattle.std.proofs.Common.{◌≡◌, ◌≢◌, ◌⊎◌, ℕ, ◌+◌, ◌≤◌, List, ◌∷◌, [], ◌++◌, length, Bool, true, false, not, ◌||◌, Option, Some, None, Result, Ok, Err}
 use Rattle.std.proofs.Common.{refl, sym, ap, ◌∙◌, subst, inl, inr, arith, length-append}
 use Rattle.std.specs.Prelude.{slice_get}
 use Rattle.std.proofs.lemmas.Bool.{cases_eq, cases_Bool, both_ways}
@@ -20,7 +20,7 @@ use Rattle.dob_run.specs.Mails.{HasChangedOne}
 use Rattle.dob_run.specs.Rounds.{HasToSend, IsToFill, IsMoreOut, CutsFor, CutsLeft, FillsFor, IsSent, SendsTo, SendsBelow}
 use Rattle.dob_run.specs.Runners.{GoesOn, StepsBy}
 use Rattle.dob_run.proofs.Keeping.{mail_same, runner_same, goes_trans}
-use Rattle.dob_run.proofs.Taking.{changed_there, changed_at, changed_else}
+use Rattle.dob_run.proofs.Taking.{changed_at, changed_else}
 
 -- ---- to all nodes
 
@@ -60,7 +60,7 @@ sends_more small k a b c did one so_far next = record {
         so_far.later k (omega arith) ∙ ap (λ (i : ℕ). slice_get a.mail.outlets.items i) (sym here) ∙ was in (
           one,
           subst (λ (i : ℕ). IsSent small i c one before after) (sym here) (next.sent (λ same. apart (here ∙ same ∙ so_far.goes.keeps.mail.seat.node)) before after there
-          (ap (λ (i : ℕ). slice_get c.mail.outlets.items i) (sym here) ∙ is)),
+              (ap (λ (i : ℕ). slice_get c.mail.outlets.items i) (sym here) ∙ is)),
           λ said. last did one said,
         )
     | inr other ↦
@@ -134,10 +134,16 @@ cut_more to size batch old new goes cut offer inlets some = (
 -- what is cut fills the hand that was to be filled
 pub fills_of : (to : ℕ) (small : Bool) (old new : Runner) (r : Result Bool Cause) → IsToFill old to small → StepsBy (CutsLeft to) old new r →
     StepsBy (FillsFor to small) old new r
-fills_of to small old new (Ok did) fill cuts = (cuts.0, (λ is. fill, λ again. elim (cases_Bool did) [
-  | inl is ↦ is
-  | inr none ↦ absurd (fill.0.0 (cuts.1.0 none))
-]))
+fills_of to small old new (Ok did) fill cuts = (
+  cuts.0,
+  (
+    λ is. fill,
+    λ again. elim (cases_Bool did) [
+      | inl is ↦ is
+      | inr none ↦ absurd (fill.0.0 (cuts.1.0 none))
+    ],
+  ),
+)
 fills_of to small old new (Err why) fill broken = broken
 
 -- ---- and its way
@@ -228,7 +234,7 @@ module _ (to : ℕ) (small : Bool) (old mid : Runner) (any : Bool) (apart : to �
       (full : (outlet : Outlet) → slice_get mid.mail.outlets.items to ≡ Some outlet → outlet.hand ≢ None)
       (offer : HasChangedOne IsSameOut to mid.mail.outlets.items new.mail.outlets.items)
       (tried : (before after : Outlet) → slice_get mid.mail.outlets.items to ≡ Some before → slice_get new.mail.outlets.items to ≡ Some after →
-          (after.hand ≡ before.hand) ⊎ (after.hand ≡ None)) where
+      (after.hand ≡ before.hand) ⊎ (after.hand ≡ None)) where
     same_offer : (after : Outlet) → slice_get new.mail.outlets.items to ≡ Some after → offered after ≡ offered offer.0
     same_offer after is = (changed_at IsSameOut mid.mail.outlets.items new.mail.outlets.items to offer offer.0 after offer.2 is).1
 
@@ -245,8 +251,8 @@ module _ (to : ℕ) (small : Bool) (old mid : Runner) (any : Bool) (apart : to �
         let held = filled_hand offer.0.hand (full offer.0 offer.2) in (
           held.0,
           sym (append-nil (sent_by after.end)) ∙ sym (ap (λ (h : Option BatchView). sent_by after.end ++ in_hand h) out) ∙ same_offer after is
-          ∙ ap (λ (h : Option BatchView). sent_by offer.0.end ++ in_hand h) held.1
-          ∙ ap (λ (e : SendEnd). sent_by e ++ held.0 ∷ []) (few_filled before offer.0 was offer.2).0,
+              ∙ ap (λ (h : Option BatchView). sent_by offer.0.end ++ in_hand h) held.1
+              ∙ ap (λ (e : SendEnd). sent_by e ++ held.0 ∷ []) (few_filled before offer.0 was offer.2).0,
           out,
         )
 
@@ -267,11 +273,11 @@ module _ (to : ℕ) (small : Bool) (old mid : Runner) (any : Bool) (apart : to �
       goes = goes;
       itself = λ is. absurd (apart is);
       sent = λ _ before after was is. record {
-            few = few_offered before after was is;
-            one = λ never. absurd (cc);
-            none = λ left. left_it before after was is (unsent refl after is);
-            spent = λ left empty has. unsent refl after is empty;
-          };
+        few = few_offered before after was is;
+        one = λ never. absurd (cc);
+        none = λ left. left_it before after was is (unsent refl after is);
+        spent = λ left empty has. unsent refl after is empty;
+      };
       own = ap (λ n. n.own.items) node ∙ fills.0.own;
       outboxes = λ j other. ap (λ n. outbox_to n j) node ∙ fills.0.others j other;
       others = else_where;
@@ -281,11 +287,11 @@ module _ (to : ℕ) (small : Bool) (old mid : Runner) (any : Bool) (apart : to �
       goes = goes;
       itself = λ is. absurd (apart is);
       sent = λ _ before after was is. record {
-            few = few_offered before after was is;
-            one = λ sent. took_it before after was is (out refl after is);
-            none = λ never. absurd (cc);
-            spent = λ never. absurd (cc);
-          };
+        few = few_offered before after was is;
+        one = λ sent. took_it before after was is (out refl after is);
+        none = λ never. absurd (cc);
+        spent = λ never. absurd (cc);
+      };
       own = ap (λ n. n.own.items) node ∙ fills.0.own;
       outboxes = λ j other. ap (λ n. outbox_to n j) node ∙ fills.0.others j other;
       others = else_where;

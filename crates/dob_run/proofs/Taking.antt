@@ -1,5 +1,5 @@
 -- What taking from one node after another does.
-use Rattle.std.proofs.Common.{◌≡◌, ◌≢◌, ℕ, ◌+◌, ◌<◌, ◌≤◌, ◌∷◌, [], ◌++◌, length, Bool, true, false, ◌||◌, List, Some, None}
+use Rattle.std.proofs.Common.{◌≡◌, ◌≢◌, ℕ, ◌+◌, ◌∷◌, [], ◌++◌, length, Bool, true, false, ◌||◌, List, Some, None}
 use Rattle.std.proofs.Common.{refl, sym, ap, ◌∙◌, subst, inl, inr, arith}
 use Rattle.std.specs.Prelude.{slice_get}
 use Rattle.std.proofs.lemmas.Bool.{cases_eq}
@@ -37,7 +37,7 @@ takes_more k a b c did one so_far next = record {
         so_far.later k (omega arith) ∙ ap (λ (i : ℕ). slice_get a.mail.inlets.items i) (sym here) ∙ was in (
           one,
           next.taken (λ same. apart (here ∙ same ∙ so_far.goes.keeps.mail.seat.node)) before after there
-          (ap (λ (i : ℕ). slice_get c.mail.inlets.items i) (sym here) ∙ is),
+              (ap (λ (i : ℕ). slice_get c.mail.inlets.items i) (sym here) ∙ is),
           λ said. last did one said,
         )
     | inr other ↦

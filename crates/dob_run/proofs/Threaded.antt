@@ -1,21 +1,22 @@
 -- Things that go one by one, each with its answer, and runners whose threads are started and ended so.
-use Rattle.std.proofs.Common.{◌≡◌, ◌≢◌, ℕ, Bool, List, [], ◌∷◌, ◌++◌, length, Some, sym, ap, ◌∙◌, subst, append_assoc, arith}
+use Rattle.std.proofs.Common.{◌≡◌, ℕ, Bool, true, None, inl, inr, List, [], ◌∷◌, ◌++◌, length, Some, sym, ap, ◌∙◌, subst, append_assoc, arith}
 use Rattle.std.specs.Prelude.{slice_get, IfOk, IfErr, Result, MatchResult, Ok, Err}
 use Rattle.std.proofs.lemmas.List.{append-nil}
 use Rattle.std.specs.List.{AllZip}
 use Rattle.std.specs.declared.vec.Vec.{Vec}
 use Rattle.dob_pieces.proofs.Elements.{middle}
-use Rattle.dob_board.specs.declared.halt.Halt.TheVariants.{Running}
+use Rattle.std.proofs.lemmas.Bool.{cases_Bool}
+use Rattle.dob_board.specs.declared.halt.Halt.{Halt}
 use Rattle.dob_node.specs.declared.cause.Cause.{Cause}
 use Rattle.dob_node.specs.declared.cause.Cause.TheVariants.{Memory}
 use Rattle.dob_run.specs.declared.runner.Runner.{Runner}
 use Rattle.dob_run.specs.declared.threads.Started.{Started}
 use Rattle.dob_run.specs.declared.threads.Started.TheVariants.{Runs, GaveUp}
-use Rattle.dob_run.specs.Runners.{KeepsRunner, GoesOn, HasFailed, IsReasonFor, IsReasoned, says_no}
+use Rattle.dob_run.specs.Runners.{KeepsRunner, GoesOn, HasFailed, HasTurned, IsAsked, IsReasonFor, IsReasoned, says_no}
 use Rattle.dob_run.specs.declared.turns.Until.{Until}
 use Rattle.dob_run.specs.declared.turns.Until.TheVariants.{Turns, Stopped}
 use Rattle.dob_run.specs.Started.{IsStartOf, IsEndOf}
-use Rattle.dob_run.specs.Turns.{IsThrough, Ends}
+use Rattle.dob_run.specs.Turns.{IsThrough, Ends, EndsBy, IsLetOn}
 use Rattle.dob_run.proofs.Pacing.{unfailed_few}
 use Rattle.dob_run.proofs.Keeping.{reasoned_failed, reasoned_unfailed}
 
@@ -58,17 +59,33 @@ pub through : (until : Until) (old new : Runner) (why : Cause) → HasFailed old
 through (Turns count) old new why failed = λ unfailed. unfailed_few count old new why failed.cause unfailed
 through Stopped old new why failed = failed.stopped
 
+-- and need not have been let on
+let_failed : (Says : ℕ → Bool → Type 0) (until : Until) (old new : Runner) (why : Cause) → HasFailed old new why → IsLetOn Says until old new
+let_failed Says (Turns count) old new why failed = tt
+let_failed Says Stopped old new why failed = λ going unfailed. absurd (let both = sym failed.cause ∙ unfailed in cc)
+
+-- where it makes a turn and doesn't fail the gate lets it on
+pub let_by_turn : (Says : ℕ → Bool → Type 0) (a b : Runner) (r : Result Halt Cause) → MatchResult r (HasTurned a b) (HasFailed a b) →
+    IsAsked Says a.mail.seat.node r → b.failed ≡ None → Says b.mail.seat.node true
+let_by_turn Says a b (Ok halt) turned asked unfailed = elim (cases_Bool asked.0) [
+  | inl said ↦ subst (λ (p : ℕ × Bool). Says p.0 p.1) (λ i. (sym turned.keeps.mail.seat.node i, said i)) asked.1
+  | inr none ↦ absurd (let held = asked.2.0 none in cc)
+]
+let_by_turn Says a b (Err why) failed asked unfailed = absurd (let both = sym failed.cause ∙ unfailed in cc)
+
 module _ {G : Type 0} (Says : G → ℕ → Bool → Type 0) (gate : G) (until : Until) where
   ended : (runner now : Runner) (started : Started G) → IsStartOf Says gate until runner started → IsEndOf Says started now →
-      Ends (says_no (Says gate)) until runner now
-  ended runner now (Runs handle) start end = subst (λ (p : G × Until × Runner). Ends (says_no (Says p.0)) p.1 p.2 now) (λ i. (start.2 i, start.1 i, start.0 i)) end
+      EndsBy (Says gate) until runner now
+  ended runner now (Runs handle) start end = subst (λ (p : G × Until × Runner). EndsBy (Says p.0) p.1 p.2 now) (λ i. (start.2 i, start.1 i, start.0 i)) end
   ended runner now (GaveUp was) start end =
-      subst (λ (r : Runner). Ends (says_no (Says gate)) until runner r) (sym end)
-      (start.keeps, through until runner was Memory start, reasoned_failed (says_no (Says gate)) was Memory start.cause tt)
+      subst (λ (r : Runner). EndsBy (Says gate) until runner r) (sym end) (
+        (start.keeps, through until runner was Memory start, reasoned_failed (says_no (Says gate)) was Memory start.cause tt),
+        let_failed (Says gate) until runner was Memory start,
+      )
 
   -- each runner that was started and ended is where it was in its crew, and through with its turns
   pub all_ended : (runners : List Runner) (started : List (Started G)) (after : List Runner) → AllZip (IsStartOf Says gate until) runners started →
-      AllZip (IsEndOf Says) started after → AllZip (Ends (says_no (Says gate)) until) runners after
+      AllZip (IsEndOf Says) started after → AllZip (EndsBy (Says gate) until) runners after
   all_ended [] [] [] starts ends = tt
   all_ended [] [] (e ∷ after) starts ends = absurd ends
   all_ended [] (s ∷ started) after starts ends = absurd starts
@@ -78,9 +95,16 @@ module _ {G : Type 0} (Says : G → ℕ → Bool → Type 0) (gate : G) (until :
 
   pub if_all_ended : {E Z : Type 0} (runners : List Runner) (started : List (Started G)) (result : Result (Vec Runner Z) E) →
       AllZip (IsStartOf Says gate until) runners started → IfOk result (λ after. AllZip (IsEndOf Says) started after.items) →
-      IfOk result (λ after. AllZip (Ends (says_no (Says gate)) until) runners after.items)
+      IfOk result (λ after. AllZip (EndsBy (Says gate) until) runners after.items)
   if_all_ended runners started (Ok after) starts ends = all_ended runners started after.items starts ends
   if_all_ended runners started (Err why) starts ends = tt
+
+-- what ended by a gate has ended
+pub all_by : (Says : ℕ → Bool → Type 0) (until : Until) (old new : List Runner) → AllZip (EndsBy Says until) old new → AllZip (Ends (says_no Says) until) old new
+all_by Says until [] [] ends = tt
+all_by Says until [] (r ∷ new) ends = absurd ends
+all_by Says until (r ∷ old) [] ends = absurd ends
+all_by Says until (r ∷ old) (s ∷ new) ends = (ends.0.0, all_by Says until old new ends.1)
 
 -- what ended keeps its place
 pub all_kept : (No : ℕ → Type 0) (until : Until) (old new : List Runner) → AllZip (Ends No until) old new → AllZip KeepsRunner old new

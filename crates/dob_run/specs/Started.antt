@@ -5,8 +5,8 @@ use Rattle.dob_run.specs.declared.runner.Runner.{Runner}
 use Rattle.dob_run.specs.declared.threads.Started.{Started}
 use Rattle.dob_run.specs.declared.threads.Started.TheVariants.{Runs, GaveUp}
 use Rattle.dob_run.specs.declared.turns.Until.{Until}
-use Rattle.dob_run.specs.Runners.{HasFailed, says_no}
-use Rattle.dob_run.specs.Turns.{Ends}
+use Rattle.dob_run.specs.Runners.{HasFailed}
+use Rattle.dob_run.specs.Turns.{EndsBy}
 
 module _ {G : Type 0} (Says : G → ℕ → Bool → Type 0) where
   -- The thread of the runner runs for so long, with that gate, and promises what it keeps; or none could be made, and it has failed
@@ -18,5 +18,5 @@ module _ {G : Type 0} (Says : G → ℕ → Bool → Type 0) where
 
   -- the runner whose thread ran, or the one that gave up
   abbrev pub IsEndOf : Started G → Runner → Type 0
-  IsEndOf (Runs handle) now = Ends (says_no (Says handle.promise.gate.value)) handle.promise.until.value handle.promise.was.value now
+  IsEndOf (Runs handle) now = EndsBy (Says handle.promise.gate.value) handle.promise.until.value handle.promise.was.value now
   IsEndOf (GaveUp runner) now = now ≡ runner

@@ -8,6 +8,7 @@ use Rattle.dob_board.specs.Words.{posted_word, taken_word, word_count}
 use Rattle.dob_board.specs.Seats.{AreWords}
 use Rattle.dob_chan.specs.declared.calls.Rejoined.{Rejoined}
 use Rattle.dob_chan.specs.Channels.{IsLawful}
+use Rattle.dob_node.specs.declared.cause.Cause.TheVariants.{Held}
 use Rattle.dob_node.specs.declared.node.Node.{Node}
 use Rattle.dob_node.specs.Nodes.{outbox_to}
 use Rattle.dob_run.specs.declared.fault.Fault.{Fault}
@@ -99,6 +100,14 @@ StopsSo Names No until set n size capacity SetTooLarge = ⊤
 StopsSo Names No until set n size capacity Nodes = ⊤
 StopsSo Names No until set n size capacity Sizes = ⊤
 StopsSo Names No until set n size capacity Memory = ⊤
+
+-- no node of it was held back
+abbrev pub IsUnheld : Fault → Type 0
+IsUnheld (Stopped node why) = why ≢ Held
+IsUnheld SetTooLarge = ⊤
+IsUnheld Nodes = ⊤
+IsUnheld Sizes = ⊤
+IsUnheld Memory = ⊤
 
 -- The first workers have the nodes and the rows of hands that stand at their places.
 pub record AreWorkers (upto : ℕ) (nodes : List Node) (sending taking : List (List (Option BatchView))) (workers : List Worker) : Type 0 where

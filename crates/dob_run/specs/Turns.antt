@@ -1,5 +1,5 @@
 -- What runners need to make turns, and what they are afterwards.
-use Rattle.std.specs.Prelude.{◌≡◌, ◌≢◌, ℕ, List, None, Some, slice_get}
+use Rattle.std.specs.Prelude.{◌≡◌, ◌≢◌, ⊤, ℕ, Bool, true, List, None, Some, slice_get}
 use Rattle.std.specs.List.{AllZip}
 use Rattle.dob_pieces.specs.declared.piece_set.PieceSet.{PieceSet}
 use Rattle.dob_rank.specs.Limits.{IsSmall}
@@ -11,7 +11,7 @@ use Rattle.dob_run.specs.declared.turns.Until.TheVariants.{Turns, Stopped}
 use Rattle.dob_run.specs.Manned.{IsNewCrew}
 use Rattle.dob_run.specs.Faults.{AreWithin}
 use Rattle.dob_run.specs.Rounds.{AddsFew}
-use Rattle.dob_run.specs.Runners.{KeepsRunner, IsReasoned}
+use Rattle.dob_run.specs.Runners.{KeepsRunner, IsReasoned, says_no}
 
 -- the runner can work with the classes of that piece set
 pub record Suits (set : PieceSet) (runner : Runner) : Type 0 where
@@ -38,6 +38,20 @@ IsThrough Stopped old new = new.mail.seat.halt ≢ Running
 -- it keeps its place in its crew, and has; where it failed it has a reason, with a gate that may say no to some nodes
 abbrev pub Ends : (ℕ → Type 0) → Until → Runner → Runner → Type 0
 Ends No until old new = KeepsRunner old new × IsThrough until old new × IsReasoned No new
+
+-- a gate that may answer so let its node go on, where its run went on and it hasn't failed
+abbrev pub IsLetOn : (ℕ → Bool → Type 0) → Until → Runner → Runner → Type 0
+IsLetOn Says (Turns count) old new = ⊤
+IsLetOn Says Stopped old new = old.mail.seat.halt ≡ Running → new.failed ≡ None → Says new.mail.seat.node true
+
+-- it has made its turns by such a gate
+abbrev pub EndsBy : (ℕ → Bool → Type 0) → Until → Runner → Runner → Type 0
+EndsBy Says until old new = Ends (says_no Says) until old new × IsLetOn Says until old new
+
+-- such a gate let each node go on that hasn't failed
+abbrev pub AreLetOn : (ℕ → Bool → Type 0) → Until → List Runner → Type 0
+AreLetOn Says (Turns count) ended = ⊤
+AreLetOn Says Stopped ended = (k : ℕ) (runner : Runner) → slice_get ended k ≡ Some runner → runner.failed ≡ None → Says k true
 
 -- The runners of a new crew of the piece set, of sizes within their limits, were to make turns for so long, and have, with a
 -- gate that may say no to some nodes.

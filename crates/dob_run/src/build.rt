@@ -1,12 +1,12 @@
 // A build by threads, from a piece set to its table.
-ghost use Rattle.std.specs.Prelude.{IfOk, IfErr, OnOk};
+ghost use Rattle.std.specs.Prelude.{ℕ, ◌<◌, true, false, IfOk, IfErr, OnOk};
 ghost use Rattle.dob_rank.specs.Limits.{IsSmall};
 ghost use Rattle.dob_run.specs.Built.{IsBuilt};
 ghost use Rattle.dob_run.specs.Finishing.{IsFailureOf};
 ghost use Rattle.dob_run.specs.Faults.{AreWithin, HasFault};
 ghost use Rattle.dob_run.specs.Runners.{says_no};
 ghost use Rattle.dob_run.specs.Turns.{until_stopped};
-ghost use Rattle.dob_run.specs.Turned.{StopsSo};
+ghost use Rattle.dob_run.specs.Turned.{StopsSo, IsUnheld};
 
 use crate::fault::Fault;
 use crate::finishing::{Built, finish};
@@ -19,8 +19,8 @@ use std::sync::Wait;
 use std::thread::Threads;
 
 /// Builds the value table of the piece set by `n` nodes, each in a thread of its own, with batches of at most `batch` items
-/// and channels that hold at most `capacity` batches: each asks the gate at the start of each turn. Its promises hold if it
-/// returns.
+/// and channels that hold at most `capacity` batches: each asks the gate at the start of each turn, and the gate let each go on
+/// at least once. Its promises hold if it returns.
 ///
 /// Errors, tested in this order: `SetTooLarge` where the set has more than `MOST_PIECES` besides the lions; `Nodes` where `n`
 /// isn't 1 to 16; `Sizes` where `batch` isn't 1 to 4096 or `capacity` not 1 to 1024; `Stopped` with the node that failed
@@ -36,6 +36,8 @@ pub fn run_nodes<R: Threads + Wait + Sync, G: Gate + Sync>(
     gate: &G,
 ) -> Result<Built, Fault>
     ensures built { IfOk result (IsBuilt set n batch) }
+    ensures let_on { OnOk result ((node : ℕ) → node < n → G.says gate.now node true) }
+    ensures unheld { ((node : ℕ) → ¬ G.says gate.now node false) → IfErr result IsUnheld }
     ensures within { OnOk result (IsSmall set × AreWithin n batch capacity) }
     ensures fault { IfErr result (HasFault set n batch capacity) }
     ensures stopped { IfErr result (StopsSo IsFailureOf (says_no (G.says gate.now)) until_stopped set n batch capacity) }

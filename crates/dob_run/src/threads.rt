@@ -2,7 +2,7 @@
 ghost use Rattle.std.specs.Prelude.{◌≡◌, IfOk, IfErr};
 ghost use Rattle.std.specs.List.{AllZip};
 ghost use Rattle.dob_run.specs.Faults.{HasStartFault};
-ghost use Rattle.dob_run.specs.Turns.{Suits, AllSuit, Ends, HasRun};
+ghost use Rattle.dob_run.specs.Turns.{Suits, AllSuit, EndsBy, AreLetOn, HasRun};
 ghost use Rattle.dob_run.specs.Runners.{says_no};
 ghost use Rattle.dob_run.specs.Started.{IsStartOf, IsEndOf};
 
@@ -33,7 +33,7 @@ pub(crate) struct Kept<G> {
 }
 
 impl<G: Gate> Promise<Runner> for Kept<G> {
-    ghost kept_by = { λ p r. Ends (says_no (G.says p.gate.value)) p.until.value p.was.value r };
+    ghost kept_by = { λ p r. EndsBy (G.says p.gate.value) p.until.value p.was.value r };
 }
 
 // A runner whose thread runs, or one that gave up.
@@ -60,6 +60,7 @@ pub(crate) fn run_crew<R: Threads + Wait + Sync, G: Gate + Sync>(
 ) -> Result<(Classes, Board, Vec<Runner>), Fault>
     ensures set { IfOk result (λ ran. ran.0.set ≡ set) }
     ensures ran { IfOk result (λ ran. HasRun (says_no (G.says gate.now)) until.now set n batch capacity ran.1 ran.2.items) }
+    ensures let_on { IfOk result (λ ran. AreLetOn (G.says gate.now) until.now ran.2.items) }
     ensures fault { IfErr result (HasStartFault set n batch capacity) }
 {
     let classes = classes_within(alloc, set, n, batch, capacity)?;
@@ -80,7 +81,7 @@ fn run_each<R: Threads + Wait + Sync, G: Gate + Sync>(
     until: &Until,
 ) -> Result<Vec<Runner>, Memory>
     requires { AllSuit classes.now.set runners.items }
-    ensures { IfOk result (λ ended. AllZip (Ends (says_no (G.says gate.now)) until.now) runners.items ended.items) }
+    ensures { IfOk result (λ ended. AllZip (EndsBy (G.says gate.now) until.now) runners.items ended.items) }
 {
     let unstarted = AtomicUsize::new(usize::MAX);
     let unstarted = &unstarted;
@@ -89,7 +90,7 @@ fn run_each<R: Threads + Wait + Sync, G: Gate + Sync>(
         rt,
         |scope| -> Result<Vec<Runner>, Memory>
             requires { AllSuit classes.now.set runners.items }
-            ensures { IfOk result (λ ended. AllZip (Ends (says_no (G.says gate.entry.now)) until.entry.now) runners.items ended.items) }
+            ensures { IfOk result (λ ended. AllZip (EndsBy (G.says gate.entry.now) until.entry.now) runners.items ended.items) }
         {
             let started = start_all(rt, alloc, scope, runners, classes, gate, until, unstarted)?;
             end_all(rt, alloc, started)
@@ -139,7 +140,7 @@ fn start<'s, E, R: Threads + Wait + Sync, G: Gate + Sync>(
     };
     let run = move || -> Runner
         requires { Suits classes.now.set runner }
-        ensures { Ends (says_no (G.says gate.entry.now)) until.entry.now runner result }
+        ensures { EndsBy (G.says gate.entry.now) until.entry.now runner result }
     { go_unless(unstarted, rt, runner, classes, gate, until) };
     match scope.spawn_with(promise, run) {
         Ok(handle) => Started::Runs(handle),
@@ -162,7 +163,7 @@ fn go_unless<R: Wait, G: Gate>(
     until: &Until,
 ) -> Runner
     requires { Suits classes.now.set runner }
-    ensures { Ends (says_no (G.says gate.now)) until.now runner result }
+    ensures { EndsBy (G.says gate.now) until.now runner result }
 {
     if unstarted.load(Ordering::SeqCst) == runner.mail.seat.node {
         runner.give_up(Cause::Memory);

@@ -1,5 +1,5 @@
 // Turns of a runner, one after another.
-ghost use Rattle.std.specs.Prelude.{◌≡◌, ◌≢◌, None, IfErr, OnOk, MatchResult};
+ghost use Rattle.std.specs.Prelude.{◌≡◌, ◌≢◌, true, None, IfErr, OnOk, MatchResult};
 ghost use Rattle.dob_board.specs.declared.halt.Halt.TheVariants.{Running};
 ghost use Rattle.dob_run.specs.Runners.{GoesOn, HasFailed, KeepsRunner, IsAsked, IsReasonFor, IsReasoned, says_no};
 ghost use Rattle.dob_run.specs.Rounds.{AddsFew};
@@ -19,7 +19,7 @@ pub(crate) enum Until {
 }
 
 impl Runner {
-    ghost use Rattle.dob_run.specs.Turns.{Suits, Ends};
+    ghost use Rattle.dob_run.specs.Turns.{Suits, EndsBy};
 
     /// Makes turns for so long, or ends at the first that fails. Its promises hold if it returns.
     pub(crate) fn go_until<R: Wait, G: Gate>(
@@ -30,7 +30,7 @@ impl Runner {
         until: &Until,
     )
         requires { Suits classes.now.set self.old }
-        ensures { Ends (says_no (G.says gate.now)) until.now self.old self.new }
+        ensures { EndsBy (G.says gate.now) until.now self.old self.new }
     {
         match until {
             Until::Turns(turns) => self.go(rt, classes, gate, *turns),
@@ -38,12 +38,14 @@ impl Runner {
         }
     }
 
-    // Makes whole turns until its seat has seen that the run ended or failed. Its promises hold if it returns.
+    // Makes whole turns until its seat has seen that the run ended or failed: the gate let it go on at least once, where the run
+    // went on and it didn't fail. Its promises hold if it returns.
     fn run<R: Wait, G: Gate>(&mut self, rt: &R, classes: &Classes, gate: &G)
         requires unfailed { self.old.failed ≡ None }
         requires set { classes.now.set ≡ self.old.set }
         ensures keeps { KeepsRunner self.old self.new }
         ensures stopped { self.new.mail.seat.halt ≢ Running }
+        ensures let_on { self.old.mail.seat.halt ≡ Running → self.new.failed ≡ None → G.says gate.now self.new.mail.seat.node true }
         ensures reasoned { IsReasoned (says_no (G.says gate.now)) self.new }
     {
         for _ in rt.forever() {

@@ -8,9 +8,9 @@ use Rattle.dob_run.specs.Built.{IsBuilt}
 use Rattle.dob_run.specs.Finishing.{IsFailureOf, HaveStopped}
 use Rattle.dob_run.specs.Faults.{HasFault}
 use Rattle.dob_run.specs.Runners.{says_no}
-use Rattle.dob_run.specs.Turned.{StopsSo}
-use Rattle.dob_run.proofs.ByThreads.{still_crew, have_stopped, is_built, is_within, has_fault, is_stopped}
-use Rattle.dob_run.proofs.RunFaults.{unbegun_fault, unbegun_stops}
+use Rattle.dob_run.specs.Turned.{StopsSo, IsUnheld}
+use Rattle.dob_run.proofs.ByThreads.{still_crew, have_stopped, is_built, is_within, has_fault, is_stopped, all_let_on, if_unheld}
+use Rattle.dob_run.proofs.RunFaults.{unbegun_fault, unbegun_stops, unbegun_unheld}
 use Rattle.dob_run.proofs.build.run_nodes.Goals as goal
 
 pub returns-in_err-classes-clause-fault : goal.returns-in_err-classes-clause-fault
@@ -55,3 +55,20 @@ pub returns-clause-stopped : goal.returns-clause-stopped
 returns-clause-stopped g c =
     is_stopped (says_no (g.G.Gate.says c.args.gate.now)) c.args.set c.args.n c.args.batch c.args.capacity c.in_ok-classes.board c.in_ok-classes.ended.items c.in_ok-classes.ensures.ran
     c.finish.result c.finish.ensures.failed
+
+pub returns-in_err-classes-clause-unheld : goal.returns-in_err-classes-clause-unheld
+returns-in_err-classes-clause-unheld g c = λ never.
+    let fault = c.in_err-classes.field-0.0 in
+    carried IsUnheld c.from_residual.result fault c.from_residual.ensures.1 (unbegun_unheld c.args.set c.args.n c.args.batch c.args.capacity fault c.in_err-classes.ensures.fault)
+
+pub returns-clause-let_on : goal.returns-clause-let_on
+returns-clause-let_on g c =
+    let ran = c.in_ok-classes.ensures.ran in
+    all_let_on (g.G.Gate.says c.args.gate.now) c.args.n c.in_ok-classes.board c.in_ok-classes.ended.items ran.opened.nodes
+    (still_crew (says_no (g.G.Gate.says c.args.gate.now)) Stopped c.args.set c.args.n c.args.batch c.args.capacity c.in_ok-classes.board c.in_ok-classes.ended.items ran)
+    c.in_ok-classes.ensures.let_on c.finish.result c.finish.ensures.unfailed
+
+pub returns-clause-unheld : goal.returns-clause-unheld
+returns-clause-unheld g c = if_unheld (says_no (g.G.Gate.says c.args.gate.now)) c.args.set c.args.n c.args.batch c.args.capacity c.finish.result
+    (is_stopped (says_no (g.G.Gate.says c.args.gate.now)) c.args.set c.args.n c.args.batch c.args.capacity c.in_ok-classes.board c.in_ok-classes.ended.items c.in_ok-classes.ensures.ran
+    c.finish.result c.finish.ensures.failed)

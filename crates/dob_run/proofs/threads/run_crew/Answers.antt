@@ -1,7 +1,10 @@
 -- The runners of a new crew suit the classes of its piece set, so they have run, of sizes within the limits.
 use Rattle.std.proofs.Common.{rules}
 use Rattle.dob_run.specs.Turns.{AllSuit}
-use Rattle.dob_run.proofs.Manned.{all_suit}
+use Rattle.dob_run.specs.Runners.{says_no}
+use Rattle.dob_run.proofs.ByThreads.{are_let_on}
+use Rattle.dob_run.proofs.Manned.{all_suit, crew_kept}
+use Rattle.dob_run.proofs.Threaded.{all_by, all_kept}
 use Rattle.dob_run.proofs.threads.run_crew.Goals as goal
 
 pub run_each-requires : goal.run_each-requires
@@ -15,5 +18,14 @@ returns-clause-ran g c = record {
   within = c.in_ok-classes.ensures.within.1;
   old = c.in_ok-board.runners.items;
   opened = c.in_ok-board.ensures;
-  ends = c.in_ok-ended.ensures;
+  ends = all_by (g.G.Gate.says c.args.gate.now) c.args.until.now c.in_ok-board.runners.items c.in_ok-ended.ended.items c.in_ok-ended.ensures;
 }
+
+pub returns-clause-let_on : goal.returns-clause-let_on
+returns-clause-let_on g c =
+    let Says = g.G.Gate.says c.args.gate.now in
+    let old = c.in_ok-board.runners.items in
+    let ended = c.in_ok-ended.ended.items in
+    are_let_on Says c.args.until.now c.args.set c.args.n c.args.batch c.args.capacity c.in_ok-board.board old ended c.in_ok-board.ensures c.in_ok-ended.ensures
+    (crew_kept c.in_ok-board.board old ended c.in_ok-board.ensures.crew
+    (all_kept (says_no Says) c.args.until.now old ended (all_by Says c.args.until.now old ended c.in_ok-ended.ensures)))

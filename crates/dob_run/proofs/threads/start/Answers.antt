@@ -9,5 +9,5 @@ use Rattle.dob_run.proofs.threads.start.Goals as goal
 pub returns-in-Err : goal.returns-in-Err
 returns-in-Err g c =
     let was : c.in-Err.handed_back.value.2 ≡ c.args.runner = λ i. (c.in-Err.ensures.err i).2 in
-    failed_after c.args.runner c.run-back.result c.give_up.new.self Memory (subst (λ (r : Runner). KeepsRunner r c.run-back.result) was c.run-back.ensures.0)
+    failed_after c.args.runner c.run-back.result c.give_up.new.self Memory (subst (λ (r : Runner). KeepsRunner r c.run-back.result) was c.run-back.ensures.0.0)
     c.give_up.ensures.failed

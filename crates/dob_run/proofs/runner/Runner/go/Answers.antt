@@ -3,7 +3,7 @@ use Rattle.std.proofs.Common.{sym, ◌∙◌}
 use Rattle.dob_run.specs.Runners.{says_no}
 use Rattle.dob_run.proofs.Keeping.{goes_trans, runner_trans, reasoned_unfailed}
 use Rattle.dob_run.proofs.Threaded.{steps_keep, steps_reasoned}
-use Rattle.dob_run.proofs.Pacing.{adds_none, adds_more}
+use Rattle.dob_run.proofs.Pacing.{adds_more}
 use Rattle.dob_run.proofs.runner.Runner.go.Goals as goal
 
 pub turn_alone-requires-clause-set : goal.turn_alone-requires-clause-set
