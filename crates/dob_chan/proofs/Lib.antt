@@ -4,3 +4,4 @@ pub mod Relays  -- passes that begin, send, take, become two and become one agai
 pub mod Deliveries  -- passes that begin, count and open senders, send, take and end
 pub mod EndsOpened  -- sending ends, one after another
 pub mod Rejoinings  -- passes that end, and rooms for what is left
+pub mod Staying  -- ends that stay those of their inbox

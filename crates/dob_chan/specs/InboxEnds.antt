@@ -61,6 +61,11 @@ SendsToSame old new = (new.pass.table_id ≡ old.pass.table_id) × (place_of new
 abbrev pub TakesFromSame : TakeEnd → TakeEnd → Type 0
 TakesFromSame old new = (new.pass.table_id ≡ old.pass.table_id) × (senders_of new ≡ senders_of old)
 
+-- the sending ends are still of the inboxes of which they were, in the same order
+abbrev pub AreStill : List SendEnd → List SendEnd → Type 0
+AreStill olds news = (length news ≡ length olds)
+    × ((k : ℕ) (old new : SendEnd) → slice_get olds k ≡ Some old → slice_get news k ≡ Some new → SendsToSame old new)
+
 -- At some moment the inbox was full of batches of its senders, and of these the sender's own were the last that it sent.
 abbrev pub WasFull : ℕ → ℕ → ℕ → List BatchView → Type 0
 WasFull capacity senders from sent = (held : List BatchView) × (length held ≡ capacity) × AreLast senders from sent held

@@ -3,7 +3,7 @@ ghost use Rattle.std.specs.Prelude.{◌≡◌, ℕ, suc, ◌<◌, ◌≤◌, ◌
 ghost use Rattle.std.specs.Arc.{arc_value};
 ghost use Rattle.crossbeam_queue.specs.Passes.{view, IsPassOf, IsSamePass, ruled_capacity};
 ghost use Rattle.dob_chan.specs.Inboxes.{most_batches, batches_of, sending, taking};
-ghost use Rattle.dob_chan.specs.InboxEnds.{sent_by, place_of, senders_beside, taken_by, taken_of, senders_of, capacity_of, IsOpened, AreOpened, SendsToSame, TakesFromSame, WasFull, WasEmpty};
+ghost use Rattle.dob_chan.specs.InboxEnds.{sent_by, place_of, senders_beside, taken_by, taken_of, senders_of, capacity_of, IsOpened, AreOpened, AreEndsOf, SendsToSame, TakesFromSame, WasFull, WasEmpty};
 
 use crate::inbox_ends::Inbox;
 pub use crate::inbox_ends::{Full, RejoinFault, Rejoined, SendEnd, TakeEnd};
@@ -23,7 +23,7 @@ pub fn inbox(
     capacity: usize,
 ) -> Result<(Vec<SendEnd>, TakeEnd), Memory>
     requires { (0 < senders) × (senders ≤ 16) × (0 < capacity) }
-    ensures senders { IfOk result (λ ends. (senders_of ends.1 ≡ senders) × (length ends.0.items ≡ senders)) }
+    ensures senders { IfOk result (λ ends. (senders_of ends.1 ≡ senders) × AreEndsOf ends.1 ends.0.items) }
     ensures opened { IfOk result (λ ends. AreOpened ends.1.pass capacity senders ends.0.items) }
     ensures nothing { IfOk result (λ ends. taken_by ends.1 ≡ []) }
 {
