@@ -1,2 +1,7 @@
 -- each step of a pass keeps the channel lawful
 pub mod Relays  -- passes that begin, send, take, become two and become one again
+-- each step of a pass keeps the inbox lawful
+pub mod Deliveries  -- passes that begin, count and open senders, send, take and end
+pub mod EndsOpened  -- sending ends, one after another
+pub mod Rejoinings  -- passes that end, and rooms for what is left
+pub mod Staying  -- ends that stay those of their inbox

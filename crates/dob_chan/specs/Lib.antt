@@ -1,2 +1,5 @@
 pub mod Channels
 pub mod Ends
+pub mod Inboxes
+pub mod InboxEnds
+pub mod InboxRooms

@@ -1,7 +1,9 @@
 // Channels of batches: what fits and comes out, what is left in the end, and two threads at their ends. The batches have the
-// five items of one settlement each, from owner 0 to owner 1 of the classes of lions alone, and are numbered from 0.
+// five items of one settlement each for owner 1 of two, of the classes of lions alone, and are numbered from 0 for each sender.
 ghost use Rattle.std.specs.Prelude.{◌≡◌, OnOk, IfOk};
 ghost use Rattle.dob_chan.specs.Ends.{ArePaired, SendsOnSame, TakesOnSame};
+
+mod inboxes;
 
 use super::outboxes::{add, won};
 use crate::sets::classes_of;
@@ -23,10 +25,10 @@ fn cut(rt: &impl Abort, outbox: &mut Outbox) -> Result<Batch, Memory> {
     Ok(outbox.cut(5)?.expect(rt, "a batch"))
 }
 
-// So many batches, the last one first.
-fn batches(rt: &impl Abort, alloc: Global, count: u64) -> Result<Vec<Batch>, Memory> {
+// So many batches of an owner, the last one first.
+fn batches(rt: &impl Abort, alloc: Global, from: usize, count: u64) -> Result<Vec<Batch>, Memory> {
     let classes = classes_of(rt, alloc, "000");
-    let mut outbox = Outbox::new(alloc, classes.set, 2, 0, 1);
+    let mut outbox = Outbox::new(alloc, classes.set, 2, from, 1);
     for number in 0..count {
         add(rt, alloc, &classes, &mut outbox, won(number, CLASS))?;
     }
@@ -137,7 +139,7 @@ fn waits_for_room<R: Wait + Abort>(rt: &R, send: &mut SendEnd, take: &mut TakeEn
 
 #[test]
 fn one_batch_fits_into_a_channel_for_one(rt: HostRuntime) -> Result<(), Fail> {
-    let mut batches = batches(&rt, rt.alloc(), 3)?;
+    let mut batches = batches(&rt, rt.alloc(), 0, 3)?;
     let (mut send, mut take) = pair(rt.alloc(), 1)?;
     assert!(rt; take.next(&rt).is_none());
     assert!(rt; offer_next(&rt, &mut send, &mut batches));
@@ -175,7 +177,7 @@ fn numbers_of(alloc: Global, batches: &[Batch]) -> Result<Vec<u64>, Memory> {
 
 #[test]
 fn what_waits_comes_back_in_order(rt: HostRuntime) -> Result<(), Fail> {
-    let mut batches = batches(&rt, rt.alloc(), 4)?;
+    let mut batches = batches(&rt, rt.alloc(), 0, 4)?;
     let (mut send, mut take) = pair(rt.alloc(), 3)?;
     leaves_three(&rt, &mut send, &mut take, &mut batches);
     let joined = rejoin(&rt, rt.alloc(), send, take);
@@ -189,7 +191,7 @@ fn what_waits_comes_back_in_order(rt: HostRuntime) -> Result<(), Fail> {
 #[test]
 fn many_batches_between_two_threads(rt: HostRuntime) -> Result<(), Fail> {
     for capacity in &[1, 64] {
-        let batches = batches(&rt, rt.alloc(), 10_000)?;
+        let batches = batches(&rt, rt.alloc(), 0, 10_000)?;
         let (send, take) = pair(rt.alloc(), *capacity)?;
         let (send, (take, in_order)) = thread::join(
             &rt,

@@ -1,0 +1,201 @@
+-- The ends of an inbox are joined again: passes end, and what is left goes into its sender's room.
+use Rattle.std.proofs.Common.{◌≡◌, ◌≢◌, ◌≤◌, ◌<◌, ◌+◌, ℕ, zero, suc, List, [], ◌∷◌, ◌++◌, length, map, Some, sym, refl, ap, ◌∙◌, subst, ⊎_elim, slice_index, slice_index_or, vec_len, vec_capacity}
+use Rattle.std.proofs.Common.{append_assoc, length-append, arith}
+use Rattle.std.specs.Prelude.{slice_get}
+use Rattle.std.proofs.lemmas.Bool.Decides.{eqb_tells}
+use Rattle.std.proofs.lemmas.List.{map-append}
+use Rattle.std.proofs.lemmas.Option.{slice_get_within, same_Some}
+use Rattle.crossbeam_queue.specs.Fifo.{Held}
+use Rattle.crossbeam_queue.specs.Passes.{Pass, view, IsSamePass}
+use Rattle.dob_pieces.proofs.Elements.{at_end, middle, some_at}
+use Rattle.dob_update.specs.Batches.{BatchView}
+use Rattle.dob_chan.specs.declared.inbox_rule.Note.{Note}
+use Rattle.dob_chan.specs.declared.inbox_ends.SendEnd.{SendEnd}
+use Rattle.dob_chan.specs.declared.inbox_ends.TakeEnd.{TakeEnd}
+use Rattle.dob_chan.specs.declared.inbox_ends.Rejoined.{Rejoined}
+use Rattle.dob_chan.specs.Inboxes.{batches_of, taking, sent_by_ended, AreLeft, IsLawful}
+use Rattle.dob_chan.specs.InboxEnds.{sent_by, place_of, taken_by, AreEndsOf, AreRejoined}
+use Rattle.dob_chan.specs.InboxRooms.{HasRoom, AreRooms, AreRoomy, AreFilled, HasOneMoreWaiting}
+use Rattle.dob_chan.proofs.Deliveries.{own_more, others_more}
+
+nothing_more : {X : Type 0} → (xs : List X) → xs ++ [] ≡ xs
+nothing_more [] = refl
+nothing_more (x ∷ xs) = ap (λ l. x ∷ l) (nothing_more xs)
+
+one_thing : {X : Type 0} → (xs : List X) (k : ℕ) (a b : X) → slice_get xs k ≡ Some a → slice_get xs k ≡ Some b → a ≡ b
+one_thing xs k a b here there = same_Some a b (sym here ∙ there)
+
+mapped : {X Y : Type 0} → (f : X → Y) (xs : List X) (k : ℕ) (x : X) (d : Y) → slice_get xs k ≡ Some x → slice_index_or (map f xs) k d ≡ f x
+mapped f [] k x d e = absurd (cc)
+mapped f (y ∷ ys) zero x d e = ap f (same_Some y x e)
+mapped f (y ∷ ys) (suc k) x d e = mapped f ys k x d e
+
+-- Senders have ended one after another, and these are left.
+pub record IsEnding (all left : List SendEnd) (old new : Pass BatchView Note) : Type 0 where
+  pub same : IsSamePass old new
+  pub done : List SendEnd
+  pub split : all ≡ done ++ left
+  pub ended : view new ≡ taking (view old).senders (view old).opened (view old).taken (map sent_by done)
+
+pub ending_begins : (all left : List SendEnd) (old : Pass BatchView Note) → left ≡ all
+    → view old ≡ taking (view old).senders (view old).opened (view old).taken [] → IsEnding all left old old
+ending_begins all left old is role = record { same = (refl, refl, refl); done = []; split = sym is; ended = role }
+
+-- the next end stands where as many have ended
+pub next_ends : (all left after : List SendEnd) (send : SendEnd) (old new : Pass BatchView Note) (inv : IsEnding all left old new) → left ≡ send ∷ after
+    → ((k : ℕ) (s : SendEnd) → slice_get all k ≡ Some s → (s.pass.table_id ≡ old.table_id) × (place_of s ≡ k))
+    → (send.pass.table_id ≡ new.table_id) × (place_of send ≡ length (view new).ended)
+next_ends all left after send old new inv is ends =
+    let at : slice_get all (length inv.done) ≡ Some send =
+    ap (λ l. slice_get l (length inv.done)) (inv.split ∙ ap (λ l. inv.done ++ l) is) ∙ middle inv.done after send in
+    let one = ends (length inv.done) send at in
+    (one.0 ∙ sym inv.same.0, one.1 ∙ sym (ap (λ (v : Note). length v.ended) inv.ended ∙ many sent_by inv.done)) where
+      many : {X Y : Type 0} → (f : X → Y) (xs : List X) → length (map f xs) ≡ length xs
+      many f [] = refl
+      many f (x ∷ xs) = ap suc (many f xs)
+
+pub ending_goes_on : (all left after : List SendEnd) (send : SendEnd) (old now new : Pass BatchView Note) (inv : IsEnding all left old now) → left ≡ send ∷ after
+    → IsSamePass now new
+    → view new ≡ taking (view now).senders (view now).opened (view now).taken ((view now).ended ++ sent_by send ∷ [])
+    → IsEnding all after old new
+ending_goes_on all left after send old now new inv is same role = record {
+  same = (same.0 ∙ inv.same.0, same.1 ∙ inv.same.1, same.2 ∙ inv.same.2);
+  done = inv.done ++ send ∷ [];
+  split = inv.split ∙ ap (λ l. inv.done ++ l) is ∙ sym (append_assoc inv.done (send ∷ []) after);
+  ended = role ∙ ap (λ (v : Note). taking v.senders v.opened v.taken (v.ended ++ sent_by send ∷ [])) inv.ended
+      ∙ ap (λ l. taking (view old).senders (view old).opened (view old).taken l) (sym (map-append sent_by inv.done (send ∷ [])));
+}
+
+pub all_ended : (all left : List SendEnd) (old new : Pass BatchView Note) (inv : IsEnding all left old new) → left ≡ []
+    → view new ≡ taking (view old).senders (view old).opened (view old).taken (map sent_by all)
+all_ended all left old new inv is = inv.ended ∙ ap (λ l. taking (view old).senders (view old).opened (view old).taken (map sent_by l))
+    (sym (inv.split ∙ ap (λ l. inv.done ++ l) is ∙ nothing_more inv.done))
+
+-- one room more
+pub one_room : (sends : List SendEnd) (taken : List ℕ) (rooms : List Rejoined) (room : Rejoined) (send : SendEnd) → slice_get sends (length rooms) ≡ Some send
+    → HasRoom send.sent (slice_index taken (length rooms)) room → AreRooms sends taken rooms → AreRooms sends taken (rooms ++ room ∷ [])
+one_room sends taken rooms room send at has all k s r here there = ⊎_elim
+    (λ before. all k s r here before)
+    (λ now. subst (λ (y : ℕ × SendEnd × Rejoined). HasRoom y.1.sent (slice_index taken y.0) y.2)
+    (λ i. (sym now.0 i, one_thing sends k send s (ap (slice_get sends) now.0 ∙ at) here i, now.1 i)) has) (at_end rooms room r k there)
+
+-- Rooms are filled with what was taken since.
+pub record IsFilling (first now : Note) (olds news : List Rejoined) : Type 0 where
+  pub role : now ≡ taking first.senders first.opened now.taken first.ended
+  pub count : length news ≡ length olds
+  pub each : (k : ℕ) (old new : Rejoined) → slice_get olds k ≡ Some old → slice_get news k ≡ Some new
+      → (new.sent ≡ old.sent) × (new.received ≡ old.received) × (batches_of k now.taken ≡ batches_of k first.taken ++ new.waiting.items)
+      × (vec_capacity old.waiting ≤ vec_capacity new.waiting)
+
+pub filling_begins : (first : Note) (olds : List Rejoined) → first ≡ taking first.senders first.opened first.taken first.ended
+    → AreRoomy first.ended first.taken olds → IsFilling first first olds olds
+filling_begins first olds role roomy = record {
+  role = role;
+  count = refl;
+  each = λ k old new here there. subst (λ (r : Rejoined). (r.sent ≡ old.sent) × (r.received ≡ old.received)
+      × (batches_of k first.taken ≡ batches_of k first.taken ++ r.waiting.items) × (vec_capacity old.waiting ≤ vec_capacity r.waiting))
+      (one_thing olds k old new here there)
+      (refl, refl, sym (ap (λ l. batches_of k first.taken ++ l) (roomy k old here).0 ∙ nothing_more (batches_of k first.taken)), omega arith);
+}
+
+-- what is taken next has room
+pub has_room : (first now new : Note) (olds news : List Rejoined) (x : BatchView) (room : Rejoined) → IsFilling first now olds news
+    → length first.ended ≡ length olds → AreRoomy first.ended first.taken olds → slice_get news x.from ≡ Some room
+    → new ≡ taking now.senders now.opened (now.taken ++ x ∷ []) now.ended
+    → (x.from < length now.ended → length (batches_of x.from new.taken) ≤ length (sent_by_ended now.ended x.from))
+    → length room.waiting.items < vec_capacity room.waiting
+has_room first now new olds news x room inv many roomy at role few =
+    let within = slice_get_within news x.from room at in
+    let same = inv.count in
+    let old = some_at olds x.from (omega (arith, within, same)) in
+    let this = inv.each x.from old.0 room old.1 at in
+    let wide = (roomy x.from old.0 old.1).1 in
+    let most = subst (λ (l : List (List BatchView)). x.from < length l → length (batches_of x.from new.taken) ≤ length (sent_by_ended l x.from))
+    (ap (λ (v : Note). v.ended) inv.role) few (omega (arith, within, same, many)) in
+    let one : length (batches_of x.from new.taken) ≡ length (batches_of x.from now.taken) + 1 =
+    ap (λ (v : Note). length (batches_of x.from v.taken)) role ∙ ap length (own_more x.from now.taken x refl)
+    ∙ length-append (batches_of x.from now.taken) (x ∷ []) in
+    let sum : length (batches_of x.from now.taken) ≡ length (batches_of x.from first.taken) + length room.waiting.items =
+    ap length this.2 ∙ length-append (batches_of x.from first.taken) room.waiting.items in
+    let kept = this.3 in
+    omega (arith, most, wide, one, sum, kept)
+
+-- one batch more went into its sender's room
+pub filling_goes_on : (first now new : Note) (olds news more : List Rejoined) (x : BatchView) → IsFilling first now olds news
+    → new ≡ taking now.senders now.opened (now.taken ++ x ∷ []) now.ended → length more ≡ length news
+    → ((a b : Rejoined) → slice_get news x.from ≡ Some a → slice_get more x.from ≡ Some b → HasOneMoreWaiting a x b)
+    → ((k : ℕ) → k ≢ x.from → slice_get more k ≡ slice_get news k) → IsFilling first new olds more
+filling_goes_on first now new olds news more x inv role count here others = record {
+  role = role ∙ ap (λ (v : Note). taking v.senders v.opened (now.taken ++ x ∷ []) v.ended) inv.role
+      ∙ ap (λ l. taking first.senders first.opened l first.ended) (sym (ap (λ (v : Note). v.taken) role));
+  count = count ∙ inv.count;
+  each = λ k old b was at. ⊎_elim
+      (λ same.
+      let k_is : k ≡ x.from = same.1 in
+      let within = slice_get_within olds k old was in
+      let a = some_at news k (let same = inv.count in omega (arith, within, same)) in
+      let grown = here a.0 b (ap (slice_get news) (sym k_is) ∙ a.1) (ap (slice_get more) (sym k_is) ∙ at) in
+      let was_so = inv.each k old a.0 was a.1 in (
+        grown.0 ∙ was_so.0,
+        grown.1 ∙ was_so.1,
+        ap (λ (v : Note). batches_of k v.taken) role ∙ own_more k now.taken x (sym k_is) ∙ ap (λ l. l ++ x ∷ []) was_so.2
+            ∙ append_assoc (batches_of k first.taken) a.0.waiting.items (x ∷ []) ∙ ap (λ l. batches_of k first.taken ++ l) (sym grown.2),
+        (let wider = grown.3 in let wide = was_so.3 in omega (arith, wider, wide)),
+      ))
+      (λ other.
+      let so = inv.each k old b was (sym (others k other.1) ∙ at) in
+      (so.0, so.1, ap (λ (v : Note). batches_of k v.taken) role ∙ others_more k now.taken x (λ same. other.1 (sym same)) ∙ so.2, so.3))
+      (eqb_tells k x.from);
+}
+
+-- where the inbox is empty, each room has what was left
+pub all_filled : (first now : Note) (olds news : List Rejoined) → IsFilling first now olds news → length first.ended ≡ length olds
+    → Held 0 (AreLeft now.taken now.ended) → AreFilled first.ended first.taken olds news
+all_filled first now olds news inv many held = (
+  inv.count,
+  λ k old new was at.
+      let within = slice_get_within olds k old was in
+      let so = inv.each k old new was at in
+      let ended_is : now.ended ≡ first.ended = ap (λ (v : Note). v.ended) inv.role in
+      let left = held.2 k (subst (λ (l : List (List BatchView)). k < length l) (sym ended_is) (omega (arith, within, many))) in (
+        so.0,
+        so.1,
+        ap (λ l. sent_by_ended l k) (sym ended_is) ∙ left ∙ ap (λ l. batches_of k now.taken ++ batches_of k l) (none_left held.0 held.1)
+            ∙ nothing_more (batches_of k now.taken) ∙ so.2,
+      ),
+) where
+  none_left : {X : Type 0} → (xs : List X) → length xs ≡ 0 → xs ≡ []
+  none_left [] e = refl
+  none_left (x ∷ xs) e = absurd (omega (arith, e))
+
+-- the rooms are wide enough for what was sent beyond what was taken
+pub rooms_are_wide : (sends : List SendEnd) (take : TakeEnd) (rooms : List Rejoined) → length sends ≡ vec_len take.taken → length rooms ≡ length sends
+    → AreRooms sends take.taken.items rooms → AreRoomy (map sent_by sends) (taken_by take) rooms
+rooms_are_wide sends take rooms count many all k room at =
+    let within = slice_get_within rooms k room at in
+    let send = some_at sends k (omega (arith, within, many)) in
+    let has = all k send.0 room send.1 at in
+    let sent : length (sent_by_ended (map sent_by sends) k) ≡ send.0.sent = ap length (mapped sent_by sends k send.0 [] send.1) ∙ sym send.0.counted in
+    let received = take.counted k (omega (arith, within, many, count)) in
+    let wide = has.3 in
+    (has.2, omega (arith, sent, received, wide))
+
+-- for each sender, what it sent is what was received and then what is left
+pub all_rejoined : (sends : List SendEnd) (take : TakeEnd) (rooms joined : List Rejoined) → AreEndsOf take sends → length sends ≡ vec_len take.taken
+    → length rooms ≡ length sends → AreRooms sends take.taken.items rooms
+    → AreFilled (map sent_by sends) (taken_by take) rooms joined → AreRejoined sends (taken_by take) joined
+all_rejoined sends take rooms joined ends count many all filled = (
+  filled.0 ∙ many,
+  λ k send this at there.
+      let within = slice_get_within sends k send at in
+      let room = some_at rooms k (omega (arith, within, many)) in
+      let has = all k send room.0 at room.1 in
+      let so = filled.1 k room.0 this room.1 there in
+      let place : place_of send ≡ k = (ends.1 k send at).1 in
+      subst (λ (p : ℕ). (this.sent ≡ length (sent_by send)) × (this.received ≡ length (batches_of p (taken_by take)))
+      × IsLawful (sent_by send) (batches_of p (taken_by take)) this.waiting.items) (sym place) (
+        so.0 ∙ has.0 ∙ send.counted,
+        so.1 ∙ has.1 ∙ take.counted k (omega (arith, within, count)),
+        sym (mapped sent_by sends k send [] at) ∙ so.2,
+      ),
+)

@@ -1,0 +1,59 @@
+// The ends of an inbox. Each tries once, and knows what it has sent or taken.
+ghost use Rattle.std.specs.Prelude.{◌≡◌, ℕ, [], length, ◌≤◌, ◌<◌, vec_len, slice_index};
+ghost use Rattle.std.specs.Arc.{arc_value};
+ghost use Rattle.crossbeam_queue.specs.Passes.{view, IsPassOf};
+ghost use Rattle.dob_chan.specs.Inboxes.{sending, taking, most_batches, batches_of};
+
+use crate::inbox_rule::{InOrder, Note};
+use crossbeam_queue::{Pass, RuledArrayQueue};
+use dob_update::Batch;
+use std::sync::Arc;
+
+// The queue of an inbox.
+pub(crate) type Inbox = RuledArrayQueue<Batch, Note, InOrder>;
+
+/// The sending end of one of an inbox's senders. It counts the batches that it has sent.
+#[derive(Drop)]
+pub struct SendEnd {
+    pub(crate) inbox: Arc<Inbox>,
+    pub(crate) pass: Pass<Batch, Note>,
+    pub(crate) from: usize,
+    pub(crate) sent: u64,
+    ghost seated: { IsPassOf (arc_value inbox) pass },
+    ghost role: { view pass ≡ sending (view pass).senders from (view pass).sent },
+    ghost counted: { sent ≡ length (view pass).sent },
+    ghost few: { sent ≤ most_batches },
+}
+
+/// The taking end of an inbox. It counts the batches that it has taken of each sender.
+#[derive(Drop)]
+pub struct TakeEnd {
+    pub(crate) inbox: Arc<Inbox>,
+    pub(crate) pass: Pass<Batch, Note>,
+    pub(crate) taken: Vec<u64>,
+    ghost seated: { IsPassOf (arc_value inbox) pass },
+    ghost role: { view pass ≡ taking (vec_len taken) (vec_len taken) (view pass).taken [] },
+    ghost counted: { (k : ℕ) → k < vec_len taken → slice_index taken.items k ≡ length (batches_of k (view pass).taken) },
+    ghost few: { (k : ℕ) → k < vec_len taken → slice_index taken.items k ≤ most_batches },
+}
+
+/// An inbox didn't take the batch, which comes back: it was full.
+#[derive(Debug, Drop)]
+pub struct Full {
+    pub batch: Batch,
+}
+
+/// What went through an inbox from one sender: how many batches were sent and received, and those that are left.
+#[derive(Debug, Drop)]
+pub struct Rejoined {
+    pub sent: u64,
+    pub received: u64,
+    pub waiting: Vec<Batch>,
+}
+
+/// No memory for the batches that are left: all ends as they were.
+#[derive(Drop)]
+pub struct RejoinFault {
+    pub sends: Vec<SendEnd>,
+    pub take: TakeEnd,
+}

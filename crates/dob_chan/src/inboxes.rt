@@ -1,0 +1,153 @@
+// Opening an inbox, sending and taking.
+ghost use Rattle.std.specs.Prelude.{◌≡◌, ℕ, suc, ◌<◌, ◌≤◌, ◌+◌, [], ◌∷◌, ◌++◌, length, vec_len, vec_capacity, slice_get, slice_index, Some, IfOk, OnOk, IfErr, MatchOption};
+ghost use Rattle.std.specs.Arc.{arc_value};
+ghost use Rattle.crossbeam_queue.specs.Passes.{view, IsPassOf, IsSamePass, ruled_capacity};
+ghost use Rattle.dob_chan.specs.Inboxes.{most_batches, batches_of, sending, taking};
+ghost use Rattle.dob_chan.specs.InboxEnds.{sent_by, place_of, senders_beside, taken_by, taken_of, senders_of, capacity_of, IsOpened, AreOpened, AreEndsOf, SendsToSame, TakesFromSame, WasFull, WasEmpty};
+
+use crate::inbox_ends::Inbox;
+pub use crate::inbox_ends::{Full, RejoinFault, Rejoined, SendEnd, TakeEnd};
+pub use crate::inbox_rejoins::rejoin_inbox;
+use crate::inbox_rule::{Counts, Note, Opens, Sends, Takes};
+use crossbeam_queue::Pass;
+use dob_pieces::Memory;
+use dob_update::Batch;
+use std::alloc::{AllocError, Global};
+use std::sync::{Arc, Wait};
+
+/// A new inbox for so many senders, at least 1 and at most 16, that holds at most `capacity` batches, which is above 0:
+/// the sending end of each, in order, and the taking end. `Memory` where there is none for them.
+pub fn inbox(
+    alloc: Global,
+    senders: usize,
+    capacity: usize,
+) -> Result<(Vec<SendEnd>, TakeEnd), Memory>
+    requires { (0 < senders) × (senders ≤ 16) × (0 < capacity) }
+    ensures senders { IfOk result (λ ends. (senders_of ends.1 ≡ senders) × AreEndsOf ends.1 ends.0.items) }
+    ensures opened { IfOk result (λ ends. AreOpened ends.1.pass capacity senders ends.0.items) }
+    ensures nothing { IfOk result (λ ends. taken_by ends.1 ≡ []) }
+{
+    let (queue, mut pass) = Inbox::ruled(alloc, capacity)?;
+    let inbox = Arc::new(alloc, queue)?;
+    count(&inbox, &mut pass, senders);
+    let sends = open_all(alloc, &inbox, &mut pass, senders)?;
+    let taken = vec![in alloc; 0; senders]?;
+    Ok((sends, TakeEnd { inbox, pass, taken }))
+}
+
+// Tells the taking pass, and so the passes to come, how many senders there will be.
+fn count(inbox: &Inbox, pass: &mut Pass<Batch, Note>, senders: usize)
+    requires seat { IsPassOf inbox.now pass.old }
+    requires role { view pass.old ≡ taking 0 0 [] [] }
+    requires few { senders ≤ 16 }
+    ensures seat { IsPassOf inbox.now pass.new }
+    ensures role { view pass.new ≡ taking senders 0 [] [] }
+{
+    for _ in 0..senders {
+        inbox.another::<Counts>(pass);
+    }
+}
+
+// The ends of all senders, in order.
+fn open_all(
+    alloc: Global,
+    inbox: &Arc<Inbox>,
+    pass: &mut Pass<Batch, Note>,
+    senders: usize,
+) -> Result<Vec<SendEnd>, AllocError>
+    requires seat { IsPassOf (arc_value inbox.now) pass.old }
+    requires role { view pass.old ≡ taking senders 0 [] [] }
+    requires few { senders ≤ 16 }
+    ensures seat { IsPassOf (arc_value inbox.now) pass.new }
+    ensures role { IfOk result (λ _. view pass.new ≡ taking senders senders [] []) }
+    ensures opened { IfOk result (λ sends. (length sends.items ≡ senders) × AreOpened pass.new (ruled_capacity (arc_value inbox.now)) senders sends.items) }
+{
+    let mut sends = Vec::with_capacity(alloc, senders)?;
+    for from in 0..senders {
+        let send = open_next(inbox, pass, from, senders)?;
+        sends.push(send)?;
+    }
+    Ok(sends)
+}
+
+// The end of the next sender.
+fn open_next(
+    inbox: &Arc<Inbox>,
+    pass: &mut Pass<Batch, Note>,
+    from: usize,
+    senders: usize,
+) -> Result<SendEnd, AllocError>
+    requires seat { IsPassOf (arc_value inbox.now) pass.old }
+    requires role { view pass.old ≡ taking senders from [] [] }
+    requires within { from < senders }
+    ensures seat { IsSamePass pass.old pass.new }
+    ensures role { IfOk result (λ _. view pass.new ≡ taking senders (suc from) [] []) }
+    ensures opened { IfOk result (IsOpened pass.old (ruled_capacity (arc_value inbox.now)) senders from) }
+{
+    let shared = Arc::try_clone(inbox)?;
+    let own = inbox.another::<Opens>(pass);
+    Ok(SendEnd {
+        inbox: shared,
+        pass: own,
+        from,
+        sent: 0,
+    })
+}
+
+impl SendEnd {
+    /// The place of the end among all senders of its inbox: it is for the batches of that owner.
+    pub fn from(&self) -> usize
+        ensures { result ≡ place_of self.now }
+    {
+        self.from
+    }
+
+    /// How many batches the end has sent.
+    pub fn sent_count(&self) -> u64
+        ensures { result ≡ length (sent_by self.now) }
+    {
+        self.sent
+    }
+
+    /// Sends a batch of its owner, if the inbox has room; tries once. `Full` with the batch only where the inbox held its
+    /// capacity, of all senders together, at some moment of the call; then nothing is sent. Its promises hold if it
+    /// returns.
+    pub fn offer<R: Wait>(&mut self, rt: &R, batch: Batch) -> Result<(), Full>
+        requires few { length (sent_by self.old) < most_batches }
+        requires own { batch.from ≡ place_of self.old }
+        ensures same { SendsToSame self.old self.new }
+        ensures sent { OnOk result (sent_by self.new ≡ sent_by self.old ++ batch ∷ []) }
+        ensures back { IfErr result (λ full. (full.batch ≡ batch) × (sent_by self.new ≡ sent_by self.old)) }
+        ensures full { IfErr result (λ full. WasFull (capacity_of self.old) (senders_beside self.old) (place_of self.old) (sent_by self.old)) }
+    {
+        match self.inbox.push_as::<Sends, R>(rt, &mut self.pass, batch) {
+            Ok(()) => {
+                self.sent += 1;
+                Ok(())
+            }
+            Err(batch) => Err(Full { batch }),
+        }
+    }
+}
+
+impl TakeEnd {
+    /// How many batches the end has taken of each sender.
+    pub fn taken_counts(&self) -> &[u64]
+        ensures { (length result.now ≡ senders_of self.now) × ((k : ℕ) → k < length result.now → slice_index result.now k ≡ length (taken_of self.now k)) }
+    {
+        &self.taken
+    }
+
+    /// Takes the next batch, if the inbox has one; tries once. `None` only where it was empty at some moment of the call.
+    /// Its promises hold if it returns.
+    pub fn next<R: Wait>(&mut self, rt: &R) -> Option<Batch>
+        ensures same { TakesFromSame self.old self.new }
+        ensures next { MatchOption result
+            ((taken_by self.new ≡ taken_by self.old) × WasEmpty (taken_by self.old))
+            (λ batch. (batch.from < senders_of self.old) × (taken_by self.new ≡ taken_by self.old ++ batch ∷ [])) }
+    {
+        let batch = self.inbox.pop_as::<Takes, R>(rt, &mut self.pass)?;
+        self.taken[batch.from()] += 1;
+        Some(batch)
+    }
+}
