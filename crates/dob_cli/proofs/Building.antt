@@ -25,7 +25,7 @@ use Rattle.dob_dbfile.specs.Writing.{StopsAt}
 use Rattle.dob_cli.specs.declared.tally.Tally.{Tally}
 use Rattle.dob_cli.specs.declared.fault.Fault.{Fault}
 use Rattle.dob_cli.specs.declared.fault.Fault.TheVariants.{Text, SetText, SetTooLarge, TooDeep, Run, File, Table, Memory, Io}
-use Rattle.dob_cli.specs.Shelves.{Files, HasJust}
+use Rattle.dob_cli.specs.Shelves.{HasJust, ShelfChange}
 use Rattle.dob_cli.specs.Sizes.{count_line}
 use Rattle.dob_cli.specs.Builds.{AddsValue, IsBuildFault, IsKeepingFault, IsTableFor, IsTally, class_lines, is_loss, is_win}
 
@@ -111,26 +111,27 @@ received_all old new bytes e h = go new (subst (λ (o : Option (List ℕ)). Appe
 
 -- ---- faults
 
-module _ (Old New : Files) (tells : Bool) (name : List ℕ) (table : ClassTable) where
+module _ (c : ShelfChange) (name : List ℕ) (table : ClassTable) where
   -- the file was made, and writing it stopped
-  pub stopped_keeping : (c : Change) (fault : file.Fault) → (IsTrue tells → HasJust name [] New) → StopsAt c (bytes_of table) fault
-      → IsKeepingFault Old New tells name table (File fault)
-  stopped_keeping c file_fault.Memory empty stops = empty
-  stopped_keeping c (file_fault.Io count) empty stops = (stops.within, empty)
-  stopped_keeping c file_fault.SetTooLarge empty stops = absurd stops
-  stopped_keeping c file_fault.Truncated empty stops = absurd stops
-  stopped_keeping c file_fault.Magic empty stops = absurd stops
-  stopped_keeping c file_fault.SetByte empty stops = absurd stops
-  stopped_keeping c file_fault.ClassCount empty stops = absurd stops
-  stopped_keeping c file_fault.Trailing empty stops = absurd stops
-  stopped_keeping c file_fault.Digest empty stops = absurd stops
+  pub stopped_keeping : (sink : Change) (fault : file.Fault) → (IsTrue c.before.tells → HasJust name [] c.after.has)
+      → StopsAt sink (bytes_of table) fault
+      → IsKeepingFault c name table (File fault)
+  stopped_keeping sink file_fault.Memory empty stops = empty
+  stopped_keeping sink (file_fault.Io count) empty stops = (stops.within, empty)
+  stopped_keeping sink file_fault.SetTooLarge empty stops = absurd stops
+  stopped_keeping sink file_fault.Truncated empty stops = absurd stops
+  stopped_keeping sink file_fault.Magic empty stops = absurd stops
+  stopped_keeping sink file_fault.SetByte empty stops = absurd stops
+  stopped_keeping sink file_fault.ClassCount empty stops = absurd stops
+  stopped_keeping sink file_fault.Trailing empty stops = absurd stops
+  stopped_keeping sink file_fault.Digest empty stops = absurd stops
 
   -- a fault of keeping the text's table is one of building it
-  pub keeping_holds : (text : List ℕ) (nodes : ℕ) (fault : Fault) → IsTableFor text nodes table → IsKeepingFault Old New tells name table fault
-      → IsBuildFault Old New tells text nodes name fault
+  pub keeping_holds : (text : List ℕ) (nodes : ℕ) (fault : Fault) → IsTableFor text nodes table → IsKeepingFault c name table fault
+      → IsBuildFault c text nodes name fault
   keeping_holds text nodes (File f) built holds = (table, built, holds)
   keeping_holds text nodes Io built holds = (table, built, holds)
-  keeping_holds text nodes Memory built holds = absurd holds
+  keeping_holds text nodes Memory built holds = holds
   keeping_holds text nodes (Text f) built holds = absurd holds
   keeping_holds text nodes SetText built holds = absurd holds
   keeping_holds text nodes SetTooLarge built holds = absurd holds

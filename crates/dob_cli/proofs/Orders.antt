@@ -6,7 +6,7 @@ use Rattle.dob_cli.specs.Forms.{Text}
 use Rattle.dob_cli.specs.declared.command.Order.{Order}
 use Rattle.dob_cli.specs.declared.command.Order.TheVariants.{Value, Count, Build, Probe, Line, Check}
 use Rattle.dob_cli.specs.Endings.{Ending}
-use Rattle.dob_cli.specs.Shelves.{Files, SameFiles, SameOthers}
+use Rattle.dob_cli.specs.Shelves.{SameFiles, SameOthers, ShelfChange}
 use Rattle.dob_cli.specs.Words.{Meaning, asks, build, help, number_of, topic, usage, version}
 use Rattle.dob_cli.specs.declared.command.Reading.TheVariants as reading
 use Rattle.dob_cli.specs.Readings.{IsOrder, IsReadingOf, name_of_order}
@@ -29,48 +29,48 @@ two_texts x y a b e = (cc, cc)
 three_texts : (x y z a b c : Text) → x ∷ y ∷ z ∷ [] ≡ a ∷ b ∷ c ∷ [] → (x ≡ a) × (y ≡ b) × (z ≡ c)
 three_texts x y z a b c e = (cc, cc, cc)
 
-module _ (Old New : Files) (tells : Bool) (e : Ending) where
-  pub done_value : (o : Order) (text : Text) → IsOrder (codes "value") (text ∷ []) o → AnswersOrder Old New tells o e → AnswersValue text e
-  done_value (Value t) text is answers = subst (λ (x : Text). AnswersValue x e) (first_text t.now text is.1) answers
+module _ (c : ShelfChange) (e : Ending) where
+  pub done_value : (o : Order) (text : Text) → IsOrder (codes "value") (text ∷ []) o → AnswersOrder c o e → AnswersValue c text e
+  done_value (Value t) text is answers = subst (λ (x : Text). AnswersValue c x e) (first_text t.now text is.1) answers
   done_value o text is answers = absurd (differs (name_of_order o) (codes "value") refl refl is.0)
 
-  pub done_count : (o : Order) (text : Text) → IsOrder (codes "count") (text ∷ []) o → AnswersOrder Old New tells o e → AnswersCount text e
-  done_count (Count t) text is answers = subst (λ (x : Text). AnswersCount x e) (first_text t.now text is.1) answers
+  pub done_count : (o : Order) (text : Text) → IsOrder (codes "count") (text ∷ []) o → AnswersOrder c o e → AnswersCount c text e
+  done_count (Count t) text is answers = subst (λ (x : Text). AnswersCount c x e) (first_text t.now text is.1) answers
   done_count o text is answers = absurd (differs (name_of_order o) (codes "count") refl refl is.0)
 
-  pub done_build : (o : Order) (set nodes file : Text) → IsOrder (codes "build") (set ∷ nodes ∷ file ∷ []) o → AnswersOrder Old New tells o e
-      → AnswersBuild Old New tells set (number_of nodes) file e
+  pub done_build : (o : Order) (set nodes file : Text) → IsOrder (codes "build") (set ∷ nodes ∷ file ∷ []) o → AnswersOrder c o e
+      → AnswersBuild c set (number_of nodes) file e
   done_build (Build s n f) set nodes file is answers =
       let same = three_texts s.now is.1.0 f.now set nodes file is.1.1 in
-      subst (λ (x : Text). AnswersBuild Old New tells x (number_of nodes) file e) same.0
-      (subst (λ (x : Text). AnswersBuild Old New tells s.now (number_of nodes) x e) same.2
-      (subst (λ (x : ℕ). AnswersBuild Old New tells s.now x f.now e) (is.1.3 ∙ ap number_of same.1) answers))
+      subst (λ (x : Text). AnswersBuild c x (number_of nodes) file e) same.0
+      (subst (λ (x : Text). AnswersBuild c s.now (number_of nodes) x e) same.2
+      (subst (λ (x : ℕ). AnswersBuild c s.now x f.now e) (is.1.3 ∙ ap number_of same.1) answers))
   done_build o set nodes file is answers = absurd (differs (name_of_order o) (codes "build") refl refl is.0)
 
-  pub done_probe : (o : Order) (file text : Text) → IsOrder (codes "probe") (file ∷ text ∷ []) o → AnswersOrder Old New tells o e
-      → AnswersProbe (Old file) text e
+  pub done_probe : (o : Order) (file text : Text) → IsOrder (codes "probe") (file ∷ text ∷ []) o → AnswersOrder c o e
+      → AnswersProbe c file text e
   done_probe (Probe f t) file text is answers =
       let same = two_texts f.now t.now file text is.1 in
-      subst (λ (x : Text). AnswersProbe (Old x) text e) same.0 (subst (λ (x : Text). AnswersProbe (Old f.now) x e) same.1 answers)
+      subst (λ (x : Text). AnswersProbe c x text e) same.0 (subst (λ (x : Text). AnswersProbe c f.now x e) same.1 answers)
   done_probe o file text is answers = absurd (differs (name_of_order o) (codes "probe") refl refl is.0)
 
-  pub done_line : (o : Order) (file text : Text) → IsOrder (codes "line") (file ∷ text ∷ []) o → AnswersOrder Old New tells o e → AnswersLine (Old file) text e
+  pub done_line : (o : Order) (file text : Text) → IsOrder (codes "line") (file ∷ text ∷ []) o → AnswersOrder c o e → AnswersLine c file text e
   done_line (Line f t) file text is answers =
       let same = two_texts f.now t.now file text is.1 in
-      subst (λ (x : Text). AnswersLine (Old x) text e) same.0 (subst (λ (x : Text). AnswersLine (Old f.now) x e) same.1 answers)
+      subst (λ (x : Text). AnswersLine c x text e) same.0 (subst (λ (x : Text). AnswersLine c f.now x e) same.1 answers)
   done_line o file text is answers = absurd (differs (name_of_order o) (codes "line") refl refl is.0)
 
-  pub done_check : (o : Order) (file : Text) → IsOrder (codes "check") (file ∷ []) o → AnswersOrder Old New tells o e → AnswersCheck (Old file) e
-  done_check (Check f) file is answers = subst (λ (x : Text). AnswersCheck (Old x) e) (first_text f.now file is.1) answers
+  pub done_check : (o : Order) (file : Text) → IsOrder (codes "check") (file ∷ []) o → AnswersOrder c o e → AnswersCheck c file e
+  done_check (Check f) file is answers = subst (λ (x : Text). AnswersCheck c x e) (first_text f.now file is.1) answers
   done_check o file is answers = absurd (differs (name_of_order o) (codes "check") refl refl is.0)
 
 -- ---- files
 
-module _ (Old New : Files) where
-  pub kept_others : (o : Order) (set nodes file : Text) → IsOrder (codes "build") (set ∷ nodes ∷ file ∷ []) o → KeepsFiles Old New o
-      → SameOthers file Old New
+module _ (c : ShelfChange) where
+  pub kept_others : (o : Order) (set nodes file : Text) → IsOrder (codes "build") (set ∷ nodes ∷ file ∷ []) o → KeepsFiles c o
+      → SameOthers file c.before.has c.after.has
   kept_others (Build s n f) set nodes file is keeps =
-      subst (λ (x : Text). SameOthers x Old New) (three_texts s.now is.1.0 f.now set nodes file is.1.1).2 keeps
+      subst (λ (x : Text). SameOthers x c.before.has c.after.has) (three_texts s.now is.1.0 f.now set nodes file is.1.1).2 keeps
   kept_others o set nodes file is keeps = absurd (differs (name_of_order o) (codes "build") refl refl is.0)
 
   -- the words that ask for a build say what it is
@@ -84,7 +84,7 @@ module _ (Old New : Files) where
 
   -- where the words ask for no build, all files have what they had
   pub kept_files : (m : Meaning) (o : Order) → IsReadingOf m (reading.Order o) → ((set nodes file : Text) → m ≡ build set nodes file → ⊥)
-      → KeepsFiles Old New o → SameFiles Old New
+      → KeepsFiles c o → SameFiles c.before.has c.after.has
   kept_files m (Build s n f) is none keeps = absurd (no_build m s f n is none)
   kept_files m (Value t) is none keeps = keeps
   kept_files m (Count t) is none keeps = keeps

@@ -1,5 +1,5 @@
 -- From what the program does with what it read to what it owes for the words.
-use Rattle.std.proofs.Common.{◌≡◌, ℕ, Bool, inl, inr, List, refl, subst}
+use Rattle.std.proofs.Common.{◌≡◌, ◌||◌, ℕ, Bool, true, false, inl, inr, List, refl, subst}
 use Rattle.dob_dbfile.specs.Sinks.{Change, IsSame, IsUntouched, Says}
 use Rattle.dob_cli.specs.declared.fault.Fault.{Fault}
 use Rattle.dob_cli.specs.declared.fault.Fault.TheVariants.{Memory, Io}
@@ -10,10 +10,12 @@ use Rattle.dob_cli.specs.Forms.{Text}
 use Rattle.dob_cli.specs.Words.{Meaning, meaning_of}
 use Rattle.dob_cli.specs.Readings.{IsReadingOf}
 use Rattle.dob_cli.specs.Endings.{Answers, Ending, Tells, TellsMemory, TellsOneFault, version_line}
-use Rattle.dob_cli.specs.Shelves.{Files, SameFiles}
+use Rattle.dob_cli.specs.Shelves.{FailsWhere, SameFiles, ShelfChange}
+use Rattle.dob_cli.specs.Faults.{is_io}
 use Rattle.dob_cli.specs.Orders.{AnswersOrder, AreLinesFor, IsFaultFor, KeepsFiles}
 use Rattle.dob_cli.specs.Runs.{Ran, RanOn}
 use Rattle.dob_cli.proofs.Shelves.{others_kept}
+use Rattle.dob_cli.proofs.TableFaults.{probe_right}
 use Rattle.dob_cli.proofs.Orders.{done_build, done_check, done_count, done_line, done_probe, done_value, kept_files, kept_others}
 
 -- ---- the streams are those that they were
@@ -44,20 +46,21 @@ answers_same AreLines Holds e (inr (inr failed)) = (failed.part.1.same, fault_sa
 memory_answered : (AreLines : List ℕ → Type 0) (Holds : Fault → Type 0) (e : Ending) → Holds Memory → TellsMemory e → Answers AreLines Holds e
 memory_answered AreLines Holds e holds told = inr (inl (record { fault = Memory; holds = holds; told = inl told.0; silent = told.1 }))
 
-module _ (Old New : Files) (tells : Bool) (words : List Text) (e : Ending) where
-  pub ran_memory : TellsMemory e → SameFiles Old New → Ran Old New tells words e
-  ran_memory told same = record {
-    value = λ text _. memory_answered _ _ e tt told;
-    count = λ set _. memory_answered _ _ e tt told;
-    build = λ set nodes file _. memory_answered _ _ e same told;
-    probe = λ file text _. memory_answered _ _ e tt told;
-    line = λ file text _. memory_answered _ _ e tt told;
-    check = λ file _. memory_answered _ _ e tt told;
+module _ (c : ShelfChange) (words : List Text) (e : Ending) where
+  pub ran_memory : TellsMemory e → SameFiles c.before.has c.after.has → FailsWhere c false → Ran c words e
+  ran_memory told same works = record {
+    value = λ text _. memory_answered _ _ e (tt, works) told;
+    count = λ set _. memory_answered _ _ e (tt, works) told;
+    build = λ set nodes file _. memory_answered _ _ e (same, works) told;
+    probe_right = λ file text _ _. memory_answered _ _ e (tt, works) told;
+    probe = λ file text _. memory_answered _ _ e (tt, works) told;
+    line = λ file text _. memory_answered _ _ e (tt, works) told;
+    check = λ file _. memory_answered _ _ e (tt, works) told;
     help = λ _. inr told;
     version = λ _. inr told;
     topic = λ _. inl (inr told);
     usage = λ _. inr told;
-    others = λ set nodes file _. others_kept file Old New same;
+    others = λ set nodes file _. others_kept file c.before.has c.after.has same;
     files = λ _. same;
     same_out = untouched_same e.out told.1;
     same_err = said_same e.err _ told.0.1;
@@ -67,31 +70,33 @@ module _ (Old New : Files) (tells : Bool) (words : List Text) (e : Ending) where
   asked : (r : Reading) → IsReadingOf (meaning_of words) r → (m : Meaning) → meaning_of words ≡ m → IsReadingOf m r
   asked r read m is = subst (λ x. IsReadingOf x r) is read
 
-  pub ran_order : (o : Order) → IsReadingOf (meaning_of words) (reading.Order o) → AnswersOrder Old New tells o e → KeepsFiles Old New o
-      → Ran Old New tells words e
+  pub ran_order : (o : Order) → IsReadingOf (meaning_of words) (reading.Order o) → AnswersOrder c o e → KeepsFiles c o → Ran c words e
   ran_order o read answers keeps = record {
-    value = λ text is. done_value Old New tells e o text (asked (reading.Order o) read _ is) answers;
-    count = λ set is. done_count Old New tells e o set (asked (reading.Order o) read _ is) answers;
-    build = λ set nodes file is. done_build Old New tells e o set nodes file (asked (reading.Order o) read _ is) answers;
-    probe = λ file text is. done_probe Old New tells e o file text (asked (reading.Order o) read _ is) answers;
-    line = λ file text is. done_line Old New tells e o file text (asked (reading.Order o) read _ is) answers;
-    check = λ file is. done_check Old New tells e o file (asked (reading.Order o) read _ is) answers;
+    value = λ text is. done_value c e o text (asked (reading.Order o) read _ is) answers;
+    count = λ set is. done_count c e o set (asked (reading.Order o) read _ is) answers;
+    build = λ set nodes file is. done_build c e o set nodes file (asked (reading.Order o) read _ is) answers;
+    probe = λ file text is. done_probe c e o file text (asked (reading.Order o) read _ is) answers;
+    probe_right = λ file text is right.
+        probe_right c file text e right (done_probe c e o file text (asked (reading.Order o) read _ is) answers);
+    line = λ file text is. done_line c e o file text (asked (reading.Order o) read _ is) answers;
+    check = λ file is. done_check c e o file (asked (reading.Order o) read _ is) answers;
     help = λ is. absurd (asked (reading.Order o) read _ is);
     version = λ is. absurd (asked (reading.Order o) read _ is);
     topic = λ is. absurd (asked (reading.Order o) read _ is);
     usage = λ is. absurd (asked (reading.Order o) read _ is);
-    others = λ set nodes file is. kept_others Old New o set nodes file (asked (reading.Order o) read _ is) keeps;
-    files = λ none. kept_files Old New (meaning_of words) o read none keeps;
-    same_out = (answers_same (AreLinesFor Old New tells o) (IsFaultFor Old New tells o) e answers).0;
-    same_err = (answers_same (AreLinesFor Old New tells o) (IsFaultFor Old New tells o) e answers).1;
+    others = λ set nodes file is. kept_others c o set nodes file (asked (reading.Order o) read _ is) keeps;
+    files = λ none. kept_files c (meaning_of words) o read none keeps;
+    same_out = (answers_same (λ lines. AreLinesFor c o lines × FailsWhere c false) (λ fault. IsFaultFor c o fault × FailsWhere c (is_io fault)) e answers).0;
+    same_err = (answers_same (λ lines. AreLinesFor c o lines × FailsWhere c false) (λ fault. IsFaultFor c o fault × FailsWhere c (is_io fault)) e answers).1;
   }
 
-  pub ran_version : IsReadingOf (meaning_of words) reading.Version → Tells version_line e → SameFiles Old New → Ran Old New tells words e
+  pub ran_version : IsReadingOf (meaning_of words) reading.Version → Tells version_line e → SameFiles c.before.has c.after.has → Ran c words e
   ran_version read told same = record {
     value = λ text is. absurd (asked reading.Version read _ is);
     count = λ set is. absurd (asked reading.Version read _ is);
     build = λ set nodes file is. absurd (asked reading.Version read _ is);
     probe = λ file text is. absurd (asked reading.Version read _ is);
+    probe_right = λ file text is. absurd (asked reading.Version read _ is);
     line = λ file text is. absurd (asked reading.Version read _ is);
     check = λ file is. absurd (asked reading.Version read _ is);
     help = λ is. absurd (asked reading.Version read _ is);
@@ -105,6 +110,10 @@ module _ (Old New : Files) (tells : Bool) (words : List Text) (e : Ending) where
   }
 
 -- these are the words
-pub ran_on : (Old New : Files) (tells : Bool) (given words : List Text) (e : Ending) → given ≡ words → Ran Old New tells given e
-    → RanOn Old New tells words e
-ran_on Old New tells given words e same ran = inl (subst (λ ws. Ran Old New tells ws e) same ran)
+pub ran_on : (c : ShelfChange) (given words : List Text) (e : Ending) → given ≡ words → Ran c given e → RanOn c words e
+ran_on c given words e same ran = inl (subst (λ ws. Ran c ws e) same ran)
+
+-- no call failed where nothing is called
+pub none_failed : (failed : Bool) → failed ≡ (failed || false)
+none_failed true = refl
+none_failed false = refl

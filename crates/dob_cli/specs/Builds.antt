@@ -9,16 +9,15 @@ use Rattle.dob_value.specs.declared.value.Value.{Value}
 use Rattle.dob_value.specs.declared.value.Value.TheVariants.{Win, Loss}
 use Rattle.dob_value.specs.Entries.{is_draw}
 use Rattle.dob_value.specs.Follows.{ClassTable, IsValueTable}
-use Rattle.dob_run.specs.declared.limits.TheConstants.{BATCH, CAPACITY}
 use Rattle.dob_run.specs.Faults.{HasFault}
 use Rattle.dob_dbfile.specs.declared.fault.Fault.TheVariants as file_fault
 use Rattle.dob_dbfile.specs.Format.{bytes_of}
 use Rattle.dob_cli.specs.declared.tally.Tally.{Tally}
 use Rattle.dob_cli.specs.declared.fault.Fault.{Fault}
 use Rattle.dob_cli.specs.declared.fault.Fault.TheVariants.{SetText, Run, File, Memory, Io}
-use Rattle.dob_cli.specs.Shelves.{Files, HasJust, SameFiles}
+use Rattle.dob_cli.specs.Shelves.{HasJust, SameFiles, ShelfChange}
 use Rattle.dob_cli.specs.Sizes.{count_line}
-use Rattle.dob_cli.specs.Endings.{Answers, Ending}
+use Rattle.dob_cli.specs.Endings.{AnswersOver, Ending}
 
 -- ---- lines
 
@@ -59,42 +58,41 @@ pub record IsTableFor (text : List ℕ) (nodes : ℕ) (table : ClassTable) : Typ
   pub right : IsValueTable table.set table.values
 
 -- The lines tell of the value table of the text's piece set, and under the name the shelf has just its file, where it tells
--- its bytes; New says which bytes the file of a name has then.
-pub record AreBuildLines (tells : Bool) (New : Files) (text : List ℕ) (nodes : ℕ) (file lines : List ℕ) : Type 0 where
+-- its bytes.
+pub record AreBuildLines (c : ShelfChange) (text : List ℕ) (nodes : ℕ) (file lines : List ℕ) : Type 0 where
   pub table : ClassTable
   pub built : IsTableFor text nodes table
-  pub kept : IsTrue tells → HasJust file (bytes_of table) New
+  pub kept : IsTrue c.before.tells → HasJust file (bytes_of table) c.after.has
   pub same : lines ≡ class_lines table.values
 
 -- ---- faults
 
--- The fault of keeping a table's file, by its moment. The file couldn't be made: each file has what it had. Or it could be
--- neither made nor kept, on a shelf that doesn't tell its bytes. Then the file was made and nothing of it is kept: where the shelf
--- tells its bytes it is empty, and so no table's. Memory for its bytes was refused before any of them went out, or a write or the
--- flush failed after so many.
-abbrev pub IsKeepingFault : Files → Files → Bool → List ℕ → ClassTable → Fault → Type 0
-IsKeepingFault Old New tells file table Io = SameFiles Old New ⊎ (tells ≡ false)
-IsKeepingFault Old New tells file table (File file_fault.Memory) = IsTrue tells → HasJust file [] New
-IsKeepingFault Old New tells file table (File (file_fault.Io count)) =
-    (count ≤ length (bytes_of table)) × (IsTrue tells → HasJust file [] New)
-IsKeepingFault Old New tells file table _ = ⊥
+-- The fault of keeping a table's file, by its moment. The file couldn't be made, or memory for making it was refused: each file has
+-- what it had. Or it could be neither made nor kept, on a shelf that doesn't tell its bytes. Then the file was made and nothing of
+-- it is kept: where the shelf tells its bytes it is empty, and so no table's. Memory for its bytes was refused before any of them
+-- went out, or a write or the flush failed after so many.
+abbrev pub IsKeepingFault : ShelfChange → List ℕ → ClassTable → Fault → Type 0
+IsKeepingFault c file table Memory = SameFiles c.before.has c.after.has
+IsKeepingFault c file table Io = SameFiles c.before.has c.after.has ⊎ (c.before.tells ≡ false)
+IsKeepingFault c file table (File file_fault.Memory) = IsTrue c.before.tells → HasJust file [] c.after.has
+IsKeepingFault c file table (File (file_fault.Io count)) =
+    (count ≤ length (bytes_of table)) × (IsTrue c.before.tells → HasJust file [] c.after.has)
+IsKeepingFault c file table _ = ⊥
 
 -- The fault of building, by its moment. While each file has what it had: no set has the text; or the run by so many nodes,
--- with batches and channels of the program's sizes, was refused or stopped; or memory was refused, for the words or for the
--- lines. Then the table is there, and keeping its file failed.
-abbrev pub IsBuildFault : Files → Files → Bool → List ℕ → ℕ → List ℕ → Fault → Type 0
-IsBuildFault Old New tells text nodes file SetText = ((set : PieceSet) → text ≢ set_text set) × SameFiles Old New
-IsBuildFault Old New tells text nodes file (Run fault) =
-    (set : PieceSet) × (text ≡ set_text set) × HasFault set nodes BATCH CAPACITY fault × SameFiles Old New
-IsBuildFault Old New tells text nodes file Memory = SameFiles Old New
-IsBuildFault Old New tells text nodes file Io =
-    (table : ClassTable) × IsTableFor text nodes table × IsKeepingFault Old New tells file table Io
-IsBuildFault Old New tells text nodes file (File fault) =
-    (table : ClassTable) × IsTableFor text nodes table × IsKeepingFault Old New tells file table (File fault)
-IsBuildFault Old New tells text nodes file _ = ⊥
+-- with batches of 256 and channels of 64, was refused or stopped; or memory was refused, for the words, for the lines or for
+-- making the file. Then the table is there, and keeping its file failed.
+abbrev pub IsBuildFault : ShelfChange → List ℕ → ℕ → List ℕ → Fault → Type 0
+IsBuildFault c text nodes file SetText = ((set : PieceSet) → text ≢ set_text set) × SameFiles c.before.has c.after.has
+IsBuildFault c text nodes file (Run fault) =
+    (set : PieceSet) × (text ≡ set_text set) × HasFault set nodes 256 64 fault × SameFiles c.before.has c.after.has
+IsBuildFault c text nodes file Memory = SameFiles c.before.has c.after.has
+IsBuildFault c text nodes file Io = (table : ClassTable) × IsTableFor text nodes table × IsKeepingFault c file table Io
+IsBuildFault c text nodes file (File fault) =
+    (table : ClassTable) × IsTableFor text nodes table × IsKeepingFault c file table (File fault)
+IsBuildFault c text nodes file _ = ⊥
 
 -- What the program does where it is asked for a file of the table of the piece set that a text names, built by so many nodes.
 -- Where standard output fails it does so in lines that are right, and so the file is whole.
-abbrev pub AnswersBuild : Files → Files → Bool → List ℕ → ℕ → List ℕ → Ending → Type 0
-AnswersBuild Old New tells text nodes file =
-    Answers (AreBuildLines tells New text nodes file) (IsBuildFault Old New tells text nodes file)
+abbrev pub AnswersBuild : ShelfChange → List ℕ → ℕ → List ℕ → Ending → Type 0
+AnswersBuild c text nodes file = AnswersOver c (AreBuildLines c text nodes file) (IsBuildFault c text nodes file)

@@ -1,9 +1,10 @@
 -- How the program ends: an exit status, and what it writes on standard output and standard error.
-use Rattle.std.specs.Prelude.{◌≡◌, ℕ, ◌⊎◌, List, [], ◌∷◌, ◌++◌, codes}
+use Rattle.std.specs.Prelude.{◌≡◌, ℕ, ◌⊎◌, false, List, [], ◌∷◌, ◌++◌, codes}
 use Rattle.dob_dbfile.specs.Sinks.{Change, IsUntouched, Puts, Says, Stops}
 use Rattle.dob_cli.specs.declared.fault.Fault.{Fault}
 use Rattle.dob_cli.specs.declared.fault.Fault.TheVariants.{Memory, Io}
-use Rattle.dob_cli.specs.Faults.{fault_line, status_of}
+use Rattle.dob_cli.specs.Faults.{fault_line, is_io, status_of}
+use Rattle.dob_cli.specs.Shelves.{FailsWhere, ShelfChange}
 use Rattle.dob_pieces.specs.Bytes.{line_feed}
 
 -- an exit status, and what happened to standard output and standard error
@@ -48,6 +49,10 @@ pub record FailsToTell (AreLines : List ℕ → Type 0) (e : Ending) : Type 0 wh
 -- what the program does where it owes such lines, or the line of a fault that holds
 abbrev pub Answers : (List ℕ → Type 0) → (Fault → Type 0) → Ending → Type 0
 Answers AreLines Holds e = TellsLines AreLines e ⊎ (TellsFault Holds e ⊎ FailsToTell AreLines e)
+
+-- It answers so over a shelf: where it owes lines no call of the shelf failed, and where a fault, one did just where it is a device's.
+abbrev pub AnswersOver : ShelfChange → (List ℕ → Type 0) → (Fault → Type 0) → Ending → Type 0
+AnswersOver c AreLines Holds = Answers (λ lines. AreLines lines × FailsWhere c false) (λ fault. Holds fault × FailsWhere c (is_io fault))
 
 -- the text on standard output and status 0; or a beginning of it, and the fault of a failing output
 abbrev pub Tells : List ℕ → Ending → Type 0

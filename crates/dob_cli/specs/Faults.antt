@@ -1,5 +1,5 @@
 -- The program's faults as they are printed, and their exit statuses.
-use Rattle.std.specs.Prelude.{ℕ, List, [], ◌∷◌, ◌++◌, codes}
+use Rattle.std.specs.Prelude.{ℕ, Bool, true, false, List, [], ◌∷◌, ◌++◌, Result, Ok, Err, codes}
 use Rattle.dob_pieces.specs.Faults.{memory_text, set_fault_text}
 use Rattle.dob_text.specs.Faults as position
 use Rattle.dob_value.specs.Faults as value_texts
@@ -9,12 +9,15 @@ use Rattle.dob_rank.specs.Faults as rank_texts
 use Rattle.dob_rank.specs.declared.fault.Fault as rank
 use Rattle.dob_rank.specs.declared.fault.Fault.TheVariants as rank_fault
 use Rattle.dob_dbfile.specs.FaultTexts as file
+use Rattle.dob_dbfile.specs.Faults as reading
 use Rattle.dob_dbfile.specs.declared.fault.Fault.TheVariants as file_fault
 use Rattle.dob_run.specs.Faults as run
 use Rattle.dob_run.specs.declared.fault.Fault.TheVariants as run_fault
 use Rattle.dob_probe.specs.Faults as table
 use Rattle.dob_probe.specs.declared.fault.Fault.TheVariants as table_fault
 use Rattle.dob_pieces.specs.Bytes.{line_feed}
+use Rattle.dob_cli.specs.declared.shelf.MakeFault as make
+use Rattle.dob_cli.specs.declared.shelf.MakeFault.TheVariants as make_fault
 use Rattle.dob_cli.specs.declared.fault.Fault.{Fault}
 use Rattle.dob_cli.specs.declared.fault.Fault.TheVariants.{Text, SetText, SetTooLarge, TooDeep, Run, File, Table, Memory, Io}
 
@@ -32,6 +35,16 @@ fault_text Io = file.fault_text (file_fault.Io 0)
 -- the line on standard error
 abbrev pub fault_line : Fault → List ℕ
 fault_line fault = codes "dobutsu: " ++ fault_text fault ++ line_feed ∷ []
+
+-- whether it is the fault of a device that failed
+abbrev pub is_io : Fault → Bool
+is_io (File fault) = reading.is_io fault
+is_io Io = true
+is_io _ = false
+
+abbrev pub is_io_error : {X : Type 0} → Result X Fault → Bool
+is_io_error (Ok x) = false
+is_io_error (Err fault) = is_io fault
 
 -- 1 where what was asked is refused, 3 where the program failed
 abbrev pub status_of : Fault → ℕ
@@ -60,3 +73,8 @@ fault_of_value value_fault.Memory = Memory
 abbrev pub fault_of_rank : rank.Fault → Fault
 fault_of_rank rank_fault.SetTooLarge = SetTooLarge
 fault_of_rank rank_fault.Memory = Memory
+
+-- a fault of making a file
+abbrev pub fault_of_make : make.MakeFault → Fault
+fault_of_make make_fault.Memory = Memory
+fault_of_make make_fault.Failed = Io

@@ -12,3 +12,4 @@ pub mod Sizes
 pub mod Builds
 pub mod Orders
 pub mod Runs
+pub mod Laws

@@ -1,38 +1,38 @@
 -- What the program owes for an order.
-use Rattle.std.specs.Prelude.{ℕ, Bool, List}
+use Rattle.std.specs.Prelude.{ℕ, List}
 use Rattle.dob_cli.specs.declared.fault.Fault.{Fault}
 use Rattle.dob_cli.specs.declared.command.Order.{Order}
 use Rattle.dob_cli.specs.declared.command.Order.TheVariants.{Value, Count, Build, Probe, Line, Check}
-use Rattle.dob_cli.specs.Endings.{Answers, Ending}
-use Rattle.dob_cli.specs.Shelves.{Files, SameFiles, SameOthers}
+use Rattle.dob_cli.specs.Endings.{AnswersOver, Ending}
+use Rattle.dob_cli.specs.Shelves.{SameFiles, SameOthers, ShelfChange}
 use Rattle.dob_cli.specs.Program.{IsFaultOf, IsValueLineOf}
 use Rattle.dob_cli.specs.Sizes.{AreCountLinesOf, IsCountFaultOf}
 use Rattle.dob_cli.specs.Builds.{AreBuildLines, IsBuildFault}
 use Rattle.dob_cli.specs.Tables.{IsCheckFault, IsCheckLine, IsMovesLine, IsPositionFault, IsProbeLine}
 
--- the lines are right for the order; Old and New say which bytes the file of a name had and has, where a shelf tells that
-abbrev pub AreLinesFor : Files → Files → Bool → Order → List ℕ → Type 0
-AreLinesFor Old New tells (Value position) = IsValueLineOf position.now
-AreLinesFor Old New tells (Count set) = AreCountLinesOf set.now
-AreLinesFor Old New tells (Build set nodes file) = AreBuildLines tells New set.now nodes file.now
-AreLinesFor Old New tells (Probe file position) = IsProbeLine (Old file.now) position.now
-AreLinesFor Old New tells (Line file position) = IsMovesLine (Old file.now) position.now
-AreLinesFor Old New tells (Check file) = IsCheckLine (Old file.now)
+-- the lines are right for the order, over a shelf that changes so
+abbrev pub AreLinesFor : ShelfChange → Order → List ℕ → Type 0
+AreLinesFor c (Value position) = IsValueLineOf position.now
+AreLinesFor c (Count set) = AreCountLinesOf set.now
+AreLinesFor c (Build set nodes file) = AreBuildLines c set.now nodes file.now
+AreLinesFor c (Probe file position) = IsProbeLine (c.before.has file.now) position.now
+AreLinesFor c (Line file position) = IsMovesLine (c.before.has file.now) position.now
+AreLinesFor c (Check file) = IsCheckLine (c.before.has file.now)
 
 -- the fault holds of the order
-abbrev pub IsFaultFor : Files → Files → Bool → Order → Fault → Type 0
-IsFaultFor Old New tells (Value position) = IsFaultOf position.now
-IsFaultFor Old New tells (Count set) = IsCountFaultOf set.now
-IsFaultFor Old New tells (Build set nodes file) = IsBuildFault Old New tells set.now nodes file.now
-IsFaultFor Old New tells (Probe file position) = IsPositionFault (Old file.now) position.now
-IsFaultFor Old New tells (Line file position) = IsPositionFault (Old file.now) position.now
-IsFaultFor Old New tells (Check file) = IsCheckFault (Old file.now)
+abbrev pub IsFaultFor : ShelfChange → Order → Fault → Type 0
+IsFaultFor c (Value position) = IsFaultOf position.now
+IsFaultFor c (Count set) = IsCountFaultOf set.now
+IsFaultFor c (Build set nodes file) = IsBuildFault c set.now nodes file.now
+IsFaultFor c (Probe file position) = IsPositionFault (c.before.has file.now) position.now
+IsFaultFor c (Line file position) = IsPositionFault (c.before.has file.now) position.now
+IsFaultFor c (Check file) = IsCheckFault (c.before.has file.now)
 
 -- the order leaves each file what it had, but for the one that it names to be made
-abbrev pub KeepsFiles : Files → Files → Order → Type 0
-KeepsFiles Old New (Build set nodes file) = SameOthers file.now Old New
-KeepsFiles Old New _ = SameFiles Old New
+abbrev pub KeepsFiles : ShelfChange → Order → Type 0
+KeepsFiles c (Build set nodes file) = SameOthers file.now c.before.has c.after.has
+KeepsFiles c _ = SameFiles c.before.has c.after.has
 
 -- what the program does with the order
-abbrev pub AnswersOrder : Files → Files → Bool → Order → Ending → Type 0
-AnswersOrder Old New tells order = Answers (AreLinesFor Old New tells order) (IsFaultFor Old New tells order)
+abbrev pub AnswersOrder : ShelfChange → Order → Ending → Type 0
+AnswersOrder c order = AnswersOver c (AreLinesFor c order) (IsFaultFor c order)

@@ -13,7 +13,8 @@ use Rattle.dob_value.specs.Rosters.{SomeTooDeep, HasSamePieces}
 use Rattle.dob_cli.specs.declared.fault.Fault.{Fault}
 use Rattle.dob_cli.specs.declared.fault.Fault.TheVariants.{Text, SetText, SetTooLarge, TooDeep, Run, File, Table, Memory, Io}
 use Rattle.dob_pieces.specs.Bytes.{line_feed}
-use Rattle.dob_cli.specs.Endings.{Answers, Ending}
+use Rattle.dob_cli.specs.Endings.{AnswersOver, Ending}
+use Rattle.dob_cli.specs.Shelves.{ShelfChange}
 
 -- the line that tells a value, with its line feed
 abbrev pub value_line : Value → List ℕ
@@ -45,5 +46,5 @@ IsFaultOf text Memory = Unit {0}
 IsFaultOf text Io = ⊥
 
 -- what the program does where it is asked for the value of the position that a text names
-abbrev pub AnswersValue : List ℕ → Ending → Type 0
-AnswersValue text = Answers (IsValueLineOf text) (IsFaultOf text)
+abbrev pub AnswersValue : ShelfChange → List ℕ → Ending → Type 0
+AnswersValue c text = AnswersOver c (IsValueLineOf text) (IsFaultOf text)

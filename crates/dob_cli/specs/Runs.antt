@@ -1,28 +1,29 @@
 -- What the program does with its words, whatever they are.
-use Rattle.std.specs.Prelude.{◌≡◌, ◌≢◌, ◌⊎◌, ℕ, Bool, false, List, [], ◌∷◌, ◌++◌, Option, codes}
+use Rattle.std.specs.Prelude.{◌≡◌, ◌≢◌, ◌⊎◌, ℕ, false, List, [], ◌∷◌, ◌++◌, Option, codes}
 use Rattle.dob_dbfile.specs.Sinks.{Change, IsSame, IsUntouched, Says}
 use Rattle.dob_cli.specs.Words.{Text, build, check, count, help, line, meaning_of, number_of, probe, topic, usage, value, version}
 use Rattle.dob_pieces.specs.Bytes.{line_feed}
 use Rattle.dob_cli.specs.Endings.{AnswersHelp, AnswersUsage, AnswersVersion, Ending, TellsMemory, ended}
-use Rattle.dob_cli.specs.Shelves.{Files, SameFiles, SameOthers}
+use Rattle.dob_cli.specs.Shelves.{SameFiles, SameOthers, ShelfChange}
 use Rattle.dob_cli.specs.Program.{AnswersValue}
 use Rattle.dob_cli.specs.Sizes.{AnswersCount}
 use Rattle.dob_cli.specs.Builds.{AnswersBuild}
-use Rattle.dob_cli.specs.Tables.{AnswersCheck, AnswersLine, AnswersProbe}
+use Rattle.dob_cli.specs.Tables.{AnswersCheck, AnswersLine, AnswersProbe, AnswersProbeRight, HasValueFile}
 
--- It does what these words ask for, over a shelf that tells its bytes or not: Old and New say which bytes the file of a name
--- had and has, where that is known.
-pub record Ran (Old New : Files) (tells : Bool) (words : List Text) (e : Ending) : Type 0 where
+-- It does what these words ask for, over a shelf that changes so.
+pub record Ran (c : ShelfChange) (words : List Text) (e : Ending) : Type 0 where
   -- a build leaves the other files what they had, and all else leaves all files so
-  pub others : (set nodes file : Text) → meaning_of words ≡ build set nodes file → SameOthers file Old New
-  pub files : ((set nodes file : Text) → meaning_of words ≢ build set nodes file) → SameFiles Old New
+  pub others : (set nodes file : Text) → meaning_of words ≡ build set nodes file → SameOthers file c.before.has c.after.has
+  pub files : ((set nodes file : Text) → meaning_of words ≢ build set nodes file) → SameFiles c.before.has c.after.has
   -- what it tells
-  pub value : (position : Text) → meaning_of words ≡ value position → AnswersValue position e
-  pub count : (set : Text) → meaning_of words ≡ count set → AnswersCount set e
-  pub build : (set nodes file : Text) → meaning_of words ≡ build set nodes file → AnswersBuild Old New tells set (number_of nodes) file e
-  pub probe : (file position : Text) → meaning_of words ≡ probe file position → AnswersProbe (Old file) position e
-  pub line : (file position : Text) → meaning_of words ≡ line file position → AnswersLine (Old file) position e
-  pub check : (file : Text) → meaning_of words ≡ check file → AnswersCheck (Old file) e
+  pub value : (position : Text) → meaning_of words ≡ value position → AnswersValue c position e
+  pub count : (set : Text) → meaning_of words ≡ count set → AnswersCount c set e
+  pub build : (set nodes file : Text) → meaning_of words ≡ build set nodes file → AnswersBuild c set (number_of nodes) file e
+  -- by the file of a value table the value told is right
+  pub probe_right : (file position : Text) → meaning_of words ≡ probe file position → HasValueFile (c.before.has file) → AnswersProbeRight c file position e
+  pub probe : (file position : Text) → meaning_of words ≡ probe file position → AnswersProbe c file position e
+  pub line : (file position : Text) → meaning_of words ≡ line file position → AnswersLine c file position e
+  pub check : (file : Text) → meaning_of words ≡ check file → AnswersCheck c file e
   pub help : meaning_of words ≡ help → AnswersHelp e
   pub version : meaning_of words ≡ version → AnswersVersion e
   pub topic : meaning_of words ≡ topic → AnswersHelp e ⊎ AnswersUsage e
@@ -32,8 +33,8 @@ pub record Ran (Old New : Files) (tells : Bool) (words : List Text) (e : Ending)
   pub same_err : IsSame e.err
 
 -- it does so, or no memory was left for the words
-abbrev pub RanOn : Files → Files → Bool → List Text → Ending → Type 0
-RanOn Old New tells words e = Ran Old New tells words e ⊎ (TellsMemory e × SameFiles Old New)
+abbrev pub RanOn : ShelfChange → List Text → Ending → Type 0
+RanOn c words e = Ran c words e ⊎ (TellsMemory e × SameFiles c.before.has c.after.has)
 
 -- what a writer of the standard library tells: the bytes that it held, and those that it holds after, where they are known
 pub record Contents : Type 0 where
@@ -50,12 +51,12 @@ pub record IsOver (w : Contents) (c : Change) : Type 0 where
   pub fresh : c.before.has_failed ≡ false
 
 -- it does what these words ask for, over writers that tell so much
-pub record RanOver (Old New : Files) (tells : Bool) (words : List Text) (status : ℕ) (out err : Contents) : Type 0 where
+pub record RanOver (c : ShelfChange) (words : List Text) (status : ℕ) (out err : Contents) : Type 0 where
   pub out_change : Change
   pub err_change : Change
   pub over_out : IsOver out out_change
   pub over_err : IsOver err err_change
-  pub ran : Ran Old New tells words (ended status out_change err_change)
+  pub ran : Ran c words (ended status out_change err_change)
 
 -- it says that an argument isn't UTF-8, with the status of unknown words
 abbrev pub TellsNoText : Ending → Type 0

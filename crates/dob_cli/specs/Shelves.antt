@@ -1,10 +1,39 @@
--- What a shelf has under its names, and how a call changes that.
-use Rattle.std.specs.Prelude.{◌≡◌, ◌≢◌, ◌↔◌, ℕ, List, Option, option_map, String, Vec}
+-- What is known of a shelf, and how a call changes that.
+use Rattle.std.specs.Prelude.{◌≡◌, ◌≢◌, ◌↔◌, ◌||◌, ℕ, Bool, true, false, List, Option, option_map, String, Vec, Result, Ok, Err}
 use Rattle.std.specs.BTreeMap.{BTreeMap, get_by_text}
+use Rattle.dob_cli.specs.declared.shelf.MakeFault.{MakeFault}
+use Rattle.dob_cli.specs.declared.shelf.MakeFault.TheVariants.{Memory, Failed}
 
 -- which bytes the file of a name has, where that is known
 abbrev pub Files : Type 1
 Files = List ℕ → List ℕ → Type 0
+
+-- what is known of a shelf
+pub record ShelfState : Type 1 where
+  -- which bytes the file of a name has
+  pub has : Files
+  -- whether that is known of each file
+  pub tells : Bool
+  -- whether some call of it has failed, or of a source or a sink that it got back
+  pub has_failed : Bool
+
+-- what was known of it, and what is known after
+pub record ShelfChange : Type 1 where
+  pub before : ShelfState
+  pub after : ShelfState
+
+abbrev pub shelf_change : ShelfState → ShelfState → ShelfChange
+shelf_change before after = record { before = before; after = after }
+
+-- some call failed, just where that is true
+abbrev pub FailsWhere : ShelfChange → Bool → Type 0
+FailsWhere c failed = c.after.has_failed ≡ (c.before.has_failed || failed)
+
+-- whether the shelf failed to make a file, for another cause than want of memory
+abbrev pub is_failed : {X : Type 0} → Result X MakeFault → Bool
+is_failed (Ok x) = false
+is_failed (Err Memory) = false
+is_failed (Err Failed) = true
 
 -- each name has what it had
 abbrev pub SameFiles : Files → Files → Type 0

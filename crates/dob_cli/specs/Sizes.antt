@@ -9,7 +9,8 @@ use Rattle.dob_cli.specs.declared.counts.Counts.{Counts}
 use Rattle.dob_cli.specs.declared.fault.Fault.{Fault}
 use Rattle.dob_cli.specs.declared.fault.Fault.TheVariants.{SetText, SetTooLarge, Memory}
 use Rattle.dob_pieces.specs.Bytes.{line_feed}
-use Rattle.dob_cli.specs.Endings.{Answers, Ending}
+use Rattle.dob_cli.specs.Endings.{AnswersOver, Ending}
+use Rattle.dob_cli.specs.Shelves.{ShelfChange}
 
 -- the set is small, and these are its numbers of positions and classes
 pub record HasCounts (set : PieceSet) (counts : Counts) : Type 0 where
@@ -47,5 +48,5 @@ IsCountFaultOf text Memory = Unit {0}
 IsCountFaultOf text _ = ⊥
 
 -- what the program does where it is asked for the numbers of the piece set that a text names
-abbrev pub AnswersCount : List ℕ → Ending → Type 0
-AnswersCount text = Answers (AreCountLinesOf text) (IsCountFaultOf text)
+abbrev pub AnswersCount : ShelfChange → List ℕ → Ending → Type 0
+AnswersCount c text = AnswersOver c (AreCountLinesOf text) (IsCountFaultOf text)

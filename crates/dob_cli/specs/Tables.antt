@@ -9,7 +9,7 @@ use Rattle.dob_moves.specs.declared.game_move.Move.{Move}
 use Rattle.dob_rank.specs.Order.{IsPositionOf}
 use Rattle.dob_value.specs.declared.value.Value.{Value}
 use Rattle.dob_value.specs.declared.value.Value.TheVariants.{Draw}
-use Rattle.dob_value.specs.Follows.{ClassTable, IsValueTable}
+use Rattle.dob_value.specs.Follows.{ClassTable, IsTable, IsValueTable}
 use Rattle.dob_dbfile.specs.declared.fault.Fault as file
 use Rattle.dob_dbfile.specs.declared.fault.Fault.TheVariants as file_fault
 use Rattle.dob_dbfile.specs.Devices.{whole}
@@ -21,14 +21,20 @@ use Rattle.dob_probe.specs.Checks.{IsFirstBroken}
 use Rattle.dob_cli.specs.declared.fault.Fault.{Fault}
 use Rattle.dob_cli.specs.declared.fault.Fault.TheVariants.{Text, File, Table, Memory, Io}
 use Rattle.dob_pieces.specs.Bytes.{line_feed, space}
-use Rattle.dob_cli.specs.Program.{value_line}
-use Rattle.dob_cli.specs.Endings.{Answers, Ending}
+use Rattle.dob_cli.specs.Program.{IsValueLineOf, value_line}
+use Rattle.dob_cli.specs.Shelves.{ShelfChange}
+use Rattle.dob_cli.specs.Endings.{AnswersOver, Ending}
 
 -- ---- the file; Has says which bytes it has, where that is known
 
--- the file is that of the table
-abbrev pub IsFileOf : (List ℕ → Type 0) → ClassTable → Type 0
-IsFileOf Has table = (bytes : List ℕ) → Has bytes → bytes ≡ bytes_of table
+-- it is a table, and the file is its
+pub record IsFileOf (Has : List ℕ → Type 0) (table : ClassTable) : Type 0 where
+  pub whole : IsTable table.set table.values
+  pub same : (bytes : List ℕ) → Has bytes → bytes ≡ bytes_of table
+
+-- the file is that of a value table
+abbrev pub HasValueFile : (List ℕ → Type 0) → Type 0
+HasValueFile Has = (table : ClassTable) × IsValueTable table.set table.values × Has (bytes_of table)
 
 -- the fault is the first that the file has, or memory failed
 abbrev pub HasFileFault : (List ℕ → Type 0) → file.Fault → Type 0
@@ -97,18 +103,23 @@ IsOpeningFault Has (File fault) = HasFileFault Has fault
 IsOpeningFault Has Io = Unit {0}
 IsOpeningFault Has _ = ⊥
 
--- a fault of asking for a position: the text's, the file's, or the table's; or memory failed, or the file couldn't be opened
+-- a fault of asking a file for a position: the file's, or the table's; or memory failed, or the file couldn't be opened
+abbrev pub IsProbingFault : (List ℕ → Type 0) → Setup → Fault → Type 0
+IsProbingFault Has position (File fault) = HasFileFault Has fault
+IsProbingFault Has position (Table table_fault.OtherSet) = (table : ClassTable) × IsFileOf Has table × ¬ IsPositionOf table.set position
+IsProbingFault Has position (Table (table_fault.Inconsistent class)) =
+    (table : ClassTable) × IsFileOf Has table × BreaksAt table position class
+IsProbingFault Has position (Table table_fault.Memory) = Unit {0}
+IsProbingFault Has position Memory = Unit {0}
+IsProbingFault Has position Io = Unit {0}
+IsProbingFault Has position _ = ⊥
+
+-- A fault of asking for the position of a text: the text's, or memory failed for the words; the file is asked only where the
+-- text is a position's.
 abbrev pub IsPositionFault : (List ℕ → Type 0) → List ℕ → Fault → Type 0
 IsPositionFault Has words (Text fault) = text.HasFault words fault
-IsPositionFault Has words (File fault) = HasFileFault Has fault
-IsPositionFault Has words (Table table_fault.OtherSet) =
-    (table : ClassTable) × (position : Setup) × IsFileOf Has table × IsTextOf words position × ¬ IsPositionOf table.set position
-IsPositionFault Has words (Table (table_fault.Inconsistent class)) =
-    (table : ClassTable) × (position : Setup) × IsFileOf Has table × IsTextOf words position × BreaksAt table position class
-IsPositionFault Has words (Table table_fault.Memory) = Unit {0}
 IsPositionFault Has words Memory = Unit {0}
-IsPositionFault Has words Io = Unit {0}
-IsPositionFault Has words _ = ⊥
+IsPositionFault Has words fault = (position : Setup) × IsTextOf words position × IsProbingFault Has position fault
 
 -- a fault of checking a file: the file's, or the table's; or memory failed, or the file couldn't be opened
 abbrev pub IsCheckFault : (List ℕ → Type 0) → Fault → Type 0
@@ -121,11 +132,15 @@ IsCheckFault Has _ = ⊥
 
 -- ---- what the program does
 
-abbrev pub AnswersProbe : (List ℕ → Type 0) → List ℕ → Ending → Type 0
-AnswersProbe Has words = Answers (IsProbeLine Has words) (IsPositionFault Has words)
+abbrev pub AnswersProbe : ShelfChange → List ℕ → List ℕ → Ending → Type 0
+AnswersProbe c file words = AnswersOver c (IsProbeLine (c.before.has file) words) (IsPositionFault (c.before.has file) words)
 
-abbrev pub AnswersLine : (List ℕ → Type 0) → List ℕ → Ending → Type 0
-AnswersLine Has words = Answers (IsMovesLine Has words) (IsPositionFault Has words)
+-- the same, where the lines tell the value that the text's position has by definition
+abbrev pub AnswersProbeRight : ShelfChange → List ℕ → List ℕ → Ending → Type 0
+AnswersProbeRight c file words = AnswersOver c (IsValueLineOf words) (IsPositionFault (c.before.has file) words)
 
-abbrev pub AnswersCheck : (List ℕ → Type 0) → Ending → Type 0
-AnswersCheck Has = Answers (IsCheckLine Has) (IsCheckFault Has)
+abbrev pub AnswersLine : ShelfChange → List ℕ → List ℕ → Ending → Type 0
+AnswersLine c file words = AnswersOver c (IsMovesLine (c.before.has file) words) (IsPositionFault (c.before.has file) words)
+
+abbrev pub AnswersCheck : ShelfChange → List ℕ → Ending → Type 0
+AnswersCheck c file = AnswersOver c (IsCheckLine (c.before.has file)) (IsCheckFault (c.before.has file))

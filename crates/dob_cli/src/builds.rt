@@ -1,7 +1,8 @@
 // Building a database file.
 ghost use Rattle.std.specs.Prelude.{◌≡◌, IfOk, IfErr, OnOk, IsTrue, string_bytes};
 ghost use Rattle.dob_dbfile.specs.Format.{bytes_of};
-ghost use Rattle.dob_cli.specs.Shelves.{HasJust, SameOthers};
+ghost use Rattle.dob_cli.specs.Shelves.{FailsWhere, HasJust, SameOthers, shelf_change};
+ghost use Rattle.dob_cli.specs.Faults.{is_io_error};
 ghost use Rattle.dob_cli.specs.Builds.{AreBuildLines, IsBuildFault, IsKeepingFault, class_lines};
 
 use crate::fault::Fault;
@@ -28,9 +29,10 @@ pub(crate) fn answer_build<R: Threads + Wait + Sync, S: Shelf>(
     nodes: u64,
     file: &str,
 ) -> Result<String, Fault>
-    ensures ok { IfOk result (λ lines. AreBuildLines (S.tells shelf.old) (S.has shelf.new) text.now nodes file.now (string_bytes lines)) }
-    ensures err { IfErr result (IsBuildFault (S.has shelf.old) (S.has shelf.new) (S.tells shelf.old) text.now nodes file.now) }
-    ensures others { SameOthers file.now (S.has shelf.old) (S.has shelf.new) }
+    ensures ok { IfOk result (λ lines. AreBuildLines (shelf_change (S.state shelf.old) (S.state shelf.new)) text.now nodes file.now (string_bytes lines)) }
+    ensures err { IfErr result (IsBuildFault (shelf_change (S.state shelf.old) (S.state shelf.new)) text.now nodes file.now) }
+    ensures others { SameOthers file.now (S.state shelf.old).has (S.state shelf.new).has }
+    ensures failed { FailsWhere (shelf_change (S.state shelf.old) (S.state shelf.new)) (is_io_error result) }
 {
     let set = PieceSet::read(text)?;
     let built = run_nodes(rt, alloc, set, nodes as usize, BATCH, CAPACITY, &Free)?;
@@ -46,13 +48,12 @@ fn keep_table<S: Shelf>(
     file: &str,
     table: &Table,
 ) -> Result<(), Fault>
-    ensures kept { OnOk result (IsTrue (S.tells shelf.old) → HasJust file.now (bytes_of table.now) (S.has shelf.new)) }
-    ensures err { IfErr result (IsKeepingFault (S.has shelf.old) (S.has shelf.new) (S.tells shelf.old) file.now table.now) }
-    ensures others { SameOthers file.now (S.has shelf.old) (S.has shelf.new) }
+    ensures kept { OnOk result (IsTrue (S.state shelf.old).tells → HasJust file.now (bytes_of table.now) (S.state shelf.new).has) }
+    ensures err { IfErr result (IsKeepingFault (shelf_change (S.state shelf.old) (S.state shelf.new)) file.now table.now) }
+    ensures others { SameOthers file.now (S.state shelf.old).has (S.state shelf.new).has }
+    ensures failed { FailsWhere (shelf_change (S.state shelf.old) (S.state shelf.new)) (is_io_error result) }
 {
-    let Some(mut sink) = shelf.make(file) else {
-        return Err(Fault::Io);
-    };
+    let mut sink = shelf.make(file)?;
     match write_table(alloc, table, &mut sink) {
         Ok(()) => {}
         Err(fault) => {

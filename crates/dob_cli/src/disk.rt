@@ -1,9 +1,9 @@
 // The files that the system has, each written beside its name and put there when it is whole.
-ghost use Rattle.std.specs.Prelude.{false};
+ghost use Rattle.std.specs.Prelude.{◌≡◌, false};
 
-use crate::shelf::Shelf;
-use dob_dbfile::{Failed, Std};
-use std::alloc::{AllocError, Global};
+use crate::shelf::{MakeFault, Shelf};
+use dob_dbfile::{Failed, Sink, Source, Std};
+use std::alloc::Global;
 use std::fs::{self, File, OpenFile};
 use std::io::{self, ErrorKind, Write};
 use std::os::unix::fs::MetadataExt;
@@ -17,8 +17,9 @@ use std::rt::Files;
 /// regular file (a pipe, a device, a link) is written where it is.
 #[derive(Drop)]
 pub struct DiskShelf<'a, R> {
-    pub rt: &'a R,
-    pub alloc: Global,
+    rt: &'a R,
+    alloc: Global,
+    has_failed: bool,
 }
 
 /// A file that is being written, and its name until it is kept, where that is another one.
@@ -38,18 +39,32 @@ impl<F: Write> Write for DiskFile<F> {
     }
 }
 
+impl<'a, R> DiskShelf<'a, R> {
+    /// The files of the system, of which no call has failed.
+    pub fn new(rt: &'a R, alloc: Global) -> DiskShelf<'a, R>
+        ensures { result.has_failed ≡ false }
+    {
+        DiskShelf {
+            rt,
+            alloc,
+            has_failed: false,
+        }
+    }
+}
+
 impl<R: Files> DiskShelf<'_, R> {
     // Whether the name has a regular file or none, so that another file may take its place.
-    fn can_be_replaced(&self, name: &str) -> bool {
+    fn can_be_replaced(&self, name: &str) -> io::Result<bool> {
         match fs::symlink_metadata(self.rt, name) {
-            Ok(found) => found.is_file(),
-            Err(error) => error.kind() == ErrorKind::NotFound,
+            Ok(found) => Ok(found.is_file()),
+            Err(error) if error.kind() == ErrorKind::NotFound => Ok(true),
+            Err(error) => Err(error),
         }
     }
 
     // The name under which the file of that name is written; `None` where that is the same.
-    fn part_of(&self, name: &str) -> Result<Option<String>, AllocError> {
-        if self.can_be_replaced(name) {
+    fn part_of(&self, name: &str) -> Result<Option<String>, MakeFault> {
+        if self.can_be_replaced(name)? {
             Ok(Some(format!(in self.alloc; "{name}.part")?))
         } else {
             Ok(None)
@@ -60,6 +75,16 @@ impl<R: Files> DiskShelf<'_, R> {
     fn begin(&self, part: &str) -> io::Result<R::File> {
         let _ = fs::remove_file(self.rt, part);
         File::create_new(self.rt, part)
+    }
+
+    // A new file for the bytes of that name.
+    fn create(&self, name: &str) -> Result<DiskFile<R::File>, MakeFault> {
+        let part = self.part_of(name)?;
+        let file = match &part {
+            Some(part) => self.begin(part.as_str())?,
+            None => fs::create(self.rt, name)?,
+        };
+        Ok(DiskFile { file, part })
     }
 
     // Whether the part's name still has that file, and no other run's.
@@ -92,25 +117,35 @@ impl<R: Files> Shelf for DiskShelf<'_, R> {
 
     type Dst = Std<DiskFile<R::File>>;
 
-    ghost has = { λ _ _ _. ⊥ };
-
-    ghost tells = { λ _. false };
+    ghost state = { λ shelf. record { has = λ _ _. ⊥; tells = false; has_failed = shelf.has_failed } };
 
     fn find(&mut self, name: &str) -> Option<Std<R::File>> {
-        let file = fs::open(self.rt, name).ok()?;
-        Some(Std::new(file))
+        match fs::open(self.rt, name) {
+            Ok(file) => Some(Std::new(file)),
+            Err(_) => {
+                self.has_failed = true;
+                None
+            }
+        }
     }
 
-    fn make(&mut self, name: &str) -> Option<Std<DiskFile<R::File>>> {
-        let part = self.part_of(name).ok()?;
-        let file = match &part {
-            Some(part) => self.begin(part.as_str()).ok()?,
-            None => fs::create(self.rt, name).ok()?,
-        };
-        Some(Std::new(DiskFile { file, part }))
+    fn close(&mut self, source: Std<R::File>) {
+        self.has_failed |= Source::failed(&source);
+    }
+
+    fn make(&mut self, name: &str) -> Result<Std<DiskFile<R::File>>, MakeFault> {
+        match self.create(name) {
+            Ok(file) => Ok(Std::new(file)),
+            Err(MakeFault::Memory) => Err(MakeFault::Memory),
+            Err(MakeFault::Failed) => {
+                self.has_failed = true;
+                Err(MakeFault::Failed)
+            }
+        }
     }
 
     fn keep(&mut self, name: &str, sink: Std<DiskFile<R::File>>) -> Result<(), Failed> {
+        self.has_failed |= Sink::failed(&sink);
         let DiskFile { file, part } = sink.into_inner();
         let Some(part) = part else {
             return Ok(());
@@ -118,6 +153,7 @@ impl<R: Files> Shelf for DiskShelf<'_, R> {
         match self.put_in_place(&file, part.as_str(), name) {
             Ok(()) => Ok(()),
             Err(_) => {
+                self.has_failed = true;
                 self.take_away(&file, part.as_str());
                 Err(Failed)
             }
@@ -125,6 +161,7 @@ impl<R: Files> Shelf for DiskShelf<'_, R> {
     }
 
     fn discard(&mut self, _name: &str, sink: Std<DiskFile<R::File>>) {
+        self.has_failed |= Sink::failed(&sink);
         let DiskFile { file, part } = sink.into_inner();
         if let Some(part) = part {
             self.take_away(&file, part.as_str());

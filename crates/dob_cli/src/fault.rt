@@ -3,6 +3,7 @@ ghost use Rattle.std.specs.Prelude.{◌≡◌, Some};
 ghost use Rattle.dob_probe.specs.declared.fault.Fault.TheVariants as table_fault;
 ghost use Rattle.dob_cli.specs.declared.fault.Fault.TheVariants as fault;
 
+use crate::shelf::MakeFault;
 use dob_pieces::{Memory, SetText};
 use dob_probe::OtherSet;
 use dob_text::TextFault;
@@ -147,6 +148,19 @@ impl From<OtherSet> for Fault {
 
     fn from(_given: OtherSet) -> Fault {
         Fault::Table(dob_probe::Fault::OtherSet)
+    }
+}
+
+impl From<MakeFault> for Fault {
+    ghost use Rattle.dob_cli.specs.Faults.{fault_of_make};
+
+    ghost from_gives = { λ given result. result ≡ fault_of_make given };
+
+    fn from(given: MakeFault) -> Fault {
+        match given {
+            MakeFault::Memory => Fault::Memory,
+            MakeFault::Failed => Fault::Io,
+        }
     }
 }
 

@@ -6,7 +6,8 @@ ghost use Rattle.std.specs.Vec.Iter.{into_iter_items};
 ghost use Rattle.dob_dbfile.specs.Sinks.{Says, change};
 ghost use Rattle.dob_cli.specs.Runs.{Ran, RanOn, RanOver, TellsNoText, contents};
 ghost use Rattle.dob_cli.specs.Orders.{AnswersOrder, AreLinesFor, IsFaultFor, KeepsFiles};
-ghost use Rattle.dob_cli.specs.Shelves.{SameFiles};
+ghost use Rattle.dob_cli.specs.Shelves.{FailsWhere, SameFiles, shelf_change};
+ghost use Rattle.dob_cli.specs.Faults.{is_io_error};
 ghost use Rattle.dob_cli.specs.Endings.{Tells, TellsFaultAs, TellsMemory, TellsOneFault, ended};
 ghost use Rattle.dob_cli.specs.Program.{IsValueLineOf, IsFaultOf, value_line};
 ghost use Rattle.dob_cli.specs.declared.fault.Fault.TheVariants.{Memory};
@@ -50,7 +51,7 @@ pub fn run_words<'a, S: Shelf, O: Write, E: Write>(
     out: &mut O,
     err: &mut E,
 ) -> u8
-    ensures { RanOver (S.has shelf.old) (S.has shelf.new) (S.tells shelf.old) (map (λ w. w.now) words.now) result
+    ensures { RanOver (shelf_change (S.state shelf.old) (S.state shelf.new)) (map (λ w. w.now) words.now) result
         (contents (O.contents out.old) (O.contents out.new)) (contents (E.contents err.old) (E.contents err.new)) }
 {
     let mut told = Lent::new(out);
@@ -72,7 +73,7 @@ pub fn run_over<'a, S: Shelf, O: Sink, E: Sink>(
     out: &mut O,
     err: &mut E,
 ) -> u8
-    ensures { Ran (S.has shelf.old) (S.has shelf.new) (S.tells shelf.old) (map (λ w. w.now) words.now)
+    ensures { Ran (shelf_change (S.state shelf.old) (S.state shelf.new)) (map (λ w. w.now) words.now)
         (ended result (change (O.state out.old) (O.state out.new)) (change (E.state err.old) (E.state err.new))) }
 {
     match read_words(alloc, words) {
@@ -96,9 +97,9 @@ fn run_order<S: Shelf, O: Sink, E: Sink>(
     out: &mut O,
     err: &mut E,
 ) -> u8
-    ensures done { AnswersOrder (S.has shelf.old) (S.has shelf.new) (S.tells shelf.old) order.entry
+    ensures done { AnswersOrder (shelf_change (S.state shelf.old) (S.state shelf.new)) order.entry
         (ended result (change (O.state out.old) (O.state out.new)) (change (E.state err.old) (E.state err.new))) }
-    ensures files { KeepsFiles (S.has shelf.old) (S.has shelf.new) order.entry }
+    ensures files { KeepsFiles (shelf_change (S.state shelf.old) (S.state shelf.new)) order.entry }
 {
     match answer(rt, alloc, order, shelf) {
         Ok(lines) => tell(alloc, lines.as_str(), out, err),
@@ -113,9 +114,10 @@ fn answer<S: Shelf>(
     order: Order<'_>,
     shelf: &mut S,
 ) -> Result<String, Fault>
-    ensures ok { IfOk result (λ lines. AreLinesFor (S.has shelf.old) (S.has shelf.new) (S.tells shelf.old) order.entry (string_bytes lines)) }
-    ensures err { IfErr result (IsFaultFor (S.has shelf.old) (S.has shelf.new) (S.tells shelf.old) order.entry) }
-    ensures files { KeepsFiles (S.has shelf.old) (S.has shelf.new) order.entry }
+    ensures ok { IfOk result (λ lines. AreLinesFor (shelf_change (S.state shelf.old) (S.state shelf.new)) order.entry (string_bytes lines)) }
+    ensures err { IfErr result (IsFaultFor (shelf_change (S.state shelf.old) (S.state shelf.new)) order.entry) }
+    ensures files { KeepsFiles (shelf_change (S.state shelf.old) (S.state shelf.new)) order.entry }
+    ensures failed { FailsWhere (shelf_change (S.state shelf.old) (S.state shelf.new)) (is_io_error result) }
 {
     match order {
         Order::Value(position) => answer_value(alloc, position),
@@ -200,13 +202,13 @@ pub fn run_given<S: Shelf, O: Sink, E: Sink>(
     out: &mut O,
     err: &mut E,
 ) -> u8
-    ensures words { IfOk given (λ args. RanOn (S.has shelf.old) (S.has shelf.new) (S.tells shelf.old) (map string_bytes (drop 1 (into_iter_items args)))
+    ensures words { IfOk given (λ args. RanOn (shelf_change (S.state shelf.old) (S.state shelf.new)) (map string_bytes (drop 1 (into_iter_items args)))
         (ended result (change (O.state out.old) (O.state out.new)) (change (E.state err.old) (E.state err.new)))) }
     ensures memory { IfErr given (λ error. error_kind error ≡ OutOfMemory → TellsMemory
         (ended result (change (O.state out.old) (O.state out.new)) (change (E.state err.old) (E.state err.new)))) }
     ensures unread { IfErr given (λ error. error_kind error ≢ OutOfMemory → TellsNoText
         (ended result (change (O.state out.old) (O.state out.new)) (change (E.state err.old) (E.state err.new)))) }
-    ensures files { IfErr given (λ _. SameFiles (S.has shelf.old) (S.has shelf.new)) }
+    ensures files { IfErr given (λ _. SameFiles (S.state shelf.old).has (S.state shelf.new).has) }
 {
     match given {
         Ok(args) => run_args(rt, alloc, args, shelf, out, err),
@@ -229,7 +231,7 @@ fn run_args<S: Shelf, O: Sink, E: Sink>(
     out: &mut O,
     err: &mut E,
 ) -> u8
-    ensures { RanOn (S.has shelf.old) (S.has shelf.new) (S.tells shelf.old) (map string_bytes (drop 1 (into_iter_items args)))
+    ensures { RanOn (shelf_change (S.state shelf.old) (S.state shelf.new)) (map string_bytes (drop 1 (into_iter_items args)))
         (ended result (change (O.state out.old) (O.state out.new)) (change (E.state err.old) (E.state err.new))) }
 {
     match list_of(alloc, args) {
@@ -268,7 +270,7 @@ fn run_texts<S: Shelf, O: Sink, E: Sink>(
     out: &mut O,
     err: &mut E,
 ) -> u8
-    ensures { RanOn (S.has shelf.old) (S.has shelf.new) (S.tells shelf.old) (map string_bytes given.now)
+    ensures { RanOn (shelf_change (S.state shelf.old) (S.state shelf.new)) (map string_bytes given.now)
         (ended result (change (O.state out.old) (O.state out.new)) (change (E.state err.old) (E.state err.new))) }
 {
     match words_of(alloc, given) {

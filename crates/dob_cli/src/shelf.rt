@@ -1,11 +1,40 @@
 // Where the program finds and keeps database files.
-ghost use Rattle.std.specs.Prelude.{◌≡◌, ℕ, List, [], Bool, Some, false, true, IfSome, OnErr, IfNone, OnOk, IsTrue};
+ghost use Rattle.std.specs.Prelude.{◌≡◌, ◌||◌, ℕ, List, [], None, Some, false, true, IfOk, IfSome, OnErr, OnOk, IsTrue, is_err, is_none};
 ghost use Rattle.dob_dbfile.specs.Devices.{whole};
-ghost use Rattle.dob_cli.specs.Shelves.{HasJust, SameFiles, SameOthers, bytes_in};
+ghost use Rattle.dob_cli.specs.Shelves.{HasJust, SameFiles, SameOthers, ShelfState, bytes_in, is_failed};
 
 use dob_dbfile::{Failed, MemSink, MemSource, Sink, Source};
 use std::alloc::{AllocError, Global};
 use std::collections::BTreeMap;
+use std::io;
+
+/// Why a shelf makes no file. Nothing has changed then.
+#[derive(Clone, Copy, Debug, PartialEq, Eq)]
+pub enum MakeFault {
+    /// A growth was refused, since no memory was left for it.
+    Memory,
+    /// The file can't be made.
+    Failed,
+}
+
+impl From<AllocError> for MakeFault {
+    ghost use Rattle.dob_cli.specs.declared.shelf.MakeFault.TheVariants as make_fault;
+
+    ghost from_gives = { λ _ result. result ≡ make_fault.Memory };
+
+    fn from(_lower: AllocError) -> MakeFault {
+        MakeFault::Memory
+    }
+}
+
+impl From<io::Error> for MakeFault {
+    fn from(error: io::Error) -> MakeFault {
+        match error.kind() {
+            io::ErrorKind::OutOfMemory => MakeFault::Memory,
+            _ => MakeFault::Failed,
+        }
+    }
+}
 
 /// Files by name.
 pub trait Shelf {
@@ -15,43 +44,54 @@ pub trait Shelf {
     /// What the bytes of a new file are written to.
     type Dst: Sink + Drop;
 
-    // The file of this name has just these bytes, where that is known.
-    ghost has: { Self → List ℕ → List ℕ → Type 0 };
-
-    // Whether it is known of each file.
-    ghost tells: { Self → Bool };
+    // What is known of it: the bytes of its files, and whether some call of it has failed, or of a source or a sink that it got back.
+    ghost state: { Self → ShelfState };
 
     /// A source of the bytes of the file of that name, from the first on; `None` where there is none, or it can't be
     /// opened. The files keep their bytes.
     fn find(&mut self, name: &str) -> Option<Self::Src>
         ensures working { IfSome result (λ source. Self.Src.has_failed source ≡ false) }
-        ensures found { (bytes : List ℕ) → has self.old name.now bytes → IfSome result (λ source. Self.Src.gives source (whole bytes)) }
-        ensures kept { SameFiles (has self.old) (has self.new) }
-        ensures told { tells self.new ≡ tells self.old };
+        ensures found { (bytes : List ℕ) → (state self.old).has name.now bytes → IfSome result (λ source. Self.Src.gives source (whole bytes)) }
+        ensures there { IfSome result (λ _. IsTrue (state self.old).tells → (bytes : List ℕ) × (state self.old).has name.now bytes) }
+        ensures kept { SameFiles (state self.old).has (state self.new).has }
+        ensures told { (state self.new).tells ≡ (state self.old).tells }
+        ensures failed { (state self.new).has_failed ≡ ((state self.old).has_failed || is_none result) };
 
-    /// An empty sink for the bytes of a file of that name, which has no bytes from here on; `None` where it can't be
-    /// made, and then nothing has changed. Other files keep their bytes.
-    fn make(&mut self, name: &str) -> Option<Self::Dst>
-        ensures working { IfSome result (λ sink. (Self.Dst.state sink).has_failed ≡ false) }
-        ensures empty { IfSome result (λ sink. IsTrue (tells self.old) → (Self.Dst.state sink).received ≡ Some []) }
-        ensures made { IfSome result (λ _. IsTrue (tells self.old) → HasJust name.now [] (has self.new)) }
-        ensures others { SameOthers name.now (has self.old) (has self.new) }
-        ensures unchanged { IfNone result (SameFiles (has self.old) (has self.new)) }
-        ensures told { tells self.new ≡ tells self.old };
+    /// Takes back a source that `find` gave, and notes whether it has failed. The files keep their bytes.
+    fn close(&mut self, source: Self::Src)
+        ensures kept { SameFiles (state self.old).has (state self.new).has }
+        ensures told { (state self.new).tells ≡ (state self.old).tells }
+        ensures failed { (state self.new).has_failed ≡ ((state self.old).has_failed || Self.Src.has_failed source) };
+
+    /// An empty sink for the bytes of a file of that name, which has no bytes from here on. Other files keep their bytes.
+    ///
+    /// Error: the file isn't made, and nothing has changed.
+    fn make(&mut self, name: &str) -> Result<Self::Dst, MakeFault>
+        ensures working { IfOk result (λ sink. (Self.Dst.state sink).has_failed ≡ false) }
+        ensures empty { IfOk result (λ sink. IsTrue (state self.old).tells → (Self.Dst.state sink).received ≡ Some []) }
+        ensures made { OnOk result (IsTrue (state self.old).tells → HasJust name.now [] (state self.new).has) }
+        ensures others { SameOthers name.now (state self.old).has (state self.new).has }
+        ensures unchanged { OnErr result (SameFiles (state self.old).has (state self.new).has) }
+        ensures told { (state self.new).tells ≡ (state self.old).tells }
+        ensures failed { (state self.new).has_failed ≡ ((state self.old).has_failed || is_failed result) };
 
     /// Keeps just the sink's bytes under that name, for which `make` gave a sink. Other files keep their bytes. It fails where
     /// the device does, which no shelf does that tells its bytes; the sink is gone then, as after `discard`.
     fn keep(&mut self, name: &str, sink: Self::Dst) -> Result<(), Failed>
-        requires { IsTrue (tells self.old) → (bytes : List ℕ) × has self.old name.now bytes }
-        ensures kept { (bytes : List ℕ) → IsTrue (tells self.old) → (Self.Dst.state sink).received ≡ Some bytes → HasJust name.now bytes (has self.new) }
-        ensures failed { OnErr result (tells self.old ≡ false) }
-        ensures others { SameOthers name.now (has self.old) (has self.new) }
-        ensures told { tells self.new ≡ tells self.old };
+        requires { IsTrue (state self.old).tells → (bytes : List ℕ) × (state self.old).has name.now bytes }
+        ensures kept { (bytes : List ℕ) → IsTrue (state self.old).tells → (Self.Dst.state sink).received ≡ Some bytes
+            → HasJust name.now bytes (state self.new).has }
+        ensures silent { OnErr result ((state self.old).tells ≡ false) }
+        ensures others { SameOthers name.now (state self.old).has (state self.new).has }
+        ensures told { (state self.new).tells ≡ (state self.old).tells }
+        ensures failed { (state self.new).has_failed ≡ (((state self.old).has_failed || (Self.Dst.state sink).has_failed) || is_err result) };
 
-    /// Gives up the sink that `make` gave for that name, and what it has received. The files keep their bytes.
+    /// Gives up the sink that `make` gave for that name, and what it has received, and notes whether it has failed. The files keep
+    /// their bytes.
     fn discard(&mut self, name: &str, sink: Self::Dst)
-        ensures kept { SameFiles (has self.old) (has self.new) }
-        ensures told { tells self.new ≡ tells self.old };
+        ensures kept { SameFiles (state self.old).has (state self.new).has }
+        ensures told { (state self.new).tells ≡ (state self.old).tells }
+        ensures failed { (state self.new).has_failed ≡ ((state self.old).has_failed || (Self.Dst.state sink).has_failed) };
 }
 
 /// A shelf of files in memory, for tests.
@@ -59,15 +99,27 @@ pub trait Shelf {
 pub struct MemShelf {
     files: BTreeMap<String, Vec<u8>>,
     alloc: Global,
+    has_failed: bool,
 }
 
 impl MemShelf {
     /// A shelf with no files.
-    pub fn new(alloc: Global) -> MemShelf {
+    pub fn new(alloc: Global) -> MemShelf
+        ensures empty { (name : List ℕ) → bytes_in result.files name ≡ None }
+        ensures failed { result.has_failed ≡ false }
+    {
         MemShelf {
             files: BTreeMap::new(alloc),
             alloc,
+            has_failed: false,
         }
+    }
+
+    // The bytes of the file of that name; `None` where there is none, or no memory for them.
+    fn copy_of(&self, name: &str) -> Option<Vec<u8>>
+        ensures { IfSome result (λ copy. bytes_in self.now.files name.now ≡ Some copy.items) }
+    {
+        self.files.get(name)?.clone().ok()
     }
 
     // Puts an empty file under the name.
@@ -77,6 +129,7 @@ impl MemShelf {
             (λ other bytes. bytes_in self.new.files other ≡ Some bytes) }
         ensures unchanged { OnErr result (SameFiles (λ other bytes. bytes_in self.old.files other ≡ Some bytes)
             (λ other bytes. bytes_in self.new.files other ≡ Some bytes)) }
+        ensures failed { self.new.has_failed ≡ self.old.has_failed }
     {
         let name = name.to_string(self.alloc)?;
         self.files.insert(name, Vec::new(self.alloc))?;
@@ -89,28 +142,42 @@ impl Shelf for MemShelf {
 
     type Dst = MemSink;
 
-    ghost has = { λ shelf name bytes. bytes_in shelf.files name ≡ Some bytes };
-
-    ghost tells = { λ _. true };
+    ghost state = { λ shelf. record {
+      has = λ name bytes. bytes_in shelf.files name ≡ Some bytes;
+      tells = true;
+      has_failed = shelf.has_failed;
+    } };
 
     fn find(&mut self, name: &str) -> Option<MemSource> {
-        let bytes = self.files.get(name)?.clone().ok()?;
-        Some(MemSource::new(bytes))
+        match self.copy_of(name) {
+            Some(bytes) => Some(MemSource::new(bytes)),
+            None => {
+                self.has_failed = true;
+                None
+            }
+        }
     }
 
-    fn make(&mut self, name: &str) -> Option<MemSink> {
+    fn close(&mut self, source: MemSource) {
+        self.has_failed |= source.failed();
+    }
+
+    fn make(&mut self, name: &str) -> Result<MemSink, MakeFault> {
         match self.clear(name) {
-            Ok(()) => Some(MemSink::new(self.alloc)),
-            Err(AllocError) => None,
+            Ok(()) => Ok(MemSink::new(self.alloc)),
+            Err(AllocError) => Err(MakeFault::Memory),
         }
     }
 
     fn keep(&mut self, name: &str, sink: MemSink) -> Result<(), Failed> {
+        self.has_failed |= sink.failed();
         if let Some(bytes) = self.files.get_mut(name) {
             *bytes = sink.into_bytes();
         }
         Ok(())
     }
 
-    fn discard(&mut self, _name: &str, _sink: MemSink) {}
+    fn discard(&mut self, _name: &str, sink: MemSink) {
+        self.has_failed |= sink.failed();
+    }
 }

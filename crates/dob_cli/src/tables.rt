@@ -1,7 +1,8 @@
 // Answers by the table of a database file.
 ghost use Rattle.std.specs.Prelude.{◌≡◌, ◌++◌, ◌∷◌, [], false, IfOk, IfErr, OnOk, string_bytes};
 ghost use Rattle.dob_text.specs.MoveText.{move_text};
-ghost use Rattle.dob_cli.specs.Shelves.{SameFiles};
+ghost use Rattle.dob_cli.specs.Shelves.{FailsWhere, SameFiles, shelf_change};
+ghost use Rattle.dob_cli.specs.Faults.{is_io_error};
 ghost use Rattle.dob_pieces.specs.Bytes.{line_feed};
 ghost use Rattle.dob_cli.specs.Tables.{IsCheckFault, IsCheckLine, IsFileOf, IsMovesLine, IsOpeningFault, IsPositionFault};
 ghost use Rattle.dob_cli.specs.Tables.{IsProbeLine, moves_line, moves_text, space_before};
@@ -25,9 +26,10 @@ pub(crate) fn answer_probe<S: Shelf>(
     file: &str,
     text: &str,
 ) -> Result<String, Fault>
-    ensures ok { IfOk result (λ line. IsProbeLine (S.has shelf.old file.now) text.now (string_bytes line)) }
-    ensures err { IfErr result (IsPositionFault (S.has shelf.old file.now) text.now) }
-    ensures files { SameFiles (S.has shelf.old) (S.has shelf.new) }
+    ensures ok { IfOk result (λ line. IsProbeLine ((S.state shelf.old).has file.now) text.now (string_bytes line)) }
+    ensures err { IfErr result (IsPositionFault ((S.state shelf.old).has file.now) text.now) }
+    ensures files { SameFiles (S.state shelf.old).has (S.state shelf.new).has }
+    ensures failed { FailsWhere (shelf_change (S.state shelf.old) (S.state shelf.new)) (is_io_error result) }
 {
     let position = read_position(text)?;
     let table = open(alloc, shelf, file)?;
@@ -42,9 +44,10 @@ pub(crate) fn answer_line<S: Shelf>(
     file: &str,
     text: &str,
 ) -> Result<String, Fault>
-    ensures ok { IfOk result (λ line. IsMovesLine (S.has shelf.old file.now) text.now (string_bytes line)) }
-    ensures err { IfErr result (IsPositionFault (S.has shelf.old file.now) text.now) }
-    ensures files { SameFiles (S.has shelf.old) (S.has shelf.new) }
+    ensures ok { IfOk result (λ line. IsMovesLine ((S.state shelf.old).has file.now) text.now (string_bytes line)) }
+    ensures err { IfErr result (IsPositionFault ((S.state shelf.old).has file.now) text.now) }
+    ensures files { SameFiles (S.state shelf.old).has (S.state shelf.new).has }
+    ensures failed { FailsWhere (shelf_change (S.state shelf.old) (S.state shelf.new)) (is_io_error result) }
 {
     let position = read_position(text)?;
     let table = open(alloc, shelf, file)?;
@@ -60,9 +63,10 @@ pub(crate) fn answer_check<S: Shelf>(
     shelf: &mut S,
     file: &str,
 ) -> Result<String, Fault>
-    ensures ok { IfOk result (λ line. IsCheckLine (S.has shelf.old file.now) (string_bytes line)) }
-    ensures err { IfErr result (IsCheckFault (S.has shelf.old file.now)) }
-    ensures files { SameFiles (S.has shelf.old) (S.has shelf.new) }
+    ensures ok { IfOk result (λ line. IsCheckLine ((S.state shelf.old).has file.now) (string_bytes line)) }
+    ensures err { IfErr result (IsCheckFault ((S.state shelf.old).has file.now)) }
+    ensures files { SameFiles (S.state shelf.old).has (S.state shelf.new).has }
+    ensures failed { FailsWhere (shelf_change (S.state shelf.old) (S.state shelf.new)) (is_io_error result) }
 {
     let table = open(alloc, shelf, file)?;
     check(rt, alloc, &table)?;
@@ -71,14 +75,17 @@ pub(crate) fn answer_check<S: Shelf>(
 
 // The table of the file.
 fn open<S: Shelf>(alloc: Global, shelf: &mut S, file: &str) -> Result<Table, Fault>
-    ensures table { IfOk result (λ table. IsFileOf (S.has shelf.old file.now) table) }
-    ensures fault { IfErr result (IsOpeningFault (S.has shelf.old file.now)) }
-    ensures files { SameFiles (S.has shelf.old) (S.has shelf.new) }
+    ensures table { IfOk result (λ table. IsFileOf ((S.state shelf.old).has file.now) table) }
+    ensures fault { IfErr result (IsOpeningFault ((S.state shelf.old).has file.now)) }
+    ensures files { SameFiles (S.state shelf.old).has (S.state shelf.new).has }
+    ensures failed { FailsWhere (shelf_change (S.state shelf.old) (S.state shelf.new)) (is_io_error result) }
 {
     let Some(mut source) = shelf.find(file) else {
         return Err(Fault::Io);
     };
-    Ok(read_table(alloc, &mut source)?)
+    let read = read_table(alloc, &mut source);
+    shelf.close(source);
+    Ok(read?)
 }
 
 // The line that tells the moves of a position of that value.

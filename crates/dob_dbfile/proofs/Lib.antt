@@ -12,6 +12,6 @@ mod Endings  -- what the end of a file shows
 mod HeaderFaults  -- the faults of a header
 mod Places  -- at most one fault holds
 mod Verdicts  -- what the steps say of the whole stream
-mod Written  -- the file of a table passes
+pub mod Written  -- the file of a table passes
 -- Writing.
 mod Sinks  -- what sinks have received

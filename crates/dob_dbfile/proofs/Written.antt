@@ -19,7 +19,7 @@ use Rattle.dob_dbfile.specs.declared.fault.Fault.TheVariants as fault
 use Rattle.dob_dbfile.specs.Devices.{Stream, whole}
 use Rattle.dob_dbfile.specs.Format.{title, set_bytes, count_bytes, records, contents, bytes_of}
 use Rattle.dob_rank.specs.Limits.{IsSmall}
-use Rattle.dob_dbfile.specs.Faults.{CountsClasses, contents_len, HasDigest, HasFault}
+use Rattle.dob_dbfile.specs.Faults.{CountsClasses, NamesSet, contents_len, HasDigest, HasFault}
 use Rattle.dob_dbfile.proofs.Decoded.{same_records, length-records}
 use Rattle.dob_dbfile.proofs.Places.{same_set, no_fault}
 
@@ -97,16 +97,28 @@ same_tables p q xs ys one is_xs is_ys same =
     (λ is found. same_values p xs ys is_xs is found)
     is_ys same
 
+-- the header of a table's file names its set
+names_set : (table : ClassTable) → NamesSet table.set (take 20 (bytes_of table))
+names_set table = subst (NamesSet table.set) (sym (contents-front table)) (refl, refl)
+
+-- no two tables have one file
+pub same_files : (a b : ClassTable) → IsTable a.set a.values → IsTable b.set b.values → bytes_of a ≡ bytes_of b → a ≡ b
+same_files a b is_a is_b same =
+    let one : a.set ≡ b.set =
+    same_set a.set b.set (take 20 (bytes_of b)) (subst (λ (bytes : List ℕ). NamesSet a.set (take 20 bytes)) same (names_set a)) (names_set b) in
+    same_tables a.set b.set a.values b.values one is_a is_b same
+
 -- what reading the file of a table gives
 pub read_back : (table : ClassTable) (result : Result ClassTable Fault) → IsSmall table.set → IsTable table.set table.values
-    → IfOk result (λ found. (whole (bytes_of table) ≡ whole (bytes_of found)) × HasDigest found.set (whole (bytes_of table)) × IsTable found.set found.values)
+    → IfOk result (λ found. (whole (bytes_of table) ≡ whole (bytes_of found)) × HasDigest found.set (whole (bytes_of table)))
+    → IfOk result (λ found. IsTable found.set found.values)
     → IfErr result (λ given. (given ≡ fault.Memory) ⊎ HasFault (whole (bytes_of table)) given)
     → MatchResult result (λ found. found ≡ table) (λ given. given ≡ fault.Memory)
-read_back table (Ok found) few is right wrong =
+read_back table (Ok found) few is right good wrong =
     let stream : Stream = whole (bytes_of table) in
     let passes : HasDigest table.set stream = file_passes table few is in
     let one : found.set ≡ table.set =
     same_set found.set table.set (take 20 (bytes_of table)) right.1.0.0.0.0.1.0.0 passes.0.0.0.0.1.0.0 in
-    same_tables found.set table.set found.values table.values one right.2 is (sym (ap (λ (s : Stream). s.bytes) right.0))
-read_back table (Err given) few is right (inl none) = none
-read_back table (Err given) few is right (inr at_given) = absurd (no_fault (whole (bytes_of table)) table.set given (file_passes table few is) at_given)
+    same_tables found.set table.set found.values table.values one good is (sym (ap (λ (s : Stream). s.bytes) right.0))
+read_back table (Err given) few is right good (inl none) = none
+read_back table (Err given) few is right good (inr at_given) = absurd (no_fault (whole (bytes_of table)) table.set given (file_passes table few is) at_given)

@@ -1,5 +1,5 @@
 // A sink in memory, for tests: it takes pieces of a set length, and fails where it is told to.
-ghost use Rattle.std.specs.Prelude.{◌≡◌, ◌<◌, [], None, Some, false};
+ghost use Rattle.std.specs.Prelude.{◌≡◌, ◌<◌, ◌-◌, ◌^◌, [], None, Some, false, true};
 
 use crate::device::{Failed, Sink};
 use std::alloc::Global;
@@ -22,6 +22,9 @@ impl MemSink {
         ensures bytes { result.bytes.items ≡ [] }
         ensures flushes { result.flushes.items ≡ [] }
         ensures failed { result.has_failed ≡ false }
+        ensures whole { result.longest ≡ 2 ^ 64 - 1 }
+        ensures wide { result.room ≡ 2 ^ 64 - 1 }
+        ensures working { result.fails_at_flush ≡ false }
     {
         MemSink {
             bytes: Vec::new(alloc),
@@ -39,6 +42,9 @@ impl MemSink {
         ensures bytes { result.bytes.items ≡ self.bytes.items }
         ensures flushes { result.flushes.items ≡ self.flushes.items }
         ensures failed { result.has_failed ≡ self.has_failed }
+        ensures pieces { result.longest ≡ longest }
+        ensures room { result.room ≡ self.room }
+        ensures place { result.fails_at_flush ≡ self.fails_at_flush }
     {
         let MemSink {
             bytes,
@@ -63,6 +69,9 @@ impl MemSink {
         ensures bytes { result.bytes.items ≡ self.bytes.items }
         ensures flushes { result.flushes.items ≡ self.flushes.items }
         ensures failed { result.has_failed ≡ self.has_failed }
+        ensures pieces { result.longest ≡ self.longest }
+        ensures room { result.room ≡ room }
+        ensures place { result.fails_at_flush ≡ self.fails_at_flush }
     {
         let MemSink {
             bytes,
@@ -87,6 +96,9 @@ impl MemSink {
         ensures bytes { result.bytes.items ≡ self.bytes.items }
         ensures flushes { result.flushes.items ≡ self.flushes.items }
         ensures failed { result.has_failed ≡ self.has_failed }
+        ensures pieces { result.longest ≡ self.longest }
+        ensures room { result.room ≡ self.room }
+        ensures place { result.fails_at_flush ≡ true }
     {
         let MemSink {
             bytes,

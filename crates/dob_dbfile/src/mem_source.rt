@@ -1,5 +1,5 @@
 // A source of bytes in memory, for tests: in pieces of a set length, and failing where it is told to.
-ghost use Rattle.std.specs.Prelude.{◌≡◌, ◌<◌, ◌≤◌, false, vec_len};
+ghost use Rattle.std.specs.Prelude.{◌≡◌, ◌<◌, ◌≤◌, ◌-◌, ◌^◌, false, vec_len};
 ghost use Rattle.dob_dbfile.specs.Devices.{whole};
 
 use crate::device::{Failed, Source};
@@ -23,6 +23,7 @@ impl MemSource {
     pub fn new(bytes: Vec<u8>) -> MemSource
         ensures stream { stream_of result ≡ whole bytes.items }
         ensures failed { result.has_failed ≡ false }
+        ensures whole { result.longest ≡ 2 ^ 64 - 1 }
     {
         MemSource {
             bytes,
@@ -38,6 +39,7 @@ impl MemSource {
         requires { 0 < longest }
         ensures stream { stream_of result ≡ stream_of self }
         ensures failed { result.has_failed ≡ self.has_failed }
+        ensures pieces { result.longest ≡ longest }
     {
         let MemSource {
             bytes,
@@ -60,6 +62,7 @@ impl MemSource {
     pub fn failing_after(self, count: usize) -> MemSource
         ensures stream { stream_of result ≡ cut count (stream_of self) }
         ensures failed { result.has_failed ≡ self.has_failed }
+        ensures pieces { result.longest ≡ self.longest }
     {
         let MemSource {
             mut bytes,

@@ -50,6 +50,8 @@ pub fn read_table<R: Source>(alloc: Global, source: &mut R) -> Result<Table, Fau
         → MatchResult result (λ found. found ≡ table) (λ given. given ≡ Fault.Memory) }
     // Memory is refused only once the header names a set whose classes are wanted.
     ensures memory { (stream : Stream) → R.gives source.old stream → IfErr result (λ given. given ≡ Fault.Memory → NamesClasses stream) }
+    // What is read is a table, also where nothing is known of the source.
+    ensures table { IfOk result (λ table. IsTable table.set table.values) }
     ensures failed { R.has_failed source.new ≡ is_io_error result }
 {
     read_file(alloc, source)
@@ -59,7 +61,8 @@ pub fn read_table<R: Source>(alloc: Global, source: &mut R) -> Result<Table, Fau
 fn read_file<R: Source>(alloc: Global, source: &mut R) -> Result<Table, Fault>
     requires { R.has_failed source.old ≡ false }
     ensures read { (stream : Stream) → R.gives source.old stream
-        → IfOk result (λ table. (stream ≡ whole (bytes_of table)) × HasDigest table.set stream × IsTable table.set table.values) }
+        → IfOk result (λ table. (stream ≡ whole (bytes_of table)) × HasDigest table.set stream) }
+    ensures table { IfOk result (λ table. IsTable table.set table.values) }
     ensures fault { (stream : Stream) → R.gives source.old stream
         → IfErr result (λ given. (given ≡ Fault.Memory) ⊎ HasFault stream given) }
     ensures memory { (stream : Stream) → R.gives source.old stream → IfErr result (λ given. given ≡ Fault.Memory → NamesClasses stream) }

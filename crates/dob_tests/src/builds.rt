@@ -2,8 +2,8 @@
 ghost use Rattle.std.specs.Prelude.{false};
 
 use crate::program::{FILE, run_on};
-use dob_cli::Shelf;
-use dob_dbfile::{Failed, MemSink, MemSource};
+use dob_cli::{MakeFault, Shelf};
+use dob_dbfile::{Failed, MemSink, MemSource, Sink, Source};
 use std::alloc::Global;
 use std::process::Abort;
 use std::sync::Wait;
@@ -16,6 +16,7 @@ const BUILD: [&str; 7] = ["build", "--set", "000", "--nodes", "2", "--out", FILE
 struct FullShelf {
     alloc: Global,
     room: Option<usize>,
+    has_failed: bool,
 }
 
 impl Shelf for FullShelf {
@@ -23,31 +24,44 @@ impl Shelf for FullShelf {
 
     type Dst = MemSink;
 
-    ghost has = { λ _ _ _. ⊥ };
-
-    ghost tells = { λ _. false };
+    ghost state = { λ shelf. record { has = λ _ _. ⊥; tells = false; has_failed = shelf.has_failed } };
 
     fn find(&mut self, _name: &str) -> Option<MemSource> {
+        self.has_failed = true;
         None
     }
 
-    fn make(&mut self, _name: &str) -> Option<MemSink> {
+    fn close(&mut self, source: MemSource) {
+        self.has_failed |= source.failed();
+    }
+
+    fn make(&mut self, _name: &str) -> Result<MemSink, MakeFault> {
         match self.room {
-            Some(room) => Some(MemSink::new(self.alloc).failing_after(room)),
-            None => None,
+            Some(room) => Ok(MemSink::new(self.alloc).failing_after(room)),
+            None => {
+                self.has_failed = true;
+                Err(MakeFault::Failed)
+            }
         }
     }
 
     fn keep(&mut self, _name: &str, _sink: MemSink) -> Result<(), Failed> {
+        self.has_failed = true;
         Err(Failed)
     }
 
-    fn discard(&mut self, _name: &str, _sink: MemSink) {}
+    fn discard(&mut self, _name: &str, sink: MemSink) {
+        self.has_failed |= sink.failed();
+    }
 }
 
 // A build with so much room for its file tells that it failed.
 fn tells_failure(rt: &(impl Abort + Threads + Wait + Sync), alloc: Global, room: Option<usize>) {
-    let mut shelf = FullShelf { alloc, room };
+    let mut shelf = FullShelf {
+        alloc,
+        room,
+        has_failed: false,
+    };
     let told = run_on(rt, alloc, &mut shelf, &BUILD);
     assert!(rt; told.is(3, b"", b"dobutsu: E24 Io\n"));
 }

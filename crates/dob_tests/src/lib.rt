@@ -13,6 +13,8 @@ mod program;
 #[cfg(test)]
 mod ranks;
 #[cfg(test)]
+mod rows;
+#[cfg(test)]
 mod sets;
 #[cfg(test)]
 mod shelves;

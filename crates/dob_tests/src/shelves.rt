@@ -1,5 +1,5 @@
 // Files that are made, kept and found again on a disk.
-use dob_cli::{DiskShelf, Shelf};
+use dob_cli::{DiskShelf, MakeFault, Shelf};
 use dob_dbfile::{Sink, put_all, read_full};
 use std::fs;
 use std::process::Abort;
@@ -13,7 +13,7 @@ const OTHER: &str = "other_kept_by_a_test.db";
 
 // Puts the bytes under the name, and answers whether that was done.
 pub(crate) fn put<S: Shelf>(shelf: &mut S, name: &str, bytes: &[u8]) -> bool {
-    let Some(mut sink) = shelf.make(name) else {
+    let Ok(mut sink) = shelf.make(name) else {
         return false;
     };
     let is_whole = put_all(&mut sink, bytes).is_ok() && !sink.failed();
@@ -26,7 +26,9 @@ fn has<S: Shelf>(shelf: &mut S, name: &str, bytes: &[u8]) -> bool {
     let Some(mut source) = shelf.find(name) else {
         return false;
     };
-    match read_full(&mut source, &mut room) {
+    let read = read_full(&mut source, &mut room);
+    shelf.close(source);
+    match read {
         Ok(count) => &room[..count] == bytes,
         Err(_failed) => false,
     }
@@ -41,7 +43,7 @@ fn keeps_file<S: Shelf>(rt: &impl Abort, shelf: &mut S, name: &str, bytes: &[u8]
 // A file made anew on the disk is as it was until it is kept, and stays so where it is given up; its part is gone then.
 fn leaves_file<R: Abort + Files>(rt: &R, shelf: &mut DiskShelf<'_, R>) {
     keeps_file(rt, shelf, NAME, b"kept");
-    let mut sink = shelf.make(NAME).expect(rt, "a file on the disk");
+    let mut sink = shelf.make(NAME).ok().expect(rt, "a file on the disk");
     assert!(rt;
         put_all(&mut sink, b"new").is_ok() && has(shelf, NAME, b"kept") && has(shelf, PART, b"new")
     );
@@ -63,8 +65,8 @@ fn keeps_files<S: Shelf>(rt: &impl Abort, shelf: &mut S) {
 // Neither a file that was removed is found, nor is one made where none can be.
 fn has_no_others<S: Shelf>(rt: &impl Abort, shelf: &mut S) {
     assert!(rt; shelf.find(NAME).is_none());
-    assert!(rt; shelf.make("no_such_folder/kept.db").is_none());
-    assert!(rt; shelf.make(".").is_none());
+    assert!(rt; shelf.make("no_such_folder/kept.db").err() == Some(MakeFault::Failed));
+    assert!(rt; shelf.make(".").err() == Some(MakeFault::Failed));
 }
 
 fn removes(rt: &(impl Abort + Files), name: &str) {
@@ -73,10 +75,7 @@ fn removes(rt: &(impl Abort + Files), name: &str) {
 
 #[test]
 fn files_on_a_disk(rt: HostRuntime) {
-    let mut shelf = DiskShelf {
-        rt: &rt,
-        alloc: rt.alloc(),
-    };
+    let mut shelf = DiskShelf::new(&rt, rt.alloc());
     keeps_files(&rt, &mut shelf);
     leaves_file(&rt, &mut shelf);
     removes(&rt, NAME);

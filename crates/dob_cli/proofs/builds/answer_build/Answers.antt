@@ -1,6 +1,7 @@
 -- The build is of the text's piece set, and what is kept is its table's file. Before the file is made nothing has changed.
 use Rattle.std.proofs.Common.{rules}
 use Rattle.std.proofs.lemmas.Result.{err_from_is_err_and}
+use Rattle.dob_cli.specs.Shelves.{shelf_change}
 use Rattle.dob_cli.proofs.Building.{keeping_holds, table_for}
 use Rattle.dob_cli.proofs.Shelves.{unchanged}
 use Rattle.dob_cli.proofs.builds.answer_build.Goals as goal
@@ -8,17 +9,17 @@ use Rattle.dob_cli.proofs.builds.answer_build.Goals as goal
 pub returns-in_err-built-clause-err : goal.returns-in_err-built-clause-err
 returns-in_err-built-clause-err g c =
     let p = err_from_is_err_and c.from_residual-in_err-built.result c.from_residual-in_err-built.ensures.1 in
-    rw (p.1, p.2) (c.in_ok-set.set, c.in_ok-set.ensures.ok, c.in_err-built.ensures.fault, unchanged (g.S.Shelf.has c.args.shelf.now))
+    rw (p.1, p.2) (c.in_ok-set.set, c.in_ok-set.ensures.ok, c.in_err-built.ensures.fault, unchanged (g.S.Shelf.state c.args.shelf.now).has)
 
 pub returns-in_err-lines-clause-err : goal.returns-in_err-lines-clause-err
 returns-in_err-lines-clause-err g c =
     let p = err_from_is_err_and c.from_residual-in_err-lines.result c.from_residual-in_err-lines.ensures.1 in
-    rw (p.1, p.2) (unchanged (g.S.Shelf.has c.args.shelf.now))
+    rw (p.1, p.2) (unchanged (g.S.Shelf.state c.args.shelf.now).has)
 
 pub returns-in_err-keep_table-clause-err : goal.returns-in_err-keep_table-clause-err
 returns-in_err-keep_table-clause-err g c =
     let p = err_from_is_err_and c.from_residual-in_err-keep_table.result c.from_residual-in_err-keep_table.ensures.1 in
-    rw (p.1, p.2) (keeping_holds (g.S.Shelf.has c.args.shelf.now) (g.S.Shelf.has c.keep_table.new.shelf) (g.S.Shelf.tells c.args.shelf.now) c.args.file.now
+    rw (p.1, p.2) (keeping_holds (shelf_change (g.S.Shelf.state c.args.shelf.now) (g.S.Shelf.state c.keep_table.new.shelf)) c.args.file.now
     c.in_ok-built.built.table c.args.text.now _ _ (table_for c.args.text.now c.in_ok-set.set _ _ _ c.in_ok-built.built c.in_ok-set.ensures.ok
     c.in_ok-built.ensures.built c.in_ok-built.ensures.within) c.in_err-keep_table.ensures.err)
 

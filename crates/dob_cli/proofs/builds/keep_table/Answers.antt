@@ -8,4 +8,4 @@ use Rattle.dob_cli.proofs.builds.keep_table.Goals as goal
 pub returns-in-Ok-keep-clause-kept : goal.returns-in-Ok-keep-clause-kept
 returns-in-Ok-keep-clause-kept g c = λ tells.
     c.in-Ok-keep.ensures.kept (bytes_of c.args.table.now) (subst (λ (b : Bool). IsTrue b) (sym c.make.ensures.told) tells)
-    (received_all _ _ (bytes_of c.args.table.now) (c.in-Some.ensures.empty tells) c.in-Ok.ensures.written.all)
+    (received_all _ _ (bytes_of c.args.table.now) (c.in_ok-sink.ensures.empty tells) c.in-Ok.ensures.written.all)

@@ -4,4 +4,4 @@ use Rattle.dob_cli.proofs.Shelves.{unchanged}
 use Rattle.dob_cli.proofs.program.run_args.Goals as goal
 
 pub returns-in-Err : goal.returns-in-Err
-returns-in-Err g c = inr ((c.tell_memory.ensures, refl), unchanged (g.S.Shelf.has c.args.shelf.now))
+returns-in-Err g c = inr ((c.tell_memory.ensures, refl), unchanged (g.S.Shelf.state c.args.shelf.now).has)

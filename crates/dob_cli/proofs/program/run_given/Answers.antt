@@ -22,7 +22,7 @@ pub returns-in-OutOfMemory-clause-memory : goal.returns-in-OutOfMemory-clause-me
 returns-in-OutOfMemory-clause-memory g c = rw c.in-Err.is (λ _. (c.tell_memory.ensures, refl))
 
 pub returns-in-OutOfMemory-clause-files : goal.returns-in-OutOfMemory-clause-files
-returns-in-OutOfMemory-clause-files g c = rw c.in-Err.is (unchanged (g.S.Shelf.has c.args.shelf.now))
+returns-in-OutOfMemory-clause-files g c = rw c.in-Err.is (unchanged (g.S.Shelf.state c.args.shelf.now).has)
 
 pub returns-in_default-clause-words : goal.returns-in_default-clause-words
 returns-in_default-clause-words g c = rw c.in-Err.is tt
@@ -31,4 +31,4 @@ pub returns-in_default-clause-unread : goal.returns-in_default-clause-unread
 returns-in_default-clause-unread g c = rw c.in-Err.is (λ _. (refl, c.say.ensures, refl))
 
 pub returns-in_default-clause-files : goal.returns-in_default-clause-files
-returns-in_default-clause-files g c = rw c.in-Err.is (unchanged (g.S.Shelf.has c.args.shelf.now))
+returns-in_default-clause-files g c = rw c.in-Err.is (unchanged (g.S.Shelf.state c.args.shelf.now).has)

@@ -1,13 +1,14 @@
 -- What was done is what the words that were given ask for, or nothing where no memory is left for them.
 use Rattle.std.proofs.Common.{◌∙◌, ap, inr, map, refl}
+use Rattle.dob_cli.specs.Shelves.{shelf_change}
 use Rattle.dob_cli.proofs.Shelves.{unchanged}
 use Rattle.dob_cli.proofs.Runs.{ran_on}
 use Rattle.dob_cli.proofs.program.run_texts.Goals as goal
 
 pub returns-in-Ok : goal.returns-in-Ok
 returns-in-Ok g c =
-    ran_on (g.S.Shelf.has c.args.shelf.now) (g.S.Shelf.has c.run_over.new.shelf) (g.S.Shelf.tells c.args.shelf.now) _ _ _
+    ran_on (shelf_change (g.S.Shelf.state c.args.shelf.now) (g.S.Shelf.state c.run_over.new.shelf)) _ _ _
     (ap (map (λ w. w.now)) c.deref.ensures.value ∙ c.in-Ok.ensures) c.run_over.ensures
 
 pub returns-in-Err : goal.returns-in-Err
-returns-in-Err g c = inr ((c.tell_memory.ensures, refl), unchanged (g.S.Shelf.has c.args.shelf.now))
+returns-in-Err g c = inr ((c.tell_memory.ensures, refl), unchanged (g.S.Shelf.state c.args.shelf.now).has)

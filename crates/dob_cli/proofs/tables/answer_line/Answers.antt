@@ -3,8 +3,15 @@ use Rattle.std.proofs.Common.{rules, ◌∙◌, ap}
 use Rattle.std.proofs.lemmas.Result.{err_from_is_err_and}
 use Rattle.dob_rank.specs.Order.{IsPositionOf}
 use Rattle.dob_cli.specs.Tables.{moves_line}
-use Rattle.dob_cli.proofs.TableFaults.{line_fault_holds}
+use Rattle.dob_cli.proofs.TableFaults.{line_fault_holds, opening_fault_holds}
 use Rattle.dob_cli.proofs.tables.answer_line.Goals as goal
+
+pub returns-in_err-table-clause-err : goal.returns-in_err-table-clause-err
+returns-in_err-table-clause-err g c =
+    let p = err_from_is_err_and c.from_residual-in_err-table.result c.from_residual-in_err-table.ensures.1 in
+    let position = c.in_ok-position.position in
+    rw (p.1, p.2) (opening_fault_holds ((g.S.Shelf.state c.args.shelf.now).has c.args.file.now) c.args.text.now position.setup _
+    (position.legal, record { squares = position.legal.squares; spelled = c.in_ok-position.ensures.read }) c.in_err-table.ensures.fault)
 
 pub returns-in_err-value-clause-err : goal.returns-in_err-value-clause-err
 returns-in_err-value-clause-err g c =
@@ -12,18 +19,16 @@ returns-in_err-value-clause-err g c =
     let position = c.in_ok-position.position in
     let other : ¬ IsPositionOf c.in_ok-table.table.set c.in_ok-position.position.setup = c.in_err-value.ensures.other.0 (search rules) in
     rw (p.1, p.2) (
-      c.in_ok-table.table,
       position.setup,
-      c.in_ok-table.ensures.table,
       (position.legal, record { squares = position.legal.squares; spelled = c.in_ok-position.ensures.read }),
-      other,
+      (c.in_ok-table.table, c.in_ok-table.ensures.table, other),
     )
 
 pub returns-in_err-moves-clause-err : goal.returns-in_err-moves-clause-err
 returns-in_err-moves-clause-err g c =
     let p = err_from_is_err_and c.from_residual-in_err-moves.result c.from_residual-in_err-moves.ensures.1 in
     let position = c.in_ok-position.position in
-    rw (p.1, p.2) (line_fault_holds (g.S.Shelf.has c.args.shelf.now c.args.file.now) c.in_ok-table.table c.in_ok-table.ensures.table
+    rw (p.1, p.2) (line_fault_holds ((g.S.Shelf.state c.args.shelf.now).has c.args.file.now) c.in_ok-table.table c.in_ok-table.ensures.table
     c.args.text.now position.setup c.in_err-moves.field-0.0
     (position.legal, record { squares = position.legal.squares; spelled = c.in_ok-position.ensures.read }) c.in_err-moves.ensures.fault)
 

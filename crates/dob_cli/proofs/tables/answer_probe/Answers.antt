@@ -2,7 +2,15 @@
 use Rattle.std.proofs.Common.{rules}
 use Rattle.std.proofs.lemmas.Result.{err_from_is_err_and}
 use Rattle.dob_rank.specs.Order.{IsPositionOf}
+use Rattle.dob_cli.proofs.TableFaults.{opening_fault_holds}
 use Rattle.dob_cli.proofs.tables.answer_probe.Goals as goal
+
+pub returns-in_err-table-clause-err : goal.returns-in_err-table-clause-err
+returns-in_err-table-clause-err g c =
+    let p = err_from_is_err_and c.from_residual-in_err-table.result c.from_residual-in_err-table.ensures.1 in
+    let position = c.in_ok-position.position in
+    rw (p.1, p.2) (opening_fault_holds ((g.S.Shelf.state c.args.shelf.now).has c.args.file.now) c.args.text.now position.setup _
+    (position.legal, record { squares = position.legal.squares; spelled = c.in_ok-position.ensures.read }) c.in_err-table.ensures.fault)
 
 pub returns-in_err-value-clause-err : goal.returns-in_err-value-clause-err
 returns-in_err-value-clause-err g c =
@@ -10,11 +18,9 @@ returns-in_err-value-clause-err g c =
     let position = c.in_ok-position.position in
     let other : ¬ IsPositionOf c.in_ok-table.table.set c.in_ok-position.position.setup = c.in_err-value.ensures.other.0 (search rules) in
     rw (p.1, p.2) (
-      c.in_ok-table.table,
       position.setup,
-      c.in_ok-table.ensures.table,
       (position.legal, record { squares = position.legal.squares; spelled = c.in_ok-position.ensures.read }),
-      other,
+      (c.in_ok-table.table, c.in_ok-table.ensures.table, other),
     )
 
 pub returns-clause-ok : goal.returns-clause-ok

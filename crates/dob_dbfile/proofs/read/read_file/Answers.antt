@@ -50,11 +50,15 @@ returns-clause-read g c = λ stream gives.
     let later = subst (λ (n : ℕ). g.R.Source.gives c.fill.new.source (after n stream)) len taken.1 in
     let ends = subst (λ (h : List ℕ). EndsWith h codes.items (after 20 stream)) front (c.in_ok-codes.ensures.read (after 20 stream) later) in
     let counted = sym codes.ok.0 ∙ c.in_ok-codes.ensures.counted ∙ c.count_of.ensures.count in
-    subst (λ (t : ClassTable). (stream ≡ whole (bytes_of t)) × HasDigest t.set stream × IsTable t.set t.values) (sym c.new.ensures) (
-      right_file stream set codes.items there counts counted ends,
-      right_digest stream set codes.items there counts counted ends,
-      table_of_codes set codes.items counted c.in_ok-codes.ensures.fit,
-    )
+    subst (λ (t : ClassTable). (stream ≡ whole (bytes_of t)) × HasDigest t.set stream) (sym c.new.ensures)
+    (right_file stream set codes.items there counts counted ends, right_digest stream set codes.items there counts counted ends)
+
+pub returns-clause-table : goal.returns-clause-table
+returns-clause-table g c =
+    let codes = c.in_ok-codes.codes in
+    subst (λ (t : ClassTable). IsTable t.set t.values) (sym c.new.ensures)
+    (table_of_codes c.in_ok-classes.classes.set codes.items (sym codes.ok.0 ∙ c.in_ok-codes.ensures.counted ∙ c.count_of.ensures.count)
+    c.in_ok-codes.ensures.fit)
 
 pub returns-in_err-classes-clause-memory : goal.returns-in_err-classes-clause-memory
 returns-in_err-classes-clause-memory g c = λ stream gives.

@@ -4,4 +4,4 @@ use Rattle.std.specs.Prelude.{IsTrue}
 use Rattle.dob_tests.proofs.shelves.put.Goals as goal
 
 pub keep-requires : goal.keep-requires
-keep-requires g c = λ tells. ([], (c.in-Some.ensures.made (subst (λ (b : Bool). IsTrue b) c.make.ensures.told tells) []).1 refl)
+keep-requires g c = λ tells. ([], (c.in-Ok.ensures.made (subst (λ (b : Bool). IsTrue b) c.make.ensures.told tells) []).1 refl)

@@ -21,7 +21,7 @@ pub(super) fn table(rt: &(impl Abort + AllocGlobal)) -> Table {
     sweep_table(rt.alloc(), set_of(rt, "000")).expect(rt, "a table")
 }
 
-pub(super) fn file(rt: &(impl Abort + AllocGlobal)) -> Vec<u8> {
+pub(crate) fn file(rt: &(impl Abort + AllocGlobal)) -> Vec<u8> {
     let mut sink = MemSink::new(rt.alloc());
     write_table(rt.alloc(), &table(rt), &mut sink).expect(rt, "a file");
     sink.into_bytes()

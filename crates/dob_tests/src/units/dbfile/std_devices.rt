@@ -4,8 +4,9 @@ ghost use Rattle.std.specs.Prelude.{◌≡◌, IfOk};
 
 use super::files::{FILE_LEN, file, table};
 use crate::sets::is_same_table;
-use dob_dbfile::{Failed, Fault, Sink, Source, Std, read_table, write_table};
+use dob_dbfile::{Failed, Fault, Lent, Sink, Source, Std, read_table, write_table};
 use std::io::{self, ErrorKind, Read, Write};
+use std::process::Abort;
 
 /// A reader or a writer that moves at most that many bytes in one call. Where it has moved so many as it has room for,
 /// it answers the error, or, where there is none, that it moved nothing.
@@ -144,4 +145,124 @@ fn a_failure_is_kept_in_mind(rt: HostRuntime) {
     assert!(rt; device.write(&[]) == Err(Failed));
     assert!(rt; Source::failed(&device));
     assert!(rt; Sink::failed(&device));
+}
+
+/// A reader and a writer that moves all it is given or asked for, and counts its calls. The call of that number fails, and no
+/// other.
+#[derive(Drop)]
+struct Once {
+    bytes: Vec<u8>,
+    calls: usize,
+    flushes: usize,
+    failing: usize,
+}
+
+impl Once {
+    fn new(bytes: Vec<u8>, failing: usize) -> Once {
+        Once {
+            bytes,
+            calls: 0,
+            flushes: 0,
+            failing,
+        }
+    }
+
+    // Counts a call, and fails where it is the one that does.
+    fn begin(&mut self) -> io::Result<()> {
+        self.calls = self.calls.wrapping_add(1);
+        if self.calls == self.failing {
+            Err(ErrorKind::Interrupted.into())
+        } else {
+            Ok(())
+        }
+    }
+}
+
+impl Write for Once {
+    fn write(&mut self, bytes: &[u8]) -> io::Result<usize> {
+        self.begin()?;
+        self.bytes.extend_from_slice(bytes)?;
+        Ok(bytes.len())
+    }
+
+    fn flush(&mut self) -> io::Result<()> {
+        self.begin()?;
+        self.flushes = self.flushes.wrapping_add(1);
+        Ok(())
+    }
+}
+
+impl Read for Once {
+    fn read(&mut self, room: &mut [u8]) -> io::Result<usize> {
+        self.begin()?;
+        let count = room.len().min(self.bytes.len());
+        room[..count].copy_from_slice(&self.bytes[..count]);
+        self.bytes.drain(..count);
+        Ok(count)
+    }
+}
+
+// How many bytes a long piece has.
+const LONG: usize = 100_000;
+
+// Each call of the sink is one of what is behind it: the first fails, and the later ones are made and work, a long piece whole.
+fn each_call_is_one<S: Sink>(rt: &(impl Abort + AllocGlobal), sink: &mut S) {
+    let piece = vec![in rt.alloc(); 7u8; LONG].expect(rt, "memory");
+    assert!(rt; sink.write(b"ab") == Err(Failed));
+    assert!(rt; sink.failed());
+    assert!(rt; sink.write(&piece) == Ok(LONG));
+    assert!(rt; sink.flush() == Ok(()));
+    assert!(rt; sink.write(b"c") == Ok(1));
+    assert!(rt; sink.flush() == Ok(()));
+    assert!(rt; sink.failed());
+}
+
+// What is behind the sink after that.
+fn has_been_called(rt: &impl Abort, device: &Once) {
+    assert!(rt; device.calls == 5);
+    assert!(rt; device.flushes == 2);
+    assert!(rt; device.bytes.len() == LONG + 1);
+    assert!(rt; device.bytes.first() == Some(&7) && device.bytes.last() == Some(&b'c'));
+}
+
+#[test]
+fn each_call_is_made_once(rt: HostRuntime) {
+    let mut sink = Std::new(Once::new(Vec::new(rt.alloc()), 1));
+    each_call_is_one(&rt, &mut sink);
+    has_been_called(&rt, &sink.into_inner());
+    let mut writer = Once::new(Vec::new(rt.alloc()), 1);
+    each_call_is_one(&rt, &mut Lent::new(&mut writer));
+    has_been_called(&rt, &writer);
+}
+
+// A flush that fails once is a failure, and isn't tried again.
+fn cannot_flush_once<S: Sink>(rt: &impl Abort, sink: &mut S) {
+    assert!(rt; sink.flush() == Err(Failed));
+    assert!(rt; sink.failed());
+}
+
+#[test]
+fn a_flush_that_fails_once(rt: HostRuntime) {
+    let mut sink = Std::new(Once::new(Vec::new(rt.alloc()), 1));
+    cannot_flush_once(&rt, &mut sink);
+    let device = sink.into_inner();
+    assert!(rt; device.calls == 1 && device.flushes == 0);
+    let mut writer = Once::new(Vec::new(rt.alloc()), 1);
+    cannot_flush_once(&rt, &mut Lent::new(&mut writer));
+    assert!(rt; writer.calls == 1 && writer.flushes == 0);
+}
+
+// A read that fails once is a failure; the next one gives the bytes from the first on.
+#[test]
+fn a_read_that_fails_once(rt: HostRuntime) {
+    let bytes = vec![in rt.alloc(); 1u8, 2, 3].expect(&rt, "memory");
+    let mut source = Std::new(Once::new(bytes, 1));
+    let mut room = [0; 2];
+    assert!(rt; Source::read(&mut source, &mut room) == Err(Failed));
+    assert!(rt; Source::failed(&source) && room == [0, 0]);
+    assert!(rt; Source::read(&mut source, &mut room) == Ok(2));
+    assert!(rt; room == [1, 2]);
+    assert!(rt; Source::read(&mut source, &mut room) == Ok(1));
+    assert!(rt; room == [3, 2]);
+    assert!(rt; source.into_inner().calls == 3);
 }

@@ -1,0 +1,281 @@
+// What the program prints for its words over files in memory: the rows that users rely on, a line each.
+use crate::program::run_on;
+use crate::shelves::put;
+use crate::units::dbfile::files::file;
+use dob_cli::{MemShelf, Shelf, run_over};
+use dob_dbfile::{MemSink, Source, read_full};
+use std::alloc::Global;
+use std::process::Abort;
+use std::sync::Wait;
+use std::thread::Threads;
+
+/// Words, with the exit status, the standard output and the standard error that are their answer.
+type Row = (&'static [&'static str], u8, &'static str, &'static str);
+
+const WIN_3: &str = "..l/.../L../... - -";
+
+const LONG: &str = ".l./.../.../.L. - -";
+
+const LOSS_2: &str = ".../.../..l/L.. - -";
+
+const DRAW: &str = ".l./.../.L./... - -";
+
+const CATCH: &str = ".../.l./.L./... - -";
+
+const TRIED: &str = ".../L../.../..l - -";
+
+const CHICK: &str = "..l/.../.../L.. C -";
+
+const LINES_OF_000: &str = "classes 54\nwin 38\nloss 12\ndraw 4\n";
+
+// In turn over one shelf, which has `lions.db`, the file of lions alone, and spoilt ones.
+const ROWS: &[Row] = &[
+    // values
+    (&["value", WIN_3], 0, "win 3\n", ""),
+    (&["value", LONG], 0, "win 5\n", ""),
+    (&["value", CATCH], 0, "win 1\n", ""),
+    (&["value", "..l/L../.../... - -"], 0, "win 1\n", ""),
+    (&["value", TRIED], 0, "loss 0\n", ""),
+    (&["value", LOSS_2], 0, "loss 2\n", ""),
+    (&["value", ".../.l./.../.L. - -"], 0, "loss 4\n", ""),
+    (&["value", DRAW], 0, "draw\n", ""),
+    (&["value", ".l./.C./.../L.. - -"], 0, "win 1\n", ""),
+    (
+        &["count", "--set", "000"],
+        0,
+        "positions 99\nclasses 54\n",
+        "",
+    ),
+    // faults
+    (&["value", ""], 1, "", "dobutsu: E1 Shape\n"),
+    (
+        &["value", "..l/.../.../L.x - -"],
+        1,
+        "",
+        "dobutsu: E2 Letter\n",
+    ),
+    (
+        &["value", "..l/.../.../L.. GC -"],
+        1,
+        "",
+        "dobutsu: E3 Hand\n",
+    ),
+    (
+        &["value", ".../.../.../L.. - -"],
+        1,
+        "",
+        "dobutsu: E4 Lions\n",
+    ),
+    (
+        &["value", "..l/.../.../L.. CCC -"],
+        1,
+        "",
+        "dobutsu: E5 Count\n",
+    ),
+    (
+        &["value", "L../.../.../..l - -"],
+        1,
+        "",
+        "dobutsu: E6 FarLion\n",
+    ),
+    (&["count", "--set", "300"], 1, "", "dobutsu: E25 SetText\n"),
+    // files
+    (&["check", "--db", "lions.db"], 0, "consistent\n", ""),
+    (&["probe", "--db", "lions.db", WIN_3], 0, "win 3\n", ""),
+    (&["probe", "--db", "lions.db", LOSS_2], 0, "loss 2\n", ""),
+    (&["probe", "--db", "lions.db", DRAW], 0, "draw\n", ""),
+    (
+        &["probe", "--db", "lions.db", CHICK],
+        1,
+        "",
+        "dobutsu: E7 OtherSet\n",
+    ),
+    (
+        &["check", "--db", "empty.db"],
+        1,
+        "",
+        "dobutsu: E15 Truncated\n",
+    ),
+    (
+        &["check", "--db", "cut.db"],
+        1,
+        "",
+        "dobutsu: E15 Truncated\n",
+    ),
+    (
+        &["check", "--db", "magic.db"],
+        1,
+        "",
+        "dobutsu: E16 Magic\n",
+    ),
+    (
+        &["check", "--db", "longer.db"],
+        1,
+        "",
+        "dobutsu: E19 Trailing\n",
+    ),
+    (
+        &["check", "--db", "digest.db"],
+        1,
+        "",
+        "dobutsu: E20 Digest\n",
+    ),
+    // lines
+    (
+        &["line", "--db", "lions.db", WIN_3],
+        0,
+        "La2-a3 lc4-b4 La3xb4\n",
+        "",
+    ),
+    (
+        &["line", "--db", "lions.db", LONG],
+        0,
+        "Lb1-b2 lb4-c4 Lb2-a3 lc4-b4 La3xb4\n",
+        "",
+    ),
+    (
+        &["line", "--db", "lions.db", LOSS_2],
+        0,
+        "La1-b1 lc2xb1\n",
+        "",
+    ),
+    (&["line", "--db", "lions.db", TRIED], 0, "end\n", ""),
+    (&["line", "--db", "lions.db", DRAW], 0, "draw\n", ""),
+    (&["line", "--db", "lions.db", CATCH], 0, "Lb2xb3\n", ""),
+    (
+        &["line", "--db", "lions.db", CHICK],
+        1,
+        "",
+        "dobutsu: E7 OtherSet\n",
+    ),
+    // a position is read before its file, which here is none
+    (
+        &["probe", "--db", "none.db", ""],
+        1,
+        "",
+        "dobutsu: E1 Shape\n",
+    ),
+    (
+        &["line", "--db", "digest.db", "L../.../.../..l - -"],
+        1,
+        "",
+        "dobutsu: E6 FarLion\n",
+    ),
+    (
+        &["probe", "--db", "none.db", WIN_3],
+        3,
+        "",
+        "dobutsu: E24 Io\n",
+    ),
+    (
+        &["line", "--db", "none.db", WIN_3],
+        3,
+        "",
+        "dobutsu: E24 Io\n",
+    ),
+    (&["check", "--db", "none.db"], 3, "", "dobutsu: E24 Io\n"),
+    // builds, and what is asked of their files
+    (
+        &["build", "--set", "000", "--nodes", "0", "--out", "none.db"],
+        1,
+        "",
+        "dobutsu: E9 Nodes\n",
+    ),
+    (
+        &["build", "--set", "000", "--nodes", "17", "--out", "none.db"],
+        1,
+        "",
+        "dobutsu: E9 Nodes\n",
+    ),
+    (
+        &["build", "--set", "3", "--nodes", "0", "--out", "none.db"],
+        1,
+        "",
+        "dobutsu: E25 SetText\n",
+    ),
+    (&["check", "--db", "none.db"], 3, "", "dobutsu: E24 Io\n"),
+    (
+        &["build", "--set", "000", "--nodes", "1", "--out", "built.db"],
+        0,
+        LINES_OF_000,
+        "",
+    ),
+    (
+        &["build", "--set", "000", "--nodes", "3", "--out", "cut.db"],
+        0,
+        LINES_OF_000,
+        "",
+    ),
+    (&["probe", "--db", "built.db", WIN_3], 0, "win 3\n", ""),
+    (&["check", "--db", "cut.db"], 0, "consistent\n", ""),
+];
+
+// A shelf with the file of lions alone, whole and spoilt.
+fn shelf(rt: &(impl Abort + AllocGlobal)) -> MemShelf {
+    let whole = file(rt);
+    let mut shelf = MemShelf::new(rt.alloc());
+    assert!(rt; put(&mut shelf, "lions.db", &whole));
+    assert!(rt; put(&mut shelf, "empty.db", &[]));
+    assert!(rt; put(&mut shelf, "cut.db", &whole[..159]));
+    spoils(rt, &mut shelf, "magic.db", 0);
+    spoils(rt, &mut shelf, "digest.db", 20);
+    let mut longer = file(rt);
+    assert!(rt; longer.push(0).is_ok());
+    assert!(rt; put(&mut shelf, "longer.db", &longer));
+    shelf
+}
+
+// Puts the file with another byte at that place under the name.
+fn spoils(rt: &(impl Abort + AllocGlobal), shelf: &mut MemShelf, name: &str, place: usize) {
+    let mut bytes = file(rt);
+    if let Some(byte) = bytes.get_mut(place) {
+        *byte = !*byte;
+    }
+    assert!(rt; put(shelf, name, &bytes));
+}
+
+// The program answers the row so.
+fn answers<S: Shelf>(
+    rt: &(impl Abort + Threads + Wait + Sync),
+    alloc: Global,
+    shelf: &mut S,
+    row: &Row,
+) {
+    let (words, status, out, err) = row;
+    let told = run_on(rt, alloc, shelf, words);
+    assert!(rt;
+        told.is(*status, out.as_bytes(), err.as_bytes()),
+        "{words:?}"
+    );
+}
+
+#[test]
+fn rows_of_the_program(rt: HostRuntime) {
+    let mut shelf = shelf(&rt);
+    for row in ROWS {
+        answers(&rt, rt.alloc(), &mut shelf, row);
+    }
+}
+
+// Whether the shelf has the file of lions alone under the name, and nothing behind it.
+fn has_file(rt: &(impl Abort + AllocGlobal), shelf: &mut MemShelf, name: &str) -> bool {
+    let mut room = [0; 161];
+    let mut source = shelf.find(name).expect(rt, "a file");
+    let read = read_full(&mut source, &mut room);
+    shelf.close(source);
+    read == Ok(160) && room[..160] == file(rt)[..]
+}
+
+// Where standard output fails the build has failed, and its file is whole.
+#[test]
+fn a_build_that_cannot_tell(rt: HostRuntime) {
+    let words = ["build", "--set", "000", "--nodes", "2", "--out", "built.db"];
+    let mut shelf = MemShelf::new(rt.alloc());
+    let mut out = MemSink::new(rt.alloc()).failing_after(9);
+    let mut err = MemSink::new(rt.alloc());
+    let status = run_over(&rt, rt.alloc(), &words, &mut shelf, &mut out, &mut err);
+    assert!(rt; status == 3);
+    assert!(rt; out.bytes() == b"classes 5".as_slice());
+    assert!(rt; err.bytes() == b"dobutsu: E24 Io\n".as_slice());
+    assert!(rt; has_file(&rt, &mut shelf, "built.db"));
+}
