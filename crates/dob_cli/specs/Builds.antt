@@ -10,6 +10,7 @@ use Rattle.dob_value.specs.declared.value.Value.TheVariants.{Win, Loss}
 use Rattle.dob_value.specs.Entries.{is_draw}
 use Rattle.dob_value.specs.Follows.{ClassTable, IsValueTable}
 use Rattle.dob_run.specs.Faults.{HasFault}
+use Rattle.dob_run.specs.Turned.{IsUnheld}
 use Rattle.dob_dbfile.specs.declared.fault.Fault.TheVariants as file_fault
 use Rattle.dob_dbfile.specs.Format.{bytes_of}
 use Rattle.dob_cli.specs.declared.tally.Tally.{Tally}
@@ -80,12 +81,12 @@ IsKeepingFault c file table (File (file_fault.Io count)) =
 IsKeepingFault c file table _ = ⊥
 
 -- The fault of building, by its moment. While each file has what it had: no set has the text; or the run by so many nodes,
--- with batches of 256 and channels of 64, was refused or stopped; or memory was refused, for the words, for the lines or for
--- making the file. Then the table is there, and keeping its file failed.
+-- with batches of 256 and channels of 64, was refused or stopped, no node of it held back by a gate; or memory was refused,
+-- for the words, for the lines or for making the file. Then the table is there, and keeping its file failed.
 abbrev pub IsBuildFault : ShelfChange → List ℕ → ℕ → List ℕ → Fault → Type 0
 IsBuildFault c text nodes file SetText = ((set : PieceSet) → text ≢ set_text set) × SameFiles c.before.has c.after.has
 IsBuildFault c text nodes file (Run fault) =
-    (set : PieceSet) × (text ≡ set_text set) × HasFault set nodes 256 64 fault × SameFiles c.before.has c.after.has
+    (set : PieceSet) × (text ≡ set_text set) × HasFault set nodes 256 64 fault × IsUnheld fault × SameFiles c.before.has c.after.has
 IsBuildFault c text nodes file Memory = SameFiles c.before.has c.after.has
 IsBuildFault c text nodes file Io = (table : ClassTable) × IsTableFor text nodes table × IsKeepingFault c file table Io
 IsBuildFault c text nodes file (File fault) =

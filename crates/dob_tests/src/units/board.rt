@@ -197,7 +197,7 @@ fn sees_the_token(rt: &impl Abort, first: &mut NodeSeat, second: &mut NodeSeat)
     assert!(rt; announce_if_it_may(first) == Halt::Running);
 }
 
-// The token goes round once more, and then the end is announced.
+// The token goes round once more, and then the end is announced; a failure after it doesn't change it.
 fn sees_the_end(rt: &impl Abort, first: &mut NodeSeat, second: &mut NodeSeat)
     ensures first { IsSameSeat first.old first.new }
     ensures second { IsSameSeat second.old second.new }
@@ -210,6 +210,7 @@ fn sees_the_end(rt: &impl Abort, first: &mut NodeSeat, second: &mut NodeSeat)
     assert!(rt; second.halted() == Halt::Running);
     assert!(rt; announce_if_it_may(first) == Halt::Ended);
     assert!(rt; second.halted() == Halt::Ended);
+    assert!(rt; second.fail() == Halt::Ended);
 }
 
 // One seat reads what the other wrote: counts, the token on two rounds of the ring, and the end.

@@ -116,9 +116,9 @@ impl Gate for Meeting {
     }
 }
 
-// Lets no node go on but the first.
+// Holds back node 1, and no other.
 #[derive(Drop)]
-struct FirstAlone;
+struct HoldsBackOne;
 
 // What a run with that gate answers.
 const HELD: Fault = Fault::Stopped {
@@ -126,12 +126,12 @@ const HELD: Fault = Fault::Stopped {
     cause: Cause::Held,
 };
 
-impl Gate for FirstAlone {
+impl Gate for HoldsBackOne {
     // It may answer both.
     ghost says = { λ _ _ _. Unit {0} };
 
     fn enter(&self, node: usize) -> bool {
-        node == 0
+        node != 1
     }
 }
 
@@ -168,7 +168,7 @@ fn two_nodes_meet(rt: HostRuntime) {
 
 #[test]
 fn a_node_that_is_held_back(rt: HostRuntime) {
-    let turned = run_turns(&rt, rt.alloc(), lions(&rt), 3, 1, 1, 5, &FirstAlone);
+    let turned = run_turns(&rt, rt.alloc(), lions(&rt), 3, 1, 1, 5, &HoldsBackOne);
     assert!(rt; turned.err() == Some(HELD));
 }
 
@@ -213,7 +213,7 @@ fn is_nothing(turned: &Turned, n: usize) -> bool
 fn leaves_nothing(rt: &(impl Threads + Wait + Abort + Sync), alloc: Global, n: usize)
     requires { IsSize n }
 {
-    let turned = run_turns(rt, alloc, lions(rt), n, 1, 1, 0, &FirstAlone);
+    let turned = run_turns(rt, alloc, lions(rt), n, 1, 1, 0, &HoldsBackOne);
     assert!(rt;
         is_nothing(&turned.expect(rt, "no turn"), n),
         "of {n} nodes"

@@ -2,7 +2,7 @@
 ghost use Rattle.std.specs.Prelude.{◌<◌};
 ghost use Rattle.dob_safra.specs.Laws.{IsSize};
 
-use super::{FirstAlone, HELD, Meeting, is_done, is_table_of_lions, lions};
+use super::{HELD, HoldsBackOne, Meeting, is_done, is_table_of_lions, lions};
 use dob_run::{Built, Free, run_nodes};
 use std::alloc::Global;
 use std::process::Abort;
@@ -56,6 +56,8 @@ fn two_nodes_meet_in_a_build(rt: HostRuntime) {
 
 #[test]
 fn a_build_whose_second_node_is_held_back(rt: HostRuntime) {
-    let built = run_nodes(&rt, rt.alloc(), lions(&rt), 2, 1, 1, &FirstAlone);
-    assert!(rt; built.err() == Some(HELD));
+    let of_two = run_nodes(&rt, rt.alloc(), lions(&rt), 2, 1, 1, &HoldsBackOne);
+    assert!(rt; of_two.err() == Some(HELD));
+    let of_three = run_nodes(&rt, rt.alloc(), lions(&rt), 3, 1, 1, &HoldsBackOne);
+    assert!(rt; of_three.err() == Some(HELD));
 }
