@@ -9,8 +9,13 @@ use Rattle.dob_cli.proofs.builds.answer_build.Goals as goal
 pub returns-in_err-built-clause-err : goal.returns-in_err-built-clause-err
 returns-in_err-built-clause-err g c =
     let p = err_from_is_err_and c.from_residual-in_err-built.result c.from_residual-in_err-built.ensures.1 in
-    rw (p.1, p.2) (c.in_ok-set.set, c.in_ok-set.ensures.ok, c.in_err-built.ensures.fault,
-    c.in_err-built.ensures.unheld (λ node held. absurd (let never = held in cc)), unchanged (g.S.Shelf.state c.args.shelf.now).has)
+    rw (p.1, p.2) (
+      c.in_ok-set.set,
+      c.in_ok-set.ensures.ok,
+      c.in_err-built.ensures.fault,
+      c.in_err-built.ensures.unheld (λ node held. absurd (let never = held in cc)),
+      unchanged (g.S.Shelf.state c.args.shelf.now).has,
+    )
 
 pub returns-in_err-lines-clause-err : goal.returns-in_err-lines-clause-err
 returns-in_err-lines-clause-err g c =
