@@ -1,9 +1,9 @@
 // What the program prints for its words over files in memory: the rows that users rely on, a line each.
 use crate::program::run_on;
-use crate::shelves::put;
+use crate::shelves::{has, put};
 use crate::units::dbfile::files::file;
 use dob_cli::{MemShelf, Shelf, run_over};
-use dob_dbfile::{MemSink, Source, read_full};
+use dob_dbfile::MemSink;
 use std::alloc::Global;
 use std::process::Abort;
 use std::sync::Wait;
@@ -212,11 +212,12 @@ const ROWS: &[Row] = &[
 
 // A shelf with the file of lions alone, whole and spoilt.
 fn shelf(rt: &(impl Abort + AllocGlobal)) -> MemShelf {
-    let whole = file(rt);
     let mut shelf = MemShelf::new(rt.alloc());
-    assert!(rt; put(&mut shelf, "lions.db", &whole));
+    assert!(rt; put(&mut shelf, "lions.db", &file(rt)));
     assert!(rt; put(&mut shelf, "empty.db", &[]));
-    assert!(rt; put(&mut shelf, "cut.db", &whole[..159]));
+    let mut cut = file(rt);
+    assert!(rt; cut.pop().is_some());
+    assert!(rt; put(&mut shelf, "cut.db", &cut));
     spoils(rt, &mut shelf, "magic.db", 0);
     spoils(rt, &mut shelf, "digest.db", 20);
     let mut longer = file(rt);
@@ -257,15 +258,6 @@ fn rows_of_the_program(rt: HostRuntime) {
     }
 }
 
-// Whether the shelf has the file of lions alone under the name, and nothing behind it.
-fn has_file(rt: &(impl Abort + AllocGlobal), shelf: &mut MemShelf, name: &str) -> bool {
-    let mut room = [0; 161];
-    let mut source = shelf.find(name).expect(rt, "a file");
-    let read = read_full(&mut source, &mut room);
-    shelf.close(source);
-    read == Ok(160) && room[..160] == file(rt)[..]
-}
-
 // Where standard output fails the build has failed, and its file is whole.
 #[test]
 fn a_build_that_cannot_tell(rt: HostRuntime) {
@@ -277,5 +269,5 @@ fn a_build_that_cannot_tell(rt: HostRuntime) {
     assert!(rt; status == 3);
     assert!(rt; out.bytes() == b"classes 5".as_slice());
     assert!(rt; err.bytes() == b"dobutsu: E24 Io\n".as_slice());
-    assert!(rt; has_file(&rt, &mut shelf, "built.db"));
+    assert!(rt; has(&mut shelf, "built.db", &file(&rt)));
 }

@@ -20,9 +20,9 @@ pub(crate) fn put<S: Shelf>(shelf: &mut S, name: &str, bytes: &[u8]) -> bool {
     shelf.keep(name, sink).is_ok() && is_whole
 }
 
-// Whether the shelf has just these bytes under the name, at most seven.
-fn has<S: Shelf>(shelf: &mut S, name: &str, bytes: &[u8]) -> bool {
-    let mut room = [0; 8];
+// Whether the shelf has just these bytes under the name, at most 255.
+pub(crate) fn has<S: Shelf>(shelf: &mut S, name: &str, bytes: &[u8]) -> bool {
+    let mut room = [0; 256];
     let Some(mut source) = shelf.find(name) else {
         return false;
     };
