@@ -3,14 +3,16 @@ use Rattle.std.proofs.Common.{◌≡◌, ◌<◌, ◌≤◌, ◌↔◌, ℕ, Lis
 use Rattle.std.specs.Result.{MatchResult, IsErrOf, IfOk, IsOkAnd}
 use Rattle.std.proofs.lemmas.Bool.{cases_lt}
 use Rattle.dob_pieces.specs.declared.kind.HandKind.TheVariants as kind
+use Rattle.dob_pieces.specs.declared.profile.Profile.{Profile}
 use Rattle.dob_pieces.specs.declared.setup.Setup.{Setup}
 use Rattle.dob_pieces.specs.declared.position.Position.{Position}
+use Rattle.dob_pieces.specs.Profiles.{IsAllowed}
 use Rattle.dob_pieces.specs.Setups.{total, HasLions, HasFewPieces, HasLionOffFarRow, IsLegal}
 use Rattle.dob_text.specs.declared.fault.TextFault.{TextFault}
 use Rattle.dob_text.specs.declared.fault.TextFault.TheVariants as fault
 use Rattle.dob_text.specs.PositionText.{Spells, text_of}
 use Rattle.dob_text.specs.Readings.{capped_setup}
-use Rattle.dob_text.specs.Faults.{HasFault, HasSetupFault}
+use Rattle.dob_text.specs.Faults.{HasFault, HasFaultIn, HasSetupFault}
 use Rattle.dob_text.proofs.Fronts.{same_hand}
 use Rattle.dob_text.proofs.Whole.{spelled_shape, spelled_letters, spelled_hands, same_spelled, same_setup}
 
@@ -22,14 +24,16 @@ place fault.Hand = 2
 place fault.Lions = 3
 place fault.Count = 4
 place fault.FarLion = 5
+place fault.FarChick = 6
 
-place_small : (f : TextFault) → place f ≤ 5
+place_small : (f : TextFault) → place f ≤ 6
 place_small fault.Shape = omega arith
 place_small fault.Letter = omega arith
 place_small fault.Hand = omega arith
 place_small fault.Lions = omega arith
 place_small fault.Count = omega arith
 place_small fault.FarLion = omega arith
+place_small fault.FarChick = omega arith
 
 same_place : (f g : TextFault) → place f ≡ place g → f ≡ g
 same_place fault.Shape fault.Shape e = refl
@@ -38,66 +42,96 @@ same_place fault.Hand fault.Hand e = refl
 same_place fault.Lions fault.Lions e = refl
 same_place fault.Count fault.Count e = refl
 same_place fault.FarLion fault.FarLion e = refl
+same_place fault.FarChick fault.FarChick e = refl
 same_place _ _ e = absurd (omega arith)
 
 -- a later fault speaks against an earlier one
-ordered : (text : List ℕ) (f g : TextFault) → place f < place g → HasFault text f → HasFault text g → ⊥
-ordered text fault.Shape fault.Letter lt x y = x y.0
-ordered text fault.Shape fault.Hand lt x y = x y.0
-ordered text fault.Shape fault.Lions lt x y = x (spelled_shape text y.0 y.1)
-ordered text fault.Shape fault.Count lt x y = x (spelled_shape text y.0 y.1)
-ordered text fault.Shape fault.FarLion lt x y = x (spelled_shape text y.0 y.1)
-ordered text fault.Letter fault.Hand lt x y = x.1 y.1
-ordered text fault.Letter fault.Lions lt x y = x.1 (spelled_letters text y.0 y.1)
-ordered text fault.Letter fault.Count lt x y = x.1 (spelled_letters text y.0 y.1)
-ordered text fault.Letter fault.FarLion lt x y = x.1 (spelled_letters text y.0 y.1)
-ordered text fault.Hand fault.Lions lt x y = x.2 (spelled_hands text y.0 y.1)
-ordered text fault.Hand fault.Count lt x y = x.2 (spelled_hands text y.0 y.1)
-ordered text fault.Hand fault.FarLion lt x y = x.2 (spelled_hands text y.0 y.1)
-ordered text fault.Lions fault.Count lt x y = x.2 (subst (λ (s : Setup). HasLions s) (same_spelled text y.0 x.0 y.1 x.1) y.2)
-ordered text fault.Lions fault.FarLion lt x y = x.2 (subst (λ (s : Setup). HasLions s) (same_spelled text y.0 x.0 y.1 x.1) y.2)
-ordered text fault.Count fault.FarLion lt x y = x.3 (subst (λ (s : Setup). HasFewPieces s) (same_spelled text y.0 x.0 y.1 x.1) y.3)
-ordered text _ g lt x y = absurd (omega (arith, place_small g))
+ordered : (profile : Profile) (text : List ℕ) (f g : TextFault) → place f < place g → HasFaultIn profile text f → HasFaultIn profile text g → ⊥
+ordered profile text fault.Shape fault.Letter lt x y = x y.0
+ordered profile text fault.Shape fault.Hand lt x y = x y.0
+ordered profile text fault.Shape fault.Lions lt x y = x (spelled_shape text y.0 y.1)
+ordered profile text fault.Shape fault.Count lt x y = x (spelled_shape text y.0 y.1)
+ordered profile text fault.Shape fault.FarLion lt x y = x (spelled_shape text y.0 y.1)
+ordered profile text fault.Shape fault.FarChick lt x y = x (spelled_shape text y.0 y.1)
+ordered profile text fault.Letter fault.Hand lt x y = x.1 y.1
+ordered profile text fault.Letter fault.Lions lt x y = x.1 (spelled_letters text y.0 y.1)
+ordered profile text fault.Letter fault.Count lt x y = x.1 (spelled_letters text y.0 y.1)
+ordered profile text fault.Letter fault.FarLion lt x y = x.1 (spelled_letters text y.0 y.1)
+ordered profile text fault.Letter fault.FarChick lt x y = x.1 (spelled_letters text y.0 y.1)
+ordered profile text fault.Hand fault.Lions lt x y = x.2 (spelled_hands text y.0 y.1)
+ordered profile text fault.Hand fault.Count lt x y = x.2 (spelled_hands text y.0 y.1)
+ordered profile text fault.Hand fault.FarLion lt x y = x.2 (spelled_hands text y.0 y.1)
+ordered profile text fault.Hand fault.FarChick lt x y = x.2 (spelled_hands text y.0 y.1)
+ordered profile text fault.Lions fault.Count lt x y = x.2 (subst (λ (s : Setup). HasLions s) (same_spelled text y.0 x.0 y.1 x.1) y.2)
+ordered profile text fault.Lions fault.FarLion lt x y = x.2 (subst (λ (s : Setup). HasLions s) (same_spelled text y.0 x.0 y.1 x.1) y.2)
+ordered profile text fault.Lions fault.FarChick lt x y = x.2 (subst (λ (s : Setup). HasLions s) (same_spelled text y.0 x.0 y.1 x.1) y.2.lions)
+ordered profile text fault.Count fault.FarLion lt x y = x.3 (subst (λ (s : Setup). HasFewPieces s) (same_spelled text y.0 x.0 y.1 x.1) y.3)
+ordered profile text fault.Count fault.FarChick lt x y = x.3 (subst (λ (s : Setup). HasFewPieces s) (same_spelled text y.0 x.0 y.1 x.1) y.2.few)
+ordered profile text fault.FarLion fault.FarChick lt x y =
+    x.4 (subst (λ (s : Setup). HasLionOffFarRow s) (same_spelled text y.0 x.0 y.1 x.1) y.2.home)
+ordered profile text _ g lt x y = absurd (omega (arith, place_small g))
 
 -- a text has one fault
-one_fault : (text : List ℕ) (f g : TextFault) → HasFault text f → HasFault text g → f ≡ g
-one_fault text f g x y =
+one_fault : (profile : Profile) (text : List ℕ) (f g : TextFault) → HasFaultIn profile text f → HasFaultIn profile text g → f ≡ g
+one_fault profile text f g x y =
     elim (cases_lt (place f) (place g)) [
-      | inl lt ↦ absurd (ordered text f g lt x y)
+      | inl lt ↦ absurd (ordered profile text f g lt x y)
       | inr ge ↦ elim (cases_lt (place g) (place f)) [
-        | inl lt ↦ absurd (ordered text g f lt y x)
+        | inl lt ↦ absurd (ordered profile text g f lt y x)
         | inr le ↦ same_place f g (omega arith)
       ]
     ]
 
--- a position's text has none
-no_fault : (text : List ℕ) (setup : Setup) (f : TextFault) → IsLegal setup → Spells text setup → HasFault text f → ⊥
-no_fault text setup fault.Shape legal spells x = x (spelled_shape text setup spells)
-no_fault text setup fault.Letter legal spells x = x.1 (spelled_letters text setup spells)
-no_fault text setup fault.Hand legal spells x = x.2 (spelled_hands text setup spells)
-no_fault text setup fault.Lions legal spells x = x.2 (subst (λ (s : Setup). HasLions s) (same_spelled text setup x.0 spells x.1) legal.lions)
-no_fault text setup fault.Count legal spells x = x.3 (subst (λ (s : Setup). HasFewPieces s) (same_spelled text setup x.0 spells x.1) legal.few)
-no_fault text setup fault.FarLion legal spells x = x.4 (subst (λ (s : Setup). HasLionOffFarRow s) (same_spelled text setup x.0 spells x.1) legal.home)
+-- the text of a position of the profile has none
+no_fault : (profile : Profile) (text : List ℕ) (setup : Setup) (f : TextFault) → IsLegal setup → IsAllowed profile setup → Spells text setup
+    → HasFaultIn profile text f → ⊥
+no_fault profile text setup fault.Shape legal allowed spells x = x (spelled_shape text setup spells)
+no_fault profile text setup fault.Letter legal allowed spells x = x.1 (spelled_letters text setup spells)
+no_fault profile text setup fault.Hand legal allowed spells x = x.2 (spelled_hands text setup spells)
+no_fault profile text setup fault.Lions legal allowed spells x = x.2 (subst (λ (s : Setup). HasLions s) (same_spelled text setup x.0 spells x.1) legal.lions)
+no_fault profile text setup fault.Count legal allowed spells x = x.3 (subst (λ (s : Setup). HasFewPieces s) (same_spelled text setup x.0 spells x.1) legal.few)
+no_fault profile text setup fault.FarLion legal allowed spells x = x.4 (subst (λ (s : Setup). HasLionOffFarRow s) (same_spelled text setup x.0 spells x.1) legal.home)
+no_fault profile text setup fault.FarChick legal allowed spells x =
+    x.3 (subst (λ (s : Setup). IsAllowed profile s) (same_spelled text setup x.0 spells x.1) allowed)
 
 -- what reading gives: the position that the text spells, or its fault
-abbrev pub Reads : List ℕ → Result Position TextFault → Type 0
-Reads text r = MatchResult r (λ position. IsLegal position.setup × Spells text position.setup) (λ f. HasFault text f)
+abbrev pub Reads : Profile → List ℕ → Result Position TextFault → Type 0
+Reads profile text r = MatchResult r
+    (λ position. IsLegal position.setup × IsAllowed profile position.setup × Spells text position.setup)
+    (λ f. HasFaultIn profile text f)
 
-pub read_as : (text : List ℕ) (r : Result Position TextFault) → Reads text r → IfOk r (λ position. text ≡ text_of position.setup)
-read_as text (Ok position) reads = reads.1.spelled
-read_as text (Err f) reads = tt
+pub read_as : (profile : Profile) (text : List ℕ) (r : Result Position TextFault) → Reads profile text r → IfOk r (λ position. text ≡ text_of position.setup)
+read_as profile text (Ok position) reads = reads.2.spelled
+read_as profile text (Err f) reads = tt
 
-pub fault_as : (text : List ℕ) (r : Result Position TextFault) → Reads text r → (f : TextFault) → IsErrOf r f ↔ HasFault text f
-fault_as text (Ok position) reads f = (λ same. cc, λ x. absurd (no_fault text position.setup f reads.0 reads.1 x))
-fault_as text (Err e) reads f = (
-  λ same. let is : e ≡ f = cc in subst (λ (g : TextFault). HasFault text g) is reads,
-  λ x. ap (λ (g : TextFault). Err g) (one_fault text e f reads x),
+pub allowed_as : (profile : Profile) (text : List ℕ) (r : Result Position TextFault) → Reads profile text r → IfOk r (λ position. IsAllowed profile position.setup)
+allowed_as profile text (Ok position) reads = reads.1
+allowed_as profile text (Err f) reads = tt
+
+pub fault_as : (profile : Profile) (text : List ℕ) (r : Result Position TextFault) → Reads profile text r
+    → (f : TextFault) → IsErrOf r f ↔ HasFaultIn profile text f
+fault_as profile text (Ok position) reads f = (λ same. cc, λ x. absurd (no_fault profile text position.setup f reads.0 reads.1 reads.2 x))
+fault_as profile text (Err e) reads f = (
+  λ same. let is : e ≡ f = cc in subst (λ (g : TextFault). HasFaultIn profile text g) is reads,
+  λ x. ap (λ (g : TextFault). Err g) (one_fault profile text e f reads x),
 )
 
-pub whole_as : (text : List ℕ) (r : Result Position TextFault) → Reads text r → (setup : Setup) → IsLegal setup
-    → text ≡ text_of setup → IsOkAnd r (λ position. position.setup ≡ setup)
-whole_as text (Ok position) reads setup legal is = same_spelled text position.setup setup reads.1 (record { squares = legal.squares; spelled = is })
-whole_as text (Err f) reads setup legal is = no_fault text setup f legal (record { squares = legal.squares; spelled = is }) reads
+pub whole_as : (profile : Profile) (text : List ℕ) (r : Result Position TextFault) → Reads profile text r → (setup : Setup) → IsLegal setup
+    → IsAllowed profile setup → text ≡ text_of setup → IsOkAnd r (λ position. position.setup ≡ setup)
+whole_as profile text (Ok position) reads setup legal allowed is =
+    same_spelled text position.setup setup reads.2 (record { squares = legal.squares; spelled = is })
+whole_as profile text (Err f) reads setup legal allowed is =
+    no_fault profile text setup f legal allowed (record { squares = legal.squares; spelled = is }) reads
+
+-- what a text lacks before its chicks are looked at it lacks by each profile
+pub fault_in : (profile : Profile) (text : List ℕ) (f : TextFault) → HasFault text f → HasFaultIn profile text f
+fault_in profile text fault.Shape x = x
+fault_in profile text fault.Letter x = x
+fault_in profile text fault.Hand x = x
+fault_in profile text fault.Lions x = x
+fault_in profile text fault.Count x = x
+fault_in profile text fault.FarLion x = x
+fault_in profile text fault.FarChick x = absurd (x.3 refl)
 
 -- counts above 255 are above 2
 few_up : (setup : Setup) → HasFewPieces (capped_setup setup) → HasFewPieces setup
@@ -124,20 +158,27 @@ uncapped setup few =
     (same_hand _ _ (omega arith) (omega arith) (omega arith))
 
 -- the setup that was read is capped, and its fault is the text's
-fault_up : (text : List ℕ) (setup : Setup) (f : TextFault) → Spells text setup → HasSetupFault (capped_setup setup) f → HasFault text f
-fault_up text setup fault.Lions spells x = (setup, spells, x)
-fault_up text setup fault.Count spells x = (setup, spells, x.0, λ few. x.1 (few_down setup few))
-fault_up text setup fault.FarLion spells x = (setup, spells, x.0, few_up setup x.1, x.2)
-fault_up text setup fault.Shape spells x = absurd x
-fault_up text setup fault.Letter spells x = absurd x
-fault_up text setup fault.Hand spells x = absurd x
+fault_up : (profile : Profile) (text : List ℕ) (setup : Setup) (f : TextFault) → Spells text setup
+    → HasSetupFault profile (capped_setup setup) f → HasFaultIn profile text f
+fault_up profile text setup fault.Lions spells x = (setup, spells, x)
+fault_up profile text setup fault.Count spells x = (setup, spells, x.0, λ few. x.1 (few_down setup few))
+fault_up profile text setup fault.FarLion spells x = (setup, spells, x.0, few_up setup x.1, x.2)
+fault_up profile text setup fault.Shape spells x = absurd x
+fault_up profile text setup fault.Letter spells x = absurd x
+fault_up profile text setup fault.Hand spells x = absurd x
+fault_up profile text setup fault.FarChick spells x =
+    let same : capped_setup setup ≡ setup = uncapped setup (few_up setup x.0.few) in
+    (setup, spells, subst (λ (s : Setup). IsLegal s) same x.0, λ allowed. x.1 (subst (λ (s : Setup). IsAllowed profile s) (sym same) allowed))
 
 -- so is its position the text's
-pub reads_by : (text : List ℕ) (full setup : Setup) (r : Result Position TextFault) → Spells text full → setup ≡ capped_setup full
-    → MatchResult r (λ position. IsLegal setup × (position.setup ≡ setup)) (λ f. HasSetupFault setup f) → Reads text r
-reads_by text full setup (Ok position) spells is found =
+pub reads_by : (profile : Profile) (text : List ℕ) (full setup : Setup) (r : Result Position TextFault) → Spells text full → setup ≡ capped_setup full
+    → MatchResult r (λ position. IsLegal setup × IsAllowed profile setup × (position.setup ≡ setup)) (λ f. HasSetupFault profile setup f) → Reads profile text r
+reads_by profile text full setup (Ok position) spells is found =
     let legal : IsLegal (capped_setup full) = subst (λ (s : Setup). IsLegal s) is found.0 in
-    let same : full ≡ position.setup = sym (found.1 ∙ is ∙ uncapped full (few_up full legal.few)) in
-    (subst (λ (s : Setup). IsLegal s) (sym found.1) found.0, subst (λ (s : Setup). Spells text s) same spells)
-reads_by text full setup (Err f) spells is fault =
-    fault_up text full f spells (subst (λ (s : Setup). HasSetupFault s f) is fault)
+    let same : full ≡ position.setup = sym (found.2 ∙ is ∙ uncapped full (few_up full legal.few)) in (
+      subst (λ (s : Setup). IsLegal s) (sym found.2) found.0,
+      subst (λ (s : Setup). IsAllowed profile s) (sym found.2) found.1,
+      subst (λ (s : Setup). Spells text s) same spells,
+    )
+reads_by profile text full setup (Err f) spells is fault =
+    fault_up profile text full f spells (subst (λ (s : Setup). HasSetupFault profile s f) is fault)

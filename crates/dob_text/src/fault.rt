@@ -2,7 +2,7 @@
 ghost use Rattle.std.specs.Prelude.{Some};
 ghost use Rattle.dob_text.specs.Faults.{fault_text};
 
-use dob_pieces::PositionFault;
+use dob_pieces::{FarChick, PositionFault};
 use std::error::Error;
 use std::fmt;
 
@@ -21,6 +21,8 @@ pub enum TextFault {
     Count,
     /// E6: the lion of the side to move stands on its far row.
     FarLion,
+    /// E26: a chick stands on its own far row, which profile B doesn't allow.
+    FarChick,
 }
 
 impl fmt::Display for TextFault {
@@ -34,6 +36,7 @@ impl fmt::Display for TextFault {
             TextFault::Lions => write!(f, "{}", PositionFault::Lions),
             TextFault::Count => write!(f, "{}", PositionFault::Count),
             TextFault::FarLion => write!(f, "{}", PositionFault::FarLion),
+            TextFault::FarChick => write!(f, "{FarChick}"),
         }
     }
 }

@@ -14,6 +14,6 @@ mod write_moves;
 mod write_positions;
 
 pub use fault::TextFault;
-pub use read_positions::read_position;
+pub use read_positions::{read_position, read_position_in};
 pub use write_moves::write_move;
 pub use write_positions::write_position;

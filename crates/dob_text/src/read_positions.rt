@@ -1,52 +1,75 @@
 // Reading a position.
 ghost use Rattle.std.specs.Prelude.{◌≡◌, ◌↔◌, IfOk, IsOkAnd, IsErrOf, MatchResult};
 ghost use Rattle.dob_pieces.specs.declared.setup.Setup.{Setup};
+ghost use Rattle.dob_pieces.specs.Profiles.{IsAllowed};
 ghost use Rattle.dob_pieces.specs.Setups.{IsLegal};
 ghost use Rattle.dob_text.specs.declared.fault.TextFault.{TextFault};
 ghost use Rattle.dob_text.specs.PositionText.{text_of, Spells};
-ghost use Rattle.dob_text.specs.Faults.{HasFault, HasSetupFault};
+ghost use Rattle.dob_text.specs.Faults.{HasFault, HasFaultIn, HasSetupFault};
 
 use crate::fault::TextFault;
 use crate::setups::read_setup;
-use dob_pieces::{Position, PositionFault, Setup};
+use dob_pieces::{Position, PositionFault, Profile, Setup};
 
-/// The position of a setup.
-fn position_of(setup: Setup) -> Result<Position, TextFault>
+/// The position of a setup, one of that profile.
+fn position_of(profile: Profile, setup: Setup) -> Result<Position, TextFault>
     ensures { MatchResult result
-        (λ position. IsLegal setup × (position.setup ≡ setup))
-        (λ fault. HasSetupFault setup fault) }
+        (λ position. IsLegal setup × IsAllowed profile setup × (position.setup ≡ setup))
+        (λ fault. HasSetupFault profile setup fault) }
 {
     match Position::of(setup.board, setup.hands) {
-        Ok(position) => Ok(position),
+        Ok(position) => {
+            if position.is_allowed(profile) {
+                Ok(position)
+            } else {
+                Err(TextFault::FarChick)
+            }
+        }
         Err(PositionFault::Lions) => Err(TextFault::Lions),
         Err(PositionFault::Count) => Err(TextFault::Count),
         Err(PositionFault::FarLion) => Err(TextFault::FarLion),
     }
 }
 
-/// The position that the bytes spell.
-fn read_bytes(text: &[u8]) -> Result<Position, TextFault>
+/// The position of that profile that the bytes spell.
+fn read_bytes(profile: Profile, text: &[u8]) -> Result<Position, TextFault>
     ensures { MatchResult result
-        (λ position. IsLegal position.setup × Spells text.now position.setup)
-        (λ fault. HasFault text.now fault) }
+        (λ position. IsLegal position.setup × IsAllowed profile position.setup × Spells text.now position.setup)
+        (λ fault. HasFaultIn profile text.now fault) }
 {
     let setup = read_setup(text)?;
-    position_of(setup)
+    position_of(profile, setup)
 }
 
-/// The position of which this is the text, as `write_position` writes it. It takes no memory.
+/// The position of that profile of which this is the text, as `write_position` writes it. It takes no memory.
 ///
 /// # Errors
 ///
 /// The first of these that the text lacks: `Shape`, fifteen bytes with slashes at 3, 7 and 11 and none elsewhere, a
 /// space, a word, a space and a word, all of it ASCII; `Letter`, a board letter on each square; `Hand`, `-` or the letters
 /// C, E and G in this order, upper case for the mover and lower case for the enemy; `Lions`, one for each side; `Count`, at
-/// most two pieces of a kind; `FarLion`, a lion of the side to move that isn't on row 4.
+/// most two pieces of a kind; `FarLion`, a lion of the side to move that isn't on row 4; and in profile B `FarChick`, no
+/// chick on its own far row.
+pub fn read_position_in(profile: Profile, text: &str) -> Result<Position, TextFault>
+    ensures read { IfOk result (λ position. text.now ≡ text_of position.setup) }
+    ensures allowed { IfOk result (λ position. IsAllowed profile position.setup) }
+    ensures whole { (setup : Setup) → IsLegal setup → IsAllowed profile setup → text.now ≡ text_of setup
+        → IsOkAnd result (λ position. position.setup ≡ setup) }
+    ensures fault { (fault : TextFault) → IsErrOf result fault ↔ HasFaultIn profile text.now fault }
+{
+    read_bytes(profile, text.as_bytes())
+}
+
+/// The position of profile A of which this is the text: any position, so that it never fails with `FarChick`.
+///
+/// # Errors
+///
+/// Those of [`read_position_in`].
 pub fn read_position(text: &str) -> Result<Position, TextFault>
     ensures read { IfOk result (λ position. text.now ≡ text_of position.setup) }
     ensures whole { (setup : Setup) → IsLegal setup → text.now ≡ text_of setup
         → IsOkAnd result (λ position. position.setup ≡ setup) }
     ensures fault { (fault : TextFault) → IsErrOf result fault ↔ HasFault text.now fault }
 {
-    read_bytes(text.as_bytes())
+    read_position_in(Profile::A, text)
 }

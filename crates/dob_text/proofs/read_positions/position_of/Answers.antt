@@ -1,10 +1,24 @@
--- Each answer of `Position::of` says what it means.
-use Rattle.std.proofs.Common.{Err, ap, refl}
+-- Each answer of `Position::of` says what it means, and a position is looked at once more by the profile.
+use Rattle.std.proofs.Common.{Err, ap, refl, sym, subst}
+use Rattle.std.proofs.lemmas.Bool.{both_ways}
 use Rattle.dob_pieces.specs.declared.fault.PositionFault.{PositionFault}
+use Rattle.dob_pieces.specs.declared.setup.Setup.{Setup}
+use Rattle.dob_pieces.specs.Profiles.{IsAllowed}
 use Rattle.dob_text.proofs.read_positions.position_of.Goals as goal
 
-pub returns-in-Ok : goal.returns-in-Ok
-returns-in-Ok c = (c.in-Ok.ensures.legal.0 refl, c.in-Ok.ensures.setup)
+pub returns-then-is_allowed : goal.returns-then-is_allowed
+returns-then-is_allowed c = (
+  c.in-Ok.ensures.legal.0 refl,
+  subst (λ (s : Setup). IsAllowed c.args.profile s) c.in-Ok.ensures.setup (c.is_allowed.ensures.0 c.if-is_allowed.true),
+  c.in-Ok.ensures.setup,
+)
+
+pub returns-else-is_allowed : goal.returns-else-is_allowed
+returns-else-is_allowed c = (
+  c.in-Ok.ensures.legal.0 refl,
+  λ allowed. both_ways _ c.if-is_allowed.false
+      (c.is_allowed.ensures.1 (subst (λ (s : Setup). IsAllowed c.args.profile s) (sym c.in-Ok.ensures.setup) allowed)),
+)
 
 pub returns-in-Err-Count : goal.returns-in-Err-Count
 returns-in-Err-Count c = c.in-Err-Count.ensures.count.0 (ap (λ (f : PositionFault). Err f) c.in-Err-Count.field-0-is)
