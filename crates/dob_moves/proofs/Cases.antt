@@ -4,6 +4,8 @@ use Rattle.dob_pieces.specs.declared.kind.Kind.{Kind}
 use Rattle.dob_pieces.specs.declared.kind.Kind.TheVariants.{Lion}
 use Rattle.dob_pieces.specs.declared.kind.HandKind.{HandKind}
 use Rattle.dob_pieces.specs.declared.kind.Side.TheVariants.{Mover, Enemy}
+use Rattle.dob_pieces.specs.declared.profile.Profile.{Profile}
+use Rattle.dob_pieces.specs.declared.profile.Profile.TheVariants.{A}
 use Rattle.dob_pieces.specs.declared.setup.Setup.{Setup}
 use Rattle.dob_pieces.specs.Pieces.{kind_in_hand}
 use Rattle.dob_pieces.specs.Setups.{at, piece_of}
@@ -12,27 +14,30 @@ use Rattle.dob_moves.specs.declared.game_move.Move.TheVariants.{Step, Put}
 use Rattle.dob_moves.specs.declared.position_status.Status.{Status}
 use Rattle.dob_moves.specs.declared.position_status.Status.TheVariants.{Caught, Tried, Stuck, Open}
 use Rattle.dob_moves.specs.Moves.{CanGo, CatchesLion, CanTake, grows_at}
-use Rattle.dob_moves.specs.Statuses.{HasStatus}
+use Rattle.dob_moves.specs.Statuses.{HasStatus, HasStatusIn}
 use Rattle.dob_moves.proofs.Turns.{kind_of}
 
--- a setup has one status
+-- a setup has one status by the rules of a profile
+pub one_status_in : (profile : Profile) (p : Setup) (s t : Status) → HasStatusIn profile p s → HasStatusIn profile p t → s ≡ t
+one_status_in profile p Caught Caught h k = refl
+one_status_in profile p Caught Tried h k = absurd (k.0 h)
+one_status_in profile p Caught Stuck h k = absurd (k.0 h)
+one_status_in profile p Caught Open h k = absurd (k.0 h)
+one_status_in profile p Tried Caught h k = absurd (h.0 k)
+one_status_in profile p Tried Tried h k = refl
+one_status_in profile p Tried Stuck h k = absurd (k.1 h.1)
+one_status_in profile p Tried Open h k = absurd (k.1 h.1)
+one_status_in profile p Stuck Caught h k = absurd (h.0 k)
+one_status_in profile p Stuck Tried h k = absurd (h.1 k.1)
+one_status_in profile p Stuck Stuck h k = refl
+one_status_in profile p Stuck Open h k = absurd (h.2 k.2.0 k.2.1)
+one_status_in profile p Open Caught h k = absurd (h.0 k)
+one_status_in profile p Open Tried h k = absurd (h.1 k.1)
+one_status_in profile p Open Stuck h k = absurd (k.2 h.2.0 h.2.1)
+one_status_in profile p Open Open h k = refl
+
 pub one_status : (p : Setup) (s t : Status) → HasStatus p s → HasStatus p t → s ≡ t
-one_status p Caught Caught h k = refl
-one_status p Caught Tried h k = absurd (k.0 h)
-one_status p Caught Stuck h k = absurd (k.0 h)
-one_status p Caught Open h k = absurd (k.0 h)
-one_status p Tried Caught h k = absurd (h.0 k)
-one_status p Tried Tried h k = refl
-one_status p Tried Stuck h k = absurd (k.1 h.1)
-one_status p Tried Open h k = absurd (k.1 h.1)
-one_status p Stuck Caught h k = absurd (h.0 k)
-one_status p Stuck Tried h k = absurd (h.1 k.1)
-one_status p Stuck Stuck h k = refl
-one_status p Stuck Open h k = absurd (h.2 k.2.0 k.2.1)
-one_status p Open Caught h k = absurd (h.0 k)
-one_status p Open Tried h k = absurd (h.1 k.1)
-one_status p Open Stuck h k = absurd (k.2 h.2.0 h.2.1)
-one_status p Open Open h k = refl
+one_status = one_status_in A
 
 -- a step that can go has the mover's piece on its first square
 own_piece : (p : Setup) (kind : Kind) (from to : ℕ) (catch grows : Bool)

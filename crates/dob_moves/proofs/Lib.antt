@@ -2,9 +2,12 @@
 -- What a move leads to.
 pub mod Turns  -- when a turned setup is a position
 pub mod Outcomes  -- what stands after a move is legal
+pub mod ByProfile  -- moves by the rules of a profile
+pub mod Kept  -- what a move by them leads to is allowed
 pub mod Mirrors  -- moves of mirror images
 -- The status of a position.
 pub mod Cases  -- the rules' cases exclude each other
+pub mod Shared  -- profiles share statuses
 pub mod Firsts  -- the first move of a list
 pub mod Runs  -- moves that may not be there, as lists
 pub mod Tables  -- the steps of a kind, ascending

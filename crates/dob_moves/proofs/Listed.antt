@@ -7,6 +7,7 @@ use Rattle.dob_pieces.specs.declared.kind.Kind.{Kind}
 use Rattle.dob_pieces.specs.declared.kind.HandKind.{HandKind}
 use Rattle.dob_pieces.specs.declared.kind.Side.{Side}
 use Rattle.dob_pieces.specs.declared.kind.Side.TheVariants.{Mover, Enemy}
+use Rattle.dob_pieces.specs.declared.profile.Profile.{Profile}
 use Rattle.dob_pieces.specs.declared.setup.Setup.{Setup}
 use Rattle.dob_pieces.specs.Lists.{each_below}
 use Rattle.dob_pieces.specs.Pieces.{leads}
@@ -17,7 +18,7 @@ use Rattle.dob_pieces.proofs.MaskWalks.{IsQuiet, IsCounting}
 use Rattle.dob_moves.specs.declared.game_move.Move.{Move}
 use Rattle.dob_moves.specs.declared.game_move.Move.TheVariants.{Step, Put}
 use Rattle.dob_moves.specs.declared.first_moves.Aim.TheVariants.{Elsewhere}
-use Rattle.dob_moves.specs.Moves.{grows_at}
+use Rattle.dob_moves.specs.Moves.{grows_at, may_put}
 use Rattle.dob_moves.specs.Walks.{may_end, own_kind, steps_if, steps_from, put_if, put_on, drops_of}
 use Rattle.dob_moves.proofs.Masked.{end_is}
 use Rattle.dob_moves.proofs.Tables.{step_to}
@@ -83,30 +84,41 @@ from_quiet p from isnt = ap (steps_if Elsewhere p from) (no_own (at p from) isnt
 
 -- ---- drops
 
--- nothing stands there
-abbrev pub empty_at : Setup → ℕ → Bool
-empty_at p square = is_empty (at p square)
+-- nothing stands there, and the profile lets the kind be dropped there
+abbrev pub can_put : Profile → Setup → HandKind → ℕ → Bool
+can_put profile p kind square = is_empty (at p square) && may_put profile kind square
 
-abbrev pub puts_on : Setup → HandKind → ℕ → List Move
-puts_on p kind to = option_to_list (put_on p kind to)
+abbrev pub puts_on : Profile → Setup → HandKind → ℕ → List Move
+puts_on profile p kind to = option_to_list (put_on profile p kind to)
 
-put_cell : (cell : Cell) (kind : HandKind) (to : ℕ) → option_to_list (put_if cell kind to) ≡ cond (is_empty cell) (Put kind to ∷ []) []
-put_cell None kind to = refl
-put_cell (Some piece) kind to = refl
+put_cell : (cell : Cell) (b : Bool) (kind : HandKind) (to : ℕ)
+    → option_to_list (cond b (put_if cell kind to) None) ≡ cond (is_empty cell && b) (Put kind to ∷ []) []
+put_cell None true kind to = refl
+put_cell None false kind to = refl
+put_cell (Some piece) true kind to = refl
+put_cell (Some piece) false kind to = refl
 
-pub puts_quiet : (p : Setup) (kind : HandKind) → IsQuiet (empty_at p) (puts_on p kind)
-puts_quiet p kind to isnt = put_cell (at p to) kind to ∙ ap (λ (b : Bool). cond b (Put kind to ∷ []) []) isnt
+puts_on-is : (profile : Profile) (p : Setup) (kind : HandKind) (to : ℕ) → puts_on profile p kind to ≡ cond (can_put profile p kind to) (Put kind to ∷ []) []
+puts_on-is profile p kind to = put_cell (at p to) (may_put profile kind to) kind to
 
-pub put_there : (p : Setup) (kind : HandKind) (to : ℕ) → is_empty (at p to) ≡ true → puts_on p kind to ≡ Put kind to ∷ []
-put_there p kind to is = put_cell (at p to) kind to ∙ ap (λ (b : Bool). cond b (Put kind to ∷ []) []) is
+pub puts_quiet : (profile : Profile) (p : Setup) (kind : HandKind) → IsQuiet (can_put profile p kind) (puts_on profile p kind)
+puts_quiet profile p kind to isnt = puts_on-is profile p kind to ∙ ap (λ (b : Bool). cond b (Put kind to ∷ []) []) isnt
 
-pub puts_counting : (p : Setup) (kind : HandKind) → IsCounting (empty_at p) (puts_on p kind)
-puts_counting p kind to = ap length (put_cell (at p to) kind to) ∙ length_if (is_empty (at p to)) (Put kind to)
+pub put_there : (profile : Profile) (p : Setup) (kind : HandKind) (to : ℕ) → can_put profile p kind to ≡ true → puts_on profile p kind to ≡ Put kind to ∷ []
+put_there profile p kind to is = puts_on-is profile p kind to ∙ ap (λ (b : Bool). cond b (Put kind to ∷ []) []) is
 
-pub drops_none : (p : Setup) (kind : HandKind) → held p.hands.mover kind ≡ 0 → drops_of p kind ≡ []
+pub puts_counting : (profile : Profile) (p : Setup) (kind : HandKind) → IsCounting (can_put profile p kind) (puts_on profile p kind)
+puts_counting profile p kind to = ap length (puts_on-is profile p kind to) ∙ length_if (can_put profile p kind to) (Put kind to)
+
+pub can_put_mask : (profile : Profile) (p : Setup) (kind : HandKind) (empty squares : ℕ) → IsMask (λ square. is_empty (at p square)) empty
+    → IsMask (may_put profile kind) squares → IsMask (can_put profile p kind) (bit_and empty squares)
+can_put_mask profile p kind empty squares are may = IsMask-and (λ square. is_empty (at p square)) (may_put profile kind) empty squares are may
+
+pub drops_none : (profile : Profile) (p : Setup) (kind : HandKind) → held p.hands.mover kind ≡ 0 → drops_of profile p kind ≡ []
 unfolding drops_of
-drops_none p kind e = ap (λ (n : ℕ). cond (nat_lt 0 n) (each_below (puts_on p kind) 12) []) e
+drops_none profile p kind e = ap (λ (n : ℕ). cond (nat_lt 0 n) (each_below (puts_on profile p kind) 12) []) e
 
-pub drops_all : (p : Setup) (kind : HandKind) → 0 < held p.hands.mover kind → drops_of p kind ≡ each_below (puts_on p kind) 12
+pub drops_all : (profile : Profile) (p : Setup) (kind : HandKind) → 0 < held p.hands.mover kind
+    → drops_of profile p kind ≡ each_below (puts_on profile p kind) 12
 unfolding drops_of
-drops_all p kind some = ap (λ (b : Bool). cond b (each_below (puts_on p kind) 12) []) (lt-ltb 0 (held p.hands.mover kind) some)
+drops_all profile p kind some = ap (λ (b : Bool). cond b (each_below (puts_on profile p kind) 12) []) (lt-ltb 0 (held p.hands.mover kind) some)

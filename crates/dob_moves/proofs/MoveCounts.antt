@@ -6,48 +6,51 @@ use Rattle.std.specs.Option.{is_some}
 use Rattle.std.proofs.lemmas.List.{length-append}
 use Rattle.dob_pieces.specs.declared.kind.Kind.{Kind}
 use Rattle.dob_pieces.specs.declared.kind.HandKind.{HandKind}
+use Rattle.dob_pieces.specs.declared.profile.Profile.{Profile}
 use Rattle.dob_pieces.specs.declared.setup.Setup.{Setup}
 use Rattle.dob_pieces.specs.Pieces.{leads}
 use Rattle.dob_pieces.specs.Setups.{at, held}
-use Rattle.dob_pieces.specs.Masks.{IsMask, is_end}
+use Rattle.dob_pieces.specs.Masks.{IsMask, is_end, is_empty}
 use Rattle.dob_pieces.proofs.MaskBits.{without, next_left}
 use Rattle.dob_pieces.proofs.MaskWalks.{IsWalked, IsCounted, walk_start, walk_next_at, walk_end, counted_ones}
-use Rattle.dob_moves.proofs.Listed.{own_at, empty_at, may_step, steps_to, puts_on, from_quiet, steps_counting, puts_counting, may_step_mask, drops_all}
+use Rattle.dob_moves.proofs.Listed.{own_at, can_put, may_step, steps_to, puts_on, from_quiet, steps_counting, puts_counting, may_step_mask}
+use Rattle.dob_moves.proofs.Listed.{can_put_mask, drops_all}
 use Rattle.dob_moves.proofs.Tables.{steps_by-squares}
 use Rattle.dob_pieces.proofs.Lists.{head_in}
 use Rattle.dob_moves.specs.declared.game_move.Move.{Move}
 use Rattle.dob_moves.specs.declared.position_status.Status.{Status}
 use Rattle.dob_moves.specs.declared.position_status.Status.TheVariants.{Open}
 use Rattle.dob_moves.specs.declared.first_moves.Aim.TheVariants.{AtLion, Elsewhere}
-use Rattle.dob_moves.specs.Statuses.{HasStatus}
+use Rattle.dob_moves.specs.Moves.{may_put}
+use Rattle.dob_moves.specs.Statuses.{HasStatusIn}
 use Rattle.dob_moves.specs.Walks.{first, steps_by, steps_from, all_steps, drops_of, all_drops}
-use Rattle.dob_moves.specs.MoveLists.{has_tried, moves_of}
-use Rattle.dob_moves.proofs.Cases.{one_status}
-use Rattle.dob_moves.proofs.MoveLists.{tried_at, AreMoves-moves_of}
+use Rattle.dob_moves.specs.MoveLists.{has_tried, moves_of_in}
+use Rattle.dob_moves.proofs.Cases.{one_status_in}
+use Rattle.dob_moves.proofs.MoveLists.{tried_at, AreMovesIn-moves_of_in}
 use Rattle.dob_moves.proofs.Verdicts.{catch_answer}
 
 pub ruleset counts = (length-append)
 
 -- ---- all moves
 
-by_tests : (p : Setup) → length p.board ≡ 12 → HasStatus p Open → (o : Option Move) (tried : Bool) → o ≡ first (all_steps AtLion p) →
+by_tests : (profile : Profile) (p : Setup) → length p.board ≡ 12 → HasStatusIn profile p Open → (o : Option Move) (tried : Bool) → o ≡ first (all_steps AtLion p) →
     has_tried p ≡ tried → (moves : List Move) → (if is_some o || tried then [] else moves) ≡ moves
-by_tests p twelve is_open (Some m) tried e h moves =
+by_tests profile p twelve is_open (Some m) tried e h moves =
     let catch = catch_answer p (Some m) twelve e in
     absurd (is_open.0 (m, catch.catches))
-by_tests p twelve is_open None true e h moves = absurd (is_open.1 (tried_at p _ _ _ refl refl refl h))
-by_tests p twelve is_open None false e h moves = refl
+by_tests profile p twelve is_open None true e h moves = absurd (is_open.1 (tried_at p _ _ _ refl refl refl h))
+by_tests profile p twelve is_open None false e h moves = refl
 
 -- an open position has its steps and drops
-pub open_count : (p : Setup) (steps drops : ℕ) → length p.board ≡ 12 → HasStatus p Open → steps ≡ length (all_steps Elsewhere p) →
-    drops ≡ length (all_drops p) → steps + drops ≡ length (moves_of p)
-unfolding moves_of
-open_count p steps drops twelve is_open first_is then_is =
-    let all : moves_of p ≡ all_steps Elsewhere p ++ all_drops p =
-    by_tests p twelve is_open (first (all_steps AtLion p)) (has_tried p) refl refl (all_steps Elsewhere p ++ all_drops p) in
-    let same : length (moves_of p) ≡ length (all_steps Elsewhere p ++ all_drops p) = ap length all in
-    let sum : length (all_steps Elsewhere p ++ all_drops p) ≡ length (all_steps Elsewhere p) + length (all_drops p) =
-    length-append (all_steps Elsewhere p) (all_drops p) in
+pub open_count : (profile : Profile) (p : Setup) (steps drops : ℕ) → length p.board ≡ 12 → HasStatusIn profile p Open → steps ≡ length (all_steps Elsewhere p) →
+    drops ≡ length (all_drops profile p) → steps + drops ≡ length (moves_of_in profile p)
+unfolding moves_of_in
+open_count profile p steps drops twelve is_open first_is then_is =
+    let all : moves_of_in profile p ≡ all_steps Elsewhere p ++ all_drops profile p =
+    by_tests profile p twelve is_open (first (all_steps AtLion p)) (has_tried p) refl refl (all_steps Elsewhere p ++ all_drops profile p) in
+    let same : length (moves_of_in profile p) ≡ length (all_steps Elsewhere p ++ all_drops profile p) = ap length all in
+    let sum : length (all_steps Elsewhere p ++ all_drops profile p) ≡ length (all_steps Elsewhere p) + length (all_drops profile p) =
+    length-append (all_steps Elsewhere p) (all_drops profile p) in
     omega arith
 
 nothing_there : (P : Type 0) (moves : List Move) → ((m : Move) → Contains moves m → P) → ¬ P → 0 ≡ length moves
@@ -55,10 +58,10 @@ nothing_there P [] sound isnt = refl
 nothing_there P (m ∷ moves) sound isnt = absurd (isnt (sound m (head_in m moves)))
 
 -- any other has none
-pub other_count : (p : Setup) (s : Status) → length p.board ≡ 12 → HasStatus p s → s ≢ Open → 0 ≡ length (moves_of p)
-other_count p s twelve is other =
-    nothing_there (HasStatus p Open) (moves_of p) (λ m there. ((AreMoves-moves_of p twelve).sound m there).0)
-    (λ is_open. other (one_status p s Open is is_open))
+pub other_count : (profile : Profile) (p : Setup) (s : Status) → length p.board ≡ 12 → HasStatusIn profile p s → s ≢ Open → 0 ≡ length (moves_of_in profile p)
+other_count profile p s twelve is other =
+    nothing_there (HasStatusIn profile p Open) (moves_of_in profile p) (λ m there. ((AreMovesIn-moves_of_in profile p twelve).sound m there).0)
+    (λ is_open. other (one_status_in profile p s Open is is_open))
 
 -- ---- by masks
 
@@ -70,10 +73,13 @@ counted_steps p kind from targets ends lt are may =
     (steps_counting p kind from) (may_step_mask p kind from targets ends are may) in
     rw (steps_by-squares Elsewhere p kind from lt) each
 
-pub counted_drops : (p : Setup) (kind : HandKind) (empty : ℕ) → 0 < held p.hands.mover kind → IsMask (empty_at p) empty
-    → IsCounted (length (drops_of p kind)) (count_ones empty)
-counted_drops p kind empty some are =
-    rw (drops_all p kind some) (counted_ones (empty_at p) (puts_on p kind) empty (puts_counting p kind) are)
+pub counted_drops : (profile : Profile) (p : Setup) (kind : HandKind) (empty squares : ℕ) → 0 < held p.hands.mover kind
+    → IsMask (λ square. is_empty (at p square)) empty → IsMask (may_put profile kind) squares
+    → IsCounted (length (drops_of profile p kind)) (count_ones (bit_and empty squares))
+counted_drops profile p kind empty squares some are may =
+    rw (drops_all profile p kind some)
+    (counted_ones (can_put profile p kind) (puts_on profile p kind) (bit_and empty squares) (puts_counting profile p kind)
+    (can_put_mask profile p kind empty squares are may))
 
 -- Steps counted while the squares of a mask are gone over: the items are those whose number is known.
 pub record AreCounted (p : Setup) (left count : ℕ) : Type 0 where

@@ -7,18 +7,20 @@ use Rattle.dob_pieces.specs.declared.kind.Kind.{Kind}
 use Rattle.dob_pieces.specs.declared.kind.Kind.TheVariants.{Lion, Giraffe, Elephant, Chick, Hen}
 use Rattle.dob_pieces.specs.declared.kind.Side.{Side}
 use Rattle.dob_pieces.specs.declared.kind.Side.TheVariants.{Mover, Enemy}
+use Rattle.dob_pieces.specs.declared.profile.Profile.{Profile}
+use Rattle.dob_pieces.specs.declared.profile.Profile.TheVariants.{A}
 use Rattle.dob_pieces.specs.declared.setup.Setup.{Setup}
 use Rattle.dob_pieces.specs.Setups.{Cell, at, holds_lion, piece_of}
 use Rattle.dob_pieces.proofs.Lists.{rising-append, rising-pairs}
 use Rattle.dob_moves.specs.declared.game_move.Move.{Move}
 use Rattle.dob_moves.specs.declared.position_status.Status.TheVariants.{Caught, Tried}
 use Rattle.dob_moves.specs.declared.first_moves.Aim.TheVariants.{AtLion, Elsewhere}
-use Rattle.dob_moves.specs.Moves.{CanGo, place, first_drop}
-use Rattle.dob_moves.specs.Statuses.{CanCatch, HasTried, AreMoves}
+use Rattle.dob_moves.specs.Moves.{place, first_drop}
+use Rattle.dob_moves.specs.Statuses.{CanCatch, HasTried, AreMoves, AreMovesIn}
 use Rattle.dob_moves.specs.Walks.{first, all_steps, all_drops}
-use Rattle.dob_moves.specs.MoveLists.{has_tried, moves_of}
-use Rattle.dob_moves.proofs.Reach.{steps_sound, steps_rising, drops_sound, drops_rising}
-use Rattle.dob_moves.proofs.Verdicts.{catch_answer, open_answer, other_answer}
+use Rattle.dob_moves.specs.MoveLists.{has_tried, moves_of, moves_of_in}
+use Rattle.dob_moves.proofs.Reach.{steps_rising, drops_rising}
+use Rattle.dob_moves.proofs.Verdicts.{catch_answer, listed_goes, open_answer, other_answer}
 
 -- the cell with the enemy lion is the only one that has it
 enemy_lion : (cell : Cell) → holds_lion Enemy cell ≡ true → cell ≡ Some (piece_of Enemy Lion)
@@ -50,36 +52,32 @@ not_tried_at p false false false at_a at_b at_c h (suc zero) low e = let lion : 
 not_tried_at p false false false at_a at_b at_c h (suc (suc zero)) low e = let lion : holds_lion Enemy (at p 2) ≡ true = ap (holds_lion Enemy) e in cc
 not_tried_at p false false false at_a at_b at_c h (suc (suc (suc square))) low e = absurd (omega (arith, low))
 
-listed_goes : (p : Setup) (m : Move) → Contains (all_steps Elsewhere p ++ all_drops p) m → CanGo p m
-listed_goes p m here =
-    elim (Contains-append_cases (all_steps Elsewhere p) (all_drops p) m here) [
-      | inl step ↦ steps_sound Elsewhere p m step
-      | inr drop ↦ drops_sound p m drop
-    ]
-
 -- where the game isn't over, the steps and then the drops are the moves
-going_on : (p : Setup) → length p.board ≡ 12 → ¬ CanCatch p → ¬ HasTried p → AreMoves p (all_steps Elsewhere p ++ all_drops p)
-going_on p twelve no_catch no_try = record {
-  sound = λ m here. let goes = listed_goes p m here in ((no_catch, no_try, (m, goes)), goes);
+going_on : (profile : Profile) (p : Setup) → length p.board ≡ 12 → ¬ CanCatch p → ¬ HasTried p → AreMovesIn profile p (all_steps Elsewhere p ++ all_drops profile p)
+going_on profile p twelve no_catch no_try = record {
+  sound = λ m here. let goes = listed_goes profile p m here in ((no_catch, no_try, (m, goes)), goes);
   whole = λ m is_open goes.
-      let all = open_answer p twelve is_open [] (all_steps Elsewhere p) (all_steps Elsewhere p ++ all_drops p) refl refl refl in
+      let all = open_answer profile p twelve is_open [] (all_steps Elsewhere p) (all_steps Elsewhere p ++ all_drops profile p) refl refl refl in
       all.whole m is_open goes;
-  ordered = rising-pairs place 0 (first_drop + 36) (all_steps Elsewhere p ++ all_drops p)
-      (rising-append place 0 first_drop (first_drop + 36) (all_steps Elsewhere p) (all_drops p) (steps_rising Elsewhere p) (drops_rising p));
+  ordered = rising-pairs place 0 (first_drop + 36) (all_steps Elsewhere p ++ all_drops profile p)
+      (rising-append place 0 first_drop (first_drop + 36) (all_steps Elsewhere p) (all_drops profile p) (steps_rising Elsewhere p) (drops_rising profile p));
 }
 
-by_tests : (p : Setup) → length p.board ≡ 12 → (o : Option Move) (tried : Bool) → o ≡ first (all_steps AtLion p) → has_tried p ≡ tried
-    → AreMoves p (if is_some o || tried then [] else all_steps Elsewhere p ++ all_drops p)
-by_tests p twelve (Some m) tried e h =
+by_tests : (profile : Profile) (p : Setup) → length p.board ≡ 12 → (o : Option Move) (tried : Bool) → o ≡ first (all_steps AtLion p) → has_tried p ≡ tried
+    → AreMovesIn profile p (if is_some o || tried then [] else all_steps Elsewhere p ++ all_drops profile p)
+by_tests profile p twelve (Some m) tried e h =
     let catch = catch_answer p (Some m) twelve e in
-    other_answer p Caught (m, catch.catches) (λ same. cc) [] refl
-by_tests p twelve None true e h =
+    other_answer profile p Caught (m, catch.catches) (λ same. cc) [] refl
+by_tests profile p twelve None true e h =
     let no_catch = catch_answer p None twelve e in
-    other_answer p Tried (no_catch, tried_at p _ _ _ refl refl refl h) (λ same. cc) [] refl
-by_tests p twelve None false e h =
-    going_on p twelve (catch_answer p None twelve e)
+    other_answer profile p Tried (no_catch, tried_at p _ _ _ refl refl refl h) (λ same. cc) [] refl
+by_tests profile p twelve None false e h =
+    going_on profile p twelve (catch_answer p None twelve e)
     (λ try. not_tried_at p _ _ _ refl refl refl h try.0 try.1 try.2)
 
+pub AreMovesIn-moves_of_in : (profile : Profile) (p : Setup) → length p.board ≡ 12 → AreMovesIn profile p (moves_of_in profile p)
+unfolding moves_of_in
+AreMovesIn-moves_of_in profile p twelve = by_tests profile p twelve (first (all_steps AtLion p)) (has_tried p) refl refl
+
 pub AreMoves-moves_of : (p : Setup) → length p.board ≡ 12 → AreMoves p (moves_of p)
-unfolding moves_of
-AreMoves-moves_of p twelve = by_tests p twelve (first (all_steps AtLion p)) (has_tried p) refl refl
+AreMoves-moves_of = AreMovesIn-moves_of_in A

@@ -69,9 +69,9 @@ record Keeps (kind arrives : Kind) : Type 0 where
   counts : (k : HandKind) → counts_as k arrives ≡ counts_as k kind
 
 -- a step's squares, its piece and what it takes
-record IsStep (p : Setup) (kind : Kind) (from to : ℕ) (grows : Bool) : Type 0 where
-  own : at p from ≡ Some (piece_of Mover kind)
-  leads : leads kind from to ≡ true
+pub record IsStep (p : Setup) (kind : Kind) (from to : ℕ) (grows : Bool) : Type 0 where
+  pub own : at p from ≡ Some (piece_of Mover kind)
+  pub leads : leads kind from to ≡ true
   yields : Yields (at p to)
   keeps : Keeps kind (arrives_as kind grows)
 
@@ -175,7 +175,7 @@ step_of p kind from to grows hands q s yields keeps = record {
 }
 
 -- every step that can go is one
-IsStep-from : (p : Setup) (kind : Kind) (from to : ℕ) (catch grows : Bool) (q : Setup)
+pub IsStep-from : (p : Setup) (kind : Kind) (from to : ℕ) (catch grows : Bool) (q : Setup)
     → Goes p (Step kind from to catch grows) q → IsStep p kind from to grows
 IsStep-from p kind from to false false q g = step_of p kind from to false _ q g.2 (Yields-free p to g.1) (Keeps-same kind)
 IsStep-from p kind from to true false q g =
@@ -211,7 +211,7 @@ module _ (p : Setup) (kind : Kind) (from to : ℕ) (grows : Bool) (twelve : leng
   on_board : to < 12
   on_board = leads-to_board kind from to s.leads
 
-  length-stepped : length (stepped p kind from to grows).board ≡ 12
+  pub length-stepped : length (stepped p kind from to grows).board ≡ 12
   unfolding stepped
   length-stepped = rw (length-set, length-set) twelve
 
@@ -264,7 +264,7 @@ put_lion hand.Giraffe = refl
 
 module _ (p : Setup) (put : HandKind) (to : ℕ) (twelve : length p.board ≡ 12) (some : 0 < held p.hands.mover put)
     (on : to < 12) (free_to : at p to ≡ None) where
-  length-dropped : length (dropped p put to).board ≡ 12
+  pub length-dropped : length (dropped p put to).board ≡ 12
   unfolding dropped
   length-dropped = rw length-set twelve
 

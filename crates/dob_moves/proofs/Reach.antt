@@ -1,6 +1,6 @@
 -- The lists of steps and of drops have exactly the moves of the rules, in the move order.
 use Rattle.std.proofs.Common.{◌≡◌, ℕ, suc, ◌+◌, ◌*◌, ◌<◌, ◌≤◌, Bool, true, false, cond, List, ◌++◌, Option, Some, None, length}
-use Rattle.std.proofs.Common.{refl, sym, ap, subst, inl, inr, arith, option_to_list, Contains}
+use Rattle.std.proofs.Common.{refl, sym, ap, ◌∙◌, subst, inl, inr, arith, option_to_list, Contains}
 use Rattle.std.proofs.lemmas.Bool.{ltb-true, lt-ltb}
 use Rattle.std.proofs.lemmas.List.Elements.{Contains-append_left, Contains-append_right, Contains-append_cases}
 use Rattle.dob_pieces.specs.declared.kind.Kind.{Kind}
@@ -9,6 +9,8 @@ use Rattle.dob_pieces.specs.declared.kind.HandKind.{HandKind}
 use Rattle.dob_pieces.specs.declared.kind.HandKind.TheVariants as hand
 use Rattle.dob_pieces.specs.declared.kind.Side.{Side}
 use Rattle.dob_pieces.specs.declared.kind.Side.TheVariants.{Mover, Enemy}
+use Rattle.dob_pieces.specs.declared.profile.Profile.{Profile}
+use Rattle.dob_pieces.specs.declared.profile.Profile.TheVariants.{A}
 use Rattle.dob_pieces.specs.declared.setup.Setup.{Setup}
 use Rattle.dob_pieces.specs.Lists.{each_below}
 use Rattle.dob_pieces.specs.Pieces.{leads, kind_in_hand}
@@ -20,11 +22,12 @@ use Rattle.dob_moves.specs.declared.game_move.Move.{Move}
 use Rattle.dob_moves.specs.declared.game_move.Move.TheVariants.{Step, Put}
 use Rattle.dob_moves.specs.declared.first_moves.Aim.{Aim}
 use Rattle.dob_moves.specs.declared.first_moves.Aim.TheVariants.{AtLion, Elsewhere}
-use Rattle.dob_moves.specs.Moves.{grows_at, CanTake, CanGo, CatchesLion, hand_place, place, first_drop}
+use Rattle.dob_moves.specs.Moves.{grows_at, CanTake, CanGo, CanGoIn, may_put, may_go, CatchesLion, hand_place, place, first_drop}
 use Rattle.dob_moves.specs.Statuses.{IsFirstCatch}
 use Rattle.dob_moves.specs.Walks.{first, may_end, step_onto, steps_by, own_kind, own_by_side, steps_if, steps_from, all_steps, put_if}
 use Rattle.dob_moves.specs.Walks.{put_on, drops_of, all_drops}
-use Rattle.dob_moves.proofs.Runs.{option_sound, option_whole, rising-option, first_none, first_some, first_least}
+use Rattle.dob_moves.proofs.ByProfile.{goes, may, can_go_in}
+use Rattle.dob_moves.proofs.Runs.{rising-below, option_sound, option_whole, rising-option, first_none, first_some, first_least}
 use Rattle.std.specs.Option.{is_some}
 use Rattle.dob_moves.proofs.Tables.{step_to, steps_by-squares}
 
@@ -205,77 +208,94 @@ found_in_steps aim p kind from to m len h =
 
 -- ---- drops
 
-put_sound : (p : Setup) (kind : HandKind) (to : ℕ) (m : Move) → to < 12 → 0 < held p.hands.mover kind → put_on p kind to ≡ Some m → CanGo p m
-put_sound p kind to m lt some e = by_cell (at p to) refl e where
-  by_cell : (cell : Cell) → at p to ≡ cell → put_if cell kind to ≡ Some m → CanGo p m
-  by_cell None free e =
+-- no profile forbids a step
+step_may : (profile : Profile) (m : Move) → place m < first_drop → may_go profile m ≡ true
+step_may profile (Step kind from to catch grows) low = refl
+step_may profile (Put kind to) low = absurd (omega (arith, low))
+
+pub steps_go : (profile : Profile) (p : Setup) (m : Move) → Contains (all_steps Elsewhere p) m → CanGoIn profile p m
+steps_go profile p m h =
+    can_go_in profile p m (steps_sound Elsewhere p m h) (step_may profile m (rising-below 0 first_drop (all_steps Elsewhere p) m (steps_rising Elsewhere p) h))
+
+put_sound : (profile : Profile) (p : Setup) (kind : HandKind) (to : ℕ) (m : Move) → to < 12 → 0 < held p.hands.mover kind
+    → put_on profile p kind to ≡ Some m → CanGoIn profile p m
+put_sound profile p kind to m lt some e = by_cell (may_put profile kind to) (at p to) refl refl e where
+  by_cell : (b : Bool) (cell : Cell) → may_put profile kind to ≡ b → at p to ≡ cell → cond b (put_if cell kind to) None ≡ Some m → CanGoIn profile p m
+  by_cell true None here free e =
       let same : Put kind to ≡ m = cc in
-      subst (λ (x : Move). CanGo p x) same (_, record { in_hand = some; on_board = lt; free = free; outcome = refl })
-  by_cell (Some piece) taken e = cc
+      subst (λ (x : Move). CanGoIn profile p x) same
+      (can_go_in profile p (Put kind to) (_, record { in_hand = some; on_board = lt; free = free; outcome = refl }) here)
+  by_cell true (Some piece) here taken e = cc
+  by_cell false cell here stands e = cc
 
-put_place : (p : Setup) (kind : HandKind) (to : ℕ) (m : Move) → put_on p kind to ≡ Some m → place m ≡ first_drop + 12 * hand_place kind + to
-put_place p kind to m e = by_cell (at p to) e where
-  by_cell : (cell : Cell) → put_if cell kind to ≡ Some m → place m ≡ first_drop + 12 * hand_place kind + to
-  by_cell None e = let same : Put kind to ≡ m = cc in sym (ap place same)
-  by_cell (Some piece) e = cc
+put_place : (profile : Profile) (p : Setup) (kind : HandKind) (to : ℕ) (m : Move) → put_on profile p kind to ≡ Some m
+    → place m ≡ first_drop + 12 * hand_place kind + to
+put_place profile p kind to m e = by_cell (may_put profile kind to) (at p to) e where
+  by_cell : (b : Bool) (cell : Cell) → cond b (put_if cell kind to) None ≡ Some m → place m ≡ first_drop + 12 * hand_place kind + to
+  by_cell true None e = let same : Put kind to ≡ m = cc in sym (ap place same)
+  by_cell true (Some piece) e = cc
+  by_cell false cell e = cc
 
-drops_of_sound : (p : Setup) (kind : HandKind) (m : Move) → Contains (drops_of p kind) m → CanGo p m
+drops_of_sound : (profile : Profile) (p : Setup) (kind : HandKind) (m : Move) → Contains (drops_of profile p kind) m → CanGoIn profile p m
 unfolding drops_of
-drops_of_sound p kind m h =
+drops_of_sound profile p kind m h =
     let found = cond_sound _ _ m h in
-    let w = each_sound (λ to. option_to_list (put_on p kind to)) 12 m found.1 in
-    put_sound p kind w.0 m w.1 (ltb-true 0 (held p.hands.mover kind) found.0) (option_sound (put_on p kind w.0) m w.2)
+    let w = each_sound (λ to. option_to_list (put_on profile p kind to)) 12 m found.1 in
+    put_sound profile p kind w.0 m w.1 (ltb-true 0 (held p.hands.mover kind) found.0) (option_sound (put_on profile p kind w.0) m w.2)
 
-drops_of_rising : (p : Setup) (kind : HandKind) → Rising place (first_drop + 12 * hand_place kind) (first_drop + 12 * hand_place kind + 12) (drops_of p kind)
+drops_of_rising : (profile : Profile) (p : Setup) (kind : HandKind) → Rising place (first_drop + 12 * hand_place kind) (first_drop + 12 * hand_place kind + 12) (drops_of profile p kind)
 unfolding drops_of
-drops_of_rising p kind =
+drops_of_rising profile p kind =
     let low = first_drop + 12 * hand_place kind in
-    let g : ℕ → List Move = λ to. option_to_list (put_on p kind to) in
+    let g : ℕ → List Move = λ to. option_to_list (put_on profile p kind to) in
     rising-cond place _ low (low + 12) (each_below g 12) (omega arith)
     (rising-lower place low (low + 0) (low + 12) _ (omega arith) (rising-each place g (λ to. low + to) 12 (λ to lt. at_square to))) where
       at_square : (to : ℕ) → Rising place (first_drop + 12 * hand_place kind + to) (first_drop + 12 * hand_place kind + suc to)
-          (option_to_list (put_on p kind to))
-      at_square to = subst (λ (high : ℕ). Rising place (first_drop + 12 * hand_place kind + to) high (option_to_list (put_on p kind to)))
+          (option_to_list (put_on profile p kind to))
+      at_square to = subst (λ (high : ℕ). Rising place (first_drop + 12 * hand_place kind + to) high (option_to_list (put_on profile p kind to)))
           (let e : suc (first_drop + 12 * hand_place kind + to) ≡ first_drop + 12 * hand_place kind + suc to = omega arith in e)
-          (rising-option (first_drop + 12 * hand_place kind + to) (put_on p kind to) (λ m e. put_place p kind to m e))
+          (rising-option (first_drop + 12 * hand_place kind + to) (put_on profile p kind to) (λ m e. put_place profile p kind to m e))
 
-drops_of_whole : (p : Setup) (kind : HandKind) (to : ℕ) → CanGo p (Put kind to) → Contains (drops_of p kind) (Put kind to)
+drops_of_whole : (profile : Profile) (p : Setup) (kind : HandKind) (to : ℕ) → CanGoIn profile p (Put kind to) → Contains (drops_of profile p kind) (Put kind to)
 unfolding drops_of
-drops_of_whole p kind to (q, d) =
-    let it : put_on p kind to ≡ Some (Put kind to) = rw d.free refl in
+drops_of_whole profile p kind to (q, g) =
+    let d = goes profile p (Put kind to) q g in
+    let here : may_put profile kind to ≡ true = may profile p (Put kind to) q g in
+    let it : put_on profile p kind to ≡ Some (Put kind to) =
+    ap (λ (b : Bool). cond b (put_if (at p to) kind to) None) here ∙ ap (λ (cell : Cell). put_if cell kind to) d.free in
     cond_whole _ _ _ (lt-ltb 0 (held p.hands.mover kind) d.in_hand)
-    (each_whole (λ to. option_to_list (put_on p kind to)) 12 to (Put kind to) d.on_board (option_whole (put_on p kind to) (Put kind to) it))
+    (each_whole (λ to. option_to_list (put_on profile p kind to)) 12 to (Put kind to) d.on_board (option_whole (put_on profile p kind to) (Put kind to) it))
 
-pub drops_sound : (p : Setup) (m : Move) → Contains (all_drops p) m → CanGo p m
+pub drops_sound : (profile : Profile) (p : Setup) (m : Move) → Contains (all_drops profile p) m → CanGoIn profile p m
 unfolding all_drops
-drops_sound p m h =
-    elim (Contains-append_cases (drops_of p hand.Chick ++ drops_of p hand.Elephant) (drops_of p hand.Giraffe) m h) [
-      | inl two ↦ elim (Contains-append_cases (drops_of p hand.Chick) (drops_of p hand.Elephant) m two) [
-        | inl chick ↦ drops_of_sound p hand.Chick m chick
-        | inr elephant ↦ drops_of_sound p hand.Elephant m elephant
+drops_sound profile p m h =
+    elim (Contains-append_cases (drops_of profile p hand.Chick ++ drops_of profile p hand.Elephant) (drops_of profile p hand.Giraffe) m h) [
+      | inl two ↦ elim (Contains-append_cases (drops_of profile p hand.Chick) (drops_of profile p hand.Elephant) m two) [
+        | inl chick ↦ drops_of_sound profile p hand.Chick m chick
+        | inr elephant ↦ drops_of_sound profile p hand.Elephant m elephant
       ]
-      | inr giraffe ↦ drops_of_sound p hand.Giraffe m giraffe
+      | inr giraffe ↦ drops_of_sound profile p hand.Giraffe m giraffe
     ]
 
-pub drops_rising : (p : Setup) → Rising place first_drop (first_drop + 36) (all_drops p)
+pub drops_rising : (profile : Profile) (p : Setup) → Rising place first_drop (first_drop + 36) (all_drops profile p)
 unfolding all_drops
-drops_rising p =
-    rising-append place first_drop (first_drop + 24) (first_drop + 36) (drops_of p hand.Chick ++ drops_of p hand.Elephant) (drops_of p hand.Giraffe)
-    (rising-append place first_drop (first_drop + 12) (first_drop + 24) (drops_of p hand.Chick) (drops_of p hand.Elephant)
-    (drops_of_rising p hand.Chick) (drops_of_rising p hand.Elephant))
-    (drops_of_rising p hand.Giraffe)
+drops_rising profile p =
+    rising-append place first_drop (first_drop + 24) (first_drop + 36) (drops_of profile p hand.Chick ++ drops_of profile p hand.Elephant) (drops_of profile p hand.Giraffe)
+    (rising-append place first_drop (first_drop + 12) (first_drop + 24) (drops_of profile p hand.Chick) (drops_of profile p hand.Elephant)
+    (drops_of_rising profile p hand.Chick) (drops_of_rising profile p hand.Elephant))
+    (drops_of_rising profile p hand.Giraffe)
 
-pub drops_whole : (p : Setup) (kind : HandKind) (to : ℕ) → CanGo p (Put kind to) → Contains (all_drops p) (Put kind to)
+pub drops_whole : (profile : Profile) (p : Setup) (kind : HandKind) (to : ℕ) → CanGoIn profile p (Put kind to) → Contains (all_drops profile p) (Put kind to)
 unfolding all_drops
-drops_whole p hand.Chick to h =
-    Contains-append_left (drops_of p hand.Chick ++ drops_of p hand.Elephant) (drops_of p hand.Giraffe) (Put hand.Chick to)
-    (Contains-append_left (drops_of p hand.Chick) (drops_of p hand.Elephant) (Put hand.Chick to) (drops_of_whole p hand.Chick to h))
-drops_whole p hand.Elephant to h =
-    Contains-append_left (drops_of p hand.Chick ++ drops_of p hand.Elephant) (drops_of p hand.Giraffe) (Put hand.Elephant to)
-    (Contains-append_right (drops_of p hand.Chick) (drops_of p hand.Elephant) (Put hand.Elephant to) (drops_of_whole p hand.Elephant to h))
-drops_whole p hand.Giraffe to h =
-    Contains-append_right (drops_of p hand.Chick ++ drops_of p hand.Elephant) (drops_of p hand.Giraffe)
-    (Put hand.Giraffe to) (drops_of_whole p hand.Giraffe to h)
+drops_whole profile p hand.Chick to h =
+    Contains-append_left (drops_of profile p hand.Chick ++ drops_of profile p hand.Elephant) (drops_of profile p hand.Giraffe) (Put hand.Chick to)
+    (Contains-append_left (drops_of profile p hand.Chick) (drops_of profile p hand.Elephant) (Put hand.Chick to) (drops_of_whole profile p hand.Chick to h))
+drops_whole profile p hand.Elephant to h =
+    Contains-append_left (drops_of profile p hand.Chick ++ drops_of profile p hand.Elephant) (drops_of profile p hand.Giraffe) (Put hand.Elephant to)
+    (Contains-append_right (drops_of profile p hand.Chick) (drops_of profile p hand.Elephant) (Put hand.Elephant to) (drops_of_whole profile p hand.Elephant to h))
+drops_whole profile p hand.Giraffe to h =
+    Contains-append_right (drops_of profile p hand.Chick ++ drops_of profile p hand.Elephant) (drops_of profile p hand.Giraffe)
+    (Put hand.Giraffe to) (drops_of_whole profile p hand.Giraffe to h)
 
 -- ---- what is found says of the position
 
@@ -298,14 +318,14 @@ is_first_catch p len m e = record {
   first = first_step_least p len m e;
 }
 
-pub no_move : (p : Setup) → length p.board ≡ 12 → first (all_steps Elsewhere p) ≡ None → first (all_drops p) ≡ None → (m : Move) → CanGo p m → ⊥
+pub no_move : (p : Setup) → length p.board ≡ 12 → first (all_steps Elsewhere p) ≡ None → first (all_drops A p) ≡ None → (m : Move) → CanGo p m → ⊥
 no_move p len steps drops (Step kind from to catch grows) h =
     first_none (all_steps Elsewhere p) steps (Step kind from to catch grows)
     (found_in_steps Elsewhere p kind from to (Step kind from to catch grows) len (go_found p kind from to catch grows h))
-no_move p len steps drops (Put kind to) h = first_none (all_drops p) drops (Put kind to) (drops_whole p kind to h)
+no_move p len steps drops (Put kind to) h = first_none (all_drops A p) drops (Put kind to) (drops_whole A p kind to h)
 
 pub step_goes : (p : Setup) (m : Move) → first (all_steps Elsewhere p) ≡ Some m → CanGo p m
 step_goes p m e = steps_sound Elsewhere p m (first_some (all_steps Elsewhere p) m e)
 
-pub drop_goes : (p : Setup) (m : Move) → first (all_drops p) ≡ Some m → CanGo p m
-drop_goes p m e = drops_sound p m (first_some (all_drops p) m e)
+pub drop_goes : (p : Setup) (m : Move) → first (all_drops A p) ≡ Some m → CanGo p m
+drop_goes p m e = drops_sound A p m (first_some (all_drops A p) m e)

@@ -1,5 +1,5 @@
 -- Optional moves as lists, and the first move of a list.
-use Rattle.std.proofs.Common.{◌≡◌, ℕ, suc, ◌≤◌, List, [], ◌∷◌, Option, Some, None, refl, sym, ap, subst, inl, inr, arith, option_to_list, Contains}
+use Rattle.std.proofs.Common.{◌<◌, ◌≡◌, ℕ, suc, ◌≤◌, List, [], ◌∷◌, Option, Some, None, refl, sym, ap, subst, inl, inr, arith, option_to_list, Contains}
 use Rattle.dob_pieces.proofs.Lists.{none_in_empty, head_in, cons_cases, Rising, rising-after}
 use Rattle.dob_moves.specs.declared.game_move.Move.{Move}
 use Rattle.dob_moves.specs.Moves.{place}
@@ -17,6 +17,21 @@ option_whole o m e = subst (λ (v : Option Move). Contains (option_to_list v) m)
 pub rising-option : (low : ℕ) (o : Option Move) → ((m : Move) → o ≡ Some m → place m ≡ low) → Rising place low (suc low) (option_to_list o)
 rising-option low None h = omega arith
 rising-option low (Some x) h = let e = h x refl in (omega (arith, e), omega (arith, e))
+
+-- ---- ascending lists
+
+rising-ends : (low high : ℕ) (ms : List Move) → Rising place low high ms → low ≤ high
+rising-ends low high [] r = r
+rising-ends low high (x ∷ ms) r = let end = rising-ends (suc (place x)) high ms r.1 in omega (arith, r.0, end)
+
+-- each stands below the end
+pub rising-below : (low high : ℕ) (ms : List Move) (m : Move) → Rising place low high ms → Contains ms m → place m < high
+rising-below low high [] m r h = absurd (none_in_empty m h)
+rising-below low high (x ∷ ms) m r h =
+    elim (cons_cases x ms m h) [
+      | inl it ↦ let p = ap place it in let end = rising-ends (suc (place x)) high ms r.1 in omega (arith, p, end)
+      | inr later ↦ rising-below (suc (place x)) high ms m r.1 later
+    ]
 
 -- ---- the first of a list
 

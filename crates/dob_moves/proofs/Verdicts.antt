@@ -3,6 +3,8 @@ use Rattle.std.proofs.Common.{refl, ◌≡◌, ◌≢◌, ◌+◌, List, [], ◌
 use Rattle.std.proofs.Common.{MatchOption, length, sym, ◌∙◌}
 use Rattle.std.specs.Bool.{IsTrue}
 use Rattle.std.specs.Option.{is_some}
+use Rattle.dob_pieces.specs.declared.profile.Profile.{Profile}
+use Rattle.dob_pieces.specs.declared.profile.Profile.TheVariants.{A}
 use Rattle.dob_pieces.specs.declared.setup.Setup.{Setup}
 use Rattle.dob_pieces.proofs.Lists.{none_in_empty, rising-append, rising-pairs}
 use Rattle.dob_moves.specs.declared.game_move.Move.{Move}
@@ -11,11 +13,12 @@ use Rattle.dob_moves.specs.declared.game_move.Move.TheVariants.{Step, Put}
 use Rattle.dob_moves.specs.declared.position_status.Status.{Status}
 use Rattle.dob_moves.specs.declared.position_status.Status.TheVariants.{Caught, Tried, Stuck, Open}
 use Rattle.std.proofs.lemmas.List.Elements.{Contains-append_left, Contains-append_right, Contains-append_cases}
-use Rattle.dob_moves.specs.Moves.{CanGo, place, first_drop}
-use Rattle.dob_moves.specs.Statuses.{CanCatch, HasStatus, AreMoves, IsFirstCatch}
+use Rattle.dob_moves.specs.Moves.{CanGo, CanGoIn, place, first_drop}
+use Rattle.dob_moves.specs.Statuses.{CanCatch, HasStatusIn, AreMovesIn, IsFirstCatch}
 use Rattle.dob_moves.specs.Walks.{first, all_steps, all_drops}
+use Rattle.dob_moves.proofs.ByProfile.{can_go}
 use Rattle.dob_moves.proofs.Firsts.{none_from}
-use Rattle.dob_moves.proofs.Reach.{steps_sound, steps_rising, found_in_steps, drops_sound, drops_rising, drops_whole, go_found, no_catch}
+use Rattle.dob_moves.proofs.Reach.{steps_go, steps_rising, found_in_steps, drops_sound, drops_rising, drops_whole, go_found, no_catch}
 use Rattle.dob_moves.proofs.Reach.{is_first_catch, no_move, step_goes, drop_goes}
 
 pub catch_answer : (p : Setup) (o : Option Move) → length p.board ≡ 12 → o ≡ first (all_steps AtLion p) → MatchOption o (¬ CanCatch p) (λ m. IsFirstCatch p m)
@@ -28,54 +31,54 @@ step_answer p b None e h t = cc
 step_answer p b (Some m) e h t = (λ _. (m, step_goes p m (sym e)), λ _. t)
 
 pub drop_answer : (p : Setup) (b : Bool) (o drop : Option Move) → length p.board ≡ 12 → o ≡ first (all_steps Elsewhere p) → is_some o ≡ false
-    → drop ≡ first (all_drops p) → b ≡ is_some drop → (IsTrue b → (move : Move) × CanGo p move) × (((move : Move) × CanGo p move) → IsTrue b)
+    → drop ≡ first (all_drops A p) → b ≡ is_some drop → (IsTrue b → (move : Move) × CanGo p move) × (((move : Move) × CanGo p move) → IsTrue b)
 drop_answer p b o None len e h d t =
     (λ (yes : IsTrue b). cc, λ (w : (move : Move) × CanGo p move). absurd (no_move p len (sym e ∙ none_from o h) (sym d) w.0 w.1))
 drop_answer p b o (Some m) len e h d t = (λ _. (m, drop_goes p m (sym d)), λ _. t)
 
 -- ---- the list of the moves
 
-move_listed : (p : Setup) → length p.board ≡ 12 → (m : Move) → CanGo p m → Contains (all_steps Elsewhere p ++ all_drops p) m
-move_listed p len (Step kind from to catch grows) h =
-    Contains-append_left (all_steps Elsewhere p) (all_drops p) (Step kind from to catch grows)
-    (found_in_steps Elsewhere p kind from to (Step kind from to catch grows) len (go_found p kind from to catch grows h))
-move_listed p len (Put kind to) h =
-    Contains-append_right (all_steps Elsewhere p) (all_drops p) (Put kind to) (drops_whole p kind to h)
+move_listed : (profile : Profile) (p : Setup) → length p.board ≡ 12 → (m : Move) → CanGoIn profile p m → Contains (all_steps Elsewhere p ++ all_drops profile p) m
+move_listed profile p len (Step kind from to catch grows) h =
+    Contains-append_left (all_steps Elsewhere p) (all_drops profile p) (Step kind from to catch grows)
+    (found_in_steps Elsewhere p kind from to (Step kind from to catch grows) len (go_found p kind from to catch grows (can_go profile p (Step kind from to catch grows) h)))
+move_listed profile p len (Put kind to) h =
+    Contains-append_right (all_steps Elsewhere p) (all_drops profile p) (Put kind to) (drops_whole profile p kind to h)
 
-listed_goes : (p : Setup) (m : Move) → Contains (all_steps Elsewhere p ++ all_drops p) m → CanGo p m
-listed_goes p m h =
-    elim (Contains-append_cases (all_steps Elsewhere p) (all_drops p) m h) [
-      | inl step ↦ steps_sound Elsewhere p m step
-      | inr drop ↦ drops_sound p m drop
+pub listed_goes : (profile : Profile) (p : Setup) (m : Move) → Contains (all_steps Elsewhere p ++ all_drops profile p) m → CanGoIn profile p m
+listed_goes profile p m h =
+    elim (Contains-append_cases (all_steps Elsewhere p) (all_drops profile p) m h) [
+      | inl step ↦ steps_go profile p m step
+      | inr drop ↦ drops_sound profile p m drop
     ]
 
-open_moves : (p : Setup) → length p.board ≡ 12 → HasStatus p Open → AreMoves p (all_steps Elsewhere p ++ all_drops p)
-open_moves p len h = record {
-  sound = λ m here. (h, listed_goes p m here);
-  whole = λ m is_open goes. move_listed p len m goes;
-  ordered = rising-pairs place 0 (first_drop + 36) (all_steps Elsewhere p ++ all_drops p)
-      (rising-append place 0 first_drop (first_drop + 36) (all_steps Elsewhere p) (all_drops p) (steps_rising Elsewhere p) (drops_rising p));
+open_moves : (profile : Profile) (p : Setup) → length p.board ≡ 12 → HasStatusIn profile p Open → AreMovesIn profile p (all_steps Elsewhere p ++ all_drops profile p)
+open_moves profile p len h = record {
+  sound = λ m here. (h, listed_goes profile p m here);
+  whole = λ m is_open goes. move_listed profile p len m goes;
+  ordered = rising-pairs place 0 (first_drop + 36) (all_steps Elsewhere p ++ all_drops profile p)
+      (rising-append place 0 first_drop (first_drop + 36) (all_steps Elsewhere p) (all_drops profile p) (steps_rising Elsewhere p) (drops_rising profile p));
 }
 
 -- the steps and then the drops are the moves of an open position
-pub open_answer : (p : Setup) → length p.board ≡ 12 → HasStatus p Open → (none steps all : List Move) → none ≡ []
-    → steps ≡ none ++ all_steps Elsewhere p → all ≡ steps ++ all_drops p → AreMoves p all
-open_answer p len h none steps all e f g =
-    let same : all ≡ all_steps Elsewhere p ++ all_drops p = rw (g, f, e) refl in
-    subst (λ (ms : List Move). AreMoves p ms) (sym same) (open_moves p len h)
+pub open_answer : (profile : Profile) (p : Setup) → length p.board ≡ 12 → HasStatusIn profile p Open → (none steps all : List Move) → none ≡ []
+    → steps ≡ none ++ all_steps Elsewhere p → all ≡ steps ++ all_drops profile p → AreMovesIn profile p all
+open_answer profile p len h none steps all e f g =
+    let same : all ≡ all_steps Elsewhere p ++ all_drops profile p = rw (g, f, e) refl in
+    subst (λ (ms : List Move). AreMovesIn profile p ms) (sym same) (open_moves profile p len h)
 
-not_open : (p : Setup) (s : Status) → HasStatus p s → s ≢ Open → HasStatus p Open → ⊥
-not_open p Caught h n o = o.0 h
-not_open p Tried h n o = o.1 h.1
-not_open p Stuck h n o = h.2 o.2.0 o.2.1
-not_open p Open h n o = n refl
+not_open : (profile : Profile) (p : Setup) (s : Status) → HasStatusIn profile p s → s ≢ Open → HasStatusIn profile p Open → ⊥
+not_open profile p Caught h n o = o.0 h
+not_open profile p Tried h n o = o.1 h.1
+not_open profile p Stuck h n o = h.2 o.2.0 o.2.1
+not_open profile p Open h n o = n refl
 
 -- no other position has moves
-pub other_answer : (p : Setup) (s : Status) → HasStatus p s → s ≢ Open → (none : List Move) → none ≡ [] → AreMoves p none
-other_answer p s h n none e =
-    subst (λ (ms : List Move). AreMoves p ms) (sym e)
+pub other_answer : (profile : Profile) (p : Setup) (s : Status) → HasStatusIn profile p s → s ≢ Open → (none : List Move) → none ≡ [] → AreMovesIn profile p none
+other_answer profile p s h n none e =
+    subst (λ (ms : List Move). AreMovesIn profile p ms) (sym e)
     (record {
       sound = λ m here. absurd (none_in_empty m here);
-      whole = λ m is_open goes. absurd (not_open p s h n is_open);
+      whole = λ m is_open goes. absurd (not_open profile p s h n is_open);
       ordered = rising-pairs place 0 0 [] (omega arith);
     })

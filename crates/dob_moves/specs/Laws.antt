@@ -1,21 +1,32 @@
 -- Laws of the rules, of which `src/laws.rt` has one function each.
-use Rattle.std.specs.Prelude.{◌≡◌, ℕ, Bool}
+use Rattle.std.specs.Prelude.{◌≡◌, ◌↔◌, ℕ, Bool}
 use Rattle.dob_pieces.specs.declared.kind.Kind.{Kind}
 use Rattle.dob_pieces.specs.declared.kind.HandKind.{HandKind}
+use Rattle.dob_pieces.specs.declared.profile.Profile.{Profile}
 use Rattle.dob_pieces.specs.declared.setup.Setup.{Setup}
+use Rattle.dob_pieces.specs.Profiles.{IsAllowed}
 use Rattle.dob_pieces.specs.Setups.{IsLegal, total, mirrored}
 use Rattle.dob_moves.specs.declared.game_move.Move.{Move}
 use Rattle.dob_moves.specs.declared.game_move.Move.TheVariants.{Step}
 use Rattle.dob_moves.specs.declared.position_status.Status.{Status}
 use Rattle.dob_moves.specs.declared.position_status.Status.TheVariants.{Open}
-use Rattle.dob_moves.specs.Moves.{Goes, CanGo, CatchesLion}
-use Rattle.dob_moves.specs.Statuses.{HasStatus, AreMoves}
-use Rattle.dob_moves.specs.MoveLists.{moves_of}
+use Rattle.dob_moves.specs.Moves.{Goes, GoesIn, CanGo, CatchesLion}
+use Rattle.dob_moves.specs.Statuses.{HasStatus, HasStatusIn, AreMovesIn}
+use Rattle.dob_moves.specs.MoveLists.{moves_of_in}
 use Rattle.dob_moves.specs.Mirrors.{mirrored_move}
 
 -- every outcome of a move of an open position is a position
 abbrev pub OutcomesAreLegal : Type 0
 OutcomesAreLegal = (p : Setup) (move : Move) (q : Setup) → IsLegal p → HasStatus p Open → Goes p move q → IsLegal q
+
+-- every outcome of a move by a profile's rules is allowed by it, where the position is
+abbrev pub OutcomesAreAllowed : Type 0
+OutcomesAreAllowed = (profile : Profile) (p : Setup) (move : Move) (q : Setup)
+    → IsLegal p → IsAllowed profile p → GoesIn profile p move q → IsAllowed profile q
+
+-- a position has the same status by the rules of each profile
+abbrev pub ProfilesShareStatuses : Type 0
+ProfilesShareStatuses = (profile : Profile) (p : Setup) (s : Status) → IsLegal p → HasStatus p s ↔ HasStatusIn profile p s
 
 -- no move changes how many pieces of a kind there are
 abbrev pub OutcomesKeepPieces : Type 0
@@ -50,4 +61,4 @@ LionsAreNotTaken = (p : Setup) (move : Move) → CatchesLion p move → ¬ CanGo
 
 -- the list that computes has just the moves
 abbrev pub ListsHaveMoves : Type 0
-ListsHaveMoves = (p : Setup) → IsLegal p → AreMoves p (moves_of p)
+ListsHaveMoves = (profile : Profile) (p : Setup) → IsLegal p → AreMovesIn profile p (moves_of_in profile p)

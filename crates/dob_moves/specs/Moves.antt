@@ -6,9 +6,12 @@ use Rattle.dob_pieces.specs.declared.kind.HandKind.{HandKind}
 use Rattle.dob_pieces.specs.declared.kind.HandKind.TheVariants as hand
 use Rattle.dob_pieces.specs.declared.kind.Side.TheVariants.{Mover, Enemy}
 use Rattle.dob_pieces.specs.declared.hand.Hands.{Hands}
+use Rattle.dob_pieces.specs.declared.profile.Profile.{Profile}
+use Rattle.dob_pieces.specs.declared.profile.Profile.TheVariants.{A, B}
 use Rattle.dob_pieces.specs.declared.setup.Setup.{Setup}
 use Rattle.dob_pieces.specs.Squares.{row}
 use Rattle.dob_pieces.specs.Pieces.{leads, kind_in_hand, kind_on_board}
+use Rattle.dob_pieces.specs.Profiles.{may_stand}
 use Rattle.dob_pieces.specs.Setups.{at, held, with_one_more, with_one_less, piece_of, turned}
 use Rattle.dob_moves.specs.declared.game_move.Move.{Move}
 use Rattle.dob_moves.specs.declared.game_move.Move.TheVariants.{Step, Put}
@@ -62,9 +65,26 @@ Goes p (Step kind from to true true) q =
 -- a drop
 Goes p (Put kind to) q = Drops p kind to q
 
+-- a profile lets a piece from the hand stand on the square
+abbrev pub may_put : Profile → HandKind → ℕ → Bool
+may_put profile kind to = may_stand profile to (Some (piece_of Mover (kind_on_board kind)))
+
+-- and so a drop be made; it forbids no step, since a chick grows on its far row
+abbrev pub may_go : Profile → Move → Bool
+may_go profile (Step kind from to catch grows) = true
+may_go profile (Put kind to) = may_put profile kind to
+
+-- From p the move goes to q by the rules of the profile; all moves are those of profile A.
+abbrev pub GoesIn : Profile → Setup → Move → Setup → Type 0
+GoesIn A p move q = Goes p move q
+GoesIn B p move q = Goes p move q × (may_go B move ≡ true)
+
 -- some outcome follows from the move
+abbrev pub CanGoIn : Profile → Setup → Move → Type 0
+CanGoIn profile p move = (q : Setup) × GoesIn profile p move q
+
 abbrev pub CanGo : Setup → Move → Type 0
-CanGo p move = (q : Setup) × Goes p move q
+CanGo = CanGoIn A
 
 -- a step of the mover that ends on the enemy lion
 abbrev pub CatchesLion : Setup → Move → Type 0

@@ -7,6 +7,7 @@ use Rattle.dob_pieces.specs.declared.kind.HandKind.{HandKind}
 use Rattle.dob_pieces.specs.declared.kind.HandKind.TheVariants as hand
 use Rattle.dob_pieces.specs.declared.kind.Side.{Side}
 use Rattle.dob_pieces.specs.declared.kind.Side.TheVariants.{Mover, Enemy}
+use Rattle.dob_pieces.specs.declared.profile.Profile.{Profile}
 use Rattle.dob_pieces.specs.declared.setup.Setup.{Setup}
 use Rattle.dob_pieces.specs.Lists.{each_below}
 use Rattle.dob_pieces.specs.Pieces.{is_lion, steps_of, square_after}
@@ -15,7 +16,7 @@ use Rattle.dob_moves.specs.declared.game_move.Move.{Move}
 use Rattle.dob_moves.specs.declared.game_move.Move.TheVariants.{Step, Put}
 use Rattle.dob_moves.specs.declared.first_moves.Aim.{Aim}
 use Rattle.dob_moves.specs.declared.first_moves.Aim.TheVariants.{AtLion, Elsewhere}
-use Rattle.dob_moves.specs.Moves.{grows_at}
+use Rattle.dob_moves.specs.Moves.{grows_at, may_put}
 
 -- the first of the moves, if there is one
 abbrev pub first : List Move → Option Move
@@ -75,14 +76,14 @@ abbrev pub put_if : Cell → HandKind → ℕ → Option Move
 put_if None kind to = Some (Put kind to)
 put_if (Some piece) kind to = None
 
--- the drop of that kind on that square, if it is empty
-abbrev pub put_on : Setup → HandKind → ℕ → Option Move
-put_on p kind to = put_if (at p to) kind to
+-- the drop of that kind on that square, if it is empty and the profile lets it be made
+abbrev pub put_on : Profile → Setup → HandKind → ℕ → Option Move
+put_on profile p kind to = cond (may_put profile kind to) (put_if (at p to) kind to) None
 
 -- the drops of that kind
-unfoldable pub drops_of : Setup → HandKind → List Move
-drops_of p kind = cond (nat_lt 0 (held p.hands.mover kind)) (each_below (λ to. option_to_list (put_on p kind to)) 12) []
+unfoldable pub drops_of : Profile → Setup → HandKind → List Move
+drops_of profile p kind = cond (nat_lt 0 (held p.hands.mover kind)) (each_below (λ to. option_to_list (put_on profile p kind to)) 12) []
 
 -- all drops
-unfoldable pub all_drops : Setup → List Move
-all_drops p = drops_of p hand.Chick ++ drops_of p hand.Elephant ++ drops_of p hand.Giraffe
+unfoldable pub all_drops : Profile → Setup → List Move
+all_drops profile p = drops_of profile p hand.Chick ++ drops_of profile p hand.Elephant ++ drops_of profile p hand.Giraffe

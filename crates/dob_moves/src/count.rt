@@ -2,14 +2,15 @@
 ghost use Rattle.std.specs.Prelude.{◌≡◌, ◌≤◌, ◌*◌, length};
 ghost use Rattle.dob_pieces.specs.Masks.{AreMasks};
 ghost use Rattle.dob_moves.specs.Walks.{steps_by, steps_from, all_steps, drops_of, all_drops};
-ghost use Rattle.dob_moves.specs.MoveLists.{moves_of};
-ghost use Rattle.dob_moves.specs.Statuses.{HasStatus};
+ghost use Rattle.dob_moves.specs.MoveLists.{moves_of, moves_of_in};
+ghost use Rattle.dob_moves.specs.Statuses.{HasStatus, HasStatusIn};
 ghost use Rattle.dob_moves.specs.declared.first_moves.Aim.TheVariants.{Elsewhere};
 
+use crate::droppable::squares_for;
 use crate::first_moves::own_kind;
 use crate::position_status::Status;
 use crate::status_of::status_by;
-use dob_pieces::{HandKind, Kind, Masks, Position, Setup, Square, lowest_square, without_square};
+use dob_pieces::{HandKind, Kind, Masks, Position, Profile, Setup, Square, lowest_square, without_square};
 
 /// The number of steps of a piece of that kind on that square, other than onto the enemy lion.
 fn count_steps_by(setup: &Setup, masks: &Masks, kind: Kind, from: Square) -> u8
@@ -50,52 +51,63 @@ fn count_steps(setup: &Setup, masks: &Masks) -> u8
 }
 
 /// The number of drops of that kind.
-fn count_drops_of(setup: &Setup, masks: &Masks, kind: HandKind) -> u8
+fn count_drops_of(profile: Profile, setup: &Setup, masks: &Masks, kind: HandKind) -> u8
     requires { AreMasks setup.now masks.now }
-    ensures number { result ≡ length (drops_of setup.now kind) }
+    ensures number { result ≡ length (drops_of profile setup.now kind) }
     ensures few { result ≤ 12 }
 {
     if setup.hands.mover.count(kind) == 0 {
         return 0;
     }
-    masks.empty.count_ones() as u8
+    (masks.empty & squares_for(profile, kind)).count_ones() as u8
 }
 
 /// The number of drops.
 #[tactic(auto, using(crate::proofs::MoveCounts::counts), unfolding(crate::specs::Walks::all_drops))]
-fn count_drops(setup: &Setup, masks: &Masks) -> u8
+fn count_drops(profile: Profile, setup: &Setup, masks: &Masks) -> u8
     requires { AreMasks setup.now masks.now }
-    ensures number { result ≡ length (all_drops setup.now) }
+    ensures number { result ≡ length (all_drops profile setup.now) }
     ensures few { result ≤ 36 }
 {
-    count_drops_of(setup, masks, HandKind::Chick)
-        + count_drops_of(setup, masks, HandKind::Elephant)
-        + count_drops_of(setup, masks, HandKind::Giraffe)
+    count_drops_of(profile, setup, masks, HandKind::Chick)
+        + count_drops_of(profile, setup, masks, HandKind::Elephant)
+        + count_drops_of(profile, setup, masks, HandKind::Giraffe)
 }
 
 /// The number of moves of a position of that status.
-fn count_at(position: &Position, masks: &Masks, status: Status) -> u8
+fn count_at(profile: Profile, position: &Position, masks: &Masks, status: Status) -> u8
     requires masks { AreMasks position.now.setup masks.now }
-    requires status { HasStatus position.now.setup status }
-    ensures { result ≡ length (moves_of position.now.setup) }
+    requires status { HasStatusIn profile position.now.setup status }
+    ensures { result ≡ length (moves_of_in profile position.now.setup) }
 {
     match status {
-        Status::Open => count_steps(&position.setup, masks) + count_drops(&position.setup, masks),
+        Status::Open => {
+            count_steps(&position.setup, masks) + count_drops(profile, &position.setup, masks)
+        }
         _ => 0,
     }
 }
 
-/// The status of the position, and the number of its moves, as many as `moves` lists: 0 where it isn't open.
+/// The status of the position, and the number of its moves by the rules of the profile, as many as `moves_in` lists: 0 where
+/// it isn't open.
+pub fn status_and_count_in(profile: Profile, position: &Position) -> (Status, u8)
+    ensures status { HasStatusIn profile position.now.setup result.0 }
+    ensures count { result.1 ≡ length (moves_of_in profile position.now.setup) }
+{
+    let masks = Masks::of(&position.setup);
+    let status = status_by(position, &masks);
+    (status, count_at(profile, position, &masks, status))
+}
+
+/// The same by the rules of profile A.
 pub fn status_and_count(position: &Position) -> (Status, u8)
     ensures status { HasStatus position.now.setup result.0 }
     ensures count { result.1 ≡ length (moves_of position.now.setup) }
 {
-    let masks = Masks::of(&position.setup);
-    let status = status_by(position, &masks);
-    (status, count_at(position, &masks, status))
+    status_and_count_in(Profile::A, position)
 }
 
-/// The number of moves of the position, as many as `moves` lists: 0 where it isn't open.
+/// The number of moves of the position by the rules of profile A, as many as `moves` lists: 0 where it isn't open.
 pub fn count_moves(position: &Position) -> u8
     ensures { result ≡ length (moves_of position.now.setup) }
 {

@@ -1,5 +1,6 @@
 // The search for the first step or drop, in the move order.
 ghost use Rattle.std.specs.Prelude.{◌≡◌};
+ghost use Rattle.dob_pieces.specs.declared.profile.Profile.TheVariants as Profile;
 ghost use Rattle.dob_moves.specs.Moves.{grows_at};
 ghost use Rattle.dob_moves.specs.Walks.{first, own_kind, may_end, step_onto, step_by, steps_by, steps_from, all_steps, put_on, drops_of, all_drops};
 
@@ -117,9 +118,9 @@ pub(crate) fn first_step(setup: &Setup, aim: Aim) -> Option<Move>
     None
 }
 
-/// The drop of that kind on that square, if nothing stands there.
+/// The drop of that kind on that square by the rules of profile A, if nothing stands there.
 pub(crate) fn put_on(setup: &Setup, kind: HandKind, to: Square) -> Option<Move>
-    ensures { result ≡ put_on setup.now kind to }
+    ensures { result ≡ put_on Profile.A setup.now kind to }
 {
     match setup.at(to) {
         Some(_) => None,
@@ -130,7 +131,7 @@ pub(crate) fn put_on(setup: &Setup, kind: HandKind, to: Square) -> Option<Move>
 /// The first drop of a piece of that kind.
 #[tactic(auto, using(crate::proofs::Firsts::firsts), unfolding(crate::specs::Walks::drops_of))]
 fn first_drop_of(setup: &Setup, kind: HandKind) -> Option<Move>
-    ensures { result ≡ first (drops_of setup.now kind) }
+    ensures { result ≡ first (drops_of Profile.A setup.now kind) }
 {
     if setup.hands.mover.count(kind) == 0 {
         return None;
@@ -147,7 +148,7 @@ fn first_drop_of(setup: &Setup, kind: HandKind) -> Option<Move>
 /// The first drop.
 #[tactic(auto, using(crate::proofs::Firsts::firsts), unfolding(crate::specs::Walks::all_drops))]
 pub(crate) fn first_drop(setup: &Setup) -> Option<Move>
-    ensures { result ≡ first (all_drops setup.now) }
+    ensures { result ≡ first (all_drops Profile.A setup.now) }
 {
     let chick = first_drop_of(setup, HandKind::Chick);
     if chick.is_some() {

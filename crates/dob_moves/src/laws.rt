@@ -2,10 +2,21 @@
 // the function may use the law. They do nothing when they run.
 ghost use Rattle.dob_moves.specs.Laws.{OutcomesAreLegal, OutcomesKeepPieces, MovesHaveOneOutcome, StatusesExclude, StatusesMirror};
 ghost use Rattle.dob_moves.specs.Laws.{OutcomesMirror, StepsExclude, LionsAreNotTaken, ListsHaveMoves};
+ghost use Rattle.dob_moves.specs.Laws.{OutcomesAreAllowed, ProfilesShareStatuses};
 
 /// Every outcome of a move of an open position is a position.
 pub fn outcomes_are_legal()
     ensures { OutcomesAreLegal }
+{}
+
+/// Every outcome of a move by the rules of a profile is a position of that profile, where the position before is one.
+pub fn outcomes_are_allowed()
+    ensures { OutcomesAreAllowed }
+{}
+
+/// A position has the same status by the rules of each profile: where profile B forbids a drop, there is another one.
+pub fn profiles_share_statuses()
+    ensures { ProfilesShareStatuses }
 {}
 
 /// No move changes the piece set: of each kind there are as many pieces as before, board and hands together.
@@ -44,8 +55,8 @@ pub fn lions_are_not_taken()
     ensures { LionsAreNotTaken }
 {}
 
-/// The list of moves that definitions compute has each move of an open position, once, in the move order, and none of
-/// any other position.
+/// The list of moves that definitions compute has each move of an open position by the rules of a profile, once, in the
+/// move order, and none of any other position.
 pub fn lists_have_moves()
     ensures { ListsHaveMoves }
 {}

@@ -1,16 +1,18 @@
 // The list of a position's moves: the squares that masks tell, from the lowest on, which is the move order.
 ghost use Rattle.std.specs.Prelude.{◌≡◌, [], ◌++◌, IfOk, OnOk, OnErr};
 ghost use Rattle.dob_pieces.specs.Masks.{AreMasks};
-ghost use Rattle.dob_moves.specs.Statuses.{HasStatus, AreMoves};
+ghost use Rattle.dob_moves.specs.Statuses.{HasStatus, HasStatusIn, AreMoves, AreMovesIn};
 ghost use Rattle.dob_moves.specs.Walks.{steps_by, steps_from, all_steps, drops_of, all_drops};
 ghost use Rattle.dob_moves.specs.declared.first_moves.Aim.TheVariants.{Elsewhere};
 
+use crate::droppable::squares_for;
 use crate::first_moves::{grows_at, own_kind};
 use crate::game_move::Move;
 use crate::position_status::Status;
 use crate::status_of::status_by;
 use dob_pieces::{
-    HandKind, Kind, Masks, Memory, Position, Setup, Square, lowest_square, without_square,
+    HandKind, Kind, Masks, Memory, Position, Profile, Setup, Square, lowest_square,
+    without_square,
 };
 use std::alloc::Global;
 
@@ -78,17 +80,18 @@ fn push_steps(moves: &mut Vec<Move>, setup: &Setup, masks: &Masks) -> Result<(),
 /// Appends the drops of that kind.
 fn push_drops_of(
     moves: &mut Vec<Move>,
+    profile: Profile,
     setup: &Setup,
     masks: &Masks,
     kind: HandKind,
 ) -> Result<(), Memory>
     requires { AreMasks setup.now masks.now }
-    ensures { OnOk result (moves.new.items ≡ moves.old.items ++ drops_of setup.now kind) }
+    ensures { OnOk result (moves.new.items ≡ moves.old.items ++ drops_of profile setup.now kind) }
 {
     if setup.hands.mover.count(kind) == 0 {
         return Ok(());
     }
-    let mut left = masks.empty;
+    let mut left = masks.empty & squares_for(profile, kind);
     while left != 0 {
         let to = lowest_square(left);
         moves.push(Move::Put { kind, to })?;
@@ -99,27 +102,37 @@ fn push_drops_of(
 
 /// Appends the drops.
 #[tactic(auto, using(crate::proofs::Appends::appends), unfolding(crate::specs::Walks::all_drops))]
-fn push_drops(moves: &mut Vec<Move>, setup: &Setup, masks: &Masks) -> Result<(), Memory>
+fn push_drops(
+    moves: &mut Vec<Move>,
+    profile: Profile,
+    setup: &Setup,
+    masks: &Masks,
+) -> Result<(), Memory>
     requires { AreMasks setup.now masks.now }
-    ensures { OnOk result (moves.new.items ≡ moves.old.items ++ all_drops setup.now) }
+    ensures { OnOk result (moves.new.items ≡ moves.old.items ++ all_drops profile setup.now) }
 {
-    push_drops_of(moves, setup, masks, HandKind::Chick)?;
-    push_drops_of(moves, setup, masks, HandKind::Elephant)?;
-    push_drops_of(moves, setup, masks, HandKind::Giraffe)
+    push_drops_of(moves, profile, setup, masks, HandKind::Chick)?;
+    push_drops_of(moves, profile, setup, masks, HandKind::Elephant)?;
+    push_drops_of(moves, profile, setup, masks, HandKind::Giraffe)
 }
 
-/// Clears the list, writes the moves of an open position into it, each once, in the move order, and no moves of any
-/// other position, and gives the position's status. Fails where memory runs out, and leaves the list empty then.
-pub fn moves_into(moves: &mut Vec<Move>, position: &Position) -> Result<Status, Memory>
-    ensures moves { OnOk result (AreMoves position.now.setup moves.new.items) }
-    ensures status { IfOk result (λ s. HasStatus position.now.setup s) }
+/// Clears the list, writes the moves of an open position by the rules of the profile into it, each once, in the move order,
+/// and no moves of any other position, and gives the position's status. Fails where memory runs out, and leaves the list
+/// empty then.
+pub fn moves_into_in(
+    profile: Profile,
+    moves: &mut Vec<Move>,
+    position: &Position,
+) -> Result<Status, Memory>
+    ensures moves { OnOk result (AreMovesIn profile position.now.setup moves.new.items) }
+    ensures status { IfOk result (λ s. HasStatusIn profile position.now.setup s) }
     ensures memory { OnErr result (moves.new.items ≡ []) }
 {
     moves.clear();
     let masks = Masks::of(&position.setup);
     match status_by(position, &masks) {
         Status::Open => {
-            let Ok(()) = push_moves(moves, &position.setup, &masks) else {
+            let Ok(()) = push_moves(moves, profile, &position.setup, &masks) else {
                 moves.clear();
                 return Err(Memory);
             };
@@ -129,22 +142,44 @@ pub fn moves_into(moves: &mut Vec<Move>, position: &Position) -> Result<Status, 
     }
 }
 
+/// The same by the rules of profile A.
+pub fn moves_into(moves: &mut Vec<Move>, position: &Position) -> Result<Status, Memory>
+    ensures moves { OnOk result (AreMoves position.now.setup moves.new.items) }
+    ensures status { IfOk result (λ s. HasStatus position.now.setup s) }
+    ensures memory { OnErr result (moves.new.items ≡ []) }
+{
+    moves_into_in(Profile::A, moves, position)
+}
+
 /// Appends the steps and drops.
-fn push_moves(moves: &mut Vec<Move>, setup: &Setup, masks: &Masks) -> Result<(), Memory>
+fn push_moves(
+    moves: &mut Vec<Move>,
+    profile: Profile,
+    setup: &Setup,
+    masks: &Masks,
+) -> Result<(), Memory>
     requires { AreMasks setup.now masks.now }
-    ensures { OnOk result (moves.new.items ≡ moves.old.items ++ (all_steps Elsewhere setup.now ++ all_drops setup.now)) }
+    ensures { OnOk result (moves.new.items ≡ moves.old.items
+        ++ (all_steps Elsewhere setup.now ++ all_drops profile setup.now)) }
 {
     moves.reserve(ROOM)?;
     push_steps(moves, setup, masks)?;
-    push_drops(moves, setup, masks)
+    push_drops(moves, profile, setup, masks)
 }
 
-/// The moves of an open position, each once, in the move order; no moves of any other position. Fails where memory
-/// runs out.
+/// The moves of an open position by the rules of the profile, each once, in the move order; no moves of any other position.
+/// Fails where memory runs out.
+pub fn moves_in(alloc: Global, profile: Profile, position: &Position) -> Result<Vec<Move>, Memory>
+    ensures { IfOk result (λ v. AreMovesIn profile position.now.setup v.items) }
+{
+    let mut moves = Vec::new(alloc);
+    moves_into_in(profile, &mut moves, position)?;
+    Ok(moves)
+}
+
+/// The same by the rules of profile A.
 pub fn moves(alloc: Global, position: &Position) -> Result<Vec<Move>, Memory>
     ensures { IfOk result (λ v. AreMoves position.now.setup v.items) }
 {
-    let mut moves = Vec::new(alloc);
-    moves_into(&mut moves, position)?;
-    Ok(moves)
+    moves_in(alloc, Profile::A, position)
 }

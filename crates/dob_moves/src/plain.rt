@@ -1,6 +1,7 @@
 // The plain program of the rules, square by square as the definitions go. It is for comparisons with the bodies that go by
 // masks, which a test and a measurement make; nothing else calls it.
 ghost use Rattle.std.specs.Prelude.{◌↔◌, ◌≡◌, ◌++◌, IfOk, OnOk, IsTrue, MatchOption, option_to_list};
+ghost use Rattle.dob_pieces.specs.declared.profile.Profile.TheVariants as Profile;
 ghost use Rattle.dob_pieces.specs.Setups.{at, piece_of};
 ghost use Rattle.dob_moves.specs.Statuses.{AreMoves, CanCatch, HasTried, HasStatus, IsFirstCatch};
 ghost use Rattle.dob_moves.specs.Walks.{steps_by, steps_from, all_steps, put_on, drops_of, all_drops};
@@ -109,7 +110,7 @@ fn push_steps(moves: &mut Vec<Move>, setup: &Setup) -> Result<(), Memory>
 /// Appends the drops of that kind.
 #[tactic(auto, using(crate::proofs::PlainLists::appends), unfolding(crate::specs::Walks::drops_of))]
 fn push_drops_of(moves: &mut Vec<Move>, setup: &Setup, kind: HandKind) -> Result<(), Memory>
-    ensures { OnOk result (moves.new.items ≡ moves.old.items ++ drops_of setup.now kind) }
+    ensures { OnOk result (moves.new.items ≡ moves.old.items ++ drops_of Profile.A setup.now kind) }
 {
     if setup.hands.mover.count(kind) == 0 {
         return Ok(());
@@ -124,7 +125,7 @@ fn push_drops_of(moves: &mut Vec<Move>, setup: &Setup, kind: HandKind) -> Result
 /// Appends the drops.
 #[tactic(auto, using(crate::proofs::PlainLists::appends), unfolding(crate::specs::Walks::all_drops))]
 fn push_drops(moves: &mut Vec<Move>, setup: &Setup) -> Result<(), Memory>
-    ensures { OnOk result (moves.new.items ≡ moves.old.items ++ all_drops setup.now) }
+    ensures { OnOk result (moves.new.items ≡ moves.old.items ++ all_drops Profile.A setup.now) }
 {
     push_drops_of(moves, setup, HandKind::Chick)?;
     push_drops_of(moves, setup, HandKind::Elephant)?;

@@ -1,15 +1,21 @@
 -- A setup is allowed by a profile where each of its squares is, and so is its mirror image.
-use Rattle.std.proofs.Common.{◌≡◌, ℕ, zero, suc, ◌+◌, ◌<◌, Bool, true, ◌&&◌, not, List, [], ◌∷◌, Some, None, length, slice_index_or}
+use Rattle.std.proofs.Common.{◌≡◌, ℕ, zero, suc, ◌+◌, ◌-◌, ◌<◌, ◌==◌, Bool, true, false, ◌&&◌, not, List, [], ◌∷◌, Some, None, length, slice_index_or}
 use Rattle.std.proofs.Common.{refl, sym, ap, ◌∙◌, arith, eqb}
 use Rattle.std.proofs.lemmas.Bool.{and_parts, eqb-true}
+use mathlib.Core.Bool.{beq}
+use Rattle.dob_pieces.specs.declared.kind.Kind.{Kind}
+use Rattle.dob_pieces.specs.declared.kind.Kind.TheVariants.{Lion, Giraffe, Elephant, Chick, Hen}
+use Rattle.dob_pieces.specs.declared.kind.Side.{Side}
+use Rattle.dob_pieces.specs.declared.kind.Side.TheVariants.{Mover, Enemy}
 use Rattle.dob_pieces.specs.declared.profile.Profile.{Profile}
 use Rattle.dob_pieces.specs.declared.profile.Profile.TheVariants.{A, B}
 use Rattle.dob_pieces.specs.declared.setup.Setup.{Setup}
-use Rattle.dob_pieces.specs.Squares.{row, mirrored_square}
-use Rattle.dob_pieces.specs.Setups.{Cell, at, mirrored}
+use Rattle.dob_pieces.specs.Pieces.{other_side}
+use Rattle.dob_pieces.specs.Squares.{row, turned_square, mirrored_square}
+use Rattle.dob_pieces.specs.Setups.{Cell, at, turned_cell, turned, mirrored}
 use Rattle.dob_pieces.specs.Profiles.{is_far, may_stand, may_all_stand, is_allowed, IsAllowed}
-use Rattle.dob_pieces.proofs.Boards.{length-mirrored, at-mirrored, all_below-at}
-use Rattle.dob_pieces.proofs.Symmetries.{mirrored_square_bound}
+use Rattle.dob_pieces.proofs.Boards.{length-turned, at-turned, length-mirrored, at-mirrored, all_below, all_below-at}
+use Rattle.dob_pieces.proofs.Symmetries.{turned_square_twice, mirrored_square_bound, beq-true}
 
 -- ---- cells from a square on
 
@@ -56,6 +62,12 @@ allowed-from_stands profile s e each =
     is_allowed-stand profile s
     ∙ all_stand profile 0 s.board (λ k lt. ap (λ (square : ℕ). may_stand profile square (at s k)) (omega arith) ∙ each k (omega arith))
 
+-- ---- tests of squares
+
+-- two tests that agree on the twelve squares, one by one
+same_test : (f g : ℕ → Bool) (k : ℕ) → all_below (λ n. beq (f n) (g n)) 12 ≡ true → k < 12 → f k ≡ g k
+same_test f g k all lt = beq-true (f k) (g k) (all_below-at (λ n. beq (f n) (g n)) 12 k all lt)
+
 -- ---- the mirror image
 
 -- it has its cells on the same rows
@@ -72,3 +84,33 @@ IsAllowed-mirrored profile s e h =
     ap (may_stand profile k) (at-mirrored s k lt)
     ∙ may_stand-mirrored profile k (at s (mirrored_square k)) lt
     ∙ stands-from_allowed profile s (mirrored_square k) e h (mirrored_square_bound k lt))
+
+-- ---- the other side's view
+
+-- what stands on the square that a half turn leads to is as far from its far row
+turned_stands : (side : Side) (kind : Kind) (k : ℕ) → k < 12 → is_far (other_side side) kind (row (turned_square k)) ≡ is_far side kind (row k)
+turned_stands Mover Chick k lt = same_test (λ n. row (turned_square n) == 0) (λ n. row n == 3) k refl lt
+turned_stands Enemy Chick k lt = same_test (λ n. row (turned_square n) == 3) (λ n. row n == 0) k refl lt
+turned_stands Mover Lion k lt = refl
+turned_stands Mover Giraffe k lt = refl
+turned_stands Mover Elephant k lt = refl
+turned_stands Mover Hen k lt = refl
+turned_stands Enemy Lion k lt = refl
+turned_stands Enemy Giraffe k lt = refl
+turned_stands Enemy Elephant k lt = refl
+turned_stands Enemy Hen k lt = refl
+
+may_stand-turned : (profile : Profile) (k : ℕ) (cell : Cell) → k < 12 → may_stand profile (turned_square k) (turned_cell cell) ≡ may_stand profile k cell
+may_stand-turned A k cell lt = refl
+may_stand-turned B k None lt = refl
+may_stand-turned B k (Some piece) lt = ap not (turned_stands piece.side piece.kind k lt)
+
+pub IsAllowed-turned : (profile : Profile) (s : Setup) → length s.board ≡ 12 → IsAllowed profile s → IsAllowed profile (turned s)
+IsAllowed-turned profile s e h =
+    allowed-from_stands profile (turned s) (length-turned s)
+    (λ k lt.
+    let far : turned_square k < 12 = omega arith in
+    ap (may_stand profile k) (at-turned s k lt)
+    ∙ ap (λ (square : ℕ). may_stand profile square (turned_cell (at s (turned_square k)))) (sym (turned_square_twice k lt))
+    ∙ may_stand-turned profile (turned_square k) (at s (turned_square k)) far
+    ∙ stands-from_allowed profile s (turned_square k) e h far)

@@ -90,7 +90,7 @@ steps_mirror Elephant = refl
 steps_mirror Chick = refl
 steps_mirror Hen = refl
 
-beq-true : (a b : Bool) → beq a b ≡ true → a ≡ b
+pub beq-true : (a b : Bool) → beq a b ≡ true → a ≡ b
 beq-true true true h = refl
 beq-true true false h = cc
 beq-true false true h = cc

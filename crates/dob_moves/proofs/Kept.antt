@@ -1,0 +1,101 @@
+-- What a move by the rules of a profile leads to is allowed by it: no chick is dropped on its far row, and one that steps there grows.
+use Rattle.std.proofs.Common.{◌≡◌, ℕ, ◌-◌, ◌<◌, Bool, true, false, not, List, Some, None, length, slice_index_or, slice_set, refl, sym, ap, subst, ◌∙◌}
+use Rattle.std.proofs.Common.{arith, inl, inr, get_or, set, nat_eq}
+use Rattle.std.proofs.lemmas.Bool.{cases_eq}
+use Rattle.std.proofs.lemmas.List.{length-set, get_or-set_same, get_or-set_other}
+use Rattle.dob_pieces.specs.declared.kind.Kind.{Kind}
+use Rattle.dob_pieces.specs.declared.kind.Kind.TheVariants.{Lion, Giraffe, Elephant, Chick, Hen}
+use Rattle.dob_pieces.specs.declared.kind.HandKind.{HandKind}
+use Rattle.dob_pieces.specs.declared.kind.Side.TheVariants.{Mover}
+use Rattle.dob_pieces.specs.declared.profile.Profile.{Profile}
+use Rattle.dob_pieces.specs.declared.profile.Profile.TheVariants.{A, B}
+use Rattle.dob_pieces.specs.declared.setup.Setup.{Setup}
+use Rattle.dob_pieces.specs.Squares.{row}
+use Rattle.dob_pieces.specs.Pieces.{leads, kind_on_board}
+use Rattle.dob_pieces.specs.Setups.{Cell, at, piece_of, turned}
+use Rattle.dob_pieces.specs.Profiles.{may_stand, IsAllowed}
+use Rattle.dob_pieces.proofs.Allowed.{stands-from_allowed, allowed-from_stands, IsAllowed-turned}
+use Rattle.dob_pieces.proofs.Boards.{within-from_piece, leads-to_board}
+use Rattle.dob_moves.specs.declared.game_move.Move.{Move}
+use Rattle.dob_moves.specs.declared.game_move.Move.TheVariants.{Step, Put}
+use Rattle.dob_moves.specs.Moves.{Goes, GoesIn, grows_at, may_put}
+use Rattle.dob_moves.specs.Outcomes.{arrives_as, stepped, dropped, moved}
+use Rattle.dob_moves.proofs.ByProfile.{goes, may}
+use Rattle.dob_moves.proofs.Outcomes.{Goes-is, length-stepped, length-dropped, IsStep-from}
+
+-- ---- boards by a profile
+
+-- what stands on each of the twelve squares may stand there
+abbrev Stand : Profile → List Cell → Type 0
+Stand profile board = (k : ℕ) → k < 12 → may_stand profile k (slice_index_or board k None) ≡ true
+
+stand-set : (profile : Profile) (board : List Cell) (i : ℕ) (cell : Cell) → i < length board → may_stand profile i cell ≡ true
+    → Stand profile board → Stand profile (set board i cell)
+stand-set profile board i cell within here stand k lt =
+    elim (cases_eq k i) [
+      | inl same ↦
+          ap (λ (j : ℕ). may_stand profile j (get_or (set board i cell) j None)) same
+          ∙ ap (may_stand profile i) (get_or-set_same board i cell None within) ∙ here
+      | inr other ↦ ap (may_stand profile k) (get_or-set_other board i k cell None other) ∙ stand k lt
+    ]
+
+none_stands : (profile : Profile) (k : ℕ) → may_stand profile k None ≡ true
+none_stands A k = refl
+none_stands B k = refl
+
+-- ---- what a step puts down
+
+-- a chick that doesn't grow stays below its far row, and any other piece of the mover may stand anywhere
+arrival_stands : (profile : Profile) (kind : Kind) (to : ℕ) (grows : Bool) → grows_at kind to ≡ grows
+    → may_stand profile to (Some (piece_of Mover (arrives_as kind grows))) ≡ true
+arrival_stands A kind to grows e = refl
+arrival_stands B kind to true e = refl
+arrival_stands B Lion to false e = refl
+arrival_stands B Giraffe to false e = refl
+arrival_stands B Elephant to false e = refl
+arrival_stands B Chick to false e = ap not e
+arrival_stands B Hen to false e = refl
+
+grows_is : (p : Setup) (kind : Kind) (from to : ℕ) (catch grows : Bool) (q : Setup) → Goes p (Step kind from to catch grows) q → grows_at kind to ≡ grows
+grows_is p kind from to false false q g = g.0
+grows_is p kind from to true false q g = g.0
+grows_is p kind from to false true q g = g.0
+grows_is p kind from to true true q g = g.0
+
+-- ---- a step and a drop
+
+allowed-stepped : (profile : Profile) (p : Setup) (kind : Kind) (from to : ℕ) (catch grows : Bool) (q : Setup) → length p.board ≡ 12
+    → IsAllowed profile p → Goes p (Step kind from to catch grows) q → IsAllowed profile (stepped p kind from to grows)
+unfolding stepped
+allowed-stepped profile p kind from to catch grows q twelve allowed g =
+    let step = IsStep-from p kind from to catch grows q g in
+    let on = leads-to_board kind from to step.leads in
+    let within : from < length p.board = within-from_piece p from (piece_of Mover kind) step.own in
+    let lifted : length (set p.board from None) ≡ 12 = length-set p.board from None ∙ twelve in
+    allowed-from_stands profile (stepped p kind from to grows) (length-stepped p kind from to grows twelve step)
+    (stand-set profile (set p.board from None) to (Some (piece_of Mover (arrives_as kind grows))) (omega (arith, on, lifted))
+    (arrival_stands profile kind to grows (grows_is p kind from to catch grows q g))
+    (stand-set profile p.board from None within (none_stands profile from) (λ k lt. stands-from_allowed profile p k twelve allowed lt)))
+
+allowed-dropped : (profile : Profile) (p : Setup) (put : HandKind) (to : ℕ) → length p.board ≡ 12 → IsAllowed profile p → to < 12
+    → may_put profile put to ≡ true → IsAllowed profile (dropped p put to)
+unfolding dropped
+allowed-dropped profile p put to twelve allowed on here =
+    allowed-from_stands profile (dropped p put to) (length-set p.board to (Some (piece_of Mover (kind_on_board put))) ∙ twelve)
+    (stand-set profile p.board to (Some (piece_of Mover (kind_on_board put))) (omega (arith, on, twelve)) here
+    (λ k lt. stands-from_allowed profile p k twelve allowed lt))
+
+-- ---- the outcome of a move
+
+pub IsAllowed-Goes : (profile : Profile) (p : Setup) (m : Move) (q : Setup) → length p.board ≡ 12 → IsAllowed profile p → GoesIn profile p m q → IsAllowed profile q
+IsAllowed-Goes profile p (Step kind from to catch grows) q twelve allowed by =
+    let g = goes profile p (Step kind from to catch grows) q by in
+    let step = IsStep-from p kind from to catch grows q g in
+    subst (λ (r : Setup). IsAllowed profile r) (sym (Goes-is p (Step kind from to catch grows) q g))
+    (IsAllowed-turned profile (stepped p kind from to grows) (length-stepped p kind from to grows twelve step)
+    (allowed-stepped profile p kind from to catch grows q twelve allowed g))
+IsAllowed-Goes profile p (Put put to) q twelve allowed by =
+    let g = goes profile p (Put put to) q by in
+    subst (λ (r : Setup). IsAllowed profile r) (sym (Goes-is p (Put put to) q g))
+    (IsAllowed-turned profile (dropped p put to) (length-dropped p put to twelve g.in_hand g.on_board g.free)
+    (allowed-dropped profile p put to twelve allowed g.on_board (may profile p (Put put to) q by)))

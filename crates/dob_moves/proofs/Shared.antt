@@ -1,0 +1,113 @@
+-- A position has the same status by the rules of each profile: where a chick lies in hand, a square below row 4 is empty.
+use Rattle.std.proofs.Common.{◌≡◌, ◌↔◌, ℕ, zero, suc, ◌+◌, ◌<◌, ◌≤◌, Bool, true, false, cond, List, [], ◌∷◌, Some, None, length, slice_index_or, refl}
+use Rattle.std.proofs.Common.{ap, arith, slice_set}
+use Rattle.std.specs.List.{count_by}
+use Rattle.std.proofs.lemmas.List.Sums.{sum_by-cons}
+use Rattle.dob_pieces.specs.declared.kind.Kind.{Kind}
+use Rattle.dob_pieces.specs.declared.kind.Kind.TheVariants.{Lion, Giraffe, Elephant, Chick, Hen}
+use Rattle.dob_pieces.specs.declared.kind.HandKind.TheVariants as hand
+use Rattle.dob_pieces.specs.declared.kind.Side.{Side}
+use Rattle.dob_pieces.specs.declared.kind.Side.TheVariants.{Mover, Enemy}
+use Rattle.dob_pieces.specs.declared.profile.Profile.{Profile}
+use Rattle.dob_pieces.specs.declared.profile.Profile.TheVariants.{A, B}
+use Rattle.dob_pieces.specs.declared.setup.Setup.{Setup}
+use Rattle.dob_pieces.specs.Setups.{Cell, at, held, piece_of, holds_lion, holds_kind, total, turned, with_one_less, IsLegal}
+use Rattle.dob_pieces.specs.Pieces.{kind_on_board}
+use Rattle.dob_pieces.specs.Masks.{is_empty}
+use Rattle.dob_pieces.proofs.Boards.{one_if, all_below-at}
+use Rattle.dob_moves.specs.declared.game_move.Move.{Move}
+use Rattle.dob_moves.specs.declared.game_move.Move.TheVariants.{Step, Put}
+use Rattle.dob_moves.specs.declared.position_status.Status.{Status}
+use Rattle.dob_moves.specs.declared.position_status.Status.TheVariants.{Caught, Tried, Stuck, Open}
+use Rattle.dob_moves.specs.Moves.{CanGo, CanGoIn, may_put}
+use Rattle.dob_moves.specs.Statuses.{HasStatus, HasStatusIn}
+use Rattle.dob_moves.proofs.ByProfile.{can_go}
+
+-- ---- an empty square
+
+abbrev is_taken : Cell → Bool
+is_taken None = false
+is_taken (Some piece) = true
+
+one_more : (test : Cell → Bool) (cell : Cell) (cells : List Cell) → count_by test (cell ∷ cells) ≡ one_if (test cell) + count_by test cells
+one_more test cell cells = sum_by-cons (λ x. one_if (test x)) cell cells
+
+-- each piece is one side's lion or one of the kinds
+one_each : (cell : Cell) → one_if (is_taken cell)
+    ≡ one_if (holds_lion Mover cell) + one_if (holds_lion Enemy cell)
+    + one_if (holds_kind hand.Chick cell) + one_if (holds_kind hand.Elephant cell) + one_if (holds_kind hand.Giraffe cell)
+one_each None = refl
+one_each (Some piece) = by_piece piece.side piece.kind where
+  by_piece : (side : Side) (kind : Kind) → 1
+      ≡ one_if (holds_lion Mover (Some (piece_of side kind))) + one_if (holds_lion Enemy (Some (piece_of side kind)))
+      + one_if (holds_kind hand.Chick (Some (piece_of side kind))) + one_if (holds_kind hand.Elephant (Some (piece_of side kind)))
+      + one_if (holds_kind hand.Giraffe (Some (piece_of side kind)))
+  by_piece Mover Lion = refl
+  by_piece Mover Giraffe = refl
+  by_piece Mover Elephant = refl
+  by_piece Mover Chick = refl
+  by_piece Mover Hen = refl
+  by_piece Enemy Lion = refl
+  by_piece Enemy Giraffe = refl
+  by_piece Enemy Elephant = refl
+  by_piece Enemy Chick = refl
+  by_piece Enemy Hen = refl
+
+pieces_counted : (cells : List Cell) → count_by is_taken cells
+    ≡ count_by (holds_lion Mover) cells + count_by (holds_lion Enemy) cells
+    + count_by (holds_kind hand.Chick) cells + count_by (holds_kind hand.Elephant) cells + count_by (holds_kind hand.Giraffe) cells
+pieces_counted [] = refl
+pieces_counted (cell ∷ cells) =
+    omega (arith, pieces_counted cells, one_each cell, one_more is_taken cell cells, one_more (holds_lion Mover) cell cells,
+    one_more (holds_lion Enemy) cell cells, one_more (holds_kind hand.Chick) cell cells, one_more (holds_kind hand.Elephant) cell cells,
+    one_more (holds_kind hand.Giraffe) cell cells)
+
+-- of more squares than there are pieces one is empty
+empty_below : (n : ℕ) (cells : List Cell) → count_by is_taken cells < n → n ≤ length cells → (k : ℕ) × (k < n) × (slice_index_or cells k None ≡ None)
+empty_below zero cells few enough = absurd (omega (arith, few))
+empty_below (suc n) [] few enough = absurd (omega (arith, enough))
+empty_below (suc n) (None ∷ cells) few enough = (0, omega arith, refl)
+empty_below (suc n) (Some piece ∷ cells) few enough =
+    let more = one_more is_taken (Some piece) cells in
+    let later = empty_below n cells (omega (arith, few, more)) (omega (arith, enough)) in
+    (suc later.0, omega (arith, later.1), later.2)
+
+-- at most seven pieces stand on the board beside a chick in hand
+few_stand : (p : Setup) → IsLegal p → 0 < held p.hands.mover hand.Chick → count_by is_taken p.board < 9
+unfolding total
+few_stand p legal some =
+    let sum = pieces_counted p.board in
+    let own = legal.lions Mover in let enemy = legal.lions Enemy in
+    let chicks = legal.few hand.Chick in let elephants = legal.few hand.Elephant in let giraffes = legal.few hand.Giraffe in
+    omega (arith, sum, own, enemy, chicks, elephants, giraffes, some)
+
+pub room : (p : Setup) → IsLegal p → 0 < held p.hands.mover hand.Chick → (to : ℕ) × (to < 9) × (at p to ≡ None)
+room p legal some = let twelve = legal.squares in empty_below 9 p.board (few_stand p legal some) (omega (arith, twelve))
+
+-- ---- a move
+
+-- where a move can go one can by the rules of each profile
+move_in : (profile : Profile) (p : Setup) → IsLegal p → (m : Move) → CanGo p m → (move : Move) × CanGoIn profile p move
+move_in A p legal m can = (m, can)
+move_in B p legal (Step kind from to catch grows) can = (Step kind from to catch grows, (can.0, (can.1, refl)))
+move_in B p legal (Put hand.Elephant to) can = (Put hand.Elephant to, (can.0, (can.1, refl)))
+move_in B p legal (Put hand.Giraffe to) can = (Put hand.Giraffe to, (can.0, (can.1, refl)))
+move_in B p legal (Put hand.Chick to) can =
+    let there = room p legal can.1.in_hand in
+    let low = there.1 in
+    (Put hand.Chick there.0, (_, (
+      record { in_hand = can.1.in_hand; on_board = omega (arith, low); free = there.2; outcome = refl },
+      all_below-at (may_put B hand.Chick) 9 there.0 refl low,
+    )))
+
+pub share_status : (profile : Profile) (p : Setup) (s : Status) → IsLegal p → HasStatus p s ↔ HasStatusIn profile p s
+share_status profile p Caught legal = (λ h. h, λ h. h)
+share_status profile p Tried legal = (λ h. h, λ h. h)
+share_status profile p Stuck legal = (
+  λ h. (h.0, h.1, λ m can. h.2 m (can_go profile p m can)),
+  λ h. (h.0, h.1, λ m can. let found = move_in profile p legal m can in h.2 found.0 found.1),
+)
+share_status profile p Open legal = (
+  λ h. (h.0, h.1, move_in profile p legal h.2.0 h.2.1),
+  λ h. (h.0, h.1, (h.2.0, can_go profile p h.2.0 h.2.1)),
+)
