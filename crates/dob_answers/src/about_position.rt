@@ -1,24 +1,25 @@
 // Answers about a position.
 use crate::opened::Opened;
 use crate::question::OfPosition;
-use dob_moves::{Status, apply, first_catch, moves, status};
-use dob_pieces::{Memory, Position};
+use dob_moves::{Status, apply, first_catch, moves_in, status};
+use dob_pieces::{Memory, Position, Profile};
 use dob_rank::rank;
 use dob_text::{write_move, write_position};
 use dob_value::{Fault, Value};
 use std::alloc::{AllocError, Global};
 use std::fmt::Write;
 
-/// What is asked about the position. An error is that of opening or sweeping its piece set, or no memory was left.
+/// What is asked about the position by the rules of the profile; ranks and values are those of profile A. An error is that of opening or sweeping its piece set, or no memory was left.
 pub(crate) fn about_position(
     alloc: Global,
     opened: &mut Opened,
     matter: OfPosition,
+    profile: Profile,
     position: &Position,
 ) -> Result<String, Fault> {
     match matter {
-        OfPosition::Moves => Ok(tell_moves(alloc, position)?),
-        OfPosition::After(number) => Ok(tell_after(alloc, number, position)?),
+        OfPosition::Moves => Ok(tell_moves(alloc, profile, position)?),
+        OfPosition::After(number) => Ok(tell_after(alloc, number, profile, position)?),
         OfPosition::Catch => Ok(tell_catch(alloc, position)?),
         OfPosition::Value => {
             let table = opened.table_of(alloc, position.piece_set())?;
@@ -33,7 +34,7 @@ pub(crate) fn about_position(
 }
 
 /// `status S moves M1 M2 ..`, in move order.
-fn tell_moves(alloc: Global, position: &Position) -> Result<String, Memory> {
+fn tell_moves(alloc: Global, profile: Profile, position: &Position) -> Result<String, Memory> {
     let name = match status(position) {
         Status::Caught => "caught",
         Status::Tried => "tried",
@@ -41,7 +42,7 @@ fn tell_moves(alloc: Global, position: &Position) -> Result<String, Memory> {
         Status::Open => "open",
     };
     let mut text = format!(in alloc; "status {name} moves")?;
-    let choices = moves(alloc, position)?;
+    let choices = moves_in(alloc, profile, position)?;
     for choice in &choices {
         let word = write_move(alloc, *choice, false)?;
         write!(text, " {word}")?;
@@ -50,8 +51,13 @@ fn tell_moves(alloc: Global, position: &Position) -> Result<String, Memory> {
 }
 
 /// The text of the position after the move of that number; `none` where there is no such move.
-fn tell_after(alloc: Global, number: usize, position: &Position) -> Result<String, Memory> {
-    let choices = moves(alloc, position)?;
+fn tell_after(
+    alloc: Global,
+    number: usize,
+    profile: Profile,
+    position: &Position,
+) -> Result<String, Memory> {
+    let choices = moves_in(alloc, profile, position)?;
     if number >= choices.len() {
         return Ok("none".to_string(alloc)?);
     }

@@ -9,7 +9,7 @@ use crate::about_world::about_world;
 use crate::opened::Opened;
 use crate::question::{OfValues, Question};
 use dob_pieces::{Memory, PieceSet};
-use dob_text::read_position;
+use dob_text::read_position_in;
 use dob_value::Fault;
 use std::alloc::Global;
 use std::fmt::Display;
@@ -25,19 +25,23 @@ pub(crate) fn reply<R: Threads + Wait + Sync>(
 ) -> Result<String, Memory> {
     match Question::read(line) {
         None => Ok("unknown question".to_string(alloc)?),
-        Some(Question::Position(matter, text)) => match read_position(text) {
-            Err(fault) => fault_line(alloc, fault),
-            Ok(position) => told(alloc, about_position(alloc, opened, matter, &position)),
-        },
-        Some(Question::Set(matter, text)) => match PieceSet::read(text) {
+        Some((profile, Question::Position(matter, text))) => {
+            match read_position_in(profile, text) {
+                Err(fault) => fault_line(alloc, fault),
+                Ok(position) => {
+                    told(alloc, about_position(alloc, opened, matter, profile, &position))
+                }
+            }
+        }
+        Some((_, Question::Set(matter, text))) => match PieceSet::read(text) {
             Err(fault) => fault_line(alloc, fault),
             Ok(set) => told(alloc, about_set(alloc, opened, matter, set)),
         },
-        Some(Question::Values(matter, text)) => match PieceSet::read(text) {
+        Some((_, Question::Values(matter, text))) => match PieceSet::read(text) {
             Err(fault) => fault_line(alloc, fault),
             Ok(set) => about_values(rt, alloc, opened, matter, set),
         },
-        Some(Question::Token(matter)) => Ok(about_token(alloc, matter)?),
+        Some((_, Question::Token(matter))) => Ok(about_token(alloc, matter)?),
     }
 }
 

@@ -1,6 +1,7 @@
 // The questions that a line can ask.
 use crate::about_token::OfToken;
 use crate::about_world::{OfWorld, Sizes};
+use dob_pieces::Profile;
 
 /// What a line asks.
 #[derive(Clone, Copy)]
@@ -68,8 +69,22 @@ pub(crate) enum OfValues<'a> {
 }
 
 impl<'a> Question<'a> {
-    /// The question of a line; none where the line is no question.
-    pub(crate) fn read(line: &'a str) -> Option<Question<'a>> {
+    /// The question of a line, and the profile by whose rules it is asked: B where the line begins with `B `. None where
+    /// the line is no question, as those of profile B are yet that need ranks.
+    pub(crate) fn read(line: &'a str) -> Option<(Profile, Question<'a>)> {
+        let Some(line_of_b) = line.strip_prefix("B ") else {
+            return Some((Profile::A, Question::of(line)?));
+        };
+        match Question::of(line_of_b)? {
+            Question::Position(matter, text) if !matter.needs_ranks() => {
+                Some((Profile::B, Question::Position(matter, text)))
+            }
+            _ => None,
+        }
+    }
+
+    // The question of a line without its profile.
+    fn of(line: &'a str) -> Option<Question<'a>> {
         let (word, rest) = line.split_once(' ')?;
         match word {
             "moves" | "after" | "catch" | "value" | "rank" | "class" => {
@@ -90,6 +105,14 @@ impl<'a> Question<'a> {
 }
 
 impl OfPosition {
+    // Whether its answer needs the ranks of a piece set.
+    fn needs_ranks(self) -> bool {
+        match self {
+            OfPosition::Moves | OfPosition::After(_) | OfPosition::Catch => false,
+            OfPosition::Value | OfPosition::Rank | OfPosition::Class => true,
+        }
+    }
+
     // The question with that first word, and the text of its position; none where there is no such question.
     fn read<'a>(word: &str, rest: &'a str) -> Option<(OfPosition, &'a str)> {
         match word {

@@ -1,5 +1,5 @@
 -- Moves by the rules of a profile are moves, those that the profile forbids left out.
-use Rattle.std.proofs.Common.{◌≡◌, ℕ, true, refl}
+use Rattle.std.proofs.Common.{◌≡◌, true, refl}
 use Rattle.dob_pieces.specs.declared.profile.Profile.{Profile}
 use Rattle.dob_pieces.specs.declared.profile.Profile.TheVariants.{A, B}
 use Rattle.dob_pieces.specs.declared.setup.Setup.{Setup}

@@ -1,6 +1,6 @@
 -- What a move by the rules of a profile leads to is allowed by it: no chick is dropped on its far row, and one that steps there grows.
-use Rattle.std.proofs.Common.{◌≡◌, ℕ, ◌-◌, ◌<◌, Bool, true, false, not, List, Some, None, length, slice_index_or, slice_set, refl, sym, ap, subst, ◌∙◌}
-use Rattle.std.proofs.Common.{arith, inl, inr, get_or, set, nat_eq}
+use Rattle.std.proofs.Common.{◌≡◌, ℕ, ◌<◌, Bool, true, false, not, List, Some, None, length, slice_index_or, refl, sym, ap, subst, ◌∙◌}
+use Rattle.std.proofs.Common.{arith, inl, inr, get_or, set}
 use Rattle.std.proofs.lemmas.Bool.{cases_eq}
 use Rattle.std.proofs.lemmas.List.{length-set, get_or-set_same, get_or-set_other}
 use Rattle.dob_pieces.specs.declared.kind.Kind.{Kind}
@@ -10,16 +10,15 @@ use Rattle.dob_pieces.specs.declared.kind.Side.TheVariants.{Mover}
 use Rattle.dob_pieces.specs.declared.profile.Profile.{Profile}
 use Rattle.dob_pieces.specs.declared.profile.Profile.TheVariants.{A, B}
 use Rattle.dob_pieces.specs.declared.setup.Setup.{Setup}
-use Rattle.dob_pieces.specs.Squares.{row}
-use Rattle.dob_pieces.specs.Pieces.{leads, kind_on_board}
-use Rattle.dob_pieces.specs.Setups.{Cell, at, piece_of, turned}
+use Rattle.dob_pieces.specs.Pieces.{kind_on_board}
+use Rattle.dob_pieces.specs.Setups.{Cell, piece_of}
 use Rattle.dob_pieces.specs.Profiles.{may_stand, IsAllowed}
 use Rattle.dob_pieces.proofs.Allowed.{stands-from_allowed, allowed-from_stands, IsAllowed-turned}
 use Rattle.dob_pieces.proofs.Boards.{within-from_piece, leads-to_board}
 use Rattle.dob_moves.specs.declared.game_move.Move.{Move}
 use Rattle.dob_moves.specs.declared.game_move.Move.TheVariants.{Step, Put}
 use Rattle.dob_moves.specs.Moves.{Goes, GoesIn, grows_at, may_put}
-use Rattle.dob_moves.specs.Outcomes.{arrives_as, stepped, dropped, moved}
+use Rattle.dob_moves.specs.Outcomes.{arrives_as, stepped, dropped}
 use Rattle.dob_moves.proofs.ByProfile.{goes, may}
 use Rattle.dob_moves.proofs.Outcomes.{Goes-is, length-stepped, length-dropped, IsStep-from}
 

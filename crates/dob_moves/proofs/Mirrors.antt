@@ -9,7 +9,7 @@ use Rattle.dob_pieces.specs.declared.kind.Side.TheVariants.{Mover}
 use Rattle.dob_pieces.specs.declared.hand.Hands.{Hands}
 use Rattle.dob_pieces.specs.declared.setup.Setup.{Setup}
 use Rattle.dob_pieces.specs.Squares.{row, mirrored_square}
-use Rattle.dob_pieces.specs.Pieces.{kind_on_board, leads}
+use Rattle.dob_pieces.specs.Pieces.{kind_on_board}
 use Rattle.dob_pieces.specs.Setups.{Cell, at, board_by, piece_of, turned, mirrored, with_one_less}
 use Rattle.dob_pieces.proofs.Boards.{board_by-from_cells, length-board_by, at-board_by, length-mirrored, within-from_piece, leads-to_board}
 use Rattle.dob_pieces.proofs.Symmetries.{mirrored_square_bound, mirrored_square_twice, at-image, mirrored-mirrored, turned-mirrored, leads-mirrored}

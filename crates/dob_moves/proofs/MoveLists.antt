@@ -1,8 +1,7 @@
 -- The list of a position's moves has just its moves.
 use Rattle.std.proofs.Common.{◌≡◌, ◌+◌, ℕ, zero, suc, ◌<◌, ◌||◌, if◌then◌else◌, Bool, true, false, [], ◌++◌, Option, Some, None, length, refl}
-use Rattle.std.proofs.Common.{ap, inl, inr, arith, Contains}
+use Rattle.std.proofs.Common.{ap, arith}
 use Rattle.std.specs.Option.{is_some}
-use Rattle.std.proofs.lemmas.List.Elements.{Contains-append_cases}
 use Rattle.dob_pieces.specs.declared.kind.Kind.{Kind}
 use Rattle.dob_pieces.specs.declared.kind.Kind.TheVariants.{Lion, Giraffe, Elephant, Chick, Hen}
 use Rattle.dob_pieces.specs.declared.kind.Side.{Side}

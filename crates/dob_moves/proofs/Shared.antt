@@ -1,6 +1,6 @@
 -- A position has the same status by the rules of each profile: where a chick lies in hand, a square below row 4 is empty.
-use Rattle.std.proofs.Common.{◌≡◌, ◌↔◌, ℕ, zero, suc, ◌+◌, ◌<◌, ◌≤◌, Bool, true, false, cond, List, [], ◌∷◌, Some, None, length, slice_index_or, refl}
-use Rattle.std.proofs.Common.{ap, arith, slice_set}
+use Rattle.std.proofs.Common.{◌≡◌, ◌↔◌, ℕ, zero, suc, ◌+◌, ◌<◌, ◌≤◌, Bool, true, false, List, [], ◌∷◌, Some, None, length, slice_index_or, refl}
+use Rattle.std.proofs.Common.{arith}
 use Rattle.std.specs.List.{count_by}
 use Rattle.std.proofs.lemmas.List.Sums.{sum_by-cons}
 use Rattle.dob_pieces.specs.declared.kind.Kind.{Kind}
@@ -11,9 +11,7 @@ use Rattle.dob_pieces.specs.declared.kind.Side.TheVariants.{Mover, Enemy}
 use Rattle.dob_pieces.specs.declared.profile.Profile.{Profile}
 use Rattle.dob_pieces.specs.declared.profile.Profile.TheVariants.{A, B}
 use Rattle.dob_pieces.specs.declared.setup.Setup.{Setup}
-use Rattle.dob_pieces.specs.Setups.{Cell, at, held, piece_of, holds_lion, holds_kind, total, turned, with_one_less, IsLegal}
-use Rattle.dob_pieces.specs.Pieces.{kind_on_board}
-use Rattle.dob_pieces.specs.Masks.{is_empty}
+use Rattle.dob_pieces.specs.Setups.{Cell, at, held, piece_of, holds_lion, holds_kind, total, IsLegal}
 use Rattle.dob_pieces.proofs.Boards.{one_if, all_below-at}
 use Rattle.dob_moves.specs.declared.game_move.Move.{Move}
 use Rattle.dob_moves.specs.declared.game_move.Move.TheVariants.{Step, Put}
@@ -58,9 +56,17 @@ pieces_counted : (cells : List Cell) → count_by is_taken cells
     + count_by (holds_kind hand.Chick) cells + count_by (holds_kind hand.Elephant) cells + count_by (holds_kind hand.Giraffe) cells
 pieces_counted [] = refl
 pieces_counted (cell ∷ cells) =
-    omega (arith, pieces_counted cells, one_each cell, one_more is_taken cell cells, one_more (holds_lion Mover) cell cells,
-    one_more (holds_lion Enemy) cell cells, one_more (holds_kind hand.Chick) cell cells, one_more (holds_kind hand.Elephant) cell cells,
-    one_more (holds_kind hand.Giraffe) cell cells)
+    omega (
+      arith,
+      pieces_counted cells,
+      one_each cell,
+      one_more is_taken cell cells,
+      one_more (holds_lion Mover) cell cells,
+      one_more (holds_lion Enemy) cell cells,
+      one_more (holds_kind hand.Chick) cell cells,
+      one_more (holds_kind hand.Elephant) cell cells,
+      one_more (holds_kind hand.Giraffe) cell cells,
+    )
 
 -- of more squares than there are pieces one is empty
 empty_below : (n : ℕ) (cells : List Cell) → count_by is_taken cells < n → n ≤ length cells → (k : ℕ) × (k < n) × (slice_index_or cells k None ≡ None)
@@ -94,11 +100,16 @@ move_in B p legal (Put hand.Elephant to) can = (Put hand.Elephant to, (can.0, (c
 move_in B p legal (Put hand.Giraffe to) can = (Put hand.Giraffe to, (can.0, (can.1, refl)))
 move_in B p legal (Put hand.Chick to) can =
     let there = room p legal can.1.in_hand in
-    let low = there.1 in
-    (Put hand.Chick there.0, (_, (
-      record { in_hand = can.1.in_hand; on_board = omega (arith, low); free = there.2; outcome = refl },
-      all_below-at (may_put B hand.Chick) 9 there.0 refl low,
-    )))
+    let low = there.1 in (
+      Put hand.Chick there.0,
+      (
+        _,
+        (
+          record { in_hand = can.1.in_hand; on_board = omega (arith, low); free = there.2; outcome = refl },
+          all_below-at (may_put B hand.Chick) 9 there.0 refl low,
+        ),
+      ),
+    )
 
 pub share_status : (profile : Profile) (p : Setup) (s : Status) → IsLegal p → HasStatus p s ↔ HasStatusIn profile p s
 share_status profile p Caught legal = (λ h. h, λ h. h)

@@ -10,7 +10,9 @@ use crate::droppable::squares_for;
 use crate::first_moves::own_kind;
 use crate::position_status::Status;
 use crate::status_of::status_by;
-use dob_pieces::{HandKind, Kind, Masks, Position, Profile, Setup, Square, lowest_square, without_square};
+use dob_pieces::{
+    HandKind, Kind, Masks, Position, Profile, Setup, Square, lowest_square, without_square,
+};
 
 /// The number of steps of a piece of that kind on that square, other than onto the enemy lion.
 fn count_steps_by(setup: &Setup, masks: &Masks, kind: Kind, from: Square) -> u8

@@ -11,8 +11,7 @@ use crate::game_move::Move;
 use crate::position_status::Status;
 use crate::status_of::status_by;
 use dob_pieces::{
-    HandKind, Kind, Masks, Memory, Position, Profile, Setup, Square, lowest_square,
-    without_square,
+    HandKind, Kind, Masks, Memory, Position, Profile, Setup, Square, lowest_square, without_square,
 };
 use std::alloc::Global;
 

@@ -22,3 +22,6 @@ returns-in_default c = record {
   status = (share_status c.args.profile c.args.position.now.setup c.status_by.result c.args.position.now.legal).0 c.status_by.ensures;
   memory = search rules;
 }
+
+pub returns-in-Ok-clause-status : goal.returns-in-Ok-clause-status
+returns-in-Ok-clause-status c = (share_status c.args.profile c.args.position.now.setup Open c.args.position.now.legal).0 c.in-Open.ensures
