@@ -1,8 +1,8 @@
 // Statuses, moves and what they lead to, in positions that were worked out by hand.
 use crate::positions::position;
 use crate::units::text::writes;
-use dob_moves::{Status, apply, first_catch, moves, status};
-use dob_pieces::{Memory, Position};
+use dob_moves::{Status, apply, first_catch, moves, moves_in, status, status_and_count_in};
+use dob_pieces::{Memory, Position, Profile};
 use std::alloc::Global;
 use std::process::Abort;
 
@@ -42,9 +42,38 @@ const MOVES: [(&str, Status, &[&str]); 9] = [
     (".../.l./.H./L.. - -", Status::Caught, &[]),
 ];
 
-// The position has just those moves, in their order.
-fn lists(rt: &impl Abort, alloc: Global, position: &Position, texts: &[&str]) {
-    let choices = moves(alloc, position).expect(rt, "memory");
+// The same in profile B, where these differ.
+const MOVES_OF_B: [(&str, Status, &[&str]); 3] = [
+    // no chick is dropped on row 4
+    (
+        "..l/.../.../L.. C -",
+        Status::Open,
+        &[
+            "La1-b1", "La1-a2", "La1-b2", "C*b1", "C*c1", "C*a2", "C*b2", "C*c2", "C*a3", "C*b3",
+            "C*c3",
+        ],
+    ),
+    (
+        "h../.l./..g/LG. C -",
+        Status::Open,
+        &[
+            "La1-a2", "La1-b2", "Gb1-c1", "Gb1-b2", "C*c1", "C*a2", "C*b2", "C*a3", "C*c3",
+        ],
+    ),
+    (
+        ".g./..l/.h./L.. C -",
+        Status::Open,
+        &[
+            "La1-b1", "La1-a2", "La1xb2", "C*b1", "C*c1", "C*a2", "C*c2", "C*a3", "C*b3",
+        ],
+    ),
+];
+
+// The position has just those moves by the rules of the profile, in their order.
+fn lists(rt: &impl Abort, alloc: Global, profile: Profile, position: &Position, texts: &[&str]) {
+    let choices = moves_in(alloc, profile, position).expect(rt, "memory");
+    let (_, count) = status_and_count_in(profile, position);
+    assert!(rt; usize::from(count) == choices.len());
     assert!(rt; choices.len() == texts.len());
     for place in 0..texts.len() {
         writes(rt, alloc, choices[place], false, texts[place]);
@@ -52,16 +81,26 @@ fn lists(rt: &impl Abort, alloc: Global, position: &Position, texts: &[&str]) {
 }
 
 // The position has that status and those moves.
-fn has_moves(rt: &impl Abort, alloc: Global, text: &str, found: Status, texts: &[&str]) {
+fn has_moves(
+    rt: &impl Abort,
+    alloc: Global,
+    profile: Profile,
+    text: &str,
+    found: Status,
+    texts: &[&str],
+) {
     let position = position(rt, text);
     assert!(rt; status(&position) == found, "{text}");
-    lists(rt, alloc, &position, texts);
+    lists(rt, alloc, profile, &position, texts);
 }
 
 #[test]
 fn moves_of_positions(rt: HostRuntime) {
     for (text, found, texts) in &MOVES {
-        has_moves(&rt, rt.alloc(), *text, *found, *texts);
+        has_moves(&rt, rt.alloc(), Profile::A, *text, *found, *texts);
+    }
+    for (text, found, texts) in &MOVES_OF_B {
+        has_moves(&rt, rt.alloc(), Profile::B, *text, *found, *texts);
     }
 }
 

@@ -2,8 +2,8 @@
 ghost use Rattle.std.specs.Prelude.{◌<◌};
 
 use dob_moves::Move;
-use dob_pieces::{Hand, HandKind, Kind, Memory, Piece, Side, Square};
-use dob_text::{TextFault, read_position, write_move, write_position};
+use dob_pieces::{Hand, HandKind, Kind, Memory, Piece, Profile, Side, Square};
+use dob_text::{TextFault, read_position, read_position_in, write_move, write_position};
 use std::alloc::Global;
 use std::process::Abort;
 use std::str;
@@ -163,6 +163,24 @@ const FAR_LION: [&str; 3] = [
     "L../.../.../..l - -",
     ".L./.../.../l.. - -",
     "..L/.c./.C./l.. - -",
+];
+
+// The mover's chick on row 4 and the enemy's on row 1.
+const FAR_CHICK: [&str; 6] = [
+    "C.l/.../.../L.. - -",
+    "..l/.../.../L.c - -",
+    ".C./.l./.../.L. - -",
+    ".../..L/.../lc. - -",
+    "C../..L/.../.l. - -",
+    "l../.../..L/..c - -",
+];
+
+// A chick on its far row, and another fault that is told before it.
+const BEFORE_FAR_CHICK: [(&str, TextFault); 4] = [
+    ("C.l/.../.../L.. CC -", TextFault::Count),
+    ("..l/.../.../L.c C c", TextFault::Count),
+    ("L.C/.../.../..l - -", TextFault::FarLion),
+    ("L../.../.../l.c - -", TextFault::FarLion),
 ];
 
 /// The text is refused so.
@@ -327,6 +345,34 @@ fn refuses_texts(rt: HostRuntime) {
     refuses_all(&rt, LIONS.as_slice(), &TextFault::Lions);
     refuses_all(&rt, COUNT.as_slice(), &TextFault::Count);
     refuses_all(&rt, FAR_LION.as_slice(), &TextFault::FarLion);
+}
+
+#[test]
+fn refuses_far_chicks_in_profile_b(rt: HostRuntime) {
+    for text in &FAR_CHICK {
+        assert!(rt;
+            read_position_in(Profile::B, *text) == Err(TextFault::FarChick),
+            "{text}"
+        );
+        assert!(rt;
+            read_position_in(Profile::A, *text) == read_position(*text),
+            "{text}"
+        );
+        assert!(rt; read_position(*text).is_ok(), "{text}");
+    }
+    for (text, fault) in &BEFORE_FAR_CHICK {
+        assert!(rt;
+            read_position_in(Profile::B, *text) == Err(*fault),
+            "{text}"
+        );
+        assert!(rt; read_position(*text) == Err(*fault), "{text}");
+    }
+    for text in &READ {
+        assert!(rt;
+            read_position_in(Profile::B, *text) == read_position(*text),
+            "{text}"
+        );
+    }
 }
 
 #[test]
