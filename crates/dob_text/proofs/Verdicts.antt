@@ -12,7 +12,7 @@ use Rattle.dob_text.specs.declared.fault.TextFault.{TextFault}
 use Rattle.dob_text.specs.declared.fault.TextFault.TheVariants as fault
 use Rattle.dob_text.specs.PositionText.{Spells, text_of}
 use Rattle.dob_text.specs.Readings.{capped_setup}
-use Rattle.dob_text.specs.Faults.{HasFault, HasFaultIn, HasSetupFault}
+use Rattle.dob_text.specs.Faults.{HasFaultIn, HasSetupFault}
 use Rattle.dob_text.proofs.Fronts.{same_hand}
 use Rattle.dob_text.proofs.Whole.{spelled_shape, spelled_letters, spelled_hands, same_spelled, same_setup}
 
@@ -122,16 +122,6 @@ whole_as profile text (Ok position) reads setup legal allowed is =
     same_spelled text position.setup setup reads.2 (record { squares = legal.squares; spelled = is })
 whole_as profile text (Err f) reads setup legal allowed is =
     no_fault profile text setup f legal allowed (record { squares = legal.squares; spelled = is }) reads
-
--- what a text lacks before its chicks are looked at it lacks by each profile
-pub fault_in : (profile : Profile) (text : List ℕ) (f : TextFault) → HasFault text f → HasFaultIn profile text f
-fault_in profile text fault.Shape x = x
-fault_in profile text fault.Letter x = x
-fault_in profile text fault.Hand x = x
-fault_in profile text fault.Lions x = x
-fault_in profile text fault.Count x = x
-fault_in profile text fault.FarLion x = x
-fault_in profile text fault.FarChick x = absurd (x.3 refl)
 
 -- counts above 255 are above 2
 few_up : (setup : Setup) → HasFewPieces (capped_setup setup) → HasFewPieces setup
