@@ -9,6 +9,7 @@
 
 mod block;
 mod block_classes;
+mod class_counts;
 mod classes;
 mod fault;
 mod forms;
@@ -24,6 +25,7 @@ mod segmented;
 mod starts;
 mod stretches;
 
+pub use class_counts::count_classes;
 pub use classes::Classes;
 pub use fault::Fault;
 pub use limit::{MOST_PIECES, is_too_large};
