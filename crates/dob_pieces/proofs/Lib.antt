@@ -6,6 +6,7 @@ pub mod Elements  -- what stands where in a list, also after more things and aft
 pub mod Boards  -- boards read, turned, mirrored and written
 pub mod Legality  -- what the tests of a position show
 pub mod Symmetries  -- turned and mirrored twice, and one after the other
+pub mod Allowed  -- what a profile allows, square by square, and in the mirror
 -- Masks.
 pub mod MaskBits  -- sets of squares as bits
 pub mod MaskWalks  -- walks over the squares of a mask

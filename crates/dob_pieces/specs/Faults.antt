@@ -25,3 +25,7 @@ memory_text = codes "E23 Memory"
 -- of the fault of a text that is no set's
 abbrev pub set_fault_text : List ℕ
 set_fault_text = codes "E25 SetText"
+
+-- of the fault of a chick on its own far row
+abbrev pub far_chick_text : List ℕ
+far_chick_text = codes "E26 FarChick"

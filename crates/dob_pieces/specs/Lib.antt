@@ -6,3 +6,4 @@ pub mod Setups
 pub mod Masks
 pub mod Faults
 pub mod Sets
+pub mod Profiles

@@ -3,7 +3,9 @@ ghost use Rattle.std.specs.Prelude.{◌≡◌, ◌<◌, ℕ, length};
 ghost use Rattle.dob_pieces.specs.declared.kind.Kind.{Kind};
 ghost use Rattle.dob_pieces.specs.declared.kind.HandKind.{HandKind};
 ghost use Rattle.dob_pieces.specs.declared.setup.Setup.{Setup};
+ghost use Rattle.dob_pieces.specs.declared.profile.Profile.{Profile};
 ghost use Rattle.dob_pieces.specs.Pieces.{leads};
+ghost use Rattle.dob_pieces.specs.Profiles.{IsAllowed};
 ghost use Rattle.dob_pieces.specs.Squares.{mirrored_square};
 ghost use Rattle.dob_pieces.specs.Setups.{IsLegal, total, turned, mirrored};
 
@@ -40,6 +42,14 @@ pub fn mirrored_total()
 /// The mirror image of a legal setup is legal.
 pub fn mirrored_legal()
     ensures { (setup : Setup) → IsLegal setup → IsLegal (mirrored setup) }
+{}
+
+/// The mirror image of a setup that a profile allows is allowed by it.
+pub fn mirrored_allowed()
+    ensures { (profile : Profile) (setup : Setup)
+        → length setup.board ≡ 12
+        → IsAllowed profile setup
+        → IsAllowed profile (mirrored setup) }
 {}
 
 /// The mirror image of a step is a step.

@@ -1,11 +1,13 @@
 // Positions, which are legal by their type.
-ghost use Rattle.std.specs.Prelude.{◌≡◌, ◌↔◌, IsOk, IfOk, IsErrOf};
+ghost use Rattle.std.specs.Prelude.{◌≡◌, ◌↔◌, IsOk, IfOk, IsErrOf, IsTrue};
+ghost use Rattle.dob_pieces.specs.Profiles.{IsAllowed};
 ghost use Rattle.dob_pieces.specs.Setups.{IsLegal, HasLions, HasFewPieces, HasLionOffFarRow, total, setup_of, turned, mirrored};
 
 use crate::fault::PositionFault;
 use crate::hand::Hands;
 use crate::kind::{HandKind, Piece};
 use crate::piece_set::PieceSet;
+use crate::profile::Profile;
 use crate::setup::Setup;
 use crate::square::Square;
 
@@ -58,6 +60,13 @@ impl Position {
             elephants: self.setup.total(HandKind::Elephant) as u8,
             giraffes: self.setup.total(HandKind::Giraffe) as u8,
         }
+    }
+
+    /// Whether it is a position of that profile: in `B` no chick stands on its far row, in `A` each is one.
+    pub fn is_allowed(&self, profile: Profile) -> bool
+        ensures { IsTrue result ↔ IsAllowed profile self.now.setup }
+    {
+        self.setup.is_allowed(profile)
     }
 
     /// The same seen from the other side, which may be no position.

@@ -2,11 +2,13 @@
 ghost use Rattle.std.specs.Prelude.{◌≡◌, ◌↔◌, IsTrue, count_by};
 ghost use Rattle.std.specs.List.{list_any};
 ghost use Rattle.dob_pieces.specs.Faults.{HasFault};
+ghost use Rattle.dob_pieces.specs.Profiles.{IsAllowed};
 ghost use Rattle.dob_pieces.specs.Setups.{at, turned_cell, turned, mirrored, holds_lion, holds_kind, total, HasLions, HasFewPieces, HasLionOffFarRow, IsLegal};
 
 use crate::fault::PositionFault;
 use crate::hand::Hands;
 use crate::kind::{HandKind, Kind, Piece, Side};
+use crate::profile::Profile;
 use crate::square::Square;
 
 /// What stands on each square, from a1 to c4, and what lies in the hands, seen from the side to move. It need
@@ -100,6 +102,19 @@ impl Setup {
         ensures { IsTrue result ↔ HasLionOffFarRow self.now }
     {
         !has_mover_lion(&self.board[Square::FIRST_OF_FAR_ROW..])
+    }
+
+    /// Whether the profile allows it: in `B` no chick stands on its far row, in `A` anything is allowed.
+    pub fn is_allowed(&self, profile: Profile) -> bool
+        ensures { IsTrue result ↔ IsAllowed profile self.now }
+    {
+        for index in 0..Square::COUNT {
+            let square = Square::new(index);
+            if !profile.may_stand(square, self.at(square)) {
+                return false;
+            }
+        }
+        true
     }
 
     // How many lions of the side stand on the board.
