@@ -42,5 +42,12 @@ pub mod RunSums  -- the marks of a block as a sum over runs
 pub mod BlockTables  -- the blocks of a set
 pub mod DigitParts  -- the digits of a place, part by part
 pub mod Pairs  -- the tables of choices of two squares
+-- Families: the positions of a set that a profile allows.
+pub mod Present  -- a family's positions among the ranks of its set
+pub mod Weights  -- weighted choices, and forms that are allowed
+pub mod FarChicks  -- a board is allowed where its chicks' forms are
+pub mod RunWeights  -- marks that a part of a place tells, and layers settled later
+pub mod RunPresent  -- which places of a run are of the family
+pub mod RunCounts  -- how many of them are before a place
 -- Long lists.
 pub mod Segmentation  -- lists in segments

@@ -4,6 +4,8 @@ pub mod Placing
 pub mod Masks
 pub mod BoardMasks
 pub mod Marks
+pub mod Families
+pub mod Weights
 pub mod ClassRows
 pub mod Runs
 pub mod RunTables
