@@ -47,6 +47,7 @@ pub mod Present  -- a family's positions among the ranks of its set
 pub mod Weights  -- weighted choices, and forms that are allowed
 pub mod FarChicks  -- a board is allowed where its chicks' forms are
 pub mod RunWeights  -- marks that a part of a place tells, and layers settled later
+pub mod LionBoards  -- the squares that two lions leave
 pub mod RunPresent  -- which places of a run are of the family
 pub mod RunCounts  -- how many of them are before a place
 -- Long lists.

@@ -8,25 +8,13 @@ use Rattle.dob_rank.specs.Numbers.{sum_below, count, choose, settle, order, prod
 use Rattle.dob_rank.specs.Marks.{one_if, marks_below}
 use Rattle.dob_rank.specs.Runs.{local_bases, square_bases, form_bases, runs_in, run_size, run_start, IsInRun, lion_pairs}
 use Rattle.dob_rank.specs.Families.{is_present}
-use Rattle.dob_rank.specs.Weights.{may_have, are_allowed, weight}
+use Rattle.dob_rank.specs.Weights.{may_have, are_allowed, weight, lions_in, forms_on, choice_weight}
 use Rattle.dob_rank.specs.declared.layers.Layer.TheVariants.{OwnLion, EnemyLion, Chicks, Empty}
 use Rattle.dob_rank.proofs.MixedRadix.{product-append, digit_below}
 use Rattle.dob_rank.proofs.Sums.{sum_same, sum_parts}
 use Rattle.dob_rank.proofs.Weights.{forms_weigh}
 use Rattle.dob_rank.proofs.RunWeights.{middle_alike, low_alike}
 use Rattle.dob_rank.proofs.RunPresent.{allowed_in_run}
-
--- the layers of the lions of a run
-abbrev pub lions_in : ℕ → List ℕ
-lions_in run = settle (order EnemyLion) 1 (run % lion_pairs % enemy_squares) (settle (order OwnLion) 1 (run % lion_pairs / enemy_squares) empty_layers)
-
--- how many forms a chick or hen may have on a square
-abbrev pub forms_on : Profile → ℕ → ℕ
-forms_on profile square = marks_below (may_have profile square) 4
-
--- the weight of a choice of the chicks' squares
-abbrev pub choice_weight : Profile → ℕ → ℕ → ℕ → ℕ
-choice_weight profile run chicks c = weight (forms_on profile) (order Chicks) 0 (settle (order Chicks) chicks c (lions_in run))
 
 -- of the forms of a choice, those before a number that are allowed; r is how many forms the other pieces have
 abbrev pub is_form : Profile → ℕ → ℕ → ℕ → ℕ → ℕ → Bool

@@ -5,9 +5,9 @@ pub mod Masks
 pub mod BoardMasks
 pub mod Marks
 pub mod Families
-pub mod Weights
 pub mod ClassRows
 pub mod Runs
+pub mod Weights
 pub mod RunTables
 pub mod BlockTables
 pub mod Laws

@@ -1,9 +1,11 @@
 -- Weighted choices of squares: a piece has as many forms on a square as a profile lets it have there.
-use Rattle.std.specs.Prelude.{ℕ, zero, suc, ◌+◌, ◌*◌, ◌/◌, ◌%◌, ◌^◌, ◌==◌, ◌&&◌, cond, Bool, true, List, [], ◌∷◌}
+use Rattle.std.specs.Prelude.{ℕ, zero, suc, ◌+◌, ◌-◌, ◌*◌, ◌/◌, ◌%◌, ◌^◌, ◌==◌, ◌&&◌, nat_lt, cond, Bool, true, List, [], ◌∷◌, length}
 use Rattle.dob_pieces.specs.declared.profile.Profile.{Profile}
 use Rattle.dob_pieces.specs.Profiles.{may_stand}
-use Rattle.dob_rank.specs.Numbers.{count, order, cell_of}
-use Rattle.dob_rank.specs.declared.layers.Layer.TheVariants.{Chicks, Empty}
+use Rattle.dob_rank.specs.Numbers.{count, order, cell_of, choose, settle, empty_layers, enemy_squares}
+use Rattle.dob_rank.specs.Marks.{marks_below}
+use Rattle.dob_rank.specs.Runs.{lion_pairs}
+use Rattle.dob_rank.specs.declared.layers.Layer.TheVariants.{OwnLion, EnemyLion, Chicks, Empty}
 
 -- in how many ways the pieces of layer t can have forms, where a piece on square s has `w s` of them
 abbrev pub weight : (ℕ → ℕ) → ℕ → ℕ → List ℕ → ℕ
@@ -27,3 +29,40 @@ are_allowed ok base t number s (l ∷ ls) =
 -- a chick or hen of that form may stand on the square
 abbrev pub may_have : Profile → ℕ → ℕ → Bool
 may_have profile square form = may_stand profile square (cell_of (order Chicks) form)
+
+-- ---- the same by the squares that are left alone
+
+-- the weights of the empty squares, from square s on
+abbrev pub free_weights : (ℕ → ℕ) → ℕ → List ℕ → List ℕ
+free_weights w s [] = []
+free_weights w s (l ∷ ls) = cond (l == order Empty) (w s ∷ free_weights w (suc s) ls) (free_weights w (suc s) ls)
+
+-- the weight of the choice of that number among squares of those weights
+abbrev pub chosen : ℕ → ℕ → List ℕ → ℕ
+chosen zero c ws = 1
+chosen (suc pieces) c [] = 1
+chosen (suc pieces) c (w ∷ ws) =
+    let first = choose (length ws) pieces in
+    cond (nat_lt c first) (w * chosen pieces c ws) (chosen (suc pieces) (c - first) ws)
+
+-- how many forms a chick or hen may have on a square
+abbrev pub forms_on : Profile → ℕ → ℕ
+forms_on profile square = marks_below (may_have profile square) 4
+
+-- the layers of a board with the lions of a run alone
+abbrev pub lions_in : ℕ → List ℕ
+lions_in run =
+    settle (order EnemyLion) 1 (run % lion_pairs % enemy_squares) (settle (order OwnLion) 1 (run % lion_pairs / enemy_squares) empty_layers)
+
+-- the weight of a choice of the chicks' squares among those that the lions of a run leave
+abbrev pub choice_weight : Profile → ℕ → ℕ → ℕ → ℕ
+choice_weight profile run chicks c = weight (forms_on profile) (order Chicks) 0 (settle (order Chicks) chicks c (lions_in run))
+
+-- the weights of the squares that two lions leave, by how many of them are on row 1 and on row 4: three and three, two and three, one and three,
+-- three and two, two and two
+abbrev pub weights_of : ℕ → List ℕ
+weights_of zero = 3 ∷ 3 ∷ 3 ∷ 4 ∷ 4 ∷ 4 ∷ 4 ∷ 3 ∷ 3 ∷ 3 ∷ []
+weights_of (suc zero) = 3 ∷ 3 ∷ 4 ∷ 4 ∷ 4 ∷ 4 ∷ 4 ∷ 3 ∷ 3 ∷ 3 ∷ []
+weights_of (suc (suc zero)) = 3 ∷ 4 ∷ 4 ∷ 4 ∷ 4 ∷ 4 ∷ 4 ∷ 3 ∷ 3 ∷ 3 ∷ []
+weights_of (suc (suc (suc zero))) = 3 ∷ 3 ∷ 3 ∷ 4 ∷ 4 ∷ 4 ∷ 4 ∷ 4 ∷ 3 ∷ 3 ∷ []
+weights_of _ = 3 ∷ 3 ∷ 4 ∷ 4 ∷ 4 ∷ 4 ∷ 4 ∷ 4 ∷ 3 ∷ 3 ∷ []
