@@ -48,7 +48,10 @@ pub mod Weights  -- weighted choices, and forms that are allowed
 pub mod FarChicks  -- a board is allowed where its chicks' forms are
 pub mod RunWeights  -- marks that a part of a place tells, and layers settled later
 pub mod LionBoards  -- the squares that two lions leave
+pub mod FormPlaces  -- the allowed forms before those of a board
+pub mod FarTables  -- the tables of profile B are the sums that they stand for
 pub mod RunPresent  -- which places of a run are of the family
 pub mod RunCounts  -- how many of them are before a place
+pub mod FamilyRuns  -- how many positions of a family a run has, and how many stand before it
 -- Long lists.
 pub mod Segmentation  -- lists in segments

@@ -33,7 +33,7 @@ nothing : (n : ℕ) → 0 ≤ n
 nothing n = omega arith
 
 -- all forms of a choice
-all_forms : (profile : Profile) (run chicks r c : ℕ) → 0 < r → count (order Chicks) (settle (order Chicks) chicks c (lions_in run)) ≡ chicks
+pub all_forms : (profile : Profile) (run chicks r c : ℕ) → 0 < r → count (order Chicks) (settle (order Chicks) chicks c (lions_in run)) ≡ chicks
     → marks_below (is_form profile run chicks r c) (4 ^ chicks * r) ≡ choice_weight profile run chicks c * r
 all_forms profile run chicks r c some is =
     let ls = settle (order Chicks) chicks c (lions_in run) in

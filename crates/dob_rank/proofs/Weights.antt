@@ -89,7 +89,7 @@ choices_weigh w t s (suc pieces) (l ∷ ls) low none =
 
 -- ---- forms
 
-one_if-and : (a b : Bool) → one_if (a && b) ≡ one_if a * one_if b
+pub one_if-and : (a b : Bool) → one_if (a && b) ≡ one_if a * one_if b
 one_if-and true b = (let e : one_if b ≡ 1 * one_if b = omega arith in e)
 one_if-and false b = (let e : 0 ≡ 0 * one_if b = omega arith in e)
 
@@ -105,7 +105,7 @@ allowed_same : (ok : ℕ → ℕ → Bool) (base t n s : ℕ) (ls : List ℕ)
     → are_allowed ok base t n s (t ∷ ls) ≡ ok s (n / base ^ count t ls % base) && are_allowed ok base t n (suc s) ls
 allowed_same ok base t n s ls = rw (eq-eqb t t refl) refl
 
-allowed_other : (ok : ℕ → ℕ → Bool) (base t n s l : ℕ) (ls : List ℕ) → (l ≡ t → ⊥) → are_allowed ok base t n s (l ∷ ls) ≡ are_allowed ok base t n (suc s) ls
+pub allowed_other : (ok : ℕ → ℕ → Bool) (base t n s l : ℕ) (ls : List ℕ) → (l ≡ t → ⊥) → are_allowed ok base t n s (l ∷ ls) ≡ are_allowed ok base t n (suc s) ls
 allowed_other ok base t n s l ls h = rw (ne_eqb l t h) refl
 
 -- only the low digits of the number matter

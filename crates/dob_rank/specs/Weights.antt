@@ -1,8 +1,10 @@
 -- Weighted choices of squares: a piece has as many forms on a square as a profile lets it have there.
-use Rattle.std.specs.Prelude.{ℕ, zero, suc, ◌+◌, ◌-◌, ◌*◌, ◌/◌, ◌%◌, ◌^◌, ◌==◌, ◌&&◌, nat_lt, cond, Bool, true, List, [], ◌∷◌, length}
+use Rattle.std.specs.Prelude.{ℕ, zero, suc, ◌+◌, ◌-◌, ◌*◌, ◌/◌, ◌%◌, ◌^◌, ◌==◌, ◌&&◌, nat_lt, cond, Bool, true, List, [], ◌∷◌, length, map, slice_index}
 use Rattle.dob_pieces.specs.declared.profile.Profile.{Profile}
 use Rattle.dob_pieces.specs.Profiles.{may_stand}
-use Rattle.dob_rank.specs.Numbers.{count, order, cell_of, choose, settle, empty_layers, enemy_squares}
+use Rattle.dob_pieces.specs.Setups.{Cell}
+use Rattle.dob_rank.specs.Order.{form}
+use Rattle.dob_rank.specs.Numbers.{product, sum_below, layer, count, order, cell_of, choose, settle, empty_layers, enemy_squares, free_squares}
 use Rattle.dob_rank.specs.Marks.{marks_below}
 use Rattle.dob_rank.specs.Runs.{lion_pairs}
 use Rattle.dob_rank.specs.declared.layers.Layer.TheVariants.{OwnLion, EnemyLion, Chicks, Empty}
@@ -66,3 +68,32 @@ weights_of (suc zero) = 3 ∷ 3 ∷ 4 ∷ 4 ∷ 4 ∷ 4 ∷ 4 ∷ 3 ∷ 3 ∷ 3 
 weights_of (suc (suc zero)) = 3 ∷ 4 ∷ 4 ∷ 4 ∷ 4 ∷ 4 ∷ 4 ∷ 3 ∷ 3 ∷ 3 ∷ []
 weights_of (suc (suc (suc zero))) = 3 ∷ 3 ∷ 3 ∷ 4 ∷ 4 ∷ 4 ∷ 4 ∷ 4 ∷ 3 ∷ 3 ∷ []
 weights_of _ = 3 ∷ 3 ∷ 4 ∷ 4 ∷ 4 ∷ 4 ∷ 4 ∷ 4 ∷ 3 ∷ 3 ∷ []
+
+-- the number of a layer's forms among those that are allowed, where the first of the cells stands on square s
+abbrev pub allowed_number : (ℕ → ℕ → Bool) → ℕ → ℕ → ℕ → List Cell → ℕ
+allowed_number ok base t s [] = 0
+allowed_number ok base t s (cell ∷ cells) =
+    cond (layer cell == t)
+    (marks_below (ok s) (form cell) * weight (λ square. marks_below (ok square) base) t (suc s) (map layer cells)) 0
+    + allowed_number ok base t (suc s) cells
+
+-- how many choices of the chicks' squares and of their forms stand before a choice of squares, in a run of those lions; how many there are; and how
+-- many in the runs of one hand before that of those lions
+abbrev pub forms_before : Profile → ℕ → ℕ → ℕ → ℕ
+forms_before profile lions chicks c = sum_below (choice_weight profile lions chicks) c
+
+abbrev pub forms_in : Profile → ℕ → ℕ → ℕ
+forms_in profile chicks lions = forms_before profile lions chicks (choose free_squares chicks)
+
+abbrev pub lions_before : Profile → ℕ → ℕ → ℕ
+lions_before profile chicks lions = sum_below (forms_in profile chicks) lions
+
+-- how many choices of the other kinds' squares there are, and how many forms the pieces on them have
+abbrev pub others_squares : List ℕ → ℕ
+others_squares ob =
+    let i = slice_index ob 0 in
+    let j = slice_index ob 1 in
+    product (choose (free_squares - i) j ∷ choose (free_squares - i - j) (slice_index ob 2) ∷ [])
+
+abbrev pub others_forms : List ℕ → ℕ
+others_forms ob = product ((2 ^ slice_index ob 1) ∷ (2 ^ slice_index ob 2) ∷ [])

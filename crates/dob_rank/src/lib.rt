@@ -11,6 +11,7 @@ mod block;
 mod block_classes;
 mod class_counts;
 mod classes;
+mod far_rows;
 mod fault;
 mod forms;
 pub mod laws;
