@@ -27,7 +27,7 @@ use Rattle.dob_rank.proofs.RunCounts.{IsSpotIn, all_forms, is_form, present_befo
 
 -- ---- sums of products
 
-factor_out : (w : ℕ → ℕ) (n r c : ℕ) → sum_below (λ d. n * (w d * r)) c ≡ sum_below w c * (n * r)
+pub factor_out : (w : ℕ → ℕ) (n r c : ℕ) → sum_below (λ d. n * (w d * r)) c ≡ sum_below w c * (n * r)
 factor_out w n r c =
     sum_same (λ d. n * (w d * r)) (λ d. n * r * w d) c (λ d low. turned (w d))
     ∙ sum_times (n * r) w c ∙ mul_comm (n * r) (sum_below w c)

@@ -53,5 +53,7 @@ pub mod FarTables  -- the tables of profile B are the sums that they stand for
 pub mod RunPresent  -- which places of a run are of the family
 pub mod RunCounts  -- how many of them are before a place
 pub mod FamilyRuns  -- how many positions of a family a run has, and how many stand before it
+pub mod FamilyRanks  -- the rank of a position in its family, by its digits
+pub mod FarStarts  -- the table of the starts of blocks in profile B
 -- Long lists.
 pub mod Segmentation  -- lists in segments

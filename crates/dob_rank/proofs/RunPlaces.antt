@@ -205,7 +205,7 @@ pub record HasSpot (set : PieceSet) (s : Setup) (of : PieceSet) (block run local
   pub there : IsInRun of block run local
   pub rank_is : run_start of block run + local ≡ rank_of set s
 
-run_of-below : (set : PieceSet) (s : Setup) → IsPositionOf set s → run_of set s < runs_in set (block_of set s)
+pub run_of-below : (set : PieceSet) (s : Setup) → IsPositionOf set s → run_of set s < runs_in set (block_of set s)
 unfolding run_of runs_in
 run_of-below set s p =
     let h = HasDigits-digits set s (HasParts-from_position set s p) in

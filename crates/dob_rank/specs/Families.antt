@@ -1,11 +1,16 @@
 -- The positions of a family: how many there are, how many stand before one, and its classes. Which of the ranks of its set are its own.
 use Rattle.std.specs.Prelude.{ℕ, ◌&&◌, Bool}
+use Rattle.dob_pieces.specs.declared.piece_set.PieceSet.{PieceSet}
 use Rattle.dob_pieces.specs.declared.profile.Family.{Family}
+use Rattle.dob_pieces.specs.declared.profile.Profile.{Profile}
 use Rattle.dob_pieces.specs.declared.setup.Setup.{Setup}
 use Rattle.dob_pieces.specs.Profiles.{is_allowed, IsAllowed}
 use Rattle.dob_rank.specs.Order.{IsPositionOf, Before, HasCount, IsFirstOfTwo}
 use Rattle.dob_rank.specs.Numbers.{size_of, rank_of, nth}
 use Rattle.dob_rank.specs.Marks.{marks_below, is_first}
+
+abbrev pub family_of : PieceSet → Profile → Family
+family_of set profile = record { set = set; profile = profile }
 
 -- a position of the family's set that its profile allows
 pub record IsPositionIn (family : Family) (setup : Setup) : Type 0 where

@@ -1,5 +1,5 @@
 -- Each hand has the marks of the runs of one.
-use Rattle.dob_rank.proofs.FamilyRuns.{blocks_present}
+use Rattle.dob_rank.proofs.FamilyRanks.{rank_in-parts}
 use Rattle.dob_rank.proofs.Lions.{lions_layers-pair}
 use Rattle.dob_rank.proofs.RunCounts.{present_before}
 use Rattle.dob_rank.proofs.Present.{HasSizeIn-size_in}
