@@ -12,7 +12,7 @@ use Rattle.dob_rank.specs.Numbers.{free_squares, enemy_squares, order, settle, e
 use Rattle.dob_rank.specs.Marks.{one_if, marks_below}
 use Rattle.dob_rank.specs.Runs.{runs_in, run_start, run_of, local_of, lions_of, lion_pairs, local_bases, square_bases, form_bases}
 use Rattle.dob_rank.specs.Families.{IsPositionIn, is_present, rank_in}
-use Rattle.dob_rank.specs.Weights.{weight, forms_on, may_have, are_allowed, lions_in, choice_weight, forms_before, lions_before, allowed_number, others_squares, others_forms}
+use Rattle.dob_rank.specs.Weights.{hand_size, place_in, weight, forms_on, may_have, are_allowed, lions_in, choice_weight, forms_before, lions_before, allowed_number, others_squares, others_forms}
 use Rattle.dob_rank.specs.declared.layers.Layer.TheVariants.{OwnLion, EnemyLion, Chicks, Elephants, Giraffes}
 use Rattle.dob_rank.proofs.MixedRadix.{number_of-append, number_of-below, digit_below}
 use Rattle.dob_rank.proofs.Digits.{HasParts-from_position, HasDigits-digits, layers_by-back}
@@ -192,15 +192,10 @@ own_place family s p =
 
 -- ---- its rank
 
-abbrev pub rank_by : Profile → ℕ → ℕ → ℕ → List ℕ → ℕ → ℕ → ℕ → ℕ → ℕ
-rank_by profile start hands lions ob c q d f =
-    start + (((hands * lions_before profile (slice_index ob 0) lion_pairs + lions_before profile (slice_index ob 0) lions
-    + forms_before profile lions (slice_index ob 0) c) * others_squares ob + q * choice_weight profile lions (slice_index ob 0) c + d) * others_forms ob + f)
-
-gathered : (start x s n q w d r f : ℕ) → start + x * (n * r) + ((s * n + q * w + d) * r + f) ≡ start + (((x + s) * n + q * w + d) * r + f)
+gathered : (start x s n q w d r f : ℕ) → start + x * (n * r) + ((s * n + q * w + d) * r + f) ≡ start + (((x + s) * n + (q * w + d)) * r + f)
 gathered start x s n q w d r f =
-    let one : ((x + s) * n + q * w + d) * r ≡ ((x + s) * n + q * w) * r + d * r = add-mul ((x + s) * n + q * w) d r in
-    let two : ((x + s) * n + q * w) * r ≡ (x + s) * n * r + q * w * r = add-mul ((x + s) * n) (q * w) r in
+    let one : ((x + s) * n + (q * w + d)) * r ≡ (x + s) * n * r + (q * w + d) * r = add-mul ((x + s) * n) (q * w + d) r in
+    let two : (q * w + d) * r ≡ q * w * r + d * r = add-mul (q * w) d r in
     let three : (x + s) * n ≡ x * n + s * n = add-mul x s n in
     let four : (x * n + s * n) * r ≡ x * n * r + s * n * r = add-mul (x * n) (s * n) r in
     let five : x * n * r ≡ x * (n * r) = mul_assoc x n r in
@@ -220,9 +215,9 @@ same_weights profile run lions ob c n q d r f e = ap (λ (m : ℕ). (sum_below (
 
 pub rank_in-parts : (family : Family) (s : Setup) → IsPositionIn family s
     → rank_in family s
-    ≡ rank_by family.profile (marks_below (is_present family) (start_of family.set (block_of family.set s))) (hand_of family.set s) (lions_of s) (on_board s)
-    (slice_index (digits s) 5) (squares_number s) (allowed_number (may_have family.profile) 4 (order Chicks) 0 s.board) (others_number s)
-unfolding rank_in
+    ≡ marks_below (is_present family) (start_of family.set (block_of family.set s))
+    + place_in family.profile (on_board s) (digits s) (hand_of family.set s) (lions_of s) (allowed_number (may_have family.profile) 4 (order Chicks) 0 s.board)
+unfolding rank_in place_in hand_size
 rank_in-parts family s p =
     let set = family.set in
     let run : ℕ = run_of family.set s in

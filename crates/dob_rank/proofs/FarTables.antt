@@ -8,7 +8,7 @@ use Rattle.dob_rank.specs.declared.far_rows.TheConstants.{SHAPE, BEFORE, LIONS_B
 use Rattle.dob_rank.specs.Numbers.{sum_below, count, choose, order, settle, own_squares, enemy_squares, free_squares}
 use Rattle.dob_rank.specs.Marks.{marks_below}
 use Rattle.dob_rank.specs.Runs.{lion_pairs}
-use Rattle.dob_rank.specs.Weights.{weight, free_weights, chosen, may_have, forms_on, lions_in, choice_weight, weights_of, forms_before, forms_in, lions_before}
+use Rattle.dob_rank.specs.Weights.{weight, free_weights, chosen, may_have, forms_on, lions_in, choice_weight, weights_of, forms_before, forms_in, lions_before, hand_size}
 use Rattle.dob_rank.specs.declared.layers.Layer.TheVariants.{Chicks, Empty}
 use Rattle.dob_rank.proofs.Settled.{hide}
 use Rattle.dob_rank.proofs.BlockStarts.{same_number}
@@ -183,6 +183,19 @@ pub before_lions : (chicks lions : ℕ) → chicks ≤ 2 → lions ≤ lion_pair
 before_lions chicks lions few upto =
     let sum = lion_sum chicks lions (few_chicks chicks few) upto in
     record { value_is = sum.0; few = sum.1 }
+
+pub record IsHandSize (chicks : ℕ) : Type 0 where
+  pub value_is : lions_entry chicks lion_pairs ≡ hand_size B chicks
+  pub few : lions_entry chicks lion_pairs ≤ 54000
+
+pub hand_size_is : (chicks : ℕ) → chicks ≤ 2 → IsHandSize chicks
+unfolding hand_size
+hand_size_is chicks few =
+    let sum = before_lions chicks lion_pairs few all_lions in
+    record { value_is = sum.value_is; few = sum.few }
+  where
+    all_lions : lion_pairs ≤ lion_pairs
+    all_lions = omega arith
 
 -- ---- the forms on a square
 

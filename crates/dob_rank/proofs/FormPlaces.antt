@@ -208,3 +208,34 @@ number_of_two ok base t s (cell ∷ cells) two = elim (cases_eq (layer cell) t) 
 
     second_after : (layer cell ≡ t → ⊥) → second_square t (layer cell ∷ map layer cells) ≡ suc (second_square t (map layer cells))
     second_after n = rw (ne_eqb (layer cell) t n) refl
+
+-- ---- the same by the squares that a mask tells
+
+place_at : (ok : ℕ → ℕ → Bool) (cells : List Cell) (found square place : ℕ) → found ≡ square → place ≡ marks_below (ok found) (form (get_or cells found None))
+    → place ≡ form_place ok 0 cells square
+place_at ok cells found square place e is =
+    is ∙ ap (λ (k : ℕ). marks_below (ok k) (form (get_or cells k None))) e
+    ∙ ap (λ (k : ℕ). marks_below (ok k) (form (get_or cells square None))) (let z : square ≡ 0 + square = omega arith in z)
+
+pub one_found : (ok : ℕ → ℕ → Bool) (base t : ℕ) (cells : List Cell) (mask place : ℕ) → length cells ≡ 12 → mask ≡ layer_mask t (map layer cells)
+    → count t (map layer cells) ≡ 1 → place ≡ marks_below (ok (lowest mask)) (form (get_or cells (lowest mask) None)) → place ≡ allowed_number ok base t 0 cells
+one_found ok base t cells mask place long is one found =
+    place_at ok cells (lowest mask) (first_square t (map layer cells)) place (first_found t cells mask long is (omega (arith, one))) found
+    ∙ sym (number_of_one ok base t 0 cells one)
+
+pub two_found : (ok : ℕ → ℕ → Bool) (base t : ℕ) (cells : List Cell) (mask less first forms second : ℕ) → length cells ≡ 12
+    → mask ≡ layer_mask t (map layer cells) → less ≡ mask - 1 → count t (map layer cells) ≡ 2
+    → first ≡ marks_below (ok (lowest mask)) (form (get_or cells (lowest mask) None))
+    → forms ≡ marks_below (ok (lowest (bit_and mask less))) base
+    → second ≡ marks_below (ok (lowest (bit_and mask less))) (form (get_or cells (lowest (bit_and mask less)) None))
+    → first * forms + second ≡ allowed_number ok base t 0 cells
+two_found ok base t cells mask less first forms second long is less_is two first_is forms_is second_is =
+    let next = second_found t cells mask less long is less_is two in
+    let w : forms ≡ marks_below (ok (0 + second_square t (map layer cells))) base =
+    forms_is ∙ ap (λ (k : ℕ). marks_below (ok k) base) (next ∙ (let z : second_square t (map layer cells) ≡ 0 + second_square t (map layer cells) = omega arith in z)) in
+    let one = place_at ok cells (lowest mask) (first_square t (map layer cells)) first (first_found t cells mask long is (omega (arith, two))) first_is in
+    let other = place_at ok cells (lowest (bit_and mask less)) (second_square t (map layer cells)) second next second_is in
+    ap (λ (x : ℕ). x * forms + second) one
+    ∙ ap (λ (x : ℕ). form_place ok 0 cells (first_square t (map layer cells)) * x + second) w
+    ∙ ap (λ (x : ℕ). form_place ok 0 cells (first_square t (map layer cells)) * marks_below (ok (0 + second_square t (map layer cells))) base + x) other
+    ∙ sym (number_of_two ok base t 0 cells two)

@@ -55,5 +55,6 @@ pub mod RunCounts  -- how many of them are before a place
 pub mod FamilyRuns  -- how many positions of a family a run has, and how many stand before it
 pub mod FamilyRanks  -- the rank of a position in its family, by its digits
 pub mod FarStarts  -- the table of the starts of blocks in profile B
+pub mod PlaceParts  -- the parts of a place in profile B as the code finds them
 -- Long lists.
 pub mod Segmentation  -- lists in segments

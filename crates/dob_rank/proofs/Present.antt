@@ -7,10 +7,10 @@ use Rattle.dob_pieces.specs.declared.profile.Profile.TheVariants.{A, B}
 use Rattle.dob_pieces.specs.declared.setup.Setup.{Setup}
 use Rattle.dob_pieces.specs.Profiles.{is_allowed}
 use Rattle.dob_rank.specs.Order.{IsPositionOf, Before, HasCount, IsFirstOfTwo}
-use Rattle.dob_rank.specs.Numbers.{size_of, rank_of, nth}
+use Rattle.dob_rank.specs.Numbers.{size_of, rank_of, nth, product, block_bases, start_of}
 use Rattle.dob_rank.specs.Marks.{one_if, marks_below, is_first}
 use Rattle.dob_rank.specs.Families.{IsPositionIn, HasSizeIn, HasRankIn, IsRepresentativeIn, HasClassesIn, HasClassIn}
-use Rattle.dob_rank.specs.Families.{is_present, is_marked, size_in, rank_in, classes_in}
+use Rattle.dob_rank.specs.Families.{family_of, is_present, is_marked, size_in, rank_in, classes_in}
 use Rattle.dob_rank.proofs.Numbering.{nth-rank_of, rank_of-below, rank_of-rises, Before-from_rank}
 use Rattle.dob_rank.proofs.Marks.{HasCount-same, HasCount-marked, IsMarkedBelow, numbering, first-marked, marked-first}
 
@@ -102,3 +102,20 @@ all_present family zero a = refl
 all_present family (suc n) a =
     let rest : marks_below (is_present family) n ≡ n = all_present family n a in
     let one : one_if (is_present family n) ≡ 1 = ap one_if (there family n a) in omega arith
+
+pub size_in-whole : (family : Family) → family.profile ≡ A → size_in family ≡ size_of family.set
+unfolding size_in
+size_in-whole family a = all_present family (size_of family.set) a
+
+pub rank_in-whole : (family : Family) (s : Setup) → family.profile ≡ A → rank_in family s ≡ rank_of family.set s
+unfolding rank_in
+rank_in-whole family s a = all_present family (rank_of family.set s) a
+
+-- ---- in profile B those before the end of the last block are all
+
+pub size_in-end : (family : Family) (blocks number : ℕ) → family.profile ≡ B → blocks ≡ product (block_bases family.set)
+    → number ≡ marks_below (is_present (family_of family.set B)) (start_of family.set blocks) → number ≡ size_in family
+unfolding size_in size_of
+size_in-end family blocks number b whole is =
+    is ∙ ap (λ (n : ℕ). marks_below (is_present (family_of family.set B)) (start_of family.set n)) whole
+    ∙ ap (λ (p : Profile). marks_below (is_present (family_of family.set p)) (start_of family.set (product (block_bases family.set)))) (sym b)

@@ -4,7 +4,7 @@ use Rattle.dob_pieces.specs.declared.profile.Profile.{Profile}
 use Rattle.dob_pieces.specs.Profiles.{may_stand}
 use Rattle.dob_pieces.specs.Setups.{Cell}
 use Rattle.dob_rank.specs.Order.{form}
-use Rattle.dob_rank.specs.Numbers.{product, sum_below, layer, count, order, cell_of, choose, settle, empty_layers, enemy_squares, free_squares}
+use Rattle.dob_rank.specs.Numbers.{product, number_of, sum_below, layer, count, order, cell_of, choose, settle, empty_layers, enemy_squares, free_squares}
 use Rattle.dob_rank.specs.Marks.{marks_below}
 use Rattle.dob_rank.specs.Runs.{lion_pairs}
 use Rattle.dob_rank.specs.declared.layers.Layer.TheVariants.{OwnLion, EnemyLion, Chicks, Empty}
@@ -97,3 +97,25 @@ others_squares ob =
 
 abbrev pub others_forms : List ℕ → ℕ
 others_forms ob = product ((2 ^ slice_index ob 1) ∷ (2 ^ slice_index ob 2) ∷ [])
+
+-- the numbers of the others' squares and of their forms, by a position's digits
+abbrev pub squares_by : List ℕ → List ℕ → ℕ
+squares_by ob ds =
+    let i = slice_index ob 0 in
+    let j = slice_index ob 1 in
+    number_of (choose (free_squares - i) j ∷ choose (free_squares - i - j) (slice_index ob 2) ∷ []) (slice_index ds 6 ∷ slice_index ds 7 ∷ [])
+
+abbrev pub others_by : List ℕ → List ℕ → ℕ
+others_by ob ds = number_of ((2 ^ slice_index ob 1) ∷ (2 ^ slice_index ob 2) ∷ []) (slice_index ds 9 ∷ slice_index ds 10 ∷ [])
+
+-- how many choices of the chicks' squares with forms stand in the runs of one hand
+unfoldable pub hand_size : Profile → ℕ → ℕ
+hand_size profile chicks = lions_before profile chicks lion_pairs
+
+-- the place in a block of a hand and lions, of the digits of squares and forms, and of so many allowed forms of the chicks before
+unfoldable pub place_in : Profile → List ℕ → List ℕ → ℕ → ℕ → ℕ → ℕ
+place_in profile ob ds hands lions forms =
+    let i = slice_index ob 0 in
+    let c = slice_index ds 5 in
+    let chosen = hands * hand_size profile i + lions_before profile i lions + forms_before profile lions i c in
+    (chosen * others_squares ob + (squares_by ob ds * choice_weight profile lions i c + forms)) * others_forms ob + others_by ob ds

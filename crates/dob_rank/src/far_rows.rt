@@ -4,7 +4,7 @@ ghost use Rattle.std.specs.Prelude.{◌≡◌, ◌<◌, ◌≤◌, ◌*◌, ◌^
 ghost use Rattle.dob_pieces.specs.declared.profile.Profile.TheVariants.{B};
 ghost use Rattle.dob_rank.specs.Numbers.{choose};
 ghost use Rattle.dob_rank.specs.Marks.{marks_below};
-ghost use Rattle.dob_rank.specs.Weights.{may_have, forms_before, lions_before};
+ghost use Rattle.dob_rank.specs.Weights.{may_have, forms_before, lions_before, hand_size};
 
 use crate::runs::{FREE_SQUARES, LIONS};
 use dob_pieces::Square;
@@ -169,6 +169,15 @@ pub(crate) fn before_lions(chicks: u64, lions: u64) -> u64
     ensures bound { result ≤ 54_000 }
 {
     u64::from(LIONS_BEFORE[chicks as usize][lions as usize])
+}
+
+/// How many there are in the runs of one hand.
+pub(crate) fn hand_size(chicks: u64) -> u64
+    requires { chicks ≤ 2 }
+    ensures value { result ≡ hand_size B chicks }
+    ensures bound { result ≤ 54_000 }
+{
+    u64::from(LIONS_BEFORE[chicks as usize][LIONS as usize])
 }
 
 /// How many of the forms before that one a chick or hen may have on the square.

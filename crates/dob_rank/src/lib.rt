@@ -11,6 +11,7 @@ mod block;
 mod block_classes;
 mod class_counts;
 mod classes;
+mod family_ranks;
 mod far_rows;
 mod far_starts;
 mod fault;
@@ -29,6 +30,7 @@ mod stretches;
 
 pub use class_counts::count_classes;
 pub use classes::Classes;
+pub use family_ranks::{rank_in, size_in};
 pub use fault::Fault;
 pub use limit::{MOST_PIECES, is_too_large};
 pub use ranks::{rank, representative, size, unrank};
