@@ -98,3 +98,10 @@ one_step now next before more a b = omega arith
 
 pub not_less : (now next before more : ℕ) → now ≡ before → next ≡ before + more → now ≤ next
 not_less now next before more a b = omega arith
+
+-- one of them known by another name
+pub product_within : (a found b m n : ℕ) → found ≡ b → a ≤ m → b ≤ n → a * found ≤ m * n
+product_within a found b m n e h k = product_few a found m n h (subst (λ (x : ℕ). x ≤ n) (sym e) k)
+
+pub few_squares : (a b c w : ℕ) → a ≡ b → b < c → c ≤ 2025 → w ≤ 582 → a * w ≤ 2025 * 582
+few_squares a b c w e low few weight = product_few a w 2025 582 (omega (arith, e, low, few)) weight
