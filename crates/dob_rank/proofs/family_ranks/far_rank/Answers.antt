@@ -5,7 +5,7 @@ use Rattle.dob_rank.specs.Numbers.{block_bases, start_of}
 use Rattle.dob_rank.specs.Marks.{marks_below}
 use Rattle.dob_rank.specs.Families.{family_of, is_present, rank_in}
 use Rattle.dob_rank.proofs.Found.{HasDigits-board, HasDigits-same, block_found, block_upto}
-use Rattle.dob_rank.proofs.Sets.{IsPositionOf-totals}
+use Rattle.dob_rank.proofs.Sets.{IsPositionOf-totals, set_of_position}
 use Rattle.dob_rank.proofs.FarPlaces.{far_rank_is, far_rank_small}
 use Rattle.dob_rank.proofs.family_ranks.far_rank.Goals as goal
 
@@ -45,4 +45,4 @@ returns c = λ set of_set.
     far_rank_is c.piece_set_of-set.result c.args.position.now.setup _ _ _ c.far_start.ensures.value
     (block_found c.piece_set_of-set.result c.args.position.now.setup _ _ _ c.block_bases_of.ensures c.numbers_on_board-on_board.ensures c.number_of-block.ensures)
     c.far_place.ensures
-    ∙ ap (λ q. rank_in (family_of q B) c.args.position.now.setup) (same_set c.piece_set_of-set.result set c.args.position.now.setup is of_set)
+    ∙ ap (λ q. rank_in (family_of q B) c.args.position.now.setup) (set_of_position c.piece_set_of-set.result set c.args.position.now.setup is of_set)
