@@ -1,8 +1,5 @@
 -- Each hand has the marks of the runs of one.
-use Rattle.dob_rank.proofs.FamilyRanks.{rank_in-parts}
-use Rattle.dob_rank.proofs.Lions.{lions_layers-pair}
 use Rattle.dob_rank.proofs.RunCounts.{present_before}
-use Rattle.dob_rank.proofs.Present.{HasSizeIn-size_in}
 use Rattle.std.proofs.Common.{◌≡◌, ◌≤◌, ◌/◌, ◌^◌, arith, ap}
 use Rattle.dob_rank.specs.Runs.{lion_pairs}
 use Rattle.dob_rank.proofs.Blocks.{sum_below_more}
