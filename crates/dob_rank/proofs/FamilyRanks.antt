@@ -1,5 +1,5 @@
 -- A position's rank in its family, by the start of its block, its hand, its lions, its squares and its forms.
-use Rattle.std.proofs.Common.{◌≡◌, ℕ, zero, suc, ◌+◌, ◌-◌, ◌*◌, ◌/◌, ◌%◌, ◌^◌, ◌<◌, ◌≤◌, Bool, true, List, [], ◌∷◌, ◌++◌, length, map, slice_index, refl, sym, ap, ◌∙◌, subst, arith}
+use Rattle.std.proofs.Common.{◌≡◌, ℕ, ◌+◌, ◌-◌, ◌*◌, ◌/◌, ◌%◌, ◌^◌, ◌<◌, Bool, true, List, [], ◌∷◌, map, slice_index, refl, sym, ap, ◌∙◌, subst, arith}
 use Rattle.std.proofs.lemmas.Nat.{div-mul-add}
 use Rattle.std.proofs.Math.Nat.{mul_assoc, add-mul}
 use Rattle.dob_pieces.specs.declared.piece_set.PieceSet.{PieceSet}
@@ -7,10 +7,10 @@ use Rattle.dob_pieces.specs.declared.profile.Family.{Family}
 use Rattle.dob_pieces.specs.declared.profile.Profile.{Profile}
 use Rattle.dob_pieces.specs.declared.setup.Setup.{Setup}
 use Rattle.dob_rank.specs.Order.{IsPositionOf}
-use Rattle.dob_rank.specs.Numbers.{product, number_of, digits_of, sum_below, choose, choice, block_bases, block_of, rank_of, start_of, on_board, digits, layer, forms_number, bases_by, HasDigits}
+use Rattle.dob_rank.specs.Numbers.{product, number_of, sum_below, choose, choice, block_bases, block_of, start_of, on_board, digits, layer, forms_number}
 use Rattle.dob_rank.specs.Numbers.{free_squares, enemy_squares, order, settle, empty_layers}
 use Rattle.dob_rank.specs.Marks.{one_if, marks_below}
-use Rattle.dob_rank.specs.Runs.{runs_in, run_start, run_of, local_of, lions_of, lion_pairs, local_bases, square_bases, form_bases}
+use Rattle.dob_rank.specs.Runs.{runs_in, run_start, run_of, local_of, lions_of, lion_pairs, square_bases, form_bases}
 use Rattle.dob_rank.specs.Families.{IsPositionIn, is_present, rank_in}
 use Rattle.dob_rank.specs.Weights.{hand_size, place_in, weight, forms_on, may_have, are_allowed, lions_in, choice_weight, forms_before, lions_before, allowed_number, others_squares, others_forms}
 use Rattle.dob_rank.specs.declared.layers.Layer.TheVariants.{OwnLion, EnemyLion, Chicks, Elephants, Giraffes}
@@ -18,12 +18,11 @@ use Rattle.dob_rank.proofs.MixedRadix.{number_of-append, number_of-below, digit_
 use Rattle.dob_rank.proofs.Digits.{HasParts-from_position, HasDigits-digits, layers_by-back}
 use Rattle.dob_rank.proofs.Numbering.{block_of-below, on_board-block}
 use Rattle.dob_rank.proofs.RunPlaces.{run_of-lions, hand_of, run_of-below, spot_there}
-use Rattle.dob_rank.proofs.RunMarks.{marks_agree}
 use Rattle.dob_rank.proofs.Lions.{lions_of-below, lions_layers}
 use Rattle.dob_rank.proofs.RunWeights.{low_alike, settled_later}
 use Rattle.dob_rank.proofs.FormPlaces.{allowed_before}
 use Rattle.dob_rank.proofs.RunPresent.{lions_by, allowed_by_digits}
-use Rattle.dob_rank.proofs.RunCounts.{IsSpotIn, is_form, present_before}
+use Rattle.dob_rank.proofs.RunCounts.{is_form, present_before}
 use Rattle.dob_rank.proofs.FamilyRuns.{ob_of, factor_out, spot_in_run, others_forms-some, present_before_run}
 
 -- ---- a place of a run

@@ -1,29 +1,26 @@
 -- How many positions of a family a run has, and how many stand before it in its block.
-use Rattle.std.proofs.Common.{◌≡◌, ℕ, zero, suc, ◌+◌, ◌-◌, ◌*◌, ◌/◌, ◌%◌, ◌^◌, ◌<◌, ◌≤◌, Bool, true, List, [], ◌∷◌, length, slice_index, refl, sym, ap, ◌∙◌, subst, arith}
-use Rattle.std.specs.List.{All}
+use Rattle.std.proofs.Common.{◌≡◌, ℕ, zero, suc, ◌+◌, ◌-◌, ◌*◌, ◌%◌, ◌^◌, ◌<◌, ◌≤◌, List, slice_index, refl, sym, ap, ◌∙◌, subst, arith}
 use Rattle.std.proofs.Math.Nat.{mul_comm, mul_assoc, add-mul, mul-pos}
-use Rattle.std.proofs.lemmas.Nat.{mod-mul-add}
-use Rattle.dob_pieces.specs.declared.piece_set.PieceSet.{PieceSet}
 use Rattle.dob_pieces.specs.declared.profile.Family.{Family}
 use Rattle.dob_pieces.specs.declared.profile.Profile.{Profile}
-use Rattle.dob_rank.specs.Numbers.{product, digits_of, sum_below, choose, block_bases, block_size, start_of, free_squares, order, own_squares, enemy_squares, empty_layers, settle}
-use Rattle.dob_rank.specs.Marks.{one_if, marks_below}
-use Rattle.dob_rank.specs.Runs.{runs_in, run_size, run_start, lion_pairs, local_bases, square_bases, form_bases}
+use Rattle.dob_rank.specs.Numbers.{product, digits_of, sum_below, choose, block_bases, block_size, start_of, free_squares, order, settle}
+use Rattle.dob_rank.specs.Marks.{marks_below}
+use Rattle.dob_rank.specs.Runs.{runs_in, run_size, run_start, lion_pairs, square_bases, form_bases}
 use Rattle.dob_rank.specs.Families.{is_present}
-use Rattle.dob_rank.specs.Weights.{weight, forms_on, lions_in, choice_weight, forms_before, forms_in, lions_before, others_squares, others_forms}
-use Rattle.dob_rank.specs.declared.layers.Layer.TheVariants.{OwnLion, EnemyLion, Chicks}
+use Rattle.dob_rank.specs.Weights.{weight, forms_on, choice_weight, forms_in, lions_before, others_squares, others_forms}
+use Rattle.dob_rank.specs.declared.layers.Layer.TheVariants.{Chicks}
 use Rattle.dob_rank.proofs.Sums.{sum_same, sum_times, sum_blocks, sum_alike}
-use Rattle.dob_rank.proofs.MixedRadix.{product-append, digit_below}
+use Rattle.dob_rank.proofs.MixedRadix.{product-append}
 use Rattle.dob_rank.proofs.FormDigits.{power_positive}
 use Rattle.dob_rank.proofs.Blocks.{sum_below_more, choose-positive, few_in_block, room_left}
 use Rattle.dob_rank.proofs.DigitParts.{AreFewOnBoard-digits}
 use Rattle.dob_rank.proofs.Lions.{lions_layers}
 use Rattle.dob_rank.proofs.Words.{marks_below_none}
 use Rattle.dob_rank.proofs.RunPlaces.{hand_bases}
-use Rattle.dob_rank.proofs.RunMarks.{run_start_first, run_start_next, run_start_end, lions_run}
+use Rattle.dob_rank.proofs.RunMarks.{run_start_first, run_start_next, run_start_end}
 use Rattle.dob_rank.proofs.RunSums.{runs_by_hand}
 use Rattle.dob_rank.proofs.LionBoards.{chicks_settled}
-use Rattle.dob_rank.proofs.RunCounts.{IsSpotIn, all_forms, is_form, present_before}
+use Rattle.dob_rank.proofs.RunCounts.{IsSpotIn, all_forms, present_before}
 
 -- ---- sums of products
 

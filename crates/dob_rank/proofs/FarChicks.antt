@@ -1,14 +1,10 @@
 -- Which boards a profile allows, by the forms of their chicks.
-use Rattle.std.proofs.Common.{◌≡◌, ℕ, zero, suc, ◌+◌, ◌*◌, ◌/◌, ◌%◌, ◌^◌, ◌<◌, ◌≤◌, ◌&&◌, Bool, true, false, List, [], ◌∷◌, refl, sym, ap, ◌∙◌, subst, inl, inr, arith}
-use Rattle.std.proofs.lemmas.Bool.{cases_eq, eq-eqb, ne_eqb}
-use Rattle.dob_pieces.specs.declared.kind.Kind.TheVariants.{Giraffe, Elephant}
-use Rattle.dob_pieces.specs.declared.kind.Side.{Side}
-use Rattle.dob_pieces.specs.declared.kind.Side.TheVariants.{Mover, Enemy}
+use Rattle.std.proofs.Common.{◌≡◌, ℕ, zero, suc, ◌/◌, ◌%◌, ◌^◌, ◌≤◌, ◌&&◌, Bool, true, List, [], ◌∷◌, refl, sym, ap, ◌∙◌, subst, inl, inr, arith}
+use Rattle.std.proofs.lemmas.Bool.{cases_eq, ne_eqb}
 use Rattle.dob_pieces.specs.declared.profile.Profile.{Profile}
 use Rattle.dob_pieces.specs.declared.profile.Profile.TheVariants.{A, B}
-use Rattle.dob_pieces.specs.Profiles.{is_far, may_stand, may_all_stand}
-use Rattle.dob_pieces.specs.Squares.{row}
-use Rattle.dob_rank.specs.Numbers.{count, settle, order, base_of, cell_of, side_of, board_of}
+use Rattle.dob_pieces.specs.Profiles.{may_stand, may_all_stand}
+use Rattle.dob_rank.specs.Numbers.{count, order, base_of, cell_of, board_of}
 use Rattle.dob_rank.specs.Weights.{may_have, are_allowed}
 use Rattle.dob_rank.specs.declared.layers.Layer.TheVariants.{Chicks, Empty}
 use Rattle.dob_rank.proofs.Settled.{AreLayers}
@@ -41,4 +37,3 @@ board_allowed profile numbers square (l ∷ ls) a =
           (others_stand profile square l (numbers l / base_of l ^ count l ls % base_of l) a.0 n)
           ∙ rest ∙ sym (rw (ne_eqb l (order Chicks) n) refl)
     ]
-

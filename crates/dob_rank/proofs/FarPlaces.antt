@@ -4,7 +4,7 @@ use Rattle.dob_pieces.specs.declared.piece_set.PieceSet.{PieceSet}
 use Rattle.dob_pieces.specs.declared.profile.Profile.TheVariants.{B}
 use Rattle.dob_pieces.specs.declared.setup.Setup.{Setup}
 use Rattle.dob_rank.specs.Order.{IsPositionOf}
-use Rattle.dob_rank.specs.Numbers.{product, block_bases, size_of, rank_of, number_of, choose, free_squares, block_of, start_of, on_board, digits, layer, count, order}
+use Rattle.dob_rank.specs.Numbers.{product, block_bases, size_of, rank_of, choose, free_squares, block_of, start_of, on_board, digits, layer, count, order}
 use Rattle.dob_rank.specs.Marks.{marks_below}
 use Rattle.dob_rank.specs.Runs.{run_of, lions_of, lion_pairs, local_of}
 use Rattle.dob_rank.specs.Families.{family_of, IsPositionIn, is_present, rank_in}

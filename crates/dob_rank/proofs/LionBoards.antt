@@ -1,13 +1,12 @@
 -- The board of two lions alone: ten squares are left, and the weight of a choice among them follows from their weights.
-use Rattle.std.proofs.Common.{◌≡◌, ℕ, zero, suc, ◌+◌, ◌-◌, ◌*◌, ◌/◌, ◌%◌, ◌<◌, ◌≤◌, ◌⊎◌, cond, ltb, List, [], ◌∷◌, length, refl, sym, ap, ◌∙◌, subst, inl, inr, arith}
-use Rattle.std.proofs.lemmas.Bool.{cases_eq, cases_lt, lt-ltb, le-ltb, eq-eqb, ne_eqb}
+use Rattle.std.proofs.Common.{◌≡◌, ℕ, zero, suc, ◌+◌, ◌-◌, ◌*◌, ◌/◌, ◌%◌, ◌<◌, ◌≤◌, ◌⊎◌, List, [], ◌∷◌, length, refl, sym, ap, ◌∙◌, subst, inl, inr, arith}
+use Rattle.std.proofs.lemmas.Bool.{cases_eq, cases_lt, lt-ltb, le-ltb, ne_eqb}
 use Rattle.dob_rank.specs.Numbers.{count, choose, with_first, settle, order, own_squares, enemy_squares, free_squares, empty_layers}
 use Rattle.dob_rank.specs.Runs.{lion_pairs}
 use Rattle.dob_rank.specs.Weights.{weight, free_weights, chosen, lions_in}
 use Rattle.dob_rank.specs.declared.layers.Layer.TheVariants.{OwnLion, EnemyLion, Chicks, Empty}
 use Rattle.dob_rank.proofs.Choices.{count_same, count_other}
 use Rattle.dob_rank.proofs.Settled.{AreShown, IsSettled, settle-settles, settle_kept, settle_taken, settle_left}
-use Rattle.dob_rank.proofs.LayerCounts.{length-settle}
 use Rattle.dob_rank.proofs.Made.{empty_after, eleven, below_twelve, all_empty, lion_before_empty}
 use Rattle.dob_rank.proofs.Weights.{weight_same, weight_other}
 

@@ -1,6 +1,6 @@
 -- The parts of a place of profile B as the code finds them, and that they are small.
-use Rattle.std.proofs.Common.{◌≡◌, ℕ, ◌+◌, ◌-◌, ◌*◌, ◌/◌, ◌%◌, ◌^◌, ◌<◌, ◌≤◌, List, [], ◌∷◌, get_or, slice_index, refl, sym, ap, ◌∙◌, subst, arith}
-use Rattle.std.proofs.Math.Nat.{mul-le-mul, mul-le-mul_right}
+use Rattle.std.proofs.Common.{◌≡◌, ℕ, ◌+◌, ◌-◌, ◌*◌, ◌^◌, ◌<◌, ◌≤◌, List, [], ◌∷◌, get_or, slice_index, sym, ap, ◌∙◌, subst, arith}
+use Rattle.std.proofs.Math.Nat.{mul-le-mul}
 use Rattle.dob_pieces.specs.declared.profile.Profile.TheVariants.{B}
 use Rattle.dob_rank.specs.Numbers.{product, number_of, choose, free_squares}
 use Rattle.dob_rank.specs.Runs.{AreFewOnBoard, square_bases}

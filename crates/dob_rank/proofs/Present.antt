@@ -1,12 +1,11 @@
 -- The positions of a family, counted among the setups of its set.
-use Rattle.std.proofs.Common.{◌≡◌, ℕ, zero, suc, ◌+◌, ◌<◌, ◌≤◌, Bool, true, false, ◌&&◌, List, [], ◌∷◌, refl, sym, ap, ◌∙◌, subst, inl, inr, arith}
-use Rattle.std.proofs.lemmas.Bool.{cases_Bool}
+use Rattle.std.proofs.Common.{◌≡◌, ℕ, zero, suc, ◌<◌, Bool, true, false, ◌&&◌, refl, sym, ap, ◌∙◌, arith}
 use Rattle.dob_pieces.specs.declared.profile.Family.{Family}
 use Rattle.dob_pieces.specs.declared.profile.Profile.{Profile}
 use Rattle.dob_pieces.specs.declared.profile.Profile.TheVariants.{A, B}
 use Rattle.dob_pieces.specs.declared.setup.Setup.{Setup}
 use Rattle.dob_pieces.specs.Profiles.{is_allowed}
-use Rattle.dob_rank.specs.Order.{IsPositionOf, Before, HasCount, IsFirstOfTwo}
+use Rattle.dob_rank.specs.Order.{IsPositionOf, Before}
 use Rattle.dob_rank.specs.Numbers.{size_of, rank_of, nth, product, block_bases, start_of}
 use Rattle.dob_rank.specs.Marks.{one_if, marks_below, is_first}
 use Rattle.dob_rank.specs.Families.{IsPositionIn, HasSizeIn, HasRankIn, IsRepresentativeIn, HasClassesIn, HasClassIn}
@@ -65,9 +64,10 @@ marked family s h = and_both (is_present family (rank_of family.set s)) (is_firs
 
 pub represents : (family : Family) (s : Setup) → IsPositionOf family.set s → is_marked family (rank_of family.set s) ≡ true → IsRepresentativeIn family s
 unfolding is_marked
-represents family s p on =
-    (allowed family s p (and_left (is_present family (rank_of family.set s)) (is_first family.set (rank_of family.set s)) on),
-    marked-first family.set s p (and_right (is_present family (rank_of family.set s)) (is_first family.set (rank_of family.set s)) on))
+represents family s p on = (
+  allowed family s p (and_left (is_present family (rank_of family.set s)) (is_first family.set (rank_of family.set s)) on),
+  marked-first family.set s p (and_right (is_present family (rank_of family.set s)) (is_first family.set (rank_of family.set s)) on),
+)
 
 pub HasClassesIn-classes_in : (family : Family) → HasClassesIn family (classes_in family)
 unfolding classes_in

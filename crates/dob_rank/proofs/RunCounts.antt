@@ -1,15 +1,14 @@
 -- How many positions of the family a run has before each of its places.
-use Rattle.std.proofs.Common.{◌≡◌, ℕ, zero, suc, ◌+◌, ◌-◌, ◌*◌, ◌/◌, ◌%◌, ◌^◌, ◌<◌, ◌≤◌, Bool, true, List, [], ◌∷◌, ◌++◌, length, slice_index, refl, sym, ap, ◌∙◌, subst, inl, inr, arith}
-use Rattle.std.proofs.lemmas.Nat.{div-mul-add, mod-mul-add, mul-add-lt, mod_below, div-add-mod', div_below}
-use Rattle.std.proofs.Math.Nat.{mul_comm, mul_assoc, add-mul, mul-zero}
+use Rattle.std.proofs.Common.{◌≡◌, ℕ, ◌+◌, ◌-◌, ◌*◌, ◌/◌, ◌%◌, ◌^◌, ◌<◌, ◌≤◌, Bool, List, [], ◌∷◌, slice_index, sym, ap, ◌∙◌, subst, arith}
+use Rattle.std.proofs.lemmas.Nat.{div-mul-add, mod-mul-add}
 use Rattle.dob_pieces.specs.declared.profile.Family.{Family}
 use Rattle.dob_pieces.specs.declared.profile.Profile.{Profile}
-use Rattle.dob_rank.specs.Numbers.{sum_below, count, choose, settle, order, product, digits_of, block_bases, free_squares, enemy_squares, empty_layers}
+use Rattle.dob_rank.specs.Numbers.{sum_below, count, choose, settle, order, product, digits_of, block_bases, free_squares}
 use Rattle.dob_rank.specs.Marks.{one_if, marks_below}
-use Rattle.dob_rank.specs.Runs.{local_bases, square_bases, form_bases, runs_in, run_size, run_start, IsInRun, lion_pairs}
+use Rattle.dob_rank.specs.Runs.{local_bases, square_bases, form_bases, runs_in, run_size, run_start, IsInRun}
 use Rattle.dob_rank.specs.Families.{is_present}
-use Rattle.dob_rank.specs.Weights.{may_have, are_allowed, weight, lions_in, forms_on, choice_weight}
-use Rattle.dob_rank.specs.declared.layers.Layer.TheVariants.{OwnLion, EnemyLion, Chicks, Empty}
+use Rattle.dob_rank.specs.Weights.{may_have, are_allowed, lions_in, choice_weight}
+use Rattle.dob_rank.specs.declared.layers.Layer.TheVariants.{Chicks}
 use Rattle.dob_rank.proofs.MixedRadix.{product-append, digit_below}
 use Rattle.dob_rank.proofs.Sums.{sum_same, sum_parts}
 use Rattle.dob_rank.proofs.Weights.{forms_weigh}

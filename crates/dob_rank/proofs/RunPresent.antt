@@ -1,28 +1,26 @@
 -- Which places of a run are of the family.
-use Rattle.std.proofs.Common.{◌≡◌, ℕ, zero, suc, ◌+◌, ◌-◌, ◌*◌, ◌/◌, ◌%◌, ◌^◌, ◌<◌, ◌≤◌, Bool, true, List, [], ◌∷◌, ◌++◌, length, map, slice_index, refl, sym, ap, ◌∙◌, subst, arith}
-use Rattle.std.proofs.lemmas.Nat.{div-mul-add, mod-mul-add}
+use Rattle.std.proofs.Common.{◌≡◌, ℕ, ◌+◌, ◌-◌, ◌*◌, ◌/◌, ◌%◌, ◌^◌, ◌<◌, Bool, List, [], ◌∷◌, map, slice_index, sym, ap, ◌∙◌, arith}
 use Rattle.dob_pieces.specs.declared.piece_set.PieceSet.{PieceSet}
 use Rattle.dob_pieces.specs.declared.profile.Family.{Family}
 use Rattle.dob_pieces.specs.declared.profile.Profile.{Profile}
 use Rattle.dob_pieces.specs.declared.setup.Setup.{Setup}
 use Rattle.dob_pieces.specs.Profiles.{may_all_stand, is_allowed}
 use Rattle.dob_pieces.proofs.Allowed.{is_allowed-stand}
-use Rattle.dob_pieces.specs.Setups.{Cell}
 use Rattle.dob_rank.specs.Order.{IsPositionOf}
-use Rattle.dob_rank.specs.Numbers.{count, choose, settle, order, base_of, layer, board_of, numbers_by, layers_by, empty_layers, on_board, digits}
-use Rattle.dob_rank.specs.Numbers.{product, digits_of, block_bases, bases_by, block_of, place_of, setup_in, nth, rank_of, HasBlock, free_squares, enemy_squares, sum_below, block_size}
-use Rattle.dob_rank.specs.Runs.{run_bases, local_bases, square_bases, form_bases, runs_in, run_size, run_start, IsInRun, lion_pairs}
+use Rattle.dob_rank.specs.Numbers.{choose, settle, order, layer, board_of, numbers_by, empty_layers, on_board, digits}
+use Rattle.dob_rank.specs.Numbers.{product, digits_of, block_bases, bases_by, setup_in, nth, rank_of, HasBlock, free_squares, enemy_squares, sum_below, block_size}
+use Rattle.dob_rank.specs.Runs.{local_bases, form_bases, runs_in, run_size, run_start, IsInRun, lion_pairs}
 use Rattle.dob_rank.specs.Families.{is_present}
 use Rattle.dob_rank.specs.Weights.{may_have, are_allowed}
-use Rattle.dob_rank.specs.declared.layers.Layer.TheVariants.{OwnLion, EnemyLion, Chicks, Elephants, Giraffes, Empty}
+use Rattle.dob_rank.specs.declared.layers.Layer.TheVariants.{OwnLion, EnemyLion, Chicks, Elephants, Giraffes}
 use Rattle.dob_rank.proofs.FormDigits.{AreLayers-map, board_of-back}
-use Rattle.dob_rank.proofs.Digits.{HasParts, HasParts-from_position, HasDigits-digits, layers_by-back, numbers-back}
+use Rattle.dob_rank.proofs.Digits.{HasParts-from_position, HasDigits-digits, layers_by-back, numbers-back}
 use Rattle.dob_rank.proofs.MixedRadix.{digits_of-number_of}
-use Rattle.dob_rank.proofs.Numbering.{HasBlock-setup_in, rank_of-block, nth-rank_of, on_board-block, place_of-below}
+use Rattle.dob_rank.proofs.Numbering.{HasBlock-setup_in, rank_of-block, nth-rank_of, on_board-block}
 use Rattle.dob_rank.proofs.RunPlaces.{place_in_run, run_start-is}
-use Rattle.dob_rank.proofs.DigitParts.{AreParts, parts_are}
+use Rattle.dob_rank.proofs.DigitParts.{parts_are}
 use Rattle.dob_rank.proofs.FarChicks.{board_allowed}
-use Rattle.dob_rank.proofs.RunWeights.{LeavesLayer, settled_later}
+use Rattle.dob_rank.proofs.RunWeights.{settled_later}
 
 abbrev pub lions_by : List ℕ → List ℕ
 lions_by ds = settle (order EnemyLion) 1 (slice_index ds 4) (settle (order OwnLion) 1 (slice_index ds 3) empty_layers)

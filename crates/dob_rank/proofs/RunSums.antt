@@ -1,19 +1,19 @@
 -- The marks of a block as a sum over the runs of one hand.
-use Rattle.std.proofs.Common.{◌≡◌, ℕ, zero, suc, ◌+◌, ◌-◌, ◌*◌, ◌/◌, ◌%◌, ◌^◌, ◌<◌, ◌≤◌, List, [], ◌∷◌, refl, sym, ap, ◌∙◌, subst, arith}
+use Rattle.std.proofs.Common.{◌≡◌, ℕ, zero, suc, ◌+◌, ◌*◌, ◌/◌, ◌%◌, ◌^◌, ◌<◌, ◌≤◌, [], ◌∷◌, refl, sym, ap, ◌∙◌, subst, arith}
 use Rattle.std.proofs.lemmas.Nat.{mod-mul-add}
 use Rattle.dob_pieces.specs.declared.piece_set.PieceSet.{PieceSet}
 use Rattle.dob_rank.specs.declared.runs.RunKind.{RunKind}
 use Rattle.dob_rank.specs.declared.runs.RunKind.TheVariants.{First, Later, Mixed}
 use Rattle.dob_rank.specs.Numbers.{product, digits_of, sum_below, block_bases, block_size, start_of, own_squares, enemy_squares}
 use Rattle.dob_rank.specs.Marks.{marks_below, marked}
-use Rattle.dob_rank.specs.Runs.{run_bases, runs_in, run_size, run_start, run_kind, lion_pairs}
+use Rattle.dob_rank.specs.Runs.{runs_in, run_size, run_start, run_kind, lion_pairs}
 use Rattle.dob_rank.specs.Stretches.{local_marks}
 use Rattle.dob_rank.proofs.Sums.{sum_same, sum_blocks, sum_alike}
 use Rattle.dob_rank.proofs.MixedRadix.{product-append, digit_below}
 use Rattle.dob_rank.proofs.Blocks.{sum_below_more}
 use Rattle.dob_rank.proofs.Words.{marks_below-le}
 use Rattle.dob_rank.proofs.RunPlaces.{hand_bases, no_runs}
-use Rattle.dob_rank.proofs.RunMarks.{start_small, run_start_first, run_start_next, run_start_end, marks_agree, marks_from, lions_run, marks_by_table}
+use Rattle.dob_rank.proofs.RunMarks.{start_small, run_start_first, run_start_next, run_start_end, marks_from, lions_run, marks_by_table}
 use Rattle.dob_rank.proofs.RunTables.{count_first, count_later}
 
 -- how many marks a run has

@@ -1,13 +1,13 @@
 -- How many of a run's places are of the family, before each of them.
-use Rattle.std.proofs.Common.{◌≡◌, ℕ, zero, suc, ◌+◌, ◌-◌, ◌*◌, ◌/◌, ◌%◌, ◌^◌, ◌<◌, ◌≤◌, ◌&&◌, cond, eqb, ltb, Bool, true, false, List, [], ◌∷◌, refl, sym, ap, ◌∙◌, subst, inl, inr, arith}
-use Rattle.std.proofs.lemmas.Bool.{cases_eq, cases_lt, lt-ltb, le-ltb, eq-eqb, ne_eqb}
-use Rattle.std.proofs.Math.Nat.{mul_comm, mul_assoc, add-mul}
-use Rattle.dob_rank.specs.Numbers.{sum_below, count, choose, with_first, settle, order}
+use Rattle.std.proofs.Common.{◌≡◌, ℕ, suc, ◌+◌, ◌-◌, ◌*◌, ◌/◌, ◌%◌, ◌^◌, ◌<◌, ◌≤◌, ◌&&◌, cond, eqb, Bool, true, List, [], ◌∷◌, refl, sym, ap, ◌∙◌, subst, inl, inr, arith}
+use Rattle.std.proofs.lemmas.Bool.{cases_eq, cases_lt, ne_eqb}
+use Rattle.std.proofs.Math.Nat.{mul_comm}
+use Rattle.dob_rank.specs.Numbers.{sum_below, count, with_first, settle, order}
 use Rattle.dob_rank.specs.Marks.{one_if, marks_below}
-use Rattle.dob_rank.specs.Weights.{weight, are_allowed}
+use Rattle.dob_rank.specs.Weights.{are_allowed}
 use Rattle.dob_rank.specs.declared.layers.Layer.TheVariants.{Empty}
 use Rattle.dob_rank.proofs.MixedRadix.{digit_below}
-use Rattle.dob_rank.proofs.Choices.{count_same, count_other}
+use Rattle.dob_rank.proofs.Choices.{count_other}
 use Rattle.dob_rank.proofs.Settled.{settle_kept, settle_taken, settle_left}
 use Rattle.dob_rank.proofs.Sums.{sum_same, sum_times, sum_blocks, sum_alike}
 

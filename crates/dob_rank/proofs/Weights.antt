@@ -1,9 +1,9 @@
 -- Weighted counts: the sum of the weights of all choices, and how many numbers tell allowed forms.
-use Rattle.std.proofs.Common.{◌≡◌, ℕ, zero, suc, ◌+◌, ◌-◌, ◌*◌, ◌/◌, ◌%◌, ◌^◌, ◌<◌, ◌≤◌, ◌&&◌, cond, eqb, ltb, Bool, true, false, List, [], ◌∷◌, refl, sym, ap, ◌∙◌, subst, inl, inr, arith}
-use Rattle.std.proofs.lemmas.Bool.{cases_order, cases_eq, cases_lt, cases_Bool, lt-ltb, le-ltb, eq-eqb, ne_eqb}
-use Rattle.std.proofs.lemmas.Nat.{div-mul-add, mod-mul-add, mod_below, mul-add-lt, same_from_place}
+use Rattle.std.proofs.Common.{◌≡◌, ℕ, zero, suc, ◌+◌, ◌-◌, ◌*◌, ◌/◌, ◌%◌, ◌^◌, ◌<◌, ◌&&◌, Bool, true, false, List, [], ◌∷◌, refl, sym, ap, ◌∙◌, subst, inl, inr, arith}
+use Rattle.std.proofs.lemmas.Bool.{cases_eq, eq-eqb, ne_eqb}
+use Rattle.std.proofs.lemmas.Nat.{div-mul-add, mod-mul-add, mod_below, same_from_place}
 use Rattle.std.proofs.Math.Arith.{mod-mul}
-use Rattle.std.proofs.Math.Nat.{mul_comm, add-mul, pow-succ', pow-zero, mod-eq_of_lt}
+use Rattle.std.proofs.Math.Nat.{mul_comm, pow-succ', pow-zero, mod-eq_of_lt}
 use Rattle.dob_rank.specs.Numbers.{sum_below, count, choose, with_first, settle, order}
 use Rattle.dob_rank.specs.Marks.{one_if, marks_below}
 use Rattle.dob_rank.specs.Weights.{weight, all_weights, are_allowed}

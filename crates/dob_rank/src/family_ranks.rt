@@ -91,9 +91,17 @@ fn place_by(on_board: &EachKind, digits: &[u64; DIGITS], run: u64, forms: u64) -
     let lions = run % LIONS;
     let chosen = chosen_before(chicks, run / LIONS, lions, digits[5]);
     let squares = digits[6] * choices[2] + digits[7];
-    let placed = add_product(chosen, choices[1] * choices[2], squares * weight_of(chicks, lions, digits[5]) + forms);
+    let placed = add_product(
+        chosen,
+        choices[1] * choices[2],
+        squares * weight_of(chicks, lions, digits[5]) + forms,
+    );
     let giraffes = block::power(2, on_board[2]);
-    add_product(placed, block::power(2, on_board[1]) * giraffes, digits[9] * giraffes + digits[10])
+    add_product(
+        placed,
+        block::power(2, on_board[1]) * giraffes,
+        digits[9] * giraffes + digits[10],
+    )
 }
 
 /// A product of numbers that are small enough, and a third.

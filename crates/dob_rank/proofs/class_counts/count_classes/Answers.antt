@@ -1,11 +1,8 @@
 -- Each block adds its own classes, and all of them are the set's.
 use Rattle.std.proofs.Common.{◌≡◌, ◌+◌, arith, sym, ap, ◌∙◌, subst}
 use Rattle.dob_rank.specs.Order.{HasClasses}
-use Rattle.dob_rank.specs.Numbers.{product, block_bases, start_of}
-use Rattle.dob_rank.specs.Marks.{marked, marks_below, classes_of}
+use Rattle.dob_rank.specs.Numbers.{product, block_bases}
 use Rattle.dob_rank.proofs.Marks.{HasClasses-classes_of}
-use Rattle.dob_rank.proofs.RunMarks.{start_small}
-use Rattle.dob_rank.proofs.Words.{marks_below-le}
 use Rattle.dob_rank.proofs.BlockTables.{classes_all, no_classes_yet}
 use Rattle.dob_rank.proofs.RunSums.{classes_few}
 use Rattle.dob_rank.proofs.class_counts.count_classes.Goals as goal

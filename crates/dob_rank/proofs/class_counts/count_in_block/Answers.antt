@@ -1,6 +1,5 @@
 -- Each hand has the marks of the runs of one.
-use Rattle.dob_rank.proofs.RunCounts.{present_before}
-use Rattle.std.proofs.Common.{◌≡◌, ◌≤◌, ◌/◌, ◌^◌, arith, ap}
+use Rattle.std.proofs.Common.{◌/◌, arith, ap}
 use Rattle.dob_rank.specs.Runs.{lion_pairs}
 use Rattle.dob_rank.proofs.Blocks.{sum_below_more}
 use Rattle.dob_rank.proofs.RunSums.{run_marks, marks_in_block}

@@ -1,7 +1,5 @@
 -- Each stretch adds its places where they are marked.
-use Rattle.std.proofs.Common.{◌≡◌, ◌≤◌, sym, ap, ◌∙◌, arith}
-use Rattle.dob_rank.specs.Marks.{marks_below}
-use Rattle.dob_rank.specs.Runs.{run_size}
+use Rattle.std.proofs.Common.{◌≤◌, sym, ◌∙◌, arith}
 use Rattle.dob_rank.specs.Stretches.{local_marks}
 use Rattle.dob_rank.proofs.Words.{marks_below-le, marks_below_none}
 use Rattle.dob_rank.proofs.RunPlaces.{run_size-small}

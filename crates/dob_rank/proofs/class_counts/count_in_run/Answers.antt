@@ -1,6 +1,6 @@
 -- The kind of a run says how many marks it has, or its stretches do.
-use Rattle.std.proofs.Common.{◌≡◌, ◌%◌, arith, sym, ap, ◌∙◌}
-use Rattle.dob_rank.specs.Runs.{run_kind, lion_pairs}
+use Rattle.std.proofs.Common.{sym, ap, ◌∙◌}
+use Rattle.dob_rank.specs.Runs.{run_kind}
 use Rattle.dob_rank.proofs.RunSums.{lions_there, lions_same, first_run, later_run}
 use Rattle.dob_rank.proofs.class_counts.count_in_run.Goals as goal
 

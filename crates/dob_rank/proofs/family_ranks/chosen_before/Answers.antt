@@ -1,7 +1,5 @@
 -- The sums of three tables.
-use Rattle.std.proofs.Common.{◌≡◌, ◌+◌, ◌*◌, ◌≤◌, ap, ◌∙◌, arith}
-use Rattle.dob_pieces.specs.declared.profile.Profile.TheVariants.{B}
-use Rattle.dob_rank.specs.Weights.{hand_size, lions_before, forms_before}
+use Rattle.std.proofs.Common.{arith}
 use Rattle.dob_rank.proofs.PlaceParts.{product_few, sum_of_three}
 use Rattle.dob_rank.proofs.family_ranks.chosen_before.Goals as goal
 

@@ -1,7 +1,5 @@
 -- The digits are below their bases, and the place that they write is the position's.
-use Rattle.std.proofs.Common.{◌≡◌, ◌+◌, ◌/◌, ◌%◌, ◌<◌, refl, sym, ap, ◌∙◌, subst, arith}
-use Rattle.dob_pieces.specs.declared.profile.Profile.TheVariants.{B}
-use Rattle.dob_rank.specs.Families.{family_of}
+use Rattle.std.proofs.Common.{refl}
 use Rattle.dob_rank.proofs.Found.{HasDigits-board, HasDigits-place, run_is_of}
 use Rattle.dob_rank.proofs.DigitParts.{AreFewOnBoard-digits}
 use Rattle.dob_rank.proofs.FarPlaces.{far_parts, far_place_is, chicks_on_board}

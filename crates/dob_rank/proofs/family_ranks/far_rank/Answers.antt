@@ -1,9 +1,8 @@
 -- The start of the block and the place there.
-use Rattle.std.proofs.Common.{◌≡◌, ◌+◌, ◌≤◌, refl, sym, ap, ◌∙◌, arith}
+use Rattle.std.proofs.Common.{refl, ap, ◌∙◌, arith}
 use Rattle.dob_pieces.specs.declared.profile.Profile.TheVariants.{B}
-use Rattle.dob_rank.specs.Numbers.{block_bases, start_of}
-use Rattle.dob_rank.specs.Marks.{marks_below}
-use Rattle.dob_rank.specs.Families.{family_of, is_present, rank_in}
+use Rattle.dob_rank.specs.Numbers.{block_bases}
+use Rattle.dob_rank.specs.Families.{family_of, rank_in}
 use Rattle.dob_rank.proofs.Found.{HasDigits-board, HasDigits-same, block_found, block_upto}
 use Rattle.dob_rank.proofs.Sets.{IsPositionOf-totals, set_of_position}
 use Rattle.dob_rank.proofs.FarPlaces.{far_rank_is, far_rank_small}

@@ -1,5 +1,5 @@
 -- In profile A the positions of the family are those of the set.
-use Rattle.std.proofs.Common.{◌≡◌, sym, ap, ◌∙◌, subst}
+use Rattle.std.proofs.Common.{sym, ap, ◌∙◌, subst}
 use Rattle.dob_rank.specs.Families.{family_of, HasRankIn, rank_in}
 use Rattle.dob_rank.proofs.Present.{HasRankIn-rank_in, rank_in-whole}
 use Rattle.dob_rank.proofs.family_ranks.rank_in.Goals as goal

@@ -1,7 +1,6 @@
 -- In profile A each position of the set is one of the family, and in profile B the positions before the end of the last block are all.
-use Rattle.std.proofs.Common.{◌≡◌, sym, ap, ◌∙◌, subst}
-use Rattle.dob_pieces.specs.declared.profile.Profile.TheVariants.{A, B}
-use Rattle.dob_rank.specs.Families.{family_of, HasSizeIn, size_in}
+use Rattle.std.proofs.Common.{sym, ◌∙◌, subst}
+use Rattle.dob_rank.specs.Families.{HasSizeIn}
 use Rattle.dob_rank.proofs.Present.{HasSizeIn-size_in, size_in-whole, size_in-end}
 use Rattle.dob_rank.proofs.family_ranks.size_in.Goals as goal
 
