@@ -57,5 +57,6 @@ pub mod FamilyRanks  -- the rank of a position in its family, by its digits
 pub mod FarStarts  -- the table of the starts of blocks in profile B
 pub mod PlaceParts  -- the parts of a place in profile B as the code finds them
 pub mod FarPlaces  -- a position of profile B by what the code finds of it
+pub mod FamilyClasses  -- the representatives of a family where the lions say which positions are earlier
 -- Long lists.
 pub mod Segmentation  -- lists in segments

@@ -92,7 +92,7 @@ HasClassIn-marked family s p =
 
 -- ---- in profile A every setup of the set is there
 
-there : (family : Family) (n : ℕ) → family.profile ≡ A → is_present family n ≡ true
+pub there : (family : Family) (n : ℕ) → family.profile ≡ A → is_present family n ≡ true
 unfolding is_present
 there family n a = ap (λ (p : Profile). is_allowed p (nth family.set n)) a
 
