@@ -44,6 +44,7 @@ pub mod DigitParts  -- the digits of a place, part by part
 pub mod Pairs  -- the tables of choices of two squares
 -- Families: the positions of a set that a profile allows.
 pub mod Present  -- a family's positions among the ranks of its set
+pub mod FamilyOrder  -- ranks in a family are below its size, and tell its positions
 pub mod Weights  -- weighted choices, and forms that are allowed
 pub mod FarChicks  -- a board is allowed where its chicks' forms are
 pub mod RunWeights  -- marks that a part of a place tells, and layers settled later
