@@ -1,11 +1,11 @@
 -- The representatives of a family in runs whose lions say which positions are the earlier ones, and the classes of profile A.
-use Rattle.std.proofs.Common.{◌≡◌, ℕ, zero, suc, ◌+◌, ◌*◌, ◌%◌, ◌<◌, ◌≤◌, Bool, true, false, ◌&&◌, refl, sym, ap, ◌∙◌, arith}
-use Rattle.std.proofs.lemmas.Bool.{and_parts, lt-ltb}
+use Rattle.std.proofs.Common.{◌≡◌, ℕ, ◌+◌, ◌*◌, ◌%◌, ◌<◌, ◌≤◌, Bool, true, false, ◌&&◌, refl, sym, ap, ◌∙◌, arith}
+use Rattle.std.proofs.lemmas.Bool.{lt-ltb}
 use Rattle.dob_pieces.specs.declared.piece_set.PieceSet.{PieceSet}
 use Rattle.dob_pieces.specs.declared.profile.Family.{Family}
 use Rattle.dob_pieces.specs.declared.profile.Profile.TheVariants.{A}
 use Rattle.dob_rank.specs.declared.runs.RunKind.TheVariants.{First, Later}
-use Rattle.dob_rank.specs.Numbers.{product, block_bases, size_of, start_of}
+use Rattle.dob_rank.specs.Numbers.{product, block_bases, size_of}
 use Rattle.dob_rank.specs.Marks.{marks_below, marked, is_first, classes_of}
 use Rattle.dob_rank.specs.Runs.{runs_in, run_size, run_start, run_kind, lion_pairs, IsInRun}
 use Rattle.dob_rank.specs.Families.{is_present, is_marked, classes_in}

@@ -1,5 +1,5 @@
 -- Ranks in a family are below its size, and no two of its positions have one; the position of a present rank of its set.
-use Rattle.std.proofs.Common.{◌≡◌, ℕ, suc, ◌+◌, ◌-◌, ◌<◌, ◌≤◌, Bool, true, sym, ap, ◌∙◌, subst, inl, inr, arith}
+use Rattle.std.proofs.Common.{◌≡◌, ℕ, suc, ◌+◌, ◌-◌, ◌<◌, Bool, true, ap, ◌∙◌, subst, inl, inr, arith}
 use Rattle.std.proofs.lemmas.Bool.{cases_lt}
 use Rattle.dob_pieces.specs.declared.profile.Family.{Family}
 use Rattle.dob_pieces.specs.declared.setup.Setup.{Setup}
