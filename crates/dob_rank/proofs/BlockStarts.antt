@@ -9,7 +9,7 @@ use Rattle.dob_rank.specs.Numbers.{product, digits_of, sum_below, choose, block_
 use Rattle.dob_rank.proofs.Numbering.{block_size-product}
 
 -- the bases and the size of a block by the numbers of the set
-abbrev bases_of : ℕ → ℕ → ℕ → List ℕ
+abbrev pub bases_of : ℕ → ℕ → ℕ → List ℕ
 bases_of c e g = (c + 1) ∷ (e + 1) ∷ (g + 1) ∷ []
 
 abbrev bases_in : ℕ → ℕ → ℕ → List ℕ → List ℕ
@@ -65,7 +65,7 @@ sum_below-same : (f g : ℕ → ℕ) → ((n : ℕ) → f n ≡ g n) → (n : �
 sum_below-same f g h zero = refl
 sum_below-same f g h (suc n) = (let a = sum_below-same f g h n in let b = h n in omega arith)
 
-small_set : (n : ℕ) → n ≤ 2 → n < 3
+pub small_set : (n : ℕ) → n ≤ 2 → n < 3
 small_set n h = omega arith
 
 pub start_is : (set : PieceSet) (block : ℕ) → block ≤ product (block_bases set) → product (block_bases set) ≤ 27 →

@@ -42,7 +42,7 @@ choose-grows m (suc n) k h = elim (cases_lt m (suc n)) [
 abbrev pub most_choices : ℕ
 most_choices = 45
 
-choose_ten : (k : ℕ) → k ≤ 2 → choose free_squares k ≤ most_choices
+pub choose_ten : (k : ℕ) → k ≤ 2 → choose free_squares k ≤ most_choices
 choose_ten zero h = (let x : 1 ≤ most_choices = omega arith in x)
 choose_ten (suc zero) h = (let x : free_squares ≤ most_choices = omega arith in x)
 choose_ten (suc (suc zero)) h = (let x : most_choices ≤ most_choices = omega arith in x)
@@ -111,7 +111,7 @@ at_most a b h = omega arith
 one_more : (c : ℕ) → c ≤ 2 → c + 1 ≤ 3
 one_more c h = omega arith
 
-room_left : (i j : ℕ) → i ≤ 2 → j ≤ 2 → (2 ≤ free_squares - i) × (2 ≤ free_squares - i - j)
+pub room_left : (i j : ℕ) → i ≤ 2 → j ≤ 2 → (2 ≤ free_squares - i) × (2 ≤ free_squares - i - j)
 room_left i j h l = ((omega arith), (omega arith))
 
 -- the greatest bases that a block has

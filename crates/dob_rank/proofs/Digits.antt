@@ -185,7 +185,7 @@ no_forms t cells h =
     let one : base_of t ^ count t (map layer cells) ≡ 1 = ap (λ (b : ℕ). b ^ count t (map layer cells)) h ∙ one_pow (count t (map layer cells)) in
     mod-eq_of_lt (let p : 0 < base_of t ^ count t (map layer cells) = omega arith in p) ∙ (let e : 0 ≡ forms_number t cells = omega arith in e)
 
-numbers-back : (s : Setup) (t : ℕ) → numbers_by (digits s) t % base_of t ^ count t (map layer s.board) ≡ forms_number t s.board
+pub numbers-back : (s : Setup) (t : ℕ) → numbers_by (digits s) t % base_of t ^ count t (map layer s.board) ≡ forms_number t s.board
 numbers-back s zero = no_forms 0 s.board refl
 numbers-back s (suc zero) = no_forms 1 s.board refl
 numbers-back s (suc (suc zero)) = mod-eq_of_lt (forms_number-below (order Chicks) s.board)

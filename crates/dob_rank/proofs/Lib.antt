@@ -38,8 +38,26 @@ pub mod MixedRuns  -- the marks of mixed runs
 pub mod StretchLists  -- stretches of marks
 pub mod RunMarks  -- the marks of runs
 pub mod RunTables  -- the tables of runs and stretches grow
+pub mod RunSums  -- the marks of a block as a sum over runs
 pub mod BlockTables  -- the blocks of a set
 pub mod DigitParts  -- the digits of a place, part by part
 pub mod Pairs  -- the tables of choices of two squares
+-- Families: the positions of a set that a profile allows.
+pub mod Present  -- a family's positions among the ranks of its set
+pub mod FamilyOrder  -- ranks in a family are below its size, and tell its positions
+pub mod Weights  -- weighted choices, and forms that are allowed
+pub mod FarChicks  -- a board is allowed where its chicks' forms are
+pub mod RunWeights  -- marks that a part of a place tells, and layers settled later
+pub mod LionBoards  -- the squares that two lions leave
+pub mod FormPlaces  -- the allowed forms before those of a board
+pub mod FarTables  -- the tables of profile B are the sums that they stand for
+pub mod RunPresent  -- which places of a run are of the family
+pub mod RunCounts  -- how many of them are before a place
+pub mod FamilyRuns  -- how many positions of a family a run has, and how many stand before it
+pub mod FamilyRanks  -- the rank of a position in its family, by its digits
+pub mod FarStarts  -- the table of the starts of blocks in profile B
+pub mod PlaceParts  -- the parts of a place in profile B as the code finds them
+pub mod FarPlaces  -- a position of profile B by what the code finds of it
+pub mod FamilyClasses  -- the representatives of a family where the lions say which positions are earlier
 -- Long lists.
 pub mod Segmentation  -- lists in segments

@@ -124,11 +124,11 @@ tells Later lions image = ltb image lions
 tells Mixed lions image = eqb lions image
 
 -- the cells of a board with the lions alone, on these squares
-abbrev pair_cell : ℕ → ℕ → ℕ → Cell
+abbrev pub pair_cell : ℕ → ℕ → ℕ → Cell
 pair_cell own enemy k = cond (eqb k own) (Some (piece_of Mover Lion)) (cond (eqb k enemy) (Some (piece_of Enemy Lion)) None)
 
 -- their layers, by the lions' numbers; no list is settled here, since `settle` computes both of its ways at each square
-abbrev pair_layers : ℕ → ℕ → List ℕ
+abbrev pub pair_layers : ℕ → ℕ → List ℕ
 pair_layers own enemy = map layer (board_by (pair_cell own (enemy_square own enemy)))
 
 abbrev has_pair : ℕ → ℕ → List ℕ → Bool
@@ -136,10 +136,48 @@ has_pair own enemy ls =
     (eqb (count (order OwnLion) ls) 1 && eqb (count (order EnemyLion) ls) 1)
     && (eqb (choice (order OwnLion) ls) own && eqb (choice (order EnemyLion) ls) enemy)
 
+abbrev has_its_pair : ℕ → ℕ → Bool
+has_its_pair own enemy = has_pair own enemy (pair_layers own enemy)
+
+all_have : all_below (λ own. all_below (has_its_pair own) enemy_squares) own_squares ≡ true
+all_have = refl
+
+-- the layers have both lions, with those numbers
+record IsPair (own enemy : ℕ) : Type 0 where
+  has : HasPair (pair_layers own enemy)
+  number_is : lions_in (pair_layers own enemy) ≡ own * enemy_squares + enemy
+
+is_pair : (own enemy : ℕ) → own < own_squares → enemy < enemy_squares → IsPair own enemy
+is_pair own enemy first second =
+    let ls = pair_layers own enemy in
+    let row = all_below-at (λ n. all_below (has_its_pair n) enemy_squares) own_squares own all_have first in
+    let has = and_parts (eqb (count (order OwnLion) ls) 1 && eqb (count (order EnemyLion) ls) 1)
+    (eqb (choice (order OwnLion) ls) own && eqb (choice (order EnemyLion) ls) enemy) (all_below-at (has_its_pair own) enemy_squares enemy row second) in
+    let counts = and_parts (eqb (count (order OwnLion) ls) 1) (eqb (count (order EnemyLion) ls) 1) has.0 in
+    let choices = and_parts (eqb (choice (order OwnLion) ls) own) (eqb (choice (order EnemyLion) ls) enemy) has.1 in
+    let own_is : choice (order OwnLion) ls ≡ own = eqb-true (choice (order OwnLion) ls) own choices.0 in
+    let enemy_is : choice (order EnemyLion) ls ≡ enemy = eqb-true (choice (order EnemyLion) ls) enemy choices.1 in
+    record {
+      has = record {
+        squares = refl;
+        layers = AreLayers-map (board_by (pair_cell own (enemy_square own enemy)));
+        own_lion = eqb-true (count (order OwnLion) ls) 1 counts.0;
+        enemy_lion = eqb-true (count (order EnemyLion) ls) 1 counts.1;
+        below = subst (λ n. n < enemy_squares) (sym enemy_is) second;
+      };
+      number_is = ap (λ n. n * enemy_squares + choice (order EnemyLion) ls) own_is ∙ ap (λ n. own * enemy_squares + n) enemy_is;
+    }
+
+-- the lions of a number, as they are settled
+pub lions_layers-pair : (own enemy : ℕ) → own < own_squares → enemy < enemy_squares
+    → lions_layers (own * enemy_squares + enemy) ≡ hide (order Chicks) (pair_layers own enemy)
+lions_layers-pair own enemy first second =
+    let pair = is_pair own enemy first second in
+    ap lions_layers (sym pair.number_is) ∙ lions_layers-of (pair_layers own enemy) pair.has
+
 abbrev told : ℕ → ℕ → Bool
 told own enemy =
-    has_pair own enemy (pair_layers own enemy)
-    && tells (run_kind (own * enemy_squares + enemy)) (own * enemy_squares + enemy) (lions_in (mirror_layers (pair_layers own enemy)))
+    tells (run_kind (own * enemy_squares + enemy)) (own * enemy_squares + enemy) (lions_in (mirror_layers (pair_layers own enemy)))
 
 all_told : all_below (λ own. all_below (told own) enemy_squares) own_squares ≡ true
 all_told = refl
@@ -148,27 +186,12 @@ all_told = refl
 tells_pair : (own enemy : ℕ) → own < own_squares → enemy < enemy_squares
     → tells (run_kind (own * enemy_squares + enemy)) (own * enemy_squares + enemy) (image_lions (own * enemy_squares + enemy)) ≡ true
 tells_pair own enemy first second =
-    let ls = pair_layers own enemy in
     let lions = own * enemy_squares + enemy in
     let row : all_below (told own) enemy_squares ≡ true
     = all_below-at (λ n. all_below (told n) enemy_squares) own_squares own all_told first in
     let here : told own enemy ≡ true = all_below-at (told own) enemy_squares enemy row second in
-    let parts = and_parts (has_pair own enemy ls) (tells (run_kind lions) lions (lions_in (mirror_layers ls))) here in
-    let has = and_parts (eqb (count (order OwnLion) ls) 1 && eqb (count (order EnemyLion) ls) 1)
-    (eqb (choice (order OwnLion) ls) own && eqb (choice (order EnemyLion) ls) enemy) parts.0 in
-    let counts = and_parts (eqb (count (order OwnLion) ls) 1) (eqb (count (order EnemyLion) ls) 1) has.0 in
-    let choices = and_parts (eqb (choice (order OwnLion) ls) own) (eqb (choice (order EnemyLion) ls) enemy) has.1 in
-    let own_is : choice (order OwnLion) ls ≡ own = eqb-true (choice (order OwnLion) ls) own choices.0 in
-    let enemy_is : choice (order EnemyLion) ls ≡ enemy = eqb-true (choice (order EnemyLion) ls) enemy choices.1 in
-    let h : HasPair ls = record {
-      squares = refl;
-      layers = AreLayers-map (board_by (pair_cell own (enemy_square own enemy)));
-      own_lion = eqb-true (count (order OwnLion) ls) 1 counts.0;
-      enemy_lion = eqb-true (count (order EnemyLion) ls) 1 counts.1;
-      below = subst (λ n. n < enemy_squares) (sym enemy_is) second;
-    } in
-    let number : lions_in ls ≡ lions = ap (λ n. n * enemy_squares + choice (order EnemyLion) ls) own_is ∙ ap (λ n. own * enemy_squares + n) enemy_is in
-    subst (λ n. tells (run_kind lions) lions n ≡ true) (image-of_pair ls h ∙ ap image_lions number) parts.1
+    let pair = is_pair own enemy first second in
+    subst (λ n. tells (run_kind lions) lions n ≡ true) (image-of_pair (pair_layers own enemy) pair.has ∙ ap image_lions pair.number_is) here
 
 tells_at : (lions : ℕ) (kind : RunKind) → lions < lion_pairs → run_kind lions ≡ kind → tells kind lions (image_lions lions) ≡ true
 tells_at lions kind below is =

@@ -111,16 +111,16 @@ later i j k n0 n1 n2 n3 n4 r0 s0 len e0 b1 b2 b3 b4 =
     = empty_after (order EnemyLion) 1 n1 r0 (settle (order EnemyLion) 1 n1 r0) (omega arith) s1 in omega arith) in
     chosen i j k n0 n1 n2 n3 n4 r0 (settle (order EnemyLion) 1 n1 r0) s0 s1 (length-settle (order EnemyLion) 1 n1 r0 ∙ len) e1 b2 b3 b4
 
-eleven : (a : ℕ) → a + 1 ≡ 12 → a ≡ enemy_squares
+pub eleven : (a : ℕ) → a + 1 ≡ 12 → a ≡ enemy_squares
 eleven a h = omega arith
 
-below_twelve : (n : ℕ) → n < own_squares → n < choose (count (order Empty) empty_layers) 1
+pub below_twelve : (n : ℕ) → n < own_squares → n < choose (count (order Empty) empty_layers) 1
 below_twelve n h = (let b : n < 12 = omega arith in b)
 
-all_empty : AreShown (order OwnLion) empty_layers
+pub all_empty : AreShown (order OwnLion) empty_layers
 all_empty = (let f : (order Empty < order OwnLion) ⊎ (order Empty ≡ order Empty) = inr refl in (f, (f, (f, (f, (f, (f, (f, (f, (f, (f, (f, (f, tt)))))))))))))
 
-lion_before_empty : order OwnLion < order Empty
+pub lion_before_empty : order OwnLion < order Empty
 lion_before_empty = omega arith
 
 pub AreChosen-settled : (i j k n0 n1 n2 n3 n4 : ℕ) → n0 < own_squares → n1 < enemy_squares → n2 < choose free_squares i → n3 < choose (free_squares - i) j

@@ -596,12 +596,12 @@ form_two t (cell ∷ cells) h = elim (cases_eq (layer cell) t) [
 layers_long : (cells : List Cell) → length cells ≡ 12 → length (map layer cells) ≡ 12
 layers_long cells h = length-map cells layer ∙ h
 
-first_found : (t : ℕ) (cells : List Cell) (mask : ℕ) → length cells ≡ 12 → mask ≡ layer_mask t (map layer cells) → 0 < count t (map layer cells) →
+pub first_found : (t : ℕ) (cells : List Cell) (mask : ℕ) → length cells ≡ 12 → mask ≡ layer_mask t (map layer cells) → 0 < count t (map layer cells) →
     lowest mask ≡ first_square t (map layer cells)
 first_found t cells mask h m some =
     let long = layers_long cells h in ap lowest m ∙ first_zeros t 64 (map layer cells) (omega arith) some
 
-second_found : (t : ℕ) (cells : List Cell) (mask less : ℕ) → length cells ≡ 12 → mask ≡ layer_mask t (map layer cells)
+pub second_found : (t : ℕ) (cells : List Cell) (mask less : ℕ) → length cells ≡ 12 → mask ≡ layer_mask t (map layer cells)
     → less ≡ mask - 1 → count t (map layer cells) ≡ 2 →
     lowest (bit_and mask less) ≡ second_square t (map layer cells)
 second_found t cells mask less h m l two =

@@ -135,14 +135,14 @@ later_found set block run local tables entry at kind =
 
 -- ---- the marks of a mixed run, by its table
 
-marks_agree : (f g : ℕ → Bool) (n : ℕ) → ((k : ℕ) → k < n → f k ≡ g k) → marks_below f n ≡ marks_below g n
+pub marks_agree : (f g : ℕ → Bool) (n : ℕ) → ((k : ℕ) → k < n → f k ≡ g k) → marks_below f n ≡ marks_below g n
 marks_agree f g zero same = marks_below_none f ∙ sym (marks_below_none g)
 marks_agree f g (suc n) same =
     let rest = marks_agree f g n (λ k below. same k (omega arith)) in
     let here : one_if (f n) ≡ one_if (g n) = ap one_if (same n (omega arith)) in
     omega (arith, rest, here, marks_below_more f n, marks_below_more g n)
 
-marks_from : (mark : ℕ → Bool) (from n : ℕ) → marks_below mark from + marks_below (λ k. mark (from + k)) n ≡ marks_below mark (from + n)
+pub marks_from : (mark : ℕ → Bool) (from n : ℕ) → marks_below mark from + marks_below (λ k. mark (from + k)) n ≡ marks_below mark (from + n)
 marks_from mark from zero =
     let none = marks_below_none (λ k. mark (from + k)) in
     let same : marks_below mark from ≡ marks_below mark (from + 0) = ap (marks_below mark) (let e : from ≡ from + 0 = omega arith in e) in
@@ -154,7 +154,7 @@ marks_from mark from (suc n) =
     let same : marks_below mark (suc (from + n)) ≡ marks_below mark (from + suc n) = ap (marks_below mark) (let e : suc (from + n) ≡ from + suc n = omega arith in e) in
     omega (arith, rest, more, next, same)
 
-lions_run : (run : ℕ) → run % lion_pairs % lion_pairs ≡ run % lion_pairs
+pub lions_run : (run : ℕ) → run % lion_pairs % lion_pairs ≡ run % lion_pairs
 lions_run run = omega arith
 
 -- the marks before a place of a run of those lions

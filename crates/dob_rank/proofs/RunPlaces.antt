@@ -29,7 +29,7 @@ use Rattle.dob_rank.proofs.Lions.{mirror_layers, layers-mirrored, image_lions, l
 
 -- ---- a position's run, and its place there
 
-abbrev hand_bases : PieceSet → List ℕ → List ℕ
+abbrev pub hand_bases : PieceSet → List ℕ → List ℕ
 hand_bases set ob = (set.chicks - get_or ob 0 0 + 1) ∷ (set.elephants - get_or ob 1 0 + 1) ∷ (set.giraffes - get_or ob 2 0 + 1) ∷ []
 
 abbrev pub hand_digits : Setup → List ℕ
@@ -205,7 +205,7 @@ pub record HasSpot (set : PieceSet) (s : Setup) (of : PieceSet) (block run local
   pub there : IsInRun of block run local
   pub rank_is : run_start of block run + local ≡ rank_of set s
 
-run_of-below : (set : PieceSet) (s : Setup) → IsPositionOf set s → run_of set s < runs_in set (block_of set s)
+pub run_of-below : (set : PieceSet) (s : Setup) → IsPositionOf set s → run_of set s < runs_in set (block_of set s)
 unfolding run_of runs_in
 run_of-below set s p =
     let h = HasDigits-digits set s (HasParts-from_position set s p) in
@@ -310,7 +310,7 @@ pub runs_few : (set : PieceSet) (block : ℕ) → block < product (block_bases s
 unfolding runs_in
 runs_few set block within = run_bases-few set (digits_of (block_bases set) block)
 
-no_runs : (set : PieceSet) (block : ℕ) → block < product (block_bases set) → runs_in set block ≤ 0 → ⊥
+pub no_runs : (set : PieceSet) (block : ℕ) → block < product (block_bases set) → runs_in set block ≤ 0 → ⊥
 unfolding runs_in
 no_runs set block within none =
     let ob = digits_of (block_bases set) block in

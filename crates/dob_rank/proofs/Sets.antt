@@ -1,5 +1,6 @@
 -- A position and its piece set.
 use Rattle.std.proofs.Common.{◌≡◌, ℕ, zero, suc, ◌+◌, ◌<◌, ◌≤◌, List, map, slice_index, refl, sym, ap, ◌∙◌, subst, arith}
+use Rattle.std.proofs.Math.Bridge.{le_prop}
 use Rattle.dob_pieces.specs.declared.kind.HandKind.{HandKind}
 use Rattle.dob_pieces.specs.declared.kind.HandKind.TheVariants as hand
 use Rattle.dob_pieces.specs.declared.piece_set.PieceSet.{PieceSet}
@@ -98,3 +99,24 @@ rank_of-sets p q s hp hq =
 -- the rank found for one set is that of each set of the position
 pub HasRank-sets : (p q : PieceSet) (s : Setup) (n : ℕ) → IsPositionOf p s → IsPositionOf q s → n ≡ rank_of p s → HasRank q s n
 HasRank-sets p q s n hp hq e = subst (HasRank q s) (sym (e ∙ rank_of-sets p q s hp hq)) (HasRank-rank_of q s hq)
+
+abbrev set_with : (c e g : ℕ) → c ≤ 2 → e ≤ 2 → g ≤ 2 → PieceSet
+set_with c e g few_c few_e few_g = record { chicks = c; elephants = e; giraffes = g; few_chicks = few_c; few_elephants = few_e; few_giraffes = few_g }
+
+-- sets with the same numbers are the same
+same_numbers : (p q : PieceSet) → p.chicks ≡ q.chicks → p.elephants ≡ q.elephants → p.giraffes ≡ q.giraffes → p ≡ q
+same_numbers p q c e g =
+    subst (λ (x : ℕ). (f : x ≤ 2) → p ≡ set_with x p.elephants p.giraffes f p.few_elephants p.few_giraffes) c
+    (λ f. ap (λ (h : p.chicks ≤ 2). set_with p.chicks p.elephants p.giraffes h p.few_elephants p.few_giraffes) (le_prop p.few_chicks f)) q.few_chicks
+    ∙ subst (λ (x : ℕ). (f : x ≤ 2) → set_with q.chicks p.elephants p.giraffes q.few_chicks p.few_elephants p.few_giraffes
+    ≡ set_with q.chicks x p.giraffes q.few_chicks f p.few_giraffes) e
+    (λ f. ap (λ (h : p.elephants ≤ 2). set_with q.chicks p.elephants p.giraffes q.few_chicks h p.few_giraffes) (le_prop p.few_elephants f)) q.few_elephants
+    ∙ subst (λ (x : ℕ). (f : x ≤ 2) → set_with q.chicks q.elephants p.giraffes q.few_chicks q.few_elephants p.few_giraffes
+    ≡ set_with q.chicks q.elephants x q.few_chicks q.few_elephants f) g
+    (λ f. ap (λ (h : p.giraffes ≤ 2). set_with q.chicks q.elephants p.giraffes q.few_chicks q.few_elephants h) (le_prop p.few_giraffes f)) q.few_giraffes
+
+-- so the pieces of a position tell its set
+pub set_of_position : (p q : PieceSet) (s : Setup) → IsPositionOf p s → IsPositionOf q s → p ≡ q
+set_of_position p q s hp hq =
+    same_numbers p q (sym (hp.pieces hand.Chick) ∙ hq.pieces hand.Chick) (sym (hp.pieces hand.Elephant) ∙ hq.pieces hand.Elephant)
+    (sym (hp.pieces hand.Giraffe) ∙ hq.pieces hand.Giraffe)

@@ -4,8 +4,10 @@ pub mod Placing
 pub mod Masks
 pub mod BoardMasks
 pub mod Marks
+pub mod Families
 pub mod ClassRows
 pub mod Runs
+pub mod Weights
 pub mod RunTables
 pub mod BlockTables
 pub mod Laws

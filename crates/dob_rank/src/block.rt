@@ -246,7 +246,7 @@ fn choose(squares: u64, pieces: u64) -> u64
 }
 
 /// The power of a small base, for an exponent of at most 2.
-fn power(base: u64, exponent: u64) -> u64
+pub(crate) fn power(base: u64, exponent: u64) -> u64
     requires small { base ≤ 4 }
     requires few { exponent ≤ 2 }
     ensures { result ≡ base ^ exponent }

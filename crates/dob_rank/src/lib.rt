@@ -9,7 +9,11 @@
 
 mod block;
 mod block_classes;
+mod class_counts;
 mod classes;
+mod family_ranks;
+mod far_rows;
+mod far_starts;
 mod fault;
 mod forms;
 pub mod laws;
@@ -24,7 +28,9 @@ mod segmented;
 mod starts;
 mod stretches;
 
+pub use class_counts::count_classes;
 pub use classes::Classes;
+pub use family_ranks::{rank_in, size_in};
 pub use fault::Fault;
 pub use limit::{MOST_PIECES, is_too_large};
 pub use ranks::{rank, representative, size, unrank};

@@ -87,7 +87,7 @@ fn spot_with(set: PieceSet, position: &Position, masks: Masks, on_board: &EachKi
 }
 
 /// The piece set of a position, by the numbers on its board.
-fn piece_set_of(position: &Position, on_board: &EachKind) -> PieceSet
+pub(crate) fn piece_set_of(position: &Position, on_board: &EachKind) -> PieceSet
     requires { on_board.now ≡ on_board_of position.now.setup }
     ensures chicks { result.chicks ≡ total HandKind.Chick position.now.setup }
     ensures elephants { result.elephants ≡ total HandKind.Elephant position.now.setup }
@@ -152,7 +152,7 @@ pub fn representative(position: &Position) -> Position
 }
 
 /// How many chicks, elephants and giraffes stand on the board.
-fn numbers_on_board(position: &Position, masks: Masks) -> EachKind
+pub(crate) fn numbers_on_board(position: &Position, masks: Masks) -> EachKind
     requires { AreMasks position.now.setup.board masks }
     ensures { result ≡ on_board_of position.now.setup }
 {
@@ -164,7 +164,7 @@ fn numbers_on_board(position: &Position, masks: Masks) -> EachKind
 }
 
 /// The digits of a position in its block.
-fn digits_of(position: &Position, masks: Masks, on_board: &EachKind) -> [u64; DIGITS]
+pub(crate) fn digits_of(position: &Position, masks: Masks, on_board: &EachKind) -> [u64; DIGITS]
     requires masks { AreMasks position.now.setup.board masks }
     requires on_board { on_board.now ≡ on_board_of position.now.setup }
     ensures { result ≡ all_digits_of position.now.setup }

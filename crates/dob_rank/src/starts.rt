@@ -6,10 +6,10 @@ ghost use Rattle.dob_rank.specs.Numbers.{product, sum_below, block_bases, block_
 use dob_pieces::PieceSet;
 
 /// How many piece sets there are, and how many blocks a set has at most: three numbers of 0 to 2 each.
-const SETS: usize = 27;
+pub(crate) const SETS: usize = 27;
 
 /// How many starts stand in a row: one for each of so many blocks, and the end.
-const ROW: usize = SETS + 1;
+pub(crate) const ROW: usize = SETS + 1;
 
 /// For each piece set, in the order of its digits, how many positions stand before each block and before the end.
 const STARTS: [[u64; ROW]; SETS] = [

@@ -148,7 +148,13 @@ fn push_stretch(
 }
 
 /// Whether the places from one on are marked, and where that ends at the latest that one image tells.
-fn stretch_from(set: PieceSet, block: u64, run: u64, local: u64, bases: &[u64; 6]) -> (bool, u64)
+pub(crate) fn stretch_from(
+    set: PieceSet,
+    block: u64,
+    run: u64,
+    local: u64,
+    bases: &[u64; 6],
+) -> (bool, u64)
     requires block { block < product (block_bases set) }
     requires run { run < runs_in set block }
     requires kind { run_kind (run % lion_pairs) ≡ Mixed }

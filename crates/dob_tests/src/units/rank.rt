@@ -2,6 +2,7 @@
 // against a plain program that walks whole sets.
 ghost use Rattle.std.specs.Prelude.{◌<◌};
 
+mod families;
 mod key;
 mod lists;
 mod plain;
@@ -9,30 +10,54 @@ mod plain;
 use self::key::{is_first, key};
 use self::plain::starts;
 use crate::sets::{classes_of, set_of};
-use dob_pieces::{Kind, Piece, PieceSet, Position, Side};
-use dob_rank::{Classes, rank, representative, size, unrank};
+use dob_pieces::{Family, Kind, Piece, PieceSet, Position, Profile, Side};
+use dob_rank::{Classes, count_classes, rank, representative, size, size_in, unrank};
 use std::alloc::{AllocError, Global};
 use std::process::Abort;
 use std::test::Fail;
 
+// Each piece set with its number of positions and of classes, and with that of its positions in profile B.
+const SETS: [(&str, u64, u64, u64); 27] = [
+    ("000", 99, 54, 99),
+    ("001", 2_178, 1_116, 2_178),
+    ("002", 22_077, 11_142, 22_077),
+    ("010", 2_178, 1_116, 2_178),
+    ("011", 43_956, 22_104, 43_956),
+    ("012", 406_494, 203_724, 406_494),
+    ("020", 22_077, 11_142, 22_077),
+    ("021", 406_494, 203_724, 406_494),
+    ("022", 3_410_451, 1_707_030, 3_410_451),
+    ("100", 4_158, 2_124, 3_648),
+    ("101", 83_556, 41_976, 73_356),
+    ("102", 768_834, 385_164, 675_504),
+    ("110", 83_556, 41_976, 73_356),
+    ("111", 1_529_352, 765_360, 1_343_712),
+    ("112", 12_740_508, 6_373_080, 11_204_388),
+    ("120", 768_834, 385_164, 675_504),
+    ("121", 12_740_508, 6_373_080, 11_204_388),
+    ("122", 95_528_862, 47_774_988, 84_104_352),
+    ("200", 79_497, 39_978, 61_197),
+    ("201", 1_447_974, 724_932, 1_116_534),
+    ("202", 11_993_751, 6_000_570, 9_266_931),
+    ("210", 1_447_974, 724_932, 1_116_534),
+    ("211", 23_828_508, 11_917_800, 18_411_468),
+    ("212", 177_186_042, 88_606_548, 137_238_282),
+    ("220", 11_993_751, 6_000_570, 9_266_931),
+    ("221", 177_186_042, 88_606_548, 137_238_282),
+    ("222", 1_175_944_473, 588_021_930, 913_508_253),
+];
+
 #[test]
-fn sets_have_their_sizes(rt: HostRuntime) {
-    for (text, want) in [
-        ("000", 99),
-        ("001", 2178),
-        ("010", 2178),
-        ("100", 4158),
-        ("002", 22077),
-        ("011", 43956),
-        ("110", 83556),
-        ("200", 79497),
-        ("012", 406494),
-        ("102", 768834),
-        ("111", 1529352),
-        ("210", 1447974),
-    ] {
+fn sets_have_their_sizes_and_classes(rt: HostRuntime) {
+    for (text, positions, classes, far) in &SETS {
         let set = set_of(&rt, text);
-        assert!(rt; size(set) == want, "of {text}");
+        assert!(rt; size(set) == *positions, "positions of {text}");
+        assert!(rt; count_classes(set) == *classes, "classes of {text}");
+        let family = Family {
+            set,
+            profile: Profile::B,
+        };
+        assert!(rt; size_in(family) == *far, "positions of {text} in B");
     }
 }
 

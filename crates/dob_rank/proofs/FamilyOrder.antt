@@ -1,0 +1,55 @@
+-- Ranks in a family are below its size, and no two of its positions have one; the position of a present rank of its set.
+use Rattle.std.proofs.Common.{◌≡◌, ℕ, suc, ◌+◌, ◌-◌, ◌<◌, Bool, true, ap, ◌∙◌, subst, inl, inr, arith}
+use Rattle.std.proofs.lemmas.Bool.{cases_lt}
+use Rattle.dob_pieces.specs.declared.profile.Family.{Family}
+use Rattle.dob_pieces.specs.declared.setup.Setup.{Setup}
+use Rattle.dob_rank.specs.Numbers.{size_of, rank_of, nth}
+use Rattle.dob_rank.specs.Marks.{one_if, marks_below}
+use Rattle.dob_rank.specs.Families.{IsPositionIn, HasRankIn, is_present, size_in, rank_in}
+use Rattle.dob_rank.proofs.Numbering.{nth-block, rank_of-nth, rank_of-below, rank_of-same}
+use Rattle.dob_rank.proofs.Words.{marks_below_more, marks_below-up}
+use Rattle.dob_rank.proofs.Present.{present, allowed, HasRankIn-rank_in}
+
+-- a marked place adds to the marks below each later one
+marks_rise : (mark : ℕ → Bool) (a b : ℕ) → a < b → mark a ≡ true → marks_below mark a < marks_below mark b
+marks_rise mark a b low on =
+    let more = marks_below_more mark a in
+    let one : one_if (mark a) ≡ 1 = ap one_if on in
+    let up = marks_below-up mark (suc a) (b - suc a) in
+    let end : marks_below mark (suc a + (b - suc a)) ≡ marks_below mark b = ap (marks_below mark) (let e : suc a + (b - suc a) ≡ b = omega (arith, low) in e) in
+    omega (arith, more, one, up, end)
+
+pub rank_in-below : (family : Family) (s : Setup) → IsPositionIn family s → rank_in family s < size_in family
+unfolding rank_in size_in
+rank_in-below family s p =
+    marks_rise (is_present family) (rank_of family.set s) (size_of family.set) (rank_of-below family.set s p.of_set) (present family s p)
+
+pub rank_in-same : (family : Family) (p q : Setup) → IsPositionIn family p → IsPositionIn family q → rank_in family p ≡ rank_in family q → p ≡ q
+unfolding rank_in
+rank_in-same family p q hp hq same = elim (cases_lt (rank_of family.set p) (rank_of family.set q)) [
+  | inl lt ↦ absurd (let less = marks_rise (is_present family) (rank_of family.set p) (rank_of family.set q) lt (present family p hp) in omega (arith, less, same))
+  | inr ge ↦ elim (cases_lt (rank_of family.set q) (rank_of family.set p)) [
+    | inl lt ↦ absurd (let less = marks_rise (is_present family) (rank_of family.set q) (rank_of family.set p) lt (present family q hq) in omega (arith, less, same))
+    | inr le ↦ rank_of-same family.set p q hp.of_set hq.of_set (omega (arith, ge, le))
+  ]
+]
+
+-- what a present rank of the set is in the family
+pub record IsRanked (family : Family) (s : Setup) (number : ℕ) : Type 0 where
+  pub position : IsPositionIn family s
+  pub rank_is : rank_in family s ≡ number
+  pub count : HasRankIn family s number
+
+pub ranked_at : (family : Family) (r : ℕ) → r < size_of family.set → is_present family r ≡ true
+    → IsRanked family (nth family.set r) (marks_below (is_present family) r)
+unfolding rank_in
+ranked_at family r below on =
+    let s : Setup = nth family.set r in
+    let back : rank_of family.set (nth family.set r) ≡ r = rank_of-nth family.set r below in
+    let p = allowed family (nth family.set r) (nth-block family.set r below).position (ap (is_present family) back ∙ on) in
+    let same : marks_below (is_present family) (rank_of family.set (nth family.set r)) ≡ marks_below (is_present family) r = ap (marks_below (is_present family)) back in
+    record {
+      position = p;
+      rank_is = same;
+      count = subst (HasRankIn family (nth family.set r)) same (HasRankIn-rank_in family (nth family.set r) p);
+    }

@@ -1,0 +1,25 @@
+-- In profile A the positions of the family are those of the set.
+use Rattle.std.proofs.Common.{sym, ap, ◌∙◌, subst}
+use Rattle.dob_rank.specs.Families.{family_of, HasRankIn, rank_in}
+use Rattle.dob_rank.proofs.Present.{HasRankIn-rank_in, rank_in-whole}
+use Rattle.dob_rank.proofs.family_ranks.rank_in.Goals as goal
+
+pub returns-in-A-clause-number : goal.returns-in-A-clause-number
+returns-in-A-clause-number c = λ set of_set.
+    c.rank.ensures.number set of_set ∙ sym (rank_in-whole (family_of set c.args.profile) c.args.position.now.setup c.in-A.is)
+
+pub returns-in-A-clause-count : goal.returns-in-A-clause-count
+returns-in-A-clause-count c = λ set of_set.
+    subst (HasRankIn (family_of set c.args.profile) c.args.position.now.setup)
+    (sym (c.rank.ensures.number set of_set ∙ sym (rank_in-whole (family_of set c.args.profile) c.args.position.now.setup c.in-A.is)))
+    (HasRankIn-rank_in (family_of set c.args.profile) c.args.position.now.setup (record { of_set = of_set; allowed = c.requires }))
+
+pub returns-in-B-clause-number : goal.returns-in-B-clause-number
+returns-in-B-clause-number c = λ set of_set.
+    c.far_rank.ensures set of_set ∙ ap (λ p. rank_in (family_of set p) c.args.position.now.setup) (sym c.in-B.is)
+
+pub returns-in-B-clause-count : goal.returns-in-B-clause-count
+returns-in-B-clause-count c = λ set of_set.
+    subst (HasRankIn (family_of set c.args.profile) c.args.position.now.setup)
+    (sym (c.far_rank.ensures set of_set ∙ ap (λ p. rank_in (family_of set p) c.args.position.now.setup) (sym c.in-B.is)))
+    (HasRankIn-rank_in (family_of set c.args.profile) c.args.position.now.setup (record { of_set = of_set; allowed = c.requires }))

@@ -1,0 +1,58 @@
+-- The positions of a family: how many there are, how many stand before one, and its classes. Which of the ranks of its set are its own.
+use Rattle.std.specs.Prelude.{ℕ, ◌&&◌, Bool}
+use Rattle.dob_pieces.specs.declared.piece_set.PieceSet.{PieceSet}
+use Rattle.dob_pieces.specs.declared.profile.Family.{Family}
+use Rattle.dob_pieces.specs.declared.profile.Profile.{Profile}
+use Rattle.dob_pieces.specs.declared.setup.Setup.{Setup}
+use Rattle.dob_pieces.specs.Profiles.{is_allowed, IsAllowed}
+use Rattle.dob_rank.specs.Order.{IsPositionOf, Before, HasCount, IsFirstOfTwo}
+use Rattle.dob_rank.specs.Numbers.{size_of, rank_of, nth}
+use Rattle.dob_rank.specs.Marks.{marks_below, is_first}
+
+abbrev pub family_of : PieceSet → Profile → Family
+family_of set profile = record { set = set; profile = profile }
+
+-- a position of the family's set that its profile allows
+pub record IsPositionIn (family : Family) (setup : Setup) : Type 0 where
+  pub of_set : IsPositionOf family.set setup
+  pub allowed : IsAllowed family.profile setup
+
+-- the family has so many positions
+abbrev pub HasSizeIn : Family → ℕ → Type 0
+HasSizeIn family number = HasCount (IsPositionIn family) number
+
+-- so many positions of the family stand before this one
+abbrev pub HasRankIn : Family → Setup → ℕ → Type 0
+HasRankIn family setup number = HasCount (λ (p : Setup). IsPositionIn family p × Before p setup) number
+
+-- a representative of its class: a position of the family that is no later than its mirror image
+abbrev pub IsRepresentativeIn : Family → Setup → Type 0
+IsRepresentativeIn family setup = IsPositionIn family setup × IsFirstOfTwo setup
+
+-- the family has so many classes
+abbrev pub HasClassesIn : Family → ℕ → Type 0
+HasClassesIn family number = HasCount (IsRepresentativeIn family) number
+
+-- so many representatives of the family stand before this one
+abbrev pub HasClassIn : Family → Setup → ℕ → Type 0
+HasClassIn family setup number = HasCount (λ (p : Setup). IsRepresentativeIn family p × Before p setup) number
+
+-- ---- the same by the ranks of the set
+
+-- the setup of that rank is a position of the family
+unfoldable pub is_present : Family → ℕ → Bool
+is_present family r = is_allowed family.profile (nth family.set r)
+
+-- and a representative
+unfoldable pub is_marked : Family → ℕ → Bool
+is_marked family r = is_present family r && is_first family.set r
+
+-- how many positions the family has, how many of them stand before a setup, and how many classes it has
+unfoldable pub size_in : Family → ℕ
+size_in family = marks_below (is_present family) (size_of family.set)
+
+unfoldable pub rank_in : Family → Setup → ℕ
+rank_in family setup = marks_below (is_present family) (rank_of family.set setup)
+
+unfoldable pub classes_in : Family → ℕ
+classes_in family = marks_below (is_marked family) (size_of family.set)

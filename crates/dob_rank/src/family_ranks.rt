@@ -1,0 +1,159 @@
+// Ranks in a family: the positions of a piece set that a profile allows, in the order of their key. In profile A these are all positions of the set.
+// In profile B a choice of the chicks' squares has as many forms as its squares let it have, so that a place in a run is a sum of such numbers in
+// place of a number in mixed radix.
+ghost use Rattle.std.specs.Prelude.{◌≡◌, ◌<◌, ◌≤◌, ◌+◌, ◌*◌, ◌/◌, ◌%◌, ◌^◌, map, slice_index};
+ghost use Rattle.dob_pieces.specs.Profiles.{IsAllowed};
+ghost use Rattle.dob_pieces.specs.declared.profile.Profile.TheVariants.{B};
+ghost use Rattle.dob_rank.specs.BoardMasks.{AreMasks};
+ghost use Rattle.dob_rank.specs.Families.{family_of, HasSizeIn, HasRankIn, is_present, size_in, rank_in};
+ghost use Rattle.dob_rank.specs.Marks.{marks_below};
+ghost use Rattle.dob_rank.specs.Masks.{layer_mask};
+ghost use Rattle.dob_rank.specs.Numbers.{start_of, block_of, order, layer, count, choose, free_squares, on_board as on_board_of};
+ghost use Rattle.dob_rank.specs.Order.{IsPositionOf};
+ghost use Rattle.dob_rank.specs.Runs.{AreFewOnBoard, lion_pairs};
+ghost use Rattle.dob_rank.specs.Weights.{may_have, allowed_number, choice_weight, forms_before, lions_before, others_squares, others_forms};
+ghost use Rattle.dob_rank.specs.Weights.{squares_by, others_by, hand_size, place_in};
+
+use crate::block::{self, DIGITS, EachKind};
+use crate::far_rows::{before_choice, before_lions, forms_below, hand_size};
+use crate::far_starts::far_start;
+use crate::forms::form_of;
+use crate::layers::Layer;
+use crate::masks::{self, Masks};
+use crate::radix;
+use crate::ranks::{digits_of, numbers_on_board, piece_set_of, rank, size};
+use crate::runs::{FREE_SQUARES, LIONS};
+use dob_pieces::{Family, Piece, PieceSet, Position, Profile, Square};
+
+/// How many positions the family has.
+pub fn size_in(family: Family) -> u64
+    ensures count { HasSizeIn family result }
+    ensures number { result ≡ size_in family }
+    ensures bound { result < 2 ^ 42 }
+{
+    match family.profile {
+        Profile::A => size(family.set),
+        Profile::B => far_start(family.set, block::blocks(family.set)),
+    }
+}
+
+/// How many positions of its piece set that the profile allows stand before the position, which is one of them.
+pub fn rank_in(profile: Profile, position: &Position) -> u64
+    requires { IsAllowed profile position.now.setup }
+    ensures count { (set : PieceSet) → IsPositionOf set position.now.setup → HasRankIn (family_of set profile) position.now.setup result }
+    ensures number { (set : PieceSet) → IsPositionOf set position.now.setup → result ≡ rank_in (family_of set profile) position.now.setup }
+{
+    match profile {
+        Profile::A => rank(position),
+        Profile::B => far_rank(position),
+    }
+}
+
+/// The rank of a position of profile B.
+fn far_rank(position: &Position) -> u64
+    requires { IsAllowed B position.now.setup }
+    ensures { (set : PieceSet) → IsPositionOf set position.now.setup → result ≡ rank_in (family_of set B) position.now.setup }
+{
+    let masks = masks::masks_of(&position.setup.board);
+    let on_board = numbers_on_board(position, masks);
+    let set = piece_set_of(position, &on_board);
+    let block = radix::number_of(&block::block_bases_of(set), &on_board);
+    far_start(set, block) + far_place(set, position, masks, &on_board)
+}
+
+/// How many positions of profile B stand before one of the set in its block.
+fn far_place(set: PieceSet, position: &Position, masks: Masks, on_board: &EachKind) -> u64
+    requires allowed { IsAllowed B position.now.setup }
+    requires position { IsPositionOf set position.now.setup }
+    requires masks { AreMasks position.now.setup.board masks }
+    requires on_board { on_board.now ≡ on_board_of position.now.setup }
+    ensures { marks_below (is_present (family_of set B)) (start_of set (block_of set position.now.setup)) + result ≡ rank_in (family_of set B) position.now.setup }
+{
+    let digits = digits_of(position, masks, on_board);
+    let run = block::spot_from(set, on_board, &digits).run;
+    let forms = allowed_forms(&position.setup.board, masks.chicks, on_board[0]);
+    place_by(on_board, &digits, run, forms)
+}
+
+/// The place in a block that those numbers write: of a run, of the digits of squares and forms, and of so many allowed forms of the chicks before.
+fn place_by(on_board: &EachKind, digits: &[u64; DIGITS], run: u64, forms: u64) -> u64
+    requires few { AreFewOnBoard on_board.now }
+    requires run { run < 2 ^ 12 }
+    requires choice { slice_index digits.now 5 < choose free_squares (slice_index on_board.now 0) }
+    requires squares { squares_by on_board.now digits.now < others_squares on_board.now }
+    requires others { others_by on_board.now digits.now < others_forms on_board.now }
+    requires forms { forms ≤ 20 }
+    ensures value { result ≡ place_in B on_board.now digits.now (run / lion_pairs) (run % lion_pairs) forms }
+    ensures bound { result ≤ 2 ^ 42 }
+{
+    let chicks = on_board[0];
+    let choices = block::choices_in(on_board);
+    let lions = run % LIONS;
+    let chosen = chosen_before(chicks, run / LIONS, lions, digits[5]);
+    let squares = digits[6] * choices[2] + digits[7];
+    let placed = add_product(
+        chosen,
+        choices[1] * choices[2],
+        squares * weight_of(chicks, lions, digits[5]) + forms,
+    );
+    let giraffes = block::power(2, on_board[2]);
+    add_product(
+        placed,
+        block::power(2, on_board[1]) * giraffes,
+        digits[9] * giraffes + digits[10],
+    )
+}
+
+/// A product of numbers that are small enough, and a third.
+fn add_product(a: u64, b: u64, c: u64) -> u64
+    requires a { a ≤ 2 ^ 34 }
+    requires b { b ≤ 2 ^ 11 }
+    requires c { c ≤ 2 ^ 32 }
+    ensures { result ≡ a * b + c }
+{
+    a * b + c
+}
+
+/// How many choices of the chicks' squares with forms stand before one, in the runs before and in its own.
+fn chosen_before(chicks: u64, hands: u64, lions: u64, choice: u64) -> u64
+    requires chicks { chicks ≤ 2 }
+    requires hands { hands ≤ 41 }
+    requires lions { lions < LIONS }
+    requires choice { choice < choose FREE_SQUARES chicks }
+    ensures value { result ≡ hands * hand_size B chicks + lions_before B chicks lions + forms_before B lions chicks choice }
+    ensures bound { result ≤ 2 ^ 22 }
+{
+    hands * hand_size(chicks) + before_lions(chicks, lions) + before_choice(chicks, lions, choice)
+}
+
+/// How many forms that choice has.
+fn weight_of(chicks: u64, lions: u64, choice: u64) -> u64
+    requires chicks { chicks ≤ 2 }
+    requires lions { lions < LIONS }
+    requires choice { choice < choose FREE_SQUARES chicks }
+    ensures value { result ≡ choice_weight B lions chicks choice }
+    ensures bound { result ≤ 582 }
+{
+    before_choice(chicks, lions, choice + 1) - before_choice(chicks, lions, choice)
+}
+
+/// How many numbers of allowed forms of the chicks, at most two on those squares, stand before theirs.
+fn allowed_forms(board: &[Option<Piece>; Square::COUNT], mask: u64, pieces: u64) -> u64
+    requires few { pieces ≤ 2 }
+    requires mask { mask ≡ layer_mask (order Layer.Chicks) (map layer board.now) }
+    requires pieces { pieces ≡ count (order Layer.Chicks) (map layer board.now) }
+    ensures value { result ≡ allowed_number (may_have B) 4 (order Layer.Chicks) 0 board.now }
+    ensures bound { result ≤ 20 }
+{
+    if pieces == 0 {
+        return 0;
+    }
+    let first = mask.trailing_zeros() as usize;
+    let place = forms_below(first, form_of(board[first]));
+    if pieces == 1 {
+        return place;
+    }
+    let rest = mask & mask.saturating_sub(1);
+    let second = rest.trailing_zeros() as usize;
+    place * forms_below(second, 4) + forms_below(second, form_of(board[second]))
+}
