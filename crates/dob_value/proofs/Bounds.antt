@@ -1,10 +1,10 @@
 -- Of a table that is right, at least up to a depth, no distance up to it is above the number of classes.
-use Rattle.std.proofs.Common.{◌≡◌, ◌≢◌, ℕ, zero, suc, ◌+◌, ◌≤◌, ◌<◌, ◌⊎◌, inl, inr, sym, subst, ap, ◌∙◌, arith, List, [], ◌∷◌, length, map, get_or}
-use Rattle.std.proofs.Common.{slice_index_or, slice_get, Some, Contains, All, AllPairs}
+use Rattle.std.proofs.Common.{◌≡◌, ◌≢◌, ℕ, suc, ◌≤◌, ◌<◌, ◌⊎◌, inl, inr, subst, ◌∙◌, arith, List, [], ◌∷◌, length, map, get_or}
+use Rattle.std.proofs.Common.{slice_index_or, Contains, AllPairs}
 use Rattle.std.specs.List.{range_with_len}
 use Rattle.std.proofs.lemmas.Bool.{cases_eq}
 use Rattle.std.proofs.lemmas.Option.{slice_get-get_or}
-use Rattle.std.proofs.lemmas.List.{length-map, get_or-map, get_or_default}
+use Rattle.std.proofs.lemmas.List.{length-map, get_or-map}
 use Rattle.std.proofs.lemmas.List.FromFn.{length-range_with_len, get_or-range_with_len}
 use Rattle.std.proofs.lemmas.List.Elements.{Contains-append_right}
 use Rattle.dob_pieces.specs.declared.piece_set.PieceSet.{PieceSet}
@@ -20,7 +20,6 @@ use Rattle.dob_value.specs.declared.value.Value.TheVariants.{Win, Loss, Draw}
 use Rattle.dob_value.specs.Values.{Won, Lost, HasValue}
 use Rattle.dob_value.specs.Entries.{HasDistance, IsCutOff}
 use Rattle.dob_value.specs.Graphs.{HasEntries, AreCutOff, SomeHasDistance}
-use Rattle.dob_value.specs.Follows.{HasInTable, IsValueTable}
 use Rattle.dob_value.specs.Bounds.{plies_of, DistancesAreFew}
 use Rattle.dob_value.proofs.Depths.{won_stays, lost_stays, won_not_lost}
 use Rattle.dob_value.proofs.Tables.{LeadsToClasses, NothingNew, nothing_later}
