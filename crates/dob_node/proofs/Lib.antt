@@ -14,6 +14,8 @@ pub mod Kept  -- what copies know of the same items, and which values they can k
 pub mod Takes  -- the value of a cell that sums up what is known follows
 pub mod Beginnings  -- the histories of nodes at their opening
 pub mod Steps  -- the next item fits its cell, and what is lawful stays so
+pub mod Falls  -- falls: how far they go, and what goes before one
+pub mod Rises  -- after the next item each settlement has a fall, and no distance exceeds the classes
 pub mod Ends  -- lawful nodes that have applied all items hold the value table
 -- A node with its outboxes.
 pub mod Starts  -- the openings of the classes so far, and one more

@@ -32,6 +32,7 @@ use Rattle.dob_node.specs.Histories.{value_of, IsChained}
 use Rattle.dob_node.specs.Quiet.{FollowsAtStatus}
 use Rattle.dob_node.specs.Openings.{IsOpening, AreOpenings}
 use Rattle.dob_node.specs.Lawful.{known_of, IsLawful}
+use Rattle.dob_node.specs.Falls.{IsFirst, HaveFalls}
 use Rattle.dob_node.specs.OpeningLists.{opening_value, opening_settlement, opening_settlements, status_in}
 use Rattle.dob_node.specs.declared.node.Node.{Node}
 use Rattle.dob_node.specs.Nodes.{IsSound, IsOpened}
@@ -40,6 +41,7 @@ use Rattle.dob_node.proofs.Settles.{chained_more, chained_none, value_of-more}
 use Rattle.dob_node.proofs.Takes.{SumsUp-same}
 use Rattle.dob_node.proofs.Totals.{start_sums}
 use Rattle.dob_node.proofs.Soles.{cell_below, one_owner}
+use Rattle.dob_node.proofs.Rises.{opened_first, fresh_within, falls_start}
 
 -- ---- what is listed
 
@@ -205,9 +207,21 @@ module _ (set : PieceSet) (openings : List Opening) (node : Node) (are : AreOpen
   none_applied zero = refl
   none_applied (suc i) = refl
 
+  at_zero : (P : ℕ → List Settlement → Type 0) → P 0 h → (i : ℕ) → i < 1 → P i (sole_history h i)
+  at_zero P base zero low = base
+  at_zero P base (suc i) low = absurd (omega arith)
+
+  chained : (i : ℕ) → i < 1 → IsChained classes 1 i (sole_history h i)
+  chained = at_zero (λ i xs. IsChained classes 1 i xs) (opened_chained classes status classes (omega arith))
+
+  falls : HaveFalls set 1 (sole_history h) (cells_below classes node.share)
+  falls = falls_start set 1 (sole_history h) (cells_below classes node.share) chained
+      (at_zero (λ i xs. All (λ (s : Settlement). IsFirst s.now) xs) (opened_first status 1 0 classes))
+      (λ class low. fresh_within classes (length (moves_of (class_setup set class))) (cells_below classes node.share class) (cell_is class low))
+
   lawful : IsLawful set 1 (sole_history h) (sole_applied []) (cells_below classes node.share) (value_of h)
   lawful = record {
-    chained = at_zero (λ i xs. IsChained classes 1 i xs) (opened_chained classes status classes (omega arith));
+    chained = chained;
     entries = at_zero (λ i xs. All (λ (s : Settlement). IsEntry s.now) xs) (opened_entries status classes);
     begun = begun;
     sums = λ p low is. SumsUp-same (known_of set 1 (sole_history h) (sole_applied []) p) (cells_below classes node.share p)
@@ -219,10 +233,6 @@ module _ (set : PieceSet) (openings : List Opening) (node : Node) (are : AreOpen
     values = λ p low. ap (λ k. value_of (sole_history h k) p) (sym (one_owner p));
   }
     where
-      at_zero : (P : ℕ → List Settlement → Type 0) → P 0 h → (i : ℕ) → i < 1 → P i (sole_history h i)
-      at_zero P base zero low = base
-      at_zero P base (suc i) low = absurd (omega arith)
-
       begun : (i j : ℕ) → i < 1 → j < 1 → (rest : List Item) × (items_from (predecessors set) 1 j (sole_history h i) ≡ sole_applied [] i j ++ rest)
       begun zero zero low_i low_j = (items_from (predecessors set) 1 0 h, refl)
       begun zero (suc j) low_i low_j = absurd (omega arith)
@@ -238,6 +248,8 @@ module _ (set : PieceSet) (openings : List Opening) (node : Node) (are : AreOpen
     lawful = subst (λ st. IsLawful st 1 (sole_history node.history.settlements) (sole_applied []) (cells_below (classes_of st) node.share)
         (value_of node.history.settlements)) (sym opened.of.0)
         (subst (λ xs. IsLawful set 1 (sole_history xs) (sole_applied []) (cells_below classes node.share) (value_of xs)) (sym history_is) lawful);
+    falls = subst (λ st. HaveFalls st 1 (sole_history node.history.settlements) (cells_below (classes_of st) node.share)) (sym opened.of.0)
+        (subst (λ xs. HaveFalls set 1 (sole_history xs) (cells_below classes node.share)) (sym history_is) falls);
   }
     where
       at : (class : ℕ) → class < classes → HasStatus (class_setup set class) (status_at node.share class)

@@ -15,12 +15,13 @@ use Rattle.dob_update.specs.Items.{items_of}
 use Rattle.dob_node.specs.Stores.{HistoryView}
 use Rattle.dob_node.specs.Histories.{value_of}
 use Rattle.dob_node.specs.Lawful.{IsLawful}
+use Rattle.dob_node.specs.Falls.{HaveFalls}
 use Rattle.dob_node.specs.Takes.{AreKept, listed}
 use Rattle.dob_node.specs.declared.node.Node.{Node}
 use Rattle.dob_node.specs.Nodes.{IsSound, IsExpanded, HasApplied}
 use Rattle.dob_node.specs.Sole.{sole_history, sole_applied, sole_items, cells_below, IsSole, IsSoleStep, HasCome, HasMade}
 use Rattle.dob_node.proofs.Settles.{told_more, told_grown, told_all}
-use Rattle.dob_node.proofs.Soles.{still_lawful}
+use Rattle.dob_node.proofs.Soles.{still_lawful, still_falls}
 
 -- ---- steps
 
@@ -69,15 +70,27 @@ module _ (old new : Node) (applied : List Item) (sole : IsSole old applied) (sou
   abbrev pub after : List Item
   after = applied ++ step.item ∷ []
 
+  -- the items that come behind it
+  abbrev later : List Item
+  later = new.own.items ++ sole_items old.set (drop old.expanded old.history.settlements)
+
+  next : sole_items old.set old.history.settlements ≡ applied ++ step.item ∷ later
+  next = all_items old.set old.history.settlements old.expanded applied old.own.items sole.told
+      ∙ ap (λ xs. applied ++ (xs ++ sole_items old.set (drop old.expanded old.history.settlements))) step.first
+
+  kept : AreKept old.set 1 0 old.share old.history
+  kept = kept_sole old.set old.n old.id old.share old.history sole.alone.0 sole.alone.1 sole.sound.kept
+
+  kept_now : AreKept old.set 1 0 new.share new.history
+  kept_now = kept_sole old.set new.n new.id new.share new.history (step.same.2 ∙ sole.alone.0) (step.same.1 ∙ sole.alone.1)
+      (subst (λ st. AreKept st new.n new.id new.share new.history) set_is sound.kept)
+
   lawful_there : IsLawful old.set 1 (sole_history new.history.settlements) (sole_applied after) (cells_below (classes_of old.set) new.share)
       (value_of new.history.settlements)
-  lawful_there = still_lawful old.set old.share new.share old.history new.history applied step.item
-      (new.own.items ++ sole_items old.set (drop old.expanded old.history.settlements))
-      (kept_sole old.set old.n old.id old.share old.history sole.alone.0 sole.alone.1 sole.sound.kept)
-      (kept_sole old.set new.n new.id new.share new.history (step.same.2 ∙ sole.alone.0) (step.same.1 ∙ sole.alone.1)
-      (subst (λ st. AreKept st new.n new.id new.share new.history) set_is sound.kept)) step.taken sole.lawful
-      (all_items old.set old.history.settlements old.expanded applied old.own.items sole.told
-      ∙ ap (λ xs. applied ++ (xs ++ sole_items old.set (drop old.expanded old.history.settlements))) step.first)
+  lawful_there = still_lawful old.set old.share new.share old.history new.history applied step.item later kept kept_now step.taken sole.lawful next
+
+  falls_there : HaveFalls old.set 1 (sole_history new.history.settlements) (cells_below (classes_of old.set) new.share)
+  falls_there = still_falls old.set old.share new.share old.history new.history applied step.item later kept kept_now step.taken sole.lawful next sole.falls
 
   pub sole_after : IsSole new after
   sole_after = record {
@@ -92,6 +105,7 @@ module _ (old new : Node) (applied : List Item) (sole : IsSole old applied) (sou
         sole.sound.told (ap (λ (v : HistoryView). v.settlements) step.taken.settled.2) step.first sole.told));
     lawful = subst (λ st. IsLawful st 1 (sole_history new.history.settlements) (sole_applied after) (cells_below (classes_of st) new.share)
         (value_of new.history.settlements)) (sym set_is) lawful_there;
+    falls = subst (λ st. HaveFalls st 1 (sole_history new.history.settlements) (cells_below (classes_of st) new.share)) (sym set_is) falls_there;
   }
 
 pub made_applied : (old new : Node) → IsSound new → HasApplied old new → (steps : ℕ) → HasMade steps old → HasMade (steps + 1) new
@@ -130,6 +144,9 @@ module _ (old new : Node) (applied : List Item) (sole : IsSole old applied) (sou
         (subst (λ h. IsLawful old.set 1 (sole_history h) (sole_applied applied) (cells_below (classes_of old.set) new.share) (value_of h)) (sym history_is)
         (subst (λ share. IsLawful old.set 1 (sole_history old.history.settlements) (sole_applied applied) (cells_below (classes_of old.set) share)
         (value_of old.history.settlements)) (sym step.same.3) sole.lawful));
+    falls = subst (λ st. HaveFalls st 1 (sole_history new.history.settlements) (cells_below (classes_of st) new.share)) (sym set_same)
+        (subst (λ h. HaveFalls old.set 1 (sole_history h) (cells_below (classes_of old.set) new.share)) (sym history_is)
+        (subst (λ share. HaveFalls old.set 1 (sole_history old.history.settlements) (cells_below (classes_of old.set) share)) (sym step.same.3) sole.falls));
   }
 
 pub made_expanded : (old new : Node) → IsSound new → old.own.items ≡ [] → IsExpanded old new → (steps : ℕ) → HasMade steps old →

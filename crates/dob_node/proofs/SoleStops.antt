@@ -9,8 +9,9 @@ use Rattle.dob_rank.specs.ClassRows.{class_setup}
 use Rattle.dob_pieces.specs.declared.piece_set.PieceSet.{PieceSet}
 use Rattle.dob_share.specs.declared.news.Settlement.{Settlement}
 use Rattle.dob_share.specs.declared.news.Item.{Item}
-use Rattle.dob_share.specs.Cells.{Takes}
-use Rattle.dob_share.specs.Shares.{status_at, Fits}
+use Rattle.dob_share.specs.Cells.{Takes, changed}
+use Rattle.dob_share.specs.Steps.{IsTooDeep}
+use Rattle.dob_share.specs.Shares.{status_at, Fits, GoesTooDeep}
 use Rattle.dob_update.specs.Batches.{OutboxView, empty_outbox}
 use Rattle.dob_node.specs.declared.cause.Cause.{Cause}
 use Rattle.dob_node.specs.declared.cause.Cause.TheVariants as cause
@@ -25,6 +26,7 @@ use Rattle.dob_node.specs.Sole.{sole_history, sole_applied, sole_items, cells_be
 use Rattle.dob_node.proofs.Soles.{cell_below, one_owner}
 use Rattle.dob_node.proofs.SoleSteps.{all_items}
 use Rattle.dob_node.proofs.Steps.{can_apply}
+use Rattle.dob_node.proofs.Rises.{not_too_deep}
 
 -- ---- the item that it has to apply next
 
@@ -55,6 +57,17 @@ module _ (node : Node) (steps : ℕ) (made : HasMade steps node) (item : Item) (
     one_status (class_setup node.set item.to) (status_at node.share item.to) Open (made.1.statuses item.to can.below) can.is_open,
     subst (λ c. Takes item.was item.now c) (cell_below (classes_of node.set) node.share item.to can.below) can.takes,
   )
+
+  -- and for few classes it doesn't go too deep
+  pub next_not_deep : classes_of node.set < 65535 → GoesTooDeep node.share item → ⊥
+  unfolding GoesTooDeep
+  next_not_deep few deep = not_too_deep node.set 1 (sole_history h) (sole_applied made.0) (cells_below (classes_of node.set) node.share) (value_of h) (lit< tt)
+      made.1.lawful made.1.falls 0 0 (lit< tt) (lit< tt) item next few
+      (subst (λ c. IsTooDeep (changed item.was item.now c)) (sym (cell_below (classes_of node.set) node.share item.to can.below)) deep)
+
+pub never_too_deep : (set : PieceSet) (limit : ℕ) → classes_of set < 65535 → IsTooDeepWithin set limit → ⊥
+never_too_deep set limit few is = next_not_deep is.node is.steps is.made is.fault.item is.fault.behind is.fault.first
+    (subst (λ (st : PieceSet). classes_of st < 65535) (sym is.of) few) is.fault.reason.1
 
 pub stopped_sole : (node : Node) (steps limit : ℕ) (why : Cause) → HasMade steps node → steps < limit → HasItemFault node why → HasStopped node.set limit why
 stopped_sole node steps limit cause.TooDeep made low fault =

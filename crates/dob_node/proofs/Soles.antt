@@ -11,13 +11,15 @@ use Rattle.dob_share.specs.Shares.{IsOwn, cell_at}
 use Rattle.dob_share.proofs.Changing.{short_value}
 use Rattle.dob_node.specs.Stores.{HistoryView}
 use Rattle.dob_node.specs.Histories.{value_of}
-use Rattle.dob_node.specs.Lawful.{IsLawful, IsNextItem, CanApply, IsApplied}
+use Rattle.dob_node.specs.Lawful.{IsLawful, IsNextItem, CanApply, AreAfter, IsApplied, AreSettled}
+use Rattle.dob_node.specs.Falls.{HaveFalls}
 use Rattle.dob_node.specs.Takes.{AreKept, IsTaken}
 use Rattle.dob_node.specs.Sole.{sole_history, sole_applied, sole_items, cells_below}
 use Rattle.dob_node.proofs.ItemChanges.{same_by, Change, item_changes}
 use Rattle.dob_node.proofs.Parity.{short_own}
 use Rattle.dob_node.proofs.Kepts.{fits_own}
 use Rattle.dob_node.proofs.Steps.{can_apply, lawful_after}
+use Rattle.dob_node.proofs.Rises.{falls_stay}
 
 -- ---- the cells of all classes
 
@@ -80,13 +82,24 @@ module _ (set : PieceSet) (share after : Share) (history grown : HistoryView) (a
   cells_after p other = same_by (nat_lt p (classes_of set)) (cell_at after p) (cell_at share p) (fresh 0)
       (λ is. taken.others p ((kept.owned p).1 (one_owner p, ltb-true p (classes_of set) is)) other)
 
+  are_after : AreAfter item (cells_below (classes_of set) share) (cells_below (classes_of set) after) (value_of h) (value_of g)
+  are_after = record {
+    cell_is = subst (λ c. SameCell c (changed item.was item.now (cells_below (classes_of set) share item.to))) (sym (cell_below (classes_of set) after item.to low))
+        (subst (λ c. SameCell (cell_at after item.to) (changed item.was item.now c)) (sym (cell_below (classes_of set) share item.to low)) taken.cell);
+    gives = subst (λ c. CellValue c (value_of g item.to)) (sym (cell_below (classes_of set) after item.to low)) changes.gives;
+    short = short_value (cell_at after item.to) (value_of g item.to) (short_own after item.to there_after) changes.gives;
+    better = changes.better;
+    others = λ p other. (cells_after p other, changes.others p other);
+  }
+
+  settled : AreSettled 0 item.to (value_of h item.to) (value_of g item.to) (sole_history h) (sole_history g)
+  settled = record { same = changes.same; more = changes.more; others = same_history g }
+
   pub still_lawful : IsLawful set 1 (sole_history g) (sole_applied (applied ++ item ∷ [])) (cells_below (classes_of set) after) (value_of g)
   still_lawful = lawful_after set 1 (sole_history h) (sole_applied applied) (cells_below (classes_of set) share) (value_of h) (lit< tt) lawful 0 0
-      (lit< tt) (lit< tt) item is_next (sole_applied (applied ++ item ∷ [])) is_applied (cells_below (classes_of set) after) (value_of g) (record {
-        cell_is = subst (λ c. SameCell c (changed item.was item.now (cells_below (classes_of set) share item.to))) (sym (cell_below (classes_of set) after item.to low))
-            (subst (λ c. SameCell (cell_at after item.to) (changed item.was item.now c)) (sym (cell_below (classes_of set) share item.to low)) taken.cell);
-        gives = subst (λ c. CellValue c (value_of g item.to)) (sym (cell_below (classes_of set) after item.to low)) changes.gives;
-        short = short_value (cell_at after item.to) (value_of g item.to) (short_own after item.to there_after) changes.gives;
-        better = changes.better;
-        others = λ p other. (cells_after p other, changes.others p other);
-      }) (sole_history g) (record { same = changes.same; more = changes.more; others = same_history g })
+      (lit< tt) (lit< tt) item is_next (sole_applied (applied ++ item ∷ [])) is_applied (cells_below (classes_of set) after) (value_of g) are_after
+      (sole_history g) settled
+
+  pub still_falls : HaveFalls set 1 (sole_history h) (cells_below (classes_of set) share) → HaveFalls set 1 (sole_history g) (cells_below (classes_of set) after)
+  still_falls have = falls_stay set 1 (sole_history h) (sole_applied applied) (cells_below (classes_of set) share) (value_of h) (lit< tt) lawful have 0 0
+      (lit< tt) (lit< tt) item is_next (cells_below (classes_of set) after) (value_of g) are_after (sole_history g) settled

@@ -75,7 +75,7 @@ module _ (set : PieceSet) (n : ℕ) (histories : ℕ → List Settlement) (appli
   next_is : IsNext classes n i made.before made.s
   next_is = lawful.chained i low_i made.before made.s made.behind made.history_is
 
-  better : Better item.was item.now
+  pub better : Better item.was item.now
   better = subst (λ (r : Item). Better r.was r.now) (sym from.is) next_is.better
 
   -- what the class of the item learns, whatever it is that is applied then

@@ -16,7 +16,7 @@ use Rattle.dob_node.specs.Quiet.{FollowsFromKnown}
 
 -- ---- the cell's value follows
 
-is_that_win : (plies : ℕ) (v : Value) → is_win_in plies v ≡ true → v ≡ Win plies
+pub is_that_win : (plies : ℕ) (v : Value) → is_win_in plies v ≡ true → v ≡ Win plies
 is_that_win plies (Win distance) is = ap Win (eqb-true distance plies is)
 is_that_win plies (Loss distance) is = cc
 is_that_win plies Draw is = cc

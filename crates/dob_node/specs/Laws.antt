@@ -10,10 +10,12 @@ use Rattle.dob_unmove.specs.Edges.{predecessors}
 use Rattle.dob_share.specs.declared.news.Settlement.{Settlement}
 use Rattle.dob_share.specs.declared.news.Item.{Item}
 use Rattle.dob_share.specs.declared.opening.Opening.{Opening}
-use Rattle.dob_share.specs.Cells.{Cell, SumsUp, Changes}
+use Rattle.dob_share.specs.Cells.{Cell, SumsUp, Changes, changed}
+use Rattle.dob_share.specs.Steps.{IsTooDeep}
 use Rattle.dob_update.specs.Items.{items_from}
 use Rattle.dob_node.specs.Openings.{AreOpenings}
 use Rattle.dob_node.specs.Lawful.{known_of, IsLawful, IsNextItem, CanApply, AreAfter, IsApplied, AreSettled}
+use Rattle.dob_node.specs.Falls.{HaveFalls}
 
 -- before anything is applied a cell with all the class's moves left sums up what their copies know
 abbrev pub NothingIsKnown : Type 0
@@ -41,6 +43,19 @@ LawfulStays = (set : PieceSet) (n : ℕ) (histories grown : ℕ → List Settlem
     (value worth : ℕ → Value) (i j : ℕ) (item : Item) → 0 < n → i < n → j < n → IsLawful set n histories applied cell value →
     IsNextItem set n histories applied i j item → IsApplied i j item applied after → AreAfter item cell cells value worth →
     AreSettled j item.to (value item.to) (worth item.to) histories grown → IsLawful set n grown after cells worth
+
+-- each settlement then stands first in a fall, where it did before
+abbrev pub FallsStay : Type 0
+FallsStay = (set : PieceSet) (n : ℕ) (histories grown : ℕ → List Settlement) (applied : ℕ → ℕ → List Item) (cell cells : ℕ → Cell)
+    (value worth : ℕ → Value) (i j : ℕ) (item : Item) → 0 < n → i < n → j < n → IsLawful set n histories applied cell value →
+    HaveFalls set n histories cell → IsNextItem set n histories applied i j item → AreAfter item cell cells value worth →
+    AreSettled j item.to (value item.to) (worth item.to) histories grown → HaveFalls set n grown cells
+
+-- for fewer than 65,535 classes the next item doesn't go too deep
+abbrev pub NextItemIsShort : Type 0
+NextItemIsShort = (set : PieceSet) (n : ℕ) (histories : ℕ → List Settlement) (applied : ℕ → ℕ → List Item) (cell : ℕ → Cell) (value : ℕ → Value)
+    (i j : ℕ) (item : Item) → 0 < n → i < n → j < n → IsLawful set n histories applied cell value → HaveFalls set n histories cell →
+    IsNextItem set n histories applied i j item → classes_of set < 65535 → ¬ IsTooDeep (changed item.was item.now (cell item.to))
 
 -- where all items are applied, the values are the value table
 abbrev pub LawfulIsRight : Type 0

@@ -2,6 +2,7 @@ pub mod Histories
 pub mod Quiet
 pub mod Openings
 pub mod Lawful
+pub mod Falls
 pub mod Laws
 pub mod Stores
 pub mod Causes

@@ -15,6 +15,7 @@ use Rattle.dob_update.specs.Items.{items_from}
 use Rattle.dob_node.specs.Histories.{value_of}
 use Rattle.dob_node.specs.Openings.{AreOpenings}
 use Rattle.dob_node.specs.Lawful.{IsLawful}
+use Rattle.dob_node.specs.Falls.{HaveFalls}
 use Rattle.dob_node.specs.declared.cause.Cause.{Cause}
 use Rattle.dob_node.specs.declared.cause.Cause.TheVariants.{TooDeep, Contradiction, Memory, Held, Counts}
 use Rattle.dob_node.specs.declared.node.Node.{Node}
@@ -40,7 +41,7 @@ abbrev pub cells_below : ℕ → Share → ℕ → Cell
 cells_below classes share class = cond (nat_lt class classes) (cell_at share class) (fresh 0)
 
 -- The node owns all classes, and each has its status there. What it has applied and has still to apply are the items of
--- the settlements that it has expanded, and it is lawful.
+-- the settlements that it has expanded, it is lawful, and its settlements have falls.
 pub record IsSole (node : Node) (applied : List Item) : Type 0 where
   pub sound : IsSound node
   pub alone : (node.n ≡ 1) × (node.id ≡ 0)
@@ -48,6 +49,7 @@ pub record IsSole (node : Node) (applied : List Item) : Type 0 where
   pub told : sole_items node.set (take node.expanded node.history.settlements) ≡ applied ++ node.own.items
   pub lawful : IsLawful node.set 1 (sole_history node.history.settlements) (sole_applied applied)
       (cells_below (classes_of node.set) node.share) (value_of node.history.settlements)
+  pub falls : HaveFalls node.set 1 (sole_history node.history.settlements) (cells_below (classes_of node.set) node.share)
 
 -- the one node as it is opened, before its first step
 abbrev pub IsBegun : PieceSet → Node → Type 0

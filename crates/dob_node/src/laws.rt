@@ -1,6 +1,6 @@
 // Laws of histories, each the contract of a function that does nothing.
 ghost use Rattle.dob_node.specs.Quiet.{QuietIsRight};
-ghost use Rattle.dob_node.specs.Laws.{NothingIsKnown, NextItemFits, NextItemTeachesOne, LawfulStays, LawfulIsRight};
+ghost use Rattle.dob_node.specs.Laws.{NothingIsKnown, NextItemFits, NextItemTeachesOne, LawfulStays, FallsStay, NextItemIsShort, LawfulIsRight};
 
 /// Nodes that have nothing left to expand, to send or to apply, and whose classes have the values that follow from
 /// what the copies of their moves know, hold the value table.
@@ -26,6 +26,17 @@ pub fn next_item_teaches_one()
 /// After it, and after the settlement that it makes, the nodes are lawful.
 pub fn lawful_stays()
     ensures { LawfulStays }
+{}
+
+/// Each settlement then stands first in a list of settlements of different classes whose distances fall by one down to a win
+/// in one ply or a loss in none, where each did before.
+pub fn falls_stay()
+    ensures { FallsStay }
+{}
+
+/// For fewer than 65,535 classes the next item doesn't go too deep.
+pub fn next_item_is_short()
+    ensures { NextItemIsShort }
 {}
 
 /// Lawful nodes that have applied all their items hold the value table.

@@ -22,10 +22,12 @@ use std::alloc::Global;
 /// first of its own items, or where it has none is an expansion. `None` where the node has something left to do after them.
 ///
 /// Errors: `SetTooLarge` where the set has more than six pieces besides the lions; `TooDeep` where a class came to a
-/// value with a distance above the greatest that is kept; `Memory`. An item that doesn't fit its cell never comes.
+/// value with a distance above the greatest that is kept, which doesn't happen to a set of fewer than 65,535 classes;
+/// `Memory`. An item that doesn't fit its cell never comes.
 pub fn alone(alloc: Global, set: PieceSet, limit: u64) -> Result<Option<Table>, Fault>
     ensures too_large { IsErrOf result Fault.SetTooLarge ↔ IsTooLarge set }
     ensures too_deep { result ≡ Err Fault.TooDeep → IsTooDeepWithin set limit }
+    ensures few { classes_of set < 65535 → ¬ (result ≡ Err Fault.TooDeep) }
     ensures fits { (class : ℕ) → ¬ (result ≡ Err (Fault.Contradiction class)) }
     ensures set { IfOk result (λ given. IfSome given (λ table. table.set ≡ set)) }
     ensures table { IfOk result (λ given. IfSome given (λ table. IsValueTable set table.values)) }

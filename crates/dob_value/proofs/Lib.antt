@@ -11,6 +11,7 @@ pub mod ClassNumbers  -- each position has one entry
 pub mod Rows  -- tables in the order of the classes
 -- The graph of a sweep.
 pub mod Successors  -- the successors of a class
+pub mod Bounds  -- no distance is above the number of classes
 pub mod Nodes  -- the graph's lists as they grow
 -- Tables that pass the check.
 pub mod Consistency  -- a consistent table is the value table

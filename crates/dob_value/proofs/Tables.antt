@@ -7,8 +7,10 @@ use Rattle.std.proofs.lemmas.Bool.{cases_lt, cases_eq, cases_order, leb-true, le
 use Rattle.dob_pieces.specs.declared.piece_set.PieceSet.{PieceSet}
 use Rattle.dob_pieces.specs.declared.setup.Setup.{Setup}
 use Rattle.dob_rank.specs.Marks.{classes_of}
+use Rattle.dob_moves.specs.declared.game_move.Move.{Move}
 use Rattle.dob_moves.specs.declared.position_status.Status.{Status}
 use Rattle.dob_moves.specs.declared.position_status.Status.TheVariants.{Caught, Tried, Stuck, Open}
+use Rattle.dob_moves.specs.Moves.{Goes}
 use Rattle.dob_moves.specs.Statuses.{HasStatus}
 use Rattle.dob_value.specs.declared.value.Value.{Value}
 use Rattle.dob_value.specs.declared.value.Value.TheVariants.{Win, Loss, Draw}
@@ -168,33 +170,36 @@ NothingNew n set = (number : ℕ) → number < classes_of set →
     (Won (suc n) (class_setup set number) → Won n (class_setup set number))
     × (Lost (suc n) (class_setup set number) → Lost n (class_setup set number))
 
+-- the moves of the classes lead into classes
+abbrev pub LeadsToClasses : PieceSet → Type 0
+LeadsToClasses set = (number : ℕ) → number < classes_of set → HasStatus (class_setup set number) Open → (move : Move) (q : Setup) →
+    Goes (class_setup set number) move q → (next : ℕ) × ClassStandsFor set next q
+
 -- then nothing is at any greater depth
-pub nothing_later : (n : ℕ) (graph : Graph) → IsGraph graph → NothingNew n graph.set → (m number : ℕ) → number < classes_of graph.set →
-    (Won m (class_setup graph.set number) → Won n (class_setup graph.set number))
-    × (Lost m (class_setup graph.set number) → Lost n (class_setup graph.set number))
-nothing_later n graph is nothing zero number there =
-    (λ won. absurd won, λ over. lost_stays 0 n (class_setup graph.set number) (omega arith) over)
-nothing_later n graph is nothing (suc m) number there =
-    let known = is.known number there in (
-      λ won. (nothing number there).0 (elim won [
-        | inl caught ↦ inl caught
-        | inr open_win ↦
-            let next = known.successors.whole open_win.0 open_win.1 open_win.2 open_win.3 in
-            let later = nothing_later n graph is nothing m next.0 next.2.0 in
-            let lost = (next.2.1.lost n).1 (later.1 ((next.2.1.lost m).0 open_win.4)) in
-            inr (open_win.0, open_win.1, open_win.2, open_win.3, lost)
-      ]),
-      λ lost. (nothing number there).1 (elim lost [
-        | inl over ↦ inl over
-        | inr open_loss ↦ inr (
-          open_loss.0,
-          λ move q goes.
-              let next = known.successors.whole open_loss.0 move q goes in
-              let later = nothing_later n graph is nothing m next.0 next.2.0 in
-              (next.2.1.won n).1 (later.0 ((next.2.1.won m).0 (open_loss.1 move q goes))),
-        )
-      ]),
+pub nothing_later : (n : ℕ) (set : PieceSet) → LeadsToClasses set → NothingNew n set → (m number : ℕ) → number < classes_of set →
+    (Won m (class_setup set number) → Won n (class_setup set number)) × (Lost m (class_setup set number) → Lost n (class_setup set number))
+nothing_later n set leads nothing zero number there =
+    (λ won. absurd won, λ over. lost_stays 0 n (class_setup set number) (omega arith) over)
+nothing_later n set leads nothing (suc m) number there = (
+  λ won. (nothing number there).0 (elim won [
+    | inl caught ↦ inl caught
+    | inr open_win ↦
+        let next = leads number there open_win.0 open_win.1 open_win.2 open_win.3 in
+        let later = nothing_later n set leads nothing m next.0 next.1.0 in
+        let lost = (next.1.1.lost n).1 (later.1 ((next.1.1.lost m).0 open_win.4)) in
+        inr (open_win.0, open_win.1, open_win.2, open_win.3, lost)
+  ]),
+  λ lost. (nothing number there).1 (elim lost [
+    | inl over ↦ inl over
+    | inr open_loss ↦ inr (
+      open_loss.0,
+      λ move q goes.
+          let next = leads number there open_loss.0 move q goes in
+          let later = nothing_later n set leads nothing m next.0 next.1.0 in
+          (next.1.1.won n).1 (later.0 ((next.1.1.won m).0 (open_loss.1 move q goes))),
     )
+  ]),
+)
 
 -- an entry cut off at a depth after which nothing comes is the value
 pub value_of_cut : (n : ℕ) (p : Setup) (entry : Value) → ((m : ℕ) → (Won m p → Won n p) × (Lost m p → Lost n p)) →
@@ -209,10 +214,12 @@ pub unchanged_is_final : (n : ℕ) (graph : Graph) (entries : List Value) → Is
 unchanged_is_final n graph entries is cut next =
     let nothing : NothingNew n graph.set = λ number there.
     nothing_new n (class_setup graph.set number) _ (cut.fits number there) (next.fits number there) in
+    let leads : LeadsToClasses graph.set = λ number there goes_on move q goes.
+    let step = (is.known number there).successors.whole goes_on move q goes in (step.0, step.2) in
     record {
       same_length = cut.same_length;
       fits = λ number there.
-          value_of_cut n (class_setup graph.set number) _ (λ m. nothing_later n graph is nothing m number there) (cut.fits number there);
+          value_of_cut n (class_setup graph.set number) _ (λ m. nothing_later n graph.set leads nothing m number there) (cut.fits number there);
     }
 
 -- where a sweep finds a draw that it hasn't swept yet, the class is neither won nor lost up to its depth

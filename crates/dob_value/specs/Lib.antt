@@ -8,3 +8,4 @@ pub mod Rosters
 pub mod Follows
 pub mod Codes
 pub mod ClassRows
+pub mod Bounds

@@ -3,6 +3,7 @@ ghost use Rattle.std.specs.Prelude.{◌≡◌};
 ghost use Rattle.dob_value.specs.Depths.{WonStaysWon, LostStaysLost, NotWonAndLost, OneValue, MirrorsHaveOneOutlook, MirrorsHaveOneValue};
 ghost use Rattle.dob_value.specs.Follows.{ConsistentIsRight};
 ghost use Rattle.dob_value.specs.Codes.{ValuesHaveParity};
+ghost use Rattle.dob_value.specs.Bounds.{DistancesAreFew};
 
 use crate::sweep::MAX_DISTANCE;
 
@@ -45,6 +46,11 @@ pub fn law_consistent()
 /// Wins come at odd distances and losses at even ones.
 pub fn values_have_parity()
     ensures { ValuesHaveParity }
+{}
+
+/// In the value table of a set no distance is above the number of classes.
+pub fn distances_are_few()
+    ensures { DistancesAreFew }
 {}
 
 /// The greatest distance is 65,534.

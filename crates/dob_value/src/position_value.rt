@@ -1,14 +1,16 @@
 // The values of a whole piece set, and the value of one position.
-ghost use Rattle.std.specs.Prelude.{◌≡◌, ◌↔◌, IfOk, IsErrOf};
+ghost use Rattle.std.specs.Prelude.{◌≡◌, ◌<◌, ◌↔◌, IfOk, IsErrOf};
+ghost use Rattle.dob_rank.specs.Marks.{classes_of};
 ghost use Rattle.dob_rank.specs.Limits.{IsTooLarge, HasManyPieces};
 ghost use Rattle.dob_rank.specs.Order.{IsPositionOf};
 ghost use Rattle.dob_value.specs.Values.{HasValue};
 ghost use Rattle.dob_value.specs.Rosters.{SomeTooDeep, HasSamePieces};
 ghost use Rattle.dob_value.specs.Follows.{IsValueTable};
+ghost use Rattle.dob_value.specs.Bounds.{HasManyClasses};
 
 use crate::codes::codes_of_values;
 use crate::fault::Fault;
-use crate::sweep::sweep;
+use crate::sweep::{MAX_DISTANCE, sweep};
 use crate::table::Table;
 use crate::value::Value;
 use dob_pieces::{PieceSet, Position};
@@ -18,12 +20,13 @@ use std::alloc::Global;
 /// The values of all positions of the set, by sweeps over its classes.
 ///
 /// Errors: `SetTooLarge` just where the set has more than `MOST_PIECES` pieces besides the lions; `TooDeep`, only where some
-/// position of the set is won or lost in more than `MAX_DISTANCE` plies; `Memory`.
+/// position of the set is won or lost in more than `MAX_DISTANCE` plies, and the set has more classes than that; `Memory`.
 pub fn sweep_table(alloc: Global, set: PieceSet) -> Result<Table, Fault>
     ensures set { IfOk result (λ table. table.set ≡ set) }
     ensures values { IfOk result (λ table. IsValueTable set table.values) }
     ensures large { IsErrOf result Fault.SetTooLarge ↔ IsTooLarge set }
     ensures deep { IsErrOf result Fault.TooDeep → SomeTooDeep (IsPositionOf set) }
+    ensures many { IsErrOf result Fault.TooDeep → MAX_DISTANCE < classes_of set }
 {
     let classes = Classes::open(alloc, set)?;
     let values = sweep(alloc, &classes)?;
@@ -35,11 +38,13 @@ pub fn sweep_table(alloc: Global, set: PieceSet) -> Result<Table, Fault>
 /// all at once.
 ///
 /// Errors: `SetTooLarge` just where there are more than `MOST_PIECES` pieces besides the lions; `TooDeep`, only where some
-/// position with the same pieces is won or lost in more than `MAX_DISTANCE` plies; `Memory`.
+/// position with the same pieces is won or lost in more than `MAX_DISTANCE` plies, and these have more classes than that;
+/// `Memory`.
 pub fn sweep_value(alloc: Global, position: &Position) -> Result<Value, Fault>
     ensures value { IfOk result (λ value. HasValue position.now.setup value) }
     ensures large { IsErrOf result Fault.SetTooLarge ↔ HasManyPieces position.now.setup }
     ensures deep { IsErrOf result Fault.TooDeep → SomeTooDeep (HasSamePieces position.now.setup) }
+    ensures many { IsErrOf result Fault.TooDeep → HasManyClasses position.now.setup }
 {
     let table = sweep_table(alloc, position.piece_set())?;
     Ok(table.value_of(position))

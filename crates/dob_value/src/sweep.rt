@@ -141,12 +141,13 @@ fn first_values(alloc: Global, statuses: &[Status]) -> Result<Vec<Value>, AllocE
 
 // The value of each class of the graph. It sweeps until nothing changes.
 //
-// Errors: `TooDeep` where some distance is above `MAX_DISTANCE`, and `Memory`.
+// Errors: `TooDeep` where some distance is above `MAX_DISTANCE`, as then is the number of classes, and `Memory`.
 fn settle(alloc: Global, graph: &Graph) -> Result<Vec<Value>, Fault>
     requires { IsGraph graph.now }
     ensures values { IfOk result (λ values. AreValues graph.now.set values.items) }
     ensures short { IfOk result (λ values. All IsShort values.items) }
     ensures deep { result ≡ Err Fault.TooDeep → (n : ℕ) × (MAX_DISTANCE < n) × SomeHasDistance graph.now.set n }
+    ensures many { result ≡ Err Fault.TooDeep → MAX_DISTANCE < classes_of graph.now.set }
     ensures set { result ≢ Err Fault.SetTooLarge }
 {
     let mut values = first_values(alloc, &graph.statuses)?;
@@ -162,11 +163,12 @@ fn settle(alloc: Global, graph: &Graph) -> Result<Vec<Value>, Fault>
 
 /// The value of each class, in the order of their numbers.
 ///
-/// Errors: `TooDeep` where some distance is above `MAX_DISTANCE`, and `Memory`.
+/// Errors: `TooDeep` where some distance is above `MAX_DISTANCE`, as then is the number of classes, and `Memory`.
 pub(crate) fn sweep(alloc: Global, classes: &Classes) -> Result<Vec<Value>, Fault>
     ensures values { IfOk result (λ values. AreValues classes.now.set values.items) }
     ensures entries { IfOk result (λ values. All IsEntry values.items) }
     ensures deep { result ≡ Err Fault.TooDeep → SomeTooDeep (IsPositionOf classes.now.set) }
+    ensures many { result ≡ Err Fault.TooDeep → MAX_DISTANCE < classes_of classes.now.set }
     ensures set { result ≢ Err Fault.SetTooLarge }
 {
     let graph = graph_of(alloc, classes)?;

@@ -6,7 +6,7 @@ use Rattle.dob_world.specs.declared.event.Event.{Event}
 use Rattle.dob_world.specs.declared.step.Step.{Step}
 use Rattle.dob_world.specs.declared.step.Step.TheVariants.{Done, Skipped}
 use Rattle.dob_world.specs.declared.world.World.{World}
-use Rattle.dob_world.specs.Worlds.{Setting, World as Shown, State}
+use Rattle.dob_world.specs.Worlds.{Setting, World as Shown, State, HaveFallsIn}
 use Rattle.dob_world.specs.Events.{CanHappen}
 use Rattle.dob_world.specs.Runs.{IsDoneOrSkipped, IsAfter, IsStepOf, IsAfterSteps}
 use Rattle.dob_world.specs.Shown.{setting_of, state_of, world_shown, ring_of, IsSetting, IsStanding, IsUnchanged, IsMade, IsStart}
@@ -109,6 +109,7 @@ ran k start events world setting is_start after standing going = record {
   standing = standing;
   going = going;
   headline = subst (λ (s : Setting). Headline s (state_of world)) setting (standing_headline world standing);
+  falls = subst (λ (s : Setting). HaveFallsIn s (state_of world).world.nodes) setting standing.falls;
 }
 
 -- one event more

@@ -28,14 +28,16 @@ use Rattle.dob_node.specs.Quiet.{FollowsAtStatus}
 use Rattle.dob_node.specs.Openings.{AreOpenings}
 use Rattle.dob_node.specs.OpeningLists.{opening_value, opening_settlements, status_in}
 use Rattle.dob_node.specs.Lawful.{known_of}
+use Rattle.dob_node.specs.Falls.{IsFirst}
 use Rattle.dob_node.specs.declared.node.Node.{Node}
 use Rattle.dob_node.specs.Nodes.{outbox_to}
 use Rattle.dob_node.proofs.Takes.{SumsUp-same}
 use Rattle.dob_node.proofs.Totals.{start_sums}
 use Rattle.dob_node.proofs.Rest.{below_owner}
+use Rattle.dob_node.proofs.Rises.{opened_first, fresh_within, falls_start}
 use Rattle.dob_node.proofs.SoleOpens.{listed_opening}
 use Rattle.dob_world.specs.declared.lane.Lane.{Lane}
-use Rattle.dob_world.specs.Worlds.{Setting, Nodes, value_in, AreLawful, IsLinked}
+use Rattle.dob_world.specs.Worlds.{Setting, Nodes, value_in, AreLawful, HaveFallsIn, IsLinked}
 use Rattle.dob_world.specs.Shown.{part, lane_at, nodes_shown, world_shown, IsNodeOf, AreInPlace, AreOpenedNodes, AreEmptyLanes, IsEmptyLane}
 use Rattle.dob_world.specs.Lanes.{IsBatchFor}
 use Rattle.dob_link.specs.Links.{LinkView}
@@ -123,12 +125,25 @@ module _ (k : Setting) (openings : List Opening) (nodes : List Node) (lanes : Li
       (subst (λ (m : ℕ). SameCell (cell_at node.share p) (fresh m)) (listed_opening k.set openings p are low).moves
       ((opened.each i node there).0.cells p (((kept_of k i node (is_node i node there)).owned p).1 (refl, low))))
 
+  chained_start : (i : ℕ) → i < k.n → IsChained (classes_of k.set) k.n i (shown.history i)
+  chained_start i low = let at = of_n i low in
+      subst (λ xs. IsChained (classes_of k.set) k.n i xs) (sym (history_is i at.0 at.1))
+      (opened_chained k.n i low status (classes_of k.set) (places_of at.0.share) (λ q less.
+      subst (λ (m : ℕ). q * k.n + i < m) are.whole (((opened.each i at.0 at.1).0.places q).0 less)))
+
+  falls_begun : HaveFallsIn k shown
+  falls_begun = falls_start k.set k.n shown.history shown.cell chained_start
+      (λ i low. let at = of_n i low in
+      subst (λ xs. All (λ (s : Settlement). IsFirst s.now) xs) (sym (history_is i at.0 at.1)) (opened_first status k.n i (places_of at.0.share)))
+      (λ class low. fresh_within (classes_of k.set) (length (moves_of (class_setup k.set class))) (shown.cell class) (cell_is class low))
+
+  pub falls_shown : HaveFallsIn k (world_shown k.set k.n nodes lanes).nodes
+  unfolding world_shown
+  falls_shown = falls_begun
+
   pub lawful_start : AreLawful k shown
   lawful_start = record {
-    chained = λ i low. let at = of_n i low in
-        subst (λ xs. IsChained (classes_of k.set) k.n i xs) (sym (history_is i at.0 at.1))
-        (opened_chained k.n i low status (classes_of k.set) (places_of at.0.share) (λ q less.
-        subst (λ (m : ℕ). q * k.n + i < m) are.whole (((opened.each i at.0 at.1).0.places q).0 less)));
+    chained = chained_start;
     entries = λ i low. let at = of_n i low in
         subst (λ xs. All (λ (s : Settlement). IsEntry s.now) xs) (sym (history_is i at.0 at.1))
         (opened_entries k.n i low status (places_of at.0.share));

@@ -16,6 +16,7 @@ use Rattle.dob_world.specs.Events.{CanHappen, Happens}
 use Rattle.dob_world.specs.Shown.{nodes_shown, world_shown, ring_of, AreInPlace, IsCounted, Stand, HasAtMost, AreCutsPosted}
 use Rattle.dob_world.proofs.Slots.{was}
 use Rattle.dob_world.proofs.Kept.{happening_keeps_all}
+use Rattle.dob_world.proofs.Bounds.{happening_keeps_falls}
 use Rattle.dob_world.proofs.Told.{busy_black, happening_keeps_told, posted_most}
 
 abbrev pub state_at : Setting → List Node → List Lane → Detector → State
@@ -39,6 +40,8 @@ module _ (k : Setting) (nodes : List Node) (lanes : List Lane) (detector : Detec
         counted = counted;
         same_n = same ∙ stand.same_n;
         lawful = both.0;
+        falls = happening_keeps_falls k (state_at k nodes lanes detector) (state_at k after next new) event stand.setting.nodes.0 stand.lawful stand.linked
+            stand.falls can happens;
         linked = both.1;
         told = happening_keeps_told k (state_at k nodes lanes detector) (state_at k after next new) event stand.setting.nodes stand.told can happens
             (λ i j low_i low_j. omega (arith, few i j low_i low_j, room));

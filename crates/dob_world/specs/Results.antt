@@ -7,7 +7,7 @@ use Rattle.dob_world.specs.declared.event.Event.{Event}
 use Rattle.dob_world.specs.declared.fault.Fault.{Fault}
 use Rattle.dob_world.specs.declared.fault.Fault.TheVariants.{SetTooLarge, Nodes, Sizes, Stopped, Memory}
 use Rattle.dob_world.specs.declared.world.World.{World}
-use Rattle.dob_world.specs.Worlds.{Setting, State}
+use Rattle.dob_world.specs.Worlds.{Setting, State, HaveFallsIn}
 use Rattle.dob_world.specs.Runs.{IsAfter, IsAfterSteps}
 use Rattle.dob_world.specs.Events.{CanHappen}
 use Rattle.dob_world.specs.Rounds.{round_length, round_of, round_front, round_event, rounds_of, IsStill}
@@ -24,7 +24,7 @@ HasSettingFault k (Stopped node why) = ⊥
 HasSettingFault k Memory = IsSetting k
 
 -- The world is the opening world changed by the events, in order, it counts how many of them were done, and the promise of the
--- whole holds of it.
+-- whole holds of it. Each settlement stands first in a fall, and no distance is above the number of classes.
 pub record HasRun (k : Setting) (events : List Event) (world : World) : Type 0 where
   pub setting : setting_of world ≡ k
   pub start : State
@@ -33,6 +33,7 @@ pub record HasRun (k : Setting) (events : List Event) (world : World) : Type 0 w
   pub standing : IsStanding world
   pub going : world.failed ≡ None
   pub headline : Headline k (state_of world)
+  pub falls : HaveFallsIn k (state_of world).world.nodes
 
 -- The opening world is changed by the events up to one at which a node stops.
 pub record HasStopped (k : Setting) (events : List Event) (fault : Fault) : Type 0 where

@@ -48,6 +48,10 @@ IsCauseOf k world (Take i j) fault = (fault ≡ Stopped j cause.Memory) ⊎ ((fa
 IsCauseOf k world (Pass i) fault = ⊥
 IsCauseOf k world Announce fault = ⊥
 
+-- a node has stopped since a growth was refused
+abbrev pub IsForMemory : Fault → Type 0
+IsForMemory fault = (node : ℕ) × (fault ≡ Stopped node cause.Memory)
+
 -- The event could happen, and it stops its node in its place.
 abbrev pub IsStopBy : Setting → State → Event → Fault → Type 0
 IsStopBy k state event fault = CanHappen k state event × IsCauseOf k state.world event fault

@@ -12,6 +12,7 @@ use Rattle.dob_update.specs.Items.{items_from}
 use Rattle.dob_update.specs.Batches.{BatchView, items_of_batches}
 use Rattle.dob_node.specs.Histories.{value_of}
 use Rattle.dob_node.specs.Lawful.{IsLawful}
+use Rattle.dob_node.specs.Falls.{HaveFalls}
 use Rattle.dob_safra.specs.Rings.{Ring, sum_below, IsLawful as IsLawfulRing}
 
 -- what a world is made for: a piece set, the number of nodes, the greatest size of a batch, and the links' capacity
@@ -59,6 +60,10 @@ told_in k world i j = items_from (predecessors k.set) k.n j (take (world.expande
 -- each cell and value is what the histories and the items applied say
 abbrev pub AreLawful : Setting → Nodes → Type 0
 AreLawful k nodes = IsLawful k.set k.n nodes.history nodes.applied nodes.cell (value_in k.n nodes)
+
+-- each settlement stands first in a fall, and no distance in a history or in a cell is above the number of classes
+abbrev pub HaveFallsIn : Setting → Nodes → Type 0
+HaveFallsIn k nodes = HaveFalls k.set k.n nodes.history nodes.cell
 
 -- No item is lost, invented or out of place on its way: the items of the settlements expanded are those that a node has
 -- applied from itself followed by its own items; or for another node those sent followed by the outbox, and those sent

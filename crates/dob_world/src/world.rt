@@ -2,6 +2,7 @@
 ghost use Rattle.std.specs.Prelude.{◌≡◌, ◌≢◌, ◌+◌, ◌*◌, ◌^◌, ◌<◌, ◌≤◌, ◌↔◌, true, false, IfOk, IfErr, IfSome, OnOk, OnErr, Err, ℕ};
 ghost use Rattle.dob_node.specs.Openings.{AreOpenings};
 ghost use Rattle.dob_rank.specs.Limits.{IsTooLarge};
+ghost use Rattle.dob_rank.specs.Marks.{classes_of};
 ghost use Rattle.dob_world.specs.Shown.{AreOpenedNodes, AreEmptyLanes};
 
 use crate::detector::Detector;
@@ -35,10 +36,10 @@ pub struct World {
 
 impl World {
     ghost use Rattle.dob_world.specs.declared.event.Event.TheVariants.{Expand, Own, Post, Take, Pass, Announce};
-    ghost use Rattle.dob_world.specs.Worlds.{IsLinked, IsIdle};
+    ghost use Rattle.dob_world.specs.Worlds.{IsLinked, IsIdle, HaveFallsIn};
     ghost use Rattle.dob_world.specs.Events.{CanHappen, MayEnd};
     ghost use Rattle.dob_world.specs.declared.fault.Fault.TheVariants as fault;
-    ghost use Rattle.dob_world.specs.Stops.{IsStopBy, IsStop};
+    ghost use Rattle.dob_world.specs.Stops.{IsStopBy, IsStop, IsForMemory};
     ghost use Rattle.dob_world.specs.Shown.{setting_of, state_of, IsStanding, WillStand, IsKept, IsUnchanged, IsMade, IsStart};
     ghost use Rattle.dob_world.specs.Results.{HasSettingFault};
     ghost use Rattle.dob_world.specs.Headline.{Headline};
@@ -92,6 +93,7 @@ impl World {
     /// Makes the event happen, or skips it where it can't.
     ///
     /// Error: `Stopped`, where the node that makes a step at the event has stopped; then, and at each further step, the same.
+    /// In a set of fewer than 65,535 classes it stops for want of memory alone.
     pub fn step(&mut self, event: Event) -> Result<Step, Fault>
         requires few { self.old.steps < 2 ^ 40 }
         requires kept { IsKept self.old }
@@ -101,6 +103,8 @@ impl World {
         ensures ring { OnErr result ((self.new.detector ≡ self.old.detector) × (self.new.steps ≡ self.old.steps)) }
         ensures named { self.old.failed ≡ None → IfErr result (λ fault. IsStopBy (setting_of self.old) (state_of self.old) event fault) }
         ensures stays { IfSome self.old.failed (λ fault. result ≡ Err fault) }
+        ensures memory { self.old.failed ≡ None → classes_of (setting_of self.old).set < 65535 → IfErr result IsForMemory }
+        ensures falls { OnOk result (HaveFallsIn (setting_of self.new) (state_of self.new).world.nodes) }
         ensures silent { self.old.failed ≡ None → self.old.detector.announced ≡ true → result ≡ Ok Step.Skipped }
         ensures headline { OnOk result (Headline (setting_of self.new) (state_of self.new)) }
         ensures going { OnOk result ((self.new.failed ≡ None) × IsStanding self.new) }

@@ -187,6 +187,31 @@ fn distances_at_the_limit(rt: HostRuntime) {
     );
 }
 
+// After a distance that is refused each of the five moves is still left.
+#[test]
+fn a_refused_distance_changes_nothing(rt: HostRuntime) {
+    let mut share = share_of(&rt, rt.alloc(), 0, 1);
+    answers(
+        &rt,
+        &mut share,
+        17,
+        Value::Draw,
+        Value::Loss(65534),
+        Err(Fault::TooDeep),
+    );
+    for _move in 0..4 {
+        answers(&rt, &mut share, 17, Value::Draw, Value::Win(7), Ok(None));
+    }
+    answers(
+        &rt,
+        &mut share,
+        17,
+        Value::Draw,
+        Value::Win(7),
+        Ok(Some((Value::Draw, Value::Loss(8)))),
+    );
+}
+
 #[test]
 fn values_of_classes(rt: HostRuntime) {
     let caught = Opening {

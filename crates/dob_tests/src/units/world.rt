@@ -1,5 +1,5 @@
 // Worlds by values known from outside.
-ghost use Rattle.std.specs.Prelude.{◌≡◌, None};
+ghost use Rattle.std.specs.Prelude.{◌≡◌, ◌<◌, None};
 ghost use Rattle.dob_world.specs.Shown.{IsStanding, IsKept};
 
 mod ring;
@@ -144,7 +144,26 @@ fn sizes_have_limits(rt: HostRuntime) {
     assert!(rt; refused(&rt, rt.alloc(), 16, 1, 1).is_none());
 }
 
-// A world of lions alone makes the swept table.
+// The distance of a value, 0 for a draw.
+fn plies_of(value: Value) -> u16 {
+    match value {
+        Value::Win(plies) | Value::Loss(plies) => plies,
+        Value::Draw => 0,
+    }
+}
+
+// No distance in the history of a node is above that one.
+fn settles_within(rt: &impl Abort, world: &World, node: usize, most: u16)
+    requires standing { IsStanding world.now }
+    requires node { node < world.now.n }
+{
+    let history = world.history(node);
+    for number in 0..history.count() {
+        assert!(rt; plies_of(history.get(number).now) <= most);
+    }
+}
+
+// A world of lions alone makes the swept table, and settles nothing in more plies than there are classes.
 fn makes_the_table(
     rt: &impl Abort,
     alloc: Global,
@@ -155,6 +174,9 @@ fn makes_the_table(
 ) -> Result<(), Fail> {
     let mut world = world_of(rt, alloc, set_of(rt, "000"), n, batch, capacity);
     finish(rt, &mut world, n);
+    for node in 0..n {
+        settles_within(rt, &world, node, 54);
+    }
     let table = world.gather()?;
     assert!(rt; table.class_count() == 54);
     assert!(rt; is_same_table(&table, swept), "{n} {batch} {capacity}");

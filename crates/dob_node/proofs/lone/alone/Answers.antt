@@ -4,12 +4,19 @@ use Rattle.std.proofs.lemmas.Result.{err_from_is_err_and}
 use Rattle.dob_pieces.specs.declared.piece_set.PieceSet.{PieceSet}
 use Rattle.dob_node.specs.declared.node.Node.{Node}
 use Rattle.dob_node.specs.Sole.{HasMade, IsDone, IsTooDeepWithin, IsUnderWay}
+use Rattle.dob_node.proofs.SoleStops.{never_too_deep}
 use Rattle.dob_node.proofs.lone.alone.Goals as goal
 
 pub returns-in_err-ended-clause-too_deep : goal.returns-in_err-ended-clause-too_deep
 returns-in_err-ended-clause-too_deep c = λ same.
     let given = err_from_is_err_and c.from_residual-in_err-ended.result c.from_residual-in_err-ended.ensures.1 in
     subst (λ (set : PieceSet). IsTooDeepWithin set c.args.limit) c.in_ok-node.ensures.set (c.in_err-ended.ensures.too_deep (cc))
+
+pub returns-in_err-ended-clause-few : goal.returns-in_err-ended-clause-few
+returns-in_err-ended-clause-few c = λ few same.
+    let given = err_from_is_err_and c.from_residual-in_err-ended.result c.from_residual-in_err-ended.ensures.1 in
+    never_too_deep c.args.set c.args.limit few
+    (subst (λ (set : PieceSet). IsTooDeepWithin set c.args.limit) c.in_ok-node.ensures.set (c.in_err-ended.ensures.too_deep (cc)))
 
 pub returns-in_default-clause-none : goal.returns-in_default-clause-none
 returns-in_default-clause-none c = λ is.

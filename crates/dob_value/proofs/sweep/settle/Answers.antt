@@ -1,9 +1,10 @@
--- A sweep that changes nothing is the last.
+-- A sweep that changes nothing is the last, and there are as many classes as the depth that it comes to.
 use Rattle.std.proofs.Common.{sym, ap, length, ◌+◌, subst, ◌∙◌, refl, arith, All, map}
 use Rattle.dob_value.specs.Graphs.{AreCutOff, AreValues, value_at_start}
 use Rattle.dob_value.proofs.Tables.{starts_cut, unchanged_is_final, put_back}
 use Rattle.dob_value.specs.Codes.{IsShort}
 use Rattle.dob_value.proofs.Parity.{all_short}
+use Rattle.dob_value.proofs.Bounds.{deep_within}
 use Rattle.dob_value.proofs.sweep.settle.Goals as goal
 
 pub loop-depth-init : goal.loop-depth-init
@@ -20,6 +21,12 @@ returns-clause-values c =
     let final = unchanged_is_final c.loop-depth.depth c.args.graph.now c.loop-depth.values.items c.requires c.loop-depth.invariant.cut_off
     (subst (λ xs. AreCutOff (c.loop-depth.depth + 1) c.args.graph.now.set xs) unchanged c.sweep_once.ensures.cut_off) in
     subst (λ xs. AreValues c.args.graph.now.set xs) (sym (whole ∙ unchanged)) final
+
+pub returns-then-depth-gt-MAX_DISTANCE-clause-many : goal.returns-then-depth-gt-MAX_DISTANCE-clause-many
+returns-then-depth-gt-MAX_DISTANCE-clause-many c = λ same.
+    let most = deep_within c.args.graph.now.set (c.loop-depth.depth + 1) c.sweep_once.new.values c.sweep_once.ensures.cut_off
+    (c.sweep_once.ensures.found c.loop-depth-test.true) in
+    omega (arith, most, c.if-depth-gt-MAX_DISTANCE.true)
 
 pub returns-clause-short : goal.returns-clause-short
 returns-clause-short c =

@@ -1,5 +1,6 @@
 -- The opening world is the one after no events, and each event makes a run longer.
-use Rattle.std.proofs.Common.{inr, refl, ap, subst, arith, [], Ok}
+use Rattle.std.proofs.Common.{◌<◌, inr, refl, sym, ap, subst, arith, [], Ok}
+use Rattle.dob_rank.specs.Marks.{classes_of}
 use Rattle.dob_world.specs.Worlds.{Setting}
 use Rattle.dob_world.specs.Shown.{state_of, IsStart}
 use Rattle.dob_world.proofs.Ran.{ran, stepped, ran_more, run_stops}
@@ -26,6 +27,11 @@ loop-event-preserved c =
           step out.going.0 out.going.1;
       steps = omega (arith, step.steps, c.loop-event.invariant.steps);
     }
+
+pub returns-in-Err-step-clause-memory : goal.returns-in-Err-step-clause-memory
+returns-in-Err-step-clause-memory c = λ few.
+    let run = c.loop-event.invariant.run in
+    inr (c.in-Err-step.ensures.memory run.going (subst (λ (k : Setting). classes_of k.set < 65535) (sym run.setting) few))
 
 pub returns-in-Err-step-clause-fault : goal.returns-in-Err-step-clause-fault
 returns-in-Err-step-clause-fault c =

@@ -1,5 +1,7 @@
 -- One round more, after which the world is still or not.
-use Rattle.std.proofs.Common.{◌+◌, ◌≤◌, Bool, true, false, arith, subst}
+use Rattle.std.proofs.Common.{◌+◌, ◌<◌, ◌≤◌, Bool, true, false, arith, sym, subst}
+use Rattle.dob_rank.specs.Marks.{classes_of}
+use Rattle.dob_world.specs.Worlds.{Setting}
 use Rattle.dob_world.specs.Results.{HasMadeRound}
 use Rattle.dob_world.proofs.Driven.{no_rounds, round_more, still_longer, drive_stops}
 use Rattle.dob_world.proofs.world.World.drive.Goals as goal
@@ -17,6 +19,16 @@ returns-in-Ok-true-clause-driven c =
 pub loop-round-preserved : goal.loop-round-preserved
 loop-round-preserved c = round_more c.args.self.now c.loop-round.self c.round.new.self c.loop-round._round false c.loop-round.invariant
     (subst (λ (b : Bool). HasMadeRound c.loop-round.self b c.round.new.self) c.in-Ok-false.field-0-test c.in-Ok-false.ensures.made)
+
+pub returns-in-Err-clause-memory : goal.returns-in-Err-clause-memory
+returns-in-Err-clause-memory c = λ few.
+    c.in-Err.ensures.memory (subst (λ (k : Setting). classes_of k.set < 65535) (sym c.loop-round.invariant.setting) few)
+
+pub returns-in-Ok-true-clause-falls : goal.returns-in-Ok-true-clause-falls
+returns-in-Ok-true-clause-falls c = c.in-Ok-true.ensures.made.standing.falls
+
+pub returns-clause-falls : goal.returns-clause-falls
+returns-clause-falls c = c.loop-round.invariant.standing.falls
 
 pub returns-in-Err-clause-stopped : goal.returns-in-Err-clause-stopped
 returns-in-Err-clause-stopped c = (

@@ -5,7 +5,7 @@ use Rattle.dob_world.specs.Worlds.{Setting}
 use Rattle.dob_pieces.specs.declared.piece_set.PieceSet.{PieceSet}
 use Rattle.dob_world.specs.Shown.{world_shown, ring_of, AreOpenedNodes, IsSetting}
 use Rattle.dob_rank.specs.Limits.{IsSmall}
-use Rattle.dob_world.proofs.Starts.{places_start, lawful_shown, linked_start, waits_start}
+use Rattle.dob_world.proofs.Starts.{places_start, falls_shown, lawful_shown, linked_start, waits_start}
 use Rattle.dob_world.proofs.Cuts.{cuts_start}
 use Rattle.dob_world.proofs.Promise.{told_start, few_start}
 use Rattle.dob_world.proofs.world.World.open.Goals as goal
@@ -34,6 +34,7 @@ returns-clause-standing c =
         counted = c.in_ok-detector.ensures.counted.0;
         same_n = c.in_ok-detector.ensures.counted.1;
         lawful = lawful_shown k openings nodes lanes some c.in_ok-openings.ensures opened c.in_ok-lanes.ensures;
+        falls = falls_shown k openings nodes lanes some c.in_ok-openings.ensures opened c.in_ok-lanes.ensures;
         linked = linked_start k openings nodes lanes some c.in_ok-openings.ensures opened c.in_ok-lanes.ensures;
         told = told_start k (record { world = world_shown k.set k.n nodes lanes; ring = ring_of detector }) setting c.in_ok-detector.ensures.start
             (waits_start k openings nodes lanes some c.in_ok-openings.ensures opened c.in_ok-lanes.ensures);

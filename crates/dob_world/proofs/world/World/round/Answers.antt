@@ -1,6 +1,8 @@
 -- One event more is made, or skipped.
-use Rattle.std.proofs.Common.{◌≡◌, ◌<◌, arith, refl, subst, ap, Ok}
+use Rattle.std.proofs.Common.{◌≡◌, ◌<◌, arith, refl, sym, subst, ap, Ok}
 use Rattle.dob_world.specs.declared.event.Event.{Event}
+use Rattle.dob_rank.specs.Marks.{classes_of}
+use Rattle.dob_world.specs.Worlds.{Setting}
 use Rattle.dob_world.specs.Rounds.{round_length}
 use Rattle.dob_world.specs.Stops.{IsStopBy}
 use Rattle.dob_world.specs.Shown.{setting_of, state_of}
@@ -23,6 +25,11 @@ pub returns-clause-made : goal.returns-clause-made
 returns-clause-made c =
     let whole : c.loop-place.place ≡ round_length c.args.self.now.n = omega (arith, c.loop-place-test.false, c.loop-place.auto.place-end) in
     round_done c.args.self.now c.loop-place.self c.loop-place.place c.loop-place.invariant.way whole
+
+pub returns-in-Err-clause-memory : goal.returns-in-Err-clause-memory
+returns-in-Err-clause-memory c = λ few.
+    let way = c.loop-place.invariant.way in
+    c.in-Err.ensures.memory way.going (subst (λ (k : Setting). classes_of k.set < 65535) (sym way.setting) few)
 
 pub returns-in-Err-clause-stopped : goal.returns-in-Err-clause-stopped
 returns-in-Err-clause-stopped c =

@@ -1,6 +1,7 @@
 -- The world stands on after the event, and so the promise of the whole holds of it.
 use Rattle.std.proofs.Common.{◌≡◌, ◌+◌, rules, refl, ap, ◌∙◌, Ok, None}
 use Rattle.dob_world.specs.Shown.{setting_of, state_of, IsStanding}
+use Rattle.dob_world.proofs.Bounds.{few_stop}
 use Rattle.dob_world.proofs.Promise.{standing_headline, stood_headline, stand_unchanged}
 use Rattle.dob_world.proofs.world.World.step.Goals as goal
 
@@ -38,6 +39,24 @@ pub returns-in-Err-clause-kept : goal.returns-in-Err-clause-kept
 returns-in-Err-clause-kept c =
     let old = c.args.self.now in
     (setting_of old, state_of old, c.args.event, c.in-Err.ensures.stopped)
+
+pub returns-in-Err-clause-memory : goal.returns-in-Err-clause-memory
+returns-in-Err-clause-memory c = λ going few.
+    let old = c.args.self.now in
+    let standing : IsStanding old = search rules in
+    few_stop (setting_of old) (state_of old) c.args.event c.in-Err.fault standing.setting.nodes.0 standing.lawful standing.linked standing.falls few
+    c.in-Err.ensures.stopped
+
+pub returns-in-Ok-true-clause-falls : goal.returns-in-Ok-true-clause-falls
+returns-in-Ok-true-clause-falls c =
+    let made = c.in-Ok-true.ensures.done (ap Ok c.in-Ok-true.field-0-test) in
+    made.1.falls
+
+pub returns-in-Ok-false-clause-falls : goal.returns-in-Ok-false-clause-falls
+returns-in-Ok-false-clause-falls c =
+    let skipped = c.in-Ok-false.ensures.skipped (ap Ok c.in-Ok-false.field-0-test) in
+    let standing : IsStanding c.args.self.now = search rules in
+    (stand_unchanged c.args.self.now c.make.new.self skipped.1 standing).falls
 
 pub returns-in-Ok-true-clause-silent : goal.returns-in-Ok-true-clause-silent
 returns-in-Ok-true-clause-silent c = λ going ended.

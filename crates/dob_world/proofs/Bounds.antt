@@ -1,0 +1,103 @@
+-- Each event leaves every settlement a fall, and for few classes no item goes too deep: a node stops for want of memory.
+use Rattle.std.proofs.Common.{◌≡◌, ◌≢◌, ℕ, ◌<◌, inl, inr, sym, ap, ◌∙◌, subst, append_assoc, List, [], ◌∷◌, ◌++◌, drop}
+use Rattle.dob_rank.specs.Marks.{classes_of}
+use Rattle.dob_unmove.specs.Edges.{predecessors}
+use Rattle.dob_share.specs.declared.news.Item.{Item}
+use Rattle.dob_update.specs.Items.{items_from}
+use Rattle.dob_update.specs.Batches.{items_of_batches}
+use Rattle.dob_node.proofs.Rises.{falls_stay, not_too_deep}
+use Rattle.dob_world.specs.declared.event.Event.{Event}
+use Rattle.dob_world.specs.declared.event.Event.TheVariants.{Expand, Own, Post, Take, Pass, Announce}
+use Rattle.dob_world.specs.declared.fault.Fault.{Fault}
+use Rattle.dob_world.specs.Worlds.{Setting, Nodes, World, State, value_in, items_in, AreLawful, HaveFallsIn, IsLinked}
+use Rattle.dob_world.specs.Events.{NodesStay, Applies, AppliesAll, AppliesOwn, TakesBatch, CanHappen, Happens}
+use Rattle.dob_world.specs.Stops.{GoesTooDeep, OwnGoesTooDeep, TakenGoesTooDeep, IsStopBy, IsForMemory}
+use Rattle.dob_world.proofs.Places.{nodes_same}
+use Rattle.dob_world.proofs.Applied.{lawful_step, step_grows, next_after, all_applied}
+use Rattle.dob_world.proofs.Kept.{next_own, next_waiting}
+
+-- ---- items
+
+bound_stays : (k : Setting) (old new : Nodes) → NodesStay old new → HaveFallsIn k old → HaveFallsIn k new
+bound_stays k old new stay falls = subst (λ (nodes : Nodes). HaveFallsIn k nodes) (sym (nodes_same old new stay)) falls
+
+module _ (k : Setting) (some : 0 < k.n) (i j : ℕ) (low_i : i < k.n) (low_j : j < k.n) (item : Item) (old : Nodes) (lawful : AreLawful k old)
+    (falls : HaveFallsIn k old) (rest : List Item) (is_next : items_in k old i j ≡ old.applied i j ++ item ∷ rest) where
+  falls_step : (new : Nodes) → Applies k i j item old new → HaveFallsIn k new
+  falls_step new step = falls_stay k.set k.n old.history old.applied old.cell (value_in k.n old) some lawful falls i j low_i low_j item (rest, is_next)
+      new.cell (value_in k.n new) step.cells new.history step.settled
+
+  next_not_deep : classes_of k.set < 65535 → GoesTooDeep old item → ⊥
+  next_not_deep few deep = not_too_deep k.set k.n old.history old.applied old.cell (value_in k.n old) some lawful falls i j low_i low_j item (rest, is_next)
+      few deep
+
+module _ (k : Setting) (some : 0 < k.n) (i j : ℕ) (low_i : i < k.n) (low_j : j < k.n) (differs : i ≢ j) where
+  all_fall : (items rest : List Item) (old new : Nodes) → AreLawful k old → HaveFallsIn k old →
+      items_in k old i j ≡ old.applied i j ++ (items ++ rest) → AppliesAll k i j items old new → HaveFallsIn k new
+  all_fall [] rest old new lawful falls is all = bound_stays k old new all falls
+  all_fall (item ∷ items) rest old new lawful falls is all =
+      all_fall items rest all.0 new
+      (lawful_step k some i j low_i low_j item old lawful (items ++ rest) is all.0 all.1)
+      (falls_step k some i j low_i low_j item old lawful falls (items ++ rest) is all.0 all.1)
+      (next_after k i j (item ∷ []) (items ++ rest) old all.0 differs (step_grows k i j item old all.0 all.1) is) all.2
+
+-- ---- one event
+
+module _ (k : Setting) (some : 0 < k.n) (old : World) (lawful : AreLawful k old.nodes) (linked : IsLinked k old) (falls : HaveFallsIn k old.nodes) where
+  -- what a node hasn't expanded yet is for later
+  abbrev later : ℕ → ℕ → List Item
+  later i j = items_from (predecessors k.set) k.n j (drop (old.expanded i) (old.nodes.history i))
+
+  owned_falls : (i : ℕ) (new : World) → i < k.n → AppliesOwn k i old new → HaveFallsIn k new.nodes
+  owned_falls i new low step = falls_step k some i i low low step.item old.nodes lawful falls (new.own i ++ later i i)
+      (next_own k old i (step.item ∷ new.own i) linked low step.first) new.nodes step.applied
+
+  taken_falls : (i j : ℕ) (new : World) → i < k.n → j < k.n → i ≢ j → TakesBatch k i j old new → HaveFallsIn k new.nodes
+  taken_falls i j new low_i low_j differs step = all_fall k some i j low_i low_j differs step.batch.items
+      (items_of_batches (new.waiting i j) ++ (old.outbox i j ++ later i j)) old.nodes new.nodes lawful falls
+      (next_waiting k old i j step.batch (new.waiting i j) linked low_i low_j differs step.first) step.applied
+
+  own_not_deep : (i : ℕ) → classes_of k.set < 65535 → i < k.n → OwnGoesTooDeep old i → ⊥
+  own_not_deep i few low deep = next_not_deep k some i i low low deep.item old.nodes lawful falls (deep.behind ++ later i i)
+      (next_own k old i (deep.item ∷ deep.behind) linked low deep.first) few deep.deep
+
+  taken_not_deep : (i j : ℕ) → classes_of k.set < 65535 → i < k.n → j < k.n → i ≢ j → TakenGoesTooDeep k old i j → ⊥
+  taken_not_deep i j few low_i low_j differs deep =
+      let others = items_of_batches deep.batches ++ (old.outbox i j ++ later i j) in
+      let next : items_in k old.nodes i j ≡ old.nodes.applied i j ++ (deep.front ++ ((deep.item ∷ deep.behind) ++ others)) =
+      next_waiting k old i j deep.batch deep.batches linked low_i low_j differs deep.first
+      ∙ ap (λ xs. old.nodes.applied i j ++ (xs ++ others)) deep.items_are
+      ∙ ap (λ xs. old.nodes.applied i j ++ xs) (append_assoc deep.front (deep.item ∷ deep.behind) others) in
+      let both = all_applied k some i j low_i low_j differs deep.front ((deep.item ∷ deep.behind) ++ others) old.nodes deep.between lawful next deep.applied in
+      next_not_deep k some i j low_i low_j deep.item deep.between both.0
+      (all_fall k some i j low_i low_j differs deep.front ((deep.item ∷ deep.behind) ++ others) old.nodes deep.between lawful falls next deep.applied)
+      (deep.behind ++ others)
+      (next_after k i j deep.front ((deep.item ∷ deep.behind) ++ others) old.nodes deep.between differs both.1 next) few deep.deep
+
+-- ---- events
+
+pub happening_keeps_falls : (k : Setting) (old new : State) (event : Event) → 0 < k.n → AreLawful k old.world.nodes → IsLinked k old.world →
+    HaveFallsIn k old.world.nodes → CanHappen k old event → Happens k old event new → HaveFallsIn k new.world.nodes
+happening_keeps_falls k old new (Expand i) some lawful linked falls can step = bound_stays k old.world.nodes new.world.nodes step.0.nodes falls
+happening_keeps_falls k old new (Own i) some lawful linked falls can step = owned_falls k some old.world lawful linked falls i new.world can.0 step.0
+happening_keeps_falls k old new (Post i j) some lawful linked falls can step = bound_stays k old.world.nodes new.world.nodes step.0.nodes falls
+happening_keeps_falls k old new (Take i j) some lawful linked falls can step =
+    taken_falls k some old.world lawful linked falls i j new.world can.0 can.1 can.2 step.0
+happening_keeps_falls k old new (Pass i) some lawful linked falls can step = subst (λ (w : World). HaveFallsIn k w.nodes) (sym step.0) falls
+happening_keeps_falls k old new Announce some lawful linked falls can step = subst (λ (w : World). HaveFallsIn k w.nodes) (sym step.0) falls
+
+-- for few classes a node stops for want of memory alone
+pub few_stop : (k : Setting) (state : State) (event : Event) (fault : Fault) → 0 < k.n → AreLawful k state.world.nodes → IsLinked k state.world →
+    HaveFallsIn k state.world.nodes → classes_of k.set < 65535 → IsStopBy k state event fault → IsForMemory fault
+few_stop k state (Expand i) fault some lawful linked falls few stop = (i, stop.1)
+few_stop k state (Own i) fault some lawful linked falls few stop = elim stop.1 [
+  | inl memory ↦ (i, memory)
+  | inr deep ↦ absurd (own_not_deep k some state.world lawful linked falls i few stop.0.0 deep.1)
+]
+few_stop k state (Post i j) fault some lawful linked falls few stop = (i, stop.1)
+few_stop k state (Take i j) fault some lawful linked falls few stop = elim stop.1 [
+  | inl memory ↦ (j, memory)
+  | inr deep ↦ absurd (taken_not_deep k some state.world lawful linked falls i j few stop.0.0 stop.0.1 stop.0.2 deep.1)
+]
+few_stop k state (Pass i) fault some lawful linked falls few stop = absurd stop.1
+few_stop k state Announce fault some lawful linked falls few stop = absurd stop.1
