@@ -10,7 +10,7 @@ use Rattle.dob_update.proofs.BatchItems.{items_in_more}
 use Rattle.dob_node.specs.declared.node.Node.{Node}
 use Rattle.dob_run.specs.declared.hands.Inlet.{Inlet}
 use Rattle.dob_chan.specs.Inboxes.{batches_of}
-use Rattle.dob_chan.proofs.Deliveries.{own_more, others_more}
+use Rattle.dob_chan.proofs.Deliveries.{own_more as batch_more, others_more}
 use Rattle.dob_run.specs.Links.{worked, worked_from}
 use Rattle.dob_run.specs.Knows.{KnowsRight}
 use Rattle.dob_run.specs.Workers.{planned, items_worked, own_applied, applied_from, AreLast}
@@ -69,7 +69,7 @@ worked_again before after same k = ap (λ (bs : List BatchView). items_of_batche
 pub worked_more : (before after : Inlet) (batch : BatchView) → worked after ≡ worked before ++ batch ∷ [] →
     items_worked after batch.from ≡ items_worked before batch.from ++ batch.items
 worked_more before after batch more =
-    ap (λ (bs : List BatchView). items_of_batches (batches_of batch.from bs)) more ∙ ap items_of_batches (own_more batch.from (worked before) batch refl)
+    ap (λ (bs : List BatchView). items_of_batches (batches_of batch.from bs)) more ∙ ap items_of_batches (batch_more batch.from (worked before) batch refl)
     ∙ items_in_more (worked_from before batch.from) batch
 
 pub worked_else : (before after : Inlet) (batch : BatchView) → worked after ≡ worked before ++ batch ∷ [] → (k : ℕ) → k ≢ batch.from →

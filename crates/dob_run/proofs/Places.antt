@@ -109,26 +109,29 @@ module _ {A B : Type 0} (f : A → B) where
 spread_more : {B : Type 0} (f : ℕ → B) (a n : ℕ) → map f (range_with_len a (suc n)) ≡ map f (range_with_len a n) ++ f (a + n) ∷ []
 spread_more {B} f a zero = let same : a ≡ a + 0 = omega arith in ap (λ (k : ℕ). f k ∷ []) same
 spread_more {B} f a (suc n) =
-    let same : suc a + n ≡ a + suc n = omega arith in
-    ap (λ (l : List B). f a ∷ l) (spread_more f (suc a) n ∙ ap (λ (k : ℕ). map f (range_with_len (suc a) n) ++ f k ∷ []) same)
+    let same : (a + 1) + n ≡ a + suc n = omega arith in
+    ap (λ (l : List B). f a ∷ l) (spread_more f (a + 1) n ∙ ap (λ (k : ℕ). map f (range_with_len (a + 1) n) ++ f k ∷ []) same)
 
 at_spread : {B : Type 0} (f : ℕ → B) (a n k : ℕ) → k < n → slice_get (map f (range_with_len a n)) k ≡ Some (f (a + k))
 at_spread f a zero k low = absurd (omega (arith, low))
 at_spread f a (suc n) zero low = let same : a ≡ a + 0 = omega arith in ap (λ (k : ℕ). Some (f k)) same
 at_spread f a (suc n) (suc k) low =
-    let same : suc a + k ≡ a + suc k = omega arith in at_spread f (suc a) n k (omega (arith, low)) ∙ ap (λ (j : ℕ). Some (f j)) same
+    let same : (a + 1) + k ≡ a + suc k = omega arith in at_spread f (a + 1) n k (omega (arith, low)) ∙ ap (λ (j : ℕ). Some (f j)) same
 
 -- what stands at a sender's place in the row of a hand
 pub at_row : (n k : ℕ) (hand : Option BatchView) → k < n → slice_get (hand_row n hand) k ≡ Some (held_from hand k)
-at_row n k hand low = at_spread (held_from hand) 0 n k low
+at_row n k hand low = let same : 0 + k ≡ k = omega arith in at_spread (held_from hand) 0 n k low ∙ ap (λ (j : ℕ). Some (held_from hand j)) same
 
 pub row_grows : (n : ℕ) (hand : Option BatchView) (hands : List (Option BatchView)) (next : Option BatchView) → hands ≡ hand_row n hand →
     next ≡ held_from hand n → hands ++ next ∷ [] ≡ hand_row (n + 1) hand
 row_grows n hand hands next so_far is =
-    let one : n + 1 ≡ suc n = omega arith in
-    (λ i. so_far i ++ is i ∷ []) ∙ sym (spread_more (held_from hand) 0 n) ∙ ap (λ (k : ℕ). hand_row k hand) (sym one)
+    let one : suc n ≡ n + 1 = omega arith in
+    let same : n ≡ 0 + n = omega arith in
+    let last : next ≡ held_from hand (0 + n) = is ∙ ap (λ (j : ℕ). held_from hand j) same in
+    let both : hands ++ next ∷ [] ≡ hand_row n hand ++ held_from hand (0 + n) ∷ [] = λ i. so_far i ++ last i ∷ [] in
+    both ∙ sym (spread_more (held_from hand) 0 n) ∙ ap (λ (k : ℕ). hand_row k hand) one
 
 -- behind the first list
 pub behind : {A : Type 0} (xs ys : List A) (k : ℕ) → slice_get (xs ++ ys) (length xs + k) ≡ slice_get ys k
-behind [] ys k = refl
-behind (x ∷ xs) ys k = behind xs ys k
+behind [] ys k = let same : 0 + k ≡ k = omega arith in ap (slice_get ys) same
+behind (x ∷ xs) ys k = let same : length (x ∷ xs) + k ≡ suc (length xs + k) = omega arith in ap (slice_get (x ∷ (xs ++ ys))) same ∙ behind xs ys k

@@ -63,7 +63,7 @@ module _ {X Z : Type 0} (width : ℕ) (rows : List (Vec X Z)) where
     done = 0;
     within = omega arith;
     left_are = all;
-    so_far = record { count = ap length none; each = λ i j x below. absurd (omega (arith, below)) };
+    so_far = record { count = omega (arith, ap length none); each = λ i j x below. absurd (omega (arith, below)) };
   }
 
   pub order_goes_on : (left after : List (Vec X Z)) (row : Vec X Z) (things more : List X) → IsInOrderOn width rows left things → left ≡ row ∷ after →

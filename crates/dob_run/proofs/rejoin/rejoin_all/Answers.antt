@@ -56,7 +56,7 @@ join-requires g c =
     let done = all_done n c.args.sends.items c.args.takes.items _ _ rows.items c.loop-row.invariant (search rules) c.requires.senders.count in
     let long : length rows.items ≡ n = done.0.count in
     let many : vec_len rows ≡ n = search rules in
-    let width : c.len.result ≡ n = search rules in
+    let width : c.len-n.result ≡ n = search rules in
     subst (λ (p : ℕ × ℕ). AreRows p.0 p.1 rows.items) (λ q. (sym many q, sym width q)) done.0
 
 pub returns : goal.returns
@@ -66,7 +66,7 @@ returns g c =
     let done = all_done n c.args.sends.items c.args.takes.items _ _ rows.items c.loop-row.invariant (search rules) c.requires.senders.count in
     let long : length rows.items ≡ n = done.0.count in
     let many : vec_len rows ≡ n = search rules in
-    let width : c.len.result ≡ n = search rules in
+    let width : c.len-n.result ≡ n = search rules in
     let order : AreInOrder n n rows.items c.in_ok-join.field-0.items =
     subst (λ (p : ℕ × ℕ). AreInOrder p.0 p.1 rows.items c.in_ok-join.field-0.items) (λ q. (width q, many q)) c.in_ok-join.ensures in
     are_joined n c.args.sends.items c.args.takes.items rows.items c.in_ok-join.field-0.items c.requires done.0 done.1 order

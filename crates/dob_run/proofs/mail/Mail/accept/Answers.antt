@@ -6,6 +6,7 @@ use Rattle.dob_board.specs.declared.view.Stand.{Stand}
 use Rattle.dob_board.specs.declared.seat.NodeSeat.{NodeSeat}
 use Rattle.dob_board.specs.Seats.{TakesOne}
 use Rattle.dob_run.specs.declared.hands.Inlet.{Inlet}
+use Rattle.dob_chan.specs.Ends.{senders_of}
 use Rattle.dob_run.specs.Hands.{in_hand}
 use Rattle.dob_run.specs.Batches.{IsBatchFor}
 use Rattle.dob_run.specs.Links.{offered, worked, KeepsOutlet}
@@ -28,7 +29,7 @@ invariant_of-self-2 c =
     let one : TakesOne mail.seat c.take.new.self c.in-Some.from = search rules in
     let taken_is = ap (λ (s : Stand). s.taken) one.counted in
     let posted_is = ap (λ (s : Stand). s.posted) one.counted in
-    let within : c.in-Some.from < mail.seat.nodes = subst (λ (k : ℕ). c.in-Some.from < k) mail.senders (subst (λ (k : ℕ). k < _) held.2 (mail.inlet.within held.0 held.1)) in
+    let within : c.in-Some.from < mail.seat.nodes = subst (λ (k : ℕ). c.in-Some.from < k) mail.senders (subst (λ (k : ℕ). k < senders_of mail.inlet.end) held.2 (mail.inlet.within held.0 held.1)) in
     let counted = taken_rises mail.seat.nodes mail.seat.taken.items mail.inlet c.release.new.self c.in-Some.from held.0 mail.taken
     (omega (arith, mail.seat.taken_len, within)) held.2 (one_more mail.inlet c.release.new.self held.0 held.1 c.release.ensures.worked) in
     record {
