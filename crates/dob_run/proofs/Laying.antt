@@ -1,18 +1,18 @@
 -- Inboxes laid one by one.
-use Rattle.std.proofs.Common.{◌≡◌, ℕ, ◌+◌, ◌<◌, ◌≤◌, inl, inr, List, [], ◌∷◌, ◌++◌, length, drop, Some, None, refl}
+use Rattle.std.proofs.Common.{◌≡◌, ℕ, ◌+◌, ◌<◌, ◌≤◌, inl, inr, List, [], ◌∷◌, ◌++◌, length, drop, Some, None}
 use Rattle.std.proofs.Common.{sym, ap, ◌∙◌, subst, arith, length-append}
 use Rattle.std.specs.Prelude.{slice_get}
 use Rattle.std.specs.declared.vec.Vec.{Vec}
-use Rattle.std.proofs.lemmas.Option.{slice_get_within, same_Some}
+use Rattle.std.proofs.lemmas.Option.{slice_get_within}
 use Rattle.dob_chan.specs.declared.ends.SendEnd.{SendEnd}
 use Rattle.dob_chan.specs.declared.ends.TakeEnd.{TakeEnd}
-use Rattle.dob_chan.specs.Ends.{sent_by, taken_by, senders_of, capacity_of, IsEndOf, AreEndsOf, AreOpened}
+use Rattle.dob_chan.specs.Ends.{taken_by, senders_of, IsEndOf, AreEndsOf, AreOpened}
 use Rattle.dob_pieces.proofs.Elements.{at_end}
 use Rattle.dob_run.specs.declared.hands.Outlet.{Outlet}
 use Rattle.dob_run.specs.declared.hands.Inlet.{Inlet}
 use Rattle.dob_run.specs.Rows.{StandsAt, AreRows, AreDealt}
 use Rattle.dob_run.specs.Laid.{AreOutlets, IsLaid, IsUntaken, IsOneLaid, AreLaidUpto}
-use Rattle.dob_run.proofs.Places.{each_more, none_at, none_stands, next_is, then_left, gone_all}
+use Rattle.dob_run.proofs.Places.{each_more, none_at, next_is, then_left, gone_all}
 use Rattle.dob_run.proofs.Rejoining.{rows_longer}
 
 -- ---- outlets

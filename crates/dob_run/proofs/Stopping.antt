@@ -1,5 +1,5 @@
 -- A crew that has stopped: what its board's words say of its runners, and that its end leaves what it should.
-use Rattle.std.proofs.Common.{◌≡◌, ◌≢◌, ℕ, ◌+◌, ◌*◌, ◌<◌, ◌-◌, ◌≤◌, inl, inr, min, List, ◌++◌, Option, Some, None}
+use Rattle.std.proofs.Common.{◌≡◌, ◌≢◌, ℕ, ◌+◌, ◌*◌, ◌<◌, ◌≤◌, inl, inr, List, ◌++◌, Option, Some, None}
 use Rattle.std.proofs.Common.{length, length-append, map, false, refl, sym, ap, ◌∙◌, subst, arith}
 use Rattle.std.proofs.Common.{Global}
 use Rattle.std.specs.Prelude.{slice_get, slice_index}

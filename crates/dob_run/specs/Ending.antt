@@ -1,5 +1,5 @@
 -- The inboxes of a crew when it ends: what was sent over each link is what came out of the inbox, and then what is left.
-use Rattle.std.specs.Prelude.{◌≡◌, ℕ, ◌+◌, ◌*◌, ◌<◌, List, Option, Some, length, slice_get}
+use Rattle.std.specs.Prelude.{◌≡◌, ℕ, ◌+◌, ◌*◌, List, Option, Some, length, slice_get}
 use Rattle.std.specs.declared.vec.Vec.{Vec}
 use Rattle.dob_update.specs.Batches.{BatchView}
 use Rattle.dob_chan.specs.declared.ends.SendEnd.{SendEnd}

@@ -13,7 +13,6 @@ use Rattle.dob_node.specs.Openings.{AreOpenings}
 use Rattle.dob_node.specs.Nodes.{outbox_to, HasItemFault, HasTakenBefore, IsIdle, IsSound, IsOpened}
 use Rattle.dob_update.specs.Batches.{BatchView}
 use Rattle.dob_run.specs.declared.hands.Outlet.{Outlet}
-use Rattle.dob_run.specs.declared.hands.Inlet.{Inlet}
 use Rattle.dob_run.specs.declared.mail.Mail.{Mail}
 use Rattle.dob_run.specs.Batches.{IsBatchFor}
 use Rattle.dob_run.specs.Links.{offered, worked}

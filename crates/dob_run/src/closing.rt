@@ -2,9 +2,9 @@
 ghost use Rattle.std.specs.Prelude.{◌≡◌, ℕ, Some, IfOk, OnOk, slice_get, vec_len, length, []};
 ghost use Rattle.dob_run.specs.Closing.{IsCrew, HasAdded, ArePartsOf, HasEnded};
 
+use crate::hands::Inlet;
 use crate::mail::Mail;
 use crate::rejoin::{part_outlets, rejoin_all, spread_hand};
-use crate::hands::Inlet;
 use crate::rows::{deal, empty_rows};
 use dob_board::{Board, Closed, NodeSeat};
 use dob_chan::{Rejoined, SendEnd, TakeEnd};

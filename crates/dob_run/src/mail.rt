@@ -126,10 +126,7 @@ impl Mail {
         ensures halt { self.new.seat.halt ≡ self.old.seat.halt }
         ensures keeps { KeepsMail self.old self.new }
     {
-        let Some(from) = self
-            .inlet
-            .sender_for(set, self.seat.nodes, self.seat.node)
-        else {
+        let Some(from) = self.inlet.sender_for(set, self.seat.nodes, self.seat.node) else {
             return None;
         };
         if self.seat.take(from).is_err() {

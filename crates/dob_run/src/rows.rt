@@ -38,7 +38,11 @@ pub(crate) fn deal<T: Drop>(things: Vec<T>, rows: &mut Vec<Vec<T>>) -> Result<()
 /// The things of all rows, row by row, of which each has `width`.
 ///
 /// Error: `Memory`.
-pub(crate) fn join<T: Drop>(alloc: Global, rows: Vec<Vec<T>>, width: usize) -> Result<Vec<T>, Memory>
+pub(crate) fn join<T: Drop>(
+    alloc: Global,
+    rows: Vec<Vec<T>>,
+    width: usize,
+) -> Result<Vec<T>, Memory>
     requires { AreRows (vec_len rows) width rows.items }
     ensures { IfOk result (λ things. AreInOrder width (vec_len rows) rows.items things.items) }
 {

@@ -1,5 +1,5 @@
 -- One inbox more is laid: its outlets are dealt to the nodes, and its inlet goes last.
-use Rattle.std.proofs.Common.{◌≡◌, ℕ, List, length, vec_len, rules, subst}
+use Rattle.std.proofs.Common.{◌≡◌, ℕ, length, vec_len, rules, subst}
 use Rattle.dob_run.specs.Rows.{AreDealt}
 use Rattle.dob_run.proofs.Laying.{none_laid, laid_more}
 use Rattle.dob_run.proofs.lay.lay.Goals as goal

@@ -1,10 +1,11 @@
 -- While a row of sending ends is left so is the taking end of its inbox, and its links go to their senders' rows.
-use Rattle.std.proofs.Common.{◌≡◌, ℕ, rules, sym, subst, List, Vec, Global, length, vec_len, ◌∙◌}
+use Rattle.std.proofs.Common.{◌≡◌, ℕ, Result, Ok, Err, rules, sym, subst, Vec, Global, length, vec_len, ◌∙◌}
+use Rattle.std.specs.Prelude.{IfOk}
 use Rattle.dob_chan.specs.declared.ends.Rejoined.{Rejoined}
-use Rattle.dob_chan.specs.Ends.{taken_by, AreEndsOf, AreRejoined}
+use Rattle.dob_run.specs.Ending.{AreJoined}
 use Rattle.dob_run.specs.Rows.{AreRows, AreDealt, AreInOrder}
 use Rattle.dob_run.proofs.Places.{thing_left}
-use Rattle.dob_run.proofs.Rejoining.{AreOn, all_begin, all_go_on, next_ends, all_done, are_joined}
+use Rattle.dob_run.proofs.Rejoining.{all_begin, all_go_on, next_ends, all_done, are_joined}
 use Rattle.dob_run.proofs.rejoin.rejoin_all.Goals as goal
 
 pub loop-row-init : goal.loop-row-init
@@ -59,14 +60,20 @@ join-requires g c =
     let width : c.len-n.result ≡ n = search rules in
     subst (λ (p : ℕ × ℕ). AreRows p.0 p.1 rows.items) (λ q. (sym many q, sym width q)) done.0
 
+of_ok : {X E : Type 0} (P Q : X → Type 0) (r : Result X E) → ((x : X) → P x → Q x) → IfOk r P → IfOk r Q
+of_ok P Q (Ok x) on is = on x is
+of_ok P Q (Err e) on is = tt
+
 pub returns : goal.returns
 returns g c =
     let n = vec_len c.args.takes in
     let rows = c.loop-row.rows in
-    let done = all_done n c.args.sends.items c.args.takes.items _ _ rows.items c.loop-row.invariant (search rules) c.requires.senders.count in
+    let sends = c.args.sends.items in
+    let takes = c.args.takes.items in
+    let done = all_done n sends takes _ _ rows.items c.loop-row.invariant (search rules) c.requires.senders.count in
     let long : length rows.items ≡ n = done.0.count in
     let many : vec_len rows ≡ n = search rules in
     let width : c.len-n.result ≡ n = search rules in
-    let order : AreInOrder n n rows.items c.in_ok-join.field-0.items =
-    subst (λ (p : ℕ × ℕ). AreInOrder p.0 p.1 rows.items c.in_ok-join.field-0.items) (λ q. (width q, many q)) c.in_ok-join.ensures in
-    are_joined n c.args.sends.items c.args.takes.items rows.items c.in_ok-join.field-0.items c.requires done.0 done.1 order
+    of_ok (λ (links : Vec Rejoined Global). AreInOrder c.len-n.result (vec_len rows) rows.items links.items) (λ links. AreJoined n sends takes links.items) c.join.result
+    (λ links is. are_joined n sends takes rows.items links.items c.requires done.0 done.1
+    (subst (λ (p : ℕ × ℕ). AreInOrder p.0 p.1 rows.items links.items) (λ q. (width q, many q)) is)) c.join.ensures

@@ -1,7 +1,5 @@
 -- The next place gets what the hand has of that sender.
-use Rattle.std.proofs.Common.{rules, arith, refl, sym, subst, ◌∙◌, ◌++◌, ◌∷◌, [], ◌≡◌, List, Option}
-use Rattle.dob_update.specs.Batches.{BatchView}
-use Rattle.dob_run.specs.Hands.{hand_row}
+use Rattle.std.proofs.Common.{rules, arith, refl, ◌∙◌}
 use Rattle.dob_run.proofs.Places.{row_grows}
 use Rattle.dob_run.proofs.rejoin.spread_hand.Goals as goal
 

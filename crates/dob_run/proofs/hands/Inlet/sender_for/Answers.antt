@@ -1,5 +1,5 @@
 -- The sender is that of the batch in the hand, which is one of the set from it to the other node.
-use Rattle.std.proofs.Common.{◌≡◌, rules, refl, sym}
+use Rattle.std.proofs.Common.{rules, sym}
 use Rattle.dob_run.proofs.hands.Inlet.sender_for.Goals as goal
 
 pub returns : goal.returns
