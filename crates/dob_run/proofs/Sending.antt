@@ -231,7 +231,7 @@ module _ (to : ℕ) (small : Bool) (old mid : Runner) (any : Bool) (apart : to �
     inlet = fills.0.inlet;
   }
 
-  -- one does, and was offered to the channel
+  -- one does, and was offered to the inbox
   module _ (new : Runner) (goes : GoesOn old new) (node : new.node ≡ mid.node) (inlet : new.mail.inlet ≡ mid.mail.inlet)
       (full : (outlet : Outlet) → slice_get mid.mail.outlets.items to ≡ Some outlet → outlet.hand ≢ None)
       (offer : HasChangedOne IsSameOut to mid.mail.outlets.items new.mail.outlets.items)
