@@ -10,7 +10,7 @@ use lib.ListN.{get_elem?}
 use Rattle.crossbeam_queue.specs.Fifo.{Pushes, Pops, Forks, Merges, Learns}
 use Rattle.crossbeam_queue.proofs.Lists.{at_set, at_snoc}
 use Rattle.dob_update.specs.Batches.{BatchView}
-use Rattle.dob_chan.specs.declared.inbox_rule.Note.{Note}
+use Rattle.dob_chan.specs.declared.rule.Note.{Note}
 use Rattle.dob_chan.specs.Inboxes.{most_batches, batches_of, sending, taking, resting, sent_by_ended, IsLawful, AreOf, AreLast, AreNext, AreLeft, FitsSender, FitsTaker, IsDelivered}
 
 at_end : {V : Type 0} → (l : List V) (a b : V) (j : ℕ) → get_elem? l j ≢ some b → get_elem? (l ++ a ∷ []) j ≡ some b → j ≡ length l

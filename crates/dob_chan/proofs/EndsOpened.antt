@@ -3,9 +3,9 @@ use Rattle.std.proofs.Common.{◌≡◌, ℕ, List, [], ◌∷◌, ◌++◌, len
 use Rattle.crossbeam_queue.specs.Passes.{Pass}
 use Rattle.dob_pieces.proofs.Elements.{at_end}
 use Rattle.dob_update.specs.Batches.{BatchView}
-use Rattle.dob_chan.specs.declared.inbox_rule.Note.{Note}
-use Rattle.dob_chan.specs.declared.inbox_ends.SendEnd.{SendEnd}
-use Rattle.dob_chan.specs.InboxEnds.{IsOpened, AreOpened}
+use Rattle.dob_chan.specs.declared.rule.Note.{Note}
+use Rattle.dob_chan.specs.declared.ends.SendEnd.{SendEnd}
+use Rattle.dob_chan.specs.Ends.{IsOpened, AreOpened}
 
 -- the ends with the next one behind them; the taking pass is still of the same inbox
 pub one_opened : (old new : Pass BatchView Note) (capacity senders : ℕ) (sends : List SendEnd) (send : SendEnd) → new.table_id ≡ old.table_id

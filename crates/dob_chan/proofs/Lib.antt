@@ -1,5 +1,3 @@
--- each step of a pass keeps the channel lawful
-pub mod Relays  -- passes that begin, send, take, become two and become one again
 -- each step of a pass keeps the inbox lawful
 pub mod Deliveries  -- passes that begin, count and open senders, send, take and end
 pub mod EndsOpened  -- sending ends, one after another

@@ -9,13 +9,13 @@ use Rattle.crossbeam_queue.specs.Fifo.{Held}
 use Rattle.crossbeam_queue.specs.Passes.{Pass, view, IsSamePass}
 use Rattle.dob_pieces.proofs.Elements.{at_end, middle, some_at}
 use Rattle.dob_update.specs.Batches.{BatchView}
-use Rattle.dob_chan.specs.declared.inbox_rule.Note.{Note}
-use Rattle.dob_chan.specs.declared.inbox_ends.SendEnd.{SendEnd}
-use Rattle.dob_chan.specs.declared.inbox_ends.TakeEnd.{TakeEnd}
-use Rattle.dob_chan.specs.declared.inbox_ends.Rejoined.{Rejoined}
+use Rattle.dob_chan.specs.declared.rule.Note.{Note}
+use Rattle.dob_chan.specs.declared.ends.SendEnd.{SendEnd}
+use Rattle.dob_chan.specs.declared.ends.TakeEnd.{TakeEnd}
+use Rattle.dob_chan.specs.declared.ends.Rejoined.{Rejoined}
 use Rattle.dob_chan.specs.Inboxes.{batches_of, taking, sent_by_ended, AreLeft, IsLawful}
-use Rattle.dob_chan.specs.InboxEnds.{sent_by, place_of, taken_by, AreEndsOf, AreRejoined}
-use Rattle.dob_chan.specs.InboxRooms.{HasRoom, AreRooms, AreRoomy, AreFilled, HasOneMoreWaiting}
+use Rattle.dob_chan.specs.Ends.{sent_by, place_of, taken_by, AreEndsOf, AreRejoined}
+use Rattle.dob_chan.specs.Rooms.{HasRoom, AreRooms, AreRoomy, AreFilled, HasOneMoreWaiting}
 use Rattle.dob_chan.proofs.Deliveries.{own_more, others_more}
 
 nothing_more : {X : Type 0} → (xs : List X) → xs ++ [] ≡ xs

@@ -5,9 +5,9 @@ use Rattle.std.proofs.lemmas.List.{length-set}
 use Rattle.std.proofs.lemmas.Option.{slice_get_within, same_Some}
 use Rattle.std.specs.Prelude.{slice_get, Some}
 use Rattle.dob_pieces.proofs.Elements.{some_at, get_set_same, get_set_other}
-use Rattle.dob_chan.specs.declared.inbox_ends.SendEnd.{SendEnd}
-use Rattle.dob_chan.specs.declared.inbox_ends.TakeEnd.{TakeEnd}
-use Rattle.dob_chan.specs.InboxEnds.{AreEndsOf, AreStill, SendsToSame, TakesFromSame}
+use Rattle.dob_chan.specs.declared.ends.SendEnd.{SendEnd}
+use Rattle.dob_chan.specs.declared.ends.TakeEnd.{TakeEnd}
+use Rattle.dob_chan.specs.Ends.{AreEndsOf, AreStill, SendsToSame, TakesFromSame}
 
 -- the ends of all senders of an inbox are so after more calls
 pub ends_stay : (take now : TakeEnd) (sends later : List SendEnd) → TakesFromSame take now → AreStill sends later → AreEndsOf take sends → AreEndsOf now later

@@ -3,7 +3,7 @@ use Rattle.std.specs.Prelude.{◌≡◌, ℕ, ◌<◌, ◌≤◌, ◌^◌, true,
 use mathlib.Core.Option.{Option, some, none}
 use lib.ListN.{get_elem?}
 use Rattle.dob_update.specs.Batches.{BatchView}
-use Rattle.dob_chan.specs.declared.inbox_rule.Note.{Note}
+use Rattle.dob_chan.specs.declared.rule.Note.{Note}
 
 -- how many batches of one sender an inbox takes in at the most
 abbrev pub most_batches : ℕ

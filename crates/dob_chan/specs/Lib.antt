@@ -1,5 +1,3 @@
-pub mod Channels
-pub mod Ends
 pub mod Inboxes
-pub mod InboxEnds
-pub mod InboxRooms
+pub mod Ends
+pub mod Rooms

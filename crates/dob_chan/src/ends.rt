@@ -1,40 +1,62 @@
-// The two ends of a channel. Each tries once, and knows what it has sent or taken.
-ghost use Rattle.std.specs.Prelude.{◌≡◌, true, false, [], length, ◌≤◌};
-ghost use Rattle.crossbeam_channel.specs.Claims.{view, IsSeatAt};
-ghost use Rattle.crossbeam_channel.specs.Ends.{sends_on, receives_on};
-ghost use Rattle.dob_chan.specs.Channels.{log, most_batches};
+// The ends of an inbox. Each tries once, and knows what it has sent or taken.
+ghost use Rattle.std.specs.Prelude.{◌≡◌, ℕ, [], length, ◌≤◌, ◌<◌, vec_len, slice_index};
+ghost use Rattle.std.specs.Arc.{arc_value};
+ghost use Rattle.crossbeam_queue.specs.Passes.{view, IsPassOf};
+ghost use Rattle.dob_chan.specs.Inboxes.{sending, taking, most_batches, batches_of};
 
-use crate::rule::{InOrder, Log};
-use crossbeam_channel::{Pass, RuledReceiver, RuledSender};
+use crate::rule::{InOrder, Note};
+use crossbeam_queue::{Pass, RuledArrayQueue};
 use dob_update::Batch;
+use std::sync::Arc;
 
-/// The sending end of a channel. It counts the batches that it has sent.
+// The queue of an inbox.
+pub(crate) type Inbox = RuledArrayQueue<Batch, Note, InOrder>;
+
+/// The sending end of one of an inbox's senders. It counts the batches that it has sent.
 #[derive(Drop)]
 pub struct SendEnd {
-    pub(crate) end: RuledSender<Batch, Log, InOrder>,
-    pub(crate) pass: Pass<Batch, Log>,
+    pub(crate) inbox: Arc<Inbox>,
+    pub(crate) pass: Pass<Batch, Note>,
+    pub(crate) from: usize,
     pub(crate) sent: u64,
-    ghost seated: { IsSeatAt (sends_on end) pass },
-    ghost role: { view pass ≡ log true false (view pass).sent [] },
+    ghost seated: { IsPassOf (arc_value inbox) pass },
+    ghost role: { view pass ≡ sending (view pass).senders from (view pass).sent },
     ghost counted: { sent ≡ length (view pass).sent },
     ghost few: { sent ≤ most_batches },
 }
 
-/// The taking end of a channel. It counts the batches that it has taken.
+/// The taking end of an inbox. It counts the batches that it has taken of each sender.
 #[derive(Drop)]
 pub struct TakeEnd {
-    pub(crate) end: RuledReceiver<Batch, Log, InOrder>,
-    pub(crate) pass: Pass<Batch, Log>,
-    pub(crate) taken: u64,
-    ghost seated: { IsSeatAt (receives_on end) pass },
-    ghost role: { view pass ≡ log false true [] (view pass).taken },
-    ghost counted: { taken ≡ length (view pass).taken },
-    ghost few: { taken ≤ most_batches },
+    pub(crate) inbox: Arc<Inbox>,
+    pub(crate) pass: Pass<Batch, Note>,
+    pub(crate) taken: Vec<u64>,
+    ghost seated: { IsPassOf (arc_value inbox) pass },
+    ghost role: { view pass ≡ taking (vec_len taken) (vec_len taken) (view pass).taken [] },
+    ghost counted: { (k : ℕ) → k < vec_len taken → slice_index taken.items k ≡ length (batches_of k (view pass).taken) },
+    ghost few: { (k : ℕ) → k < vec_len taken → slice_index taken.items k ≤ most_batches },
 }
 
-/// A channel didn't take the batch, which comes back: it was full, or its taking end is gone.
+/// An inbox didn't take the batch, which comes back: it was full.
 #[derive(Debug, Drop)]
 pub struct Full {
     pub batch: Batch,
-    pub taker_is_gone: bool,
+}
+
+/// What went through an inbox from one sender: how many batches were sent and received, and those that are left. Only the
+/// rejoining of an inbox makes one.
+#[derive(Debug, Drop)]
+pub struct Rejoined {
+    pub sent: u64,
+    pub received: u64,
+    pub waiting: Vec<Batch>,
+    // It takes no room, and no other crate can write it.
+    pub(crate) seal: (),
+}
+
+/// No memory for the batches that are left: the sending end or ends and the taking end as they were.
+#[derive(Drop)]
+pub struct RejoinFault<S> {
+    pub sends: S,
+    pub take: TakeEnd,
 }

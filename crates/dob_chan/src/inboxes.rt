@@ -3,12 +3,10 @@ ghost use Rattle.std.specs.Prelude.{◌≡◌, ℕ, suc, ◌<◌, ◌≤◌, ◌
 ghost use Rattle.std.specs.Arc.{arc_value};
 ghost use Rattle.crossbeam_queue.specs.Passes.{view, IsPassOf, IsSamePass, ruled_capacity};
 ghost use Rattle.dob_chan.specs.Inboxes.{most_batches, batches_of, sending, taking};
-ghost use Rattle.dob_chan.specs.InboxEnds.{sent_by, place_of, senders_beside, taken_by, taken_of, senders_of, capacity_of, IsOpened, AreOpened, AreEndsOf, SendsToSame, TakesFromSame, WasFull, WasEmpty};
+ghost use Rattle.dob_chan.specs.Ends.{sent_by, place_of, senders_beside, taken_by, taken_of, senders_of, capacity_of, IsOpened, AreOpened, AreEndsOf, SendsToSame, TakesFromSame, WasFull, WasEmpty};
 
-use crate::inbox_ends::Inbox;
-pub use crate::inbox_ends::{Full, RejoinFault, Rejoined, SendEnd, TakeEnd};
-pub use crate::inbox_rejoins::rejoin_inbox;
-use crate::inbox_rule::{Counts, Note, Opens, Sends, Takes};
+use crate::ends::{Full, Inbox, SendEnd, TakeEnd};
+use crate::rule::{Counts, Note, Opens, Sends, Takes};
 use crossbeam_queue::Pass;
 use dob_pieces::Memory;
 use dob_update::Batch;

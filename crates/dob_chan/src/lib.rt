@@ -1,13 +1,13 @@
-// Channels and inboxes of batches: from nodes' threads to another's, in order for each sender and without loss.
+// Inboxes of batches: from nodes' threads to another's, in order for each sender and without loss.
 #![tactic(auto)]
 
-mod calls;
 mod ends;
-mod inbox_ends;
-mod inbox_rejoins;
-mod inbox_rule;
-pub mod inboxes;
+mod inboxes;
+mod pairs;
+mod rejoins;
 mod rule;
 
-pub use calls::{RejoinFault, Rejoined, pair, rejoin};
-pub use ends::{Full, SendEnd, TakeEnd};
+pub use ends::{Full, RejoinFault, Rejoined, SendEnd, TakeEnd};
+pub use inboxes::inbox;
+pub use pairs::{pair, rejoin};
+pub use rejoins::rejoin_inbox;

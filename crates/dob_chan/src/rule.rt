@@ -1,99 +1,119 @@
-// The rule of a channel: what was sent is what was received and then what the channel holds, in order.
-ghost use Rattle.std.specs.Prelude.{◌≡◌, true, false, [], ◌∷◌, ◌++◌};
-ghost use Rattle.dob_chan.specs.Channels.{log};
+// The rule of an inbox: of each sender, what was sent is what was taken and then what the inbox holds, in order.
+ghost use Rattle.std.specs.Prelude.{[]};
+ghost use Rattle.dob_chan.specs.Inboxes.{taking};
 
-use crossbeam_channel::protocol::{Join, Lesson, Outcome, Protocol, Split};
+use crossbeam_queue::protocol::{Join, Lesson, Outcome, Protocol, Split};
 use dob_update::Batch;
 use std::collections::LinkedList;
 
-/// What a pass of a channel may do, send or take, and what it has sent and taken. No value of it is made.
-pub struct Log {
+/// What a pass of an inbox may do, send as one of the senders or take, and what it has sent and taken. The taking pass
+/// also knows how many senders' passes were made, and what those sent that have ended. No value of it is made.
+pub struct Note {
+    pub senders: usize,
     pub sends: bool,
-    pub takes: bool,
+    pub from: usize,
     pub sent: LinkedList<Batch>,
+    pub takes: bool,
+    pub opened: usize,
     pub taken: LinkedList<Batch>,
+    pub ended: LinkedList<LinkedList<Batch>>,
 }
 
-/// The rule: batches come out in the order in which they went in, each once.
+/// The rule: the batches of each sender come out in the order in which they went in, each once.
 pub struct InOrder;
 
-impl Protocol<Batch, Log> for InOrder {
-    ghost use Rattle.std.specs.Prelude.{true, []};
-    ghost use Rattle.dob_chan.specs.Channels.{log, IsRelayed};
+impl Protocol<Batch, Note> for InOrder {
+    ghost use Rattle.std.specs.Prelude.{[]};
+    ghost use Rattle.dob_chan.specs.Inboxes.{taking, IsDelivered};
 
-    ghost holds = { IsRelayed };
+    ghost holds = { IsDelivered };
 
-    ghost first = { log true true [] [] };
+    ghost first = { taking 0 0 [] [] };
 }
 
-/// One pass becomes the sender's and the taker's.
-pub struct Parts;
+/// The inbox is for one sender more. The new pass may do nothing.
+pub struct Counts;
 
-impl Split<Log> for Parts {
-    ghost use Rattle.std.specs.Prelude.{true, false, []};
-    ghost use Rattle.dob_chan.specs.Channels.{log};
+impl Split<Note> for Counts {
+    ghost use Rattle.std.specs.Prelude.{suc};
+    ghost use Rattle.dob_chan.specs.Inboxes.{taking, resting};
 
-    ghost left = { λ v. log true false v.sent [] };
+    ghost left = { λ v. taking (suc v.senders) v.opened v.taken v.ended };
 
-    ghost right = { λ v. log false true [] v.taken };
+    ghost right = { λ v. resting };
 }
 
-/// The sender's pass and the taker's become one again.
-pub struct Whole;
+/// The new pass is that of the next sender.
+pub struct Opens;
 
-impl Join<Log> for Whole {
-    ghost use Rattle.std.specs.Prelude.{true, false, []};
-    ghost use Rattle.dob_chan.specs.Channels.{log};
+impl Split<Note> for Opens {
+    ghost use Rattle.std.specs.Prelude.{suc, []};
+    ghost use Rattle.dob_chan.specs.Inboxes.{taking, sending};
 
-    ghost both = { λ v w. log true true v.sent w.taken };
+    ghost left = { λ v. taking v.senders (suc v.opened) v.taken v.ended };
 
-    ghost spent = { log false false [] [] };
+    ghost right = { λ v. sending v.senders v.opened [] };
 }
 
-/// What a send tells: the batch is the last that was sent; and what it learns where the channel is full.
+/// The next sender has ended, and the taking pass knows what it sent.
+pub struct Ends;
+
+impl Join<Note> for Ends {
+    ghost use Rattle.std.specs.Prelude.{◌++◌, ◌∷◌, []};
+    ghost use Rattle.dob_chan.specs.Inboxes.{taking, resting};
+
+    ghost both = { λ v w. taking v.senders v.opened v.taken (v.ended ++ w.sent ∷ []) };
+
+    ghost spent = { resting };
+}
+
+/// What a send tells: the batch is the last that was sent; and what it learns where the inbox is full.
 pub struct Sends;
 
-impl Outcome<Batch, Log> for Sends {
+impl Outcome<Batch, Note> for Sends {
     ghost use Rattle.std.specs.Prelude.{◌≡◌, [], ◌∷◌, ◌++◌};
-    ghost use Rattle.dob_chan.specs.Channels.{log};
+    ghost use Rattle.dob_chan.specs.Inboxes.{sending};
 
-    ghost then = { λ v x w. w ≡ log v.sends v.takes (v.sent ++ x ∷ []) v.taken };
+    ghost then = { λ v x w. w ≡ sending v.senders v.from (v.sent ++ x ∷ []) };
 }
 
-impl Lesson<Batch, Log> for Sends {
-    ghost use Rattle.dob_chan.specs.Channels.{AreLast};
+impl Lesson<Batch, Note> for Sends {
+    ghost use Rattle.dob_chan.specs.Inboxes.{AreLast};
 
-    ghost fact = { λ v items. AreLast v.sent items };
+    ghost fact = { λ v held. AreLast v.senders v.from v.sent held };
 }
 
-/// What a receipt tells: the batch is the last that was taken.
+/// What a receipt tells: the batch is the last that was taken, and of one of the senders.
 pub struct Takes;
 
-impl Outcome<Batch, Log> for Takes {
-    ghost use Rattle.std.specs.Prelude.{◌≡◌, [], ◌∷◌, ◌++◌, length, ◌≤◌, ◌^◌};
-    ghost use Rattle.dob_chan.specs.Channels.{log, most_batches};
+impl Outcome<Batch, Note> for Takes {
+    ghost use Rattle.std.specs.Prelude.{◌≡◌, [], ◌∷◌, ◌++◌, length, ◌<◌, ◌≤◌};
+    ghost use Rattle.dob_chan.specs.Inboxes.{most_batches, batches_of, taking};
 
-    ghost then = { λ v x w. (w ≡ log v.sends v.takes v.sent (v.taken ++ x ∷ [])) × (length w.taken ≤ most_batches) };
+    ghost then = { λ v x w. (w ≡ taking v.senders v.opened (v.taken ++ x ∷ []) v.ended) × (x.from < v.senders)
+        × (length (batches_of x.from w.taken) ≤ most_batches) };
 }
 
-impl Lesson<Batch, Log> for Takes {
-    ghost use Rattle.dob_chan.specs.Channels.{AreNext};
+impl Lesson<Batch, Note> for Takes {
+    ghost use Rattle.dob_chan.specs.Inboxes.{AreNext};
 
-    ghost fact = { λ v items. AreNext v.taken items };
+    ghost fact = { λ v held. AreNext v.taken held };
 }
 
-/// What both ends together tell: the batches that are left.
+/// What a receipt tells where senders have ended: no more is taken of them than they sent; and where the inbox is empty,
+/// what was taken of them is what they sent.
 pub struct Left;
 
-impl Outcome<Batch, Log> for Left {
-    ghost use Rattle.std.specs.Prelude.{◌≡◌, [], ◌∷◌, ◌++◌};
-    ghost use Rattle.dob_chan.specs.Channels.{log};
+impl Outcome<Batch, Note> for Left {
+    ghost use Rattle.std.specs.Prelude.{◌≡◌, [], ◌∷◌, ◌++◌, length, ◌<◌, ◌≤◌};
+    ghost use Rattle.dob_chan.specs.Inboxes.{batches_of, taking, sent_by_ended};
 
-    ghost then = { λ v x w. w ≡ log v.sends v.takes v.sent (v.taken ++ x ∷ []) };
+    ghost then = { λ v x w. (w ≡ taking v.senders v.opened (v.taken ++ x ∷ []) v.ended) × (x.from < v.senders)
+        × (x.from < length v.ended → length (batches_of x.from w.taken) ≤ length (sent_by_ended v.ended x.from)) };
 }
 
-impl Lesson<Batch, Log> for Left {
-    ghost use Rattle.std.specs.Prelude.{◌≡◌, ◌++◌};
+impl Lesson<Batch, Note> for Left {
+    ghost use Rattle.dob_chan.specs.Inboxes.{AreLeft};
 
-    ghost fact = { λ v items. v.sent ≡ v.taken ++ items };
+    ghost fact = { λ v held. AreLeft v.taken v.ended held };
 }

@@ -1,18 +1,17 @@
 -- What a node has applied from each node, after each step of its worker.
-use Rattle.std.proofs.Common.{◌≡◌, ◌≢◌, ℕ, zero, suc, ◌-◌, eqb, cond, sym, ap, ◌∙◌, subst, arith, List, [], ◌∷◌, ◌++◌}
-use Rattle.std.proofs.Common.{length, length-append, length-drop, take, drop, Some, inl, inr}
-use Rattle.std.proofs.lemmas.Bool.{eq-eqb, ne_eqb, cases_eq}
+use Rattle.std.proofs.Common.{◌≡◌, ◌≢◌, ℕ, zero, suc, ◌-◌, eqb, cond, refl, sym, ap, ◌∙◌, subst, arith, List, [], ◌∷◌, ◌++◌}
+use Rattle.std.proofs.Common.{length, length-append, length-drop, take, drop}
+use Rattle.std.proofs.lemmas.Bool.{eq-eqb, ne_eqb}
 use Rattle.std.proofs.lemmas.List.{take-append-le}
-use Rattle.std.specs.Prelude.{slice_get, slice_set}
-use Rattle.std.proofs.lemmas.Option.{slice_get_within}
 use Rattle.dob_pieces.specs.declared.piece_set.PieceSet.{PieceSet}
-use Rattle.dob_pieces.proofs.Elements.{get_set_other, get_set_same}
 use Rattle.dob_share.specs.declared.news.Item.{Item}
 use Rattle.dob_update.specs.Batches.{BatchView, items_of_batches}
 use Rattle.dob_update.proofs.BatchItems.{items_in_more}
 use Rattle.dob_node.specs.declared.node.Node.{Node}
 use Rattle.dob_run.specs.declared.hands.Inlet.{Inlet}
-use Rattle.dob_run.specs.Links.{worked}
+use Rattle.dob_chan.specs.Inboxes.{batches_of}
+use Rattle.dob_chan.proofs.Deliveries.{own_more as batch_more, others_more}
+use Rattle.dob_run.specs.Links.{worked, worked_from}
 use Rattle.dob_run.specs.Knows.{KnowsRight}
 use Rattle.dob_run.specs.Workers.{planned, items_worked, own_applied, applied_from, AreLast}
 
@@ -48,45 +47,35 @@ own_still old new plan own =
 
 -- ---- each node's
 
-pub applied_here : (node : Node) (inlets : List Inlet) (k : ℕ) → k ≡ node.id → applied_from node inlets k ≡ own_applied node
-applied_here node inlets k is = ap (λ b. cond b (own_applied node) (items_worked (slice_get inlets k))) (eq-eqb k node.id is)
+pub applied_here : (node : Node) (inlet : Inlet) (k : ℕ) → k ≡ node.id → applied_from node inlet k ≡ own_applied node
+applied_here node inlet k is = ap (λ b. cond b (own_applied node) (items_worked inlet k)) (eq-eqb k node.id is)
 
-pub applied_else : (node : Node) (inlets : List Inlet) (k : ℕ) → k ≢ node.id → applied_from node inlets k ≡ items_worked (slice_get inlets k)
-applied_else node inlets k other = ap (λ b. cond b (own_applied node) (items_worked (slice_get inlets k))) (ne_eqb k node.id other)
+pub applied_else : (node : Node) (inlet : Inlet) (k : ℕ) → k ≢ node.id → applied_from node inlet k ≡ items_worked inlet k
+applied_else node inlet k other = ap (λ b. cond b (own_applied node) (items_worked inlet k)) (ne_eqb k node.id other)
 
-pub applied_still : (old new : Node) (before after : List Inlet) → new.id ≡ old.id → own_applied new ≡ own_applied old →
-    ((k : ℕ) → items_worked (slice_get after k) ≡ items_worked (slice_get before k)) → (k : ℕ) → applied_from new after k ≡ applied_from old before k
+pub applied_still : (old new : Node) (before after : Inlet) → new.id ≡ old.id → own_applied new ≡ own_applied old →
+    ((k : ℕ) → items_worked after k ≡ items_worked before k) → (k : ℕ) → applied_from new after k ≡ applied_from old before k
 applied_still old new before after id own same k =
-    ap (λ i. cond (eqb k i) (own_applied new) (items_worked (slice_get after k))) id
-    ∙ ap (λ xs. cond (eqb k old.id) xs (items_worked (slice_get after k))) own
+    ap (λ i. cond (eqb k i) (own_applied new) (items_worked after k)) id
+    ∙ ap (λ xs. cond (eqb k old.id) xs (items_worked after k)) own
     ∙ ap (λ xs. cond (eqb k old.id) (own_applied old) xs) (same k)
 
--- ---- inlets
+-- ---- what was worked in
 
--- one inlet changed: what was worked in of it is what follows from it, and of the others what it was
-pub worked_here : (old new : List Inlet) (from : ℕ) (before after : Inlet) → slice_get old from ≡ Some before → new ≡ slice_set old from after →
-    items_worked (slice_get new from) ≡ items_of_batches (worked after)
-worked_here old new from before after there is = ap (λ xs. items_worked (slice_get xs from)) is
-    ∙ ap items_worked (get_set_same old from after (slice_get_within old from before there))
+pub worked_again : (before after : Inlet) → worked after ≡ worked before → (k : ℕ) → items_worked after k ≡ items_worked before k
+worked_again before after same k = ap (λ (bs : List BatchView). items_of_batches (batches_of k bs)) same
 
-pub worked_else : (old new : List Inlet) (from : ℕ) (after : Inlet) → new ≡ slice_set old from after → (k : ℕ) → k ≢ from →
-    items_worked (slice_get new k) ≡ items_worked (slice_get old k)
-worked_else old new from after is k other = ap (λ xs. items_worked (slice_get xs k)) is ∙ ap items_worked (get_set_other old from k after other)
+-- one batch more is one of its sender's more
+pub worked_more : (before after : Inlet) (batch : BatchView) → worked after ≡ worked before ++ batch ∷ [] →
+    items_worked after batch.from ≡ items_worked before batch.from ++ batch.items
+worked_more before after batch more =
+    ap (λ (bs : List BatchView). items_of_batches (batches_of batch.from bs)) more ∙ ap items_of_batches (batch_more batch.from (worked before) batch refl)
+    ∙ items_in_more (worked_from before batch.from) batch
 
-pub worked_again : (old new : List Inlet) (from : ℕ) (before after : Inlet) → slice_get old from ≡ Some before → new ≡ slice_set old from after →
-    worked after ≡ worked before → (k : ℕ) → items_worked (slice_get new k) ≡ items_worked (slice_get old k)
-worked_again old new from before after there is same k = elim (cases_eq k from) [
-  | inl here ↦ subst (λ m. items_worked (slice_get new m) ≡ items_worked (slice_get old m)) (sym here)
-      (worked_here old new from before after there is ∙ ap items_of_batches same ∙ sym (ap items_worked there))
-  | inr other ↦ worked_else old new from after is k other
-]
-
-pub worked_more : (old new : List Inlet) (from : ℕ) (before after : Inlet) (batch : BatchView) → slice_get old from ≡ Some before →
-    new ≡ slice_set old from after → worked after ≡ worked before ++ batch ∷ [] →
-    items_worked (slice_get new from) ≡ items_worked (slice_get old from) ++ batch.items
-worked_more old new from before after batch there is more =
-    worked_here old new from before after there is ∙ ap items_of_batches more ∙ items_in_more (worked before) batch
-    ∙ ap (λ xs. xs ++ batch.items) (sym (ap items_worked there))
+pub worked_else : (before after : Inlet) (batch : BatchView) → worked after ≡ worked before ++ batch ∷ [] → (k : ℕ) → k ≢ batch.from →
+    items_worked after k ≡ items_worked before k
+worked_else before after batch more k other =
+    ap (λ (bs : List BatchView). items_of_batches (batches_of k bs)) more ∙ ap items_of_batches (others_more k (worked before) batch (λ e. other (sym e)))
 
 -- ---- what is known, told of the node after a step
 

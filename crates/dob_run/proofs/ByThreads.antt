@@ -1,5 +1,5 @@
 -- A crew that was run, from what its threads promise to what is made of it.
-use Rattle.std.proofs.Common.{◌≡◌, ℕ, Bool, true, ◌<◌, ◌≤◌, List, Option, Result, Ok, Err, map, length, ap, subst, ◌∙◌, arith, length-append}
+use Rattle.std.proofs.Common.{◌≡◌, ℕ, Bool, true, ◌<◌, ◌≤◌, List, Option, Result, Ok, Err, map, length, sym, refl, ap, subst, ◌∙◌, arith, length-append}
 use Rattle.std.specs.Prelude.{IfOk, IfErr, OnOk, Some, slice_get}
 use Rattle.std.specs.List.{AllZip}
 use Rattle.dob_pieces.proofs.Elements.{some_at}
@@ -13,7 +13,6 @@ use Rattle.dob_run.specs.declared.fault.Fault.{Fault}
 use Rattle.dob_run.specs.declared.fault.Fault.TheVariants.{SetTooLarge, Nodes, Sizes, Stopped, Memory}
 use Rattle.dob_run.specs.declared.finishing.Built.{Built}
 use Rattle.dob_run.specs.declared.hands.Outlet.{Outlet}
-use Rattle.dob_run.specs.declared.hands.Inlet.{Inlet}
 use Rattle.dob_run.specs.declared.runner.Runner.{Runner}
 use Rattle.dob_run.specs.declared.runs.Turned.{Turned}
 use Rattle.dob_run.specs.declared.turns.Until.{Until}
@@ -21,7 +20,9 @@ use Rattle.dob_run.specs.declared.turns.Until.TheVariants as until
 use Rattle.dob_run.specs.Built.{IsBuilt}
 use Rattle.dob_run.specs.Closing.{IsCrew}
 use Rattle.dob_run.specs.Hands.{in_hand, worked_of}
-use Rattle.dob_run.specs.Links.{offered}
+use Rattle.dob_run.specs.declared.hands.Inlet.{Inlet}
+use Rattle.dob_run.specs.Links.{offered, worked}
+use Rattle.dob_run.proofs.Senders.{few_of}
 use Rattle.dob_run.specs.Finishing.{HaveStopped, IsFailureOf}
 use Rattle.dob_run.specs.Manned.{mail_of, IsNewCrew}
 use Rattle.dob_run.specs.Faults.{AreWithin, HasFault}
@@ -30,7 +31,7 @@ use Rattle.dob_run.specs.Turned.{IsTurned, CarriesFew, AreUnfailed, IsFirstFaile
 use Rattle.dob_run.specs.Turns.{Ends, EndsBy, AreLetOn, HasRun}
 use Rattle.dob_run.proofs.Leaving.{for_kept, turned_is}
 use Rattle.dob_run.proofs.Keeping.{there_is}
-use Rattle.dob_run.proofs.Manned.{zip_at, seat_at, seat_there, are_linked, crew_many, crew_low, outlet_at, inlet_at, crew_kept}
+use Rattle.dob_run.proofs.Manned.{zip_at, seat_at, seat_there, are_linked, crew_many, crew_low, outlet_at, crew_kept}
 use Rattle.dob_run.proofs.RunFaults.{stops_so}
 use Rattle.dob_run.proofs.Threaded.{all_kept}
 
@@ -102,19 +103,17 @@ module _ (No : ℕ → Type 0) (turns : ℕ) (set : PieceSet) (n size capacity :
       let none = (ran.opened.new i was.0 was.1).1.unsent j old.0 old.1 in
       omega (arith, few.out j old.0 outlet old.1 out, ap length none.0)
 
-  few_taken : (i j : ℕ) (runner : Runner) (inlet : Inlet) → slice_get ended j ≡ Some runner → slice_get runner.mail.inlets.items i ≡ Some inlet →
-      length (taken_by inlet.end) ≤ turns
-  few_taken i j runner inlet at into =
+  few_taken : (j : ℕ) (runner : Runner) → slice_get ended j ≡ Some runner → length (taken_by runner.mail.inlet.end) ≤ turns
+  few_taken j runner at =
       let was = zip_at (Ends No (until.Turns turns)) ran.old ended j runner ran.ends at in
       let few = was.2.1 (unfailed j runner at) in
-      let old = there_is runner.mail.inlets.items was.0.mail.inlets.items i inlet
-      (omega (arith, runner.mail.inlets_len, was.0.mail.inlets_len, was.2.0.mail.seat.nodes)) into in
-      let none = (ran.opened.new j was.0 was.1).1.untaken i old.0 old.1 in
+      let old : Inlet = was.0.mail.inlet in
+      let none = (ran.opened.new j was.0 was.1).1.untaken in
       omega (
         arith,
-        few.into i old.0 inlet old.1 into,
-        ap length old.0.last,
-        length-append (worked_of old.0.end old.0.hand) (in_hand old.0.hand),
+        few.into,
+        ap length old.last,
+        length-append (worked_of old.end old.hand) (in_hand old.hand),
         ap length none.0,
         ap (λ (h : Option BatchView). length (in_hand h)) none.1,
       )
@@ -129,7 +128,7 @@ module _ (No : ℕ → Type 0) (turns : ℕ) (set : PieceSet) (n size capacity :
             let from = there i low_i in
             let to = there j low_j in
             let outlet = outlet_at board ended crew i j from.0 from.1 low_j in
-            let inlet = inlet_at board ended crew i j to.0 to.1 low_i in (
+            let inlet : Inlet = to.0.mail.inlet in (
               omega (
                 arith,
                 left.words.posted i j from.0.mail.seat (seat_there ended i from.0 from.1) low_j,
@@ -139,18 +138,19 @@ module _ (No : ℕ → Type 0) (turns : ℕ) (set : PieceSet) (n size capacity :
               omega (
                 arith,
                 left.words.taken j i to.0.mail.seat (seat_there ended j to.0 to.1) low_i,
-                to.0.mail.taken i inlet.0 inlet.1,
-                few_taken i j to.0 inlet.0 to.1 inlet.1,
-                ap length inlet.0.last,
-                length-append (worked_of inlet.0.end inlet.0.hand) (in_hand inlet.0.hand),
+                to.0.mail.taken i (subst (λ (m : ℕ). i < m) (sym (seat_at board ended crew j to.0 to.1).nodes) low_i),
+                few_of i (worked inlet),
+                few_taken j to.0 to.1,
+                ap length inlet.last,
+                length-append (worked_of inlet.end inlet.hand) (in_hand inlet.hand),
               ),
             );
         links = λ i j low_i low_j.
             let from = there i low_i in
             let to = there j low_j in
             let outlet = outlet_at board ended crew i j from.0 from.1 low_j in
-            let inlet = inlet_at board ended crew i j to.0 to.1 low_i in
-            let link = left.links i j outlet.0 inlet.0 (are_linked ended i j from.0 to.0 outlet.0 inlet.0 from.1 to.1 outlet.1 inlet.1) in (
+            let inlet : Inlet = to.0.mail.inlet in
+            let link = left.links i j outlet.0 inlet (are_linked ended i j from.0 to.0 outlet.0 inlet from.1 to.1 outlet.1 refl) in (
               link.0,
               link.1,
               omega (
@@ -159,7 +159,7 @@ module _ (No : ℕ → Type 0) (turns : ℕ) (set : PieceSet) (n size capacity :
                 few_offered i j from.0 outlet.0 from.1 outlet.1,
                 length-append (sent_by outlet.0.end) (in_hand outlet.0.hand),
               ),
-              omega (arith, link.2.received, few_taken i j to.0 inlet.0 to.1 inlet.1),
+              omega (arith, link.2.received, few_of i (taken_by inlet.end), few_taken j to.0 to.1),
             );
       }
 

@@ -5,7 +5,9 @@ use Rattle.std.specs.Prelude.{slice_get, slice_index}
 use Rattle.std.proofs.lemmas.Bool.{cases_eq}
 use Rattle.dob_pieces.proofs.Elements.{get_set_other}
 use Rattle.dob_update.specs.Batches.{BatchView}
-use Rattle.dob_run.specs.Mails.{AreCounts}
+use Rattle.dob_chan.specs.Ends.{place_of}
+use Rattle.dob_run.specs.declared.hands.Outlet.{Outlet}
+use Rattle.dob_run.specs.Mails.{AreCounts, AreOwn}
 
 pub there_set : {L : Type 0} → (xs : List L) (k : ℕ) (new x : L) → slice_get (set xs k new) k ≡ Some x → new ≡ x
 there_set [] k new x e = absurd (cc)
@@ -32,4 +34,14 @@ counts_rise batches counts links k old new are at within more j link e =
           ap (slice_index (set counts k (suc (slice_index counts k)))) here ∙ get_or-set_same counts k (suc (slice_index counts k)) 0 within
           ∙ ap suc (are k old at) ∙ sym more ∙ ap (λ l. length (batches l)) is
       | inr apart ↦ get_or-set_other counts k j (suc (slice_index counts k)) 0 apart ∙ are j link (sym (get_set_other links k j new apart) ∙ e)
+    ]
+
+-- a link of the same place
+pub own_set : (node : ℕ) (outlets : List Outlet) (k : ℕ) (old new : Outlet) → AreOwn node outlets → slice_get outlets k ≡ Some old →
+    place_of new.end ≡ place_of old.end → AreOwn node (set outlets k new)
+own_set node outlets k old new are at same j outlet e =
+    elim (cases_eq j k) [
+      | inl here ↦ let is : new ≡ outlet = there_set outlets k new outlet (ap (slice_get (set outlets k new)) (sym here) ∙ e) in
+          sym (ap (λ (o : Outlet). place_of o.end) is) ∙ same ∙ are k old at
+      | inr apart ↦ are j outlet (sym (get_set_other outlets k j new apart) ∙ e)
     ]

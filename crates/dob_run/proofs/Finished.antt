@@ -1,9 +1,9 @@
 -- A crew that has come to its end holds the value table.
 use Rattle.std.proofs.Common.{◌≡◌, ◌≢◌, ℕ, ◌+◌, ◌-◌, ◌<◌, inl, inr, refl, sym, ap, ◌∙◌, subst, arith, List, [], ◌∷◌}
-use Rattle.std.proofs.Common.{◌++◌, length, length-append, take, min, get_or, Option, None, Some}
+use Rattle.std.proofs.Common.{◌++◌, length, length-append, take, get_or, Option, None, Some}
 use Rattle.std.specs.Prelude.{slice_get}
 use Rattle.std.proofs.lemmas.Bool.{cases_eq}
-use Rattle.std.proofs.lemmas.List.{append-nil, take_all, length-take}
+use Rattle.std.proofs.lemmas.List.{append-nil, take_all}
 use Rattle.std.proofs.lemmas.Option.{slice_get-get_or}
 use Rattle.dob_pieces.specs.declared.piece_set.PieceSet.{PieceSet}
 use Rattle.dob_pieces.proofs.Elements.{some_at}
@@ -30,17 +30,18 @@ use Rattle.dob_node.proofs.Rest.{below_owner}
 use Rattle.dob_node.proofs.Ends.{lawful_is_right}
 use Rattle.dob_node.specs.declared.node.Node.{Node}
 use Rattle.dob_node.specs.Nodes.{IsIdle}
-use Rattle.dob_chan.specs.Ends.{sent_by, taken_by}
+use Rattle.dob_chan.specs.Ends.{sent_by, taken_of}
 use Rattle.dob_run.specs.declared.hands.Outlet.{Outlet}
 use Rattle.dob_run.specs.declared.hands.Inlet.{Inlet}
 use Rattle.dob_run.specs.declared.mail.Mail.{Mail}
 use Rattle.dob_run.specs.declared.runner.Runner.{Runner}
-use Rattle.dob_run.specs.Hands.{in_hand}
-use Rattle.dob_run.specs.Links.{offered, worked}
+use Rattle.dob_run.specs.Hands.{in_hand, held_from}
+use Rattle.dob_run.specs.Links.{offered, worked_from}
 use Rattle.dob_run.specs.Mails.{AreOut}
 use Rattle.dob_run.specs.Knows.{CanHaveMade, KnowsRight}
 use Rattle.dob_run.specs.Workers.{planned, items_worked, own_applied, applied_from, SendsRight, IsLawful}
 use Rattle.dob_run.specs.Finished.{IsRunnerOf, AreJoinedBy, AreFinished, AreShown}
+use Rattle.dob_run.proofs.Senders.{parts}
 use Rattle.dob_run.proofs.Applied.{applied_here, applied_else}
 use Rattle.dob_run.proofs.Summing.{sums_by}
 
@@ -103,21 +104,19 @@ pub nothing_of : (xs : List BatchView) → length xs ≡ 0 → xs ≡ []
 nothing_of [] none = refl
 nothing_of (x ∷ xs) none = absurd (omega (arith, none))
 
--- as much was worked in as was offered, so that it is the same
-pub link_done : (outlet : Outlet) (inlet : Inlet) (waiting : List BatchView) → outlet.hand ≡ None → sent_by outlet.end ≡ taken_by inlet.end ++ waiting →
-    length (worked inlet) ≡ length (offered outlet) → worked inlet ≡ offered outlet
-link_done outlet inlet waiting empty sent long =
-    let taken : List BatchView = taken_by inlet.end in
-    let k : ℕ = length taken - length (in_hand inlet.hand) in
-    let is : offered outlet ≡ taken ++ waiting = ap (λ (hand : Option BatchView). sent_by outlet.end ++ in_hand hand) empty ∙ append-nil (sent_by outlet.end) ∙ sent in
-    let count : length (offered outlet) ≡ length taken + length waiting = ap length is ∙ length-append taken waiting in
-    let front : length (take k taken) ≡ min k (length taken) = length-take k taken in
-    let same : length (take k taken) ≡ length (offered outlet) = long in
-    let none : waiting ≡ [] = nothing_of waiting (omega (arith, count, front, same)) in
-    take_all k taken (omega (arith, count, front, same)) ∙ sym (is ∙ ap (λ xs. taken ++ xs) none ∙ append-nil taken)
-
-pub inlets_long : (mail : Mail) → length mail.inlets.items ≡ mail.seat.nodes
-inlets_long mail = omega (arith, mail.inlets_len)
+-- as much of it was worked in as was offered, so that it is the same
+pub link_done : (outlet : Outlet) (inlet : Inlet) (i : ℕ) (waiting : List BatchView) → outlet.hand ≡ None →
+    sent_by outlet.end ≡ taken_of inlet.end i ++ waiting → length (worked_from inlet i) ≡ length (offered outlet) → worked_from inlet i ≡ offered outlet
+link_done outlet inlet i waiting empty sent long =
+    let done : List BatchView = worked_from inlet i in
+    let held : List BatchView = in_hand (held_from inlet.hand i) in
+    let is : offered outlet ≡ (done ++ held) ++ waiting =
+    ap (λ (hand : Option BatchView). sent_by outlet.end ++ in_hand hand) empty ∙ append-nil (sent_by outlet.end) ∙ sent ∙ ap (λ xs. xs ++ waiting) (parts inlet i) in
+    let count : length (offered outlet) ≡ length done + length held + length waiting =
+    omega (arith, ap length is, length-append (done ++ held) waiting, length-append done held) in
+    let none : waiting ≡ [] = nothing_of waiting (omega (arith, count, long)) in
+    let unheld : held ≡ [] = nothing_of held (omega (arith, count, long)) in
+    sym (is ∙ ap (λ xs. (done ++ held) ++ xs) none ∙ append-nil (done ++ held) ∙ ap (λ xs. done ++ xs) unheld ∙ append-nil done)
 
 pub outlets_long : (mail : Mail) → length mail.outlets.items ≡ mail.seat.nodes
 outlets_long mail = omega (arith, mail.outlets_len)
@@ -156,7 +155,7 @@ module _ (set : PieceSet) (n : ℕ) (some : 0 < n) (runners : List Runner) (are 
   history i = (at i).node.history.settlements
 
   abbrev applied : ℕ → ℕ → List Item
-  applied i j = applied_from (at j).node (at j).mail.inlets.items i
+  applied i j = applied_from (at j).node (at j).mail.inlet i
 
   abbrev share : ℕ → Share
   share i = (at i).node.share
@@ -182,36 +181,33 @@ module _ (set : PieceSet) (n : ℕ) (some : 0 < n) (runners : List Runner) (are 
       ∙ ap (λ (m : ℕ). planned node m) (id_is j low)
       ∙ planned_all j j low
 
-  other_all : (i j : ℕ) → i < n → j < n → i ≢ j → items_worked (slice_get (at j).mail.inlets.items i) ≡ items_from (predecessors set) n j (history i)
+  other_all : (i j : ℕ) → i < n → j < n → i ≢ j → items_worked (at j).mail.inlet i ≡ items_from (predecessors set) n j (history i)
   other_all i j low_i low_j apart =
-      ap items_worked inlet.1
-      ∙ ap (λ (bs : List BatchView). items_of_batches bs) (link_done outlet.0 inlet.0 channel.0 ((rest i low_i).1 j outlet.0 outlet.1) channel.1 long)
+      ap (λ (bs : List BatchView). items_of_batches bs) (link_done outlet.0 (at j).mail.inlet i inbox.0 ((rest i low_i).1 j outlet.0 outlet.1) inbox.1 long)
       ∙ sym (sends.items ∙ ap (λ (xs : List Item). items_of_batches (offered outlet.0) ++ xs) ((rest i low_i).0.sent j) ∙ append-nil (items_of_batches (offered outlet.0)))
       ∙ planned_all i j low_i
     where
-      inlet : (x : Inlet) × (slice_get (at j).mail.inlets.items i ≡ Some x)
-      inlet = some_at (at j).mail.inlets.items i (let long = inlets_long (at j).mail in let nodes = (place j low_j).seat.1 in omega (arith, long, nodes, low_i))
-
       outlet : (x : Outlet) × (slice_get (at i).mail.outlets.items j ≡ Some x)
       outlet = some_at (at i).mail.outlets.items j (let long = outlets_long (at i).mail in let nodes = (place i low_i).seat.1 in omega (arith, long, nodes, low_j))
 
-      joined : AreJoinedBy runners i j (at i) (at j) outlet.0 inlet.0
-      joined = record { sends = there i low_i; takes = there j low_j; out = outlet.1; into = inlet.1 }
+      joined : AreJoinedBy runners i j (at i) (at j) outlet.0 (at j).mail.inlet
+      joined = record { sends = there i low_i; takes = there j low_j; out = outlet.1; into = refl }
 
-      channel : (waiting : List BatchView) × (sent_by outlet.0.end ≡ taken_by inlet.0.end ++ waiting)
-      channel = are.channels i j (at i) (at j) outlet.0 inlet.0 joined
+      inbox : (waiting : List BatchView) × (sent_by outlet.0.end ≡ taken_of (at j).mail.inlet.end i ++ waiting)
+      inbox = are.inboxes i j (at i) (at j) outlet.0 (at j).mail.inlet joined
 
-      long : length (worked inlet.0) ≡ length (offered outlet.0)
-      long = sym ((at j).mail.taken i inlet.0 inlet.1) ∙ sym (are.counts i j (at i) (at j) outlet.0 inlet.0 joined) ∙ (at i).mail.posted j outlet.0 outlet.1
+      long : length (worked_from (at j).mail.inlet i) ≡ length (offered outlet.0)
+      long = sym ((at j).mail.taken i (subst (λ m. i < m) (sym (place j low_j).seat.1) low_i))
+          ∙ sym (are.counts i j (at i) (at j) outlet.0 (at j).mail.inlet joined) ∙ (at i).mail.posted j outlet.0 outlet.1
 
       sends : SendsRight (at i).node (at i).size j (offered outlet.0)
       sends = (law i low_i).sends j outlet.0 (λ e. apart (sym (e ∙ (place i low_i).seat.0))) outlet.1
 
   all_applied : (i j : ℕ) → i < n → j < n → applied i j ≡ items_from (predecessors set) n j (history i)
   all_applied i j low_i low_j = elim (cases_eq i j) [
-    | inl same ↦ applied_here (at j).node (at j).mail.inlets.items i (same ∙ sym (id_is j low_j)) ∙ own_all j low_j
+    | inl same ↦ applied_here (at j).node (at j).mail.inlet i (same ∙ sym (id_is j low_j)) ∙ own_all j low_j
         ∙ ap (λ (m : ℕ). items_from (predecessors set) n j (history m)) (sym same)
-    | inr apart ↦ applied_else (at j).node (at j).mail.inlets.items i (λ e. apart (e ∙ id_is j low_j)) ∙ other_all i j low_i low_j apart
+    | inr apart ↦ applied_else (at j).node (at j).mail.inlet i (λ e. apart (e ∙ id_is j low_j)) ∙ other_all i j low_i low_j apart
   ]
 
   -- so the values that it shows are the value table

@@ -24,7 +24,7 @@ use Rattle.dob_node.specs.Outboxes.{outbox_in}
 use Rattle.dob_node.specs.Nodes.{outbox_to, HasItemFault, IsUnchanged}
 use Rattle.dob_chan.specs.declared.ends.SendEnd.{SendEnd}
 use Rattle.dob_chan.specs.declared.ends.TakeEnd.{TakeEnd}
-use Rattle.dob_chan.specs.Ends.{sent_by, taken_by, SendsOnSame, TakesOnSame}
+use Rattle.dob_chan.specs.Ends.{sent_by, taken_by, SendsToSame, TakesFromSame}
 use Rattle.dob_run.specs.declared.hands.Outlet.{Outlet}
 use Rattle.dob_run.specs.declared.hands.Inlet.{Inlet}
 use Rattle.dob_run.specs.declared.mail.Mail.{Mail}
@@ -47,11 +47,11 @@ goes_on_trans xs ys zs one two = (one.0 ++ two.0, two.1 ∙ ap (λ bs. bs ++ two
 
 pub outlet_kept : (old new : Outlet) → new.end ≡ old.end → KeepsOutlet old new
 outlet_kept old new same =
-    (subst (λ (e : SendEnd). SendsOnSame old.end e) (sym same) refl, goes_on_same (sent_by old.end) (sent_by new.end) (ap (λ (e : SendEnd). sent_by e) same))
+    (subst (λ (e : SendEnd). SendsToSame old.end e) (sym same) (refl, refl, refl, refl), goes_on_same (sent_by old.end) (sent_by new.end) (ap (λ (e : SendEnd). sent_by e) same))
 
 pub inlet_kept : (old new : Inlet) → new.end ≡ old.end → KeepsInlet old new
 inlet_kept old new same =
-    (subst (λ (e : TakeEnd). TakesOnSame old.end e) (sym same) refl, goes_on_same (taken_by old.end) (taken_by new.end) (ap (λ (e : TakeEnd). taken_by e) same))
+    (subst (λ (e : TakeEnd). TakesFromSame old.end e) (sym same) (refl, refl), goes_on_same (taken_by old.end) (taken_by new.end) (ap (λ (e : TakeEnd). taken_by e) same))
 
 pub outlet_same : (x : Outlet) → KeepsOutlet x x
 outlet_same x = outlet_kept x x refl
@@ -60,10 +60,10 @@ pub inlet_same : (x : Inlet) → KeepsInlet x x
 inlet_same x = inlet_kept x x refl
 
 outlet_trans : (x y z : Outlet) → KeepsOutlet x y → KeepsOutlet y z → KeepsOutlet x z
-outlet_trans x y z one two = (two.0 ∙ one.0, goes_on_trans (sent_by x.end) (sent_by y.end) (sent_by z.end) one.1 two.1)
+outlet_trans x y z one two = ((two.0.0 ∙ one.0.0, two.0.1 ∙ one.0.1, two.0.2 ∙ one.0.2, two.0.3 ∙ one.0.3), goes_on_trans (sent_by x.end) (sent_by y.end) (sent_by z.end) one.1 two.1)
 
 inlet_trans : (x y z : Inlet) → KeepsInlet x y → KeepsInlet y z → KeepsInlet x z
-inlet_trans x y z one two = (two.0 ∙ one.0, goes_on_trans (taken_by x.end) (taken_by y.end) (taken_by z.end) one.1 two.1)
+inlet_trans x y z one two = ((two.0.0 ∙ one.0.0, two.0.1 ∙ one.0.1), goes_on_trans (taken_by x.end) (taken_by y.end) (taken_by z.end) one.1 two.1)
 
 -- ---- lists of links
 
@@ -112,14 +112,14 @@ pub mail_same : (mail : Mail) → KeepsMail mail mail
 mail_same mail = record {
   seat = seat_same mail.seat;
   outlets = each_same KeepsOutlet outlet_same mail.outlets.items mail.outlets.items refl;
-  inlets = each_same KeepsInlet inlet_same mail.inlets.items mail.inlets.items refl;
+  inlet = inlet_same mail.inlet;
 }
 
 pub links_kept : (old new : Mail) → HasSameLinks old new → KeepsMail old new
 links_kept old new same = record {
   seat = same.seat;
   outlets = each_same KeepsOutlet outlet_same old.outlets.items new.outlets.items (ap (λ v. v.items) same.outlets);
-  inlets = each_same KeepsInlet inlet_same old.inlets.items new.inlets.items (ap (λ v. v.items) same.inlets);
+  inlet = inlet_kept old.inlet new.inlet (ap (λ (i : Inlet). i.end) same.inlet);
 }
 
 pub mail_trans : (a b c : Mail) → KeepsMail a b → KeepsMail b c → KeepsMail a c
@@ -127,8 +127,7 @@ mail_trans a b c one two = record {
   seat = seat_trans a.seat b.seat c.seat one.seat two.seat;
   outlets = each_trans KeepsOutlet outlet_trans a.outlets.items b.outlets.items c.outlets.items
       (omega (arith, a.outlets_len, b.outlets_len, one.seat.nodes)) one.outlets two.outlets;
-  inlets = each_trans KeepsInlet inlet_trans a.inlets.items b.inlets.items c.inlets.items
-      (omega (arith, a.inlets_len, b.inlets_len, one.seat.nodes)) one.inlets two.inlets;
+  inlet = inlet_trans a.inlet b.inlet c.inlet one.inlet two.inlet;
 }
 
 -- ---- halts

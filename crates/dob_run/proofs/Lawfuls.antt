@@ -1,5 +1,5 @@
 -- Each step of a worker leaves it lawful.
-use Rattle.std.proofs.Common.{◌≡◌, ◌≢◌, ℕ, ◌-◌, ◌^◌, ◌<◌, ◌≤◌, eqb, cond, Option, None, refl, sym, ap, ◌∙◌, subst, arith, append_assoc}
+use Rattle.std.proofs.Common.{◌≡◌, ◌≢◌, ℕ, ◌-◌, ◌^◌, ◌<◌, ◌≤◌, eqb, cond, refl, sym, ap, ◌∙◌, subst, arith, append_assoc}
 use Rattle.std.proofs.Common.{List, [], ◌∷◌, ◌++◌, length, length-append, take, drop, true, false, Some, inl, inr}
 use Rattle.std.specs.Prelude.{slice_get, slice_set}
 use Rattle.std.proofs.lemmas.List.{append-nil, take-append-drop, length-take}
@@ -25,7 +25,8 @@ use Rattle.dob_run.specs.declared.hands.Outlet.{Outlet}
 use Rattle.dob_run.specs.declared.hands.Inlet.{Inlet}
 use Rattle.dob_run.specs.declared.mail.Mail.{Mail}
 use Rattle.dob_run.specs.Knows.{KnowsRight}
-use Rattle.dob_run.specs.Links.{offered, worked, KeepsOutlet}
+use Rattle.dob_chan.specs.Inboxes.{batches_of}
+use Rattle.dob_run.specs.Links.{offered, KeepsOutlet}
 use Rattle.dob_run.specs.Mails.{HasChangedOne, AreOut}
 use Rattle.dob_run.specs.Runners.{IsNew}
 use Rattle.dob_run.specs.Workers.{planned, items_worked, own_applied, applied_from, AreLast, SendsRight, IsLawful}
@@ -37,19 +38,19 @@ use Rattle.dob_run.proofs.Planned.{history_grown, last_more, last_less, each_mor
 
 -- ---- the mail alone changed
 
-worked_still : (node : Node) (old new : Mail) → ((k : ℕ) → items_worked (slice_get new.inlets.items k) ≡ items_worked (slice_get old.inlets.items k)) →
-    KnowsRight node.set node.n node.id node.share node.history.settlements (applied_from node old.inlets.items) →
-    KnowsRight node.set node.n node.id node.share node.history.settlements (applied_from node new.inlets.items)
-worked_still node old new same = knows_same node.set node.n node.id node.share node.history.settlements (applied_from node old.inlets.items)
-    (applied_from node new.inlets.items) (applied_still node node old.inlets.items new.inlets.items refl refl same)
+worked_still : (node : Node) (old new : Mail) → ((k : ℕ) → items_worked new.inlet k ≡ items_worked old.inlet k) →
+    KnowsRight node.set node.n node.id node.share node.history.settlements (applied_from node old.inlet) →
+    KnowsRight node.set node.n node.id node.share node.history.settlements (applied_from node new.inlet)
+worked_still node old new same = knows_same node.set node.n node.id node.share node.history.settlements (applied_from node old.inlet)
+    (applied_from node new.inlet) (applied_still node node old.inlet new.inlet refl refl same)
 
-pub same_inlets : (old new : Mail) → new.inlets ≡ old.inlets → (k : ℕ) → items_worked (slice_get new.inlets.items k) ≡ items_worked (slice_get old.inlets.items k)
-same_inlets old new same k = ap (λ v. items_worked (slice_get v.items k)) same
+pub same_inlet : (old new : Mail) → new.inlet ≡ old.inlet → (k : ℕ) → items_worked new.inlet k ≡ items_worked old.inlet k
+same_inlet old new same k = ap (λ (i : Inlet). items_worked i k) same
 
 -- the same links, and another colour or the same
 pub recoloured : (set : PieceSet) (size : ℕ) (node : Node) (old new : Mail) → IsLawful set size node old → new.seat.node ≡ old.seat.node →
     new.seat.nodes ≡ old.seat.nodes → new.outlets.items ≡ old.outlets.items →
-    ((k : ℕ) → items_worked (slice_get new.inlets.items k) ≡ items_worked (slice_get old.inlets.items k)) →
+    ((k : ℕ) → items_worked new.inlet k ≡ items_worked old.inlet k) →
     (new.seat.black ≡ false → IsIdle node × AreOut old.outlets.items) → IsLawful set size node new
 recoloured set size node old new law same_node same_nodes same_outlets same_worked white = record {
   of = (law.of.0, law.of.1 ∙ sym same_node, law.of.2 ∙ sym same_nodes);
@@ -68,15 +69,15 @@ busy_black set size node mail law busy = elim (cases_Bool mail.seat.black) [ inl
 -- one outlet was offered what it was before
 pub offered_again : (set : PieceSet) (size to : ℕ) (node : Node) (old new : Mail) → IsLawful set size node old → new.seat ≡ old.seat →
     HasChangedOne (λ (before after : Outlet). KeepsOutlet before after × (offered after ≡ offered before)) to old.outlets.items new.outlets.items →
-    new.inlets ≡ old.inlets → (AreOut old.outlets.items → AreOut new.outlets.items) → IsLawful set size node new
-offered_again set size to node old new law seat one inlets hands = record {
+    new.inlet ≡ old.inlet → (AreOut old.outlets.items → AreOut new.outlets.items) → IsLawful set size node new
+offered_again set size to node old new law seat one inlet hands = record {
   of = (law.of.0, law.of.1 ∙ sym (ap (λ s. s.node) seat), law.of.2 ∙ sym (ap (λ s. s.nodes) seat));
   sound = law.sound;
   sends = λ j outlet apart at. there j outlet (subst (λ os. slice_get os j ≡ Some outlet) one.4 at) (λ e. apart (e ∙ sym (ap (λ s. s.node) seat)));
   unused = λ outlet at. nothing old.seat.node outlet (subst (λ os. slice_get os old.seat.node ≡ Some outlet) one.4
       (ap (λ s. slice_get new.outlets.items s.node) (sym seat) ∙ at)) refl;
   own = law.own;
-  knows = worked_still node old new (same_inlets old new inlets) law.knows;
+  knows = worked_still node old new (same_inlet old new inlet) law.knows;
   white = λ is. (let rest = law.white (sym (ap (λ s. s.black) seat) ∙ is) in (rest.0, hands rest.1));
 }
   where
@@ -124,23 +125,23 @@ applied_own set size old new mail law step sound =
       own = subst (λ w. AreLast w new.own.items) (sym (ap (λ i. planned new i) step.same.1 ∙ plan old.id))
           (last_less (planned old old.id) step.item new.own.items (subst (λ own. AreLast (planned old old.id) own) step.first law.own));
       unused = law.unused;
-      knows = knows_after old new (applied_from new mail.inlets.items) step.same.0 step.same.1 step.same.2
-          (taken_one old.set old.n old.id old.share new.share old.history new.history (applied_from old mail.inlets.items) (applied_from new mail.inlets.items)
+      knows = knows_after old new (applied_from new mail.inlet) step.same.0 step.same.1 step.same.2
+          (taken_one old.set old.n old.id old.share new.share old.history new.history (applied_from old mail.inlet) (applied_from new mail.inlet)
           old.id law.sound.kept.one_of_n step.item
           (one_more (ap (λ i. planned new i) step.same.1 ∙ plan old.id)) (λ k other. elsewhere k other) law.sound.kept
           (All-head HasEntries step.item new.own.items (subst (λ xs. All HasEntries xs) step.first law.sound.entries)) step.taken law.knows);
       white = λ is. absurd (nothing_first old.own.items step.item new.own.items ((law.white is).0.applied) step.first);
     }
   where
-    one_more : planned new new.id ≡ planned old old.id → applied_from new mail.inlets.items old.id ≡ applied_from old mail.inlets.items old.id ++ step.item ∷ []
+    one_more : planned new new.id ≡ planned old old.id → applied_from new mail.inlet old.id ≡ applied_from old mail.inlet old.id ++ step.item ∷ []
     one_more plan =
-        applied_here new mail.inlets.items old.id (sym step.same.1)
+        applied_here new mail.inlet old.id (sym step.same.1)
         ∙ ap (λ (xs : List Item). take (length xs - length new.own.items) xs) plan
         ∙ own_less (planned old old.id) old.own.items step.item new.own.items law.own step.first
-        ∙ ap (λ xs. xs ++ step.item ∷ []) (sym (applied_here old mail.inlets.items old.id refl))
+        ∙ ap (λ xs. xs ++ step.item ∷ []) (sym (applied_here old mail.inlet old.id refl))
 
-    elsewhere : (k : ℕ) → k ≢ old.id → applied_from new mail.inlets.items k ≡ applied_from old mail.inlets.items k
-    elsewhere k other = applied_else new mail.inlets.items k (λ e. other (e ∙ step.same.1)) ∙ sym (applied_else old mail.inlets.items k other)
+    elsewhere : (k : ℕ) → k ≢ old.id → applied_from new mail.inlet k ≡ applied_from old mail.inlet k
+    elsewhere k other = applied_else new mail.inlet k (λ e. other (e ∙ step.same.1)) ∙ sym (applied_else old mail.inlet k other)
 
     nothing_first : (own : List Item) (item : Item) (rest : List Item) → own ≡ [] → own ≡ item ∷ rest → ⊥
     nothing_first own item rest none some = absurd (cc)
@@ -149,8 +150,8 @@ applied_own set size old new mail law step sound =
 pub applied_batch : (set : PieceSet) (size from : ℕ) (batch : BatchView) (node after : Node) (old new : Mail) → IsLawful set size node old →
     from < old.seat.nodes → from ≢ old.seat.node → All HasEntries batch.items → HasTaken batch.items node after → IsSound after →
     new.seat.node ≡ old.seat.node → new.seat.nodes ≡ old.seat.nodes → new.seat.black ≡ true → new.outlets.items ≡ old.outlets.items →
-    ((k : ℕ) → k ≢ from → items_worked (slice_get new.inlets.items k) ≡ items_worked (slice_get old.inlets.items k)) →
-    items_worked (slice_get new.inlets.items from) ≡ items_worked (slice_get old.inlets.items from) ++ batch.items → IsLawful set size after new
+    ((k : ℕ) → k ≢ from → items_worked new.inlet k ≡ items_worked old.inlet k) →
+    items_worked new.inlet from ≡ items_worked old.inlet from ++ batch.items → IsLawful set size after new
 applied_batch set size from batch node after old new law low apart entries step sound same_node same_nodes black same_outlets same_worked more_worked = record {
   of = (step.same.0 ∙ law.of.0, step.same.1 ∙ (law.of.1 ∙ sym same_node), step.same.2 ∙ (law.of.2 ∙ sym same_nodes));
   sound = sound;
@@ -159,9 +160,9 @@ applied_batch set size from batch node after old new law low apart entries step 
       (law.sends to outlet (λ e. other (e ∙ sym same_node)) (ap (λ os. slice_get os to) (sym same_outlets) ∙ at));
   unused = λ outlet at. law.unused outlet (ap (λ i. slice_get old.outlets.items i) (sym same_node) ∙ ap (λ os. slice_get os new.seat.node) (sym same_outlets) ∙ at);
   own = subst (λ w. AreLast w after.own.items) (sym own_plan) (subst (λ own. AreLast (planned node node.id) own) (sym step.own) law.own);
-  knows = knows_after node after (applied_from after new.inlets.items) step.same.0 step.same.1 step.same.2
+  knows = knows_after node after (applied_from after new.inlet) step.same.0 step.same.1 step.same.2
       (taken_all node.set node.n node.id from (subst (λ m. from < m) (sym law.of.2) low) batch.items node.share after.share node.history after.history
-      (applied_from node old.inlets.items) (applied_from after new.inlets.items) law.sound.kept entries step.taken one_more elsewhere law.knows);
+      (applied_from node old.inlet) (applied_from after new.inlet) law.sound.kept entries step.taken one_more elsewhere law.knows);
   white = λ is. absurd (true≢false (sym black ∙ is));
 }
   where
@@ -175,14 +176,14 @@ applied_batch set size from batch node after old new law low apart entries step 
     not_own : from ≢ node.id
     not_own e = apart (e ∙ law.of.1)
 
-    one_more : applied_from after new.inlets.items from ≡ applied_from node old.inlets.items from ++ batch.items
-    one_more = applied_else after new.inlets.items from (λ e. not_own (e ∙ step.same.1)) ∙ more_worked
-        ∙ ap (λ xs. xs ++ batch.items) (sym (applied_else node old.inlets.items from not_own))
+    one_more : applied_from after new.inlet from ≡ applied_from node old.inlet from ++ batch.items
+    one_more = applied_else after new.inlet from (λ e. not_own (e ∙ step.same.1)) ∙ more_worked
+        ∙ ap (λ xs. xs ++ batch.items) (sym (applied_else node old.inlet from not_own))
 
-    elsewhere : (k : ℕ) → k ≢ from → applied_from after new.inlets.items k ≡ applied_from node old.inlets.items k
+    elsewhere : (k : ℕ) → k ≢ from → applied_from after new.inlet k ≡ applied_from node old.inlet k
     elsewhere k other =
-        ap (λ i. cond (eqb k i) (own_applied after) (items_worked (slice_get new.inlets.items k))) step.same.1
-        ∙ ap (λ xs. cond (eqb k node.id) xs (items_worked (slice_get new.inlets.items k))) (own_still node after own_plan step.own)
+        ap (λ i. cond (eqb k i) (own_applied after) (items_worked new.inlet k)) step.same.1
+        ∙ ap (λ xs. cond (eqb k node.id) xs (items_worked new.inlet k)) (own_still node after own_plan step.own)
         ∙ ap (λ xs. cond (eqb k node.id) (own_applied node) xs) (same_worked k other)
 
 -- a settlement was expanded
@@ -197,11 +198,11 @@ expanded_one set size old new mail law step sound = record {
       (subst (λ own. AreLast (planned old old.id ++ items_of (predecessors old.set) old.n old.id step.settlement) own) (sym step.own)
       (last_more (planned old old.id) old.own.items (items_of (predecessors old.set) old.n old.id step.settlement) law.own));
   unused = law.unused;
-  knows = knows_after old new (applied_from new mail.inlets.items) step.same.0 step.same.1 step.same.2
-      (subst (λ (sh : Share). KnowsRight old.set old.n old.id sh new.history.settlements (applied_from new mail.inlets.items)) (sym step.same.3)
-      (subst (λ (hv : HistoryView). KnowsRight old.set old.n old.id old.share hv.settlements (applied_from new mail.inlets.items)) (sym step.same.4)
-      (knows_same old.set old.n old.id old.share old.history.settlements (applied_from old mail.inlets.items) (applied_from new mail.inlets.items)
-      (applied_still old new mail.inlets.items mail.inlets.items step.same.1 own_same (λ k. refl)) law.knows)));
+  knows = knows_after old new (applied_from new mail.inlet) step.same.0 step.same.1 step.same.2
+      (subst (λ (sh : Share). KnowsRight old.set old.n old.id sh new.history.settlements (applied_from new mail.inlet)) (sym step.same.3)
+      (subst (λ (hv : HistoryView). KnowsRight old.set old.n old.id old.share hv.settlements (applied_from new mail.inlet)) (sym step.same.4)
+      (knows_same old.set old.n old.id old.share old.history.settlements (applied_from old mail.inlet) (applied_from new mail.inlet)
+      (applied_still old new mail.inlet mail.inlet step.same.1 own_same (λ k. refl)) law.knows)));
   white = λ is. (let all = (law.white is).0.expanded in
       let some = slice_get_within old.history.settlements old.expanded step.settlement step.first in absurd (omega (arith, all, some)));
 }
@@ -239,8 +240,8 @@ expanded_one set size old new mail law step sound = record {
 pub cut_one : (set : PieceSet) (size to : ℕ) (batch : BatchView) (node after : Node) (old new : Mail) → IsLawful set size node old →
     to ≢ old.seat.node → HasCut to size batch node after → IsSound after → new.seat.node ≡ old.seat.node → new.seat.nodes ≡ old.seat.nodes → new.seat.black ≡ true →
     HasChangedOne (λ (x y : Outlet). (y.end ≡ x.end) × (offered y ≡ offered x ++ batch ∷ [])) to old.outlets.items new.outlets.items →
-    new.inlets ≡ old.inlets → IsLawful set size after new
-cut_one set size to batch node after old new law not_own step sound same_node same_nodes black one inlets = record {
+    new.inlet ≡ old.inlet → IsLawful set size after new
+cut_one set size to batch node after old new law not_own step sound same_node same_nodes black one inlet = record {
   of = (step.same.0 ∙ law.of.0, step.same.1 ∙ (law.of.1 ∙ sym same_node), step.same.2 ∙ (law.of.2 ∙ sym same_nodes));
   sound = sound;
   sends = λ j outlet apart at. there j outlet (subst (λ os. slice_get os j ≡ Some outlet) one.4 at) (λ e. apart (e ∙ sym same_node));
@@ -248,12 +249,12 @@ cut_one set size to batch node after old new law not_own step sound same_node sa
       (subst (λ own. AreLast (planned node node.id) own) (sym step.kept.2) law.own);
   unused = λ outlet at. nothing old.seat.node outlet (subst (λ os. slice_get os old.seat.node ≡ Some outlet) one.4
       (ap (λ i. slice_get new.outlets.items i) (sym same_node) ∙ at)) refl;
-  knows = knows_after node after (applied_from after new.inlets.items) step.same.0 step.same.1 step.same.2
-      (subst (λ (sh : Share). KnowsRight node.set node.n node.id sh after.history.settlements (applied_from after new.inlets.items)) (sym step.kept.0)
-      (subst (λ (hv : HistoryView). KnowsRight node.set node.n node.id node.share hv.settlements (applied_from after new.inlets.items)) (sym step.kept.1)
-      (knows_same node.set node.n node.id node.share node.history.settlements (applied_from node old.inlets.items) (applied_from after new.inlets.items)
-      (applied_still node after old.inlets.items new.inlets.items step.same.1
-      (own_still node after (ap (λ i. planned after i) step.same.1 ∙ plan node.id) step.kept.2) (same_inlets old new inlets)) law.knows)));
+  knows = knows_after node after (applied_from after new.inlet) step.same.0 step.same.1 step.same.2
+      (subst (λ (sh : Share). KnowsRight node.set node.n node.id sh after.history.settlements (applied_from after new.inlet)) (sym step.kept.0)
+      (subst (λ (hv : HistoryView). KnowsRight node.set node.n node.id node.share hv.settlements (applied_from after new.inlet)) (sym step.kept.1)
+      (knows_same node.set node.n node.id node.share node.history.settlements (applied_from node old.inlet) (applied_from after new.inlet)
+      (applied_still node after old.inlet new.inlet step.same.1
+      (own_still node after (ap (λ i. planned after i) step.same.1 ∙ plan node.id) step.kept.2) (same_inlet old new inlet)) law.knows)));
   white = λ is. absurd (true≢false (sym black ∙ is));
 }
   where
@@ -299,24 +300,19 @@ begun set size node mail is = record {
       });
   unused = λ outlet at. is.unsent mail.seat.node outlet at;
   own = subst (λ own. AreLast (planned node node.id) own) (sym is.opened.nothing.1) (subst (λ w. AreLast w []) (sym (planned_none node.id)) refl);
-  knows = knows_at_start (applied_from node mail.inlets.items) none_applied;
+  knows = knows_at_start (applied_from node mail.inlet) none_applied;
   white = λ colour. absurd (true≢false (sym is.black ∙ colour));
 }
   where
     planned_none : (to : ℕ) → planned node to ≡ []
     planned_none to = ap (λ e. items_from (predecessors node.set) node.n to (take e node.history.settlements)) is.opened.nothing.0
 
-    none_worked : (from : ℕ) (o : Option Inlet) → ((inlet : Inlet) → o ≡ Some inlet → worked inlet ≡ []) → items_worked o ≡ []
-    none_worked from None none = refl
-    none_worked from (Some inlet) none = ap items_of_batches (none inlet refl)
-
-    none_applied : (k : ℕ) → applied_from node mail.inlets.items k ≡ []
+    none_applied : (k : ℕ) → applied_from node mail.inlet k ≡ []
     none_applied k = (let own : own_applied node ≡ [] = ap (λ (xs : List Item). take (length xs - length node.own.items) xs) (planned_none node.id)
         ∙ ap (λ (xs : List Item). take (0 - length xs) []) is.opened.nothing.1 in
         elim (cases_eq k node.id) [
-          | inl here ↦ applied_here node mail.inlets.items k here ∙ own
-          | inr other ↦ applied_else node mail.inlets.items k other
-              ∙ none_worked k (slice_get mail.inlets.items k) (λ inlet there. is.untaken k inlet there)
+          | inl here ↦ applied_here node mail.inlet k here ∙ own
+          | inr other ↦ applied_else node mail.inlet k other ∙ ap (λ (bs : List BatchView). items_of_batches (batches_of k bs)) is.untaken
         ])
 
     knows_at_start : (applied : ℕ → List Item) → ((k : ℕ) → applied k ≡ []) → KnowsRight node.set node.n node.id node.share node.history.settlements applied

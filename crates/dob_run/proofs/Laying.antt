@@ -1,102 +1,113 @@
--- Channels laid one by one.
-use Rattle.std.proofs.Common.{◌≡◌, ℕ, ◌+◌, ◌<◌, inl, inr, List, [], ◌∷◌, ◌++◌, length, set, Some, None, refl}
-use Rattle.std.proofs.Common.{sym, ap, ◌∙◌, subst, arith, length-append, length-set}
+-- Inboxes laid one by one.
+use Rattle.std.proofs.Common.{◌≡◌, ℕ, ◌+◌, ◌<◌, ◌≤◌, inl, inr, List, [], ◌∷◌, ◌++◌, length, drop, Some, None}
+use Rattle.std.proofs.Common.{sym, ap, ◌∙◌, subst, arith, length-append}
 use Rattle.std.specs.Prelude.{slice_get}
 use Rattle.std.specs.declared.vec.Vec.{Vec}
-use Rattle.std.proofs.lemmas.Option.{slice_get_within, same_Some}
-use Rattle.std.proofs.lemmas.Bool.{cases_eq}
+use Rattle.std.proofs.lemmas.Option.{slice_get_within}
 use Rattle.dob_chan.specs.declared.ends.SendEnd.{SendEnd}
 use Rattle.dob_chan.specs.declared.ends.TakeEnd.{TakeEnd}
-use Rattle.dob_chan.specs.Ends.{sent_by, taken_by, capacity_of, ArePaired}
-use Rattle.dob_pieces.proofs.Elements.{at_end, get_front, get_set_other, middle}
+use Rattle.dob_chan.specs.Ends.{taken_by, senders_of, IsEndOf, AreEndsOf, AreOpened}
+use Rattle.dob_pieces.proofs.Elements.{at_end}
 use Rattle.dob_run.specs.declared.hands.Outlet.{Outlet}
 use Rattle.dob_run.specs.declared.hands.Inlet.{Inlet}
-use Rattle.dob_run.specs.Rows.{StandsAt, AreRows}
-use Rattle.dob_run.specs.Laid.{IsLaid, IsRowLaid, AreLaidUpto}
-use Rattle.dob_run.proofs.Counted.{there_set}
-use Rattle.dob_run.proofs.Places.{each_more}
+use Rattle.dob_run.specs.Rows.{StandsAt, AreRows, AreDealt}
+use Rattle.dob_run.specs.Laid.{AreOutlets, IsLaid, IsUntaken, IsOneLaid, AreLaidUpto}
+use Rattle.dob_run.proofs.Places.{each_more, none_at, next_is, then_left, gone_all}
+use Rattle.dob_run.proofs.Rejoining.{rows_longer}
 
-module _ {Z : Type 0} (capacity : ℕ) where
-  pub row_begins : (columns : List (Vec Inlet Z)) → IsRowLaid capacity 0 [] columns columns
-  row_begins columns = record { long = refl; columns = refl; laid = λ j column below. absurd (omega (arith, below)); later = λ j from. refl }
+-- ---- outlets
 
-  pub row_grows : (k : ℕ) (row : List Outlet) (old new : List (Vec Inlet Z)) (before column : Vec Inlet Z) (outlet : Outlet) (inlet : Inlet) →
-      IsRowLaid capacity k row old new → slice_get new k ≡ Some before → column.items ≡ before.items ++ inlet ∷ [] → IsLaid capacity outlet inlet →
-      IsRowLaid capacity (k + 1) (row ++ outlet ∷ []) old (set new k column)
-  row_grows k row old new before column outlet inlet so_far at is laid =
+-- Of all ends the first have their outlets, and these are left.
+pub record AreMaking (sends left : List SendEnd) (outlets : List Outlet) : Type 0 where
+  pub done : ℕ
+  pub within : done ≤ length sends
+  pub left_are : left ≡ drop done sends
+  pub count : length outlets ≡ done
+  pub each : (k : ℕ) (outlet : Outlet) → slice_get outlets k ≡ Some outlet → (slice_get sends k ≡ Some outlet.end) × (outlet.hand ≡ None)
+
+pub making_begins : (sends left : List SendEnd) (outlets : List Outlet) → left ≡ sends → outlets ≡ [] → AreMaking sends left outlets
+making_begins sends left outlets all none = record {
+  done = 0;
+  within = omega arith;
+  left_are = all;
+  count = ap length none;
+  each = λ k outlet at. none_at outlets k outlet none at;
+}
+
+pub making_goes_on : (sends left after : List SendEnd) (send : SendEnd) (outlets more : List Outlet) (outlet : Outlet) → AreMaking sends left outlets →
+    left ≡ send ∷ after → outlet.end ≡ send → outlet.hand ≡ None → more ≡ outlets ++ outlet ∷ [] → AreMaking sends after more
+making_goes_on sends left after send outlets more outlet on is end hand grown =
+    let at = next_is sends after send on.done (sym on.left_are ∙ is) in
+    record {
+      done = on.done + 1;
+      within = omega (arith, slice_get_within sends on.done send at);
+      left_are = then_left sends after send on.done (sym on.left_are ∙ is);
+      count = omega (arith, ap length grown, length-append outlets (outlet ∷ []), on.count);
+      each = each_more (λ (k : ℕ) (o : Outlet). (slice_get sends k ≡ Some o.end) × (o.hand ≡ None)) outlets more outlet on.done on.count grown on.each
+          (at ∙ ap Some (sym end), hand);
+    }
+
+pub all_made : (sends left : List SendEnd) (outlets : List Outlet) → AreMaking sends left outlets → length left ≡ 0 → AreOutlets sends outlets
+all_made sends left outlets on none = record { count = on.count ∙ gone_all sends left on.done on.left_are none on.within; each = on.each }
+
+-- ---- one inbox
+
+pub one_laid : (capacity n : ℕ) (sends : List SendEnd) (take : TakeEnd) (outlets : List Outlet) (inlet : Inlet) → senders_of take ≡ n → AreEndsOf take sends →
+    AreOpened take.pass capacity n sends → taken_by take ≡ [] → AreOutlets sends outlets → inlet.end ≡ take → inlet.hand ≡ None → IsOneLaid capacity n outlets inlet
+one_laid capacity n sends take outlets inlet many ends opened nothing are end hand = record {
+  count = are.count ∙ ends.0 ∙ many;
+  laid = λ i outlet at.
+      let is = are.each i outlet at in
+      let new = opened i outlet.end is.0 in
       record {
-        long = omega (arith, length-append row (outlet ∷ []), so_far.long);
-        columns = length-set new k column ∙ so_far.columns;
-        laid = λ j other below there. elim (cases_eq j k) [
-          | inl here ↦ let same : column ≡ other = there_set new k column other (ap (slice_get (set new k column)) (sym here) ∙ there) in (
-            before,
-            outlet,
-            inlet,
-            ap (slice_get old) here ∙ sym (so_far.later k (omega arith)) ∙ at,
-            ap (slice_get (row ++ outlet ∷ [])) (here ∙ sym so_far.long) ∙ middle row [] outlet,
-            ap (λ (v : Vec Inlet Z). v.items) (sym same) ∙ is,
-            laid,
-          )
-          | inr apart ↦ let low : j < k = omega (arith, below, apart) in
-              let was = so_far.laid j other low (sym (get_set_other new k j column apart) ∙ there) in
-              (was.0, was.1, was.2, was.3, get_front row (outlet ∷ []) was.1 j was.4, was.5, was.6)
-        ];
-        later = λ j from. get_set_other new k j column (λ e. omega (arith, e, from)) ∙ so_far.later j (omega (arith, from));
-      }
+        paired = subst (λ (t : TakeEnd). IsEndOf t i outlet.end) (sym end) (ends.1 i outlet.end is.0);
+        room = new.2;
+        nothing = new.4;
+        empty = is.1;
+      };
+  untaken = record {
+    senders = ap (λ (t : TakeEnd). senders_of t) end ∙ many;
+    nothing = ap (λ (t : TakeEnd). taken_by t) end ∙ nothing;
+    empty = hand;
+  };
+}
 
-module _ {Y Z : Type 0} (capacity n : ℕ) where
-  pub none_laid : (columns : List (Vec Inlet Z)) → AreRows n 0 columns → AreLaidUpto {Y = Y} capacity n 0 [] columns
-  none_laid columns are = record {
-    rows = record { count = refl; each = λ i row e. absurd (cc) };
-    columns = are;
-    laid = λ i j outlet inlet out there. absurd (let none = out.1 in cc);
+-- ---- all of them
+
+module _ {Z : Type 0} (capacity n : ℕ) where
+  pub none_laid : (rows : List (Vec Outlet Z)) (inlets : List Inlet) → AreRows n 0 rows → inlets ≡ [] → AreLaidUpto capacity n 0 rows inlets
+  none_laid rows inlets are none = record {
+    rows = are;
+    count = ap length none;
+    laid = λ i j outlet inlet out at. none_at inlets j inlet none at;
+    untaken = λ j inlet at. none_at inlets j inlet none at;
   }
 
-  row_laid : (i : ℕ) (rows : List (Vec Outlet Y)) (old new : List (Vec Inlet Z)) (row : Vec Outlet Y) →
-      AreLaidUpto capacity n i rows old → IsRowLaid capacity n row.items old new →
-      (k j : ℕ) (outlet : Outlet) (inlet : Inlet) → StandsAt (rows ++ row ∷ []) k j outlet → StandsAt new j k inlet → IsLaid capacity outlet inlet
-  row_laid i rows old new row so_far laid k j outlet inlet out there =
-      let low : j < n = omega (arith, slice_get_within new j there.0 there.1, laid.columns, so_far.columns.count) in
-      let new_one = laid.laid j there.0 low there.1 in
-      let was : length new_one.0.items ≡ i = so_far.columns.each j new_one.0 new_one.3 in
-      elim (at_end new_one.0.items new_one.2 inlet k (ap (λ xs. slice_get xs k) (sym new_one.5) ∙ there.2)) [
-        | inl before ↦ let below : k < i = omega (arith, slice_get_within new_one.0.items k inlet before, was) in
-            elim (at_end rows row out.0 k out.1) [
-              | inl old_row ↦ so_far.laid k j outlet inlet (out.0, old_row, out.2) (new_one.0, new_one.3, before)
-              | inr last ↦ absurd (omega (arith, last.0, so_far.rows.count, below))
+  laid_for : (k : ℕ) (old new : List (Vec Outlet Z)) (inlets more : List Inlet) (outlets : List Outlet) (inlet : Inlet) → AreLaidUpto capacity n k old inlets →
+      IsOneLaid capacity n outlets inlet → AreDealt n outlets old new → more ≡ inlets ++ inlet ∷ [] →
+      (i j : ℕ) (outlet : Outlet) (into : Inlet) → StandsAt new i j outlet → slice_get more j ≡ Some into → IsLaid capacity i outlet into
+  laid_for k old new inlets more outlets inlet so_far one dealt grown i j outlet into out at =
+      let low : i < n = omega (arith, slice_get_within new i out.0 out.1, dealt.rows, so_far.rows.count) in
+      let new_one = dealt.dealt i out.0 low out.1 in
+      let was : length new_one.0.items ≡ k = so_far.rows.each i new_one.0 new_one.2 in
+      elim (at_end inlets inlet into j (ap (λ (l : List Inlet). slice_get l j) (sym grown) ∙ at)) [
+        | inl before ↦
+            elim (at_end new_one.0.items new_one.1 outlet j (ap (λ (l : List Outlet). slice_get l j) (sym new_one.4) ∙ out.2)) [
+              | inl old_out ↦ so_far.laid i j outlet into (new_one.0, new_one.2, old_out) before
+              | inr last ↦ absurd (omega (arith, last.0, was, slice_get_within inlets j into before, so_far.count))
             ]
         | inr last_in ↦
-            elim (at_end rows row out.0 k out.1) [
-              | inl old_row ↦ absurd (omega (arith, slice_get_within rows k out.0 old_row, so_far.rows.count, last_in.0, was))
-              | inr last ↦ let same : new_one.1 ≡ outlet = same_Some new_one.1 outlet (sym new_one.4 ∙ ap (λ (v : Vec Outlet Y). slice_get v.items j) last.1 ∙ out.2) in
-                  subst (λ (p : Outlet × Inlet). IsLaid capacity p.0 p.1) (λ q. (same q, last_in.1 q)) new_one.6
+            elim (at_end new_one.0.items new_one.1 outlet j (ap (λ (l : List Outlet). slice_get l j) (sym new_one.4) ∙ out.2)) [
+              | inl old_out ↦ absurd (omega (arith, slice_get_within new_one.0.items j outlet old_out, was, last_in.0, so_far.count))
+              | inr last ↦ subst (λ (p : Outlet × Inlet). IsLaid capacity i p.0 p.1) (λ q. (last.1 q, last_in.1 q)) (one.laid i new_one.1 new_one.3)
             ]
       ]
 
-  pub row_more : (i : ℕ) (rows : List (Vec Outlet Y)) (old new : List (Vec Inlet Z)) (row : Vec Outlet Y) →
-      AreLaidUpto capacity n i rows old → IsRowLaid capacity n row.items old new → AreLaidUpto capacity n (i + 1) (rows ++ row ∷ []) new
-  row_more i rows old new row so_far laid = record {
-    rows = record {
-      count = omega (arith, length-append rows (row ∷ []), so_far.rows.count);
-      each = each_more (λ (k : ℕ) (other : Vec Outlet Y). length other.items ≡ n) rows (rows ++ row ∷ []) row i so_far.rows.count refl so_far.rows.each laid.long;
-    };
-    columns = record {
-      count = laid.columns ∙ so_far.columns.count;
-      each = λ j column e.
-          let low : j < n = omega (arith, slice_get_within new j column e, laid.columns, so_far.columns.count) in
-          let new_one = laid.laid j column low e in
-          omega (arith, ap length new_one.5, length-append new_one.0.items (new_one.2 ∷ []), so_far.columns.each j new_one.0 new_one.3);
-    };
-    laid = row_laid i rows old new row so_far laid;
+  pub laid_more : (k : ℕ) (old new : List (Vec Outlet Z)) (inlets more : List Inlet) (outlets : List Outlet) (inlet : Inlet) → AreLaidUpto capacity n k old inlets →
+      IsOneLaid capacity n outlets inlet → AreDealt n outlets old new → more ≡ inlets ++ inlet ∷ [] → AreLaidUpto capacity n (k + 1) new more
+  laid_more k old new inlets more outlets inlet so_far one dealt grown = record {
+    rows = rows_longer k old new outlets so_far.rows dealt;
+    count = omega (arith, ap length grown, length-append inlets (inlet ∷ []), so_far.count);
+    laid = laid_for k old new inlets more outlets inlet so_far one dealt grown;
+    untaken = each_more (λ (j : ℕ) (i : Inlet). IsUntaken n i) inlets more inlet k so_far.count grown so_far.untaken one.untaken;
   }
-
--- the ends of a new channel, each with an empty hand
-pub laid_of : (capacity : ℕ) (outlet : Outlet) (inlet : Inlet) (send : SendEnd) (take : TakeEnd) → outlet.end ≡ send → inlet.end ≡ take →
-    outlet.hand ≡ None → inlet.hand ≡ None → ArePaired send take → capacity_of send ≡ capacity → (sent_by send ≡ []) × (taken_by take ≡ []) →
-    IsLaid capacity outlet inlet
-laid_of capacity outlet inlet send take out_is in_is out_empty in_empty paired room nothing = record {
-  paired = subst (λ (p : SendEnd × TakeEnd). ArePaired p.0 p.1) (λ q. (sym out_is q, sym in_is q)) paired;
-  room = ap capacity_of out_is ∙ room;
-  nothing = (ap sent_by out_is ∙ nothing.0, ap taken_by in_is ∙ nothing.1);
-  empty = (out_empty, in_empty);
-}

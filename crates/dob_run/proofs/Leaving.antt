@@ -1,6 +1,6 @@
 -- What a crew's runners leave when they are closed, put together from their parts.
 use Rattle.std.proofs.Common.{◌≡◌, ◌≢◌, ℕ, ◌+◌, ◌-◌, ◌*◌, ◌<◌, ◌≤◌, inl, inr, List, [], ◌∷◌, ◌++◌, Option, Some, None}
-use Rattle.std.proofs.Common.{length, map, take, drop, sym, ap, ◌∙◌, subst, arith, length-append}
+use Rattle.std.proofs.Common.{length, map, take, drop, refl, sym, ap, ◌∙◌, subst, arith, length-append}
 use Rattle.std.proofs.Common.{Global}
 use Rattle.std.specs.Prelude.{slice_get}
 use Rattle.std.proofs.lemmas.List.{length-map, take-append-drop}
@@ -14,8 +14,8 @@ use Rattle.dob_update.specs.Batches.{BatchView, items_of_batches}
 use Rattle.dob_board.specs.declared.board.Board.{Board}
 use Rattle.dob_board.specs.declared.board.Closed.{Closed}
 use Rattle.dob_board.specs.Seats.{AreWords}
-use Rattle.dob_chan.specs.declared.calls.Rejoined.{Rejoined}
-use Rattle.dob_chan.specs.Ends.{sent_by, taken_by}
+use Rattle.dob_chan.specs.declared.ends.Rejoined.{Rejoined}
+use Rattle.dob_chan.specs.Ends.{sent_by, taken_of}
 use Rattle.dob_node.specs.declared.node.Node.{Node}
 use Rattle.dob_node.specs.Nodes.{outbox_to}
 use Rattle.dob_run.specs.declared.hands.Outlet.{Outlet}
@@ -26,17 +26,18 @@ use Rattle.dob_run.specs.declared.closing.Ended.{Ended}
 use Rattle.dob_run.specs.declared.runs.Worker.{Worker}
 use Rattle.dob_run.specs.declared.runs.Turned.{Turned}
 use Rattle.dob_run.specs.Closing.{AreLinked, seat_in, IsCrew, row_of, hands_out, hands_in, HasEnded}
-use Rattle.dob_run.specs.Ending.{outlet_hand, inlet_hand, IsJoined}
-use Rattle.dob_run.specs.Hands.{in_hand, worked_of}
+use Rattle.dob_run.specs.Ending.{outlet_hand, IsJoined}
+use Rattle.dob_run.specs.Hands.{in_hand, held_from}
 use Rattle.dob_run.specs.Knows.{KnowsRight}
-use Rattle.dob_run.specs.Links.{offered, worked}
+use Rattle.dob_run.specs.Links.{offered, worked_from}
 use Rattle.dob_run.specs.Manned.{mail_of, node_of, AreRunnersFor}
 use Rattle.dob_run.specs.Runners.{KeepsRunner}
 use Rattle.dob_run.specs.Turned.{IsWorker, IsLink, IsTurned, AreUnfailed, AreWorkers, HasLeft}
-use Rattle.dob_run.specs.Workers.{planned, items_worked, applied_from, AreLast, SendsRight, IsLawful}
+use Rattle.dob_run.specs.Workers.{planned, applied_from, AreLast, SendsRight, IsLawful}
+use Rattle.dob_run.proofs.Senders.{parts, front}
 use Rattle.dob_run.proofs.Applied.{applied_here, applied_else}
-use Rattle.dob_run.proofs.Manned.{zip_at, seat_there, are_linked, seat_at, crew_many, crew_low, outlet_at, inlet_at}
-use Rattle.dob_run.proofs.Places.{each_more, none_at, get_map, map_got, next_is, then_left, gone_all}
+use Rattle.dob_run.proofs.Manned.{zip_at, seat_there, are_linked, seat_at, crew_many, crew_low, outlet_at}
+use Rattle.dob_run.proofs.Places.{at_row, each_more, none_at, get_map, map_got, next_is, then_left, gone_all}
 
 -- ---- workers, one by one
 
@@ -151,7 +152,7 @@ own_split whole own last =
 -- the items of a node that a runner has applied
 abbrev applied_by : Option Runner → ℕ → List Item
 applied_by None from = []
-applied_by (Some runner) from = applied_from runner.node runner.mail.inlets.items from
+applied_by (Some runner) from = applied_from runner.node runner.mail.inlet from
 
 module _ (board : Board) (set : PieceSet) (size : ℕ) (runners : List Runner) (turned : Turned) (crew : IsCrew board (map mail_of runners)) (left : HasLeft board.nodes runners turned)
     (are : AreRunnersFor set size runners) where
@@ -173,7 +174,7 @@ module _ (board : Board) (set : PieceSet) (size : ℕ) (runners : List Runner) (
       let many_nodes : runner.node.n ≡ board.nodes = law.of.2 ∙ (seat_at board runners crew i runner at).nodes in
       let own : planned runner.node i ≡ applied_by (Some runner) i ++ runner.node.own.items =
       ap (λ (k : ℕ). planned runner.node k) (sym id) ∙ sym (own_split (planned runner.node runner.node.id) runner.node.own.items law.own)
-      ∙ ap (λ (items : List Item). items ++ runner.node.own.items) (sym (applied_here runner.node runner.mail.inlets.items i (sym id))) in
+      ∙ ap (λ (items : List Item). items ++ runner.node.own.items) (sym (applied_here runner.node runner.mail.inlet i (sym id))) in
       let knows : KnowsRight set board.nodes i runner.node.share runner.node.history.settlements (λ from. applied_by (Some runner) from) =
       subst (λ (p : PieceSet × ℕ × ℕ). KnowsRight p.0 p.1 p.2 runner.node.share runner.node.history.settlements (λ from. applied_by (Some runner) from))
       (λ q. (law.of.0 q, many_nodes q, id q)) law.knows in
@@ -184,27 +185,28 @@ module _ (board : Board) (set : PieceSet) (size : ℕ) (runners : List Runner) (
       } in
       subst (λ (o : Option Runner). IsWorker set board.nodes i (λ from. applied_by o from) worker) (sym at) here
 
-  applied_of : (i j : ℕ) (to : Runner) (inlet : Inlet) → slice_get runners j ≡ Some to → slice_get to.mail.inlets.items i ≡ Some inlet → i ≢ j →
-      applied_by (slice_get runners j) i ≡ items_of_batches (worked inlet)
-  applied_of i j to inlet at into apart =
+  applied_of : (i j : ℕ) (to : Runner) → slice_get runners j ≡ Some to → i ≢ j →
+      applied_by (slice_get runners j) i ≡ items_of_batches (worked_from to.mail.inlet i)
+  applied_of i j to at apart =
       ap (λ (o : Option Runner). applied_by o i) at
-      ∙ applied_else to.node to.mail.inlets.items i (λ same. apart (same ∙ (lawful_at j to at).of.1 ∙ (seat_at board runners crew j to at).node))
-      ∙ ap items_worked into
+      ∙ applied_else to.node to.mail.inlet i (λ same. apart (same ∙ (lawful_at j to at).of.1 ∙ (seat_at board runners crew j to at).node))
 
-  link_is : (i j : ℕ) (sender taker : Worker) (from to : Runner) (outlet : Outlet) (inlet : Inlet) (link : Rejoined) → slice_get runners i ≡ Some from →
+  link_is : (i j : ℕ) (sender taker : Worker) (from to : Runner) (outlet : Outlet) (link : Rejoined) → slice_get runners i ≡ Some from →
       slice_get runners j ≡ Some to → sender.node ≡ from.node → sender.sending.items ≡ hands_out from.mail → taker.taking.items ≡ hands_in to.mail →
-      slice_get from.mail.outlets.items j ≡ Some outlet → slice_get to.mail.inlets.items i ≡ Some inlet → IsJoined outlet.end inlet.end link →
+      slice_get from.mail.outlets.items j ≡ Some outlet → IsJoined i outlet.end to.mail.inlet.end link →
       IsLink board.nodes size turned.closed.words.items i j sender taker (applied_by (slice_get runners j) i) link
-  link_is i j sender taker from to outlet inlet link at_i at_j node_is out_is into_is out into joined =
+  link_is i j sender taker from to outlet link at_i at_j node_is out_is into_is out joined =
       let low_i = crew_low board runners crew i from at_i in
       let low_j = crew_low board runners crew j to at_j in
+      let low : i < to.mail.seat.nodes = subst (λ (m : ℕ). i < m) (sym (seat_at board runners crew j to at_j).nodes) low_i in
+      let inlet : Inlet = to.mail.inlet in
       record {
         sent = sent_by outlet.end;
-        received = taken_by inlet.end;
+        received = taken_of inlet.end i;
         sending = outlet.hand;
-        taking = inlet.hand;
+        taking = held_from inlet.hand i;
         sending_is = ap (λ (l : List (Option BatchView)). slice_get l j) out_is ∙ get_map outlet_hand from.mail.outlets.items j outlet out;
-        taking_is = ap (λ (l : List (Option BatchView)). slice_get l i) into_is ∙ get_map inlet_hand to.mail.inlets.items i inlet into;
+        taking_is = ap (λ (l : List (Option BatchView)). slice_get l i) into_is ∙ at_row to.mail.seat.nodes i inlet.hand low;
         sent_count = joined.sent;
         received_count = joined.received;
         lawful = joined.lawful;
@@ -218,15 +220,15 @@ module _ (board : Board) (set : PieceSet) (size : ℕ) (runners : List Runner) (
         taken = omega (
           arith,
           left.words.taken j i to.mail.seat (seat_there runners j to at_j) low_i,
-          to.mail.taken i inlet into,
-          ap length inlet.last,
-          length-append (worked_of inlet.end inlet.hand) (in_hand inlet.hand),
+          to.mail.taken i low,
+          ap length (parts inlet i),
+          length-append (worked_from inlet i) (in_hand (held_from inlet.hand i)),
           joined.received,
         );
         planned_is = λ apart. subst (λ (node : Node). planned node j ≡ items_of_batches (sent_by outlet.end ++ in_hand outlet.hand) ++ (outbox_to node j).items) (sym node_is)
             (sends_at i j from outlet at_i out apart).items;
         small = λ apart k batch at. (sends_at i j from outlet at_i out apart).small k batch at;
-        applied_is = λ apart. applied_of i j to inlet at_j into apart;
+        applied_is = λ apart. applied_of i j to at_j apart ∙ ap (λ (bs : List BatchView). items_of_batches bs) (sym (front inlet i));
       }
 
   pub turned_is : IsTurned set board.nodes size turned
@@ -240,7 +242,6 @@ module _ (board : Board) (set : PieceSet) (size : ℕ) (runners : List Runner) (
         let from = left.workers i sender at_i in
         let to = left.workers j taker at_j in
         let outlet = outlet_at board runners crew i j from.0 from.1 (crew_low board runners crew j to.0 to.1) in
-        let inlet = inlet_at board runners crew i j to.0 to.1 (crew_low board runners crew i from.0 from.1) in
-        let link = left.links i j outlet.0 inlet.0 (are_linked runners i j from.0 to.0 outlet.0 inlet.0 from.1 to.1 outlet.1 inlet.1) in
-        (link.0, link.1, link_is i j sender taker from.0 to.0 outlet.0 inlet.0 link.0 from.1 to.1 from.2 from.3 to.4 outlet.1 inlet.1 link.2);
+        let link = left.links i j outlet.0 to.0.mail.inlet (are_linked runners i j from.0 to.0 outlet.0 to.0.mail.inlet from.1 to.1 outlet.1 refl) in
+        (link.0, link.1, link_is i j sender taker from.0 to.0 outlet.0 link.0 from.1 to.1 from.2 from.3 to.4 outlet.1 link.2);
   }

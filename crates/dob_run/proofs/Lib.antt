@@ -1,6 +1,7 @@
 -- The lemmas, in the order in which they are read. First lists and counts.
 pub mod Places  -- what stands where in a list, and in one that was changed
 pub mod Counted  -- the counts of links, after one link changed
+pub mod Senders  -- what came out of an inbox, of one sender
 -- The openings of the classes.
 pub mod Scanned  -- what was found of each class, in the order of the classes
 pub mod Openings  -- each piece set has openings, whether they were listed or not
@@ -15,14 +16,14 @@ pub mod Applied  -- what a node has applied from each node, after each step
 pub mod Keeping  -- what links, mails and runners keep, through each step
 pub mod Lawfuls  -- each step of a worker leaves it lawful
 pub mod Turning  -- what the parts of a turn do, by what their steps do
-pub mod Taking  -- what taking from one node after another does
+pub mod Taking  -- what taking from an inbox does
 pub mod Sending  -- what sending to one node after another does
 pub mod Pacing  -- how many batches go over each link in so many turns
--- The channels and mails of a crew.
-pub mod Laying  -- channels laid one by one
+-- The inboxes and mails of a crew.
+pub mod Rejoining  -- things dealt, rows joined and inboxes ended one by one
+pub mod Laying  -- inboxes laid one by one
 pub mod Seated  -- seats that get their links one by one, and their mails then
-pub mod Parting  -- mails taken apart one by one, and their channels' ends then
-pub mod Rejoining  -- ends dealt and channels ended one by one
+pub mod Parting  -- mails taken apart one by one, and their ends then
 -- Crews run by threads.
 pub mod RunFaults  -- from the faults that limits give to those of a crew
 pub mod Manned  -- the runners of a crew's mails, before and after their turns

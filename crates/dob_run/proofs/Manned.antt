@@ -8,11 +8,12 @@ use Rattle.dob_pieces.specs.declared.piece_set.PieceSet.{PieceSet}
 use Rattle.dob_pieces.proofs.Elements.{some_at}
 use Rattle.dob_board.specs.declared.board.Board.{Board}
 use Rattle.dob_board.specs.Seats.{IsSeatOf}
-use Rattle.dob_chan.specs.Ends.{ArePaired}
+use Rattle.dob_chan.specs.Ends.{IsEndOf}
 use Rattle.dob_run.specs.declared.hands.Outlet.{Outlet}
 use Rattle.dob_run.specs.declared.hands.Inlet.{Inlet}
 use Rattle.dob_run.specs.declared.mail.Mail.{Mail}
 use Rattle.dob_run.specs.declared.runner.Runner.{Runner}
+use Rattle.dob_run.specs.Links.{KeepsInlet}
 use Rattle.dob_run.specs.Closing.{AreLinked, seat_in, IsCrew}
 use Rattle.dob_run.specs.Opening.{IsNewMail, AreNewMails}
 use Rattle.dob_run.specs.Runners.{KeepsRunner, IsNew}
@@ -61,7 +62,7 @@ pub seat_there : (runners : List Runner) (k : ℕ) (runner : Runner) → slice_g
 seat_there runners k runner at = get_map seat_in (map mail_of runners) k runner.mail (get_map mail_of runners k runner at)
 
 pub are_linked : (runners : List Runner) (i j : ℕ) (from to : Runner) (outlet : Outlet) (inlet : Inlet) → slice_get runners i ≡ Some from →
-    slice_get runners j ≡ Some to → slice_get from.mail.outlets.items j ≡ Some outlet → slice_get to.mail.inlets.items i ≡ Some inlet →
+    slice_get runners j ≡ Some to → slice_get from.mail.outlets.items j ≡ Some outlet → to.mail.inlet ≡ inlet →
     AreLinked (map mail_of runners) i j outlet inlet
 are_linked runners i j from to outlet inlet sends takes out into = record {
   sender = from.mail;
@@ -86,10 +87,6 @@ module _ (board : Board) (runners : List Runner) (crew : IsCrew board (map mail_
   pub outlet_at : (i j : ℕ) (from : Runner) → slice_get runners i ≡ Some from → j < board.nodes →
       (outlet : Outlet) × (slice_get from.mail.outlets.items j ≡ Some outlet)
   outlet_at i j from at low = some_at from.mail.outlets.items j (omega (arith, from.mail.outlets_len, (seat_at i from at).nodes, low))
-
-  pub inlet_at : (i j : ℕ) (to : Runner) → slice_get runners j ≡ Some to → i < board.nodes →
-      (inlet : Inlet) × (slice_get to.mail.inlets.items i ≡ Some inlet)
-  inlet_at i j to at low = some_at to.mail.inlets.items i (omega (arith, to.mail.inlets_len, (seat_at j to at).nodes, low))
 
 -- a runner of which it is known where it was before its turns
 was_at : (old new : List Runner) (k : ℕ) (mail : Mail) → AllZip KeepsRunner old new → slice_get (map mail_of new) k ≡ Some mail →
@@ -119,14 +116,12 @@ crew_kept board old new crew kept = record {
       let from = was_at old new i linked.sender kept linked.sends in
       let to = was_at old new j linked.taker kept linked.takes in
       let out : slice_get from.1.mail.outlets.items j ≡ Some outlet = ap (λ (m : Mail). slice_get m.outlets.items j) from.4 ∙ linked.out in
-      let into : slice_get to.1.mail.inlets.items i ≡ Some inlet = ap (λ (m : Mail). slice_get m.inlets.items i) to.4 ∙ linked.into in
+      let into : to.1.mail.inlet ≡ inlet = ap (λ (m : Mail). m.inlet) to.4 ∙ linked.into in
       let outlet_before = some_at from.0.mail.outlets.items j
       (omega (arith, slice_get_within from.1.mail.outlets.items j outlet out, from.1.mail.outlets_len, from.0.mail.outlets_len, from.3.mail.seat.nodes)) in
-      let inlet_before = some_at to.0.mail.inlets.items i
-      (omega (arith, slice_get_within to.1.mail.inlets.items i inlet into, to.1.mail.inlets_len, to.0.mail.inlets_len, to.3.mail.seat.nodes)) in
       let sends = from.3.mail.outlets j outlet_before.0 outlet outlet_before.1 out in
-      let takes = to.3.mail.inlets i inlet_before.0 inlet inlet_before.1 into in
-      let were : ArePaired outlet_before.0.end inlet_before.0.end = crew.paired i j outlet_before.0 inlet_before.0
-      (are_linked old i j from.0 to.0 outlet_before.0 inlet_before.0 from.2 to.2 outlet_before.1 inlet_before.1) in
-      takes.0 ∙ were ∙ sym sends.0;
+      let takes = subst (λ (i : Inlet). KeepsInlet to.0.mail.inlet i) into to.3.mail.inlet in
+      let were : IsEndOf to.0.mail.inlet.end i outlet_before.0.end = crew.paired i j outlet_before.0 to.0.mail.inlet
+      (are_linked old i j from.0 to.0 outlet_before.0 to.0.mail.inlet from.2 to.2 outlet_before.1 refl) in
+      (sends.0.0 ∙ were.0 ∙ sym takes.0.0, sends.0.1 ∙ were.1);
 }

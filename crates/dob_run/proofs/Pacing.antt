@@ -12,7 +12,7 @@ use Rattle.dob_run.specs.declared.mail.Mail.{Mail}
 use Rattle.dob_run.specs.declared.runner.Runner.{Runner}
 use Rattle.dob_run.specs.Keeps.{KeepsMail}
 use Rattle.dob_run.specs.Links.{offered}
-use Rattle.dob_run.specs.Rounds.{TakesAll, SendsAll, AddsFew, Works}
+use Rattle.dob_run.specs.Rounds.{Takes, SendsAll, AddsFew, Works}
 use Rattle.dob_run.specs.Runners.{GoesOn, HasFailed, StepsBy}
 use Rattle.dob_run.proofs.Keeping.{there_is}
 
@@ -20,7 +20,7 @@ use Rattle.dob_run.proofs.Keeping.{there_is}
 pub adds_none : (mail : Mail) → AddsFew 0 mail mail
 adds_none mail = record {
   out = λ j before after was is. (let same : before ≡ after = same_Some before after (sym was ∙ is) in omega (arith, ap (λ (o : Outlet). length (offered o)) same));
-  into = λ j before after was is. (let same : before ≡ after = same_Some before after (sym was ∙ is) in omega (arith, ap (λ (i : Inlet). length (taken_by i.end)) same));
+  into = omega arith;
 }
 
 -- and one more in one turn more
@@ -29,13 +29,11 @@ adds_more count a b c kept few one = record {
   out = λ j before after was is.
       let there = there_is a.outlets.items b.outlets.items j before (omega (arith, a.outlets_len, b.outlets_len, kept.seat.nodes)) was in
       omega (arith, few.out j before there.0 was there.1, one.out j there.0 after there.1 is);
-  into = λ j before after was is.
-      let there = there_is a.inlets.items b.inlets.items j before (omega (arith, a.inlets_len, b.inlets_len, kept.seat.nodes)) was in
-      omega (arith, few.into j before there.0 was there.1, one.into j there.0 after there.1 is);
+  into = omega (arith, few.into, one.into);
 }
 
 -- one where batches were taken, and then others were sent
-pub adds_one : (a b d e : Runner) (small took sent : Bool) → TakesAll a b took → d.mail ≡ b.mail → SendsAll small d e sent → AddsFew 1 a.mail e.mail
+pub adds_one : (a b d e : Runner) (small took sent : Bool) → Takes a b took → d.mail ≡ b.mail → SendsAll small d e sent → AddsFew 1 a.mail e.mail
 adds_one a b d e small took sent takes same sends = record {
   out = λ j before after was is.
       let there : slice_get d.mail.outlets.items j ≡ Some before =
@@ -49,18 +47,12 @@ adds_one a b d e small took sent takes same sends = record {
             omega (arith, ap (λ (o : Outlet). length (offered o)) alike)
         | inr other ↦ (sends.sent j low other before after there is).1.few
       ];
-  into = λ j before after was is.
-      let there : slice_get b.mail.inlets.items j ≡ Some after =
-      ap (λ (m : Mail). slice_get m.inlets.items j) (sym same) ∙ ap (λ (l : List Inlet). slice_get l j) (sym sends.inlets) ∙ is in
-      let low : j < a.mail.seat.nodes = omega (arith, slice_get_within a.mail.inlets.items j before was, a.mail.inlets_len) in
-      elim (cases_eq j a.mail.seat.node) [
-        | inl itself ↦
-            let still : slice_get b.mail.inlets.items j ≡ slice_get a.mail.inlets.items j =
-            subst (λ (k : ℕ). slice_get b.mail.inlets.items k ≡ slice_get a.mail.inlets.items k) (sym itself) takes.own in
-            let alike : before ≡ after = same_Some before after (sym was ∙ sym still ∙ there) in
-            omega (arith, ap (λ (i : Inlet). length (taken_by i.end)) alike)
-        | inr other ↦ (takes.taken j low other before after was there).1.few
-      ];
+  into = omega (
+    arith,
+    takes.taken.few,
+    ap (λ (m : Mail). length (taken_by m.inlet.end)) same,
+    ap (λ (i : Inlet). length (taken_by i.end)) sends.inlet,
+  );
 }
 
 -- a turn's work is a step of the runner

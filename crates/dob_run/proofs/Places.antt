@@ -1,8 +1,11 @@
 -- What stands where in a list, also after one thing more, after one was exchanged, and in a function of all its things.
-use Rattle.std.proofs.Common.{◌≡◌, ◌≢◌, ℕ, zero, suc, ◌+◌, ◌≤◌, inl, inr, List, [], ◌∷◌, ◌++◌, length, map, drop, take}
+use Rattle.std.proofs.Common.{◌≡◌, ◌≢◌, ℕ, zero, suc, ◌+◌, ◌<◌, ◌≤◌, Option, inl, inr, List, [], ◌∷◌, ◌++◌, length, map, drop, take}
 use Rattle.std.proofs.Common.{Some, refl, sym, ap, ◌∙◌, subst, arith, append_assoc, length-append}
 use Rattle.std.proofs.lemmas.List.{append-nil}
 use Rattle.std.specs.Prelude.{slice_get}
+use Rattle.std.specs.List.{range_with_len}
+use Rattle.dob_update.specs.Batches.{BatchView}
+use Rattle.dob_run.specs.Hands.{held_from, hand_row}
 use Rattle.std.specs.declared.vec.Vec.{Vec}
 use Rattle.std.proofs.lemmas.Option.{slice_get_within, same_Some}
 use Rattle.dob_pieces.proofs.Elements.{at_end}
@@ -100,3 +103,35 @@ module _ {A B : Type 0} (f : A → B) where
   takes_next xs k x done grown at so_far is =
       let one_more : suc k ≡ k + 1 = omega arith in
       is ∙ ap (λ (l : List B). l ++ f x ∷ []) so_far ∙ sym (take_next xs k x at) ∙ ap (λ (m : ℕ). map f (take m xs)) one_more
+
+-- ---- a function of the first numbers
+
+spread_more : {B : Type 0} (f : ℕ → B) (a n : ℕ) → map f (range_with_len a (suc n)) ≡ map f (range_with_len a n) ++ f (a + n) ∷ []
+spread_more {B} f a zero = let same : a ≡ a + 0 = omega arith in ap (λ (k : ℕ). f k ∷ []) same
+spread_more {B} f a (suc n) =
+    let same : (a + 1) + n ≡ a + suc n = omega arith in
+    ap (λ (l : List B). f a ∷ l) (spread_more f (a + 1) n ∙ ap (λ (k : ℕ). map f (range_with_len (a + 1) n) ++ f k ∷ []) same)
+
+at_spread : {B : Type 0} (f : ℕ → B) (a n k : ℕ) → k < n → slice_get (map f (range_with_len a n)) k ≡ Some (f (a + k))
+at_spread f a zero k low = absurd (omega (arith, low))
+at_spread f a (suc n) zero low = let same : a ≡ a + 0 = omega arith in ap (λ (k : ℕ). Some (f k)) same
+at_spread f a (suc n) (suc k) low =
+    let same : (a + 1) + k ≡ a + suc k = omega arith in at_spread f (a + 1) n k (omega (arith, low)) ∙ ap (λ (j : ℕ). Some (f j)) same
+
+-- what stands at a sender's place in the row of a hand
+pub at_row : (n k : ℕ) (hand : Option BatchView) → k < n → slice_get (hand_row n hand) k ≡ Some (held_from hand k)
+at_row n k hand low = let same : 0 + k ≡ k = omega arith in at_spread (held_from hand) 0 n k low ∙ ap (λ (j : ℕ). Some (held_from hand j)) same
+
+pub row_grows : (n : ℕ) (hand : Option BatchView) (hands : List (Option BatchView)) (next : Option BatchView) → hands ≡ hand_row n hand →
+    next ≡ held_from hand n → hands ++ next ∷ [] ≡ hand_row (n + 1) hand
+row_grows n hand hands next so_far is =
+    let one : suc n ≡ n + 1 = omega arith in
+    let same : n ≡ 0 + n = omega arith in
+    let last : next ≡ held_from hand (0 + n) = is ∙ ap (λ (j : ℕ). held_from hand j) same in
+    let both : hands ++ next ∷ [] ≡ hand_row n hand ++ held_from hand (0 + n) ∷ [] = λ i. so_far i ++ last i ∷ [] in
+    both ∙ sym (spread_more (held_from hand) 0 n) ∙ ap (λ (k : ℕ). hand_row k hand) one
+
+-- behind the first list
+pub behind : {A : Type 0} (xs ys : List A) (k : ℕ) → slice_get (xs ++ ys) (length xs + k) ≡ slice_get ys k
+behind [] ys k = let same : 0 + k ≡ k = omega arith in ap (slice_get ys) same
+behind (x ∷ xs) ys k = let same : length (x ∷ xs) + k ≡ suc (length xs + k) = omega arith in ap (slice_get (x ∷ (xs ++ ys))) same ∙ behind xs ys k

@@ -15,7 +15,7 @@ use Rattle.dob_run.specs.declared.mail.Mail.{Mail}
 use Rattle.dob_run.specs.declared.runner.Runner.{Runner}
 use Rattle.dob_run.specs.Hands.{in_hand}
 use Rattle.dob_run.specs.Keeps.{KeepsMail}
-use Rattle.dob_run.specs.Links.{offered, KeepsOutlet}
+use Rattle.dob_run.specs.Links.{offered, KeepsOutlet, IsFull}
 use Rattle.dob_run.specs.Mails.{HasChangedOne}
 use Rattle.dob_run.specs.Rounds.{HasToSend, IsToFill, IsMoreOut, CutsFor, CutsLeft, FillsFor, IsSent, SendsTo, SendsBelow}
 use Rattle.dob_run.specs.Runners.{GoesOn, StepsBy}
@@ -36,6 +36,7 @@ sent_still small to b c one before after outbox size sent = record {
   one = sent.one;
   none = sent.none;
   spent = λ unsent out has. sent.spent unsent out (to_send_still small to b c outbox size has);
+  full = sent.full;
 }
 
 -- none yet
@@ -46,7 +47,7 @@ none_sent small r unfailed = record {
   itself = refl;
   own = refl;
   later = λ j high. refl;
-  inlets = refl;
+  inlet = refl;
 }
 
 -- and the next
@@ -73,7 +74,7 @@ sends_more small k a b c did one so_far next = record {
   ];
   own = next.own ∙ so_far.own;
   later = λ j high. next.others j (λ same. absurd (omega (arith, same, high))) ∙ so_far.later j (omega (arith, high));
-  inlets = next.inlets ∙ so_far.inlets;
+  inlet = next.inlet ∙ so_far.inlet;
 }
   where
     first : (x y : Bool) → x ≡ true → (x || y) ≡ true
@@ -93,7 +94,7 @@ uncut to r unfailed = record {
   nothing = λ is. (refl, refl);
   own = refl;
   others = λ j other. refl;
-  inlets = refl;
+  inlet = refl;
 }
 
 -- nor where nothing was left to send
@@ -110,23 +111,23 @@ cut_nothing to old new going unfailed node mail set size empty = (
     nothing = λ is. (node, mail);
     own = ap (λ n. n.own.items) node;
     others = λ j other. ap (λ n. outbox_to n j) node;
-    inlets = ap (λ (m : Mail). m.inlets.items) mail;
+    inlet = ap (λ (m : Mail). m.inlet) mail;
   },
   (λ is. empty, λ is. refl),
 )
 
 -- and one is cut
 pub cut_more : (to size : ℕ) (batch : BatchView) (old new : Runner) → GoesOn old new → HasCut to size batch old.node new.node →
-    HasChangedOne (IsMoreOut batch) to old.mail.outlets.items new.mail.outlets.items → new.mail.inlets.items ≡ old.mail.inlets.items →
+    HasChangedOne (IsMoreOut batch) to old.mail.outlets.items new.mail.outlets.items → new.mail.inlet ≡ old.mail.inlet →
     (outbox_to old.node to).items ≢ [] → CutsLeft to old new true
-cut_more to size batch old new goes cut offer inlets some = (
+cut_more to size batch old new goes cut offer inlet some = (
   record {
     goes = goes;
     one = λ did. (batch, offer);
     nothing = λ never. absurd (cc);
     own = cut.kept.2;
     others = cut.others;
-    inlets = inlets;
+    inlet = inlet;
   },
   (λ never. absurd (cc), λ empty. absurd (some empty)),
 )
@@ -157,7 +158,7 @@ own_unsent small r to unfailed is = record {
   own = refl;
   outboxes = λ j other. refl;
   others = λ j other. refl;
-  inlets = refl;
+  inlet = refl;
 }
 
 abbrev pub IsSameOut : Outlet → Outlet → Type 0
@@ -222,19 +223,21 @@ module _ (to : ℕ) (small : Bool) (old mid : Runner) (any : Bool) (apart : to �
             to_send_still small to old mid (ap (λ n. outbox_to n to) (fills.0.nothing none).0) fills.0.goes.keeps.size has,
             λ outlet at. out outlet (ap (λ (m : Mail). slice_get m.outlets.items to) (fills.0.nothing none).1 ∙ at),
           ));
+          full = λ unsent stuck. absurd (stuck (out after is));
         };
     own = fills.0.own;
     outboxes = fills.0.others;
     others = others;
-    inlets = fills.0.inlets;
+    inlet = fills.0.inlet;
   }
 
-  -- one does, and was offered to the channel
-  module _ (new : Runner) (goes : GoesOn old new) (node : new.node ≡ mid.node) (inlets : new.mail.inlets.items ≡ mid.mail.inlets.items)
+  -- one does, and was offered to the inbox
+  module _ (new : Runner) (goes : GoesOn old new) (node : new.node ≡ mid.node) (inlet : new.mail.inlet ≡ mid.mail.inlet)
       (full : (outlet : Outlet) → slice_get mid.mail.outlets.items to ≡ Some outlet → outlet.hand ≢ None)
       (offer : HasChangedOne IsSameOut to mid.mail.outlets.items new.mail.outlets.items)
       (tried : (before after : Outlet) → slice_get mid.mail.outlets.items to ≡ Some before → slice_get new.mail.outlets.items to ≡ Some after →
-      (after.hand ≡ before.hand) ⊎ (after.hand ≡ None)) where
+      (after.hand ≡ before.hand) ⊎ (after.hand ≡ None))
+      (was_full : (after : Outlet) → slice_get new.mail.outlets.items to ≡ Some after → after.hand ≢ None → IsFull after) where
     same_offer : (after : Outlet) → slice_get new.mail.outlets.items to ≡ Some after → offered after ≡ offered offer.0
     same_offer after is = (changed_at IsSameOut mid.mail.outlets.items new.mail.outlets.items to offer offer.0 after offer.2 is).1
 
@@ -277,11 +280,12 @@ module _ (to : ℕ) (small : Bool) (old mid : Runner) (any : Bool) (apart : to �
         one = λ never. absurd (cc);
         none = λ left. left_it before after was is (unsent refl after is);
         spent = λ left empty has. unsent refl after is empty;
+        full = λ left stuck. was_full after is stuck;
       };
       own = ap (λ n. n.own.items) node ∙ fills.0.own;
       outboxes = λ j other. ap (λ n. outbox_to n j) node ∙ fills.0.others j other;
       others = else_where;
-      inlets = inlets ∙ fills.0.inlets;
+      inlet = inlet ∙ fills.0.inlet;
     }
     sends_offered false unsent out = record {
       goes = goes;
@@ -291,9 +295,10 @@ module _ (to : ℕ) (small : Bool) (old mid : Runner) (any : Bool) (apart : to �
         one = λ sent. took_it before after was is (out refl after is);
         none = λ never. absurd (cc);
         spent = λ never. absurd (cc);
+        full = λ never. absurd (cc);
       };
       own = ap (λ n. n.own.items) node ∙ fills.0.own;
       outboxes = λ j other. ap (λ n. outbox_to n j) node ∙ fills.0.others j other;
       others = else_where;
-      inlets = inlets ∙ fills.0.inlets;
+      inlet = inlet ∙ fills.0.inlet;
     }

@@ -1,10 +1,10 @@
 -- A crew that has stopped: what its board's words say of its runners, and that its end leaves what it should.
-use Rattle.std.proofs.Common.{◌≡◌, ◌≢◌, ℕ, ◌+◌, ◌*◌, ◌<◌, ◌-◌, ◌≤◌, inl, inr, min, List, ◌++◌, Option, Some, None}
+use Rattle.std.proofs.Common.{◌≡◌, ◌≢◌, ℕ, ◌+◌, ◌*◌, ◌<◌, ◌≤◌, inl, inr, List, ◌++◌, Option, Some, None}
 use Rattle.std.proofs.Common.{length, length-append, map, false, refl, sym, ap, ◌∙◌, subst, arith}
 use Rattle.std.proofs.Common.{Global}
 use Rattle.std.specs.Prelude.{slice_get, slice_index}
 use Rattle.std.specs.declared.vec.Vec.{Vec}
-use Rattle.std.proofs.lemmas.List.{length-map, length-take, append-nil}
+use Rattle.std.proofs.lemmas.List.{length-map, append-nil}
 use Rattle.dob_pieces.specs.declared.piece_set.PieceSet.{PieceSet}
 use Rattle.dob_pieces.proofs.Elements.{some_at}
 use Rattle.dob_rank.specs.Marks.{classes_of}
@@ -17,8 +17,8 @@ use Rattle.dob_board.specs.declared.halt.Halt.TheVariants.{Running, Ended, Faile
 use Rattle.dob_board.specs.Words.{posted_word, halt_word}
 use Rattle.dob_board.specs.Seats.{AreWords}
 use Rattle.dob_board.proofs.Halting.{same_halt}
-use Rattle.dob_chan.specs.declared.calls.Rejoined.{Rejoined}
-use Rattle.dob_chan.specs.Ends.{sent_by, taken_by}
+use Rattle.dob_chan.specs.declared.ends.Rejoined.{Rejoined}
+use Rattle.dob_chan.specs.Ends.{sent_by, taken_of}
 use Rattle.dob_node.specs.declared.cause.Cause.{Cause}
 use Rattle.dob_node.specs.declared.node.Node.{Node}
 use Rattle.dob_node.specs.Nodes.{IsIdle}
@@ -29,8 +29,9 @@ use Rattle.dob_run.specs.declared.hands.Inlet.{Inlet}
 use Rattle.dob_run.specs.declared.runner.Runner.{Runner}
 use Rattle.dob_run.specs.declared.closing.Ended.{Ended as Left}
 use Rattle.dob_run.specs.declared.finishing.Built.{Built}
-use Rattle.dob_run.specs.Hands.{in_hand}
-use Rattle.dob_run.specs.Links.{offered, worked}
+use Rattle.dob_run.specs.Hands.{in_hand, held_from}
+use Rattle.dob_run.specs.Links.{offered, worked_from}
+use Rattle.dob_run.proofs.Senders.{parts}
 use Rattle.dob_run.specs.Mails.{AreOut}
 use Rattle.dob_run.specs.Closing.{seat_in, IsCrew, HasEnded}
 use Rattle.dob_run.specs.Ending.{IsJoined}
@@ -41,7 +42,7 @@ use Rattle.dob_run.specs.Built.{needed, IsDone, IsBuilt}
 use Rattle.dob_run.specs.Finished.{AreJoinedBy, AreFinished, AreShown}
 use Rattle.dob_run.specs.Finishing.{HaveStopped, IsFailure, IsFailureOf, failed_of, IsOwner, AreOwners, AreShownBelow}
 use Rattle.dob_run.proofs.Finished.{nothing_of, finished_right}
-use Rattle.dob_run.proofs.Manned.{seat_there, are_linked, seat_at, crew_many, crew_low, outlet_at, inlet_at}
+use Rattle.dob_run.proofs.Manned.{seat_there, are_linked, seat_at, crew_many, crew_low, outlet_at}
 use Rattle.dob_run.proofs.Needed.{needed_fits}
 use Rattle.dob_run.proofs.Openings.{some_openings}
 use Rattle.dob_run.proofs.Places.{get_map, map_got}
@@ -172,19 +173,19 @@ module _ (board : Board) (set : PieceSet) (size : ℕ) (runners : List Runner) (
         };
         white = white;
         counts = λ i j sender taker outlet inlet joined. counts i j sender taker joined.sends joined.takes;
-        channels = λ i j sender taker outlet inlet joined.
+        inboxes = λ i j sender taker outlet inlet joined.
             let links = are_linked runners i j sender taker outlet inlet joined.sends joined.takes joined.out joined.into in
             let link = has.links i j outlet inlet links in (link.0.waiting.items, link.2.lawful);
       }
 
       link_is : (values : List Value) → AreShown set board.nodes runners values →
           (i j : ℕ) (sender taker : Runner) (outlet : Outlet) (inlet : Inlet) (link : Rejoined) → AreJoinedBy runners i j sender taker outlet inlet →
-          IsJoined outlet.end inlet.end link → IsDone set board.nodes size words values i j link
+          IsJoined i outlet.end inlet.end link → IsDone set board.nodes size words values i j link
       link_is values shown i j sender taker outlet inlet link joined is = record {
         posted = posted;
         taken = sym (are.all_taken ended i j low_i low_j) ∙ posted;
-        received = omega (arith, is.sent, is.received, sent, same, front, took);
-        waiting = nothing_of link.waiting.items (omega (arith, sent, same, front, took));
+        received = omega (arith, is.sent, is.received, sent, same, took);
+        waiting = nothing_of link.waiting.items (omega (arith, sent, same, took));
         enough = λ apart. subst (λ (m : ℕ). needed set board.nodes values i j ≤ m * size) (sym is_sent)
             (needed_fits set board.nodes size i j sender.node sender.mail outlet values (law i sender joined.sends) (rest i sender joined.sends).0
             (id_is i sender joined.sends) (n_is i sender joined.sends) apart joined.out shown.whole
@@ -210,18 +211,18 @@ module _ (board : Board) (set : PieceSet) (size : ℕ) (runners : List Runner) (
           posted : slice_index words (posted_word board.nodes i j) ≡ link.sent
           posted = are.posted i j sender.mail.seat (seat_there runners i sender joined.sends) low_j ∙ sender.mail.posted j outlet joined.out ∙ sym is_sent
 
-          same : length (worked inlet) ≡ length (sent_by outlet.end)
-          same = sym (taker.mail.taken i inlet joined.into) ∙ sym (counts i j sender taker joined.sends joined.takes)
-              ∙ sender.mail.posted j outlet joined.out ∙ ap length offered_is
+          taken_is : slice_index taker.mail.seat.taken.items i ≡ length (worked_from inlet i)
+          taken_is = taker.mail.taken i (subst (λ (m : ℕ). i < m) (sym (seat_at board runners crew j taker joined.takes).nodes) low_i)
+              ∙ ap (λ (l : Inlet). length (worked_from l i)) joined.into
 
-          sent : length (sent_by outlet.end) ≡ length (taken_by inlet.end) + length link.waiting.items
-          sent = ap length is.lawful ∙ length-append (taken_by inlet.end) link.waiting.items
+          same : length (worked_from inlet i) ≡ length (sent_by outlet.end)
+          same = sym taken_is ∙ sym (counts i j sender taker joined.sends joined.takes) ∙ sender.mail.posted j outlet joined.out ∙ ap length offered_is
 
-          front : length (worked inlet) ≡ min (length (taken_by inlet.end) - length (in_hand inlet.hand)) (length (taken_by inlet.end))
-          front = length-take (length (taken_by inlet.end) - length (in_hand inlet.hand)) (taken_by inlet.end)
+          sent : length (sent_by outlet.end) ≡ length (taken_of inlet.end i) + length link.waiting.items
+          sent = ap length is.lawful ∙ length-append (taken_of inlet.end i) link.waiting.items
 
-          took : length (worked inlet) ≤ length (taken_by inlet.end)
-          took = omega (arith, front)
+          took : length (worked_from inlet i) ≤ length (taken_of inlet.end i)
+          took = omega (arith, ap length (parts inlet i), length-append (worked_from inlet i) (in_hand (held_from inlet.hand i)))
 
       pub built_is : (nodes : List Node) (built : Built) → nodes ≡ map node_of runners → built.table.set ≡ set →
           AreShownBelow (length nodes) (classes_of set) nodes built.table.values → built.closed ≡ left.closed → built.links ≡ left.links →
@@ -241,13 +242,13 @@ module _ (board : Board) (set : PieceSet) (size : ℕ) (runners : List Runner) (
                 let from = there i low_i in
                 let to = there j low_j in
                 let outlet = outlet_at board runners crew i j from.0 from.1 low_j in
-                let inlet = inlet_at board runners crew i j to.0 to.1 low_i in
-                let joined : AreJoinedBy runners i j from.0 to.0 outlet.0 inlet.0 =
-                record { sends = from.1; takes = to.1; out = outlet.1; into = inlet.1 } in
-                let link = has.links i j outlet.0 inlet.0 (are_linked runners i j from.0 to.0 outlet.0 inlet.0 from.1 to.1 outlet.1 inlet.1) in (
+                let inlet : Inlet = to.0.mail.inlet in
+                let joined : AreJoinedBy runners i j from.0 to.0 outlet.0 inlet =
+                record { sends = from.1; takes = to.1; out = outlet.1; into = refl } in
+                let link = has.links i j outlet.0 inlet (are_linked runners i j from.0 to.0 outlet.0 inlet from.1 to.1 outlet.1 refl) in (
                   link.0,
                   ap (λ (v : Vec Rejoined Global). slice_get v.items (i * board.nodes + j)) links ∙ link.1,
                   subst (λ (l : List ℕ). IsDone set board.nodes size l values i j link.0) items
-                      (link_is values by_runners i j from.0 to.0 outlet.0 inlet.0 link.0 joined link.2),
+                      (link_is values by_runners i j from.0 to.0 outlet.0 inlet link.0 joined link.2),
                 );
           }

@@ -10,7 +10,7 @@ use Rattle.dob_value.specs.Follows.{IsValueTable}
 use Rattle.dob_unmove.specs.Edges.{predecessors}
 use Rattle.dob_share.specs.Owners.{owner_of}
 use Rattle.dob_board.specs.Words.{posted_word, taken_word, word_count}
-use Rattle.dob_chan.specs.declared.calls.Rejoined.{Rejoined}
+use Rattle.dob_chan.specs.declared.ends.Rejoined.{Rejoined}
 use Rattle.dob_run.specs.declared.finishing.Built.{Built}
 
 -- how many items tell node j of the value of a class: one for each move into it from a class of node j

@@ -21,7 +21,7 @@ fault_text Sizes = sizes_text
 fault_text (Stopped node why) = stopped_text node why
 fault_text Memory = memory_text
 
--- a crew may have so many nodes, such batches and such channels
+-- a crew may have so many nodes, such batches and such inboxes
 abbrev pub AreWithin : ℕ → ℕ → ℕ → Type 0
 AreWithin n batch capacity = IsSize n × AreSizes batch capacity
 

@@ -9,7 +9,7 @@ use Rattle.dob_share.specs.Owners.{owner_of}
 use Rattle.dob_share.specs.Shares.{HasValueNow}
 use Rattle.dob_update.specs.Batches.{BatchView}
 use Rattle.dob_node.specs.Openings.{AreOpenings}
-use Rattle.dob_chan.specs.Ends.{sent_by, taken_by}
+use Rattle.dob_chan.specs.Ends.{sent_by, taken_of}
 use Rattle.dob_run.specs.declared.hands.Outlet.{Outlet}
 use Rattle.dob_run.specs.declared.hands.Inlet.{Inlet}
 use Rattle.dob_run.specs.declared.runner.Runner.{Runner}
@@ -21,23 +21,23 @@ pub record IsRunnerOf (set : PieceSet) (n place : ℕ) (runner : Runner) : Type 
   pub set_is : runner.set ≡ set
   pub lawful : IsLawful runner.set runner.size runner.node runner.mail
 
--- the outlet of runner i for j and the inlet of j for i
+-- the outlet of runner i for j and the inlet of j
 pub record AreJoinedBy (runners : List Runner) (i j : ℕ) (sender taker : Runner) (outlet : Outlet) (inlet : Inlet) : Type 0 where
   pub sends : slice_get runners i ≡ Some sender
   pub takes : slice_get runners j ≡ Some taker
   pub out : slice_get sender.mail.outlets.items j ≡ Some outlet
-  pub into : slice_get taker.mail.inlets.items i ≡ Some inlet
+  pub into : taker.mail.inlet ≡ inlet
 
 -- The crew of n has ended: each runner is lawful and white; on each link as many batches were posted as were taken, and what
--- came out of its channel is the first of what went into it.
+-- came out of the inbox of the first is the beginning of what the second sent.
 pub record AreFinished (set : PieceSet) (n : ℕ) (runners : List Runner) : Type 0 where
   pub count : length runners ≡ n
   pub each : (i : ℕ) (runner : Runner) → slice_get runners i ≡ Some runner → IsRunnerOf set n i runner
   pub white : (i : ℕ) (runner : Runner) → slice_get runners i ≡ Some runner → runner.mail.seat.black ≡ false
   pub counts : (i j : ℕ) (sender taker : Runner) (outlet : Outlet) (inlet : Inlet) → AreJoinedBy runners i j sender taker outlet inlet →
       slice_index sender.mail.seat.posted.items j ≡ slice_index taker.mail.seat.taken.items i
-  pub channels : (i j : ℕ) (sender taker : Runner) (outlet : Outlet) (inlet : Inlet) → AreJoinedBy runners i j sender taker outlet inlet →
-      (waiting : List BatchView) × (sent_by outlet.end ≡ taken_by inlet.end ++ waiting)
+  pub inboxes : (i j : ℕ) (sender taker : Runner) (outlet : Outlet) (inlet : Inlet) → AreJoinedBy runners i j sender taker outlet inlet →
+      (waiting : List BatchView) × (sent_by outlet.end ≡ taken_of inlet.end i ++ waiting)
 
 -- each value is what the owner of its class shows
 pub record AreShown (set : PieceSet) (n : ℕ) (runners : List Runner) (values : List Value) : Type 0 where

@@ -1,18 +1,18 @@
--- What the mail of a worker keeps, whatever it does: its seat and its channels.
+-- What the mail of a worker keeps, whatever it does: its seat and its inboxes.
 use Rattle.std.specs.Prelude.{◌≡◌}
 use Rattle.dob_board.specs.Seats.{IsSameSeat}
 use Rattle.dob_run.specs.declared.mail.Mail.{Mail}
 use Rattle.dob_run.specs.Links.{KeepsOutlet, KeepsInlet}
 use Rattle.dob_run.specs.Mails.{KeepsEach}
 
--- The mail is of the same seat, and each of its ends of the same channel; nothing is taken back.
+-- The mail is of the same seat, and each of its ends of the same inbox; nothing is taken back.
 pub record KeepsMail (old new : Mail) : Type 0 where
   pub seat : IsSameSeat old.seat new.seat
   pub outlets : KeepsEach KeepsOutlet old.outlets.items new.outlets.items
-  pub inlets : KeepsEach KeepsInlet old.inlets.items new.inlets.items
+  pub inlet : KeepsInlet old.inlet new.inlet
 
 -- its links are the same ones
 pub record HasSameLinks (old new : Mail) : Type 0 where
   pub seat : IsSameSeat old.seat new.seat
   pub outlets : new.outlets ≡ old.outlets
-  pub inlets : new.inlets ≡ old.inlets
+  pub inlet : new.inlet ≡ old.inlet

@@ -1,32 +1,43 @@
--- The channels of a crew: row i of the outlets and column i of the inlets are those of node i.
-use Rattle.std.specs.Prelude.{◌≡◌, ℕ, ◌<◌, ◌≤◌, List, [], ◌∷◌, ◌++◌, Some, None, length, slice_get}
+-- The inboxes of a crew: row i of the outlets and inlet i are those of node i.
+use Rattle.std.specs.Prelude.{◌≡◌, ℕ, List, [], None, Some, length, slice_get}
 use Rattle.std.specs.declared.vec.Vec.{Vec}
-use Rattle.dob_chan.specs.Ends.{sent_by, taken_by, capacity_of, ArePaired}
+use Rattle.dob_chan.specs.declared.ends.SendEnd.{SendEnd}
+use Rattle.dob_chan.specs.Ends.{sent_by, taken_by, senders_of, capacity_of, IsEndOf}
 use Rattle.dob_run.specs.declared.hands.Outlet.{Outlet}
 use Rattle.dob_run.specs.declared.hands.Inlet.{Inlet}
 use Rattle.dob_run.specs.Rows.{StandsAt, AreRows}
 
--- The outlet and the inlet are of one new channel of that capacity, and their hands are empty.
-pub record IsLaid (capacity : ℕ) (outlet : Outlet) (inlet : Inlet) : Type 0 where
-  pub paired : ArePaired outlet.end inlet.end
+-- an outlet with each of the ends, whose hand is empty
+pub record AreOutlets (sends : List SendEnd) (outlets : List Outlet) : Type 0 where
+  pub count : length outlets ≡ length sends
+  pub each : (k : ℕ) (outlet : Outlet) → slice_get outlets k ≡ Some outlet → (slice_get sends k ≡ Some outlet.end) × (outlet.hand ≡ None)
+
+-- The outlet sends to the inbox of the inlet as that sender; the inbox has that capacity, nothing was sent, and the hand is empty.
+pub record IsLaid (capacity from : ℕ) (outlet : Outlet) (inlet : Inlet) : Type 0 where
+  pub paired : IsEndOf inlet.end from outlet.end
   pub room : capacity_of outlet.end ≡ capacity
-  pub nothing : (sent_by outlet.end ≡ []) × (taken_by inlet.end ≡ [])
-  pub empty : (outlet.hand ≡ None) × (inlet.hand ≡ None)
+  pub nothing : sent_by outlet.end ≡ []
+  pub empty : outlet.hand ≡ None
 
--- The row has outlets to the nodes below a number, and the column of each of these has the inlet of its channel at its end.
-pub record IsRowLaid {Z : Type 0} (capacity upto : ℕ) (row : List Outlet) (old new : List (Vec Inlet Z)) : Type 0 where
-  pub long : length row ≡ upto
-  pub columns : length new ≡ length old
-  pub laid : (j : ℕ) (column : Vec Inlet Z) → j < upto → slice_get new j ≡ Some column → (before : Vec Inlet Z) × (outlet : Outlet) × (inlet : Inlet)
-      × (slice_get old j ≡ Some before) × (slice_get row j ≡ Some outlet) × (column.items ≡ before.items ++ inlet ∷ []) × IsLaid capacity outlet inlet
-  pub later : (j : ℕ) → upto ≤ j → slice_get new j ≡ slice_get old j
+-- The inbox of the inlet is for n senders, nothing was taken, and the hand is empty.
+pub record IsUntaken (n : ℕ) (inlet : Inlet) : Type 0 where
+  pub senders : senders_of inlet.end ≡ n
+  pub nothing : taken_by inlet.end ≡ []
+  pub empty : inlet.hand ≡ None
 
--- Of n nodes, those below a number have their outlets to all n, each of one channel with the inlet at its other end.
-pub record AreLaidUpto {Y Z : Type 0} (capacity n upto : ℕ) (outlets : List (Vec Outlet Y)) (inlets : List (Vec Inlet Z)) : Type 0 where
-  pub rows : AreRows upto n outlets
-  pub columns : AreRows n upto inlets
-  pub laid : (i j : ℕ) (outlet : Outlet) (inlet : Inlet) → StandsAt outlets i j outlet → StandsAt inlets j i inlet → IsLaid capacity outlet inlet
+-- the outlets of n nodes to one inbox, and its inlet
+pub record IsOneLaid (capacity n : ℕ) (outlets : List Outlet) (inlet : Inlet) : Type 0 where
+  pub count : length outlets ≡ n
+  pub laid : (i : ℕ) (outlet : Outlet) → slice_get outlets i ≡ Some outlet → IsLaid capacity i outlet inlet
+  pub untaken : IsUntaken n inlet
 
--- a channel for each two of n nodes, the same one twice included
-abbrev pub AreLaid : {Y Z : Type 0} → ℕ → ℕ → List (Vec Outlet Y) → List (Vec Inlet Z) → Type 0
+-- The inboxes of the nodes below a number are laid: each of n nodes has its outlet to each of them.
+pub record AreLaidUpto {Z : Type 0} (capacity n upto : ℕ) (outlets : List (Vec Outlet Z)) (inlets : List Inlet) : Type 0 where
+  pub rows : AreRows n upto outlets
+  pub count : length inlets ≡ upto
+  pub laid : (i j : ℕ) (outlet : Outlet) (inlet : Inlet) → StandsAt outlets i j outlet → slice_get inlets j ≡ Some inlet → IsLaid capacity i outlet inlet
+  pub untaken : (j : ℕ) (inlet : Inlet) → slice_get inlets j ≡ Some inlet → IsUntaken n inlet
+
+-- an inbox for each of n nodes, with an outlet of each to it
+abbrev pub AreLaid : {Z : Type 0} → ℕ → ℕ → List (Vec Outlet Z) → List Inlet → Type 0
 AreLaid capacity n outlets inlets = AreLaidUpto capacity n n outlets inlets

@@ -1,24 +1,32 @@
 -- The batches of a worker's links, and what a link keeps.
-use Rattle.std.specs.Prelude.{List, ◌++◌}
+use Rattle.std.specs.Prelude.{ℕ, List, ◌++◌}
 use Rattle.dob_pieces.specs.Lists.{IsBeginning}
 use Rattle.dob_update.specs.Batches.{BatchView}
-use Rattle.dob_chan.specs.Ends.{sent_by, taken_by, SendsOnSame, TakesOnSame}
+use Rattle.dob_chan.specs.Inboxes.{batches_of}
+use Rattle.dob_chan.specs.Ends.{sent_by, taken_by, place_of, senders_beside, capacity_of, WasFull, SendsToSame, TakesFromSame}
 use Rattle.dob_run.specs.declared.hands.Outlet.{Outlet}
 use Rattle.dob_run.specs.declared.hands.Inlet.{Inlet}
 use Rattle.dob_run.specs.Hands.{in_hand, worked_of}
 
--- the batches that the channel took, and then the one in the hand
+-- the batches that the inbox took, and then the one in the hand
 abbrev pub offered : Outlet → List BatchView
 offered outlet = sent_by outlet.end ++ in_hand outlet.hand
 
--- the batches that came out of the channel, without the one in the hand
+-- the batches that came out of the inbox, without the one in the hand, and those of one sender
 abbrev pub worked : Inlet → List BatchView
 worked inlet = worked_of inlet.end inlet.hand
 
--- the outlet is of the same channel, which took the same batches and maybe more
-abbrev pub KeepsOutlet : Outlet → Outlet → Type 0
-KeepsOutlet old new = SendsOnSame old.end new.end × IsBeginning (sent_by old.end) (sent_by new.end)
+abbrev pub worked_from : Inlet → ℕ → List BatchView
+worked_from inlet from = batches_of from (worked inlet)
 
--- the inlet is of the same channel, of which it got the same batches and maybe more
+-- the outlet's inbox was full at some moment
+abbrev pub IsFull : Outlet → Type 0
+IsFull outlet = WasFull (capacity_of outlet.end) (senders_beside outlet.end) (place_of outlet.end) (sent_by outlet.end)
+
+-- the outlet sends to the same inbox, which took the same batches and maybe more
+abbrev pub KeepsOutlet : Outlet → Outlet → Type 0
+KeepsOutlet old new = SendsToSame old.end new.end × IsBeginning (sent_by old.end) (sent_by new.end)
+
+-- the inlet takes from the same inbox, of which it got the same batches and maybe more
 abbrev pub KeepsInlet : Inlet → Inlet → Type 0
-KeepsInlet old new = TakesOnSame old.end new.end × IsBeginning (taken_by old.end) (taken_by new.end)
+KeepsInlet old new = TakesFromSame old.end new.end × IsBeginning (taken_by old.end) (taken_by new.end)

@@ -30,7 +30,7 @@ abbrev pub IsRunnerOf : PieceSet → ℕ → Mail → Runner → Type 0
 IsRunnerOf set size mail runner = (runner.mail ≡ mail) × IsRunnerFor set size runner × IsNew set runner.node runner.mail
 
 -- The board and the runners of n nodes of the piece set, in order, before their first turn. They cut batches of at most that
--- size, and nothing has gone over their channels, which have that capacity.
+-- size, and nothing has gone over their links; their inboxes have that capacity.
 pub record IsNewCrew (set : PieceSet) (n size capacity : ℕ) (board : Board) (runners : List Runner) : Type 0 where
   pub nodes : board.nodes ≡ n
   pub crew : IsCrew board (map mail_of runners)

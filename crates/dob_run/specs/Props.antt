@@ -174,6 +174,6 @@ IsLawful-prop set size node mail a b = λ i. record {
   sends = Π_prop (λ to. Π_prop (λ outlet. Π_prop (λ _. Π_prop (λ _. SendsRight-prop node size to (offered outlet))))) a.sends b.sends i;
   unused = Π_prop (λ outlet. Π_prop (λ _. batches_set _ _)) a.unused b.unused i;
   own = items_set _ _ a.own b.own i;
-  knows = KnowsRight-prop node.set node.n node.id node.share node.history.settlements (applied_from node mail.inlets.items) a.knows b.knows i;
+  knows = KnowsRight-prop node.set node.n node.id node.share node.history.settlements (applied_from node mail.inlet) a.knows b.knows i;
   white = Π_prop (λ _. ×_prop (IsIdle-prop node) (AreOut-prop mail.outlets.items)) a.white b.white i;
 }

@@ -7,7 +7,7 @@ use Rattle.dob_run.specs.declared.hands.Outlet.{Outlet}
 use Rattle.dob_run.specs.declared.hands.Inlet.{Inlet}
 use Rattle.dob_run.specs.declared.mail.Mail.{Mail}
 use Rattle.dob_run.specs.declared.runner.Runner.{Runner}
-use Rattle.dob_run.specs.Links.{offered, worked}
+use Rattle.dob_run.specs.Links.{offered, worked, IsFull}
 use Rattle.dob_run.specs.Mails.{HasChangedOne}
 use Rattle.dob_run.specs.Runners.{GoesOn}
 
@@ -55,39 +55,23 @@ pub record AppliesAll (old new : Runner) (did : Bool) : Type 0 where
 
 -- ---- taking
 
--- The channel gave at most one batch, and the hand is empty only where the channel was.
+-- The inbox gave at most one batch, and the hand is empty only where the inbox was.
 pub record IsAsked (before after : Inlet) : Type 0 where
   pub few : length (taken_by after.end) ≤ length (taken_by before.end) + 1
   pub empty : after.hand ≡ None → WasEmpty (taken_by after.end)
 
--- The channel gave at most one batch. One more was worked in; or none was, and the hand is empty only where the channel was.
+-- The inbox gave at most one batch. One more was worked in; or none was, and the hand is empty only where the inbox was.
 pub record IsWorkedIn (did : Bool) (before after : Inlet) : Type 0 where
   pub few : length (taken_by after.end) ≤ length (taken_by before.end) + 1
   pub one : did ≡ true → (batch : BatchView) × (worked after ≡ worked before ++ batch ∷ [])
   pub none : did ≡ false → worked after ≡ worked before
   pub empty : did ≡ false → after.hand ≡ None → WasEmpty (taken_by after.end)
 
--- It has taken from that node, if that is another one, and nothing has changed of the other links.
-pub record TakesFrom (from : ℕ) (old new : Runner) (did : Bool) : Type 0 where
+-- It has taken from its inbox, and nothing has changed of what it sends.
+pub record Takes (old new : Runner) (did : Bool) : Type 0 where
   pub goes : GoesOn old new
-  pub own : from ≡ old.mail.seat.node → (did ≡ false) × (new.mail.inlets.items ≡ old.mail.inlets.items)
-  pub taken : from ≢ old.mail.seat.node → (before after : Inlet) → slice_get old.mail.inlets.items from ≡ Some before →
-      slice_get new.mail.inlets.items from ≡ Some after → IsWorkedIn did before after
-  pub others : (j : ℕ) → j ≢ from → slice_get new.mail.inlets.items j ≡ slice_get old.mail.inlets.items j
+  pub taken : IsWorkedIn did old.mail.inlet new.mail.inlet
   pub outlets : new.mail.outlets.items ≡ old.mail.outlets.items
-
--- It has taken from each of the other nodes below a number, and nothing has changed of the other links.
-pub record TakesBelow (upto : ℕ) (old new : Runner) (did : Bool) : Type 0 where
-  pub goes : GoesOn old new
-  pub taken : (from : ℕ) → from < upto → from ≢ old.mail.seat.node → (before after : Inlet) → slice_get old.mail.inlets.items from ≡ Some before →
-      slice_get new.mail.inlets.items from ≡ Some after → (one : Bool) × IsWorkedIn one before after × (one ≡ true → did ≡ true)
-  pub own : slice_get new.mail.inlets.items old.mail.seat.node ≡ slice_get old.mail.inlets.items old.mail.seat.node
-  pub later : (j : ℕ) → upto ≤ j → slice_get new.mail.inlets.items j ≡ slice_get old.mail.inlets.items j
-  pub outlets : new.mail.outlets.items ≡ old.mail.outlets.items
-
--- so it has from each of them
-abbrev pub TakesAll : Runner → Runner → Bool → Type 0
-TakesAll old new did = TakesBelow old.mail.seat.nodes old new did
 
 -- ---- sending
 
@@ -111,7 +95,7 @@ pub record CutsFor (to : ℕ) (old new : Runner) (did : Bool) : Type 0 where
   pub nothing : did ≡ false → (new.node ≡ old.node) × (new.mail ≡ old.mail)
   pub own : new.node.own.items ≡ old.node.own.items
   pub others : (j : ℕ) → j ≢ to → outbox_to new.node j ≡ outbox_to old.node j
-  pub inlets : new.mail.inlets.items ≡ old.mail.inlets.items
+  pub inlet : new.mail.inlet ≡ old.mail.inlet
 
 -- it has, just where something was left to send to it
 abbrev pub CutsLeft : ℕ → Runner → Runner → Bool → Type 0
@@ -121,13 +105,14 @@ CutsLeft to old new did = CutsFor to old new did × ((did ≡ false) ↔ ((outbo
 abbrev pub FillsFor : ℕ → Bool → Runner → Runner → Bool → Type 0
 FillsFor to small old new did = CutsFor to old new did × ((did ≡ true) ↔ IsToFill old to small)
 
--- At most one batch more was offered to the outlet's channel, which took one, and then the hand is empty, or none; and then the
--- hand is empty only where the runner has nothing to send to the node.
+-- At most one batch more was offered to the outlet's inbox, which took one, and then the hand is empty, or none; and then the
+-- hand is empty only where the runner has nothing to send to the node, and else the inbox was full.
 pub record IsSent (small : Bool) (to : ℕ) (runner : Runner) (did : Bool) (before after : Outlet) : Type 0 where
   pub few : length (offered after) ≤ length (offered before) + 1
   pub one : did ≡ true → (batch : BatchView) × (sent_by after.end ≡ sent_by before.end ++ batch ∷ []) × (after.hand ≡ None)
   pub none : did ≡ false → sent_by after.end ≡ sent_by before.end
   pub spent : did ≡ false → after.hand ≡ None → ¬ HasToSend runner to small
+  pub full : did ≡ false → after.hand ≢ None → IsFull after
 
 -- It has sent to that node, if that is another one, and nothing has changed of the other links.
 pub record SendsTo (to : ℕ) (small : Bool) (old new : Runner) (did : Bool) : Type 0 where
@@ -138,7 +123,7 @@ pub record SendsTo (to : ℕ) (small : Bool) (old new : Runner) (did : Bool) : T
   pub own : new.node.own.items ≡ old.node.own.items
   pub outboxes : (j : ℕ) → j ≢ to → outbox_to new.node j ≡ outbox_to old.node j
   pub others : (j : ℕ) → j ≢ to → slice_get new.mail.outlets.items j ≡ slice_get old.mail.outlets.items j
-  pub inlets : new.mail.inlets.items ≡ old.mail.inlets.items
+  pub inlet : new.mail.inlet ≡ old.mail.inlet
 
 -- It has sent to each of the other nodes below a number, and nothing has changed of the other links.
 pub record SendsBelow (upto : ℕ) (small : Bool) (old new : Runner) (did : Bool) : Type 0 where
@@ -148,7 +133,7 @@ pub record SendsBelow (upto : ℕ) (small : Bool) (old new : Runner) (did : Bool
   pub itself : slice_get new.mail.outlets.items old.mail.seat.node ≡ slice_get old.mail.outlets.items old.mail.seat.node
   pub own : new.node.own.items ≡ old.node.own.items
   pub later : (j : ℕ) → upto ≤ j → slice_get new.mail.outlets.items j ≡ slice_get old.mail.outlets.items j
-  pub inlets : new.mail.inlets.items ≡ old.mail.inlets.items
+  pub inlet : new.mail.inlet ≡ old.mail.inlet
 
 -- so it has to each of them
 abbrev pub SendsAll : Bool → Runner → Runner → Bool → Type 0
@@ -156,12 +141,11 @@ SendsAll small old new did = SendsBelow old.mail.seat.nodes small old new did
 
 -- ---- all of it
 
--- over each link at most so many batches more were offered, and came out of its channel
+-- to each node at most so many batches more were offered, and so many came out of the inbox
 pub record AddsFew (count : ℕ) (old new : Mail) : Type 0 where
   pub out : (j : ℕ) (before after : Outlet) → slice_get old.outlets.items j ≡ Some before → slice_get new.outlets.items j ≡ Some after →
       length (offered after) ≤ length (offered before) + count
-  pub into : (j : ℕ) (before after : Inlet) → slice_get old.inlets.items j ≡ Some before → slice_get new.inlets.items j ≡ Some after →
-      length (taken_by after.end) ≤ length (taken_by before.end) + count
+  pub into : length (taken_by new.inlet.end) ≤ length (taken_by old.inlet.end) + count
 
 -- It has done a turn's work: none of its own items is left, and over each link at most one batch more went.
 pub record Works (old new : Runner) (did : Bool) : Type 0 where

@@ -13,13 +13,12 @@ use Rattle.dob_node.specs.Openings.{AreOpenings}
 use Rattle.dob_node.specs.Nodes.{outbox_to, HasItemFault, HasTakenBefore, IsIdle, IsSound, IsOpened}
 use Rattle.dob_update.specs.Batches.{BatchView}
 use Rattle.dob_run.specs.declared.hands.Outlet.{Outlet}
-use Rattle.dob_run.specs.declared.hands.Inlet.{Inlet}
 use Rattle.dob_run.specs.declared.mail.Mail.{Mail}
 use Rattle.dob_run.specs.Batches.{IsBatchFor}
 use Rattle.dob_run.specs.Links.{offered, worked}
 use Rattle.dob_run.specs.Workers.{items_worked}
 use Rattle.dob_run.specs.declared.runner.Runner.{Runner}
-use Rattle.dob_run.specs.Mails.{AreOut, AreIn}
+use Rattle.dob_run.specs.Mails.{AreOut}
 use Rattle.dob_run.specs.Keeps.{KeepsMail, HasSameLinks}
 
 -- The runner keeps its place in its crew, and nothing that went over its links is taken back.
@@ -54,7 +53,7 @@ pub record HasRefused (runner : Runner) (why : Cause) : Type 0 where
   pub other : from ≢ was.mail.seat.node
   pub batch : BatchView
   pub fits : IsBatchFor was.set was.mail.seat.nodes from was.mail.seat.node batch
-  pub came : items_worked (slice_get runner.mail.inlets.items from) ≡ items_worked (slice_get was.mail.inlets.items from) ++ batch.items
+  pub came : items_worked runner.mail.inlet from ≡ items_worked was.mail.inlet from ++ batch.items
   pub before : HasTakenBefore batch.items was.node runner.node why
 
 -- the node has something to send to another one, for which it has cut 2^40 batches
@@ -123,7 +122,7 @@ Steps {A} old new result = StepsBy (λ (before after : Runner) (answer : A). Goe
 pub record IsAtRest (runner : Runner) : Type 0 where
   pub idle : IsIdle runner.node
   pub sent : AreOut runner.mail.outlets.items
-  pub worked : AreIn runner.mail.inlets.items
+  pub worked : runner.mail.inlet.hand ≡ None
 
 -- The node was opened for the piece set and has made no step, and nothing has gone over the mail of its seat.
 pub record IsNew (set : PieceSet) (node : Node) (mail : Mail) : Type 0 where
@@ -134,4 +133,4 @@ pub record IsNew (set : PieceSet) (node : Node) (mail : Mail) : Type 0 where
   pub black : mail.seat.black ≡ true
   pub running : mail.seat.halt ≡ Running
   pub unsent : (to : ℕ) (outlet : Outlet) → slice_get mail.outlets.items to ≡ Some outlet → offered outlet ≡ []
-  pub untaken : (from : ℕ) (inlet : Inlet) → slice_get mail.inlets.items from ≡ Some inlet → worked inlet ≡ []
+  pub untaken : worked mail.inlet ≡ []

@@ -1,35 +1,37 @@
--- Seats with the rows and columns of links that become their mails.
+-- Seats with the rows of outlets and the inlets that become their mails.
 use Rattle.std.specs.Prelude.{◌≡◌, ℕ, List, Some, length, slice_get}
 use Rattle.std.specs.declared.vec.Vec.{Vec}
 use Rattle.dob_board.specs.declared.seat.NodeSeat.{NodeSeat}
+use Rattle.dob_chan.specs.Ends.{senders_of}
 use Rattle.dob_run.specs.declared.hands.Outlet.{Outlet}
 use Rattle.dob_run.specs.declared.hands.Inlet.{Inlet}
 use Rattle.dob_run.specs.declared.mail.Mail.{Mail}
-use Rattle.dob_run.specs.Links.{offered, worked}
-use Rattle.dob_run.specs.Mails.{AreCounts}
+use Rattle.dob_run.specs.Links.{offered}
+use Rattle.dob_run.specs.Mails.{AreCounts, AreTaken, AreOwn}
 
--- the row and the column are of the seat's size, and it has counted their batches
-pub record CanSeat (seat : NodeSeat) (outlets : List Outlet) (inlets : List Inlet) : Type 0 where
+-- the row and the inlet are of the seat's size, the row is for its node, and it has counted their batches
+pub record CanSeat (seat : NodeSeat) (outlets : List Outlet) (inlet : Inlet) : Type 0 where
   pub row : length outlets ≡ seat.nodes
-  pub column : length inlets ≡ seat.nodes
+  pub senders : senders_of inlet.end ≡ seat.nodes
+  pub own : AreOwn seat.node outlets
   pub posted : AreCounts offered seat.posted.items outlets
-  pub taken : AreCounts worked seat.taken.items inlets
+  pub taken : AreTaken seat.nodes seat.taken.items inlet
 
--- each seat has a row and a column
-pub record CanSeatAll {Y Z : Type 0} (seats : List NodeSeat) (rows : List (Vec Outlet Y)) (columns : List (Vec Inlet Z)) : Type 0 where
+-- each seat has a row and an inlet
+pub record CanSeatAll {Z : Type 0} (seats : List NodeSeat) (rows : List (Vec Outlet Z)) (inlets : List Inlet) : Type 0 where
   pub rows_len : length rows ≡ length seats
-  pub columns_len : length columns ≡ length seats
-  pub each : (k : ℕ) (seat : NodeSeat) (row : Vec Outlet Y) (column : Vec Inlet Z) → slice_get seats k ≡ Some seat → slice_get rows k ≡ Some row →
-      slice_get columns k ≡ Some column → CanSeat seat row.items column.items
+  pub inlets_len : length inlets ≡ length seats
+  pub each : (k : ℕ) (seat : NodeSeat) (row : Vec Outlet Z) (inlet : Inlet) → slice_get seats k ≡ Some seat → slice_get rows k ≡ Some row →
+      slice_get inlets k ≡ Some inlet → CanSeat seat row.items inlet
 
--- the mail has that seat, that row and that column
-pub record IsSeated {Y Z : Type 0} (seat : NodeSeat) (row : Vec Outlet Y) (column : Vec Inlet Z) (mail : Mail) : Type 0 where
+-- the mail has that seat, that row and that inlet
+pub record IsSeated {Z : Type 0} (seat : NodeSeat) (row : Vec Outlet Z) (inlet : Inlet) (mail : Mail) : Type 0 where
   pub seat_is : mail.seat ≡ seat
   pub outlets : mail.outlets.items ≡ row.items
-  pub inlets : mail.inlets.items ≡ column.items
+  pub inlet_is : mail.inlet ≡ inlet
 
--- the mails of the first seats, with their rows and columns
-pub record AreSeated {Y Z : Type 0} (upto : ℕ) (seats : List NodeSeat) (rows : List (Vec Outlet Y)) (columns : List (Vec Inlet Z)) (mails : List Mail) : Type 0 where
+-- the mails of the first seats, with their rows and inlets
+pub record AreSeated {Z : Type 0} (upto : ℕ) (seats : List NodeSeat) (rows : List (Vec Outlet Z)) (inlets : List Inlet) (mails : List Mail) : Type 0 where
   pub count : length mails ≡ upto
-  pub each : (k : ℕ) (mail : Mail) → slice_get mails k ≡ Some mail → (seat : NodeSeat) × (row : Vec Outlet Y) × (column : Vec Inlet Z)
-      × (slice_get seats k ≡ Some seat) × (slice_get rows k ≡ Some row) × (slice_get columns k ≡ Some column) × IsSeated seat row column mail
+  pub each : (k : ℕ) (mail : Mail) → slice_get mails k ≡ Some mail → (seat : NodeSeat) × (row : Vec Outlet Z) × (inlet : Inlet)
+      × (slice_get seats k ≡ Some seat) × (slice_get rows k ≡ Some row) × (slice_get inlets k ≡ Some inlet) × IsSeated seat row inlet mail

@@ -6,8 +6,8 @@ use Rattle.dob_update.specs.Batches.{BatchView, items_of_batches}
 use Rattle.dob_board.specs.declared.board.Board.{Board}
 use Rattle.dob_board.specs.Words.{posted_word, taken_word, word_count}
 use Rattle.dob_board.specs.Seats.{AreWords}
-use Rattle.dob_chan.specs.declared.calls.Rejoined.{Rejoined}
-use Rattle.dob_chan.specs.Channels.{IsLawful}
+use Rattle.dob_chan.specs.declared.ends.Rejoined.{Rejoined}
+use Rattle.dob_chan.specs.Inboxes.{IsLawful}
 use Rattle.dob_node.specs.declared.cause.Cause.TheVariants.{Held}
 use Rattle.dob_node.specs.declared.node.Node.{Node}
 use Rattle.dob_node.specs.Nodes.{outbox_to}
@@ -123,4 +123,4 @@ pub record HasLeft (n : ℕ) (runners : List Runner) (turned : Turned) : Type 0 
   pub words : AreWords n (map seat_in (map mail_of runners)) turned.closed.words.items
   pub links_count : length turned.links.items ≡ n * n
   pub links : (i j : ℕ) (outlet : Outlet) (inlet : Inlet) → AreLinked (map mail_of runners) i j outlet inlet →
-      (link : Rejoined) × (slice_get turned.links.items (i * n + j) ≡ Some link) × IsJoined outlet.end inlet.end link
+      (link : Rejoined) × (slice_get turned.links.items (i * n + j) ≡ Some link) × IsJoined i outlet.end inlet.end link

@@ -1,5 +1,5 @@
 -- A worker's node beside its mail, and when the two are lawful together.
-use Rattle.std.specs.Prelude.{◌≡◌, ◌≢◌, ℕ, ◌-◌, ◌≤◌, ◌==◌, cond, List, [], ◌++◌, Option, None, Some, false, length, take, drop, slice_get}
+use Rattle.std.specs.Prelude.{◌≡◌, ◌≢◌, ℕ, ◌-◌, ◌≤◌, ◌==◌, cond, List, [], ◌++◌, Some, false, length, take, drop, slice_get}
 use Rattle.dob_pieces.specs.declared.piece_set.PieceSet.{PieceSet}
 use Rattle.dob_unmove.specs.Edges.{predecessors}
 use Rattle.dob_share.specs.declared.news.Item.{Item}
@@ -10,7 +10,7 @@ use Rattle.dob_node.specs.Nodes.{outbox_to, IsSound, IsIdle}
 use Rattle.dob_run.specs.declared.hands.Outlet.{Outlet}
 use Rattle.dob_run.specs.declared.hands.Inlet.{Inlet}
 use Rattle.dob_run.specs.declared.mail.Mail.{Mail}
-use Rattle.dob_run.specs.Links.{offered, worked}
+use Rattle.dob_run.specs.Links.{offered, worked_from}
 use Rattle.dob_run.specs.Mails.{AreOut}
 use Rattle.dob_run.specs.Knows.{KnowsRight}
 
@@ -26,14 +26,13 @@ AreLast whole last = drop (length whole - length last) whole ≡ last
 abbrev pub own_applied : Node → List Item
 own_applied node = take (length (planned node node.id) - length node.own.items) (planned node node.id)
 
--- the items of the batches that were worked in, where there is an inlet
-abbrev pub items_worked : Option Inlet → List Item
-items_worked None = []
-items_worked (Some inlet) = items_of_batches (worked inlet)
+-- the items of the batches of that sender that were worked in
+abbrev pub items_worked : Inlet → ℕ → List Item
+items_worked inlet from = items_of_batches (worked_from inlet from)
 
 -- the items that the node has applied from a node: from itself those planned and gone, from another one those worked in
-abbrev pub applied_from : Node → List Inlet → ℕ → List Item
-applied_from node inlets from = cond (from == node.id) (own_applied node) (items_worked (slice_get inlets from))
+abbrev pub applied_from : Node → Inlet → ℕ → List Item
+applied_from node inlet from = cond (from == node.id) (own_applied node) (items_worked inlet from)
 
 -- What the node planned for another one is what is in the batches that were offered to it and then what is left in the outbox
 -- for it; and it cut so many batches, none of them with more items than that size.
@@ -52,5 +51,5 @@ pub record IsLawful (set : PieceSet) (size : ℕ) (node : Node) (mail : Mail) : 
   pub sends : (to : ℕ) (outlet : Outlet) → to ≢ mail.seat.node → slice_get mail.outlets.items to ≡ Some outlet → SendsRight node size to (offered outlet)
   pub unused : (outlet : Outlet) → slice_get mail.outlets.items mail.seat.node ≡ Some outlet → offered outlet ≡ []
   pub own : AreLast (planned node node.id) node.own.items
-  pub knows : KnowsRight node.set node.n node.id node.share node.history.settlements (applied_from node mail.inlets.items)
+  pub knows : KnowsRight node.set node.n node.id node.share node.history.settlements (applied_from node mail.inlet)
   pub white : mail.seat.black ≡ false → IsIdle node × AreOut mail.outlets.items

@@ -19,7 +19,7 @@ use std::sync::Wait;
 use std::thread::Threads;
 
 /// Builds the value table of the piece set by `n` nodes, each in a thread of its own, with batches of at most `batch` items
-/// and channels that hold at most `capacity` batches: each asks the gate at the start of each turn, and the gate let each go on
+/// and inboxes that hold at most `capacity` batches: each asks the gate at the start of each turn, and the gate let each go on
 /// at least once. Its promises hold if it returns.
 ///
 /// Errors, tested in this order: `SetTooLarge` where the set has more than `MOST_PIECES` besides the lions; `Nodes` where `n`

@@ -1,10 +1,11 @@
-// How the mails of a crew are closed: the seats go back to the board, and the ends of each channel come together again.
+// How the mails of a crew are closed: the seats go back to the board, and the ends of each inbox come together again.
 ghost use Rattle.std.specs.Prelude.{◌≡◌, ℕ, Some, IfOk, OnOk, slice_get, vec_len, length, []};
 ghost use Rattle.dob_run.specs.Closing.{IsCrew, HasAdded, ArePartsOf, HasEnded};
 
+use crate::hands::Inlet;
 use crate::mail::Mail;
-use crate::rejoin::{deal, part_inlets, part_outlets, rejoin_all};
-use crate::rows::empty_rows;
+use crate::rejoin::{part_outlets, rejoin_all, spread_hand};
+use crate::rows::{deal, empty_rows};
 use dob_board::{Board, Closed, NodeSeat};
 use dob_chan::{Rejoined, SendEnd, TakeEnd};
 use dob_pieces::Memory;
@@ -12,7 +13,7 @@ use dob_update::Batch;
 use std::alloc::Global;
 use std::sync::Wait;
 
-/// What the mails of a crew leave: the words of its board, what went through each channel, row by row of senders, and what
+/// What the mails of a crew leave: the words of its board, what went over each link, by sender and then by receiver, and what
 /// lies in the hands of each node, one place a node.
 #[derive(Drop)]
 pub(crate) struct Ended {
@@ -22,12 +23,12 @@ pub(crate) struct Ended {
     pub(crate) taking: Vec<Vec<Option<Batch>>>,
 }
 
-// The mails of some nodes of a crew, taken apart. The taking ends stand in the rows of the nodes that send to them.
+// The mails of some nodes of a crew, taken apart. The sending ends stand in the rows of the nodes to which they send.
 #[derive(Drop)]
 struct Parts {
     seats: Vec<NodeSeat>,
     sends: Vec<Vec<SendEnd>>,
-    takes: Vec<Vec<TakeEnd>>,
+    takes: Vec<TakeEnd>,
     sending: Vec<Vec<Option<Batch>>>,
     taking: Vec<Vec<Option<Batch>>>,
 }
@@ -77,11 +78,11 @@ fn part_mails(alloc: Global, mails: Vec<Mail>) -> Result<Parts, Memory>
 fn no_parts(alloc: Global, count: usize) -> Result<Parts, Memory>
     ensures { IfOk result (ArePartsOf count []) }
 {
-    let takes = empty_rows(alloc, count)?;
+    let sends = empty_rows(alloc, count)?;
     Ok(Parts {
         seats: Vec::with_capacity(alloc, count)?,
-        sends: Vec::with_capacity(alloc, count)?,
-        takes,
+        sends,
+        takes: Vec::with_capacity(alloc, count)?,
         sending: Vec::with_capacity(alloc, count)?,
         taking: Vec::with_capacity(alloc, count)?,
     })
@@ -90,20 +91,21 @@ fn no_parts(alloc: Global, count: usize) -> Result<Parts, Memory>
 impl Parts {
     // Takes one mail more apart.
     fn add(&mut self, alloc: Global, mail: Mail) -> Result<(), Memory>
-        requires { mail.seat.nodes ≡ vec_len self.old.takes }
+        requires { mail.seat.nodes ≡ vec_len self.old.sends }
         ensures { OnOk result (HasAdded self.old mail self.new) }
     {
         let Mail {
             seat,
             outlets,
-            inlets,
+            inlet,
         } = mail;
+        let Inlet { end: take, hand } = inlet;
+        let taking = spread_hand(alloc, hand, seat.nodes)?;
         self.seats.push(seat)?;
         let (sends, sending) = part_outlets(alloc, outlets)?;
-        self.sends.push(sends)?;
+        deal(sends, &mut self.sends)?;
         self.sending.push(sending)?;
-        let (takes, taking) = part_inlets(alloc, inlets)?;
-        deal(takes, &mut self.takes)?;
+        self.takes.push(take)?;
         self.taking.push(taking)?;
         Ok(())
     }

@@ -1,4 +1,4 @@
-// How a crew begins: with a board, and for each of its nodes a seat, the ends of its channels, and a runner.
+// How a crew begins: with a board, and for each of its nodes a seat, its ends of the inboxes, and a runner.
 ghost use Rattle.std.specs.Prelude.{◌≡◌, ◌<◌, ◌≤◌, ℕ, IfOk, IfErr, OnOk, vec_len, map, replicate, length};
 ghost use Rattle.std.specs.List.{AllZip};
 ghost use Rattle.dob_safra.specs.Laws.{IsSize};
@@ -25,7 +25,7 @@ use dob_rank::Classes;
 use std::alloc::Global;
 
 /// A board, and the runner of each of `n` nodes that own the classes, in order, before their first turn. They cut batches of
-/// at most `batch` items, and their channels hold at most `capacity` batches.
+/// at most `batch` items, and each one's inbox holds at most `capacity` batches.
 ///
 /// Errors, tested in this order: `Nodes` where `n` isn't 1 to 16; `Sizes` where `batch` isn't 1 to 4096 or `capacity` not 1
 /// to 1024; `Memory`.
@@ -124,7 +124,7 @@ fn man(
     Ok(Runner::new(node, mail, set, size))
 }
 
-/// A board of `n` nodes, 1 to 16, and the mail of each of them, in order, with channels that hold at most `capacity`
+/// A board of `n` nodes, 1 to 16, and the mail of each of them, in order, with inboxes that hold at most `capacity`
 /// batches. Nothing is posted or sent yet.
 ///
 /// Error: `Memory`.
@@ -142,32 +142,32 @@ pub(crate) fn open_mails(
     let Ok((board, seats)) = Board::open(alloc, n) else {
         return Err(Memory);
     };
-    let (rows, columns) = lay(alloc, n, capacity)?;
-    let mails = seat_all(alloc, seats, rows, columns)?;
+    let (rows, inlets) = lay(alloc, n, capacity)?;
+    let mails = seat_all(alloc, seats, rows, inlets)?;
     Ok((board, mails))
 }
 
-// The mail of each seat, with its row of outlets and its column of inlets.
+// The mail of each seat, with its row of outlets and its inlet.
 fn seat_all(
     alloc: Global,
     seats: Vec<NodeSeat>,
     rows: Vec<Vec<Outlet>>,
-    columns: Vec<Vec<Inlet>>,
+    inlets: Vec<Inlet>,
 ) -> Result<Vec<Mail>, Memory>
-    requires { CanSeatAll seats.items rows.items columns.items }
-    ensures { IfOk result (λ mails. AreSeated (vec_len seats) seats.items rows.items columns.items mails.items) }
+    requires { CanSeatAll seats.items rows.items inlets.items }
+    ensures { IfOk result (λ mails. AreSeated (vec_len seats) seats.items rows.items inlets.items mails.items) }
 {
     let mut mails = Vec::with_capacity(alloc, seats.len())?;
     let mut rows_left = rows.into_iter();
-    let mut columns_left = columns.into_iter();
+    let mut inlets_left = inlets.into_iter();
     for seat in seats {
         let Some(outlets) = rows_left.next() else {
             unreachable!()
         };
-        let Some(inlets) = columns_left.next() else {
+        let Some(inlet) = inlets_left.next() else {
             unreachable!()
         };
-        mails.push(Mail::new(seat, outlets, inlets))?;
+        mails.push(Mail::new(seat, outlets, inlet))?;
     }
     Ok(mails)
 }

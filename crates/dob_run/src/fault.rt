@@ -14,7 +14,7 @@ pub enum Fault {
     SetTooLarge,
     /// E9: the number of nodes isn't 1 to 16.
     Nodes,
-    /// E10: the greatest size of a batch isn't 1 to 4096, or the capacity of a channel isn't 1 to 1024.
+    /// E10: the greatest size of a batch isn't 1 to 4096, or the capacity of an inbox isn't 1 to 1024.
     Sizes,
     /// E14: a node of the build has stopped.
     Stopped { node: usize, cause: Cause },

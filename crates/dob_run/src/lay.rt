@@ -1,63 +1,55 @@
-// How the channels of a crew are laid: one from each node to each, itself included.
-ghost use Rattle.std.specs.Prelude.{◌≡◌, ◌<◌, ◌∷◌, [], ◌++◌, IfOk, OnOk, vec_len};
-ghost use Rattle.dob_run.specs.Laid.{IsLaid, IsRowLaid, AreLaid};
+// How the inboxes of a crew are laid: one for each node, with an outlet of each node to it.
+ghost use Rattle.std.specs.Prelude.{◌≡◌, ◌<◌, ◌≤◌, IfOk, length};
+ghost use Rattle.dob_safra.specs.Laws.{IsSize};
+ghost use Rattle.dob_run.specs.Laid.{AreOutlets, IsOneLaid, AreLaid};
 
 use crate::hands::{Inlet, Outlet};
-use crate::rows::empty_rows;
-use dob_chan::pair;
+use crate::rows::{deal, empty_rows};
+use dob_chan::{SendEnd, inbox};
 use dob_pieces::Memory;
 use std::alloc::Global;
 
-/// The outlets of `n` nodes, in rows, and their inlets, in columns: the outlet of node i for node j and the inlet of node j
-/// for node i are the ends of one channel, which holds at most `capacity` batches.
+/// The outlets of `n` nodes, 1 to 16, in rows, and their inlets: the outlet of node i for node j sends to the inbox from which
+/// the inlet of node j takes, as the sender i. Each inbox holds at most `capacity` batches.
 ///
 /// Error: `Memory`.
 pub(crate) fn lay(
     alloc: Global,
     n: usize,
     capacity: usize,
-) -> Result<(Vec<Vec<Outlet>>, Vec<Vec<Inlet>>), Memory>
-    requires { 0 < capacity }
+) -> Result<(Vec<Vec<Outlet>>, Vec<Inlet>), Memory>
+    requires size { IsSize n }
+    requires some { 0 < capacity }
     ensures { IfOk result (λ laid. AreLaid capacity n laid.0.items laid.1.items) }
 {
-    let mut columns = empty_rows(alloc, n)?;
-    let mut rows = Vec::with_capacity(alloc, n)?;
+    let mut rows = empty_rows(alloc, n)?;
+    let mut inlets = Vec::with_capacity(alloc, n)?;
     for _ in 0..n {
-        let row = lay_row(alloc, capacity, &mut columns)?;
-        rows.push(row)?;
+        let (outlets, inlet) = lay_one(alloc, n, capacity)?;
+        deal(outlets, &mut rows)?;
+        inlets.push(inlet)?;
     }
-    Ok((rows, columns))
+    Ok((rows, inlets))
 }
 
-// The outlets of one node more. Each node's column gets the inlet of its channel.
-fn lay_row(
-    alloc: Global,
-    capacity: usize,
-    columns: &mut Vec<Vec<Inlet>>,
-) -> Result<Vec<Outlet>, Memory>
-    requires { 0 < capacity }
-    ensures { IfOk result (λ row. IsRowLaid capacity (vec_len columns.old) row.items columns.old.items columns.new.items) }
+// One inbox more: the outlet of each node to it, and its inlet.
+fn lay_one(alloc: Global, n: usize, capacity: usize) -> Result<(Vec<Outlet>, Inlet), Memory>
+    requires size { IsSize n }
+    requires some { 0 < capacity }
+    ensures { IfOk result (λ laid. IsOneLaid capacity n laid.0.items laid.1) }
 {
-    let mut row = Vec::with_capacity(alloc, columns.len())?;
-    for to in 0..columns.len() {
-        lay_one(alloc, capacity, &mut row, &mut columns[to])?;
-    }
-    Ok(row)
+    let (sends, take) = inbox(alloc, n, capacity)?;
+    let outlets = outlets_of(alloc, sends)?;
+    Ok((outlets, Inlet::new(take)))
 }
 
-// One channel more: its outlet at the end of the row, and its inlet at the end of the column.
-fn lay_one(
-    alloc: Global,
-    capacity: usize,
-    row: &mut Vec<Outlet>,
-    column: &mut Vec<Inlet>,
-) -> Result<(), Memory>
-    requires { 0 < capacity }
-    ensures { OnOk result ((outlet : Outlet) × (inlet : Inlet) × (row.new.items ≡ row.old.items ++ outlet ∷ [])
-        × (column.new.items ≡ column.old.items ++ inlet ∷ []) × IsLaid capacity outlet inlet) }
+// An outlet with each of the ends.
+fn outlets_of(alloc: Global, sends: Vec<SendEnd>) -> Result<Vec<Outlet>, Memory>
+    ensures { IfOk result (λ outlets. AreOutlets sends.items outlets.items) }
 {
-    let (send, take) = pair(alloc, capacity)?;
-    row.push(Outlet::new(send))?;
-    column.push(Inlet::new(take))?;
-    Ok(())
+    let mut outlets = Vec::with_capacity(alloc, sends.len())?;
+    for send in sends {
+        outlets.push(Outlet::new(send))?;
+    }
+    Ok(outlets)
 }

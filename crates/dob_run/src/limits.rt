@@ -14,8 +14,8 @@ use std::alloc::Global;
 /// many, stays short.
 pub const BATCH: usize = 256;
 
-/// The most batches in a channel of such a build: a sender may be some 64 turns ahead of its receiver before it has to wait,
-/// and a full channel has 0.4 MB of items.
+/// The most batches in an inbox of such a build: a sender may be some 64 turns ahead of its receiver before it has to wait,
+/// and a full inbox has 0.4 MB of items.
 pub const CAPACITY: usize = 64;
 
 /// Which limit these sizes of a crew pass: `Nodes` where `n` isn't 1 to 16, else `Sizes` where `batch` isn't 1 to 4096 or

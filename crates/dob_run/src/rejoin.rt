@@ -1,11 +1,13 @@
-// How the channels of a crew are ended: the ends of each come together again.
-ghost use Rattle.std.specs.Prelude.{◌≡◌, ◌≤◌, ◌+◌, ◌++◌, ℕ, List, Some, IfOk, OnOk, length, map, slice_get, vec_len};
-ghost use Rattle.dob_chan.specs.Ends.{ArePaired};
-ghost use Rattle.dob_chan.specs.declared.calls.Rejoined.{Rejoined as Link};
-ghost use Rattle.dob_run.specs.Ending.{outlet_end, outlet_hand, inlet_end, inlet_hand, AreDealt, IsJoined, AreEnds, AreJoined, AreRowJoined};
+// How the inboxes of a crew are ended: the ends of each come together again.
+ghost use Rattle.std.specs.Prelude.{◌≡◌, ◌≢◌, ◌<◌, ℕ, IfOk, Some, map, vec_len};
+ghost use Rattle.dob_update.specs.Batches.{BatchView};
+ghost use Rattle.dob_chan.specs.Ends.{taken_by, AreEndsOf, AreRejoined};
+ghost use Rattle.dob_run.specs.Hands.{held_from, hand_row};
+ghost use Rattle.dob_run.specs.Ending.{outlet_end, outlet_hand, AreEnds, AreJoined};
 
-use crate::hands::{Inlet, Outlet};
-use dob_chan::{Rejoined, SendEnd, TakeEnd, rejoin};
+use crate::hands::Outlet;
+use crate::rows::{deal, empty_rows, join};
+use dob_chan::{Rejoined, SendEnd, TakeEnd, rejoin_inbox};
 use dob_pieces::Memory;
 use dob_update::Batch;
 use std::alloc::Global;
@@ -31,103 +33,77 @@ pub(crate) fn part_outlets(
     Ok((ends, hands))
 }
 
-/// The ends of a node's inlets, and what is in their hands.
+/// What is in a node's taking hand, at the place of its sender among all `n` nodes.
 ///
 /// Error: `Memory`.
-pub(crate) fn part_inlets(
+pub(crate) fn spread_hand(
     alloc: Global,
-    inlets: Vec<Inlet>,
-) -> Result<(Vec<TakeEnd>, Vec<Option<Batch>>), Memory>
-    ensures ends { IfOk result (λ parts. parts.0.items ≡ map inlet_end inlets.items) }
-    ensures hands { IfOk result (λ parts. parts.1.items ≡ map inlet_hand inlets.items) }
+    hand: Option<Batch>,
+    n: usize,
+) -> Result<Vec<Option<Batch>>, Memory>
+    ensures { IfOk result (λ hands. hands.items ≡ hand_row n hand) }
 {
-    let mut ends = Vec::with_capacity(alloc, inlets.len())?;
-    let mut hands = Vec::with_capacity(alloc, inlets.len())?;
-    for inlet in inlets {
-        let Inlet { end, hand } = inlet;
-        ends.push(end)?;
-        hands.push(hand)?;
+    let mut left = hand;
+    let mut hands = Vec::with_capacity(alloc, n)?;
+    for from in 0..n {
+        hands.push(take_of(&mut left, from))?;
     }
-    Ok((ends, hands))
+    Ok(hands)
 }
 
-/// Puts each end of a node's inlets at the end of the row of the node at its other end.
-///
-/// Error: `Memory`.
-pub(crate) fn deal(ends: Vec<TakeEnd>, rows: &mut Vec<Vec<TakeEnd>>) -> Result<(), Memory>
-    requires { vec_len ends ≡ vec_len rows.old }
-    ensures { OnOk result (AreDealt (vec_len ends) ends.items rows.old.items rows.new.items) }
+// What is in the hand, if it is of that sender.
+fn take_of(hand: &mut Option<Batch>, from: usize) -> Option<Batch>
+    ensures taken { result ≡ held_from hand.old from }
+    ensures others { (k : ℕ) → k ≢ from → held_from hand.new k ≡ held_from hand.old k }
 {
-    let mut left = ends.into_iter();
-    for place in 0..rows.len() {
-        let Some(end) = left.next() else {
-            unreachable!()
-        };
-        rows[place].push(end)?;
+    let is_of = match hand {
+        Some(batch) => batch.from() == from,
+        None => false,
+    };
+    if !is_of {
+        return None;
     }
-    Ok(())
+    hand.take()
 }
 
-/// Ends the channels: the sending and the taking end of each stand at one place of their rows. What went through each, row
-/// by row. Its promises hold if it returns.
+/// Ends the inboxes: the ends that send to each stand in the row of its place, and its taking end at that place. What went
+/// through each, by sender and then by receiver. Its promises hold if it returns.
 ///
-/// Error: `Memory`, which gives the channels up.
+/// Error: `Memory`, which gives the inboxes up.
 pub(crate) fn rejoin_all<R: Wait>(
     rt: &R,
     alloc: Global,
     sends: Vec<Vec<SendEnd>>,
-    takes: Vec<Vec<TakeEnd>>,
+    takes: Vec<TakeEnd>,
 ) -> Result<Vec<Rejoined>, Memory>
-    requires { AreEnds (vec_len sends) sends.items takes.items }
-    ensures { IfOk result (λ links. AreJoined (vec_len sends) (vec_len sends) sends.items takes.items links.items) }
+    requires { AreEnds (vec_len takes) sends.items takes.items }
+    ensures { IfOk result (λ links. AreJoined (vec_len takes) sends.items takes.items links.items) }
 {
-    let mut links = Vec::new(alloc);
+    let n = takes.len();
+    let mut rows = empty_rows(alloc, n)?;
     let mut left = takes.into_iter();
     for row in sends {
-        let Some(column) = left.next() else {
-            unreachable!()
-        };
-        rejoin_row(rt, alloc, row, column, &mut links)?;
-    }
-    Ok(links)
-}
-
-// Ends the channels of a row, and adds what went through each.
-fn rejoin_row<R: Wait>(
-    rt: &R,
-    alloc: Global,
-    sends: Vec<SendEnd>,
-    takes: Vec<TakeEnd>,
-    links: &mut Vec<Rejoined>,
-) -> Result<(), Memory>
-    requires count { vec_len takes ≡ vec_len sends }
-    requires paired { (j : ℕ) (send : _) (take : _) → slice_get sends.items j ≡ Some send → slice_get takes.items j ≡ Some take → ArePaired send take }
-    ensures joined { OnOk result (AreRowJoined (vec_len sends) (vec_len links.old) sends.items takes.items links.new.items) }
-    ensures added { OnOk result ((row : List Link) × (links.new.items ≡ links.old.items ++ row) × (length row ≡ vec_len sends)) }
-{
-    let mut left = takes.into_iter();
-    for send in sends {
         let Some(take) = left.next() else {
             unreachable!()
         };
-        let link = rejoin_one(rt, alloc, send, take)?;
-        links.push(link)?;
+        let links = rejoin_one(rt, alloc, row, take)?;
+        deal(links, &mut rows)?;
     }
-    Ok(())
+    join(alloc, rows, n)
 }
 
-// Ends a channel.
+// Ends an inbox.
 fn rejoin_one<R: Wait>(
     rt: &R,
     alloc: Global,
-    send: SendEnd,
+    sends: Vec<SendEnd>,
     take: TakeEnd,
-) -> Result<Rejoined, Memory>
-    requires { ArePaired send take }
-    ensures { IfOk result (IsJoined send take) }
+) -> Result<Vec<Rejoined>, Memory>
+    requires { AreEndsOf take sends.items }
+    ensures { IfOk result (λ links. AreRejoined sends.items (taken_by take) links.items) }
 {
-    match rejoin(rt, alloc, send, take) {
-        Ok(link) => Ok(link),
+    match rejoin_inbox(rt, alloc, sends, take) {
+        Ok(links) => Ok(links),
         Err(_) => Err(Memory),
     }
 }

@@ -1,7 +1,7 @@
 // The rounds of a runner's turn: over all nodes, and over what there is to expand and to apply.
 ghost use Rattle.std.specs.Prelude.{◌≡◌, ◌↔◌, ◌<◌, IsTrue, None};
 ghost use Rattle.dob_run.specs.Runners.{StepsBy};
-ghost use Rattle.dob_run.specs.Rounds.{HoldsUp, IsHeldUp, TakesAll, ExpandsSome, AppliesAll, SendsAll};
+ghost use Rattle.dob_run.specs.Rounds.{HoldsUp, IsHeldUp, ExpandsSome, AppliesAll, SendsAll};
 
 use crate::runner::Runner;
 use dob_node::Cause;
@@ -9,18 +9,6 @@ use dob_rank::Classes;
 use std::sync::Wait;
 
 impl Runner {
-    /// Takes at most one batch from each node. Whether any came.
-    pub(crate) fn take_all<R: Wait>(&mut self, rt: &R) -> Result<bool, Cause>
-        requires { self.old.failed ≡ None }
-        ensures { StepsBy TakesAll self.old self.new result }
-    {
-        let mut took = false;
-        for from in 0..self.mail.seat.nodes {
-            took |= self.take_from(rt, from)?;
-        }
-        Ok(took)
-    }
-
     /// Expands settlements until as many items are made as a batch holds, or nothing is left to expand; none where a batch
     /// can't be sent and another whole one is left for the same node. Whether any was expanded.
     pub(crate) fn expand_all(&mut self, classes: &Classes) -> Result<bool, Cause>

@@ -1,6 +1,6 @@
 // Rows of things: vectors in a vector.
-ghost use Rattle.std.specs.Prelude.{IfOk};
-ghost use Rattle.dob_run.specs.Rows.{AreRows};
+ghost use Rattle.std.specs.Prelude.{◌≡◌, ◌++◌, IfOk, OnOk, length, vec_len};
+ghost use Rattle.dob_run.specs.Rows.{AreRows, AreDealt, AreInOrder};
 
 use dob_pieces::Memory;
 use std::alloc::Global;
@@ -16,4 +16,49 @@ pub(crate) fn empty_rows<T: Drop>(alloc: Global, count: usize) -> Result<Vec<Vec
         rows.push(Vec::new(alloc))?;
     }
     Ok(rows)
+}
+
+/// Puts each thing at the end of the row of its place.
+///
+/// Error: `Memory`.
+pub(crate) fn deal<T: Drop>(things: Vec<T>, rows: &mut Vec<Vec<T>>) -> Result<(), Memory>
+    requires { vec_len things ≡ vec_len rows.old }
+    ensures { OnOk result (AreDealt (vec_len things) things.items rows.old.items rows.new.items) }
+{
+    let mut left = things.into_iter();
+    for place in 0..rows.len() {
+        let Some(thing) = left.next() else {
+            unreachable!()
+        };
+        rows[place].push(thing)?;
+    }
+    Ok(())
+}
+
+/// The things of all rows, row by row, of which each has `width`.
+///
+/// Error: `Memory`.
+pub(crate) fn join<T: Drop>(
+    alloc: Global,
+    rows: Vec<Vec<T>>,
+    width: usize,
+) -> Result<Vec<T>, Memory>
+    requires { AreRows (vec_len rows) width rows.items }
+    ensures { IfOk result (λ things. AreInOrder width (vec_len rows) rows.items things.items) }
+{
+    let mut things = Vec::new(alloc);
+    for row in rows {
+        add_row(row, &mut things)?;
+    }
+    Ok(things)
+}
+
+// Adds the things of a row.
+fn add_row<T: Drop>(row: Vec<T>, things: &mut Vec<T>) -> Result<(), Memory>
+    ensures { OnOk result (things.new.items ≡ things.old.items ++ row.items) }
+{
+    for thing in row {
+        things.push(thing)?;
+    }
+    Ok(())
 }

@@ -10,7 +10,7 @@ use crossbeam_utils::Backoff;
 use dob_node::{Cause, Node};
 use dob_pieces::PieceSet;
 
-/// A worker of a build by nodes that own the classes of a piece set: its node, its seat with the ends of its channels, and
+/// A worker of a build by nodes that own the classes of a piece set: its node, its seat with its ends of the inboxes, and
 /// the greatest size of a batch. It is lawful at every moment, unless it has failed before the end was announced: one that
 /// gives up after that has changed nothing. The board says that its node failed only where it has.
 #[derive(Drop)]

@@ -42,7 +42,7 @@ pub struct Turned {
 }
 
 /// Lets each of `n` nodes of the piece set make `turns` turns, in a thread of its own, with batches of at most `batch` items
-/// and channels that hold at most `capacity` batches, and without the halt word and the token: each asks the gate at the
+/// and inboxes that hold at most `capacity` batches, and without the halt word and the token: each asks the gate at the
 /// start of each turn. At most one batch a turn goes over each link. One that fails ends, and the others make their turns. Its
 /// promises hold if it returns.
 ///

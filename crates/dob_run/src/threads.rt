@@ -43,7 +43,7 @@ pub(crate) enum Started<G: Gate> {
     GaveUp(Runner),
 }
 
-/// Opens a crew of `n` nodes of the piece set, with batches of at most `batch` items and channels that hold at most `capacity`
+/// Opens a crew of `n` nodes of the piece set, with batches of at most `batch` items and inboxes that hold at most `capacity`
 /// batches, and lets its runners make their turns as below. Threads find what is known of each class; that is given up before
 /// the first turn. The board, and what became of each runner. Its promises hold if it returns.
 ///

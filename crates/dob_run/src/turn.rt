@@ -110,14 +110,14 @@ impl Runner {
         }
     }
 
-    /// A turn's work: at most one batch from each node is applied; settlements are expanded until as many items are made as
+    /// A turn's work: at most one batch is applied; settlements are expanded until as many items are made as
     /// a batch holds, and the own items are applied; and at most one batch is sent to each node. Whether anything was done.
     pub(crate) fn work<R: Wait>(&mut self, rt: &R, classes: &Classes) -> Result<bool, Cause>
         requires unfailed { self.old.failed ≡ None }
         requires set { classes.now.set ≡ self.old.set }
         ensures { StepsBy Works self.old self.new result }
     {
-        let took = self.take_all(rt)?;
+        let took = self.take_one(rt)?;
         let expanded = self.expand_all(classes)?;
         let applied = self.apply_all()?;
         let small = !took && self.node.is_expanded();

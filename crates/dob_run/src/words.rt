@@ -2,17 +2,17 @@
 ghost use Rattle.std.specs.Prelude.{◌≡◌, ◌≢◌, ◌↔◌, ℕ, IsTrue, Some, None, true, false};
 ghost use Rattle.dob_board.specs.declared.halt.Halt.TheVariants.{Running, Ended};
 ghost use Rattle.dob_board.specs.Seats.{stand_of, MayEnd, KnewOwn, HearsHalt, HasAnnounced};
-ghost use Rattle.dob_run.specs.Mails.{AreOut, AreIn};
+ghost use Rattle.dob_run.specs.Mails.{AreOut};
 ghost use Rattle.dob_run.specs.Keeps.{HasSameLinks};
 ghost use Rattle.dob_run.specs.Tokens.{HasLooked, HasPassed};
 
-use crate::hands::{Inlet, Outlet};
+use crate::hands::Outlet;
 use crate::mail::Mail;
 use dob_board::Halt;
 
 impl Mail {
     /// Whether the board's token is at the node, which knows it from then on until it passes it.
-    pub fn finds_token(&mut self) -> bool
+    pub(crate) fn finds_token(&mut self) -> bool
         ensures found { IsTrue result ↔ (self.new.seat.token ≢ None) }
         ensures looked { HasLooked self.old.seat self.new.seat }
         ensures links { HasSameLinks self.old self.new }
@@ -24,7 +24,7 @@ impl Mail {
     }
 
     /// Passes the token, which the node knows; the node is white afterwards.
-    pub fn pass(&mut self)
+    pub(crate) fn pass(&mut self)
         requires { self.old.seat.token ≢ None }
         ensures passed { HasPassed self.old.seat self.new.seat }
         ensures links { HasSameLinks self.old self.new }
@@ -35,7 +35,7 @@ impl Mail {
     }
 
     /// Whether the node may announce the end if it is idle.
-    pub fn may_announce(&self) -> bool
+    pub(crate) fn may_announce(&self) -> bool
         ensures { IsTrue result ↔ MayEnd (stand_of self.now.seat) }
     {
         self.seat.may_announce()
@@ -43,7 +43,7 @@ impl Mail {
 
     /// Announces the end, which the node may do. The halt that its seat finds isn't `Running`, and the node's own failure only
     /// where the seat knew that.
-    pub fn announce(&mut self)
+    pub(crate) fn announce(&mut self)
         requires { MayEnd (stand_of self.old.seat) }
         ensures announced { HasAnnounced self.old.seat self.new.seat self.new.seat.halt }
         ensures links { HasSameLinks self.old self.new }
@@ -56,7 +56,7 @@ impl Mail {
 
     /// Says that the node failed the run. The halt that its seat finds isn't `Running`; it is the one that it knew, if it knew
     /// one; and `Ended` only where the node is white.
-    pub fn fail(&mut self)
+    pub(crate) fn fail(&mut self)
         ensures links { HasSameLinks self.old self.new }
         ensures colour { self.new.seat.black ≡ self.old.seat.black }
         ensures stopped { self.new.seat.halt ≢ Running }
@@ -67,7 +67,7 @@ impl Mail {
     }
 
     /// Whether the run goes on, as the board says now. It says that the node itself failed only where the seat knew that.
-    pub fn halted(&mut self) -> Halt
+    pub(crate) fn halted(&mut self) -> Halt
         ensures halt { result ≡ self.new.seat.halt }
         ensures links { HasSameLinks self.old self.new }
         ensures colour { self.new.seat.black ≡ self.old.seat.black }
@@ -79,10 +79,10 @@ impl Mail {
     }
 
     /// Whether no batch lies in a hand.
-    pub fn is_out_of_hand(&self) -> bool
-        ensures { IsTrue result ↔ (AreOut self.now.outlets.items × AreIn self.now.inlets.items) }
+    pub(crate) fn is_out_of_hand(&self) -> bool
+        ensures { IsTrue result ↔ (AreOut self.now.outlets.items × (self.now.inlet.hand ≡ None)) }
     {
-        are_out(&self.outlets) && are_in(&self.inlets)
+        are_out(&self.outlets) && !self.inlet.is_full()
     }
 }
 
@@ -92,18 +92,6 @@ fn are_out(outlets: &[Outlet]) -> bool
 {
     for outlet in outlets {
         if outlet.is_full() {
-            return false;
-        }
-    }
-    true
-}
-
-// Whether each taking hand is empty.
-fn are_in(inlets: &[Inlet]) -> bool
-    ensures { IsTrue result ↔ AreIn inlets.now }
-{
-    for inlet in inlets {
-        if inlet.is_full() {
             return false;
         }
     }

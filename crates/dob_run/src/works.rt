@@ -1,7 +1,7 @@
 // What a runner does for its node: it takes batches, expands settlements, applies items and sends batches.
 ghost use Rattle.std.specs.Prelude.{◌≡◌, ◌≢◌, ◌↔◌, ◌<◌, IsTrue, Some, None, slice_get};
 ghost use Rattle.dob_run.specs.Runners.{StepsBy};
-ghost use Rattle.dob_run.specs.Rounds.{TakesFrom, ExpandsOne, AppliesOne, HasToSend, CutsLeft, FillsFor, SendsTo};
+ghost use Rattle.dob_run.specs.Rounds.{Takes, ExpandsOne, AppliesOne, HasToSend, CutsLeft, FillsFor, SendsTo};
 
 use crate::hands::Outlet;
 use crate::runner::Runner;
@@ -10,18 +10,14 @@ use dob_rank::Classes;
 use std::sync::Wait;
 
 impl Runner {
-    /// Takes the next batch of the node `from`, if that is another one and a batch of it came that the board knows of, and
+    /// Takes the batch in the taking hand, else the next of the inbox, if it is one of another node that the board knows of, and
     /// applies its items. False where there is none.
-    pub(crate) fn take_from<R: Wait>(&mut self, rt: &R, from: usize) -> Result<bool, Cause>
-        requires unfailed { self.old.failed ≡ None }
-        requires node { from < self.old.mail.seat.nodes }
-        ensures { StepsBy (TakesFrom from) self.old self.new result }
+    pub(crate) fn take_one<R: Wait>(&mut self, rt: &R) -> Result<bool, Cause>
+        requires { self.old.failed ≡ None }
+        ensures { StepsBy Takes self.old self.new result }
     {
-        if from == self.mail.seat.node {
-            return Ok(false);
-        }
-        self.mail.receive(rt, from);
-        let Some(batch) = self.mail.accept(self.set, from) else {
+        self.mail.receive(rt);
+        let Some(batch) = self.mail.accept(self.set) else {
             return Ok(false);
         };
         match self.node.apply_batch(&batch) {
@@ -122,7 +118,7 @@ impl Runner {
         self.cut_for(to)
     }
 
-    /// Offers a batch for the node `to`, if that is another one, to its channel: the one in the hand or a new one. Whether it
+    /// Offers a batch for the node `to`, if that is another one, to its inbox: the one in the hand or a new one. Whether it
     /// was sent.
     pub(crate) fn send_to<R: Wait>(&mut self, rt: &R, to: usize, small: bool) -> Result<bool, Cause>
         requires unfailed { self.old.failed ≡ None }

@@ -172,7 +172,7 @@ fn a_node_that_is_held_back(rt: HostRuntime) {
     assert!(rt; turned.err() == Some(HELD));
 }
 
-// Whether the link's channel was never used.
+// Whether nothing went over the link.
 fn is_unused(link: &Rejoined) -> bool {
     link.sent == 0 && link.received == 0 && link.waiting.is_empty()
 }
@@ -198,7 +198,7 @@ fn are_first_words(words: &[u64], n: usize) -> bool
     words[0] == n as u64 && words[1] == 1_407_374_883_553_280
 }
 
-// Whether nothing is left of `n` nodes that made no turn: their hands are empty, no channel was used, and all words but those of
+// Whether nothing is left of `n` nodes that made no turn: their hands are empty, no link was used, and all words but those of
 // the number of nodes and of the token are 0.
 fn is_nothing(turned: &Turned, n: usize) -> bool
     requires { IsSize n }

@@ -1,7 +1,7 @@
 -- one end more is opened
 use Rattle.std.proofs.Common.{rules, subst, sym, length}
 use Rattle.crossbeam_queue.specs.Passes.{ruled_capacity}
-use Rattle.dob_chan.specs.InboxEnds.{IsOpened, AreOpened}
+use Rattle.dob_chan.specs.Ends.{IsOpened, AreOpened}
 use Rattle.dob_chan.proofs.EndsOpened.{one_opened}
 use Rattle.dob_chan.proofs.inboxes.open_all.Goals as goal
 

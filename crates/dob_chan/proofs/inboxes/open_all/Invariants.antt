@@ -2,7 +2,7 @@
 use Rattle.std.proofs.Common.{◌≡◌, ◌≤◌, [], length}
 use Rattle.crossbeam_queue.specs.Passes.{view, ruled_capacity, IsSamePass}
 use Rattle.dob_chan.specs.Inboxes.{taking}
-use Rattle.dob_chan.specs.InboxEnds.{AreOpened}
+use Rattle.dob_chan.specs.Ends.{AreOpened}
 use Rattle.dob_chan.proofs.inboxes.open_all.Given as goal
 
 abbrev pub invariant-loop-from : goal.invariant-loop-from

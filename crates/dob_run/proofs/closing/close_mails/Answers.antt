@@ -17,8 +17,8 @@ parted g c =
 ends : (g : _) (c : In_ok-seats g) → AreEnds c.args.board.nodes c.in_ok-seats.field-0.sends.items c.in_ok-seats.field-0.takes.items
 ends g c = ends_are c.args.board c.args.mails.items c.in_ok-seats.field-0 c.requires (parted g c)
 
-sends_len : (g : _) (c : In_ok-seats g) → vec_len c.in_ok-seats.field-0.sends ≡ c.args.board.nodes
-sends_len g c = let count = (ends g c).senders.count in omega (arith, count)
+takes_len : (g : _) (c : In_ok-seats g) → vec_len c.in_ok-seats.field-0.takes ≡ c.args.board.nodes
+takes_len g c = let count = (ends g c).takers in omega (arith, count)
 
 pub part_mails-requires : goal.part_mails-requires
 part_mails-requires g c = λ k mail at.
@@ -35,7 +35,7 @@ pub rejoin_all-requires : goal.rejoin_all-requires
 rejoin_all-requires g c =
     let here = (goal.at.rejoin_all-requires g c).In_ok-seats in
     let parts = c.in_ok-seats.field-0 in
-    subst (λ (k : ℕ). AreEnds k parts.sends.items parts.takes.items) (sym (sends_len g here)) (ends g here)
+    subst (λ (k : ℕ). AreEnds k parts.sends.items parts.takes.items) (sym (takes_len g here)) (ends g here)
 
 pub returns : goal.returns
 returns g c =
@@ -43,8 +43,8 @@ returns g c =
     let parts = c.in_ok-seats.field-0 in
     let n = c.args.board.nodes in
     let links = c.in_ok-links.links.items in
-    let joined : AreJoined n n parts.sends.items parts.takes.items links =
-    subst (λ (k : ℕ). AreJoined k k parts.sends.items parts.takes.items links) (sends_len g here) c.in_ok-links.ensures in
+    let joined : AreJoined n parts.sends.items parts.takes.items links =
+    subst (λ (k : ℕ). AreJoined k parts.sends.items parts.takes.items links) (takes_len g here) c.in_ok-links.ensures in
     record {
       words = subst (λ (seats : List NodeSeat). AreWords n seats c.close-closed.result.words.items) (parted g here).seats c.close-closed.ensures.words;
       count = joined.count;

@@ -16,7 +16,7 @@ add-requires c =
     let inv = c.loop-mail.invariant in
     let n = vec_len c.args.mails in
     let at = one_of n c.args.mails.items _ _ c.in-Some.mail c.loop-mail.parts inv c.in-Some.ensures.steps.0 in
-    let rows : length c.loop-mail.parts.takes.items ≡ n = inv.are.takes_rows.count in
+    let rows : length c.loop-mail.parts.sends.items ≡ n = inv.are.sends_rows.count in
     let nodes : c.in-Some.mail.seat.nodes ≡ n = c.requires at.0 c.in-Some.mail at.1 in
     search rules
 
@@ -27,7 +27,7 @@ loop-mail-preserved c =
     let mail = c.in-Some.mail in
     let at = one_of n c.args.mails.items _ _ mail c.loop-mail.parts inv c.in-Some.ensures.steps.0 in
     let nodes : mail.seat.nodes ≡ n = c.requires at.0 mail at.1 in
-    let wide : length mail.inlets.items ≡ n = omega (arith, mail.inlets_len, nodes) in
+    let wide : length mail.outlets.items ≡ n = omega (arith, mail.outlets_len, nodes) in
     parting_goes_on n c.args.mails.items _ _ mail c.loop-mail.parts c.add.new.self inv c.in-Some.ensures.steps.0 c.in_ok-add.ensures wide
 
 pub returns : goal.returns

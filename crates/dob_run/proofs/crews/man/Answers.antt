@@ -16,7 +16,7 @@ is_new c =
       black = new.black;
       running = new.running;
       unsent = λ to outlet at. (new.unsent to outlet at).0;
-      untaken = λ from inlet at. (new.untaken from inlet at).0;
+      untaken = new.untaken.0;
     }
 
 pub new-requires-clause-fresh : goal.new-requires-clause-fresh

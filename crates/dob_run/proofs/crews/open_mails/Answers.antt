@@ -1,4 +1,4 @@
--- The seats and the channels that were laid make a crew of n new mails, whose outlets and inlets are paired.
+-- The seats and the inboxes that were laid make a crew of n new mails, whose outlets send to the inlets.
 use Rattle.std.proofs.Common.{◌≡◌, ℕ, arith, sym, subst, vec_len, map}
 use Rattle.dob_board.specs.Seats.{AreSeats}
 use Rattle.dob_run.specs.Seating.{AreSeated}
@@ -9,14 +9,14 @@ use Rattle.dob_run.proofs.crews.open_mails.Goals.{In_ok-mails}
 
 pub seat_all-requires : goal.seat_all-requires
 seat_all-requires c =
-    can_seat c.args.capacity c.args.n c.in_ok-rows.rows.items c.in_ok-rows.columns.items c.in-Ok.board c.in-Ok.seats.items c.in_ok-rows.ensures c.in-Ok.ensures.seats c.in-Ok.ensures.fresh
+    can_seat c.args.capacity c.args.n c.in_ok-rows.rows.items c.in_ok-rows.inlets.items c.in-Ok.board c.in-Ok.seats.items c.in_ok-rows.ensures c.in-Ok.ensures.seats c.in-Ok.ensures.fresh
 
 -- the mails are those of all n seats
-all : (c : In_ok-mails) → AreSeated c.args.n c.in-Ok.seats.items c.in_ok-rows.rows.items c.in_ok-rows.columns.items c.in_ok-mails.mails.items
+all : (c : In_ok-mails) → AreSeated c.args.n c.in-Ok.seats.items c.in_ok-rows.rows.items c.in_ok-rows.inlets.items c.in_ok-mails.mails.items
 all c =
     let count = c.in-Ok.ensures.seats.count in
     let many : vec_len c.in-Ok.seats ≡ c.args.n = omega (arith, count) in
-    subst (λ (k : ℕ). AreSeated k c.in-Ok.seats.items c.in_ok-rows.rows.items c.in_ok-rows.columns.items c.in_ok-mails.mails.items) many c.in_ok-mails.ensures
+    subst (λ (k : ℕ). AreSeated k c.in-Ok.seats.items c.in_ok-rows.rows.items c.in_ok-rows.inlets.items c.in_ok-mails.mails.items) many c.in_ok-mails.ensures
 
 pub returns-clause-crew : goal.returns-clause-crew
 returns-clause-crew c =
@@ -24,11 +24,11 @@ returns-clause-crew c =
     let mails = c.in_ok-mails.mails.items in
     record {
       seats = subst (λ (k : ℕ). AreSeats c.in-Ok.board.rest.table_id k (map seat_in mails)) (sym c.in-Ok.ensures.nodes)
-          (new_seats c.args.capacity c.args.n c.in_ok-rows.rows.items c.in_ok-rows.columns.items c.in-Ok.board c.in-Ok.seats.items c.in_ok-rows.ensures c.in-Ok.ensures.seats c.in-Ok.ensures.fresh mails (all here));
-      paired = new_paired c.args.capacity c.args.n c.in_ok-rows.rows.items c.in_ok-rows.columns.items c.in-Ok.board c.in-Ok.seats.items c.in_ok-rows.ensures c.in-Ok.ensures.seats c.in-Ok.ensures.fresh mails (all here);
+          (new_seats c.args.capacity c.args.n c.in_ok-rows.rows.items c.in_ok-rows.inlets.items c.in-Ok.board c.in-Ok.seats.items c.in_ok-rows.ensures c.in-Ok.ensures.seats c.in-Ok.ensures.fresh mails (all here));
+      paired = new_paired c.args.capacity c.args.n c.in_ok-rows.rows.items c.in_ok-rows.inlets.items c.in-Ok.board c.in-Ok.seats.items c.in_ok-rows.ensures c.in-Ok.ensures.seats c.in-Ok.ensures.fresh mails (all here);
     }
 
 pub returns-clause-new : goal.returns-clause-new
 returns-clause-new c =
     let here = (goal.at.returns-clause-new c).In_ok-mails in
-    new_mails c.args.capacity c.args.n c.in_ok-rows.rows.items c.in_ok-rows.columns.items c.in-Ok.board c.in-Ok.seats.items c.in_ok-rows.ensures c.in-Ok.ensures.seats c.in-Ok.ensures.fresh c.in_ok-mails.mails.items (all here)
+    new_mails c.args.capacity c.args.n c.in_ok-rows.rows.items c.in_ok-rows.inlets.items c.in-Ok.board c.in-Ok.seats.items c.in_ok-rows.ensures c.in-Ok.ensures.seats c.in-Ok.ensures.fresh c.in_ok-mails.mails.items (all here)

@@ -1,7 +1,6 @@
--- While a seat is left so are a row and a column, of its size and with its counts, and they become its mail.
+-- While a seat is left so are a row and an inlet, of its size and with its counts, and they become its mail.
 use Rattle.std.proofs.Common.{◌≡◌, ℕ, rules, arith, ap, subst, length, Vec, Global, vec_len}
 use Rattle.dob_run.specs.declared.hands.Outlet.{Outlet}
-use Rattle.dob_run.specs.declared.hands.Inlet.{Inlet}
 use Rattle.dob_run.specs.declared.mail.Mail.{Mail}
 use Rattle.dob_run.specs.Seating.{CanSeat, IsSeated, AreSeated}
 use Rattle.dob_run.proofs.Seated.{seating_begins, next_can, seating_goes_on, all_seated}
@@ -10,8 +9,8 @@ use Rattle.dob_run.proofs.crews.seat_all.Goals as goal
 use Rattle.dob_run.proofs.crews.seat_all.Goals.{In-Some-next-2}
 
 pub loop-seat-init : goal.loop-seat-init
-loop-seat-init c = seating_begins c.args.seats.items c.args.rows.items c.args.columns.items _ _ _ _
-    c.into_iter-seat-iterator.ensures.into_iter_gives.0 c.into_iter-rows_left.ensures.rest c.into_iter-columns_left.ensures.rest (search rules)
+loop-seat-init c = seating_begins c.args.seats.items c.args.rows.items c.args.inlets.items _ _ _ _
+    c.into_iter-seat-iterator.ensures.into_iter_gives.0 c.into_iter-rows_left.ensures.rest c.into_iter-inlets_left.ensures.rest (search rules)
 
 pub unreachable-requires : goal.unreachable-requires
 unreachable-requires c =
@@ -21,17 +20,20 @@ unreachable-requires c =
 pub unreachable-requires-in_default-next : goal.unreachable-requires-in_default-next
 unreachable-requires-in_default-next c =
     let inv = c.loop-seat.invariant in
-    thing_left c.args.seats.items _ _ c.in-Some.seat c.args.columns.items _ inv.done inv.seats_are c.in-Some.ensures.steps.0 inv.columns_are c.requires.columns_len (search rules)
+    thing_left c.args.seats.items _ _ c.in-Some.seat c.args.inlets.items _ inv.done inv.seats_are c.in-Some.ensures.steps.0 inv.inlets_are c.requires.inlets_len (search rules)
 
-can : (c : In-Some-next-2) → CanSeat c.in-Some.seat c.in-Some-next.outlets.items c.in-Some-next-2.inlets.items
-can c = next_can c.args.seats.items c.args.rows.items c.args.columns.items _ _ _ _ _ _ _ c.in-Some.seat c.in-Some-next.outlets c.in-Some-next-2.inlets
+can : (c : In-Some-next-2) → CanSeat c.in-Some.seat c.in-Some-next.outlets.items c.in-Some-next-2.inlet
+can c = next_can c.args.seats.items c.args.rows.items c.args.inlets.items _ _ _ _ _ _ _ c.in-Some.seat c.in-Some-next.outlets c.in-Some-next-2.inlet
     c.loop-seat.invariant c.in-Some.ensures.steps.0 c.in-Some-next.ensures.cases.0 c.in-Some-next-2.ensures.cases.0 c.requires
 
 pub new-requires-clause-outlets : goal.new-requires-clause-outlets
 new-requires-clause-outlets c = let h = (can (goal.at.new-requires-clause-outlets c).In-Some-next-2).row in omega (arith, h)
 
-pub new-requires-clause-inlets : goal.new-requires-clause-inlets
-new-requires-clause-inlets c = let h = (can (goal.at.new-requires-clause-inlets c).In-Some-next-2).column in omega (arith, h)
+pub new-requires-clause-senders : goal.new-requires-clause-senders
+new-requires-clause-senders c = (can (goal.at.new-requires-clause-senders c).In-Some-next-2).senders
+
+pub new-requires-clause-own : goal.new-requires-clause-own
+new-requires-clause-own c = (can (goal.at.new-requires-clause-own c).In-Some-next-2).own
 
 pub new-requires-clause-posted : goal.new-requires-clause-posted
 new-requires-clause-posted c = (can (goal.at.new-requires-clause-posted c).In-Some-next-2).posted
@@ -39,23 +41,23 @@ new-requires-clause-posted c = (can (goal.at.new-requires-clause-posted c).In-So
 pub new-requires-clause-taken : goal.new-requires-clause-taken
 new-requires-clause-taken c = (can (goal.at.new-requires-clause-taken c).In-Some-next-2).taken
 
-seated : (c : In-Some-next-2) (mail : Mail) → mail.seat ≡ c.in-Some.seat → mail.outlets ≡ c.in-Some-next.outlets → mail.inlets ≡ c.in-Some-next-2.inlets →
-    IsSeated c.in-Some.seat c.in-Some-next.outlets c.in-Some-next-2.inlets mail
-seated c mail seat outlets inlets = record {
+seated : (c : In-Some-next-2) (mail : Mail) → mail.seat ≡ c.in-Some.seat → mail.outlets ≡ c.in-Some-next.outlets → mail.inlet ≡ c.in-Some-next-2.inlet →
+    IsSeated c.in-Some.seat c.in-Some-next.outlets c.in-Some-next-2.inlet mail
+seated c mail seat outlets inlet = record {
   seat_is = seat;
   outlets = ap (λ (v : Vec Outlet Global). v.items) outlets;
-  inlets = ap (λ (v : Vec Inlet Global). v.items) inlets;
+  inlet_is = inlet;
 }
 
 pub loop-seat-preserved : goal.loop-seat-preserved
 loop-seat-preserved c =
     let made = c.new.ensures in
-    seating_goes_on c.args.seats.items c.args.rows.items c.args.columns.items _ _ _ _ _ _ _ _ c.in-Some.seat c.in-Some-next.outlets c.in-Some-next-2.inlets c.new.result
+    seating_goes_on c.args.seats.items c.args.rows.items c.args.inlets.items _ _ _ _ _ _ _ _ c.in-Some.seat c.in-Some-next.outlets c.in-Some-next-2.inlet c.new.result
     c.loop-seat.invariant c.in-Some.ensures.steps.0 c.in-Some-next.ensures.cases.0 c.in-Some-next-2.ensures.cases.0
-    (seated (goal.at.loop-seat-preserved c).In-Some-next-2 c.new.result made.seat made.outlets made.inlets) c.in_ok-push.ensures.items
+    (seated (goal.at.loop-seat-preserved c).In-Some-next-2 c.new.result made.seat made.outlets made.inlet) c.in_ok-push.ensures.items
 
 pub returns : goal.returns
 returns c =
     let long : length c.args.seats.items ≡ vec_len c.args.seats = search rules in
-    subst (λ (k : ℕ). AreSeated k c.args.seats.items c.args.rows.items c.args.columns.items c.loop-seat.mails.items) long
-    (all_seated c.args.seats.items c.args.rows.items c.args.columns.items _ _ _ _ c.loop-seat.invariant (search rules))
+    subst (λ (k : ℕ). AreSeated k c.args.seats.items c.args.rows.items c.args.inlets.items c.loop-seat.mails.items) long
+    (all_seated c.args.seats.items c.args.rows.items c.args.inlets.items _ _ _ _ c.loop-seat.invariant (search rules))

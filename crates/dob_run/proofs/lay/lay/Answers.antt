@@ -1,18 +1,24 @@
--- One row more is laid: the outlets of one node more are of one channel each with the inlets at their other ends.
-use Rattle.std.proofs.Common.{◌≡◌, ◌+◌, ℕ, List, Vec, Global, vec_len, rules, sym, subst}
-use Rattle.dob_run.specs.declared.hands.Outlet.{Outlet}
-use Rattle.dob_run.specs.Laid.{IsRowLaid, AreLaidUpto}
-use Rattle.dob_run.proofs.Laying.{row_more}
+-- One inbox more is laid: its outlets are dealt to the nodes, and its inlet goes last.
+use Rattle.std.proofs.Common.{◌≡◌, ℕ, length, vec_len, rules, subst}
+use Rattle.dob_run.specs.Rows.{AreDealt}
+use Rattle.dob_run.proofs.Laying.{none_laid, laid_more}
 use Rattle.dob_run.proofs.lay.lay.Goals as goal
+
+pub loop-init : goal.loop-init
+loop-init c = none_laid c.args.capacity c.args.n c.in_ok-rows.rows.items c.in_ok-inlets.inlets.items c.in_ok-rows.ensures (search rules)
+
+pub deal-requires : goal.deal-requires
+deal-requires c =
+    let outlets : length c.in_ok-outlets.outlets.items ≡ c.args.n = c.in_ok-outlets.ensures.count in
+    let rows : length c.loop.rows.items ≡ c.args.n = c.loop.invariant.rows.count in
+    search rules
 
 pub loop-preserved : goal.loop-preserved
 loop-preserved c =
-    let inv = c.loop.invariant in
-    let old = c.loop.columns.items in
-    let new = c.lay_row.new.columns.items in
-    let row = c.in_ok-row.row in
-    let wide : vec_len c.loop.columns ≡ c.args.n = search rules in
-    let laid : IsRowLaid c.args.capacity c.args.n row.items old new =
-    subst (λ (k : ℕ). IsRowLaid c.args.capacity k row.items old new) wide c.in_ok-row.ensures in
-    subst (λ (rows : List (Vec Outlet Global)). AreLaidUpto c.args.capacity c.args.n (c.loop.counter + 1) rows new) (sym c.in_ok-push.ensures.items)
-    (row_more c.args.capacity c.args.n c.loop.counter c.loop.rows.items old new row inv laid)
+    let outlets = c.in_ok-outlets.outlets in
+    let count : length outlets.items ≡ c.args.n = c.in_ok-outlets.ensures.count in
+    let many : vec_len outlets ≡ c.args.n = search rules in
+    let dealt : AreDealt c.args.n outlets.items c.loop.rows.items c.deal.new.rows.items =
+    subst (λ (k : ℕ). AreDealt k outlets.items c.loop.rows.items c.deal.new.rows.items) many c.in_ok-deal.ensures in
+    laid_more c.args.capacity c.args.n c.loop.counter c.loop.rows.items c.deal.new.rows.items c.loop.inlets.items _ outlets.items c.in_ok-outlets.inlet
+    c.loop.invariant c.in_ok-outlets.ensures dealt c.in_ok-push.ensures.items

@@ -1,14 +1,12 @@
--- The new channel's ends go last in the row and the column, with nothing sent or taken and both hands empty.
-use Rattle.dob_run.proofs.Laying.{laid_of}
+-- Each of the new inbox's ends has an outlet, and its taking end the inlet, with nothing sent or taken and empty hands.
+use Rattle.dob_run.proofs.Laying.{one_laid}
 use Rattle.dob_run.proofs.lay.lay_one.Goals as goal
+
+pub inbox-requires : goal.inbox-requires
+inbox-requires c = (c.requires.size.0, c.requires.size.1, c.requires.some)
 
 pub returns : goal.returns
 returns c =
-    let pair = c.in_ok-send.ensures in (
-      c.new.result,
-      c.new-2.result,
-      c.in_ok-push.ensures.items,
-      c.in_ok-push-2.ensures.items,
-      laid_of c.args.capacity c.new.result c.new-2.result c.in_ok-send.send c.in_ok-send.take c.new.ensures.end c.new-2.ensures.end
-          c.new.ensures.hand c.new-2.ensures.hand pair.paired pair.capacity pair.nothing,
-    )
+    let new = c.in_ok-sends.ensures in
+    one_laid c.args.capacity c.args.n c.in_ok-sends.sends.items c.in_ok-sends.take c.in_ok-outlets.outlets.items c.new.result new.senders.0 new.senders.1 new.opened new.nothing
+    c.in_ok-outlets.ensures c.new.ensures.end c.new.ensures.hand

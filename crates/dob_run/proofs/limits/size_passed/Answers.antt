@@ -1,4 +1,4 @@
--- The sizes keep their limits, or those of batches and channels are the first that don't.
+-- The sizes keep their limits, or those of batches and inboxes are the first that don't.
 use Rattle.std.proofs.lemmas.Bool.{both_ways}
 use Rattle.dob_run.proofs.limits.size_passed.Goals as goal
 

@@ -1,10 +1,20 @@
 -- A runner for which no thread can be made keeps its place when it is handed back, and has failed for want of memory.
-use Rattle.std.proofs.Common.{◌≡◌, subst}
+use Rattle.std.proofs.Common.{◌≡◌, rules, subst}
 use Rattle.dob_node.specs.declared.cause.Cause.TheVariants.{Memory}
 use Rattle.dob_run.specs.declared.runner.Runner.{Runner}
+use Rattle.dob_run.specs.declared.turns.Until.{Until}
+use Rattle.dob_run.specs.Turns.{EndsBy}
 use Rattle.dob_run.specs.Runners.{KeepsRunner}
 use Rattle.dob_run.proofs.Keeping.{failed_after}
 use Rattle.dob_run.proofs.threads.start.Goals as goal
+
+pub spawn_with-requires-clause-keeps : goal.spawn_with-requires-clause-keeps
+spawn_with-requires-clause-keeps g c κs within =
+    let was : c.args.runner ≡ c.of.result.value = search rules in
+    let until : c.args.until.now ≡ c.of-2.result.value = search rules in
+    let gate : c.args.gate.now ≡ c.of-3.result.value = search rules in
+    λ r ends. subst (λ q. EndsBy (g.G.Gate.says q) c.of-2.result.value c.of.result.value r) gate
+    (subst (λ (p : Runner × Until). EndsBy (g.G.Gate.says c.args.gate.now) p.1 p.0 r) (λ i. (was i, until i)) ends)
 
 pub returns-in-Err : goal.returns-in-Err
 returns-in-Err g c =

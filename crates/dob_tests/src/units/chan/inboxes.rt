@@ -1,27 +1,14 @@
 // Inboxes of batches: two senders in one inbox for two. The batches have the five items of one settlement each for owner 1 of
 // two, of the classes of lions alone, and are numbered from 0 for each sender.
 ghost use Rattle.std.specs.Prelude.{◌≡◌, OnOk, IfOk};
-ghost use Rattle.dob_chan.specs.InboxEnds.{AreStill, SendsToSame, TakesFromSame};
+ghost use Rattle.dob_chan.specs.Ends.{AreStill, TakesFromSame};
 
-use super::{batches, numbers_of};
-use dob_chan::inboxes::{SendEnd, TakeEnd, inbox, rejoin_inbox};
+use super::{batches, numbers_of, offer};
+use dob_chan::{SendEnd, TakeEnd, inbox, rejoin_inbox};
 use dob_update::Batch;
 use std::process::Abort;
 use std::sync::Wait;
 use std::test::Fail;
-
-// Offers the batch once. It comes back where the inbox doesn't take it.
-fn offer<R: Wait>(rt: &R, end: &mut SendEnd, batch: Batch) -> Option<Batch>
-    ensures { SendsToSame end.old end.new }
-{
-    if end.sent_count() >= 1 << 40 || end.from() != batch.from() {
-        return Some(batch);
-    }
-    match end.offer(rt, batch) {
-        Ok(()) => None,
-        Err(full) => Some(full.batch),
-    }
-}
 
 // Offers the batch once by its sender's end.
 fn offer_by_sender<R: Wait>(rt: &R, sends: &mut Vec<SendEnd>, batch: Batch) -> Option<Batch>

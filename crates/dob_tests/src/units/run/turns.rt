@@ -16,7 +16,7 @@ use std::sync::Wait;
 use std::sync::atomic::{AtomicUsize, Ordering};
 use std::test::Fail;
 
-// The classes of lions alone, and a crew of two nodes that own them, with batches of one item and channels for one batch.
+// The classes of lions alone, and a crew of two nodes that own them, with batches of one item and inboxes for one batch.
 fn two_runners(rt: &(impl Wait + Abort), alloc: Global) -> (Classes, Board, Runner, Runner)
     ensures small { IsSmall result.0.set }
     ensures first { result.0.set ≡ result.2.set }

@@ -1,21 +1,31 @@
--- One mail more is taken apart: its seat, sending ends and hands go last, and each taking end to its sender's row.
+-- One mail more is taken apart: its seat, taking end and hands go last, and each sending end to its receiver's row.
 use Rattle.std.proofs.Common.{◌≡◌, ℕ, rules, sym, subst, ap, List, length, vec_len, ◌∙◌, map}
 use Rattle.std.proofs.lemmas.List.{length-map}
-use Rattle.dob_chan.specs.declared.ends.TakeEnd.{TakeEnd}
-use Rattle.dob_run.specs.Ending.{inlet_end, AreDealt}
+use Rattle.dob_chan.specs.declared.ends.SendEnd.{SendEnd}
+use Rattle.dob_run.specs.Ending.{outlet_end}
+use Rattle.dob_run.specs.Rows.{AreDealt}
 use Rattle.dob_run.proofs.closing.Parts.add.Goals as goal
+
+pub deal-requires : goal.deal-requires
+deal-requires c =
+    let mail = c.args.mail in
+    let row = c.in_ok-sends.sends in
+    let things : row.items ≡ map outlet_end mail.outlets.items = c.in_ok-sends.ensures.ends in
+    let long : length row.items ≡ vec_len row = search rules in
+    let wide : length mail.outlets.items ≡ vec_len mail.outlets = search rules in
+    sym long ∙ ap length things ∙ length-map mail.outlets.items outlet_end ∙ wide ∙ mail.outlets_len ∙ c.requires
 
 pub returns : goal.returns
 returns c =
     let mail = c.args.mail in
-    let row = c.in_ok-takes.takes in
-    let things : row.items ≡ map inlet_end mail.inlets.items = c.in_ok-takes.ensures.ends in
+    let row = c.in_ok-sends.sends in
+    let things : row.items ≡ map outlet_end mail.outlets.items = c.in_ok-sends.ensures.ends in
     let long : length row.items ≡ vec_len row = search rules in
-    let count : vec_len row ≡ length mail.inlets.items = sym long ∙ ap length things ∙ length-map mail.inlets.items inlet_end in
+    let count : vec_len row ≡ length mail.outlets.items = sym long ∙ ap length things ∙ length-map mail.outlets.items outlet_end in
     record {
       seats = c.in_ok-push.ensures.items;
-      sends = (c.in_ok-sends.sends, c.in_ok-push-2.ensures.items, c.in_ok-sends.ensures.ends);
-      takes = subst (λ (p : ℕ × List TakeEnd). AreDealt p.0 p.1 c.args.self.now.takes.items c.deal.new.rows.items) (λ q. (count q, things q)) c.in_ok-deal.ensures;
-      sending = (c.in_ok-sends.sending, c.in_ok-push-3.ensures.items, c.in_ok-sends.ensures.hands);
-      taking = (c.in_ok-takes.taking, c.in_ok-push-4.ensures.items, c.in_ok-takes.ensures.hands);
+      sends = subst (λ (p : ℕ × List SendEnd). AreDealt p.0 p.1 c.args.self.now.sends.items c.deal.new.rows.items) (λ q. (count q, things q)) c.in_ok-deal.ensures;
+      takes = c.in_ok-push-3.ensures.items;
+      sending = (c.in_ok-sends.sending, c.in_ok-push-2.ensures.items, c.in_ok-sends.ensures.hands);
+      taking = (c.in_ok-taking.taking, c.in_ok-push-4.ensures.items, c.in_ok-taking.ensures);
     }

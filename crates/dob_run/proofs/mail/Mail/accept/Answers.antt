@@ -1,72 +1,79 @@
--- The accepted batch is one more of the inlet's worked ones and of the seat's count, and the other links are kept.
-use Rattle.std.proofs.Common.{◌≡◌, ◌≢◌, ℕ, ◌<◌, suc, List, ◌∷◌, [], ◌++◌, length, Option, Some, None, rules, arith, refl, sym, ap, ◌∙◌, subst, length-append}
-use Rattle.std.specs.Prelude.{slice_get, slice_set, IfSome}
-use Rattle.dob_pieces.proofs.Elements.{read_there}
+-- The accepted batch is one more of its sender's worked ones and of the seat's count, and the outlets are kept.
+use Rattle.std.proofs.Common.{◌≡◌, ◌≢◌, ℕ, ◌<◌, List, ◌∷◌, [], ◌++◌, Option, Some, rules, arith, refl, sym, ap, ◌∙◌, subst}
+use Rattle.std.specs.Prelude.{IfSome}
 use Rattle.dob_update.specs.Batches.{BatchView}
 use Rattle.dob_board.specs.declared.view.Stand.{Stand}
 use Rattle.dob_board.specs.Seats.{TakesOne}
 use Rattle.dob_run.specs.declared.hands.Inlet.{Inlet}
-use Rattle.dob_run.specs.declared.mail.Mail.{Mail}
+use Rattle.dob_chan.specs.Ends.{senders_of}
 use Rattle.dob_run.specs.Hands.{in_hand}
-use Rattle.dob_run.specs.Links.{offered, worked, KeepsOutlet, KeepsInlet}
-use Rattle.dob_run.specs.Mails.{AreCounts, HasChangedOne}
-use Rattle.dob_run.proofs.Counted.{counts_rise}
-use Rattle.dob_run.proofs.Keeping.{outlet_same, inlet_same, inlet_kept, one_kept, each_same}
+use Rattle.dob_run.specs.Batches.{IsBatchFor}
+use Rattle.dob_run.specs.Links.{offered, worked, KeepsOutlet}
+use Rattle.dob_run.specs.Mails.{AreCounts, AreTaken, AreOwn}
+use Rattle.dob_run.proofs.Senders.{taken_rises}
+use Rattle.dob_run.proofs.Keeping.{outlet_same, inlet_kept, each_same}
 use Rattle.dob_run.proofs.mail.Mail.accept.Goals as goal
 
-inlet_within : (mail : Mail) (k : ℕ) → k < mail.seat.nodes → k < length mail.inlets.items
-inlet_within mail k low = omega (arith, mail.inlets_len, low)
+-- what is so of the batch that lay in the hand is so of the one that is handed out
+of_held : (P : BatchView → Type 0) (result hand : Option BatchView) (batch : BatchView) → result ≡ hand → hand ≡ Some batch → P batch → IfSome result P
+of_held P result hand batch is held so = subst (λ (o : Option BatchView). IfSome o P) (sym (is ∙ held)) so
 
-held_one : (hand : Option BatchView) → hand ≢ None → length (in_hand hand) ≡ 1
-held_one None full = absurd (full refl)
-held_one (Some batch) full = refl
-
-accepted : (batch hand : Option BatchView) (links : List Inlet) (k : ℕ) (old new : Inlet) → slice_get links k ≡ Some old → new.end ≡ old.end → batch ≡ hand →
-    worked new ≡ worked old ++ in_hand hand →
-    IfSome batch (λ b. HasChangedOne {L = Inlet} (λ before after. (after.end ≡ before.end) × (worked after ≡ worked before ++ b ∷ [])) k links (slice_set links k new))
-accepted None hand links k old new at end is more = tt
-accepted (Some b) hand links k old new at end is more =
-    (old, new, at, (end, more ∙ ap (λ (h : Option BatchView). worked old ++ in_hand h) (sym is)), refl)
-
-same_link : (one other : Inlet) → Some one ≡ Some other → one ≡ other
-same_link one other e = cc
+one_more : (old new : Inlet) (batch : BatchView) → old.hand ≡ Some batch → worked new ≡ worked old ++ in_hand old.hand → worked new ≡ worked old ++ batch ∷ []
+one_more old new batch held more = more ∙ ap (λ (h : Option BatchView). worked old ++ in_hand h) held
 
 pub invariant_of-self-2 : goal.invariant_of-self-2
 invariant_of-self-2 c =
     let mail = c.args.self.now in
-    let seen = c.index.result.now in
-    let old = c.index_mut.result.now in
-    let seen_at : slice_get mail.inlets.items c.args.from ≡ Some seen = read_there mail.inlets.items c.args.from seen (inlet_within mail c.args.from c.requires.node) c.index.ensures in
-    let at : slice_get mail.inlets.items c.args.from ≡ Some old = read_there mail.inlets.items c.args.from old (inlet_within mail c.args.from c.requires.node) c.index_mut.ensures.value in
-    let full : seen.hand ≢ None = search rules in
-    let held : length (in_hand old.hand) ≡ 1 = held_one old.hand (subst (λ (l : Inlet). l.hand ≢ None) (same_link seen old (sym seen_at ∙ at)) full) in
-    let more : length (worked c.release.new.self) ≡ suc (length (worked old)) =
-    omega (arith, ap length c.release.ensures.worked, length-append (worked old) (in_hand old.hand), held) in
-    let one : TakesOne mail.seat c.take.new.self c.args.from = search rules in
+    let held = c.in-Some.ensures in
+    let one : TakesOne mail.seat c.take.new.self c.in-Some.from = search rules in
     let taken_is = ap (λ (s : Stand). s.taken) one.counted in
     let posted_is = ap (λ (s : Stand). s.posted) one.counted in
+    let within : c.in-Some.from < mail.seat.nodes = subst (λ (k : ℕ). c.in-Some.from < k) mail.senders (subst (λ (k : ℕ). k < senders_of mail.inlet.end) held.2 (mail.inlet.within held.0 held.1)) in
+    let counted = taken_rises mail.seat.nodes mail.seat.taken.items mail.inlet c.release.new.self c.in-Some.from held.0 mail.taken
+    (omega (arith, mail.seat.taken_len, within)) held.2 (one_more mail.inlet c.release.new.self held.0 held.1 c.release.ensures.worked) in
     record {
       outlets_len = mail.outlets_len ∙ sym c.take.ensures.same.nodes;
-      inlets_len = mail.inlets_len ∙ sym c.take.ensures.same.nodes;
+      senders = search rules;
+      own = subst (λ (node : ℕ). AreOwn node mail.outlets.items) (sym c.take.ensures.same.node) mail.own;
       posted = subst (λ (counts : List ℕ). AreCounts offered counts mail.outlets.items) (sym posted_is) mail.posted;
-      taken = subst (λ (counts : List ℕ). AreCounts worked counts (slice_set mail.inlets.items c.args.from c.release.new.self)) (sym taken_is)
-          (counts_rise worked mail.seat.taken.items mail.inlets.items c.args.from old c.release.new.self mail.taken at (omega (arith, mail.seat.taken_len, c.requires.node)) more);
+      taken = subst (λ (p : ℕ × List ℕ). AreTaken p.0 p.1 c.release.new.self) (λ q. ((sym c.take.ensures.same.nodes) q, (sym taken_is) q)) counted;
     }
+
+pub returns-clause-other : goal.returns-clause-other
+returns-clause-other c =
+    let mail = c.args.self.now in
+    let held = c.in-Some.ensures in
+    let within : held.0.from < mail.seat.nodes = subst (λ (k : ℕ). held.0.from < k) mail.senders (mail.inlet.within held.0 held.1) in
+    of_held (λ b. (b.from < mail.seat.nodes) × (b.from ≢ mail.seat.node)) c.release.result mail.inlet.hand held.0 c.release.ensures.batch held.1
+    (within, λ same. held.3 (sym held.2 ∙ same))
+
+pub returns-clause-fit : goal.returns-clause-fit
+returns-clause-fit c =
+    let mail = c.args.self.now in
+    let held = c.in-Some.ensures in
+    of_held (λ b. IsBatchFor c.args.set mail.seat.nodes b.from mail.seat.node b) c.release.result mail.inlet.hand held.0 c.release.ensures.batch held.1
+    (subst (λ (k : ℕ). IsBatchFor c.args.set mail.seat.nodes k mail.seat.node held.0) (sym held.2) held.4)
+
+pub returns-clause-taken : goal.returns-clause-taken
+returns-clause-taken c =
+    let mail = c.args.self.now in
+    let held = c.in-Some.ensures in
+    let one : TakesOne mail.seat c.take.new.self c.in-Some.from = search rules in
+    of_held (λ b. TakesOne mail.seat c.take.new.self b.from) c.release.result mail.inlet.hand held.0 c.release.ensures.batch held.1
+    (subst (λ (k : ℕ). TakesOne mail.seat c.take.new.self k) (sym held.2) one)
 
 pub returns-clause-worked : goal.returns-clause-worked
 returns-clause-worked c =
     let mail = c.args.self.now in
-    let old = c.index_mut.result.now in
-    let at : slice_get mail.inlets.items c.args.from ≡ Some old = read_there mail.inlets.items c.args.from old (inlet_within mail c.args.from c.requires.node) c.index_mut.ensures.value in
-    accepted c.release.result old.hand mail.inlets.items c.args.from old c.release.new.self at c.release.ensures.end c.release.ensures.batch c.release.ensures.worked
+    let held = c.in-Some.ensures in
+    of_held (λ b. (c.release.new.self.end ≡ mail.inlet.end) × (worked c.release.new.self ≡ worked mail.inlet ++ b ∷ [])) c.release.result mail.inlet.hand held.0
+    c.release.ensures.batch held.1 (c.release.ensures.end, one_more mail.inlet c.release.new.self held.0 held.1 c.release.ensures.worked)
 
 pub returns-clause-keeps : goal.returns-clause-keeps
 returns-clause-keeps c =
     let mail = c.args.self.now in
-    let old = c.index_mut.result.now in
-    let at : slice_get mail.inlets.items c.args.from ≡ Some old = read_there mail.inlets.items c.args.from old (inlet_within mail c.args.from c.requires.node) c.index_mut.ensures.value in
     record {
       seat = c.take.ensures.same;
       outlets = each_same KeepsOutlet outlet_same mail.outlets.items mail.outlets.items refl;
-      inlets = one_kept KeepsInlet inlet_same mail.inlets.items c.args.from old c.release.new.self at (inlet_kept old c.release.new.self c.release.ensures.end);
+      inlet = inlet_kept mail.inlet c.release.new.self c.release.ensures.end;
     }

@@ -1,11 +1,11 @@
 -- An offer leaves the counts and the offered batches, at most 2^40, as they were, and empty hands stay empty.
-use Rattle.std.proofs.Common.{◌≡◌, ◌≤◌, ◌^◌, ◌⊎◌, inl, inr, ◌∙◌, length, Some, None, rules, arith, refl, ap}
+use Rattle.std.proofs.Common.{◌≡◌, ◌≤◌, ◌^◌, ◌⊎◌, inl, inr, ◌∙◌, length, Some, None, rules, arith, refl, sym, ap, subst}
 use Rattle.std.specs.Prelude.{slice_get}
 use Rattle.dob_pieces.proofs.Elements.{read_there}
 use Rattle.dob_run.specs.declared.hands.Outlet.{Outlet}
-use Rattle.dob_run.specs.Links.{offered, KeepsOutlet, KeepsInlet}
-use Rattle.dob_run.proofs.Counted.{counts_stay}
-use Rattle.dob_run.proofs.Keeping.{outlet_same, inlet_same, one_kept, each_same, seat_same}
+use Rattle.dob_run.specs.Links.{offered, IsFull, KeepsOutlet}
+use Rattle.dob_run.proofs.Counted.{counts_stay, own_set, there_set}
+use Rattle.dob_run.proofs.Keeping.{outlet_same, inlet_same, one_kept, seat_same}
 use Rattle.dob_run.proofs.mail.Mail.offer.Goals as goal
 
 pub offer-requires : goal.offer-requires
@@ -23,7 +23,8 @@ invariant_of-self g c =
     let at : slice_get mail.outlets.items c.args.to ≡ Some old = read_there mail.outlets.items c.args.to old (search rules) c.index_mut.ensures.value in
     record {
       outlets_len = mail.outlets_len;
-      inlets_len = mail.inlets_len;
+      senders = mail.senders;
+      own = own_set mail.seat.node mail.outlets.items c.args.to old c.offer.new.self mail.own at c.offer.ensures.keeps.0.1;
       posted = counts_stay offered mail.seat.posted.items mail.outlets.items c.args.to old c.offer.new.self mail.posted at (ap length c.offer.ensures.offered);
       taken = mail.taken;
     }
@@ -53,5 +54,12 @@ returns-clause-keeps g c =
     record {
       seat = seat_same mail.seat;
       outlets = one_kept KeepsOutlet outlet_same mail.outlets.items c.args.to old c.offer.new.self at c.offer.ensures.keeps;
-      inlets = each_same KeepsInlet inlet_same mail.inlets.items mail.inlets.items refl;
+      inlet = inlet_same mail.inlet;
     }
+
+pub returns-clause-full : goal.returns-clause-full
+returns-clause-full g c =
+    let mail = c.args.self.now in
+    λ after at stuck.
+    let is : c.offer.new.self ≡ after = there_set mail.outlets.items c.args.to c.offer.new.self after at in
+    subst (λ (o : Outlet). IsFull o) is (c.offer.ensures.full (λ none. stuck (sym (ap (λ (o : Outlet). o.hand) is) ∙ none)))

@@ -3,11 +3,20 @@ use Rattle.std.proofs.Common.{◌≡◌, suc, List, ℕ, [], ◌∷◌, length, 
 use Rattle.std.specs.Prelude.{slice_get, slice_set}
 use Rattle.dob_pieces.proofs.Elements.{read_there}
 use Rattle.dob_board.specs.declared.view.Stand.{Stand}
-use Rattle.dob_run.specs.Links.{offered, worked, KeepsOutlet, KeepsInlet}
-use Rattle.dob_run.specs.Mails.{AreCounts}
-use Rattle.dob_run.proofs.Counted.{counts_rise}
-use Rattle.dob_run.proofs.Keeping.{outlet_same, outlet_kept, inlet_same, one_kept, each_same}
+use Rattle.dob_chan.specs.declared.ends.SendEnd.{SendEnd}
+use Rattle.dob_chan.specs.Ends.{place_of}
+use Rattle.dob_run.specs.Links.{offered, KeepsOutlet}
+use Rattle.dob_run.specs.Mails.{AreCounts, AreTaken, AreOwn}
+use Rattle.dob_run.proofs.Counted.{counts_rise, own_set}
+use Rattle.dob_run.proofs.Keeping.{outlet_same, outlet_kept, inlet_same, one_kept}
 use Rattle.dob_run.proofs.mail.Mail.post.Goals as goal
+
+pub hold-requires-clause-own : goal.hold-requires-clause-own
+hold-requires-clause-own c =
+    let mail = c.args.self.now in
+    let old = c.index_mut.result.now in
+    let at : slice_get mail.outlets.items c.args.to ≡ Some old = read_there mail.outlets.items c.args.to old (search rules) c.index_mut.ensures.value in
+    c.requires.own ∙ sym (mail.own c.args.to old at)
 
 pub invariant_of-self : goal.invariant_of-self
 invariant_of-self c =
@@ -20,10 +29,12 @@ invariant_of-self c =
     let taken_is = ap (λ (s : Stand). s.taken) c.post.ensures.counted in
     record {
       outlets_len = mail.outlets_len ∙ sym c.post.ensures.same.nodes;
-      inlets_len = mail.inlets_len ∙ sym c.post.ensures.same.nodes;
+      senders = mail.senders ∙ sym c.post.ensures.same.nodes;
+      own = subst (λ (node : ℕ). AreOwn node (slice_set mail.outlets.items c.args.to c.hold.new.self)) (sym c.post.ensures.same.node)
+          (own_set mail.seat.node mail.outlets.items c.args.to old c.hold.new.self mail.own at (ap (λ (e : SendEnd). place_of e) c.hold.ensures.end));
       posted = subst (λ (counts : List ℕ). AreCounts offered counts (slice_set mail.outlets.items c.args.to c.hold.new.self)) (sym posted_is)
           (counts_rise offered mail.seat.posted.items mail.outlets.items c.args.to old c.hold.new.self mail.posted at (omega (arith, mail.seat.posted_len, c.requires.node)) more);
-      taken = subst (λ (counts : List ℕ). AreCounts worked counts mail.inlets.items) (sym taken_is) mail.taken;
+      taken = subst (λ (p : ℕ × List ℕ). AreTaken p.0 p.1 mail.inlet) (λ q. ((sym c.post.ensures.same.nodes) q, (sym taken_is) q)) mail.taken;
     }
 
 pub returns-clause-offered : goal.returns-clause-offered
@@ -41,5 +52,5 @@ returns-clause-keeps c =
     record {
       seat = c.post.ensures.same;
       outlets = one_kept KeepsOutlet outlet_same mail.outlets.items c.args.to old c.hold.new.self at (outlet_kept old c.hold.new.self c.hold.ensures.end);
-      inlets = each_same KeepsInlet inlet_same mail.inlets.items mail.inlets.items refl;
+      inlet = inlet_same mail.inlet;
     }

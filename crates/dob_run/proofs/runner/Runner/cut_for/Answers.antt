@@ -49,6 +49,13 @@ post-requires-clause-few c =
     (λ many. cut_counts c.in-Ok.cut _ (c.in-Ok.ensures.counts.1 (λ empty. cut_none c.in-Ok.cut c.in-Some.batch c.in-Some.is (c.in-Ok.ensures.none.1 empty), many))) in
     omega (arith, few, r.mail.posted c.args.to spot.0 spot.1, (law.sends c.args.to spot.0 c.requires.other spot.1).cut)
 
+pub post-requires-clause-own : goal.post-requires-clause-own
+post-requires-clause-own c =
+    let r = c.args.self.now in
+    let cut : HasCut c.args.to r.size c.in-Some.batch r.node c.cut_for.new.self =
+    subst (λ given. IfSome given (λ (b : BatchView). HasCut c.args.to r.size b r.node c.cut_for.new.self)) c.in-Some.is c.in-Ok.ensures.cut in
+    cut.of.2 ∙ (r.lawful (inl c.requires.unfailed)).of.1
+
 pub invariant_of-self-2 : goal.invariant_of-self-2
 invariant_of-self-2 c =
     let r = c.args.self.now in
@@ -67,7 +74,7 @@ invariant_of-self-2 c =
           (same_halt c.post.new.self.seat.halt r.mail.seat.halt (ap (λ (s : Stand). s.halt) c.post.ensures.counted)) c.post.ensures.same.node found);
       lawful = λ _. cut_one r.set r.size c.args.to c.in-Some.batch r.node c.cut_for.new.self r.mail c.post.new.self law c.requires.other cut c.in-Ok.ensures.sound
           c.post.ensures.same.node c.post.ensures.same.nodes (ap (λ (s : Stand). s.black) c.post.ensures.counted ∙ was_black) c.post.ensures.offered
-          c.post.ensures.inlets;
+          c.post.ensures.inlet;
     }
 
 pub returns-in_default : goal.returns-in_default
@@ -85,5 +92,5 @@ returns c =
       unfailed = c.requires.unfailed;
       halt = same_halt c.post.new.self.seat.halt r.mail.seat.halt (ap (λ (s : Stand). s.halt) c.post.ensures.counted);
     })
-    cut c.post.ensures.offered (ap (λ v. v.items) c.post.ensures.inlets)
+    cut c.post.ensures.offered c.post.ensures.inlet
     (λ empty. cut_none c.in-Ok.cut c.in-Some.batch c.in-Some.is (c.in-Ok.ensures.none.1 empty))

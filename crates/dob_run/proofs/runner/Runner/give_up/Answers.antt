@@ -3,7 +3,7 @@ use Rattle.std.proofs.Common.{◌≡◌, sym, ap, ◌∙◌, inl, inr}
 use Rattle.dob_board.specs.declared.halt.Halt.TheVariants.{Ended}
 use Rattle.dob_run.specs.Workers.{IsLawful}
 use Rattle.dob_run.proofs.Keeping.{ended_before, some_cause}
-use Rattle.dob_run.proofs.Lawfuls.{recoloured, same_inlets}
+use Rattle.dob_run.proofs.Lawfuls.{recoloured, same_inlet}
 use Rattle.dob_run.proofs.runner.Runner.give_up.Goals as goal
 
 pub invariant_of-self : goal.invariant_of-self
@@ -23,7 +23,7 @@ invariant_of-self c =
         | inl none ↦ absurd (some_cause c.args.why none)
         | inr ended ↦ recoloured r.set r.size r.node r.mail c.fail.new.self (law ended)
             c.fail.ensures.links.seat.node c.fail.ensures.links.seat.nodes (ap (λ v. v.items) c.fail.ensures.links.outlets)
-            (same_inlets r.mail c.fail.new.self c.fail.ensures.links.inlets)
+            (same_inlet r.mail c.fail.new.self c.fail.ensures.links.inlet)
             (λ is. (law ended).white (sym c.fail.ensures.colour ∙ is))
       ];
     }

@@ -1,7 +1,7 @@
 -- A runner that looks for the halt stays lawful, and its seat finds its own failure only where it knew of it.
 use Rattle.std.proofs.Common.{sym, ap, ◌∙◌, inl}
 use Rattle.dob_run.proofs.Keeping.{own_before}
-use Rattle.dob_run.proofs.Lawfuls.{recoloured, same_inlets}
+use Rattle.dob_run.proofs.Lawfuls.{recoloured, same_inlet}
 use Rattle.dob_run.proofs.runner.Runner.looks.Goals as goal
 
 pub invariant_of-self : goal.invariant_of-self
@@ -14,6 +14,6 @@ invariant_of-self c =
       own = λ found. r.own (own_before r.mail.seat c.halted.new.self.seat c.halted.ensures.own c.halted.ensures.links.seat.node found);
       lawful = λ _. recoloured r.set r.size r.node r.mail c.halted.new.self (r.lawful (inl c.requires))
           c.halted.ensures.links.seat.node c.halted.ensures.links.seat.nodes (ap (λ v. v.items) c.halted.ensures.links.outlets)
-          (same_inlets r.mail c.halted.new.self c.halted.ensures.links.inlets)
+          (same_inlet r.mail c.halted.new.self c.halted.ensures.links.inlet)
           (λ is. (r.lawful (inl c.requires)).white (sym c.halted.ensures.colour ∙ is));
     }

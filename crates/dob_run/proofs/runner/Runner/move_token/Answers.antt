@@ -3,7 +3,7 @@
 use Rattle.std.proofs.Common.{sym, ap, ◌∙◌, inl}
 use Rattle.std.proofs.lemmas.Bool.{both_ways}
 use Rattle.dob_run.proofs.Keeping.{own_before, own_still}
-use Rattle.dob_run.proofs.Lawfuls.{recoloured, same_inlets}
+use Rattle.dob_run.proofs.Lawfuls.{recoloured, same_inlet}
 use Rattle.dob_run.proofs.Turning.{token_away, token_moved}
 use Rattle.dob_run.proofs.runner.Runner.move_token.Goals as goal
 
@@ -17,7 +17,7 @@ invariant_of-self c =
       own = λ found. r.own (own_still r.mail.seat c.finds_token.new.self.seat c.finds_token.ensures.halt c.finds_token.ensures.links.seat.node found);
       lawful = λ _. recoloured r.set r.size r.node r.mail c.finds_token.new.self (r.lawful (inl c.requires.unfailed))
           c.finds_token.ensures.links.seat.node c.finds_token.ensures.links.seat.nodes (ap (λ v. v.items) c.finds_token.ensures.links.outlets)
-          (same_inlets r.mail c.finds_token.new.self c.finds_token.ensures.links.inlets)
+          (same_inlet r.mail c.finds_token.new.self c.finds_token.ensures.links.inlet)
           (λ is. (r.lawful (inl c.requires.unfailed)).white (sym c.finds_token.ensures.colour ∙ is));
     }
 
@@ -34,7 +34,7 @@ invariant_of-self-then-may_announce c =
           (c.announce.ensures.links.seat.node ∙ c.finds_token.ensures.links.seat.node)
           (c.announce.ensures.links.seat.nodes ∙ c.finds_token.ensures.links.seat.nodes)
           (ap (λ v. v.items) (c.announce.ensures.links.outlets ∙ c.finds_token.ensures.links.outlets))
-          (same_inlets r.mail c.announce.new.self (c.announce.ensures.links.inlets ∙ c.finds_token.ensures.links.inlets))
+          (same_inlet r.mail c.announce.new.self (c.announce.ensures.links.inlet ∙ c.finds_token.ensures.links.inlet))
           (λ is. (r.lawful (inl c.requires.unfailed)).white (sym (c.announce.ensures.colour ∙ c.finds_token.ensures.colour) ∙ is));
     }
 
@@ -51,7 +51,7 @@ invariant_of-self-else-may_announce c =
           (c.pass.ensures.links.seat.node ∙ c.finds_token.ensures.links.seat.node)
           (c.pass.ensures.links.seat.nodes ∙ c.finds_token.ensures.links.seat.nodes)
           (ap (λ v. v.items) (c.pass.ensures.links.outlets ∙ c.finds_token.ensures.links.outlets))
-          (same_inlets r.mail c.pass.new.self (c.pass.ensures.links.inlets ∙ c.finds_token.ensures.links.inlets))
+          (same_inlet r.mail c.pass.new.self (c.pass.ensures.links.inlet ∙ c.finds_token.ensures.links.inlet))
           (λ is. (c.requires.idle.idle, c.requires.idle.sent));
     }
 

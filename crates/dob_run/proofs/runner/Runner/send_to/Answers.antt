@@ -16,7 +16,7 @@ invariant_of-self g c =
       at_most = f.at_most;
       going = λ _. went.unfailed;
       own = λ found. f.own (own_still f.mail.seat c.offer.new.self.seat (ap (λ s. s.halt) c.offer.ensures.seat) (ap (λ s. s.node) c.offer.ensures.seat) found);
-      lawful = λ _. offered_again f.set f.size c.args.to f.node f.mail c.offer.new.self (f.lawful (inl went.unfailed)) c.offer.ensures.seat c.offer.ensures.offered c.offer.ensures.inlets
+      lawful = λ _. offered_again f.set f.size c.args.to f.node f.mail c.offer.new.self (f.lawful (inl went.unfailed)) c.offer.ensures.seat c.offer.ensures.offered c.offer.ensures.inlet
           (out_still f.mail c.offer.new.self (ap (λ s. s.nodes) c.offer.ensures.seat) c.offer.ensures.hands);
     }
 
@@ -47,5 +47,5 @@ returns g c =
       unfailed = fills.0.goes.unfailed;
       halt = ap (λ s. s.halt) c.offer.ensures.seat ∙ fills.0.goes.halt;
     })
-    refl (ap (λ v. v.items) c.offer.ensures.inlets) (c.is_full.ensures.full c.if-not-is_full.false) c.offer.ensures.offered c.offer.ensures.tried
+    refl c.offer.ensures.inlet (c.is_full.ensures.full c.if-not-is_full.false) c.offer.ensures.offered c.offer.ensures.tried c.offer.ensures.full
     c.is_full-2.result c.is_full-2.ensures.full c.is_full-2.ensures.empty

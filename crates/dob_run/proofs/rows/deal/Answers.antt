@@ -1,0 +1,24 @@
+-- The next thing goes last in the row at its own place, and after the last row all are dealt.
+use Rattle.std.proofs.Common.{◌≡◌, ℕ, Some, rules, sym, subst, ◌∙◌}
+use Rattle.std.specs.Prelude.{slice_get}
+use Rattle.dob_pieces.proofs.Elements.{read_there}
+use Rattle.dob_run.specs.Rows.{AreDealt}
+use Rattle.dob_run.proofs.Places.{next_is, then_left}
+use Rattle.dob_run.proofs.Rejoining.{dealt_one}
+use Rattle.dob_run.proofs.rows.deal.Goals as goal
+
+pub loop-place-preserved : goal.loop-place-preserved
+loop-place-preserved g c =
+    let inv = c.loop-place.invariant in
+    let rows = c.loop-place.rows.items in
+    let place = c.loop-place.place in
+    let row = c.index_mut.result.now in
+    let at : slice_get rows place ≡ Some row = read_there rows place row (search rules) c.index_mut.ensures.value in
+    let step = c.in-Some.ensures.cases in record {
+      rest = then_left c.args.things.items _ c.in-Some.thing place (sym inv.rest ∙ step.0);
+      dealt = dealt_one place c.args.things.items c.args.rows.now.items rows row c.push.new.self c.in-Some.thing inv.dealt at
+          (next_is c.args.things.items _ c.in-Some.thing place (sym inv.rest ∙ step.0)) c.in_ok-push.ensures.items;
+    }
+
+pub returns : goal.returns
+returns g c = subst (λ (k : ℕ). AreDealt k c.args.things.items c.args.rows.now.items c.loop-place.rows.items) (search rules) c.loop-place.invariant.dealt

@@ -1,0 +1,121 @@
+-- The runner is lawful whether no batch came or one was applied; a refused one blackened its seat before any end.
+use Rattle.std.proofs.Common.{◌≡◌, ◌≢◌, ◌<◌, true, refl, sym, ap, subst, ◌∙◌, ◌++◌, inl}
+use Rattle.dob_board.specs.declared.view.Stand.{Stand}
+use Rattle.dob_board.specs.Seats.{TakesOne}
+use Rattle.dob_board.specs.declared.seat.NodeSeat.{NodeSeat}
+use Rattle.dob_run.specs.Batches.{IsBatchFor}
+use Rattle.dob_run.proofs.Keeping.{mail_trans, links_kept, own_still, some_cause, failed_first, refused_reason}
+use Rattle.dob_run.proofs.Applied.{worked_again, worked_else, worked_more}
+use Rattle.dob_run.proofs.Lawfuls.{recoloured, same_inlet, applied_batch}
+use Rattle.dob_run.proofs.Taking.{takes_none, takes_one}
+use Rattle.dob_run.proofs.runner.Runner.take_one.Goals as goal
+
+pub invariant_of-self : goal.invariant_of-self
+invariant_of-self g c =
+    let r = c.args.self.now in
+    record {
+      some = r.some;
+      at_most = r.at_most;
+      going = λ _. c.requires;
+      own = λ found. r.own (own_still r.mail.seat c.accept.new.self.seat (c.accept.ensures.halt ∙ ap (λ s. s.halt) c.receive.ensures.seat)
+          (c.accept.ensures.same.node ∙ ap (λ s. s.node) c.receive.ensures.seat) found);
+      lawful = λ _. recoloured r.set r.size r.node r.mail c.accept.new.self (r.lawful (inl c.requires))
+          (c.accept.ensures.same.node ∙ ap (λ s. s.node) c.receive.ensures.seat) (c.accept.ensures.same.nodes ∙ ap (λ s. s.nodes) c.receive.ensures.seat)
+          (ap (λ v. v.items) (c.accept.ensures.outlets ∙ c.receive.ensures.outlets))
+          (λ k. same_inlet c.receive.new.self c.accept.new.self c.in_default.ensures.kept k ∙ worked_again r.mail.inlet c.receive.new.self.inlet c.receive.ensures.worked k)
+          (λ is. (r.lawful (inl c.requires)).white (sym (c.in_default.ensures.uncounted.1 ∙ ap (λ s. s.black) c.receive.ensures.seat) ∙ is));
+    }
+
+pub invariant_of-self-in-Err : goal.invariant_of-self-in-Err
+invariant_of-self-in-Err g c =
+    let r = c.args.self.now in
+    let taken : TakesOne c.receive.new.self.seat c.accept.new.self.seat c.in-Some.batch.from = c.in-Some.ensures.taken in
+    record {
+      some = r.some;
+      at_most = r.at_most;
+      going = λ running. absurd (c.fail.ensures.stopped running);
+      own = λ _ none. some_cause c.in-Err.why none;
+      lawful = failed_first c.in-Err.why c.fail.new.self.seat.halt (c.fail.ensures.black (ap (λ (s : Stand). s.black) taken.counted));
+    }
+
+pub invariant_of-self-in-Ok : goal.invariant_of-self-in-Ok
+invariant_of-self-in-Ok g c =
+    let r = c.args.self.now in
+    let taken : TakesOne c.receive.new.self.seat c.accept.new.self.seat c.in-Some.batch.from = c.in-Some.ensures.taken in
+    let black : c.accept.new.self.seat.black ≡ true = ap (λ (s : Stand). s.black) taken.counted in
+    record {
+      some = r.some;
+      at_most = r.at_most;
+      going = λ _. c.requires;
+      own = λ found. r.own (own_still r.mail.seat c.accept.new.self.seat (c.accept.ensures.halt ∙ ap (λ s. s.halt) c.receive.ensures.seat)
+          (c.accept.ensures.same.node ∙ ap (λ s. s.node) c.receive.ensures.seat) found);
+      lawful = λ _. (let again = worked_again r.mail.inlet c.receive.new.self.inlet c.receive.ensures.worked in
+          let batch = c.in-Some.batch in
+          let more = c.in-Some.ensures.worked.1 in
+          applied_batch r.set r.size batch.from batch r.node c.apply_batch.new.self r.mail c.accept.new.self (r.lawful (inl c.requires))
+          (subst (λ (s : NodeSeat). batch.from < s.nodes) c.receive.ensures.seat c.in-Some.ensures.other.0)
+          (subst (λ (s : NodeSeat). batch.from ≢ s.node) c.receive.ensures.seat c.in-Some.ensures.other.1)
+          c.in-Some.ensures.fit.entries c.in-Ok.ensures.taken c.in-Ok.ensures.sound
+          (c.accept.ensures.same.node ∙ ap (λ s. s.node) c.receive.ensures.seat) (c.accept.ensures.same.nodes ∙ ap (λ s. s.nodes) c.receive.ensures.seat)
+          black (ap (λ v. v.items) (c.accept.ensures.outlets ∙ c.receive.ensures.outlets))
+          (λ k other. worked_else c.receive.new.self.inlet c.accept.new.self.inlet batch more k other ∙ again k)
+          (worked_more c.receive.new.self.inlet c.accept.new.self.inlet batch more ∙ ap (λ xs. xs ++ batch.items) (again batch.from)));
+    }
+
+pub returns-in_default : goal.returns-in_default
+returns-in_default g c =
+    let r = c.args.self.now in
+    takes_none r _ c.receive.new.self
+    (record {
+      keeps = record { mail = mail_trans r.mail c.receive.new.self c.accept.new.self c.receive.ensures.keeps c.accept.ensures.keeps; set = refl; size = refl };
+      unfailed = c.requires;
+      halt = c.accept.ensures.halt ∙ ap (λ s. s.halt) c.receive.ensures.seat;
+    })
+    c.receive.ensures.worked c.receive.ensures.asked (ap (λ v. v.items) (c.accept.ensures.outlets ∙ c.receive.ensures.outlets))
+    c.in_default.ensures.kept
+
+pub returns-in-Ok : goal.returns-in-Ok
+returns-in-Ok g c =
+    let r = c.args.self.now in
+    takes_one r _ c.receive.new.self
+    (record {
+      keeps = record { mail = mail_trans r.mail c.receive.new.self c.accept.new.self c.receive.ensures.keeps c.accept.ensures.keeps; set = refl; size = refl };
+      unfailed = c.requires;
+      halt = c.accept.ensures.halt ∙ ap (λ s. s.halt) c.receive.ensures.seat;
+    })
+    c.receive.ensures.worked c.receive.ensures.asked (ap (λ v. v.items) (c.accept.ensures.outlets ∙ c.receive.ensures.outlets))
+    c.in-Some.batch c.in-Some.ensures.worked.0 c.in-Some.ensures.worked.1
+
+pub returns : goal.returns
+returns g c =
+    let r = c.args.self.now in
+    record {
+      failed = record {
+        keeps = record {
+          mail = mail_trans r.mail c.accept.new.self c.fail.new.self (mail_trans r.mail c.receive.new.self c.accept.new.self c.receive.ensures.keeps c.accept.ensures.keeps)
+              (links_kept c.accept.new.self c.fail.new.self c.fail.ensures.links);
+          set = refl;
+          size = refl;
+        };
+        cause = refl;
+        stopped = c.fail.ensures.stopped;
+      };
+      reason = refused_reason _ c.in-Err.why (record {
+        was = r;
+        going = c.requires;
+        kept = record {
+          mail = mail_trans r.mail c.accept.new.self c.fail.new.self (mail_trans r.mail c.receive.new.self c.accept.new.self c.receive.ensures.keeps c.accept.ensures.keeps)
+              (links_kept c.accept.new.self c.fail.new.self c.fail.ensures.links);
+          set = refl;
+          size = refl;
+        };
+        from = c.in-Some.batch.from;
+        other = subst (λ (s : NodeSeat). c.in-Some.batch.from ≢ s.node) c.receive.ensures.seat c.in-Some.ensures.other.1;
+        batch = c.in-Some.batch;
+        fits = subst (λ (s : NodeSeat). IsBatchFor r.set s.nodes c.in-Some.batch.from s.node c.in-Some.batch) c.receive.ensures.seat c.in-Some.ensures.fit;
+        came = same_inlet c.accept.new.self c.fail.new.self c.fail.ensures.links.inlet c.in-Some.batch.from
+            ∙ worked_more c.receive.new.self.inlet c.accept.new.self.inlet c.in-Some.batch c.in-Some.ensures.worked.1
+            ∙ ap (λ xs. xs ++ c.in-Some.batch.items) (worked_again r.mail.inlet c.receive.new.self.inlet c.receive.ensures.worked c.in-Some.batch.from);
+        before = c.in-Err.ensures.before;
+      });
+    }
