@@ -7,7 +7,7 @@ use Rattle.dob_cli.specs.declared.command.Order.{Order}
 use Rattle.dob_cli.specs.declared.command.Order.TheVariants.{Value, Count, Build, Probe, Line, Check}
 use Rattle.dob_cli.specs.Endings.{Ending}
 use Rattle.dob_cli.specs.Shelves.{SameFiles, SameOthers, ShelfChange}
-use Rattle.dob_cli.specs.Words.{Meaning, asks, build, help, number_of, topic, usage, version}
+use Rattle.dob_cli.specs.Words.{Meaning, asks, build, help, number_of, usage, version}
 use Rattle.dob_cli.specs.declared.command.Reading.TheVariants as reading
 use Rattle.dob_cli.specs.Readings.{IsOrder, IsReadingOf, name_of_order}
 use Rattle.dob_cli.specs.Orders.{AnswersOrder, KeepsFiles}
@@ -78,7 +78,6 @@ module _ (c : ShelfChange) where
       → ((set nodes file : Text) → m ≡ build set nodes file → ⊥) → ⊥
   no_build (asks name texts) s f n is none = none s.now is.1.0 f.now (ap₂ (λ (x : Text) (y : List Text). asks x y) (sym is.0) (sym is.1.1))
   no_build help s f n is none = is
-  no_build topic s f n is none = is
   no_build usage s f n is none = is
   no_build version s f n is none = is
 

@@ -58,7 +58,6 @@ module _ (c : ShelfChange) (words : List Text) (e : Ending) where
     check = λ file _. memory_answered _ _ e (tt, works) told;
     help = λ _. inr told;
     version = λ _. inr told;
-    topic = λ _. inl (inr told);
     usage = λ _. inr told;
     others = λ set nodes file _. others_kept file c.before.has c.after.has same;
     files = λ _. same;
@@ -82,7 +81,6 @@ module _ (c : ShelfChange) (words : List Text) (e : Ending) where
     check = λ file is. done_check c e o file (asked (reading.Order o) read _ is) answers;
     help = λ is. absurd (asked (reading.Order o) read _ is);
     version = λ is. absurd (asked (reading.Order o) read _ is);
-    topic = λ is. absurd (asked (reading.Order o) read _ is);
     usage = λ is. absurd (asked (reading.Order o) read _ is);
     others = λ set nodes file is. kept_others c o set nodes file (asked (reading.Order o) read _ is) keeps;
     files = λ none. kept_files c (meaning_of words) o read none keeps;
@@ -101,7 +99,6 @@ module _ (c : ShelfChange) (words : List Text) (e : Ending) where
     check = λ file is. absurd (asked reading.Version read _ is);
     help = λ is. absurd (asked reading.Version read _ is);
     version = λ _. inl told;
-    topic = λ is. absurd (asked reading.Version read _ is);
     usage = λ is. absurd (asked reading.Version read _ is);
     others = λ set nodes file is. absurd (asked reading.Version read _ is);
     files = λ _. same;

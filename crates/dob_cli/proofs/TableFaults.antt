@@ -31,14 +31,14 @@ module _ (Has : List ℕ → Type 0) (table : ClassTable) (file : IsFileOf Has t
 pub opening_fault_holds : (Has : List ℕ → Type 0) (words : List ℕ) (position : Setup) (fault : Fault) → IsTextOf words position
     → IsOpeningFault Has fault → IsPositionFault Has words fault
 opening_fault_holds Has words position (File fault) named holds = (position, named, holds)
-opening_fault_holds Has words position Io named holds = (position, named, tt)
+opening_fault_holds Has words position Io named holds = (position, named, holds)
 opening_fault_holds Has words position (Text fault) named holds = absurd holds
 opening_fault_holds Has words position SetText named holds = absurd holds
 opening_fault_holds Has words position SetTooLarge named holds = absurd holds
 opening_fault_holds Has words position TooDeep named holds = absurd holds
 opening_fault_holds Has words position (Run fault) named holds = absurd holds
 opening_fault_holds Has words position (Table fault) named holds = absurd holds
-opening_fault_holds Has words position Memory named holds = absurd holds
+opening_fault_holds Has words position Memory named holds = tt
 
 -- by the file of a value table the line tells the value that the position has by definition
 line_right : (Has : List ℕ → Type 0) (words lines : List ℕ) → HasValueFile Has → IsProbeLine Has words lines → IsValueLineOf words lines

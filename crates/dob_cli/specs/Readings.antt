@@ -4,7 +4,7 @@ use Rattle.clap.specs.declared.error.kind.ErrorKind.{ErrorKind}
 use Rattle.clap.specs.declared.error.kind.ErrorKind.TheVariants as kind
 use Rattle.dob_cli.specs.Forms.{Form, Text, forms}
 use Rattle.dob_cli.specs.Lines.{IsAmong, IsLine}
-use Rattle.dob_cli.specs.Words.{Meaning, asks, help, is_number, number_of, topic, usage, version}
+use Rattle.dob_cli.specs.Words.{Meaning, asks, help, is_number, number_of, usage, version}
 use Rattle.dob_cli.specs.declared.command.Order.{Order}
 use Rattle.dob_cli.specs.declared.command.Order.TheVariants as order
 use Rattle.dob_cli.specs.declared.command.Reading.{Reading}
@@ -37,8 +37,6 @@ abbrev pub IsReadingOf : Meaning → Reading → Type 0
 IsReadingOf (asks name texts) (reading.Order o) = IsOrder name texts o
 IsReadingOf help (reading.Help _) = Unit {0}
 IsReadingOf version reading.Version = Unit {0}
-IsReadingOf topic (reading.Help _) = Unit {0}
-IsReadingOf topic (reading.Usage _) = Unit {0}
 IsReadingOf usage (reading.Usage _) = Unit {0}
 IsReadingOf _ _ = ⊥
 

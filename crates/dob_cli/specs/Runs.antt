@@ -1,7 +1,7 @@
 -- What the program does with its words, whatever they are.
 use Rattle.std.specs.Prelude.{◌≡◌, ◌≢◌, ◌⊎◌, ℕ, false, List, [], ◌∷◌, ◌++◌, Option, codes}
 use Rattle.dob_dbfile.specs.Sinks.{Change, IsSame, IsUntouched, Says}
-use Rattle.dob_cli.specs.Words.{Text, build, check, count, help, line, meaning_of, number_of, probe, topic, usage, value, version}
+use Rattle.dob_cli.specs.Words.{Text, build, check, count, help, line, meaning_of, number_of, probe, usage, value, version}
 use Rattle.dob_pieces.specs.Bytes.{line_feed}
 use Rattle.dob_cli.specs.Endings.{AnswersHelp, AnswersUsage, AnswersVersion, Ending, TellsMemory, ended}
 use Rattle.dob_cli.specs.Shelves.{SameFiles, SameOthers, ShelfChange}
@@ -26,7 +26,6 @@ pub record Ran (c : ShelfChange) (words : List Text) (e : Ending) : Type 0 where
   pub check : (file : Text) → meaning_of words ≡ check file → AnswersCheck c file e
   pub help : meaning_of words ≡ help → AnswersHelp e
   pub version : meaning_of words ≡ version → AnswersVersion e
-  pub topic : meaning_of words ≡ topic → AnswersHelp e ⊎ AnswersUsage e
   pub usage : meaning_of words ≡ usage → AnswersUsage e
   -- its streams are those that they were
   pub same_out : IsSame e.out

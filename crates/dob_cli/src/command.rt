@@ -16,7 +16,7 @@ ghost use Rattle.clap.specs.Words.{App, Rule, kind_of, subcommand_rows_of, with_
 ghost use Rattle.dob_cli.specs.Forms.{Form, Text, build_form, check_form, count_form, forms, line_form, probe_form, value_form};
 ghost use Rattle.dob_cli.specs.Forms.{file_option, nodes_option, out_option, set_option};
 ghost use Rattle.dob_cli.specs.Lines.{IsAmong, IsLine};
-ghost use Rattle.dob_cli.specs.Words.{asks, is_version, meaning_of};
+ghost use Rattle.dob_cli.specs.Words.{asks, has_topic, is_topic, is_version, meaning_of, meaning_of_topic, names_form};
 ghost use Rattle.dob_cli.specs.Shapes.{Finds, HasShape, IsRead, bare_app, dobutsu_app, form_app, option_rule, text_rule};
 ghost use Rattle.dob_cli.specs.Readings.{ComesFromLine, IsOrder, IsReadingOf, IsReadingOfKind};
 
@@ -82,7 +82,7 @@ A fault is one line on standard error. The status is 1, and 3 for E12, E14, E23 
   E9 Nodes         there aren't 1 to 16 nodes
   E12 TooDeep      of `value`: a distance would be above 65534 plies
   E14 Stopped node N: CAUSE
-                   node N of a build has stopped. The cause: `E12 TooDeep`, `E23 Memory`, `Held`, `Counts`, or
+                   node N of a build has stopped. The cause: `E12 TooDeep`, `E23 Memory`, `Counts`, or
                    `E13 Contradiction class C`, what it was told of class C doesn't fit what it knows
   E15 Truncated    the file ends too early
   E16 Magic        the file doesn't begin as database files do
@@ -164,8 +164,8 @@ Answers: `consistent`; or `E21 Inconsistent class N` with the first class whose 
 
 Example: dobutsu check --db 000.db prints `consistent`.";
 
-/// Reads the words after the program's name. `--help`, `-h` and the subcommand `help` give the help.
-/// As the first word `--version` asks for the version. A word that begins with `-` is an option, but for a lone `-`,
+/// Reads the words after the program's name. `--help`, `-h` and the subcommand `help`, alone or with the name of another
+/// one, give a help. As the first word `--version` asks for the version. A word that begins with `-` is an option, but for a lone `-`,
 /// the first `--` and what follows it.
 ///
 /// # Errors
@@ -179,6 +179,9 @@ pub fn read_words<'a>(alloc: Global, words: &'a [&'a str]) -> Result<Reading<'a>
 {
     if asks_version(words) {
         return Ok(Reading::Version);
+    }
+    if asks_topic(words) {
+        return read_topic(alloc, words);
     }
     match dobutsu_command(alloc)?.try_get_matches_from(words) {
         Ok(matches) => match order_of(&matches) {
@@ -197,6 +200,52 @@ fn asks_version(words: &[&str]) -> bool
         [] => false,
         [word, ..] => *word == "--version",
     }
+}
+
+// Whether the first word is `help`.
+fn asks_topic(words: &[&str]) -> bool
+    ensures { result ≡ is_topic (map (λ w. w.now) words.now) }
+{
+    match words {
+        [] => false,
+        [word, ..] => *word == "help",
+    }
+}
+
+// What the words from `help` on come to. Which of its two texts `clap` tells its contract leaves open, so the words say it.
+fn read_topic<'a>(alloc: Global, words: &'a [&'a str]) -> Result<Reading<'a>, AllocError>
+    requires { is_topic (map (λ w. w.now) words.now) ≡ true }
+    ensures { IfOk result (IsReadingOf (meaning_of_topic (map (λ w. w.now) words.now))) }
+{
+    match dobutsu_command(alloc)?.try_get_matches_from(words) {
+        Ok(_) => unreachable!(),
+        Err(error) => match error.kind() {
+            ErrorKind::OutOfMemory => Err(AllocError),
+            _ if has_topic(words) => Ok(Reading::Help(format!(in alloc; "{error}")?)),
+            _ => Ok(Reading::Usage(format!(in alloc; "{error}")?)),
+        },
+    }
+}
+
+// Whether the words are `help` alone, or with the name of a subcommand.
+fn has_topic(words: &[&str]) -> bool
+    ensures { result ≡ has_topic (map (λ w. w.now) words.now) }
+{
+    match words {
+        [_] => true,
+        [_, name] => names_form(name),
+        _ => false,
+    }
+}
+
+// Whether a subcommand has that name.
+fn names_form(name: &str) -> bool
+    ensures { result ≡ names_form name.now }
+{
+    matches!(
+        name,
+        "value" | "count" | "build" | "probe" | "line" | "check"
+    )
 }
 
 // The program's command with its subcommands.
