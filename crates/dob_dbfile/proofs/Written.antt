@@ -31,7 +31,7 @@ table_of_codes set codes counted fit = record {
 }
 
 -- how many classes a table has
-table_classes : (table : ClassTable) → IsTable table.set table.values → length table.values ≡ classes_of table.set
+pub table_classes : (table : ClassTable) → IsTable table.set table.values → length table.values ≡ classes_of table.set
 table_classes table is = one_count (IsRepresentative table.set) (length table.values) (classes_of table.set) is.classes (HasClasses-classes_of table.set)
 
 -- the header of a table's file
@@ -42,7 +42,7 @@ contents-front : (table : ClassTable) → take 20 (bytes_of table) ≡ front_of 
 unfolding contents
 contents-front table = refl
 
-contents-rest : (table : ClassTable) → drop 20 (contents table) ≡ records table.values
+pub contents-rest : (table : ClassTable) → drop 20 (contents table) ≡ records table.values
 unfolding contents
 contents-rest table = refl
 
@@ -98,7 +98,7 @@ same_tables p q xs ys one is_xs is_ys same =
     is_ys same
 
 -- the header of a table's file names its set
-names_set : (table : ClassTable) → NamesSet table.set (take 20 (bytes_of table))
+pub names_set : (table : ClassTable) → NamesSet table.set (take 20 (bytes_of table))
 names_set table = subst (NamesSet table.set) (sym (contents-front table)) (refl, refl)
 
 -- no two tables have one file

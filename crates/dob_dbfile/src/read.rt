@@ -84,13 +84,14 @@ fn count_of(classes: &Classes) -> u64
     classes.class_count()
 }
 
-// Fills the room, before which so many bytes of the file have come.
-fn fill<R: Source>(source: &mut R, room: &mut [u8], before: usize) -> Result<(), Fault>
+/// Fills the room, before which so many bytes of the file have come.
+pub(crate) fn fill<R: Source>(source: &mut R, room: &mut [u8], before: usize) -> Result<(), Fault>
     requires { before + length room.old < 2 ^ 64 }
     ensures taken { (stream : Stream) → R.gives source.old stream
         → OnOk result (Takes stream room.new × R.gives source.new (after (length room.new) stream)) }
     ensures cut { (stream : Stream) → R.gives source.old stream → IfErr result (IsCut (length room.new) before stream) }
     ensures known { IfErr result (λ given. given ≢ Fault.Memory) }
+    ensures shown { (stream : Stream) → R.shows source.old stream → R.shows source.new stream }
     ensures failed { R.has_failed source.new ≡ (R.has_failed source.old || is_io_error result) }
 {
     match read_full(source, room) {
@@ -100,8 +101,8 @@ fn fill<R: Source>(source: &mut R, room: &mut [u8], before: usize) -> Result<(),
     }
 }
 
-// The classes of the set that the header names.
-fn classes_named(alloc: Global, header: &[u8]) -> Result<Classes, Fault>
+/// The classes of the set that the header names.
+pub(crate) fn classes_named(alloc: Global, header: &[u8]) -> Result<Classes, Fault>
     requires { length header.now ≡ 20 }
     ensures named { IfOk result (λ classes. CountsClasses classes.set header.now) }
     ensures fault { IfErr result (λ fault. (fault ≡ Fault.Memory) ⊎ HasHeaderFault header.now fault) }

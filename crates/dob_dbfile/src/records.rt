@@ -1,12 +1,13 @@
 // The records of a file: two bytes for each class, the lower first.
 ghost use Rattle.std.specs.Prelude.{◌≡◌, ℕ, List, ◌+◌, ◌*◌, ◌%◌, ◌<◌, ◌++◌, length, All, OnOk};
 ghost use Rattle.byteorder.specs.Endian.{little_bytes};
+ghost use Rattle.dob_value.specs.Codes.{code_of_value};
 ghost use Rattle.dob_value.specs.Follows.{IsEntry};
 ghost use Rattle.dob_dbfile.specs.Format.{code_bytes, records};
 
 use byteorder::{ByteOrder, LittleEndian};
 use dob_pieces::Memory;
-use dob_value::{Table, code_of_value};
+use dob_value::{Table, Value, code_of_value, value_of_code};
 
 /// How many bytes a record has.
 pub(crate) const RECORD_LEN: usize = 2;
@@ -30,6 +31,15 @@ pub(crate) fn push_records(bytes: &mut Vec<u8>, table: &Table) -> Result<(), Mem
         push_record(bytes, code_of_value(table.value(class)))?;
     }
     Ok(())
+}
+
+/// The value of a record.
+pub(crate) fn value_in(bytes: &[u8]) -> Value
+    requires { length bytes.now ≡ 2 }
+    ensures bytes { little_bytes 2 (code_of_value result) ≡ bytes.now }
+    ensures entry { IsEntry result }
+{
+    value_of_code(LittleEndian::read_u16(bytes))
 }
 
 /// Appends the codes that the records are.
