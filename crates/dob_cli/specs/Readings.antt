@@ -18,6 +18,7 @@ name_of_order (order.Build _ _ _) = codes "build"
 name_of_order (order.Probe _ _) = codes "probe"
 name_of_order (order.Line _ _) = codes "line"
 name_of_order (order.Check _) = codes "check"
+name_of_order (order.Look _ _) = codes "look"
 
 -- it has these texts, in the order of the subcommand's form; of a number the text may be any that tells it
 abbrev pub HasTexts : List Text → Order → Type 0
@@ -27,6 +28,7 @@ HasTexts texts (order.Build set nodes file) = (t : Text) × (set.now ∷ t ∷ f
 HasTexts texts (order.Probe file position) = file.now ∷ position.now ∷ [] ≡ texts
 HasTexts texts (order.Line file position) = file.now ∷ position.now ∷ [] ≡ texts
 HasTexts texts (order.Check file) = file.now ∷ [] ≡ texts
+HasTexts texts (order.Look file position) = file.now ∷ position.now ∷ [] ≡ texts
 
 -- the order is for this subcommand and these texts
 abbrev pub IsOrder : Text → List Text → Order → Type 0

@@ -239,3 +239,7 @@ line file position = asks (codes "line") (file ∷ position ∷ [])
 -- whether the table of the file is consistent
 abbrev pub check : Text → Meaning
 check file = asks (codes "check") (file ∷ [])
+
+-- the value that the file's record of the position's class says
+abbrev pub look : Text → Text → Meaning
+look file position = asks (codes "look") (file ∷ position ∷ [])

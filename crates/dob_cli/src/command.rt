@@ -13,8 +13,8 @@
 // - in program.rt an arm of `answer`, and its cases in proofs/Orders.antt and proofs/Runs.antt.
 ghost use Rattle.std.specs.Prelude.{◌≡◌, ◌∷◌, [], IfOk, IsSomeAnd, List, codes, map};
 ghost use Rattle.clap.specs.Words.{App, Rule, kind_of, subcommand_rows_of, with_rule, with_subcommand};
-ghost use Rattle.dob_cli.specs.Forms.{Form, Text, build_form, check_form, count_form, forms, line_form, probe_form, value_form};
-ghost use Rattle.dob_cli.specs.Forms.{file_option, nodes_option, out_option, set_option};
+ghost use Rattle.dob_cli.specs.Forms.{Form, Text, build_form, check_form, count_form, forms, line_form, look_form, probe_form};
+ghost use Rattle.dob_cli.specs.Forms.{value_form, file_option, nodes_option, out_option, set_option};
 ghost use Rattle.dob_cli.specs.Lines.{IsAmong, IsLine};
 ghost use Rattle.dob_cli.specs.Words.{asks, has_topic, is_topic, is_version, meaning_of, meaning_of_topic, names_form};
 ghost use Rattle.dob_cli.specs.Shapes.{Finds, HasShape, IsRead, bare_app, dobutsu_app, form_app, option_rule, text_rule};
@@ -51,6 +51,11 @@ pub enum Order<'a> {
     },
     /// To tell whether the table of the file is consistent.
     Check(&'a str),
+    /// To print the value that the file's record of the position's class says.
+    Look {
+        file: &'a str,
+        position: &'a str,
+    },
 }
 
 /// What the words come to.
@@ -164,6 +169,16 @@ Answers: `consistent`; or `E21 Inconsistent class N` with the first class whose 
 
 Example: dobutsu check --db 000.db prints `consistent`.";
 
+const LOOK_HELP: &str =
+    "Of the file only its first 20 bytes and the 2 bytes of the position are read, each by its place, so that
+a file of any size is asked at once. Its digest isn't read: damage isn't found, nor whether the file is
+too long or too short. `dobutsu probe` reads and tests it all.
+
+Answers: `win D`, `loss D` or `draw`, where D is the distance in plies.
+
+Example: dobutsu look --db 000.db \"..l/.../L../... - -\" prints `win 3`. `dobutsu value --help` says
+how a position is written.";
+
 /// Reads the words after the program's name. `--help`, `-h` and the subcommand `help`, alone or with the name of another
 /// one, give a help. As the first word `--version` asks for the version. A word that begins with `-` is an option, but for a lone `-`,
 /// the first `--` and what follows it.
@@ -244,7 +259,7 @@ fn names_form(name: &str) -> bool
 {
     matches!(
         name,
-        "value" | "count" | "build" | "probe" | "line" | "check"
+        "value" | "count" | "build" | "probe" | "line" | "check" | "look"
     )
 }
 
@@ -258,7 +273,8 @@ fn dobutsu_command<'a>(alloc: Global) -> Result<Command<'a>, AllocError>
     let command = add_subcommand(command, build_command(alloc));
     let command = add_subcommand(command, probe_command(alloc));
     let command = add_subcommand(command, line_command(alloc));
-    add_subcommand(command, check_command(alloc))
+    let command = add_subcommand(command, check_command(alloc));
+    add_subcommand(command, look_command(alloc))
 }
 
 // The command with the subcommand, where memory was left for both. It takes their results, since a chain of `?` is slow
@@ -352,6 +368,17 @@ fn check_command<'a>(alloc: Global) -> Result<Command<'a>, AllocError>
         .arg(file_argument(alloc))
 }
 
+// The subcommand `look`.
+fn look_command<'a>(alloc: Global) -> Result<Command<'a>, AllocError>
+    ensures { IfOk result (HasShape (form_app look_form)) }
+{
+    let command = Command::new(alloc, "look")
+        .about("Prints the value of a position by its own two bytes of a database file")
+        .after_help(LOOK_HELP)
+        .arg(file_argument(alloc));
+    add_argument(command, position_argument(alloc))
+}
+
 // The command with a further argument, where memory was left for it so far. It takes a result, as `add_subcommand` does.
 fn add_argument<'a>(
     command: Result<Command<'a>, AllocError>,
@@ -422,6 +449,7 @@ fn order_of<'a>(matches: &ArgMatches<'a>) -> Option<Order<'a>>
         "probe" => orders::probe_order(inner),
         "line" => orders::line_order(inner),
         "check" => orders::check_order(inner),
+        "look" => orders::look_order(inner),
         _ => None,
     }
 }

@@ -7,6 +7,7 @@ mod counts;
 mod disk;
 mod fault;
 pub mod laws;
+mod looks;
 mod program;
 mod shelf;
 mod tables;

@@ -4,7 +4,7 @@ ghost use Rattle.std.specs.Prelude.{is_err};
 ghost use Rattle.dob_dbfile.specs.Devices.{whole};
 ghost use Rattle.dob_cli.specs.Shelves.{HasJust, SameFiles, SameOthers, ShelfState, bytes_in, is_failed};
 
-use dob_dbfile::{Failed, MemSink, MemSource, Sink, Source};
+use dob_dbfile::{Failed, MemSink, MemSource, PlacedSource, Sink, Source};
 use std::alloc::{AllocError, Global};
 use std::collections::BTreeMap;
 use std::io;
@@ -40,7 +40,7 @@ impl From<io::Error> for ShelfFault {
 /// Files by name.
 pub trait Shelf {
     /// What the bytes of a file are read from.
-    type Src: Source + Drop;
+    type Src: PlacedSource + Drop;
 
     /// What the bytes of a new file are written to.
     type Dst: Sink + Drop;
@@ -55,6 +55,7 @@ pub trait Shelf {
         ensures working { IfOk result (λ source. Self.Src.has_failed source ≡ false) }
         ensures found { (bytes : List ℕ) → (state self.old).has name.now bytes
             → MatchResult result (λ source. Self.Src.gives source (whole bytes)) (λ fault. fault ≡ ShelfFault.Memory) }
+        ensures shown { (bytes : List ℕ) → (state self.old).has name.now bytes → IfOk result (λ source. Self.Src.shows source (whole bytes)) }
         ensures there { OnOk result (IsTrue (state self.old).tells → (bytes : List ℕ) × (state self.old).has name.now bytes) }
         ensures kept { SameFiles (state self.old).has (state self.new).has }
         ensures told { (state self.new).tells ≡ (state self.old).tells }
