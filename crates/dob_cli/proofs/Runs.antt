@@ -16,7 +16,7 @@ use Rattle.dob_cli.specs.Orders.{AnswersOrder, AreLinesFor, IsFaultFor, KeepsFil
 use Rattle.dob_cli.specs.Runs.{Ran, RanOn}
 use Rattle.dob_cli.proofs.Shelves.{others_kept}
 use Rattle.dob_cli.proofs.TableFaults.{probe_right}
-use Rattle.dob_cli.proofs.Looks.{look_right}
+use Rattle.dob_cli.proofs.ByPlace.{look_right}
 use Rattle.dob_cli.proofs.Orders.{done_build, done_check, done_count, done_line, done_look, done_probe, done_value, kept_files, kept_others}
 
 -- ---- the streams are those that they were

@@ -234,10 +234,10 @@ fn read_topic<'a>(alloc: Global, words: &'a [&'a str]) -> Result<Reading<'a>, Al
 {
     match dobutsu_command(alloc)?.try_get_matches_from(words) {
         Ok(_) => unreachable!(),
-        Err(error) => match error.kind() {
-            ErrorKind::OutOfMemory => Err(AllocError),
-            _ if has_topic(words) => Ok(Reading::Help(format!(in alloc; "{error}")?)),
-            _ => Ok(Reading::Usage(format!(in alloc; "{error}")?)),
+        Err(error) => match (error.kind(), has_topic(words)) {
+            (ErrorKind::OutOfMemory, _) => Err(AllocError),
+            (_, true) => Ok(Reading::Help(format!(in alloc; "{error}")?)),
+            (_, false) => Ok(Reading::Usage(format!(in alloc; "{error}")?)),
         },
     }
 }

@@ -16,3 +16,4 @@ pub mod Written  -- the file of a table passes
 pub mod Looked  -- what was read by place, and the records in a table's file
 -- Writing.
 mod Sinks  -- what sinks have received
+mod Hashed  -- what a hasher has taken, and records in pieces

@@ -1,7 +1,7 @@
 -- The record is the one of the position's class in the set that the header names.
 use Rattle.std.proofs.Common.{◌≡◌, ◌⊎◌, inl, inr}
 use Rattle.std.proofs.lemmas.Result.{err_from_is_err_and}
-use Rattle.dob_cli.proofs.Looks.{front_holds}
+use Rattle.dob_cli.proofs.ByPlace.{front_holds}
 use Rattle.dob_cli.proofs.looks.look.Goals as goal
 
 pub returns-in_err-classes-clause-fault : goal.returns-in_err-classes-clause-fault
