@@ -1,5 +1,5 @@
 -- What a hasher has taken piece by piece, and the records in pieces.
-use Rattle.std.proofs.Common.{◌≡◌, ◌∙◌, ◌++◌, ◌*◌, ◌≤◌, [], List, ℕ, arith, ap, sym, subst, take, drop, length, append-nil, append_assoc, length-take-le}
+use Rattle.std.proofs.Common.{◌≡◌, ◌∙◌, ◌++◌, ◌*◌, ◌≤◌, [], List, ℕ, ap, sym, subst, take, drop, length, append-nil, append_assoc, length-take-le}
 use Rattle.std.proofs.lemmas.List.{take-append-drop}
 use Rattle.std.proofs.lemmas.List.Concat.{flat_map-append}
 use Rattle.byteorder.specs.Endian.{little_bytes}

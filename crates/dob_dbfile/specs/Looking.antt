@@ -1,11 +1,11 @@
 -- What is read of a file by place: its header, and the record of one class.
-use Rattle.std.specs.Prelude.{◌≡◌, ◌⊎◌, ℕ, ◌+◌, ◌*◌, ◌<◌, true, false, length, take, drop, Some, slice_get}
+use Rattle.std.specs.Prelude.{◌≡◌, ℕ, ◌+◌, ◌*◌, ◌<◌, true, false, length, take, drop, Some, slice_get}
 use Rattle.byteorder.specs.Endian.{little_bytes}
 use Rattle.dob_value.specs.declared.value.Value.{Value}
 use Rattle.dob_value.specs.Codes.{code_of_value}
 use Rattle.dob_value.specs.Follows.{ClassTable, IsEntry, IsTable}
 use Rattle.dob_dbfile.specs.declared.fault.Fault.{Fault}
-use Rattle.dob_dbfile.specs.declared.fault.Fault.TheVariants.{SetTooLarge, Truncated, Magic, SetByte, ClassCount, Trailing, Digest, Memory, Io}
+use Rattle.dob_dbfile.specs.declared.fault.Fault.TheVariants.{SetTooLarge, Truncated, Magic, SetByte, ClassCount, Io}
 use Rattle.dob_dbfile.specs.Devices.{Stream, whole}
 use Rattle.dob_dbfile.specs.Format.{bytes_of}
 use Rattle.dob_dbfile.specs.Faults.{HasHeader, HasHeaderFault, header}

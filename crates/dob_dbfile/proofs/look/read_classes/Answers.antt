@@ -4,7 +4,7 @@ use Rattle.std.proofs.lemmas.Result.{IfErr-weaker}
 use Rattle.dob_pieces.specs.declared.piece_set.PieceSet.{PieceSet}
 use Rattle.dob_dbfile.specs.declared.fault.Fault.TheVariants as fault
 use Rattle.dob_dbfile.specs.Faults.{HasHeader, HasHeaderFault, NamesSmallSet, header}
-use Rattle.dob_dbfile.proofs.Looked.{front_cut, front_refused}
+use Rattle.dob_dbfile.proofs.Looked.{front_refused}
 use Rattle.dob_dbfile.proofs.look.read_classes.Goals as goal
 
 pub returns-clause-fault : goal.returns-clause-fault

@@ -1,6 +1,6 @@
 -- The two bytes at the class's place are its record.
 use Rattle.std.proofs.Common.{◌≡◌, length}
-use Rattle.dob_dbfile.proofs.Looked.{record_cut, record_is}
+use Rattle.dob_dbfile.proofs.Looked.{record_is}
 use Rattle.dob_dbfile.proofs.look.read_value.Goals as goal
 
 pub returns-clause-read : goal.returns-clause-read

@@ -1,11 +1,11 @@
 -- Piece after piece the records go in, and into the digest.
-use Rattle.std.proofs.Common.{◌≡◌, ◌∙◌, ◌++◌, ◌*◌, ◌≤◌, [], List, ℕ, arith, ap, refl, sym, subst, take, drop, length, take_all}
+use Rattle.std.proofs.Common.{◌≡◌, ◌∙◌, ◌++◌, ◌*◌, List, ℕ, arith, ap, subst, take, drop}
 use Rattle.std.proofs.lemmas.Result.{err_from_is_err_and}
 use Rattle.dob_dbfile.specs.Format.{records}
 use Rattle.dob_dbfile.specs.Sinks.{Writes, change}
 use Rattle.dob_dbfile.specs.Writing.{Hashes}
 use Rattle.dob_dbfile.proofs.Sinks.{stops_behind, writes_more, writes_none}
-use Rattle.dob_dbfile.proofs.Hashed.{hashes_after, hashes_nothing, records_front, records_len, records_part}
+use Rattle.dob_dbfile.proofs.Hashed.{hashes_after, hashes_nothing, records_len, records_part}
 use Rattle.dob_dbfile.proofs.write.write_records.Goals as goal
 
 pub pieces-init : goal.pieces-init

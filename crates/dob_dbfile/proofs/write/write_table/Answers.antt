@@ -1,5 +1,4 @@
 -- The piece is the header, and has room for a piece of records.
-use Rattle.std.proofs.Common.{arith}
 use Rattle.dob_dbfile.proofs.FileBytes.{header_is}
 use Rattle.dob_dbfile.proofs.write.write_table.Goals as goal
 
