@@ -184,9 +184,9 @@ error_of_words app words e no_topic is kinds r h =
 -- by `help` there are no matches
 pub no_matches : (app : App) (words : List Text) → is_topic words ≡ true → app ≡ dobutsu_app
     → (is_simple_and_free app ≡ true → fault_of app words ≡ []) → ⊥
-no_matches app words asks is kinds =
+no_matches app words topic is kinds =
     let clean : fault_of dobutsu_app words ≡ [] = ap (λ a. fault_of a words) (sym is) ∙ kinds (ap is_simple_and_free is) in
-    no_kinds _ _ (sym clean ∙ topic_kinds words asks)
+    no_kinds _ _ (sym clean ∙ topic_kinds words topic)
 
 -- other words mean what the command makes of them
 pub command_meaning : (words : List Text) → is_version words ≡ false → is_topic words ≡ false → meaning_of_command words ≡ meaning_of words

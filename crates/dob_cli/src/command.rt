@@ -11,7 +11,7 @@
 // - what it owes by a definition like `AnswersCount`, a case in each definition of specs/Orders.antt and a field of `Ran` in
 //   specs/Runs.antt;
 // - in program.rt an arm of `answer`, and its cases in proofs/Orders.antt and proofs/Runs.antt.
-ghost use Rattle.std.specs.Prelude.{◌≡◌, ◌∷◌, [], IfOk, IsSomeAnd, List, codes, map};
+ghost use Rattle.std.specs.Prelude.{◌≡◌, ◌∷◌, [], IfOk, IsSomeAnd, List, codes, map, true};
 ghost use Rattle.clap.specs.Words.{App, Rule, kind_of, subcommand_rows_of, with_rule, with_subcommand};
 ghost use Rattle.dob_cli.specs.Forms.{Form, Text, build_form, check_form, count_form, forms, line_form, look_form, probe_form};
 ghost use Rattle.dob_cli.specs.Forms.{value_form, file_option, nodes_option, out_option, set_option};
@@ -249,7 +249,7 @@ fn has_topic(words: &[&str]) -> bool
     match words {
         [_] => true,
         [_, name] => names_form(name),
-        _ => false,
+        [] | [_, _, _, ..] => false,
     }
 }
 

@@ -45,15 +45,15 @@ pub returns-in-Err-clause-complete : goal.returns-in-Err-clause-complete
 returns-in-Err-clause-complete c =
     λ form texts among line. IfOk-weaker c.read_error.result _ _ (λ r. reading_at_line _ form texts r among line) (returns-in-Err-clause-meaning c)
 
-pub returns-in-if-asks_topic-clause-meaning : goal.returns-in-if-asks_topic-clause-meaning
-returns-in-if-asks_topic-clause-meaning c =
+pub returns-then-asks_topic-clause-meaning : goal.returns-then-asks_topic-clause-meaning
+returns-then-asks_topic-clause-meaning c =
     IfOk-weaker c.read_topic.result _ _
     (λ r. subst (λ m. IsReadingOf m r) (topic_meaning (map (λ w. w.now) c.args.words.now) (sym c.asks_version.ensures ∙ c.if-asks_version.false)
     (sym c.asks_topic.ensures ∙ c.if-asks_topic.true))) c.read_topic.ensures
 
-pub returns-in-if-asks_topic-clause-sound : goal.returns-in-if-asks_topic-clause-sound
-returns-in-if-asks_topic-clause-sound c = IfOk-weaker c.read_topic.result _ _ (order_from_line _) (returns-in-if-asks_topic-clause-meaning c)
+pub returns-then-asks_topic-clause-sound : goal.returns-then-asks_topic-clause-sound
+returns-then-asks_topic-clause-sound c = IfOk-weaker c.read_topic.result _ _ (order_from_line _) (returns-then-asks_topic-clause-meaning c)
 
-pub returns-in-if-asks_topic-clause-complete : goal.returns-in-if-asks_topic-clause-complete
-returns-in-if-asks_topic-clause-complete c =
-    λ form texts among line. IfOk-weaker c.read_topic.result _ _ (λ r. reading_at_line _ form texts r among line) (returns-in-if-asks_topic-clause-meaning c)
+pub returns-then-asks_topic-clause-complete : goal.returns-then-asks_topic-clause-complete
+returns-then-asks_topic-clause-complete c =
+    λ form texts among line. IfOk-weaker c.read_topic.result _ _ (λ r. reading_at_line _ form texts r among line) (returns-then-asks_topic-clause-meaning c)
