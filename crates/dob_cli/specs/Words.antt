@@ -1,7 +1,7 @@
 -- What the words after the program's name ask for, without a word on how they are read. A word is
 -- the list of its bytes, which are UTF-8.
 use Rattle.std.specs.Prelude.{◌==◌, ◌&&◌, ◌||◌, ◌^◌, ℕ, Bool, false, true, not, List, [], ◌∷◌, ◌++◌, Option, None, Some, is_some}
-use Rattle.std.specs.Prelude.{if◌then◌else◌, codes, length, nat_lt, slice_get, find, fold, option_map, option_and_then}
+use Rattle.std.specs.Prelude.{if◌then◌else◌, codes, length, nat_lt, slice_get, find, fold, map, option_map, option_and_then}
 use Rattle.std.specs.List.{before_first, after_first, list_all, list_any}
 use Rattle.std.specs.Char.{digit_value}
 use Rattle.std.specs.Option.{option_map_or}
@@ -187,14 +187,14 @@ abbrev pub is_topic : List Text → Bool
 is_topic [] = false
 is_topic (word ∷ rest) = bytes_eq (codes "help") word
 
--- a subcommand has this name
-abbrev pub names_form : Text → Bool
-names_form word = list_any (λ form. bytes_eq form.name word) forms
+-- a subcommand has this name, `help` among them
+abbrev pub names_subcommand : Text → Bool
+names_subcommand word = list_any (λ name. bytes_eq name word) (codes "help" ∷ map (λ form. form.name) forms)
 
 -- `help` alone, or with the name of a subcommand
 abbrev pub has_topic : List Text → Bool
 has_topic (word ∷ []) = true
-has_topic (word ∷ name ∷ []) = names_form name
+has_topic (word ∷ name ∷ []) = names_subcommand name
 has_topic _ = false
 
 -- of words from `help` on

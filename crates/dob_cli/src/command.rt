@@ -16,7 +16,7 @@ ghost use Rattle.clap.specs.Words.{App, Rule, kind_of, subcommand_rows_of, with_
 ghost use Rattle.dob_cli.specs.Forms.{Form, Text, build_form, check_form, count_form, forms, line_form, look_form, probe_form};
 ghost use Rattle.dob_cli.specs.Forms.{value_form, file_option, nodes_option, out_option, set_option};
 ghost use Rattle.dob_cli.specs.Lines.{IsAmong, IsLine};
-ghost use Rattle.dob_cli.specs.Words.{asks, has_topic, is_topic, is_version, meaning_of, meaning_of_topic, names_form};
+ghost use Rattle.dob_cli.specs.Words.{asks, has_topic, is_topic, is_version, meaning_of, meaning_of_topic, names_subcommand};
 ghost use Rattle.dob_cli.specs.Shapes.{Finds, HasShape, IsRead, bare_app, dobutsu_app, form_app, option_rule, text_rule};
 ghost use Rattle.dob_cli.specs.Readings.{ComesFromLine, IsOrder, IsReadingOf, IsReadingOfKind};
 
@@ -248,18 +248,18 @@ fn has_topic(words: &[&str]) -> bool
 {
     match words {
         [_] => true,
-        [_, name] => names_form(name),
+        [_, name] => names_subcommand(name),
         [] | [_, _, _, ..] => false,
     }
 }
 
-// Whether a subcommand has that name.
-fn names_form(name: &str) -> bool
-    ensures { result ≡ names_form name.now }
+// Whether a subcommand has that name, `help` among them.
+fn names_subcommand(name: &str) -> bool
+    ensures { result ≡ names_subcommand name.now }
 {
     matches!(
         name,
-        "value" | "count" | "build" | "probe" | "line" | "check" | "look"
+        "help" | "value" | "count" | "build" | "probe" | "line" | "check" | "look"
     )
 }
 

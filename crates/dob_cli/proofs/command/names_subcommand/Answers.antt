@@ -1,10 +1,10 @@
--- A name that is none of these is no form's.
+-- A name that is none of these is no subcommand's.
 use Rattle.std.proofs.Common.{◌≡◌, Bool, codes, false, refl, sym}
 use Rattle.std.specs.Str.{bytes_eq}
 use Rattle.std.proofs.lemmas.Bool.{false_from_ne_true}
 use Rattle.std.proofs.lemmas.Slice.Eq.{bytes_eq-Decides}
 use Rattle.dob_cli.specs.Forms.{Text}
-use Rattle.dob_cli.proofs.command.names_form.Goals as goal
+use Rattle.dob_cli.proofs.command.names_subcommand.Goals as goal
 
 apart : (form name : Text) → (name ≡ form → ⊥) → bytes_eq form name ≡ false
 apart form name differs = false_from_ne_true (bytes_eq form name) (λ e. differs (sym ((bytes_eq-Decides form name).0 e)))
@@ -13,6 +13,7 @@ pub returns-in_default : goal.returns-in_default
 returns-in_default c =
     let name = c.args.name.now in
     rw (
+      apart (codes "help") name c.in_default.not-help,
       apart (codes "value") name c.in_default.not-value,
       apart (codes "count") name c.in_default.not-count,
       apart (codes "build") name c.in_default.not-build,
