@@ -1,8 +1,10 @@
 -- By the file of a value table the value that is looked up is the position's by definition, and the faults of looking are what is owed.
-use Rattle.std.proofs.Common.{◌≡◌, ◌⊎◌, ◌<◌, ◌||◌, ℕ, List, false, inl, inr, subst, sym}
+use Rattle.std.proofs.Common.{◌≡◌, ◌⊎◌, ◌<◌, ◌≤◌, ◌||◌, ℕ, List, false, inl, inr, subst, sym}
 use Rattle.dob_pieces.specs.declared.piece_set.PieceSet.{PieceSet}
 use Rattle.dob_pieces.specs.declared.setup.Setup.{Setup}
-use Rattle.dob_rank.specs.Marks.{classes_of}
+use Rattle.dob_rank.specs.Marks.{classes_of, marked}
+use Rattle.dob_rank.specs.Numbers.{size_of}
+use Rattle.dob_rank.proofs.Words.{marks_below-le}
 use Rattle.dob_rank.specs.Order.{IsInClass}
 use Rattle.dob_value.specs.declared.value.Value.{Value}
 use Rattle.dob_value.specs.Follows.{ClassTable, HasInTable}
@@ -83,3 +85,8 @@ pub front_holds : (stream : Stream) (position : Setup) (fault : file.Fault) → 
     → HasLookFault stream position fault
 front_holds stream position fault (inl none) = inl none
 front_holds stream position fault (inr wrong) = inr (inl wrong)
+
+-- no more classes than positions
+pub few_classes : (set : PieceSet) → classes_of set ≤ size_of set
+unfolding classes_of
+few_classes set = marks_below-le (marked set) (size_of set)

@@ -12,6 +12,7 @@ use crate::shelf::Shelf;
 use dob_dbfile::{PlacedSource, read_classes, read_value};
 use dob_pieces::{PieceSet, Position};
 use dob_probe::OtherSet;
+use dob_rank::size;
 use dob_text::read_position;
 use dob_value::Value;
 use std::alloc::Global;
@@ -51,6 +52,8 @@ fn look<R: PlacedSource>(
     if !is_of_set(position, classes.set) {
         return Err(Fault::from(OtherSet));
     }
+    // That there are no more classes than positions bounds the record's place.
+    let _positions = size(classes.set);
     let value = read_value(source, classes.class_of(position))?;
     Ok(value)
 }
