@@ -1,7 +1,7 @@
 // The files that the system has, each written beside its name and put there when it is whole.
 ghost use Rattle.std.specs.Prelude.{◌≡◌, false};
 
-use crate::shelf::{ShelfFault, Shelf};
+use crate::shelf::{Shelf, ShelfFault};
 use dob_dbfile::{Failed, Sink, Source, Std};
 use std::alloc::Global;
 use std::fs::{self, File, OpenFile};

@@ -16,4 +16,4 @@ mod tally;
 pub use disk::{DiskFile, DiskShelf};
 pub use fault::Fault;
 pub use program::{run_given, run_over, run_words, tell_memory};
-pub use shelf::{ShelfFault, MemShelf, Shelf};
+pub use shelf::{MemShelf, Shelf, ShelfFault};

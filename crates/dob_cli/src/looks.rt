@@ -37,11 +37,7 @@ pub(crate) fn answer_look<S: Shelf>(
 }
 
 // The value that the record of the position's class says.
-fn look<R: PlacedSource>(
-    alloc: Global,
-    source: &mut R,
-    position: &Position,
-) -> Result<Value, Fault>
+fn look<R: PlacedSource>(alloc: Global, source: &mut R, position: &Position) -> Result<Value, Fault>
     requires { R.has_failed source.old ≡ false }
     ensures found { (stream : Stream) → R.gives source.old stream → R.shows source.old stream
         → IfOk result (IsLookedUp stream position.now.setup) }

@@ -41,4 +41,4 @@ returns-then-not-is_of_set-clause-fault g c =
 pub read_value-requires : goal.read_value-requires
 read_value-requires g c =
     let few = few_classes c.in_ok-classes.classes.set in
-    omega (arith, few, c.size-_positions.ensures.number, c.size-_positions.ensures.bound, c.class_of.ensures.bound)
+    omega (arith, few, c.size-positions.ensures.number, c.size-positions.ensures.bound, c.class_of.ensures.bound)
