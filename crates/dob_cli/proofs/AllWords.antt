@@ -1,6 +1,7 @@
 -- How `clap` reads all the words of the program. A further subcommand has a record `IsEntered` here, each field of
 -- which is `refl`, and a line in `all_fit`.
 use Rattle.std.proofs.Common.{◌==◌, ◌⊎◌, ◌++◌, inl, inr, ◌≡◌, ◌∙◌, Bool, refl, sym, ap, subst, cond, codes, true, false, [], ◌∷◌, List, Option, Some, None}
+use Rattle.std.proofs.Common.{true≢false}
 use Rattle.std.specs.Prelude.{find, fold, is_some, map, option_map}
 use Rattle.std.specs.Option.{option_map_or}
 use Rattle.std.specs.Str.{bytes_eq}
@@ -14,16 +15,16 @@ use Rattle.clap.specs.declared.error.kind.ErrorKind.TheVariants as kind
 use Rattle.clap.proofs.FaultLemmas.{stopped_fault}
 use Rattle.clap.proofs.WalkLemmas.{walk_stopped}
 use Rattle.std.proofs.Math.Bool.{or-false}
-use Rattle.dob_cli.specs.Forms.{Form, Text, build_form, check_form, count_form, forms, line_form, probe_form, value_form}
-use Rattle.dob_cli.specs.Words.{Meaning, asks, help, is_dashes, is_help_flag, is_text, meaning_of_command, meaning_of_form, meaning_of_other, topic, usage}
-use Rattle.dob_cli.specs.Words.{version}
+use Rattle.dob_cli.specs.Forms.{Form, Text, build_form, check_form, count_form, forms, line_form, look_form, probe_form, value_form}
+use Rattle.dob_cli.specs.Words.{Meaning, asks, help, is_dashes, is_help_flag, is_text, meaning_of_command, meaning_of_form, meaning_of_other, usage}
+use Rattle.dob_cli.specs.Words.{is_topic, version}
 use Rattle.dob_cli.specs.Shapes.{Finds, dobutsu_app}
 use Rattle.dob_cli.proofs.Lexing.{flip_bytes}
 use Rattle.dob_cli.proofs.Turns.{KnowsHelp, help_flag, is_usage, none, or_else_usage}
 use Rattle.dob_cli.proofs.Steps.{help_turn, open_at, other_turn, text_turn}
 use Rattle.dob_cli.proofs.FormWords.{Comes, IsTaken, form_comes, shape_of}
-use Rattle.dob_cli.proofs.Lines.{IsSpelled, build_spelled, check_spelled, count_spelled, form_line, line_fits, line_spelled, probe_spelled, value_spelled}
-use Rattle.dob_cli.proofs.Taken.{build_taken, check_taken, count_taken, line_taken, probe_taken, value_taken}
+use Rattle.dob_cli.proofs.Lines.{IsSpelled, build_spelled, check_spelled, count_spelled, form_line, line_fits, line_spelled, look_spelled, probe_spelled, value_spelled}
+use Rattle.dob_cli.proofs.Taken.{build_taken, check_taken, count_taken, line_taken, look_taken, probe_taken, value_taken}
 
 -- the program's command, built
 abbrev program : App
@@ -117,6 +118,10 @@ check_entered : IsEntered check_form
 unfolding walked defaults_fault
 check_entered = record { walks = refl; turns = refl; ends = λ rest. refl; enters = λ rest. refl }
 
+look_entered : IsEntered look_form
+unfolding walked defaults_fault
+look_entered = record { walks = refl; turns = refl; ends = λ rest. refl; enters = λ rest. refl }
+
 -- the subcommand that was met is one of these, and has this name and these texts
 abbrev pub IsMet : List Form → Text → List Text → Option (Text × List Row) → Type 0
 IsMet [] name texts met = ⊥
@@ -126,7 +131,6 @@ IsMet (f ∷ fs) name texts met = ((f.name ≡ name) × Finds f texts met) ⊎ I
 abbrev pub Fits : Meaning → Kinds → Option (Text × List Row) → Type 0
 Fits (asks name texts) kinds met = (kinds ≡ []) × IsMet forms name texts met
 Fits help kinds met = kinds ≡ kind.DisplayHelp ∷ []
-Fits topic kinds met = kinds ≡ kind.DisplayHelp ∷ kind.InvalidSubcommand ∷ []
 Fits usage kinds met = is_usage kinds ≡ true
 Fits version kinds met = ⊥
 
@@ -156,7 +160,6 @@ module _ (f : Form) (is : IsTaken f) (enters : IsEntered f) (spelled : IsSpelled
       let fit = line_fits f (f.name ∷ rest) texts spelled (form_line f rest name texts means).1 in
       (kinds_below rest ∙ c.1, among name texts _ (c.0, (_, met_is rest, c.2, fit)))
   comes_fit help rest means c = kinds_below rest ∙ c
-  comes_fit topic rest means c = kinds_below rest ∙ c
   comes_fit usage rest means c = rw (kinds_below rest) c
   comes_fit version rest means c = absurd c
 
@@ -179,7 +182,10 @@ all_fit = (
         form_fits probe_form probe_taken probe_entered probe_spelled (λ name texts met h. inr (inr (inr (inl h)))),
         (
           form_fits line_form line_taken line_entered line_spelled (λ name texts met h. inr (inr (inr (inr (inl h))))),
-          (form_fits check_form check_taken check_entered check_spelled (λ name texts met h. inr (inr (inr (inr (inr (inl h)))))), tt),
+          (
+            form_fits check_form check_taken check_entered check_spelled (λ name texts met h. inr (inr (inr (inr (inr (inl h)))))),
+            (form_fits look_form look_taken look_entered look_spelled (λ name texts met h. inr (inr (inr (inr (inr (inr (inl h))))))), tt),
+          ),
         ),
       ),
     ),
@@ -192,6 +198,12 @@ all_fit = (
 help_kinds : (rest : List Text) → kinds_at start (codes "help" ∷ rest) ≡ kind.DisplayHelp ∷ kind.InvalidSubcommand ∷ []
 unfolding walk_fault
 help_kinds rest = refl
+
+-- of which `clap` says no more than that it tells one or the other
+pub topic_kinds : (words : List Text) → is_topic words ≡ true → fault_of dobutsu_app words ≡ kind.DisplayHelp ∷ kind.InvalidSubcommand ∷ []
+topic_kinds [] e = absurd (true≢false (sym e))
+topic_kinds (word ∷ rest) e =
+    subst (λ w. kinds_at start (w ∷ rest) ≡ kind.DisplayHelp ∷ kind.InvalidSubcommand ∷ []) ((bytes_eq-Decides (codes "help") word).0 e) (help_kinds rest)
 
 -- no words, and `--` alone
 no_words : is_usage (kinds_at start []) ≡ true
@@ -218,29 +230,27 @@ no_subcommand word differs h = ap (option_map (λ (n : Text × List Text). n.0))
     go [] d = rw h refl
     go (f ∷ fs) d = rw d.0 (go fs d.1)
 
-other_fits : (word : Text) (rest : List Text) → NamesNone word forms → FitsAt (meaning_of_other word) (word ∷ rest)
-other_fits word rest differs = go (bytes_eq (codes "help") word) (is_help_flag word) (is_text word) (is_dashes word) refl refl refl refl rest
+other_fits : (word : Text) (rest : List Text) → bytes_eq (codes "help") word ≡ false → NamesNone word forms
+    → FitsAt (meaning_of_other word) (word ∷ rest)
+other_fits word rest no_topic differs = go (is_help_flag word) (is_text word) (is_dashes word) refl refl refl rest
   where
-    go : (h a b d : Bool) → bytes_eq (codes "help") word ≡ h → is_help_flag word ≡ a → is_text word ≡ b → is_dashes word ≡ d
-        → (more : List Text) → FitsAt (cond h topic (cond a help usage)) (word ∷ more)
-    go true a b d names_help asks_help text e more =
-        subst (λ w. kinds_at start (w ∷ more) ≡ kind.DisplayHelp ∷ kind.InvalidSubcommand ∷ []) ((bytes_eq-Decides (codes "help") word).0 names_help)
-        (help_kinds more)
-    go false true b d names_help asks_help text e more =
-        helps start word more (help_turn top names [] None 1 word none (no_subcommand word differs names_help) refl knows asks_help)
-    go false false true d names_help asks_help text e more =
-        misused start word more (rw (text_turn top names [] None 1 word (no_subcommand word differs names_help) refl text) refl)
-    go false false false true names_help asks_help text e [] =
+    go : (a b d : Bool) → is_help_flag word ≡ a → is_text word ≡ b → is_dashes word ≡ d
+        → (more : List Text) → FitsAt (cond a help usage) (word ∷ more)
+    go true b d asks_help text e more =
+        helps start word more (help_turn top names [] None 1 word none (no_subcommand word differs no_topic) refl knows asks_help)
+    go false true d asks_help text e more =
+        misused start word more (rw (text_turn top names [] None 1 word (no_subcommand word differs no_topic) refl text) refl)
+    go false false true asks_help text e [] =
         subst (λ w. is_usage (kinds_at start (w ∷ [])) ≡ true) ((bytes_eq-Decides (codes "--") word).0 e) only_dashes
-    go false false false true names_help asks_help text e (v ∷ more) =
+    go false false true asks_help text e (v ∷ more) =
         subst (λ w. is_usage (kinds_at start (w ∷ v ∷ more)) ≡ true) ((bytes_eq-Decides (codes "--") word).0 e) (dashes_more v more)
-    go false false false false names_help asks_help text e more = misused start word more
-        (other_turn top names [] None 1 word none (no_subcommand word differs names_help) refl knows refl text asks_help (flip_bytes (codes "--") word false e))
+    go false false false asks_help text e more = misused start word more
+        (other_turn top names [] None 1 word none (no_subcommand word differs no_topic) refl knows refl text asks_help (flip_bytes (codes "--") word false e))
 
 -- what the words ask for goes with the kinds of error, and with the subcommand that was met
-pub words_fit : (words : List Text) → Fits (meaning_of_command words) (fault_of dobutsu_app words) (subcommand_of dobutsu_app words)
-words_fit [] = no_words
-words_fit (word ∷ rest) = go forms all_fit (other_fits word rest)
+pub words_fit : (words : List Text) → is_topic words ≡ false → Fits (meaning_of_command words) (fault_of dobutsu_app words) (subcommand_of dobutsu_app words)
+words_fit [] no_topic = no_words
+words_fit (word ∷ rest) no_topic = go forms all_fit (other_fits word rest no_topic)
   where
     go : (fs : List Form) → EachForm (λ f. (more : List Text) → FitsAt (meaning_of_form f more) (f.name ∷ more)) fs
         → (NamesNone word fs → FitsAt (meaning_of_other word) (word ∷ rest))

@@ -21,7 +21,7 @@ use Rattle.std.proofs.Math.Bool.{or-false}
 use Rattle.dob_cli.specs.Forms.{Form, labels}
 use Rattle.dob_cli.specs.Words.{Given, Meaning, Stand, Text, after_dashes, after_part, after_word, asked, asks, at_end, behind, between, call, dashes, ended}
 use Rattle.dob_cli.specs.Words.{fits, help, is_dashes, is_help_flag, is_text, kept, label_of, meaning_of_form, name_in, once, option, option_part, placed, text}
-use Rattle.dob_cli.specs.Words.{text_of, texts_of, topic, unknown, usage, valued, version, wanted, wants}
+use Rattle.dob_cli.specs.Words.{text_of, texts_of, unknown, usage, valued, version, wanted, wants}
 use Rattle.dob_cli.specs.Shapes.{bare_app, form_app}
 use Rattle.dob_cli.proofs.Lexing.{View, empty as no_byte, letter as a_letter, hyphen as one_hyphen, dashes as two_hyphens, long as a_long, short as a_short}
 use Rattle.dob_cli.proofs.Lexing.{flip_bytes, long_name, long_short, no_first, flag_letter, view}
@@ -214,7 +214,6 @@ module _ (f : Form) (is : IsTaken f) where
   abbrev pub Comes : Meaning → Kinds → List Row → Type 0
   Comes (asks name texts) kinds rows = (f.name ≡ name) × (kinds ≡ []) × (map (λ l. first_of l rows) (labels f) ≡ map (λ t. Some t) texts)
   Comes help kinds rows = kinds ≡ kind.DisplayHelp ∷ []
-  Comes topic kinds rows = kinds ≡ kind.DisplayHelp ∷ kind.InvalidSubcommand ∷ []
   Comes usage kinds rows = is_usage kinds ≡ true
   Comes version kinds rows = ⊥
 

@@ -8,11 +8,11 @@ use Rattle.std.specs.Str.{bytes_eq}
 use Rattle.std.proofs.lemmas.Slice.Eq.{bytes_eq-Decides}
 use Rattle.std.proofs.lemmas.Bool.Decides.{Decides-eqb}
 use Rattle.clap.specs.Lexer.{has_byte}
-use Rattle.dob_cli.specs.Forms.{Form, Text, build_form, check_form, count_form, forms, labels, line_form, probe_form, value_form}
+use Rattle.dob_cli.specs.Forms.{Form, Text, build_form, check_form, count_form, forms, labels, line_form, look_form, probe_form, value_form}
 use Rattle.dob_cli.specs.Words.{Given, Meaning, Stand, after_dashes, after_part, after_word, asked, asks, at_end, behind, between, call, dashes}
-use Rattle.dob_cli.specs.Words.{ended, fits, help}
+use Rattle.dob_cli.specs.Words.{ended, fits, has_topic, help, meaning_of_topic}
 use Rattle.dob_cli.specs.Words.{is_dashes, is_help_flag, is_text, label_of, meaning_of, meaning_of_form, meaning_of_other, name_in, option, option_part}
-use Rattle.dob_cli.specs.Words.{part_of, placed, text, text_of, texts_of, topic, unknown, usage, valued, version, wanted, wants}
+use Rattle.dob_cli.specs.Words.{part_of, placed, text, text_of, texts_of, unknown, usage, valued, version, wanted, wants}
 use Rattle.dob_cli.specs.Lines.{AreNew, Behind, Gives, IsAmong, IsLine, by_dashes, by_option, by_place, by_value, next, none, nothing}
 use Rattle.dob_cli.specs.Shapes.{AreFit}
 use Rattle.dob_cli.specs.Readings.{ComesFromLine, IsReadingOf, SomeLine}
@@ -101,10 +101,6 @@ module _ (f : Form) (name : Text) (texts : List Text) where
   versions_ask : {X : Type 0} → version ≡ asks name texts → X
   unfolding is_asked
   versions_ask e = absurd (true≢false (sym (ap is_asked e)))
-
-  not_topic : {X : Type 0} → topic ≡ asks name texts → X
-  unfolding is_asked
-  not_topic e = absurd (true≢false (sym (ap is_asked e)))
 
   not_help : {X : Type 0} → help ≡ asks name texts → X
   unfolding is_asked
@@ -365,6 +361,10 @@ pub check_spelled : IsSpelled check_form
 check_spelled =
     record { by_name = (long_part check_form.options 100 (codes "b") refl, tt); by_value = (λ t. long_part check_form.options 100 (codes "b=" ++ t) refl, tt) }
 
+pub look_spelled : IsSpelled look_form
+look_spelled =
+    record { by_name = (long_part look_form.options 100 (codes "b") refl, tt); by_value = (λ t. long_part look_form.options 100 (codes "b=" ++ t) refl, tt) }
+
 abbrev EachForm : (Form → Type 0) → List Form → Type 0
 EachForm P [] = Unit {0}
 EachForm P (f ∷ fs) = P f × (EachForm P fs)
@@ -379,7 +379,7 @@ all_known = (
     (count_spelled, λ rest. refl),
     (
       (build_spelled, λ rest. refl),
-      ((probe_spelled, λ rest. refl), ((line_spelled, λ rest. refl), ((check_spelled, λ rest. refl), tt))),
+      ((probe_spelled, λ rest. refl), ((line_spelled, λ rest. refl), ((check_spelled, λ rest. refl), ((look_spelled, λ rest. refl), tt)))),
     ),
   ),
 )
@@ -410,23 +410,19 @@ form_line f rest name texts e =
 
 pub line_of : (words : List Text) (name : Text) (texts : List Text) → meaning_of words ≡ asks name texts → SomeLine words name texts
 line_of [] name texts e = not_usage value_form name texts e
-line_of (word ∷ rest) name texts e = first (bytes_eq (codes "--version") word) e
+line_of (word ∷ rest) name texts e = first (bytes_eq (codes "--version") word) (bytes_eq (codes "help") word) e
   where
     not_version : {X : Type 0} → version ≡ asks name texts → X
     not_version h = versions_ask value_form name texts h
 
-    other : meaning_of_other word ≡ asks name texts → SomeLine (word ∷ rest) name texts
-    other e = by (bytes_eq (codes "help") word) (is_help_flag word) e
-      where
-        by : (a b : Bool) → cond a topic (cond b help usage) ≡ asks name texts → SomeLine (word ∷ rest) name texts
-        by true b e = not_topic value_form name texts e
-        by false true e = not_help value_form name texts e
-        by false false e = not_usage value_form name texts e
+    no_order : {X : Type 0} (b : Bool) → cond b help usage ≡ asks name texts → X
+    no_order true e = not_help value_form name texts e
+    no_order false e = not_usage value_form name texts e
 
     go : (fs : List Form) → ((f : Form) → IsAmong f fs → IsAmong f forms)
         → option_map_or (λ f. meaning_of_form f rest) (find (λ f. bytes_eq f.name word) fs) (meaning_of_other word) ≡ asks name texts
         → SomeLine (word ∷ rest) name texts
-    go [] among e = other e
+    go [] among e = no_order (is_help_flag word) e
     go (f ∷ fs) among e = by (bytes_eq f.name word) refl e (go fs (λ g h. among g (inr h)))
       where
         by : (b : Bool) → bytes_eq f.name word ≡ b
@@ -438,11 +434,13 @@ line_of (word ∷ rest) name texts e = first (bytes_eq (codes "--version") word)
             (f, among f (inl refl), l.0, subst (λ w. IsLine f (w ∷ rest) texts) ((bytes_eq-Decides f.name word).0 is) l.1)
         by false is e later = later e
 
-    first : (b : Bool)
-        → cond b version (option_map_or (λ f. meaning_of_form f rest) (find (λ f. bytes_eq f.name word) forms) (meaning_of_other word)) ≡ asks name texts
+    first : (v t : Bool)
+        → cond v version (cond t (meaning_of_topic (word ∷ rest))
+        (option_map_or (λ f. meaning_of_form f rest) (find (λ f. bytes_eq f.name word) forms) (meaning_of_other word))) ≡ asks name texts
         → SomeLine (word ∷ rest) name texts
-    first true e = not_version e
-    first false e = go forms (λ f h. h) e
+    first true t e = not_version e
+    first false true e = no_order (has_topic (word ∷ rest)) e
+    first false false e = go forms (λ f h. h) e
 
 -- an order is read only where the words are a line of it
 pub order_from_line : (words : List Text) (r : Reading) → IsReadingOf (meaning_of words) r → ComesFromLine words r
@@ -451,7 +449,6 @@ order_from_line words (reading.Order o) h = go (meaning_of words) refl h
     go : (m : Meaning) → meaning_of words ≡ m → IsReadingOf m (reading.Order o) → ComesFromLine words (reading.Order o)
     go (asks name texts) e h = (texts, h.1, subst (λ n. SomeLine words n texts) (sym h.0) (line_of words name texts e))
     go help e h = absurd h
-    go topic e h = absurd h
     go usage e h = absurd h
     go version e h = absurd h
 order_from_line words reading.Version h = tt

@@ -4,16 +4,17 @@ use Rattle.std.specs.Borrow.{Bor}
 use Rattle.std.specs.Str.{bytes_eq}
 use Rattle.dob_cli.specs.Forms.{Text}
 use Rattle.dob_cli.specs.declared.command.Order.{Order}
-use Rattle.dob_cli.specs.declared.command.Order.TheVariants.{Value, Count, Build, Probe, Line, Check}
+use Rattle.dob_cli.specs.declared.command.Order.TheVariants.{Value, Count, Build, Probe, Line, Check, Look}
 use Rattle.dob_cli.specs.Endings.{Ending}
 use Rattle.dob_cli.specs.Shelves.{SameFiles, SameOthers, ShelfChange}
-use Rattle.dob_cli.specs.Words.{Meaning, asks, build, help, number_of, topic, usage, version}
+use Rattle.dob_cli.specs.Words.{Meaning, asks, build, help, number_of, usage, version}
 use Rattle.dob_cli.specs.declared.command.Reading.TheVariants as reading
 use Rattle.dob_cli.specs.Readings.{IsOrder, IsReadingOf, name_of_order}
 use Rattle.dob_cli.specs.Orders.{AnswersOrder, KeepsFiles}
 use Rattle.dob_cli.specs.Program.{AnswersValue}
 use Rattle.dob_cli.specs.Sizes.{AnswersCount}
 use Rattle.dob_cli.specs.Builds.{AnswersBuild}
+use Rattle.dob_cli.specs.Looks.{AnswersLook}
 use Rattle.dob_cli.specs.Tables.{AnswersCheck, AnswersLine, AnswersProbe}
 use Rattle.dob_cli.proofs.Outcomes.{first_text}
 
@@ -64,6 +65,12 @@ module _ (c : ShelfChange) (e : Ending) where
   done_check (Check f) file is answers = subst (λ (x : Text). AnswersCheck c x e) (first_text f.now file is.1) answers
   done_check o file is answers = absurd (differs (name_of_order o) (codes "check") refl refl is.0)
 
+  pub done_look : (o : Order) (file text : Text) → IsOrder (codes "look") (file ∷ text ∷ []) o → AnswersOrder c o e → AnswersLook c file text e
+  done_look (Look f t) file text is answers =
+      let same = two_texts f.now t.now file text is.1 in
+      subst (λ (x : Text). AnswersLook c x text e) same.0 (subst (λ (x : Text). AnswersLook c f.now x e) same.1 answers)
+  done_look o file text is answers = absurd (differs (name_of_order o) (codes "look") refl refl is.0)
+
 -- ---- files
 
 module _ (c : ShelfChange) where
@@ -78,7 +85,6 @@ module _ (c : ShelfChange) where
       → ((set nodes file : Text) → m ≡ build set nodes file → ⊥) → ⊥
   no_build (asks name texts) s f n is none = none s.now is.1.0 f.now (ap₂ (λ (x : Text) (y : List Text). asks x y) (sym is.0) (sym is.1.1))
   no_build help s f n is none = is
-  no_build topic s f n is none = is
   no_build usage s f n is none = is
   no_build version s f n is none = is
 
@@ -91,3 +97,4 @@ module _ (c : ShelfChange) where
   kept_files m (Probe f t) is none keeps = keeps
   kept_files m (Line f t) is none keeps = keeps
   kept_files m (Check f) is none keeps = keeps
+  kept_files m (Look f t) is none keeps = keeps

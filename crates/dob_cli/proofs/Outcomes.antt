@@ -17,14 +17,14 @@ use Rattle.clap.specs.declared.parser.ArgMatches.{ArgMatches}
 use Rattle.clap.proofs.WalkLemmas.{both, first_value-rows}
 use Rattle.dob_cli.specs.Forms.{Form, Text, forms}
 use Rattle.dob_cli.specs.Lines.{IsAmong as IsAmongForms}
-use Rattle.dob_cli.specs.Words.{Meaning, asks, help, is_version, meaning_of, meaning_of_command, topic, usage, version}
+use Rattle.dob_cli.specs.Words.{Meaning, asks, help, is_version, is_topic, meaning_of, meaning_of_command, meaning_of_topic, usage, version}
 use Rattle.dob_cli.specs.Shapes.{Finds, HasShape, IsRead, dobutsu_app}
 use Rattle.dob_cli.specs.Readings.{IsOrder, IsReadingOf, IsReadingOfKind}
 use Rattle.dob_cli.specs.declared.command.Order.{Order}
 use Rattle.dob_cli.specs.declared.command.Reading.{Reading}
 use Rattle.dob_cli.specs.declared.command.Reading.TheVariants as reading
 use Rattle.dob_cli.proofs.Turns.{is_help_kind, is_usage, no_help_kind}
-use Rattle.dob_cli.proofs.AllWords.{Fits, IsMet, words_fit}
+use Rattle.dob_cli.proofs.AllWords.{Fits, IsMet, topic_kinds, words_fit}
 
 -- a command with one more subcommand
 pub subcommand_shape : (old sub new : Command) (a b : App) → HasShape a old → HasShape b sub → AddsSubcommand old sub new
@@ -77,19 +77,18 @@ no_kinds k ks e = true≢false (ap (λ (l : Kinds). elim l as (λ _. Bool) [ [] 
 asked_for : (words : List Text) (m : Meaning) (met : Option (Text × List Row)) → meaning_of_command words ≡ m → Fits m [] met → IsAsked words met
 asked_for words (asks name texts) met e fits = record { name = name; texts = texts; meant = e; found = fits.1 }
 asked_for words help met e fits = absurd (no_kinds _ _ fits)
-asked_for words topic met e fits = absurd (no_kinds _ _ fits)
 asked_for words usage met e fits = absurd (true≢false (sym fits))
 asked_for words version met e fits = absurd fits
 
 -- matches come only where something is asked for, and have its texts
-pub asked_by_matches : (app : App) (words : List Text) (m : ArgMatches) {X : Type 0} → app ≡ dobutsu_app
+pub asked_by_matches : (app : App) (words : List Text) (m : ArgMatches) {X : Type 0} → is_topic words ≡ false → app ≡ dobutsu_app
     → (is_simple_and_free app ≡ true → fault_of app words ≡ []) → (is_simple app ≡ true → X × (subcommand_rows_of m ≡ subcommand_of app words))
     → IsAsked words (subcommand_rows_of m)
-asked_by_matches app words m is kinds matches =
+asked_by_matches app words m no_topic is kinds matches =
     let clean : fault_of dobutsu_app words ≡ [] = ap (λ a. fault_of a words) (sym is) ∙ kinds (ap is_simple_and_free is) in
     let rows : subcommand_rows_of m ≡ subcommand_of dobutsu_app words = (matches (ap is_simple is)).1 ∙ ap (λ a. subcommand_of a words) is in
     let fits : Fits (meaning_of_command words) [] (subcommand_of dobutsu_app words) =
-    subst (λ k. Fits (meaning_of_command words) k (subcommand_of dobutsu_app words)) clean (words_fit words) in
+    subst (λ k. Fits (meaning_of_command words) k (subcommand_of dobutsu_app words)) clean (words_fit words no_topic) in
     asked_for words (meaning_of_command words) (subcommand_rows_of m) refl (subst (Fits (meaning_of_command words) []) (sym rows) fits)
 
 -- so there is an order
@@ -136,25 +135,9 @@ usage_list : (kinds : Kinds) → is_usage kinds ≡ true → no_help_kind kinds 
 usage_list [] e = refl
 usage_list (k ∷ ks) e = e
 
-abbrev IsHelp : Reading → Type 0
-IsHelp (reading.Help _) = Unit {0}
-IsHelp _ = ⊥
-
 abbrev IsUsage : Reading → Type 0
 IsUsage (reading.Usage _) = Unit {0}
 IsUsage _ = ⊥
-
--- an error is read as help where its kind says so, and else as usage
-by_kind : (k : ErrorKind) (r : Reading) → IsReadingOfKind k r → IsHelp r ⊎ ((is_help_kind k ≡ false) × IsUsage r)
-by_kind kind.OutOfMemory r h = absurd h
-by_kind kind.DisplayHelp (reading.Help s) h = inl tt
-by_kind kind.DisplayHelp (reading.Usage s) h = absurd h
-by_kind kind.DisplayHelp (reading.Order o) h = absurd h
-by_kind kind.DisplayHelp reading.Version h = absurd h
-by_kind k (reading.Usage s) h = inr (refl, tt)
-by_kind k (reading.Help s) h = absurd h
-by_kind k (reading.Order o) h = absurd h
-by_kind k reading.Version h = absurd h
 
 not_help : (k : ErrorKind) (r : Reading) → is_help_kind k ≡ false → IsReadingOfKind k r → IsUsage r
 not_help kind.OutOfMemory r e h = absurd h
@@ -169,12 +152,6 @@ help_read (reading.Help s) h = tt
 help_read (reading.Usage s) h = absurd h
 help_read (reading.Order o) h = absurd h
 help_read reading.Version h = absurd h
-
-topic_read : (k : ErrorKind) (r : Reading) → IsReadingOfKind k r → IsReadingOf topic r
-topic_read k (reading.Help s) h = tt
-topic_read k (reading.Usage s) h = tt
-topic_read k (reading.Order o) h = elim (by_kind k (reading.Order o) h) [ inl x ↦ absurd x | inr x ↦ absurd x.1 ]
-topic_read k reading.Version h = elim (by_kind k reading.Version h) [ inl x ↦ absurd x | inr x ↦ absurd x.1 ]
 
 usage_read : (r : Reading) → IsUsage r → IsReadingOf usage r
 usage_read (reading.Usage s) h = tt
@@ -192,22 +169,31 @@ error_is_meant help kinds met k r fits (inr among) h = elim (subst (IsAmong k) f
   | inl e ↦ help_read r (subst (λ x. IsReadingOfKind x r) e h)
   | inr none ↦ absurd none
 ]
-error_is_meant topic kinds met k r fits (inr among) h = topic_read k r h
 error_is_meant version kinds met k r fits (inr among) h = absurd fits
 error_is_meant usage kinds met k r fits (inr among) h = usage_read r (not_help k r (usage_kind kinds k (usage_list kinds fits) among) h)
 
 -- the same of the words
-pub error_of_words : (app : App) (words : List Text) (e : Error) → app ≡ dobutsu_app → (is_simple_and_free app ≡ true → HasKind (fault_of app words) e)
+pub error_of_words : (app : App) (words : List Text) (e : Error) → is_topic words ≡ false → app ≡ dobutsu_app → (is_simple_and_free app ≡ true → HasKind (fault_of app words) e)
     → (r : Reading) → IsReadingOfKind (kind_of e) r → IsReadingOf (meaning_of_command words) r
-error_of_words app words e is kinds r h =
+error_of_words app words e no_topic is kinds r h =
     let has : HasKind (fault_of dobutsu_app words) e = subst (λ a. HasKind (fault_of a words) e) is (kinds (ap is_simple_and_free is)) in
-    error_is_meant (meaning_of_command words) (fault_of dobutsu_app words) _ (kind_of e) r (words_fit words) has h
+    error_is_meant (meaning_of_command words) (fault_of dobutsu_app words) _ (kind_of e) r (words_fit words no_topic) has h
 
--- ---- words that ask for the version
+-- ---- words that ask by `help`, or for the version
+
+-- by `help` there are no matches
+pub no_matches : (app : App) (words : List Text) → is_topic words ≡ true → app ≡ dobutsu_app
+    → (is_simple_and_free app ≡ true → fault_of app words ≡ []) → ⊥
+no_matches app words topic is kinds =
+    let clean : fault_of dobutsu_app words ≡ [] = ap (λ a. fault_of a words) (sym is) ∙ kinds (ap is_simple_and_free is) in
+    no_kinds _ _ (sym clean ∙ topic_kinds words topic)
 
 -- other words mean what the command makes of them
-pub command_meaning : (words : List Text) → is_version words ≡ false → meaning_of_command words ≡ meaning_of words
-command_meaning words e = rw e refl
+pub command_meaning : (words : List Text) → is_version words ≡ false → is_topic words ≡ false → meaning_of_command words ≡ meaning_of words
+command_meaning words v t = rw (v, t) refl
+
+pub topic_meaning : (words : List Text) → is_version words ≡ false → is_topic words ≡ true → meaning_of_topic words ≡ meaning_of words
+topic_meaning words v t = rw (v, t) refl
 
 pub version_meaning : (words : List Text) → is_version words ≡ true → meaning_of words ≡ version
 version_meaning words e = rw e refl

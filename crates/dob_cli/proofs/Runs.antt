@@ -16,7 +16,8 @@ use Rattle.dob_cli.specs.Orders.{AnswersOrder, AreLinesFor, IsFaultFor, KeepsFil
 use Rattle.dob_cli.specs.Runs.{Ran, RanOn}
 use Rattle.dob_cli.proofs.Shelves.{others_kept}
 use Rattle.dob_cli.proofs.TableFaults.{probe_right}
-use Rattle.dob_cli.proofs.Orders.{done_build, done_check, done_count, done_line, done_probe, done_value, kept_files, kept_others}
+use Rattle.dob_cli.proofs.ByPlace.{look_right}
+use Rattle.dob_cli.proofs.Orders.{done_build, done_check, done_count, done_line, done_look, done_probe, done_value, kept_files, kept_others}
 
 -- ---- the streams are those that they were
 
@@ -56,9 +57,10 @@ module _ (c : ShelfChange) (words : List Text) (e : Ending) where
     probe = λ file text _. memory_answered _ _ e (tt, works) told;
     line = λ file text _. memory_answered _ _ e (tt, works) told;
     check = λ file _. memory_answered _ _ e (tt, works) told;
+    look_right = λ file text _ _. memory_answered _ _ e (tt, works) told;
+    look = λ file text _. memory_answered _ _ e (tt, works) told;
     help = λ _. inr told;
     version = λ _. inr told;
-    topic = λ _. inl (inr told);
     usage = λ _. inr told;
     others = λ set nodes file _. others_kept file c.before.has c.after.has same;
     files = λ _. same;
@@ -80,9 +82,10 @@ module _ (c : ShelfChange) (words : List Text) (e : Ending) where
         probe_right c file text e right (done_probe c e o file text (asked (reading.Order o) read _ is) answers);
     line = λ file text is. done_line c e o file text (asked (reading.Order o) read _ is) answers;
     check = λ file is. done_check c e o file (asked (reading.Order o) read _ is) answers;
+    look = λ file text is. done_look c e o file text (asked (reading.Order o) read _ is) answers;
+    look_right = λ file text is right. look_right c file text e right (done_look c e o file text (asked (reading.Order o) read _ is) answers);
     help = λ is. absurd (asked (reading.Order o) read _ is);
     version = λ is. absurd (asked (reading.Order o) read _ is);
-    topic = λ is. absurd (asked (reading.Order o) read _ is);
     usage = λ is. absurd (asked (reading.Order o) read _ is);
     others = λ set nodes file is. kept_others c o set nodes file (asked (reading.Order o) read _ is) keeps;
     files = λ none. kept_files c (meaning_of words) o read none keeps;
@@ -99,9 +102,10 @@ module _ (c : ShelfChange) (words : List Text) (e : Ending) where
     probe_right = λ file text is. absurd (asked reading.Version read _ is);
     line = λ file text is. absurd (asked reading.Version read _ is);
     check = λ file is. absurd (asked reading.Version read _ is);
+    look = λ file text is. absurd (asked reading.Version read _ is);
+    look_right = λ file text is. absurd (asked reading.Version read _ is);
     help = λ is. absurd (asked reading.Version read _ is);
     version = λ _. inl told;
-    topic = λ is. absurd (asked reading.Version read _ is);
     usage = λ is. absurd (asked reading.Version read _ is);
     others = λ set nodes file is. absurd (asked reading.Version read _ is);
     files = λ _. same;

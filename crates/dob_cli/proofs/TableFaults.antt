@@ -9,10 +9,12 @@ use Rattle.dob_probe.specs.Faults.{IsFaultOfCheck, IsFaultOfLine}
 use Rattle.dob_cli.specs.declared.fault.Fault.{Fault}
 use Rattle.dob_cli.specs.declared.fault.Fault.TheVariants.{Text, SetText, SetTooLarge, TooDeep, Run, File, Table, Memory, Io}
 use Rattle.dob_cli.specs.Shelves.{FailsWhere, ShelfChange}
-use Rattle.dob_cli.specs.Faults.{is_io}
+use Rattle.dob_cli.specs.Faults.{fault_of_shelf, is_io}
+use Rattle.dob_cli.specs.declared.shelf.ShelfFault.{ShelfFault}
+use Rattle.dob_cli.specs.declared.shelf.ShelfFault.TheVariants as shelf_fault
 use Rattle.dob_cli.specs.Endings.{Answers, Ending}
 use Rattle.dob_cli.specs.Program.{IsValueLineOf}
-use Rattle.dob_cli.specs.Tables.{AnswersProbe, AnswersProbeRight, HasValueFile, IsCheckFault, IsFileOf, IsOpeningFault, IsPositionFault}
+use Rattle.dob_cli.specs.Tables.{AnswersProbe, AnswersProbeRight, HasValueFile, IsCheckFault, IsFileOf, IsOpeningFault, IsPositionFault, IsShut}
 use Rattle.dob_cli.specs.Tables.{IsProbeLine, IsTextOf}
 
 module _ (Has : List ℕ → Type 0) (table : ClassTable) (file : IsFileOf Has table) where
@@ -27,18 +29,27 @@ module _ (Has : List ℕ → Type 0) (table : ClassTable) (file : IsFileOf Has t
   line_fault_holds words position (table_fault.Inconsistent class) named holds = (position, named, (table, file, holds.1))
   line_fault_holds words position table_fault.Memory named holds = (position, named, tt)
 
+-- where a file that a shelf has isn't opened for want of memory alone, it isn't there where the cause is another one
+pub is_shut : (Has : List ℕ → Type 0) → ((bytes : List ℕ) → Has bytes → shelf_fault.Failed ≡ shelf_fault.Memory) → IsShut Has
+is_shut Has found bytes has = let never : shelf_fault.Failed ≡ shelf_fault.Memory = found bytes has in absurd (cc)
+
+pub shelf_fault_holds : (Has : List ℕ → Type 0) (lower : ShelfFault) → ((bytes : List ℕ) → Has bytes → lower ≡ shelf_fault.Memory)
+    → IsOpeningFault Has (fault_of_shelf lower)
+shelf_fault_holds Has shelf_fault.Memory found = tt
+shelf_fault_holds Has shelf_fault.Failed found = is_shut Has found
+
 -- a fault of opening the file is one of asking for the position of a text
 pub opening_fault_holds : (Has : List ℕ → Type 0) (words : List ℕ) (position : Setup) (fault : Fault) → IsTextOf words position
     → IsOpeningFault Has fault → IsPositionFault Has words fault
 opening_fault_holds Has words position (File fault) named holds = (position, named, holds)
-opening_fault_holds Has words position Io named holds = (position, named, tt)
+opening_fault_holds Has words position Io named holds = (position, named, holds)
 opening_fault_holds Has words position (Text fault) named holds = absurd holds
 opening_fault_holds Has words position SetText named holds = absurd holds
 opening_fault_holds Has words position SetTooLarge named holds = absurd holds
 opening_fault_holds Has words position TooDeep named holds = absurd holds
 opening_fault_holds Has words position (Run fault) named holds = absurd holds
 opening_fault_holds Has words position (Table fault) named holds = absurd holds
-opening_fault_holds Has words position Memory named holds = absurd holds
+opening_fault_holds Has words position Memory named holds = tt
 
 -- by the file of a value table the line tells the value that the position has by definition
 line_right : (Has : List ℕ → Type 0) (words lines : List ℕ) → HasValueFile Has → IsProbeLine Has words lines → IsValueLineOf words lines

@@ -16,8 +16,8 @@ use Rattle.dob_run.specs.declared.fault.Fault.TheVariants as run_fault
 use Rattle.dob_probe.specs.Faults as table
 use Rattle.dob_probe.specs.declared.fault.Fault.TheVariants as table_fault
 use Rattle.dob_pieces.specs.Bytes.{line_feed}
-use Rattle.dob_cli.specs.declared.shelf.MakeFault as make
-use Rattle.dob_cli.specs.declared.shelf.MakeFault.TheVariants as make_fault
+use Rattle.dob_cli.specs.declared.shelf.ShelfFault as shelf
+use Rattle.dob_cli.specs.declared.shelf.ShelfFault.TheVariants as shelf_fault
 use Rattle.dob_cli.specs.declared.fault.Fault.{Fault}
 use Rattle.dob_cli.specs.declared.fault.Fault.TheVariants.{Text, SetText, SetTooLarge, TooDeep, Run, File, Table, Memory, Io}
 
@@ -74,7 +74,7 @@ abbrev pub fault_of_rank : rank.Fault → Fault
 fault_of_rank rank_fault.SetTooLarge = SetTooLarge
 fault_of_rank rank_fault.Memory = Memory
 
--- a fault of making a file
-abbrev pub fault_of_make : make.MakeFault → Fault
-fault_of_make make_fault.Memory = Memory
-fault_of_make make_fault.Failed = Io
+-- a fault of opening or making a file
+abbrev pub fault_of_shelf : shelf.ShelfFault → Fault
+fault_of_shelf shelf_fault.Memory = Memory
+fault_of_shelf shelf_fault.Failed = Io

@@ -43,6 +43,10 @@ probe_form = record { name = codes "probe"; options = file_option ∷ []; positi
 abbrev pub line_form : Form
 line_form = record { name = codes "line"; options = file_option ∷ []; positions = codes "POSITION" ∷ []; numbers = [] }
 
+-- `look --db FILE POSITION`
+abbrev pub look_form : Form
+look_form = record { name = codes "look"; options = file_option ∷ []; positions = codes "POSITION" ∷ []; numbers = [] }
+
 -- `check --db FILE`
 abbrev pub check_form : Form
 check_form = record { name = codes "check"; options = file_option ∷ []; positions = []; numbers = [] }
@@ -65,4 +69,4 @@ build_form = record {
 
 -- the subcommands, in the order of the help
 abbrev pub forms : List Form
-forms = value_form ∷ count_form ∷ build_form ∷ probe_form ∷ line_form ∷ check_form ∷ []
+forms = value_form ∷ count_form ∷ build_form ∷ probe_form ∷ line_form ∷ check_form ∷ look_form ∷ []

@@ -8,6 +8,7 @@ pub mod Shelves
 pub mod Endings
 pub mod Program
 pub mod Tables
+pub mod Looks
 pub mod Sizes
 pub mod Builds
 pub mod Orders

@@ -4,7 +4,7 @@ use Rattle.clap.specs.declared.error.kind.ErrorKind.{ErrorKind}
 use Rattle.clap.specs.declared.error.kind.ErrorKind.TheVariants as kind
 use Rattle.dob_cli.specs.Forms.{Form, Text, forms}
 use Rattle.dob_cli.specs.Lines.{IsAmong, IsLine}
-use Rattle.dob_cli.specs.Words.{Meaning, asks, help, is_number, number_of, topic, usage, version}
+use Rattle.dob_cli.specs.Words.{Meaning, asks, help, is_number, number_of, usage, version}
 use Rattle.dob_cli.specs.declared.command.Order.{Order}
 use Rattle.dob_cli.specs.declared.command.Order.TheVariants as order
 use Rattle.dob_cli.specs.declared.command.Reading.{Reading}
@@ -18,6 +18,7 @@ name_of_order (order.Build _ _ _) = codes "build"
 name_of_order (order.Probe _ _) = codes "probe"
 name_of_order (order.Line _ _) = codes "line"
 name_of_order (order.Check _) = codes "check"
+name_of_order (order.Look _ _) = codes "look"
 
 -- it has these texts, in the order of the subcommand's form; of a number the text may be any that tells it
 abbrev pub HasTexts : List Text → Order → Type 0
@@ -27,6 +28,7 @@ HasTexts texts (order.Build set nodes file) = (t : Text) × (set.now ∷ t ∷ f
 HasTexts texts (order.Probe file position) = file.now ∷ position.now ∷ [] ≡ texts
 HasTexts texts (order.Line file position) = file.now ∷ position.now ∷ [] ≡ texts
 HasTexts texts (order.Check file) = file.now ∷ [] ≡ texts
+HasTexts texts (order.Look file position) = file.now ∷ position.now ∷ [] ≡ texts
 
 -- the order is for this subcommand and these texts
 abbrev pub IsOrder : Text → List Text → Order → Type 0
@@ -37,8 +39,6 @@ abbrev pub IsReadingOf : Meaning → Reading → Type 0
 IsReadingOf (asks name texts) (reading.Order o) = IsOrder name texts o
 IsReadingOf help (reading.Help _) = Unit {0}
 IsReadingOf version reading.Version = Unit {0}
-IsReadingOf topic (reading.Help _) = Unit {0}
-IsReadingOf topic (reading.Usage _) = Unit {0}
 IsReadingOf usage (reading.Usage _) = Unit {0}
 IsReadingOf _ _ = ⊥
 

@@ -1,13 +1,14 @@
 -- What the program does with its words, whatever they are.
 use Rattle.std.specs.Prelude.{◌≡◌, ◌≢◌, ◌⊎◌, ℕ, false, List, [], ◌∷◌, ◌++◌, Option, codes}
 use Rattle.dob_dbfile.specs.Sinks.{Change, IsSame, IsUntouched, Says}
-use Rattle.dob_cli.specs.Words.{Text, build, check, count, help, line, meaning_of, number_of, probe, topic, usage, value, version}
+use Rattle.dob_cli.specs.Words.{Text, build, check, count, help, line, look, meaning_of, number_of, probe, usage, value, version}
 use Rattle.dob_pieces.specs.Bytes.{line_feed}
 use Rattle.dob_cli.specs.Endings.{AnswersHelp, AnswersUsage, AnswersVersion, Ending, TellsMemory, ended}
 use Rattle.dob_cli.specs.Shelves.{SameFiles, SameOthers, ShelfChange}
 use Rattle.dob_cli.specs.Program.{AnswersValue}
 use Rattle.dob_cli.specs.Sizes.{AnswersCount}
 use Rattle.dob_cli.specs.Builds.{AnswersBuild}
+use Rattle.dob_cli.specs.Looks.{AnswersLook, AnswersLookRight}
 use Rattle.dob_cli.specs.Tables.{AnswersCheck, AnswersLine, AnswersProbe, AnswersProbeRight, HasValueFile}
 
 -- It does what these words ask for, over a shelf that changes so.
@@ -24,9 +25,10 @@ pub record Ran (c : ShelfChange) (words : List Text) (e : Ending) : Type 0 where
   pub probe : (file position : Text) → meaning_of words ≡ probe file position → AnswersProbe c file position e
   pub line : (file position : Text) → meaning_of words ≡ line file position → AnswersLine c file position e
   pub check : (file : Text) → meaning_of words ≡ check file → AnswersCheck c file e
+  pub look_right : (file position : Text) → meaning_of words ≡ look file position → HasValueFile (c.before.has file) → AnswersLookRight c file position e
+  pub look : (file position : Text) → meaning_of words ≡ look file position → AnswersLook c file position e
   pub help : meaning_of words ≡ help → AnswersHelp e
   pub version : meaning_of words ≡ version → AnswersVersion e
-  pub topic : meaning_of words ≡ topic → AnswersHelp e ⊎ AnswersUsage e
   pub usage : meaning_of words ≡ usage → AnswersUsage e
   -- its streams are those that they were
   pub same_out : IsSame e.out

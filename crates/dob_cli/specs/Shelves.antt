@@ -1,8 +1,8 @@
 -- What is known of a shelf, and how a call changes that.
 use Rattle.std.specs.Prelude.{◌≡◌, ◌≢◌, ◌↔◌, ◌||◌, ℕ, Bool, true, false, List, Option, option_map, String, Vec, Result, Ok, Err}
 use Rattle.std.specs.BTreeMap.{BTreeMap, get_by_text}
-use Rattle.dob_cli.specs.declared.shelf.MakeFault.{MakeFault}
-use Rattle.dob_cli.specs.declared.shelf.MakeFault.TheVariants.{Memory, Failed}
+use Rattle.dob_cli.specs.declared.shelf.ShelfFault.{ShelfFault}
+use Rattle.dob_cli.specs.declared.shelf.ShelfFault.TheVariants.{Memory, Failed}
 
 -- which bytes the file of a name has, where that is known
 abbrev pub Files : Type 1
@@ -30,7 +30,7 @@ abbrev pub FailsWhere : ShelfChange → Bool → Type 0
 FailsWhere c failed = c.after.has_failed ≡ (c.before.has_failed || failed)
 
 -- whether the shelf failed to make a file, for another cause than want of memory
-abbrev pub is_failed : {X : Type 0} → Result X MakeFault → Bool
+abbrev pub is_failed : {X : Type 0} → Result X ShelfFault → Bool
 is_failed (Ok x) = false
 is_failed (Err Memory) = false
 is_failed (Err Failed) = true

@@ -97,10 +97,15 @@ pub record IsCheckLine (Has : List ℕ → Type 0) (lines : List ℕ) : Type 0 w
 
 -- ---- faults
 
--- a fault of opening the file: one that it has, or it couldn't be opened
+-- the file isn't there, or it couldn't be opened
+abbrev pub IsShut : (List ℕ → Type 0) → Type 0
+IsShut Has = (bytes : List ℕ) → ¬ Has bytes
+
+-- a fault of opening the file: one that it has, or it couldn't be opened, or memory failed
 abbrev pub IsOpeningFault : (List ℕ → Type 0) → Fault → Type 0
 IsOpeningFault Has (File fault) = HasFileFault Has fault
-IsOpeningFault Has Io = Unit {0}
+IsOpeningFault Has Memory = Unit {0}
+IsOpeningFault Has Io = IsShut Has
 IsOpeningFault Has _ = ⊥
 
 -- a fault of asking a file for a position: the file's, or the table's; or memory failed, or the file couldn't be opened
@@ -111,7 +116,7 @@ IsProbingFault Has position (Table (table_fault.Inconsistent class)) =
     (table : ClassTable) × IsFileOf Has table × BreaksAt table position class
 IsProbingFault Has position (Table table_fault.Memory) = Unit {0}
 IsProbingFault Has position Memory = Unit {0}
-IsProbingFault Has position Io = Unit {0}
+IsProbingFault Has position Io = IsShut Has
 IsProbingFault Has position _ = ⊥
 
 -- A fault of asking for the position of a text: the text's, or memory failed for the words; the file is asked only where the
@@ -127,7 +132,7 @@ IsCheckFault Has (File fault) = HasFileFault Has fault
 IsCheckFault Has (Table (table_fault.Inconsistent class)) = (table : ClassTable) × IsFileOf Has table × IsFirstBroken table class
 IsCheckFault Has (Table table_fault.Memory) = Unit {0}
 IsCheckFault Has Memory = Unit {0}
-IsCheckFault Has Io = Unit {0}
+IsCheckFault Has Io = IsShut Has
 IsCheckFault Has _ = ⊥
 
 -- ---- what the program does

@@ -1,7 +1,7 @@
 -- What the words after the program's name ask for, without a word on how they are read. A word is
 -- the list of its bytes, which are UTF-8.
-use Rattle.std.specs.Prelude.{◌==◌, ◌&&◌, ◌||◌, ◌^◌, ℕ, Bool, false, not, List, [], ◌∷◌, ◌++◌, Option, None, Some, is_some}
-use Rattle.std.specs.Prelude.{if◌then◌else◌, codes, length, nat_lt, slice_get, find, fold, option_map, option_and_then}
+use Rattle.std.specs.Prelude.{◌==◌, ◌&&◌, ◌||◌, ◌^◌, ℕ, Bool, false, true, not, List, [], ◌∷◌, ◌++◌, Option, None, Some, is_some}
+use Rattle.std.specs.Prelude.{if◌then◌else◌, codes, length, nat_lt, slice_get, find, fold, map, option_map, option_and_then}
 use Rattle.std.specs.List.{before_first, after_first, list_all, list_any}
 use Rattle.std.specs.Char.{digit_value}
 use Rattle.std.specs.Option.{option_map_or}
@@ -95,12 +95,10 @@ part_of options word =
 pub data Meaning : Type 0 where
   -- what the subcommand of this name does with these texts
   asks : Text → List Text → Meaning
-  -- the help text
+  -- a help text
   help : Meaning
   -- the program's version
   version : Meaning
-  -- the subcommand `help` and what follows it: a help text, or usage where nothing has that name
-  topic : Meaning
   -- nothing that the program knows
   usage : Meaning
 
@@ -177,17 +175,33 @@ meaning_of_form form words = at_end form (fold (after_word form) (between [] for
 
 -- after a first word that names no subcommand
 abbrev pub meaning_of_other : Text → Meaning
-meaning_of_other word =
-    if bytes_eq (codes "help") word then topic
-    else if is_help_flag word then help
-    else usage
+meaning_of_other word = if is_help_flag word then help else usage
 
 -- the first word is `--version`
 abbrev pub is_version : List Text → Bool
 is_version [] = false
 is_version (word ∷ rest) = bytes_eq (codes "--version") word
 
--- of words that don't ask for the version
+-- the first word is `help`
+abbrev pub is_topic : List Text → Bool
+is_topic [] = false
+is_topic (word ∷ rest) = bytes_eq (codes "help") word
+
+-- a subcommand has this name, `help` among them
+abbrev pub names_subcommand : Text → Bool
+names_subcommand word = list_any (λ name. bytes_eq name word) (codes "help" ∷ map (λ form. form.name) forms)
+
+-- `help` alone, or with the name of a subcommand
+abbrev pub has_topic : List Text → Bool
+has_topic (word ∷ []) = true
+has_topic (word ∷ name ∷ []) = names_subcommand name
+has_topic _ = false
+
+-- of words from `help` on
+abbrev pub meaning_of_topic : List Text → Meaning
+meaning_of_topic words = if has_topic words then help else usage
+
+-- of words that ask neither for the version nor by `help`
 abbrev pub meaning_of_command : List Text → Meaning
 meaning_of_command [] = usage
 meaning_of_command (word ∷ rest) =
@@ -195,7 +209,10 @@ meaning_of_command (word ∷ rest) =
 
 -- of all the words
 abbrev pub meaning_of : List Text → Meaning
-meaning_of words = if is_version words then version else meaning_of_command words
+meaning_of words =
+    if is_version words then version
+    else if is_topic words then meaning_of_topic words
+    else meaning_of_command words
 
 -- ---- what is asked for, by name
 
@@ -222,3 +239,7 @@ line file position = asks (codes "line") (file ∷ position ∷ [])
 -- whether the table of the file is consistent
 abbrev pub check : Text → Meaning
 check file = asks (codes "check") (file ∷ [])
+
+-- the value that the file's record of the position's class says
+abbrev pub look : Text → Text → Meaning
+look file position = asks (codes "look") (file ∷ position ∷ [])

@@ -11,12 +11,12 @@
 // - what it owes by a definition like `AnswersCount`, a case in each definition of specs/Orders.antt and a field of `Ran` in
 //   specs/Runs.antt;
 // - in program.rt an arm of `answer`, and its cases in proofs/Orders.antt and proofs/Runs.antt.
-ghost use Rattle.std.specs.Prelude.{◌≡◌, ◌∷◌, [], IfOk, IsSomeAnd, List, codes, map};
+ghost use Rattle.std.specs.Prelude.{◌≡◌, ◌∷◌, [], IfOk, IsSomeAnd, List, codes, map, true};
 ghost use Rattle.clap.specs.Words.{App, Rule, kind_of, subcommand_rows_of, with_rule, with_subcommand};
-ghost use Rattle.dob_cli.specs.Forms.{Form, Text, build_form, check_form, count_form, forms, line_form, probe_form, value_form};
-ghost use Rattle.dob_cli.specs.Forms.{file_option, nodes_option, out_option, set_option};
+ghost use Rattle.dob_cli.specs.Forms.{Form, Text, build_form, check_form, count_form, forms, line_form, look_form, probe_form};
+ghost use Rattle.dob_cli.specs.Forms.{value_form, file_option, nodes_option, out_option, set_option};
 ghost use Rattle.dob_cli.specs.Lines.{IsAmong, IsLine};
-ghost use Rattle.dob_cli.specs.Words.{asks, is_version, meaning_of};
+ghost use Rattle.dob_cli.specs.Words.{asks, has_topic, is_topic, is_version, meaning_of, meaning_of_topic, names_subcommand};
 ghost use Rattle.dob_cli.specs.Shapes.{Finds, HasShape, IsRead, bare_app, dobutsu_app, form_app, option_rule, text_rule};
 ghost use Rattle.dob_cli.specs.Readings.{ComesFromLine, IsOrder, IsReadingOf, IsReadingOfKind};
 
@@ -51,6 +51,11 @@ pub enum Order<'a> {
     },
     /// To tell whether the table of the file is consistent.
     Check(&'a str),
+    /// To print the value that the file's record of the position's class says.
+    Look {
+        file: &'a str,
+        position: &'a str,
+    },
 }
 
 /// What the words come to.
@@ -82,7 +87,7 @@ A fault is one line on standard error. The status is 1, and 3 for E12, E14, E23 
   E9 Nodes         there aren't 1 to 16 nodes
   E12 TooDeep      of `value`: a distance would be above 65534 plies
   E14 Stopped node N: CAUSE
-                   node N of a build has stopped. The cause: `E12 TooDeep`, `E23 Memory`, `Held`, `Counts`, or
+                   node N of a build has stopped. The cause: `E12 TooDeep`, `E23 Memory`, `Counts`, or
                    `E13 Contradiction class C`, what it was told of class C doesn't fit what it knows
   E15 Truncated    the file ends too early
   E16 Magic        the file doesn't begin as database files do
@@ -164,8 +169,18 @@ Answers: `consistent`; or `E21 Inconsistent class N` with the first class whose 
 
 Example: dobutsu check --db 000.db prints `consistent`.";
 
-/// Reads the words after the program's name. `--help`, `-h` and the subcommand `help` give the help.
-/// As the first word `--version` asks for the version. A word that begins with `-` is an option, but for a lone `-`,
+const LOOK_HELP: &str =
+    "Of the file only its first 20 bytes and the 2 bytes of the position are read, each by its place, so that
+a file of any size is asked at once. Its digest isn't read: damage isn't found, nor whether the file is
+too long or too short. `dobutsu probe` reads and tests it all.
+
+Answers: `win D`, `loss D` or `draw`, where D is the distance in plies.
+
+Example: dobutsu look --db 000.db \"..l/.../L../... - -\" prints `win 3`. `dobutsu value --help` says
+how a position is written.";
+
+/// Reads the words after the program's name. `--help`, `-h` and the subcommand `help`, alone or with the name of another
+/// one, give a help. As the first word `--version` asks for the version. A word that begins with `-` is an option, but for a lone `-`,
 /// the first `--` and what follows it.
 ///
 /// # Errors
@@ -179,6 +194,9 @@ pub fn read_words<'a>(alloc: Global, words: &'a [&'a str]) -> Result<Reading<'a>
 {
     if asks_version(words) {
         return Ok(Reading::Version);
+    }
+    if asks_topic(words) {
+        return read_topic(alloc, words);
     }
     match dobutsu_command(alloc)?.try_get_matches_from(words) {
         Ok(matches) => match order_of(&matches) {
@@ -199,6 +217,52 @@ fn asks_version(words: &[&str]) -> bool
     }
 }
 
+// Whether the first word is `help`.
+fn asks_topic(words: &[&str]) -> bool
+    ensures { result ≡ is_topic (map (λ w. w.now) words.now) }
+{
+    match words {
+        [] => false,
+        [word, ..] => *word == "help",
+    }
+}
+
+// What the words from `help` on come to. Which of its two texts `clap` tells its contract leaves open, so the words say it.
+fn read_topic<'a>(alloc: Global, words: &'a [&'a str]) -> Result<Reading<'a>, AllocError>
+    requires { is_topic (map (λ w. w.now) words.now) ≡ true }
+    ensures { IfOk result (IsReadingOf (meaning_of_topic (map (λ w. w.now) words.now))) }
+{
+    match dobutsu_command(alloc)?.try_get_matches_from(words) {
+        Ok(_) => unreachable!(),
+        Err(error) => match (error.kind(), has_topic(words)) {
+            (ErrorKind::OutOfMemory, _) => Err(AllocError),
+            (_, true) => Ok(Reading::Help(format!(in alloc; "{error}")?)),
+            (_, false) => Ok(Reading::Usage(format!(in alloc; "{error}")?)),
+        },
+    }
+}
+
+// Whether the words are `help` alone, or with the name of a subcommand.
+fn has_topic(words: &[&str]) -> bool
+    ensures { result ≡ has_topic (map (λ w. w.now) words.now) }
+{
+    match words {
+        [_] => true,
+        [_, name] => names_subcommand(name),
+        [] | [_, _, _, ..] => false,
+    }
+}
+
+// Whether a subcommand has that name, `help` among them.
+fn names_subcommand(name: &str) -> bool
+    ensures { result ≡ names_subcommand name.now }
+{
+    matches!(
+        name,
+        "help" | "value" | "count" | "build" | "probe" | "line" | "check" | "look"
+    )
+}
+
 // The program's command with its subcommands.
 fn dobutsu_command<'a>(alloc: Global) -> Result<Command<'a>, AllocError>
     ensures { IfOk result (HasShape dobutsu_app) }
@@ -209,7 +273,8 @@ fn dobutsu_command<'a>(alloc: Global) -> Result<Command<'a>, AllocError>
     let command = add_subcommand(command, build_command(alloc));
     let command = add_subcommand(command, probe_command(alloc));
     let command = add_subcommand(command, line_command(alloc));
-    add_subcommand(command, check_command(alloc))
+    let command = add_subcommand(command, check_command(alloc));
+    add_subcommand(command, look_command(alloc))
 }
 
 // The command with the subcommand, where memory was left for both. It takes their results, since a chain of `?` is slow
@@ -303,6 +368,17 @@ fn check_command<'a>(alloc: Global) -> Result<Command<'a>, AllocError>
         .arg(file_argument(alloc))
 }
 
+// The subcommand `look`.
+fn look_command<'a>(alloc: Global) -> Result<Command<'a>, AllocError>
+    ensures { IfOk result (HasShape (form_app look_form)) }
+{
+    let command = Command::new(alloc, "look")
+        .about("Prints the value of a position by its own two bytes of a database file")
+        .after_help(LOOK_HELP)
+        .arg(file_argument(alloc));
+    add_argument(command, position_argument(alloc))
+}
+
 // The command with a further argument, where memory was left for it so far. It takes a result, as `add_subcommand` does.
 fn add_argument<'a>(
     command: Result<Command<'a>, AllocError>,
@@ -373,6 +449,7 @@ fn order_of<'a>(matches: &ArgMatches<'a>) -> Option<Order<'a>>
         "probe" => orders::probe_order(inner),
         "line" => orders::line_order(inner),
         "check" => orders::check_order(inner),
+        "look" => orders::look_order(inner),
         _ => None,
     }
 }

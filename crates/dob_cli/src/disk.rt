@@ -1,7 +1,7 @@
 // The files that the system has, each written beside its name and put there when it is whole.
 ghost use Rattle.std.specs.Prelude.{◌≡◌, false};
 
-use crate::shelf::{MakeFault, Shelf};
+use crate::shelf::{Shelf, ShelfFault};
 use dob_dbfile::{Failed, Sink, Source, Std};
 use std::alloc::Global;
 use std::fs::{self, File, OpenFile};
@@ -53,6 +53,11 @@ impl<'a, R> DiskShelf<'a, R> {
 }
 
 impl<R: Files> DiskShelf<'_, R> {
+    // The file of that name.
+    fn open(&self, name: &str) -> Result<R::File, ShelfFault> {
+        Ok(fs::open(self.rt, name)?)
+    }
+
     // Whether the name has a regular file or none, so that another file may take its place.
     fn can_be_replaced(&self, name: &str) -> io::Result<bool> {
         match fs::symlink_metadata(self.rt, name) {
@@ -63,7 +68,7 @@ impl<R: Files> DiskShelf<'_, R> {
     }
 
     // The name under which the file of that name is written; `None` where that is the same.
-    fn part_of(&self, name: &str) -> Result<Option<String>, MakeFault> {
+    fn part_of(&self, name: &str) -> Result<Option<String>, ShelfFault> {
         if self.can_be_replaced(name)? {
             Ok(Some(format!(in self.alloc; "{name}.part")?))
         } else {
@@ -78,7 +83,7 @@ impl<R: Files> DiskShelf<'_, R> {
     }
 
     // A new file for the bytes of that name.
-    fn create(&self, name: &str) -> Result<DiskFile<R::File>, MakeFault> {
+    fn create(&self, name: &str) -> Result<DiskFile<R::File>, ShelfFault> {
         let part = self.part_of(name)?;
         let file = match &part {
             Some(part) => self.begin(part.as_str())?,
@@ -119,12 +124,13 @@ impl<R: Files> Shelf for DiskShelf<'_, R> {
 
     ghost state = { λ shelf. record { has = λ _ _. ⊥; tells = false; has_failed = shelf.has_failed } };
 
-    fn find(&mut self, name: &str) -> Option<Std<R::File>> {
-        match fs::open(self.rt, name) {
-            Ok(file) => Some(Std::new(file)),
-            Err(_) => {
+    fn find(&mut self, name: &str) -> Result<Std<R::File>, ShelfFault> {
+        match self.open(name) {
+            Ok(file) => Ok(Std::new(file)),
+            Err(ShelfFault::Memory) => Err(ShelfFault::Memory),
+            Err(ShelfFault::Failed) => {
                 self.has_failed = true;
-                None
+                Err(ShelfFault::Failed)
             }
         }
     }
@@ -133,13 +139,13 @@ impl<R: Files> Shelf for DiskShelf<'_, R> {
         self.has_failed |= Source::failed(&source);
     }
 
-    fn make(&mut self, name: &str) -> Result<Std<DiskFile<R::File>>, MakeFault> {
+    fn make(&mut self, name: &str) -> Result<Std<DiskFile<R::File>>, ShelfFault> {
         match self.create(name) {
             Ok(file) => Ok(Std::new(file)),
-            Err(MakeFault::Memory) => Err(MakeFault::Memory),
-            Err(MakeFault::Failed) => {
+            Err(ShelfFault::Memory) => Err(ShelfFault::Memory),
+            Err(ShelfFault::Failed) => {
                 self.has_failed = true;
-                Err(MakeFault::Failed)
+                Err(ShelfFault::Failed)
             }
         }
     }

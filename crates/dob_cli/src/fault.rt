@@ -3,7 +3,7 @@ ghost use Rattle.std.specs.Prelude.{◌≡◌, Some};
 ghost use Rattle.dob_probe.specs.declared.fault.Fault.TheVariants as table_fault;
 ghost use Rattle.dob_cli.specs.declared.fault.Fault.TheVariants as fault;
 
-use crate::shelf::MakeFault;
+use crate::shelf::ShelfFault;
 use dob_pieces::{Memory, SetText};
 use dob_probe::OtherSet;
 use dob_text::TextFault;
@@ -151,15 +151,15 @@ impl From<OtherSet> for Fault {
     }
 }
 
-impl From<MakeFault> for Fault {
-    ghost use Rattle.dob_cli.specs.Faults.{fault_of_make};
+impl From<ShelfFault> for Fault {
+    ghost use Rattle.dob_cli.specs.Faults.{fault_of_shelf};
 
-    ghost from_gives = { λ given result. result ≡ fault_of_make given };
+    ghost from_gives = { λ given result. result ≡ fault_of_shelf given };
 
-    fn from(given: MakeFault) -> Fault {
+    fn from(given: ShelfFault) -> Fault {
         match given {
-            MakeFault::Memory => Fault::Memory,
-            MakeFault::Failed => Fault::Io,
+            ShelfFault::Memory => Fault::Memory,
+            ShelfFault::Failed => Fault::Io,
         }
     }
 }

@@ -16,6 +16,7 @@ use crate::builds::answer_build;
 use crate::command::{Order, Reading, read_words};
 use crate::counts::answer_count;
 use crate::fault::Fault;
+use crate::looks::answer_look;
 use crate::shelf::Shelf;
 use crate::tables::{answer_check, answer_line, answer_probe};
 use dob_dbfile::{Lent, Sink, put_all, write_all};
@@ -126,6 +127,7 @@ fn answer<S: Shelf>(
         Order::Probe { file, position } => answer_probe(alloc, shelf, file, position),
         Order::Line { file, position } => answer_line(alloc, shelf, file, position),
         Order::Check(file) => answer_check(rt, alloc, shelf, file),
+        Order::Look { file, position } => answer_look(alloc, shelf, file, position),
     }
 }
 

@@ -1,37 +1,38 @@
 // Where the program finds and keeps database files.
-ghost use Rattle.std.specs.Prelude.{◌≡◌, ◌||◌, ℕ, List, [], None, Some, false, true, IfOk, IfSome, OnErr, OnOk, IsTrue, is_err, is_none};
+ghost use Rattle.std.specs.Prelude.{◌≡◌, ◌||◌, ℕ, List, [], None, Some, false, true, IfErr, IfOk, MatchResult, OnErr, OnOk, IsTrue};
+ghost use Rattle.std.specs.Prelude.{is_err};
 ghost use Rattle.dob_dbfile.specs.Devices.{whole};
 ghost use Rattle.dob_cli.specs.Shelves.{HasJust, SameFiles, SameOthers, ShelfState, bytes_in, is_failed};
 
-use dob_dbfile::{Failed, MemSink, MemSource, Sink, Source};
+use dob_dbfile::{Failed, MemSink, MemSource, PlacedSource, Sink, Source};
 use std::alloc::{AllocError, Global};
 use std::collections::BTreeMap;
 use std::io;
 
-/// Why a shelf makes no file. Nothing has changed then.
+/// Why a shelf opens or makes no file. The files keep their bytes then.
 #[derive(Clone, Copy, Debug, PartialEq, Eq)]
-pub enum MakeFault {
+pub enum ShelfFault {
     /// A growth was refused, since no memory was left for it.
     Memory,
-    /// The file can't be made.
+    /// The file isn't there or can't be opened, or it can't be made.
     Failed,
 }
 
-impl From<AllocError> for MakeFault {
-    ghost use Rattle.dob_cli.specs.declared.shelf.MakeFault.TheVariants as make_fault;
+impl From<AllocError> for ShelfFault {
+    ghost use Rattle.dob_cli.specs.declared.shelf.ShelfFault.TheVariants as shelf_fault;
 
-    ghost from_gives = { λ _ result. result ≡ make_fault.Memory };
+    ghost from_gives = { λ _ result. result ≡ shelf_fault.Memory };
 
-    fn from(_lower: AllocError) -> MakeFault {
-        MakeFault::Memory
+    fn from(_lower: AllocError) -> ShelfFault {
+        ShelfFault::Memory
     }
 }
 
-impl From<io::Error> for MakeFault {
-    fn from(error: io::Error) -> MakeFault {
+impl From<io::Error> for ShelfFault {
+    fn from(error: io::Error) -> ShelfFault {
         match error.kind() {
-            io::ErrorKind::OutOfMemory => MakeFault::Memory,
-            _ => MakeFault::Failed,
+            io::ErrorKind::OutOfMemory => ShelfFault::Memory,
+            _ => ShelfFault::Failed,
         }
     }
 }
@@ -39,7 +40,7 @@ impl From<io::Error> for MakeFault {
 /// Files by name.
 pub trait Shelf {
     /// What the bytes of a file are read from.
-    type Src: Source + Drop;
+    type Src: PlacedSource + Drop;
 
     /// What the bytes of a new file are written to.
     type Dst: Sink + Drop;
@@ -47,15 +48,18 @@ pub trait Shelf {
     // What is known of it: the bytes of its files, and whether some call of it has failed, or of a source or a sink that it got back.
     ghost state: { Self → ShelfState };
 
-    /// A source of the bytes of the file of that name, from the first on; `None` where there is none, or it can't be
-    /// opened. The files keep their bytes.
-    fn find(&mut self, name: &str) -> Option<Self::Src>
-        ensures working { IfSome result (λ source. Self.Src.has_failed source ≡ false) }
-        ensures found { (bytes : List ℕ) → (state self.old).has name.now bytes → IfSome result (λ source. Self.Src.gives source (whole bytes)) }
-        ensures there { IfSome result (λ _. IsTrue (state self.old).tells → (bytes : List ℕ) × (state self.old).has name.now bytes) }
+    /// A source of the bytes of the file of that name, from the first on. The files keep their bytes.
+    ///
+    /// Error: there is no such file, or it can't be opened; or memory for it was refused.
+    fn find(&mut self, name: &str) -> Result<Self::Src, ShelfFault>
+        ensures working { IfOk result (λ source. Self.Src.has_failed source ≡ false) }
+        ensures found { (bytes : List ℕ) → (state self.old).has name.now bytes
+            → MatchResult result (λ source. Self.Src.gives source (whole bytes)) (λ fault. fault ≡ ShelfFault.Memory) }
+        ensures shown { (bytes : List ℕ) → (state self.old).has name.now bytes → IfOk result (λ source. Self.Src.shows source (whole bytes)) }
+        ensures there { OnOk result (IsTrue (state self.old).tells → (bytes : List ℕ) × (state self.old).has name.now bytes) }
         ensures kept { SameFiles (state self.old).has (state self.new).has }
         ensures told { (state self.new).tells ≡ (state self.old).tells }
-        ensures failed { (state self.new).has_failed ≡ ((state self.old).has_failed || is_none result) };
+        ensures failed { (state self.new).has_failed ≡ ((state self.old).has_failed || is_failed result) };
 
     /// Takes back a source that `find` gave, and notes whether it has failed. The files keep their bytes.
     fn close(&mut self, source: Self::Src)
@@ -66,7 +70,7 @@ pub trait Shelf {
     /// An empty sink for the bytes of a file of that name, which has no bytes from here on. Other files keep their bytes.
     ///
     /// Error: the file isn't made, and nothing has changed.
-    fn make(&mut self, name: &str) -> Result<Self::Dst, MakeFault>
+    fn make(&mut self, name: &str) -> Result<Self::Dst, ShelfFault>
         ensures working { IfOk result (λ sink. (Self.Dst.state sink).has_failed ≡ false) }
         ensures empty { IfOk result (λ sink. IsTrue (state self.old).tells → (Self.Dst.state sink).received ≡ Some []) }
         ensures made { OnOk result (IsTrue (state self.old).tells → HasJust name.now [] (state self.new).has) }
@@ -115,11 +119,15 @@ impl MemShelf {
         }
     }
 
-    // The bytes of the file of that name; `None` where there is none, or no memory for them.
-    fn copy_of(&self, name: &str) -> Option<Vec<u8>>
-        ensures { IfSome result (λ copy. bytes_in self.now.files name.now ≡ Some copy.items) }
+    // The bytes of the file of that name.
+    fn copy_of(&self, name: &str) -> Result<Vec<u8>, ShelfFault>
+        ensures ok { IfOk result (λ copy. bytes_in self.now.files name.now ≡ Some copy.items) }
+        ensures none { IfErr result (λ fault. fault ≡ ShelfFault.Failed → bytes_in self.now.files name.now ≡ None) }
     {
-        self.files.get(name)?.clone().ok()
+        match self.files.get(name) {
+            Some(bytes) => Ok(bytes.clone()?),
+            None => Err(ShelfFault::Failed),
+        }
     }
 
     // Puts an empty file under the name.
@@ -148,12 +156,13 @@ impl Shelf for MemShelf {
       has_failed = shelf.has_failed;
     } };
 
-    fn find(&mut self, name: &str) -> Option<MemSource> {
+    fn find(&mut self, name: &str) -> Result<MemSource, ShelfFault> {
         match self.copy_of(name) {
-            Some(bytes) => Some(MemSource::new(bytes)),
-            None => {
+            Ok(bytes) => Ok(MemSource::new(bytes)),
+            Err(ShelfFault::Memory) => Err(ShelfFault::Memory),
+            Err(ShelfFault::Failed) => {
                 self.has_failed = true;
-                None
+                Err(ShelfFault::Failed)
             }
         }
     }
@@ -162,10 +171,10 @@ impl Shelf for MemShelf {
         self.has_failed |= source.failed();
     }
 
-    fn make(&mut self, name: &str) -> Result<MemSink, MakeFault> {
+    fn make(&mut self, name: &str) -> Result<MemSink, ShelfFault> {
         match self.clear(name) {
             Ok(()) => Ok(MemSink::new(self.alloc)),
-            Err(AllocError) => Err(MakeFault::Memory),
+            Err(AllocError) => Err(ShelfFault::Memory),
         }
     }
 

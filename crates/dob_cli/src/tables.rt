@@ -80,9 +80,7 @@ fn open<S: Shelf>(alloc: Global, shelf: &mut S, file: &str) -> Result<Table, Fau
     ensures files { SameFiles (S.state shelf.old).has (S.state shelf.new).has }
     ensures failed { FailsWhere (shelf_change (S.state shelf.old) (S.state shelf.new)) (is_io_error result) }
 {
-    let Some(mut source) = shelf.find(file) else {
-        return Err(Fault::Io);
-    };
+    let mut source = shelf.find(file)?;
     let read = read_table(alloc, &mut source);
     shelf.close(source);
     Ok(read?)

@@ -38,7 +38,7 @@ records-codes [] = refl
 records-codes (code ∷ codes) = rw (code_of_code code, records-codes codes) refl
 
 -- two bytes are those of their number
-pair_back : (xs : List ℕ) → 2 ≤ length xs → ((i : ℕ) → slice_index xs i < 256) → little_bytes 2 (little_number 2 xs) ≡ take 2 xs
+pub pair_back : (xs : List ℕ) → 2 ≤ length xs → ((i : ℕ) → slice_index xs i < 256) → little_bytes 2 (little_number 2 xs) ≡ take 2 xs
 pair_back [] two bytes = absurd (omega arith)
 pair_back (a ∷ []) two bytes = absurd (omega arith)
 pair_back (a ∷ b ∷ xs) two bytes =

@@ -3,7 +3,7 @@ use Rattle.std.proofs.Common.{◌≡◌, ℕ, List, [], ◌++◌, length, ap, �
 use Rattle.sha2.specs.Sha256.{sha256}
 use Rattle.dob_pieces.specs.declared.piece_set.PieceSet.{PieceSet}
 use Rattle.dob_value.specs.Follows.{ClassTable}
-use Rattle.dob_dbfile.specs.Format.{title, set_bytes, count_bytes, records, contents, bytes_of}
+use Rattle.dob_dbfile.specs.Format.{title, set_bytes, count_bytes, header_of, records, contents, bytes_of}
 
 -- what stands before the digest
 pub contents-parts : (table : ClassTable) → title ++ set_bytes table.set ++ count_bytes (length table.values) ++ records table.values ≡ contents table
@@ -11,13 +11,18 @@ unfolding contents
 contents-parts table = refl
 
 -- header, records and digest
-pub file_is : (table : ClassTable) (set : PieceSet) (count : ℕ) (start first second third digest : List ℕ) → start ≡ [] → set ≡ table.set
-    → count ≡ length table.values → first ≡ start ++ (title ++ set_bytes set ++ count_bytes count) → second ≡ first ++ records table.values
-    → digest ≡ sha256 second → third ≡ second ++ digest → third ≡ bytes_of table
-file_is table set count start first second third digest none named counted header body hashed last =
-    let front : first ≡ title ++ set_bytes table.set ++ count_bytes (length table.values) =
-    header ∙ ap (λ (s : List ℕ). s ++ (title ++ set_bytes set ++ count_bytes count)) none
-    ∙ ap (λ (named : PieceSet). title ++ set_bytes named ++ count_bytes count) named
-    ∙ ap (λ (n : ℕ). title ++ set_bytes table.set ++ count_bytes n) counted in
-    let whole : second ≡ contents table = body ∙ ap (λ (s : List ℕ). s ++ records table.values) front ∙ contents-parts table in
-    last ∙ ap (λ (d : List ℕ). second ++ d) hashed ∙ ap (λ (s : List ℕ). s ++ sha256 s) whole
+pub file_parts : (table : ClassTable) → bytes_of table ≡ header_of table ++ (records table.values ++ sha256 (contents table))
+unfolding contents
+file_parts table = refl
+
+pub header_records : (table : ClassTable) → header_of table ++ records table.values ≡ contents table
+unfolding contents
+header_records table = refl
+
+-- what is told of the set and the number of classes is the header's
+pub header_is : (table : ClassTable) (set : PieceSet) (count : ℕ) (start front : List ℕ) → start ≡ [] → set ≡ table.set → count ≡ length table.values
+    → front ≡ start ++ (title ++ set_bytes set ++ count_bytes count) → front ≡ header_of table
+header_is table set count start front none named counted is =
+    is ∙ ap (λ (s : List ℕ). s ++ (title ++ set_bytes set ++ count_bytes count)) none
+    ∙ ap (λ (p : PieceSet). title ++ set_bytes p ++ count_bytes count) named
+    ∙ ap (λ (n : ℕ). title ++ set_bytes table.set ++ count_bytes n) counted

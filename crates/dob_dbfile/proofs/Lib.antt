@@ -13,5 +13,7 @@ mod HeaderFaults  -- the faults of a header
 mod Places  -- at most one fault holds
 mod Verdicts  -- what the steps say of the whole stream
 pub mod Written  -- the file of a table passes
+pub mod Looked  -- what was read by place, and the records in a table's file
 -- Writing.
 mod Sinks  -- what sinks have received
+mod Hashed  -- what a hasher has taken, and records in pieces

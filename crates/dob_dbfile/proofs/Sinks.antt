@@ -6,6 +6,9 @@ use Rattle.std.proofs.Math.Seq.{take-length}
 use Rattle.std.proofs.lemmas.Bool.{or_right}
 use Rattle.std.specs.Io.KnownBytes.{Appends, Keeps, append_known}
 use Rattle.std.proofs.Math.Bool.{or-false}
+use Rattle.std.proofs.lemmas.List.{length-append, take-append-le, take_at, drop_at}
+use Rattle.dob_dbfile.specs.declared.device.FailedAfter.{FailedAfter}
+use Rattle.dob_dbfile.specs.Writing.{StopsBehind}
 use Rattle.dob_dbfile.specs.Sinks.{AddsFlush, IsNotFlushed, IsSame, Puts, State, StopsAfter, Takes, Works, Writes, change}
 
 -- bytes after bytes
@@ -89,3 +92,73 @@ pub put_unflushed : (a b c : State) (bytes : List ℕ) → Writes (change a b) b
     → c.writer ≡ b.writer → c.has_failed ≡ (b.has_failed || true) → StopsAfter (change a c) bytes (length bytes)
 put_unflushed a b c bytes wrote kept flushes again notes =
     stops_after a b c bytes (length bytes) (omega arith) (rw (take-length bytes) wrote.all) wrote.unflushed wrote.same kept flushes again notes
+
+-- ---- pieces, one after the other
+
+-- nothing was written
+pub writes_none : (a : State) → Writes (change a a) []
+writes_none a = record { all = Appends-nil a.received; unflushed = Keeps-self a.flushes; works = refl; same = refl }
+
+-- one piece, and then another one
+pub writes_more : (a b c : State) (xs ys : List ℕ) → Writes (change a b) xs → Writes (change b c) ys → Writes (change a c) (xs ++ ys)
+writes_more a b c xs ys first second = record {
+  all = Appends-append a.received b.received c.received xs ys first.all second.all;
+  unflushed = Keeps-trans a.flushes b.flushes c.flushes first.unflushed second.unflushed;
+  works = second.works ∙ first.works;
+  same = second.same ∙ first.same;
+}
+
+-- the flush after a piece more
+flushed_later : (a b f g h : Option (List ℕ)) (xs ys : List ℕ) → Appends a b xs → Keeps f g → AddsFlush (append_known b ys) g h
+    → AddsFlush (append_known a (xs ++ ys)) f h
+flushed_later None b f g h xs ys p kept adds = λ bytes is. absurd (cc)
+flushed_later (Some a) None f g h xs ys p kept adds = absurd p
+flushed_later (Some a) (Some b) f g h xs ys p kept adds = λ bytes is.
+    Keeps-Appends f g h (length bytes ∷ []) kept (adds bytes (ap (λ l. Some (l ++ ys)) p ∙ ap Some (append_assoc a xs ys) ∙ is))
+
+-- one piece, and then the last one with a flush
+pub puts_more : (a b c : State) (xs ys : List ℕ) → Writes (change a b) xs → Puts (change b c) ys → Puts (change a c) (xs ++ ys)
+puts_more a b c xs ys first second = record {
+  all = Appends-append a.received b.received c.received xs ys first.all second.all;
+  flushed = flushed_later a.received b.received a.flushes b.flushes c.flushes xs ys first.all first.unflushed second.flushed;
+  works = second.works ∙ first.works;
+  same = second.same ∙ first.same;
+}
+
+-- the front of a whole that ends in a piece
+front_is : (xs ys rest whole : List ℕ) (count : ℕ) → whole ≡ xs ++ (ys ++ rest) → count ≤ length ys
+    → take (length xs + count) whole ≡ xs ++ take count ys
+front_is xs ys rest whole count is within =
+    ap (take (length xs + count)) is
+    ∙ take-add (length xs) count (xs ++ (ys ++ rest))
+    ∙ ap (λ (front : List ℕ). front ++ take count (drop (length xs) (xs ++ (ys ++ rest)))) (take_at xs (ys ++ rest) (length xs) refl)
+    ∙ ap (λ (back : List ℕ). xs ++ take count back) (drop_at xs (ys ++ rest) (length xs) refl)
+    ∙ ap (λ (back : List ℕ). xs ++ back) (take-append-le count ys rest within)
+
+-- one piece, and then a part of another one: a part of the whole
+pub stops_behind : (a b c : State) (base before : ℕ) (xs ys rest whole : List ℕ) (failed : FailedAfter) → Writes (change a b) xs → length xs ≡ before
+    → whole ≡ xs ++ (ys ++ rest) → StopsBehind (change b c) (base + before) ys failed → StopsBehind (change a c) base whole failed
+stops_behind a b c base before xs ys rest whole failed first long is stops =
+    let count : ℕ = stops.0 in
+    let part : StopsAfter (change b c) ys count = stops.2 in
+    let le : count ≤ length ys = part.within in
+    let all : length whole ≡ length xs + length (ys ++ rest) = ap length is ∙ length-append xs (ys ++ rest) in
+    let behind : length (ys ++ rest) ≡ length ys + length rest = length-append ys rest in (
+      length xs + count,
+      omega (arith, stops.1, long),
+      record {
+        within = omega (arith, le, all, behind);
+        part = rw (front_is xs ys rest whole count is le)
+            (Appends-append a.received b.received c.received xs (take count ys) first.all part.part);
+        unflushed = Keeps-trans a.flushes b.flushes c.flushes first.unflushed part.unflushed;
+        fails = part.fails;
+        same = part.same ∙ first.same;
+      },
+    )
+
+-- the same of the last piece
+pub stops_last : (a b c : State) (before : ℕ) (xs ys whole : List ℕ) (failed : FailedAfter) → Writes (change a b) xs → length xs ≡ before
+    → whole ≡ xs ++ ys → StopsBehind (change b c) before ys failed → StopsBehind (change a c) 0 whole failed
+stops_last a b c before xs ys whole failed first long is stops =
+    stops_behind a b c 0 before xs ys [] whole failed first long (is ∙ ap (λ (last : List ℕ). xs ++ last) (sym (append-nil ys)))
+    (stops.0, omega (arith, stops.1), stops.2)

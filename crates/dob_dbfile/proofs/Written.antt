@@ -17,7 +17,7 @@ use Rattle.dob_value.proofs.Parity.{entries_of_codes}
 use Rattle.dob_dbfile.specs.declared.fault.Fault.{Fault}
 use Rattle.dob_dbfile.specs.declared.fault.Fault.TheVariants as fault
 use Rattle.dob_dbfile.specs.Devices.{Stream, whole}
-use Rattle.dob_dbfile.specs.Format.{title, set_bytes, count_bytes, records, contents, bytes_of}
+use Rattle.dob_dbfile.specs.Format.{title, set_bytes, count_bytes, header_of, records, contents, bytes_of}
 use Rattle.dob_rank.specs.Limits.{IsSmall}
 use Rattle.dob_dbfile.specs.Faults.{CountsClasses, NamesSet, contents_len, HasDigest, HasFault}
 use Rattle.dob_dbfile.proofs.Decoded.{same_records, length-records}
@@ -31,22 +31,18 @@ table_of_codes set codes counted fit = record {
 }
 
 -- how many classes a table has
-table_classes : (table : ClassTable) → IsTable table.set table.values → length table.values ≡ classes_of table.set
+pub table_classes : (table : ClassTable) → IsTable table.set table.values → length table.values ≡ classes_of table.set
 table_classes table is = one_count (IsRepresentative table.set) (length table.values) (classes_of table.set) is.classes (HasClasses-classes_of table.set)
 
--- the header of a table's file
-abbrev front_of : ClassTable → List ℕ
-front_of table = title ++ set_bytes table.set ++ count_bytes (length table.values)
-
-contents-front : (table : ClassTable) → take 20 (bytes_of table) ≡ front_of table
+contents-front : (table : ClassTable) → take 20 (bytes_of table) ≡ header_of table
 unfolding contents
 contents-front table = refl
 
-contents-rest : (table : ClassTable) → drop 20 (contents table) ≡ records table.values
+pub contents-rest : (table : ClassTable) → drop 20 (contents table) ≡ records table.values
 unfolding contents
 contents-rest table = refl
 
-length-contents : (table : ClassTable) → length (contents table) ≡ 20 + 2 * length table.values
+pub length-contents : (table : ClassTable) → length (contents table) ≡ 20 + 2 * length table.values
 unfolding contents
 length-contents table = let body = length-records table.values in omega (arith, body)
 
@@ -98,7 +94,7 @@ same_tables p q xs ys one is_xs is_ys same =
     is_ys same
 
 -- the header of a table's file names its set
-names_set : (table : ClassTable) → NamesSet table.set (take 20 (bytes_of table))
+pub names_set : (table : ClassTable) → NamesSet table.set (take 20 (bytes_of table))
 names_set table = subst (NamesSet table.set) (sym (contents-front table)) (refl, refl)
 
 -- no two tables have one file

@@ -28,6 +28,10 @@ code_bytes codes = flat_map (λ code. little_bytes 2 code) codes
 abbrev pub records : List Value → List ℕ
 records values = flat_map (λ value. little_bytes 2 (code_of_value value)) values
 
+-- what stands before the records
+abbrev pub header_of : ClassTable → List ℕ
+header_of table = title ++ set_bytes table.set ++ count_bytes (length table.values)
+
 -- all that stands before the digest
 unfoldable pub contents : ClassTable → List ℕ
 contents table = title ++ set_bytes table.set ++ count_bytes (length table.values) ++ records table.values

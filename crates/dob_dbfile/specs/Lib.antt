@@ -5,4 +5,5 @@ pub mod Format
 pub mod Faults
 pub mod FaultTexts
 pub mod Reading
+pub mod Looking
 pub mod Writing

@@ -1,5 +1,5 @@
 // What bytes are read from and written to, and how these fail.
-ghost use Rattle.std.specs.Prelude.{◌≡◌, ℕ, ◌<◌, ◌≤◌, ◌||◌, [], Bool, length, is_err, IfOk, OnOk, OnErr};
+ghost use Rattle.std.specs.Prelude.{◌≡◌, ℕ, ◌<◌, ◌≤◌, ◌||◌, [], Bool, length, is_err, IfOk, MatchResult, OnOk, OnErr};
 ghost use Rattle.std.specs.Io.KnownBytes.{Keeps, WriteAppends};
 ghost use Rattle.dob_dbfile.specs.Devices.{Stream, after, broken, GivesFirst};
 ghost use Rattle.dob_dbfile.specs.Sinks.{State, AddsFlush};
@@ -19,6 +19,10 @@ pub trait Source {
     // By `gives source stream` the source gives that stream from here on. One of which nothing is known gives none.
     ghost gives: { Self → Stream → Type 0 };
 
+    // By `shows source stream` it has that stream from its first byte on, whatever was read of it. One that isn't read by
+    // place shows none.
+    ghost shows: { Self → Stream → Type 0 } = { λ _ _. ⊥ };
+
     // Whether some call of it has failed.
     ghost has_failed: { Self → Bool };
 
@@ -30,11 +34,23 @@ pub trait Source {
             → IfOk result (λ count. GivesFirst stream count room.new × gives self.new (after count stream)) }
         ensures broken { (stream : Stream) → gives self.old stream
             → OnErr result ((stream ≡ broken []) × gives self.new stream) }
+        ensures shown { (stream : Stream) → shows self.old stream → shows self.new stream }
         ensures failed { has_failed self.new ≡ (has_failed self.old || is_err result) };
 
     /// Whether some call of it has failed.
     fn failed(&self) -> bool
         ensures { result ≡ has_failed self.now };
+}
+
+/// Bytes that are read by their place too.
+pub trait PlacedSource: Source {
+    /// Goes to the place: the next byte that it gives is the one before which so many stand, or its end where there are
+    /// no more.
+    fn seek(&mut self, place: u64) -> Result<(), Failed>
+        ensures given { (stream : Stream) → Self.shows self.old stream
+            → MatchResult result (λ _. Self.gives self.new (after place stream)) (λ _. ⊥) }
+        ensures shown { (stream : Stream) → Self.shows self.old stream → Self.shows self.new stream }
+        ensures failed { Self.has_failed self.new ≡ (Self.has_failed self.old || is_err result) };
 }
 
 /// A place for bytes, which are taken one after the other.

@@ -1,5 +1,5 @@
 // The first twenty bytes of a file: what it is, its piece set, and how many classes there are.
-ghost use Rattle.std.specs.Prelude.{◌≡◌, ◌≢◌, ◌+◌, ◌<◌, ◌≤◌, ◌++◌, ◌↔◌, ◌^◌, length, take, drop, IsTrue, OnOk, MatchOption, IfOk, IfErr};
+ghost use Rattle.std.specs.Prelude.{◌≡◌, ◌≢◌, ◌+◌, ◌<◌, ◌≤◌, ◌++◌, ◌↔◌, ◌^◌, length, take, drop, IsTrue, OnOk, MatchOption, IfOk, IfErr, vec_capacity};
 ghost use Rattle.dob_pieces.specs.declared.piece_set.PieceSet.{PieceSet as AnySet};
 ghost use Rattle.dob_rank.specs.Marks.{classes_of};
 ghost use Rattle.dob_dbfile.specs.Format.{title, set_bytes, count_bytes};
@@ -12,7 +12,8 @@ pub(crate) const HEADER_LEN: usize = 20;
 
 /// Appends the header of a file of that set and so many classes.
 pub(crate) fn push_header(bytes: &mut Vec<u8>, set: PieceSet, count: u64) -> Result<(), Memory>
-    ensures { OnOk result (bytes.new.items ≡ bytes.old.items ++ (title ++ set_bytes set ++ count_bytes count)) }
+    ensures items { OnOk result (bytes.new.items ≡ bytes.old.items ++ (title ++ set_bytes set ++ count_bytes count)) }
+    ensures capacity { vec_capacity bytes.old ≤ vec_capacity bytes.new }
 {
     bytes.extend_from_slice(b"DOBUTSU1")?;
     bytes.extend_from_slice(&[set.chicks, set.elephants, set.giraffes, 2])?;

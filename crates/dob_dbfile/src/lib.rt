@@ -4,6 +4,8 @@
 mod device;
 mod fault;
 mod header;
+pub mod laws;
+mod look;
 mod mem_sink;
 mod mem_source;
 mod read;
@@ -12,8 +14,9 @@ mod std_device;
 mod transfer;
 mod write;
 
-pub use device::{Failed, FailedAfter, Sink, Source};
+pub use device::{Failed, FailedAfter, PlacedSource, Sink, Source};
 pub use fault::Fault;
+pub use look::{read_classes, read_value};
 pub use mem_sink::MemSink;
 pub use mem_source::MemSource;
 pub use read::read_table;

@@ -1,8 +1,8 @@
 // A source of bytes in memory, for tests: in pieces of a set length, and failing where it is told to.
-ghost use Rattle.std.specs.Prelude.{◌≡◌, ◌<◌, ◌≤◌, ◌-◌, ◌^◌, false, vec_len};
+ghost use Rattle.std.specs.Prelude.{◌≡◌, ◌<◌, ◌≤◌, ◌+◌, ◌-◌, ◌^◌, false, vec_len};
 ghost use Rattle.dob_dbfile.specs.Devices.{whole};
 
-use crate::device::{Failed, Source};
+use crate::device::{Failed, PlacedSource, Source};
 
 /// A source that gives bytes from memory.
 #[derive(Debug, Drop)]
@@ -17,11 +17,12 @@ pub struct MemSource {
 }
 
 impl MemSource {
-    ghost use Rattle.dob_dbfile.specs.Memory.{stream_of, cut};
+    ghost use Rattle.dob_dbfile.specs.Memory.{all_of, stream_of, cut};
 
     /// A source of those bytes, which never fails.
     pub fn new(bytes: Vec<u8>) -> MemSource
         ensures stream { stream_of result ≡ whole bytes.items }
+        ensures all { all_of result ≡ whole bytes.items }
         ensures failed { result.has_failed ≡ false }
         ensures whole { result.longest ≡ 2 ^ 64 - 1 }
     {
@@ -38,6 +39,7 @@ impl MemSource {
     pub fn in_pieces(self, longest: usize) -> MemSource
         requires { 0 < longest }
         ensures stream { stream_of result ≡ stream_of self }
+        ensures all { all_of result ≡ all_of self }
         ensures failed { result.has_failed ≡ self.has_failed }
         ensures pieces { result.longest ≡ longest }
     {
@@ -61,6 +63,7 @@ impl MemSource {
     /// end.
     pub fn failing_after(self, count: usize) -> MemSource
         ensures stream { stream_of result ≡ cut count (stream_of self) }
+        ensures all { all_of result ≡ cut (self.start + count) (all_of self) }
         ensures failed { result.has_failed ≡ self.has_failed }
         ensures pieces { result.longest ≡ self.longest }
     {
@@ -92,9 +95,11 @@ impl MemSource {
 }
 
 impl Source for MemSource {
-    ghost use Rattle.dob_dbfile.specs.Memory.{stream_of};
+    ghost use Rattle.dob_dbfile.specs.Memory.{all_of, stream_of};
 
     ghost gives = { λ source stream. stream ≡ stream_of source };
+
+    ghost shows = { λ source stream. stream ≡ all_of source };
 
     ghost has_failed = { λ source. source.has_failed };
 
@@ -113,5 +118,12 @@ impl Source for MemSource {
 
     fn failed(&self) -> bool {
         self.has_failed
+    }
+}
+
+impl PlacedSource for MemSource {
+    fn seek(&mut self, place: u64) -> Result<(), Failed> {
+        self.start = self.bytes.len().min(place as usize);
+        Ok(())
     }
 }

@@ -15,7 +15,7 @@ ghost use Rattle.dob_dbfile.specs.Reading.{Takes, IsCut, IsNoEnd, ReadsCodes, Ha
 use crate::device::{Failed, Source};
 use crate::fault::Fault;
 use crate::header::{HEADER_LEN, is_count, is_title, set_named};
-use crate::records::{RECORD_LEN, push_codes};
+use crate::records::{PIECE_LEN, RECORD_LEN, push_codes};
 use crate::transfer::read_full;
 use dob_pieces::Memory;
 use dob_rank::{Classes, size};
@@ -25,9 +25,6 @@ use std::alloc::Global;
 
 /// How many bytes the digest has.
 const DIGEST_LEN: usize = 32;
-
-/// How many bytes of records are read at a time.
-const PIECE_LEN: usize = 4096;
 
 /// Reads the table of a file: of just the bytes that `write_table` writes of it, up to the source's end.
 ///
@@ -75,8 +72,8 @@ fn read_file<R: Source>(alloc: Global, source: &mut R) -> Result<Table, Fault>
     Ok(Table::new(classes, codes))
 }
 
-// How many classes there are, which are no more than the positions of the set.
-fn count_of(classes: &Classes) -> u64
+/// How many classes there are, which are no more than the positions of the set.
+pub(crate) fn count_of(classes: &Classes) -> u64
     ensures count { result ≡ classes_of classes.now.set }
     ensures bound { result < 2 ^ 42 }
 {
@@ -84,13 +81,14 @@ fn count_of(classes: &Classes) -> u64
     classes.class_count()
 }
 
-// Fills the room, before which so many bytes of the file have come.
-fn fill<R: Source>(source: &mut R, room: &mut [u8], before: usize) -> Result<(), Fault>
+/// Fills the room, before which so many bytes of the file have come.
+pub(crate) fn fill<R: Source>(source: &mut R, room: &mut [u8], before: usize) -> Result<(), Fault>
     requires { before + length room.old < 2 ^ 64 }
     ensures taken { (stream : Stream) → R.gives source.old stream
         → OnOk result (Takes stream room.new × R.gives source.new (after (length room.new) stream)) }
     ensures cut { (stream : Stream) → R.gives source.old stream → IfErr result (IsCut (length room.new) before stream) }
     ensures known { IfErr result (λ given. given ≢ Fault.Memory) }
+    ensures shown { (stream : Stream) → R.shows source.old stream → R.shows source.new stream }
     ensures failed { R.has_failed source.new ≡ (R.has_failed source.old || is_io_error result) }
 {
     match read_full(source, room) {
@@ -100,8 +98,8 @@ fn fill<R: Source>(source: &mut R, room: &mut [u8], before: usize) -> Result<(),
     }
 }
 
-// The classes of the set that the header names.
-fn classes_named(alloc: Global, header: &[u8]) -> Result<Classes, Fault>
+/// The classes of the set that the header names.
+pub(crate) fn classes_named(alloc: Global, header: &[u8]) -> Result<Classes, Fault>
     requires { length header.now ≡ 20 }
     ensures named { IfOk result (λ classes. CountsClasses classes.set header.now) }
     ensures fault { IfErr result (λ fault. (fault ≡ Fault.Memory) ⊎ HasHeaderFault header.now fault) }
@@ -183,7 +181,7 @@ fn read_records<R: Source>(
     ensures cut { (stream : Stream) → R.gives source.old stream → IfErr result (IsCut (2 * count) 20 stream) }
     ensures failed { R.has_failed source.new ≡ (R.has_failed source.old || is_io_error result) }
 {
-    let mut codes = Vec::with_capacity(alloc, count)?;
+    let mut codes = Vec::new(alloc);
     let mut buffer = vec![in alloc; 0u8; PIECE_LEN]?;
     let room = buffer.as_mut_slice();
     'records: while codes.len() < count {
@@ -193,17 +191,32 @@ fn read_records<R: Source>(
             hasher,
             &mut room[..RECORD_LEN * records],
             &mut codes,
+            count,
         )?;
     }
     Ok(codes)
 }
 
-// Reads as many records as there is room for.
+// Where there is no room for one more, makes room for as many codes again, but for no more than so many in all: memory is taken
+// as bytes come.
+fn make_room(codes: &mut Vec<u16>, count: usize) -> Result<(), Memory>
+    ensures items { codes.new.items ≡ codes.old.items }
+    ensures len { vec_len codes.new ≡ vec_len codes.old }
+{
+    if codes.len() == codes.capacity() {
+        let left = count.saturating_sub(codes.len());
+        codes.reserve_exact(left.min(codes.len().max(PIECE_LEN / RECORD_LEN)))?;
+    }
+    Ok(())
+}
+
+// Reads as many records as there is room for, of so many in all.
 fn read_piece<R: Source>(
     source: &mut R,
     hasher: &mut Sha256,
     room: &mut [u8],
     codes: &mut Vec<u16>,
+    count: usize,
 ) -> Result<(), Fault>
     requires pairs { length room.old % 2 ≡ 0 }
     requires few { 2 * vec_len codes.old + length room.old < 2 ^ 43 }
@@ -217,6 +230,7 @@ fn read_piece<R: Source>(
 {
     fill(source, room, HEADER_LEN + RECORD_LEN * codes.len())?;
     hasher.update(&*room);
+    make_room(codes, count)?;
     push_codes(codes, room)?;
     Ok(())
 }

@@ -1,19 +1,26 @@
 // The records of a file: two bytes for each class, the lower first.
-ghost use Rattle.std.specs.Prelude.{◌≡◌, ℕ, List, ◌+◌, ◌*◌, ◌%◌, ◌<◌, ◌++◌, length, All, OnOk};
+ghost use Rattle.std.specs.Prelude.{◌≡◌, ℕ, List, ◌+◌, ◌*◌, ◌%◌, ◌-◌, ◌<◌, ◌≤◌, ◌++◌, length, take, vec_capacity, vec_len, All, OnErr, OnOk};
 ghost use Rattle.byteorder.specs.Endian.{little_bytes};
+ghost use Rattle.dob_value.specs.Codes.{code_of_value};
 ghost use Rattle.dob_value.specs.Follows.{IsEntry};
 ghost use Rattle.dob_dbfile.specs.Format.{code_bytes, records};
 
 use byteorder::{ByteOrder, LittleEndian};
 use dob_pieces::Memory;
-use dob_value::{Table, code_of_value};
+use dob_value::{Table, Value, code_of_value, value_of_code};
 
 /// How many bytes a record has.
 pub(crate) const RECORD_LEN: usize = 2;
 
-/// Appends a record.
+/// How many bytes of records are read or written at a time.
+pub(crate) const PIECE_LEN: usize = 4096;
+
+/// Appends a record; `Memory` only where there is no room for it.
 fn push_record(bytes: &mut Vec<u8>, code: u16) -> Result<(), Memory>
-    ensures { OnOk result (bytes.new.items ≡ bytes.old.items ++ little_bytes 2 code) }
+    ensures items { OnOk result (bytes.new.items ≡ bytes.old.items ++ little_bytes 2 code) }
+    ensures len { OnOk result (vec_len bytes.new ≡ vec_len bytes.old + 2) }
+    ensures full { OnErr result (vec_capacity bytes.old < vec_len bytes.old + 2) }
+    ensures capacity { vec_capacity bytes.old ≤ vec_capacity bytes.new }
 {
     let mut record = [0; RECORD_LEN];
     LittleEndian::write_u16(&mut record, code);
@@ -21,15 +28,30 @@ fn push_record(bytes: &mut Vec<u8>, code: u16) -> Result<(), Memory>
     Ok(())
 }
 
-/// Appends the records of the table's classes.
-pub(crate) fn push_records(bytes: &mut Vec<u8>, table: &Table) -> Result<(), Memory>
-    requires { All IsEntry table.now.values }
-    ensures { OnOk result (bytes.new.items ≡ bytes.old.items ++ records table.now.values) }
+/// Puts the records of the table's classes from the first on, up to the end, in place of the bytes, which have room for them.
+pub(crate) fn put_records(bytes: &mut Vec<u8>, table: &Table, first: u64, end: u64)
+    requires entries { All IsEntry table.now.values }
+    requires order { first ≤ end }
+    requires within { end ≤ length table.now.values }
+    requires room { 2 * (end - first) ≤ vec_capacity bytes.old }
+    ensures records { records (take first table.now.values) ++ bytes.new.items ≡ records (take end table.now.values) }
+    ensures capacity { vec_capacity bytes.old ≤ vec_capacity bytes.new }
 {
-    for class in 0..table.class_count() {
-        push_record(bytes, code_of_value(table.value(class)))?;
+    bytes.clear();
+    for class in first..end {
+        let Ok(()) = push_record(bytes, code_of_value(table.value(class))) else {
+            unreachable!()
+        };
     }
-    Ok(())
+}
+
+/// The value of a record.
+pub(crate) fn value_in(bytes: &[u8]) -> Value
+    requires { length bytes.now ≡ 2 }
+    ensures bytes { little_bytes 2 (code_of_value result) ≡ bytes.now }
+    ensures entry { IsEntry result }
+{
+    value_of_code(LittleEndian::read_u16(bytes))
 }
 
 /// Appends the codes that the records are.

@@ -2,8 +2,8 @@
 ghost use Rattle.std.specs.Prelude.{◌≡◌, ◌<◌, ◌≤◌, IfOk, None, Some, false, length};
 ghost use Rattle.std.specs.Io.KnownBytes.{Keeps, WriteAppends};
 
-use crate::device::{Failed, Sink, Source};
-use std::io::{Read, Write};
+use crate::device::{Failed, PlacedSource, Sink, Source};
+use std::io::{Read, Seek, SeekFrom, Write};
 
 /// A reader or a writer of the standard library as a device. Of a reader's bytes nothing is told, and of a writer's
 /// just what the writer tells. Every error is a failure, one that asks for another try included, and so is a `write`
@@ -51,6 +51,18 @@ impl<T: Read> Source for Std<T> {
 
     fn failed(&self) -> bool {
         self.has_failed
+    }
+}
+
+impl<T: Read + Seek> PlacedSource for Std<T> {
+    fn seek(&mut self, place: u64) -> Result<(), Failed> {
+        match self.inner.seek(SeekFrom::Start(place)) {
+            Ok(_) => Ok(()),
+            Err(_) => {
+                self.has_failed = true;
+                Err(Failed)
+            }
+        }
     }
 }
 

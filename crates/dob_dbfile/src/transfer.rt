@@ -48,6 +48,7 @@ pub fn read_full<R: Source>(source: &mut R, room: &mut [u8]) -> Result<usize, Fa
     ensures broken { (stream : Stream) → R.gives source.old stream
         → IfErr result (λ failed. (failed.bytes < length room.new) × (stream ≡ broken (take failed.bytes room.new))) }
     ensures fits { IfErr result (λ failed. failed.bytes < length room.new) }
+    ensures shown { (stream : Stream) → R.shows source.old stream → R.shows source.new stream }
     ensures failed { R.has_failed source.new ≡ (R.has_failed source.old || is_err result) }
 {
     let mut done = 0;

@@ -1,35 +1,27 @@
-// Writing a table as a file.
-ghost use Rattle.std.specs.Prelude.{◌≡◌, false, IfOk, IfErr, OnOk};
-ghost use Rattle.dob_dbfile.specs.Format.{contents, bytes_of};
+// Writing a table as a file, piece by piece.
+ghost use Rattle.std.specs.Prelude.{◌≡◌, ◌++◌, ◌+◌, ◌*◌, ◌≤◌, ◌<◌, ◌^◌, ℕ, List, false, length, vec_capacity, IfErr, OnOk};
+ghost use Rattle.sha2.specs.Hashers.{Holds256};
+ghost use Rattle.sha2.specs.Sha256.{sha256};
+ghost use Rattle.dob_value.specs.Follows.{IsTable};
+ghost use Rattle.dob_dbfile.specs.Format.{bytes_of, header_of, records};
 ghost use Rattle.dob_dbfile.specs.Faults.{is_io_error};
-ghost use Rattle.dob_dbfile.specs.Sinks.{Puts, change};
-ghost use Rattle.dob_dbfile.specs.Writing.{StopsAt};
+ghost use Rattle.dob_dbfile.specs.Sinks.{Puts, Writes, change};
+ghost use Rattle.dob_dbfile.specs.Writing.{Hashes, StopsAt, StopsBehind};
 
 use crate::device::{FailedAfter, Sink};
 use crate::fault::Fault;
-use crate::header::push_header;
-use crate::records::push_records;
-use crate::transfer::put_all;
-use dob_pieces::Memory;
+use crate::header::{HEADER_LEN, push_header};
+use crate::read::count_of;
+use crate::records::{PIECE_LEN, RECORD_LEN, put_records};
+use crate::transfer::{put_all, write_all};
 use dob_value::Table;
 use sha2::{Digest, Sha256};
 use std::alloc::Global;
 
-/// The bytes of the table's file.
-///
-/// Error: `Memory`.
-fn file_bytes(alloc: Global, table: &Table) -> Result<Vec<u8>, Memory>
-    ensures { IfOk result (λ bytes. bytes.items ≡ bytes_of table.now) }
-{
-    let mut bytes = Vec::new(alloc);
-    push_header(&mut bytes, table.set(), table.class_count())?;
-    push_records(&mut bytes, table)?;
-    let digest = Sha256::digest(bytes.as_slice());
-    bytes.extend_from_slice(&digest)?;
-    Ok(bytes)
-}
+/// How many records a piece has.
+const PIECE_RECORDS: u64 = 2048;
 
-/// Writes the table as a file, and flushes the sink once at the end.
+/// Writes the table as a file, in pieces of a few kilobytes, and flushes the sink once at the end.
 ///
 /// Errors: `Memory`, before anything is written; `Io` where the sink fails in this call, which then has received just
 /// the first bytes of the file, as many as the fault says, and all of them where it failed to flush.
@@ -39,9 +31,92 @@ pub fn write_table<W: Sink>(alloc: Global, table: &Table, sink: &mut W) -> Resul
     ensures stopped { IfErr result (StopsAt (change (W.state sink.old) (W.state sink.new)) (bytes_of table.now)) }
     ensures failed { (W.state sink.new).has_failed ≡ is_io_error result }
 {
-    let bytes = file_bytes(alloc, table)?;
-    match put_all(sink, &bytes) {
+    let mut piece = Vec::with_capacity(alloc, PIECE_LEN)?;
+    push_header(&mut piece, table.set(), table.class_count())?;
+    match put_file(table, sink, &mut piece) {
         Ok(()) => Ok(()),
         Err(FailedAfter { bytes: count }) => Err(Fault::Io(count as u64)),
+    }
+}
+
+// Writes the file, whose header the piece is, and flushes the sink once at the end.
+fn put_file<W: Sink>(table: &Table, sink: &mut W, piece: &mut Vec<u8>) -> Result<(), FailedAfter>
+    requires room { 4096 ≤ vec_capacity piece.old }
+    requires header { piece.old.items ≡ header_of table.now }
+    ensures done { OnOk result (Puts (change (W.state sink.old) (W.state sink.new)) (bytes_of table.now)) }
+    ensures part { IfErr result (StopsBehind (change (W.state sink.old) (W.state sink.new)) 0 (bytes_of table.now)) }
+{
+    let mut hasher = Sha256::new();
+    let count = count_of(table.classes());
+    write_hashed(sink, &mut hasher, piece, 0)?;
+    write_records(table, count, sink, &mut hasher, piece)?;
+    put_digest(sink, hasher, HEADER_LEN + RECORD_LEN * count as usize)
+}
+
+// Writes the records of the table's classes, of which there are so many, by pieces that the hasher takes too.
+fn write_records<W: Sink>(
+    table: &Table,
+    count: u64,
+    sink: &mut W,
+    hasher: &mut Sha256,
+    piece: &mut Vec<u8>,
+) -> Result<(), FailedAfter>
+    requires table { IsTable table.now.set table.now.values }
+    requires counted { count ≡ length table.now.values }
+    requires few { count < 2 ^ 42 }
+    requires room { 4096 ≤ vec_capacity piece.old }
+    ensures done { OnOk result (Writes (change (W.state sink.old) (W.state sink.new)) (records table.now.values)) }
+    ensures hashed { OnOk result (Hashes hasher.old (records table.now.values) hasher.new) }
+    ensures part { IfErr result (StopsBehind (change (W.state sink.old) (W.state sink.new)) 20 (records table.now.values)) }
+{
+    let mut class = 0;
+    'pieces: while class < count {
+        let end = count.min(class + PIECE_RECORDS);
+        put_records(piece, table, class, end);
+        write_hashed(
+            sink,
+            hasher,
+            piece,
+            HEADER_LEN + RECORD_LEN * class as usize,
+        )?;
+        class = end;
+    }
+    Ok(())
+}
+
+// Writes the bytes, which the hasher takes too. So many bytes of the file went in before.
+fn write_hashed<W: Sink>(
+    sink: &mut W,
+    hasher: &mut Sha256,
+    bytes: &[u8],
+    before: usize,
+) -> Result<(), FailedAfter>
+    requires { before < 2 ^ 62 }
+    ensures done { OnOk result (Writes (change (W.state sink.old) (W.state sink.new)) bytes.now) }
+    ensures hashed { Hashes hasher.old bytes.now hasher.new }
+    ensures part { IfErr result (StopsBehind (change (W.state sink.old) (W.state sink.new)) before bytes.now) }
+{
+    hasher.update(bytes);
+    match write_all(sink, bytes) {
+        Ok(()) => Ok(()),
+        Err(FailedAfter { bytes: count }) => Err(FailedAfter {
+            bytes: before + count,
+        }),
+    }
+}
+
+// Writes the digest of what the hasher holds, and flushes the sink. So many bytes of the file went in before.
+fn put_digest<W: Sink>(sink: &mut W, hasher: Sha256, before: usize) -> Result<(), FailedAfter>
+    requires { before < 2 ^ 62 }
+    ensures done { (message : List ℕ) → Holds256 hasher message → OnOk result (Puts (change (W.state sink.old) (W.state sink.new)) (sha256 message)) }
+    ensures part { (message : List ℕ) → Holds256 hasher message
+        → IfErr result (StopsBehind (change (W.state sink.old) (W.state sink.new)) before (sha256 message)) }
+{
+    let digest = hasher.finalize();
+    match put_all(sink, &digest) {
+        Ok(()) => Ok(()),
+        Err(FailedAfter { bytes: count }) => Err(FailedAfter {
+            bytes: before + count,
+        }),
     }
 }

@@ -2,7 +2,7 @@
 ghost use Rattle.std.specs.Prelude.{false};
 
 use crate::program::{FILE, run_on};
-use dob_cli::{MakeFault, Shelf};
+use dob_cli::{Shelf, ShelfFault};
 use dob_dbfile::{Failed, MemSink, MemSource, Sink, Source};
 use std::alloc::Global;
 use std::process::Abort;
@@ -26,21 +26,21 @@ impl Shelf for FullShelf {
 
     ghost state = { λ shelf. record { has = λ _ _. ⊥; tells = false; has_failed = shelf.has_failed } };
 
-    fn find(&mut self, _name: &str) -> Option<MemSource> {
+    fn find(&mut self, _name: &str) -> Result<MemSource, ShelfFault> {
         self.has_failed = true;
-        None
+        Err(ShelfFault::Failed)
     }
 
     fn close(&mut self, source: MemSource) {
         self.has_failed |= source.failed();
     }
 
-    fn make(&mut self, _name: &str) -> Result<MemSink, MakeFault> {
+    fn make(&mut self, _name: &str) -> Result<MemSink, ShelfFault> {
         match self.room {
             Some(room) => Ok(MemSink::new(self.alloc).failing_after(room)),
             None => {
                 self.has_failed = true;
-                Err(MakeFault::Failed)
+                Err(ShelfFault::Failed)
             }
         }
     }

@@ -28,7 +28,8 @@ const CHICK: &str = "..l/.../.../L.. C -";
 
 const LINES_OF_000: &str = "classes 54\nwin 38\nloss 12\ndraw 4\n";
 
-// In turn over one shelf, which has `lions.db`, the file of lions alone, and spoilt ones.
+// In turn over one shelf, which has `lions.db`, the file of lions alone, and spoilt ones: `short.db` ends inside the record of
+// `WIN_3`.
 const ROWS: &[Row] = &[
     // values
     (&["value", WIN_3], 0, "win 3\n", ""),
@@ -148,7 +149,64 @@ const ROWS: &[Row] = &[
         "",
         "dobutsu: E7 OtherSet\n",
     ),
+    // one record of a file, of which neither the others nor the digest are read
+    (&["look", "--db", "lions.db", WIN_3], 0, "win 3\n", ""),
+    (&["look", "--db", "lions.db", LOSS_2], 0, "loss 2\n", ""),
+    (&["look", "--db", "lions.db", DRAW], 0, "draw\n", ""),
+    (&["look", "--db", "lions.db", LONG], 0, "win 5\n", ""),
+    (&["look", "--db", "cut.db", WIN_3], 0, "win 3\n", ""),
+    (&["look", "--db", "longer.db", LOSS_2], 0, "loss 2\n", ""),
+    (&["look", "--db", "digest.db", WIN_3], 0, "win 3\n", ""),
+    (
+        &["look", "--db", "lions.db", CHICK],
+        1,
+        "",
+        "dobutsu: E7 OtherSet\n",
+    ),
+    (
+        &["look", "--db", "empty.db", WIN_3],
+        1,
+        "",
+        "dobutsu: E15 Truncated\n",
+    ),
+    (
+        &["look", "--db", "short.db", WIN_3],
+        1,
+        "",
+        "dobutsu: E15 Truncated\n",
+    ),
+    (&["look", "--db", "short.db", LOSS_2], 0, "loss 2\n", ""),
+    (
+        &["look", "--db", "magic.db", WIN_3],
+        1,
+        "",
+        "dobutsu: E16 Magic\n",
+    ),
+    (
+        &["look", "--db", "set.db", WIN_3],
+        1,
+        "",
+        "dobutsu: E17 SetByte\n",
+    ),
+    (
+        &["look", "--db", "count.db", WIN_3],
+        1,
+        "",
+        "dobutsu: E18 ClassCount\n",
+    ),
+    (
+        &["look", "--db", "none.db", WIN_3],
+        3,
+        "",
+        "dobutsu: E24 Io\n",
+    ),
     // a position is read before its file, which here is none
+    (
+        &["look", "--db", "none.db", ""],
+        1,
+        "",
+        "dobutsu: E1 Shape\n",
+    ),
     (
         &["probe", "--db", "none.db", ""],
         1,
@@ -218,7 +276,12 @@ fn shelf(rt: &(impl Abort + AllocGlobal)) -> MemShelf {
     let mut cut = file(rt);
     assert!(rt; cut.pop().is_some());
     assert!(rt; put(&mut shelf, "cut.db", &cut));
+    let mut short = file(rt);
+    short.truncate(77);
+    assert!(rt; put(&mut shelf, "short.db", &short));
     spoils(rt, &mut shelf, "magic.db", 0);
+    spoils(rt, &mut shelf, "set.db", 11);
+    spoils(rt, &mut shelf, "count.db", 12);
     spoils(rt, &mut shelf, "digest.db", 20);
     let mut longer = file(rt);
     assert!(rt; longer.push(0).is_ok());

@@ -1,5 +1,5 @@
 // Files that are made, kept and found again on a disk.
-use dob_cli::{DiskShelf, MakeFault, Shelf};
+use dob_cli::{DiskShelf, Shelf, ShelfFault};
 use dob_dbfile::{Sink, put_all, read_full};
 use std::fs;
 use std::process::Abort;
@@ -23,7 +23,7 @@ pub(crate) fn put<S: Shelf>(shelf: &mut S, name: &str, bytes: &[u8]) -> bool {
 // Whether the shelf has just these bytes under the name, at most 255.
 pub(crate) fn has<S: Shelf>(shelf: &mut S, name: &str, bytes: &[u8]) -> bool {
     let mut room = [0; 256];
-    let Some(mut source) = shelf.find(name) else {
+    let Ok(mut source) = shelf.find(name) else {
         return false;
     };
     let read = read_full(&mut source, &mut room);
@@ -49,7 +49,7 @@ fn leaves_file<R: Abort + Files>(rt: &R, shelf: &mut DiskShelf<'_, R>) {
     );
     shelf.discard(NAME, sink);
     assert!(rt;
-        has(shelf, NAME, b"kept") && shelf.find(PART).is_none() && has(shelf, OTHER, b"other")
+        has(shelf, NAME, b"kept") && shelf.find(PART).is_err() && has(shelf, OTHER, b"other")
     );
 }
 
@@ -64,9 +64,9 @@ fn keeps_files<S: Shelf>(rt: &impl Abort, shelf: &mut S) {
 
 // Neither a file that was removed is found, nor is one made where none can be.
 fn has_no_others<S: Shelf>(rt: &impl Abort, shelf: &mut S) {
-    assert!(rt; shelf.find(NAME).is_none());
-    assert!(rt; shelf.make("no_such_folder/kept.db").err() == Some(MakeFault::Failed));
-    assert!(rt; shelf.make(".").err() == Some(MakeFault::Failed));
+    assert!(rt; shelf.find(NAME).err() == Some(ShelfFault::Failed));
+    assert!(rt; shelf.make("no_such_folder/kept.db").err() == Some(ShelfFault::Failed));
+    assert!(rt; shelf.make(".").err() == Some(ShelfFault::Failed));
 }
 
 fn removes(rt: &(impl Abort + Files), name: &str) {

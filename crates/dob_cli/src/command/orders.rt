@@ -1,7 +1,7 @@
 // What the matches of each subcommand ask for.
 ghost use Rattle.std.specs.Prelude.{IsSomeAnd, List, Some, codes};
 ghost use Rattle.clap.specs.Words.{found_of, rows_of};
-ghost use Rattle.dob_cli.specs.Forms.{Text, build_form, check_form, count_form, line_form, probe_form, value_form};
+ghost use Rattle.dob_cli.specs.Forms.{Text, build_form, check_form, count_form, line_form, look_form, probe_form, value_form};
 ghost use Rattle.dob_cli.specs.Shapes.{Finds};
 ghost use Rattle.dob_cli.specs.Readings.{IsOrder};
 
@@ -64,4 +64,15 @@ pub(super) fn check_order<'a>(inner: &ArgMatches<'a>) -> Option<Order<'a>>
         → IsSomeAnd result (IsOrder (codes "check") texts) }
 {
     Some(Order::Check(inner.get_str("FILE")?))
+}
+
+/// What the matches of `look` ask for.
+pub(super) fn look_order<'a>(inner: &ArgMatches<'a>) -> Option<Order<'a>>
+    ensures { (texts : List Text) → Finds look_form texts (Some (codes "look", rows_of (found_of inner.now)))
+        → IsSomeAnd result (IsOrder (codes "look") texts) }
+{
+    Some(Order::Look {
+        file: inner.get_str("FILE")?,
+        position: inner.get_str("POSITION")?,
+    })
 }

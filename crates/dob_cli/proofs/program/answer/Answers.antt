@@ -10,6 +10,9 @@ returns-in-Line-clause-ok g c = rw c.in-Line.is c.answer_line.ensures.ok
 pub returns-in-Check-clause-ok : goal.returns-in-Check-clause-ok
 returns-in-Check-clause-ok g c = rw c.in-Check.is c.answer_check.ensures.ok
 
+pub returns-in-Look-clause-ok : goal.returns-in-Look-clause-ok
+returns-in-Look-clause-ok g c = rw c.in-Look.is c.answer_look.ensures.ok
+
 pub returns-in-Build-clause-ok : goal.returns-in-Build-clause-ok
 returns-in-Build-clause-ok g c = rw c.in-Build.is c.answer_build.ensures.ok
 

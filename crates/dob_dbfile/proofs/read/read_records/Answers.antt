@@ -10,12 +10,12 @@ use Rattle.dob_dbfile.proofs.read.read_records.Goals as goal
 
 pub records-init : goal.records-init
 records-init g c =
-    let none = c.in_ok-codes.ensures.len in (
+    let none = c.new-codes.ensures.len in (
       omega (arith, none),
       search rules,
       search rules,
       refl,
-      λ stream gives. rw (none, c.in_ok-codes.ensures.items) (reads_none stream [], gives, hashes_none stream c.args.hasher.now),
+      λ stream gives. rw (none, c.new-codes.ensures.items) (reads_none stream [], gives, hashes_none stream c.args.hasher.now),
     )
 
 pub records-preserved : goal.records-preserved

@@ -2,5 +2,5 @@
 use Rattle.std.proofs.Common.{rules}
 use Rattle.dob_dbfile.proofs.records.push_record.Goals as goal
 
-pub returns : goal.returns
-returns c = search rules fits 100
+pub returns-clause-items : goal.returns-clause-items
+returns-clause-items c = search rules fits 100

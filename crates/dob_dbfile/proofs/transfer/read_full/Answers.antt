@@ -11,8 +11,9 @@ loop-done-preserved g c =
     let count = c.in-Ok.count in (
       search rules,
       c.in-Ok.ensures.failed ∙ or-false _ ∙ c.loop-done.invariant.1,
+      λ stream shows. c.read.ensures.shown stream (c.loop-done.invariant.2 stream shows),
       λ stream gives.
-          let before = c.loop-done.invariant.2 stream gives in
+          let before = c.loop-done.invariant.3 stream gives in
           let given = c.in-Ok.ensures.given _ before.2 in
           let more = filled_more stream done count (length c.loop-done.room - done) c.loop-done.room c.read.new.room
           c.loop-done.invariant.0 c.in-Ok.ensures.within before.0 before.1 given.0 in

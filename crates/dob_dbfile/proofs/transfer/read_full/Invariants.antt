@@ -8,6 +8,7 @@ abbrev pub invariant-loop-done : goal.invariant-loop-done
 invariant-loop-done g l =
     (l.done ≤ length l.room)
     × (g.R.Source.has_failed l.source ≡ g.R.Source.has_failed l.initial.source)
+    × ((stream : Stream) → g.R.Source.shows l.initial.source stream → g.R.Source.shows l.source stream)
     × ((stream : Stream) → g.R.Source.gives l.initial.source stream →
     (l.done ≤ length stream.bytes) × (take l.done l.room ≡ take l.done stream.bytes) × g.R.Source.gives l.source (after l.done stream))
 

@@ -1,6 +1,6 @@
 // Files of the set of lions alone: what is in them, and what is read of files that are spoilt.
 use crate::sets::{is_same_table, set_of};
-use dob_dbfile::{Fault, MemSink, MemSource, Sink, Source, read_table, write_table};
+use dob_dbfile::{Fault, MemSink, MemSource, Sink, Source, read_table, read_value, write_table};
 use dob_value::{Table, Value, sweep_table};
 use sha2::{Digest, Sha256};
 use std::process::Abort;
@@ -169,5 +169,28 @@ fn a_wrong_record_is_read_as_it_is(rt: HostRuntime) {
     assert!(rt; table.class_count() == 54);
     if 17 < table.class_count() {
         assert!(rt; table.value(17) == Value::Win(7));
+    }
+}
+
+#[test]
+fn one_record(rt: HostRuntime) {
+    for longest in 1..4 {
+        let mut source = MemSource::new(file(&rt)).in_pieces(longest);
+        assert!(rt; read_value(&mut source, 28) == Ok(Value::Win(3)));
+        assert!(rt; read_value(&mut source, 4) == Ok(Value::Loss(2)));
+        assert!(rt; read_value(&mut source, 35) == Ok(Value::Draw));
+    }
+}
+
+// The record of class 4 stands behind 28 bytes.
+#[test]
+fn a_record_that_is_cut(rt: HostRuntime) {
+    for count in 20..30 {
+        let mut bytes = file(&rt);
+        bytes.truncate(count);
+        let mut source = MemSource::new(bytes);
+        assert!(rt; read_value(&mut source, 4) == Err(Fault::Truncated));
+        let mut source = MemSource::new(file(&rt)).failing_after(count);
+        assert!(rt; read_value(&mut source, 4) == Err(Fault::Io(count.max(28) as u64)));
     }
 }

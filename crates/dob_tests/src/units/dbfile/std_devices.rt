@@ -4,8 +4,8 @@ ghost use Rattle.std.specs.Prelude.{◌≡◌, IfOk};
 
 use super::files::{FILE_LEN, file, table};
 use crate::sets::is_same_table;
-use dob_dbfile::{Failed, Fault, Lent, Sink, Source, Std, read_table, write_table};
-use std::io::{self, ErrorKind, Read, Write};
+use dob_dbfile::{Failed, Fault, Lent, Sink, Source, Std, read_table, read_value, write_table};
+use std::io::{self, ErrorKind, Read, Seek, SeekFrom, Write};
 use std::process::Abort;
 
 /// A reader or a writer that moves at most that many bytes in one call. Where it has moved so many as it has room for,
@@ -265,4 +265,27 @@ fn a_read_that_fails_once(rt: HostRuntime) {
     assert!(rt; Source::read(&mut source, &mut room) == Ok(1));
     assert!(rt; room == [3, 2]);
     assert!(rt; source.into_inner().calls == 3);
+}
+
+/// A reader that goes to no place.
+#[derive(Drop)]
+struct Still;
+
+impl Read for Still {
+    fn read(&mut self, _room: &mut [u8]) -> io::Result<usize> {
+        Ok(0)
+    }
+}
+
+impl Seek for Still {
+    fn seek(&mut self, _to: SeekFrom) -> io::Result<u64> {
+        Err(ErrorKind::Unsupported.into())
+    }
+}
+
+#[test]
+fn a_reader_that_stays(rt: HostRuntime) {
+    let mut source = Std::new(Still);
+    assert!(rt; read_value(&mut source, 4) == Err(Fault::Io(28)));
+    assert!(rt; Source::failed(&source));
 }

@@ -1,0 +1,79 @@
+-- What the program owes where it is asked for the record of a position's class in a database file.
+use Rattle.std.specs.Prelude.{◌≡◌, ◌⊎◌, ◌<◌, ℕ, List}
+use Rattle.dob_pieces.specs.declared.piece_set.PieceSet.{PieceSet}
+use Rattle.dob_pieces.specs.declared.setup.Setup.{Setup}
+use Rattle.dob_text.specs.Faults as text
+use Rattle.dob_rank.specs.Marks.{classes_of}
+use Rattle.dob_rank.specs.Order.{IsInClass, IsPositionOf}
+use Rattle.dob_value.specs.declared.value.Value.{Value}
+use Rattle.dob_dbfile.specs.declared.fault.Fault as file
+use Rattle.dob_dbfile.specs.declared.fault.Fault.TheVariants as file_fault
+use Rattle.dob_dbfile.specs.Devices.{Stream, whole}
+use Rattle.dob_dbfile.specs.Faults.{IsOfSet}
+use Rattle.dob_dbfile.specs.Looking.{HasFrontFault, HasRecord, HasRecordFault}
+use Rattle.dob_probe.specs.declared.fault.Fault.TheVariants as table_fault
+use Rattle.dob_cli.specs.declared.fault.Fault.{Fault}
+use Rattle.dob_cli.specs.declared.fault.Fault.TheVariants.{Text, File, Table, Memory, Io}
+use Rattle.dob_cli.specs.Program.{IsValueLineOf, value_line}
+use Rattle.dob_cli.specs.Shelves.{ShelfChange}
+use Rattle.dob_cli.specs.Endings.{AnswersOver, Ending}
+use Rattle.dob_cli.specs.Tables.{IsShut, IsTextOf}
+
+-- the position is one of the set that the stream's header names, in that class
+pub record IsAskedFor (stream : Stream) (position : Setup) (set : PieceSet) (class : ℕ) : Type 0 where
+  pub named : IsOfSet set stream
+  pub number : IsInClass set position class
+  pub below : class < classes_of set
+
+-- the record of the position's class says that value
+abbrev pub IsLookedUp : Stream → Setup → Value → Type 0
+IsLookedUp stream position value = (set : PieceSet) × (class : ℕ) × IsAskedFor stream position set class × HasRecord stream class value
+
+-- the header has the fault, or the record of the position's class isn't whole, or memory failed
+abbrev pub HasLookFault : Stream → Setup → file.Fault → Type 0
+HasLookFault stream position fault =
+    (fault ≡ file_fault.Memory) ⊎ (HasFrontFault stream fault
+    ⊎ ((set : PieceSet) × (class : ℕ) × IsAskedFor stream position set class × HasRecordFault stream class fault))
+
+-- the header names a set that the position isn't of
+abbrev pub IsOfOtherSet : Stream → Setup → Type 0
+IsOfOtherSet stream position = (set : PieceSet) × IsOfSet set stream × ¬ IsPositionOf set position
+
+-- a fault of looking for a position in a source that may give these streams: the file's, or that the position isn't of its set
+abbrev pub IsFaultOfLook : (Stream → Type 0) → Setup → Fault → Type 0
+IsFaultOfLook Gives position (File fault) = (stream : Stream) → Gives stream → HasLookFault stream position fault
+IsFaultOfLook Gives position (Table table_fault.OtherSet) = (stream : Stream) → Gives stream → IsOfOtherSet stream position
+IsFaultOfLook Gives position _ = ⊥
+
+-- ---- by the words; Has says which bytes the file has, where that is known
+
+-- the line is that of the value that the file's record of the position's class says
+pub record IsLookLine (Has : List ℕ → Type 0) (words lines : List ℕ) : Type 0 where
+  pub position : Setup
+  pub named : IsTextOf words position
+  pub value : Value
+  pub found : (bytes : List ℕ) → Has bytes → IsLookedUp (whole bytes) position value
+  pub same : lines ≡ value_line value
+
+-- the file gives that stream
+abbrev pub GivesWhole : (List ℕ → Type 0) → Stream → Type 0
+GivesWhole Has stream = (bytes : List ℕ) × Has bytes × (stream ≡ whole bytes)
+
+-- a fault of looking for a position in the file, or of opening it
+abbrev pub IsLookingFault : (List ℕ → Type 0) → Setup → Fault → Type 0
+IsLookingFault Has position Io = IsShut Has
+IsLookingFault Has position fault = IsFaultOfLook (GivesWhole Has) position fault
+
+-- a fault of looking for the position of a text: the text's; or memory failed; the file is asked only where the text is a position's
+abbrev pub IsLookFault : (List ℕ → Type 0) → List ℕ → Fault → Type 0
+IsLookFault Has words (Text fault) = text.HasFault words fault
+IsLookFault Has words Memory = Unit {0}
+IsLookFault Has words fault = (position : Setup) × IsTextOf words position × IsLookingFault Has position fault
+
+-- what the program does where it is asked to look
+abbrev pub AnswersLook : ShelfChange → List ℕ → List ℕ → Ending → Type 0
+AnswersLook c file words = AnswersOver c (IsLookLine (c.before.has file) words) (IsLookFault (c.before.has file) words)
+
+-- the same, where the line tells the value that the text's position has by definition
+abbrev pub AnswersLookRight : ShelfChange → List ℕ → List ℕ → Ending → Type 0
+AnswersLookRight c file words = AnswersOver c (IsValueLineOf words) (IsLookFault (c.before.has file) words)

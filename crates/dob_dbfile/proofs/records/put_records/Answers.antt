@@ -1,0 +1,24 @@
+-- The record of a class more is appended.
+use Rattle.std.proofs.Common.{◌∙◌, ◌++◌, ◌<◌, List, ℕ, arith, ap, sym, append_assoc, take, length}
+use Rattle.byteorder.specs.Endian.{little_bytes}
+use Rattle.dob_value.specs.Codes.{code_of_value}
+use Rattle.dob_dbfile.specs.Format.{records}
+use Rattle.dob_dbfile.proofs.CodeBytes.{records_more}
+use Rattle.dob_dbfile.proofs.records.put_records.Goals as goal
+
+pub loop-class-preserved : goal.loop-class-preserved
+loop-class-preserved c =
+    let values = c.args.table.now.values in
+    let class = c.loop-class.class in
+    let value = c.value.result in
+    let front = records (take c.args.first values) in
+    let below : class < length values = omega (arith, c.requires.within, c.loop-class-test.true) in (
+      ap (λ (bytes : List ℕ). front ++ bytes) c.in-Ok.ensures.items
+          ∙ ap (λ (code : ℕ). front ++ (c.loop-class.bytes.items ++ little_bytes 2 code)) c.code_of_value.ensures.code
+          ∙ sym (append_assoc front c.loop-class.bytes.items (little_bytes 2 (code_of_value value)))
+          ∙ ap (λ (all : List ℕ). all ++ little_bytes 2 (code_of_value value)) c.loop-class.invariant.0
+          ∙ sym (records_more values class value below c.value.ensures),
+      omega (arith, c.in-Ok.ensures.len, c.loop-class.invariant.1, c.loop-class.invariant.3),
+      omega (arith, c.push_record.ensures.capacity, c.loop-class.invariant.2),
+      omega (arith, c.loop-class.invariant.3),
+    )
