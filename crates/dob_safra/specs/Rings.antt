@@ -3,7 +3,7 @@ use Rattle.std.specs.Prelude.{◌≡◌, ◌≢◌, ℕ, zero, suc, ◌+◌, ◌
 use Rattle.dob_safra.specs.declared.token.Token.{Token}
 use Rattle.dob_safra.specs.declared.event.RingEvent.{RingEvent}
 use Rattle.dob_safra.specs.declared.event.RingEvent.TheVariants.{Post, Take, Pass, Announce}
-use Rattle.dob_safra.specs.Tokens.{passed_on, MayAnnounce}
+use Rattle.dob_safra.specs.Tokens.{first_token, passed_on, MayAnnounce}
 
 -- posted i j batches were posted by i to j, and taken i j of these were taken by j; which nodes are black; the token;
 -- and whether the end is announced
@@ -67,12 +67,12 @@ pub record IsLawful (n : ℕ) (ring : Ring) : Type 0 where
   pub all_taken : ring.announced ≡ true → AllTaken n ring
   pub reason : Reason n ring ring.token
 
--- The start: nothing was posted or taken, each node is black, and the token is at node 0, black, with sum 0.
+-- The start: nothing was posted or taken, each node is black, and the token is the first.
 pub record IsStart (n : ℕ) (ring : Ring) : Type 0 where
   pub posted : (i j : ℕ) → i < n → j < n → ring.posted i j ≡ 0
   pub taken : (i j : ℕ) → i < n → j < n → ring.taken i j ≡ 0
   pub black : (i : ℕ) → i < n → ring.black i ≡ true
-  pub token : ring.token ≡ record { at = 0; black = true; sum = pos 0 }
+  pub token : ring.token ≡ first_token
   pub running : ring.announced ≡ false
 
 -- one count is one more, and the others stay

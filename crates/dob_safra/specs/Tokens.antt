@@ -13,6 +13,10 @@ pub record IsPacked (token : Token) (word : ℕ) : Type 0 where
   pub fits : IsToken token
   pub word_is : pos word ≡ token.sum +ℤ pos (2 ^ 48 + 2 ^ 50 * cond token.black 1 0 + 2 ^ 51 * token.at)
 
+-- the token at the start: at node 0, black, with sum 0
+abbrev pub first_token : Token
+first_token = record { at = 0; black = true; sum = pos 0 }
+
 -- the token of a new probe in a ring of n nodes: at the last one, white, with sum 0
 abbrev pub new_probe : ℕ → Token
 new_probe n = record { at = n - 1; black = false; sum = pos 0 }
