@@ -6,6 +6,7 @@ use Rattle.std.specs.Prelude.{slice_index, slice_set, slice_get, replicate}
 use Rattle.std.proofs.lemmas.Bool.{cases_eq}
 use Rattle.std.proofs.lemmas.Int.{ints}
 use Rattle.std.proofs.lemmas.Option.{same_Some}
+use Rattle.std.proofs.lemmas.List.{map-append}
 use mathlib.Core.Option.{none, some, some-ne-none, some-injective}
 use lib.ListN.{get_elem?}
 use Rattle.atomic_table.specs.Table.{State, step, keeps, Allows, Joins}
@@ -226,10 +227,6 @@ pub record AreLeft (board : TableId) (n : ℕ) (all : List Stand) (seats : List 
   pub all_are : all ≡ map stand_of seats ++ me.0.stands
   pub seats_are : (k : ℕ) (seat : NodeSeat) → slice_get seats k ≡ Some seat → IsSeatOf board n k seat
 
-map_push : (seats : List NodeSeat) (seat : NodeSeat) → map stand_of (seats ++ seat ∷ []) ≡ map stand_of seats ++ stand_of seat ∷ []
-map_push [] seat = refl
-map_push (x ∷ xs) seat = ap (λ (ss : List Stand). stand_of x ∷ ss) (map_push xs seat)
-
 pub last_seat : (board : TableId) (n : ℕ) (all : List Stand) (seats fewer : List NodeSeat) (seat : NodeSeat) (me : Seated) → AreLeft board n all seats me →
     seats ≡ fewer ++ seat ∷ [] → IsSeatOf board n (length fewer) seat × (me.0.from ≡ suc seat.node)
 last_seat board n all seats fewer seat me left seats_is =
@@ -250,7 +247,7 @@ one_less board n all seats fewer seat me after left seats_is after_is =
       no_slot = ap (λ (x : Seated). x.1) after_is;
       not_closed = ap (λ (v : View). v.closed) after_view;
       all_are = left.all_are ∙ ap (λ (xs : List NodeSeat). map stand_of xs ++ me.0.stands) seats_is
-          ∙ ap (λ (ss : List Stand). ss ++ me.0.stands) (map_push fewer seat)
+          ∙ ap (λ (ss : List Stand). ss ++ me.0.stands) (map-append stand_of fewer (seat ∷ []))
           ∙ append_assoc (map stand_of fewer) (stand_of seat ∷ []) me.0.stands
           ∙ ap (λ (v : View). map stand_of fewer ++ v.stands) (sym after_view);
       seats_are = λ k other e. left.seats_are k other (ap (λ (xs : List NodeSeat). slice_get xs k) seats_is ∙ get_front fewer (seat ∷ []) other k e);

@@ -3,12 +3,13 @@ use Rattle.std.proofs.Common.{◌≡◌, ◌≢◌, ℕ, zero, suc, ◌+◌, ◌
 use Rattle.std.proofs.Common.{ne_eqb, refl, sym, ap, ◌∙◌, subst, ⊎_elim, inl, inr, arith, rules, map, length-set, length-append, get_or-set_same}
 use Rattle.std.proofs.Common.{get_or-set_other}
 use Rattle.std.specs.Prelude.{slice_index, slice_set, slice_get, replicate}
+use Rattle.std.proofs.lemmas.List.{map-append}
 use mathlib.Core.Option.{some, some-ne-none, some-injective}
 use lib.ListN.{get_elem?}
 use Rattle.atomic_table.specs.Table.{Splits}
 use Rattle.atomic_table.proofs.Lists.{at_set}
 use Rattle.dob_safra.specs.declared.event.RingEvent.{RingEvent}
-use Rattle.dob_safra.specs.Tokens.{IsPacked}
+use Rattle.dob_safra.specs.Tokens.{IsPacked, first_token}
 use Rattle.dob_safra.specs.Rings.{Ring, IsLawful, IsStart, black_token}
 use Rattle.dob_safra.specs.Laws.{IsSize}
 use Rattle.dob_board.specs.declared.view.Stand.{Stand}
@@ -17,7 +18,7 @@ use Rattle.dob_board.specs.Words.{posted_word, taken_word, word_count, ring_of}
 use Rattle.dob_board.specs.Views.{one, IsStand}
 use Rattle.dob_board.specs.Rule.{IsNode, IsView, IsHeld, fresh, whole}
 use Rattle.dob_board.specs.Plays.{others_of, first_of}
-use Rattle.dob_board.specs.Boards.{first_token, first_words, behind}
+use Rattle.dob_board.specs.Boards.{first_words, behind}
 use Rattle.atomic_table.specs.Seated.{TableId}
 use Rattle.dob_board.specs.declared.seat.NodeSeat.{NodeSeat}
 use Rattle.dob_board.specs.Seats.{stand_of, IsSeatOf}
@@ -252,10 +253,6 @@ one_more_fresh : (k : ℕ) (x : Stand) → replicate k x ++ x ∷ [] ≡ replica
 one_more_fresh zero x = refl
 one_more_fresh (suc k) x = ap (λ (xs : List Stand). x ∷ xs) (one_more_fresh k x)
 
-map_push : (seats : List NodeSeat) (seat : NodeSeat) → map stand_of (seats ++ seat ∷ []) ≡ map stand_of seats ++ stand_of seat ∷ []
-map_push [] seat = refl
-map_push (x ∷ xs) seat = ap (λ (ss : List Stand). stand_of x ∷ ss) (map_push xs seat)
-
 pub push_first : (board : TableId) (n k : ℕ) (seats pushed : List NodeSeat) (seat : NodeSeat) → AreFirst board n k seats → IsSeatOf board n k seat
     → stand_of seat ≡ fresh n →
     pushed ≡ seats ++ seat ∷ [] → AreFirst board n (suc k) pushed
@@ -267,6 +264,6 @@ push_first board n k seats pushed seat first is is_fresh pushed_is =
           (λ last. subst (λ (p : ℕ × NodeSeat). IsSeatOf board n p.0 p.1) (λ q. ((sym first.count ∙ sym last.0) q, last.1 q)) is)
           (at_end seats seat other m e);
       are_fresh =
-          map_push seats seat ∙ ap (λ (s : Stand). map stand_of seats ++ s ∷ []) is_fresh ∙ ap (λ (ss : List Stand). ss ++ fresh n ∷ []) first.are_fresh
+          map-append stand_of seats (seat ∷ []) ∙ ap (λ (s : Stand). map stand_of seats ++ s ∷ []) is_fresh ∙ ap (λ (ss : List Stand). ss ++ fresh n ∷ []) first.are_fresh
           ∙ one_more_fresh k (fresh n);
     })

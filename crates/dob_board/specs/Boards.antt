@@ -1,9 +1,8 @@
 -- A board as its calls see it: its words as they were at the start, and the view of its nodes that have no seat.
-use Rattle.std.specs.Prelude.{◌≡◌, ◌≢◌, ℕ, ◌+◌, ◌-◌, ◌<◌, ◌==◌, true, false, List, [], ◌++◌, length, replicate, slice_index, slice_set, pos}
+use Rattle.std.specs.Prelude.{◌≡◌, ◌≢◌, ℕ, ◌+◌, ◌-◌, ◌<◌, ◌==◌, true, false, List, [], ◌++◌, length, replicate, slice_index, slice_set}
 use mathlib.Core.Option.{some}
 use lib.ListN.{get_elem?}
 use Rattle.atomic_table.specs.Table.{Me, Step}
-use Rattle.dob_safra.specs.declared.token.Token.{Token}
 use Rattle.dob_safra.specs.declared.event.RingEvent.{RingEvent}
 use Rattle.dob_safra.specs.Tokens.{IsPacked}
 use Rattle.dob_safra.specs.Rings.{Ring, IsLawful}
@@ -13,10 +12,6 @@ use Rattle.dob_board.specs.Words.{posted_word, taken_word, word_count}
 use Rattle.dob_board.specs.Views.{Shows}
 use Rattle.dob_board.specs.Histories.{Runs, GoesOn}
 use Rattle.dob_board.specs.Rule.{fresh}
-
--- the token at the start: at node 0, black, with sum 0
-abbrev pub first_token : Token
-first_token = record { at = 0; black = true; sum = pos 0 }
 
 -- the words at the start, the second of which is that of the first token
 abbrev pub first_words : ℕ → ℕ → List ℕ

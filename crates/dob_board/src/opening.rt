@@ -1,12 +1,12 @@
 // How a board is opened.
 ghost use Rattle.std.specs.Prelude.{◌≡◌, ◌≢◌, ℕ, suc, ◌+◌, ◌≤◌, ◌<◌, ◌↔◌, [], Err, Some, IfOk, map, slice_get, length, replicate, vec_len};
 ghost use Rattle.std.specs.Arc.{arc_value};
-ghost use Rattle.dob_safra.specs.Tokens.{IsPacked};
+ghost use Rattle.dob_safra.specs.Tokens.{IsPacked, first_token};
 ghost use Rattle.dob_safra.specs.Laws.{IsSize};
 ghost use Rattle.dob_board.specs.declared.fault.Fault.TheVariants as fault;
 ghost use Rattle.dob_board.specs.Words.{word_count};
 ghost use Rattle.dob_board.specs.Rule.{fresh};
-ghost use Rattle.dob_board.specs.Boards.{first_token, first_words, behind};
+ghost use Rattle.dob_board.specs.Boards.{first_words, behind};
 ghost use Rattle.dob_board.specs.Seats.{stand_of, IsSeatOf, AreSeats};
 
 use crate::rule::FirstNode;
@@ -54,11 +54,7 @@ fn start_words(alloc: Global, nodes: usize) -> Result<Vec<u64>, AllocError>
 {
     let mut words = vec![in alloc; 0; word_count(nodes)]?;
     words[NODES] = nodes as u64;
-    words[TOKEN] = pack(Token {
-        at: 0,
-        black: true,
-        sum: 0,
-    });
+    words[TOKEN] = pack(Token::first());
     Ok(words)
 }
 
