@@ -29,7 +29,10 @@ pub(crate) fn reply<R: Threads + Wait + Sync>(
             match read_position_in(profile, text) {
                 Err(fault) => fault_line(alloc, fault),
                 Ok(position) => {
-                    told(alloc, about_position(alloc, opened, matter, profile, &position))
+                    told(
+                        alloc,
+                        about_position(alloc, opened, matter, profile, &position),
+                    )
                 }
             }
         }
