@@ -56,12 +56,12 @@ file_len set = contents_len set + 32
 abbrev pub HasHeader : Stream → Type 0
 HasHeader stream = 20 ≤ length stream.bytes
 
--- the header is there and names a set of at most three pieces besides the lions
-abbrev pub NamesClasses : Stream → Type 0
-NamesClasses stream = HasHeader stream × ((set : PieceSet) × NamesSmallSet set (header stream))
-
 abbrev pub IsOfSet : PieceSet → Stream → Type 0
 IsOfSet set stream = HasHeader stream × CountsClasses set (header stream)
+
+-- the header is there and names a set with its number of classes
+abbrev pub NamesClasses : Stream → Type 0
+NamesClasses stream = (set : PieceSet) × IsOfSet set stream
 
 abbrev pub IsWhole : PieceSet → Stream → Type 0
 IsWhole set stream = IsOfSet set stream × (file_len set ≤ length stream.bytes)

@@ -9,7 +9,7 @@ ghost use Rattle.sha2.specs.Hashers.{Holds256};
 ghost use Rattle.dob_dbfile.specs.Devices.{Stream, after, whole};
 ghost use Rattle.dob_dbfile.specs.Format.{bytes_of};
 ghost use Rattle.dob_rank.specs.Limits.{IsSmall};
-ghost use Rattle.dob_dbfile.specs.Faults.{is_io_error, NamesSmallSet, NamesClasses, CountsClasses, HasHeaderFault, HasDigest, HasFault};
+ghost use Rattle.dob_dbfile.specs.Faults.{is_io_error, NamesClasses, CountsClasses, HasHeaderFault, HasDigest, HasFault};
 ghost use Rattle.dob_dbfile.specs.Reading.{Takes, IsCut, IsNoEnd, ReadsCodes, HashesNext, EndsWith, IsDigest, HasDigestFault, HasRestFault};
 
 use crate::device::{Failed, Source};
@@ -17,8 +17,8 @@ use crate::fault::Fault;
 use crate::header::{HEADER_LEN, is_count, is_title, set_named};
 use crate::records::{PIECE_LEN, RECORD_LEN, push_codes};
 use crate::transfer::read_full;
-use dob_pieces::Memory;
-use dob_rank::{Classes, size};
+use dob_pieces::{Memory, PieceSet};
+use dob_rank::{Classes, count_classes, size};
 use dob_value::Table;
 use sha2::{Digest, Sha256};
 use std::alloc::Global;
@@ -31,7 +31,7 @@ const DIGEST_LEN: usize = 32;
 /// Errors, the first of these that holds: `Truncated`, fewer than 20 bytes; `Magic`, `SetByte`, `SetTooLarge`,
 /// `ClassCount`, what the header says; `Truncated`, fewer bytes than the set's records and digest have; `Trailing`, a byte
 /// more; `Digest`. `Io` only where the source fails in this call, with how many bytes it gave before. `Memory`, in place of
-/// what is tested after `SetTooLarge`, or of the table. The source has lost what was read.
+/// what is tested after `ClassCount`, or of the table. The source has lost what was read.
 pub fn read_table<R: Source>(alloc: Global, source: &mut R) -> Result<Table, Fault>
     requires { R.has_failed source.old ≡ false }
     // A table is read only where the source gives just its file and ends.
@@ -45,7 +45,7 @@ pub fn read_table<R: Source>(alloc: Global, source: &mut R) -> Result<Table, Fau
     // The file of a table is read as that table, unless memory is refused.
     ensures whole { (table : ClassTable) → IsSmall table.set → IsTable table.set table.values → R.gives source.old (whole (bytes_of table))
         → MatchResult result (λ found. found ≡ table) (λ given. given ≡ Fault.Memory) }
-    // Memory is refused only once the header names a set whose classes are wanted.
+    // Memory is wanted only once the header names a set with its number of classes.
     ensures memory { (stream : Stream) → R.gives source.old stream → IfErr result (λ given. given ≡ Fault.Memory → NamesClasses stream) }
     // What is read is a table, also where nothing is known of the source.
     ensures table { IfOk result (λ table. IsTable table.set table.values) }
@@ -98,12 +98,22 @@ pub(crate) fn fill<R: Source>(source: &mut R, room: &mut [u8], before: usize) ->
     }
 }
 
-/// The classes of the set that the header names.
+/// The classes of the set that the header names. They are opened only once the header has their number.
 pub(crate) fn classes_named(alloc: Global, header: &[u8]) -> Result<Classes, Fault>
     requires { length header.now ≡ 20 }
     ensures named { IfOk result (λ classes. CountsClasses classes.set header.now) }
     ensures fault { IfErr result (λ fault. (fault ≡ Fault.Memory) ⊎ HasHeaderFault header.now fault) }
-    ensures memory { IfErr result (λ fault. fault ≡ Fault.Memory → (set : AnySet) × NamesSmallSet set header.now) }
+    ensures memory { IfErr result (λ fault. fault ≡ Fault.Memory → (set : AnySet) × CountsClasses set header.now) }
+{
+    let set = set_counted(header)?;
+    Ok(Classes::open(alloc, set)?)
+}
+
+// The set that the header names with its number of classes.
+fn set_counted(header: &[u8]) -> Result<PieceSet, Fault>
+    requires { length header.now ≡ 20 }
+    ensures counted { IfOk result (λ set. CountsClasses set header.now) }
+    ensures fault { IfErr result (HasHeaderFault header.now) }
 {
     if !is_title(&header[..8]) {
         return Err(Fault::Magic);
@@ -111,9 +121,8 @@ pub(crate) fn classes_named(alloc: Global, header: &[u8]) -> Result<Classes, Fau
     let Some(set) = set_named(&header[8..12]) else {
         return Err(Fault::SetByte);
     };
-    let classes = Classes::open(alloc, set)?;
-    if is_count(&header[12..], classes.class_count()) {
-        Ok(classes)
+    if is_count(&header[12..], count_classes(set)) {
+        Ok(set)
     } else {
         Err(Fault::ClassCount)
     }

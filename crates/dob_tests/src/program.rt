@@ -1,5 +1,5 @@
-// What the program does over streams that fail, without arguments, and by files with a wrong value. `./test` has the rest, a line
-// for each list of words.
+// What the program does over streams that fail, without arguments, and by files with a wrong value. `rows.rt` has what it prints, a
+// line for each list of words, and `./test` asks the built program for the same and more.
 use crate::shelves::put;
 use crate::units::dbfile::files::forged;
 use dob_cli::{MemShelf, Shelf, run_given, run_over, run_words};
@@ -53,14 +53,14 @@ pub(crate) fn run_on<S: Shelf>(
 
 /// A stream that takes so many bytes and then fails, and that may fail where it is flushed.
 #[derive(Drop)]
-struct Narrow {
+pub(crate) struct Narrow {
     room: usize,
     flushes: bool,
-    taken: Vec<u8>,
+    pub(crate) taken: Vec<u8>,
 }
 
 impl Narrow {
-    fn new(alloc: Global, room: usize, flushes: bool) -> Narrow {
+    pub(crate) fn new(alloc: Global, room: usize, flushes: bool) -> Narrow {
         Narrow {
             room,
             flushes,

@@ -1,9 +1,8 @@
 // What the program prints for its words over files in memory: the rows that users rely on, a line each.
-use crate::program::run_on;
+use crate::program::Narrow;
 use crate::shelves::{has, put};
 use crate::units::dbfile::files::file;
-use dob_cli::{MemShelf, Shelf, run_over};
-use dob_dbfile::MemSink;
+use dob_cli::{MemShelf, Shelf, run_words};
 use std::alloc::Global;
 use std::process::Abort;
 use std::sync::Wait;
@@ -110,6 +109,18 @@ const ROWS: &[Row] = &[
         "dobutsu: E16 Magic\n",
     ),
     (
+        &["check", "--db", "set.db"],
+        1,
+        "",
+        "dobutsu: E17 SetByte\n",
+    ),
+    (
+        &["check", "--db", "count.db"],
+        1,
+        "",
+        "dobutsu: E18 ClassCount\n",
+    ),
+    (
         &["check", "--db", "longer.db"],
         1,
         "",
@@ -138,6 +149,12 @@ const ROWS: &[Row] = &[
         &["line", "--db", "lions.db", LOSS_2],
         0,
         "La1-b1 lc2xb1\n",
+        "",
+    ),
+    (
+        &["line", "--db", "lions.db", "..l/L../.../... - -"],
+        0,
+        "La3-a4\n",
         "",
     ),
     (&["line", "--db", "lions.db", TRIED], 0, "end\n", ""),
@@ -305,10 +322,12 @@ fn answers<S: Shelf>(
     shelf: &mut S,
     row: &Row,
 ) {
-    let (words, status, out, err) = row;
-    let told = run_on(rt, alloc, shelf, words);
+    let (words, status, told, said) = row;
+    let mut out = Vec::new(alloc);
+    let mut err = Vec::new(alloc);
+    let ended = run_words(rt, alloc, words, shelf, &mut out, &mut err);
     assert!(rt;
-        told.is(*status, out.as_bytes(), err.as_bytes()),
+        ended == *status && out.as_slice() == told.as_bytes() && err.as_slice() == said.as_bytes(),
         "{words:?}"
     );
 }
@@ -326,11 +345,11 @@ fn rows_of_the_program(rt: HostRuntime) {
 fn a_build_that_cannot_tell(rt: HostRuntime) {
     let words = ["build", "--set", "000", "--nodes", "2", "--out", "built.db"];
     let mut shelf = MemShelf::new(rt.alloc());
-    let mut out = MemSink::new(rt.alloc()).failing_after(9);
-    let mut err = MemSink::new(rt.alloc());
-    let status = run_over(&rt, rt.alloc(), &words, &mut shelf, &mut out, &mut err);
+    let mut out = Narrow::new(rt.alloc(), 9, true);
+    let mut err = Vec::new(rt.alloc());
+    let status = run_words(&rt, rt.alloc(), &words, &mut shelf, &mut out, &mut err);
     assert!(rt; status == 3);
-    assert!(rt; out.bytes() == b"classes 5".as_slice());
-    assert!(rt; err.bytes() == b"dobutsu: E24 Io\n".as_slice());
+    assert!(rt; out.taken.as_slice() == b"classes 5".as_slice());
+    assert!(rt; err.as_slice() == b"dobutsu: E24 Io\n".as_slice());
     assert!(rt; has(&mut shelf, "built.db", &file(&rt)));
 }

@@ -53,6 +53,21 @@ fn leaves_file<R: Abort + Files>(rt: &R, shelf: &mut DiskShelf<'_, R>) {
     );
 }
 
+// Of two files that are made under one name on the disk the later one is kept. The other one can't be, and leaves no part.
+fn keeps_the_later_file<R: Abort + Files>(rt: &R, shelf: &mut DiskShelf<'_, R>) {
+    keeps_file(rt, shelf, NAME, b"kept");
+    let mut first = shelf.make(NAME).ok().expect(rt, "a file on the disk");
+    assert!(rt; put_all(&mut first, b"first").is_ok());
+    let mut later = shelf.make(NAME).ok().expect(rt, "a file on the disk");
+    assert!(rt; put_all(&mut later, b"later").is_ok());
+    assert!(rt; shelf.keep(NAME, first).is_err());
+    assert!(rt; has(shelf, NAME, b"kept") && has(shelf, PART, b"later"));
+    assert!(rt; shelf.keep(NAME, later).is_ok());
+    assert!(rt;
+        has(shelf, NAME, b"later") && shelf.find(PART).is_err() && has(shelf, OTHER, b"other")
+    );
+}
+
 // Files are found as they were kept, also one that is kept again, and the other one stays.
 fn keeps_files<S: Shelf>(rt: &impl Abort, shelf: &mut S) {
     keeps_file(rt, shelf, OTHER, b"other");
@@ -78,6 +93,7 @@ fn files_on_a_disk(rt: HostRuntime) {
     let mut shelf = DiskShelf::new(&rt, rt.alloc());
     keeps_files(&rt, &mut shelf);
     leaves_file(&rt, &mut shelf);
+    keeps_the_later_file(&rt, &mut shelf);
     removes(&rt, NAME);
     removes(&rt, OTHER);
     has_no_others(&rt, &mut shelf);

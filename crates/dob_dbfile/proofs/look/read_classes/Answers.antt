@@ -3,7 +3,7 @@ use Rattle.std.proofs.Common.{◌≡◌, ◌∙◌, ◌⊎◌, ℕ, List, arith,
 use Rattle.std.proofs.lemmas.Result.{IfErr-weaker}
 use Rattle.dob_pieces.specs.declared.piece_set.PieceSet.{PieceSet}
 use Rattle.dob_dbfile.specs.declared.fault.Fault.TheVariants as fault
-use Rattle.dob_dbfile.specs.Faults.{HasHeader, HasHeaderFault, NamesSmallSet, header}
+use Rattle.dob_dbfile.specs.Faults.{HasHeader, HasHeaderFault, CountsClasses, header}
 use Rattle.dob_dbfile.proofs.Looked.{front_refused}
 use Rattle.dob_dbfile.proofs.look.read_classes.Goals as goal
 
@@ -24,4 +24,5 @@ returns-clause-memory g c = λ stream gives.
     let front : c.fill.new.room ≡ header stream = taken.0.same ∙ ap (λ (n : ℕ). take n stream.bytes) len in
     let there : HasHeader stream = omega (arith, len, taken.0.within) in
     IfErr-weaker c.classes_named.result _ _
-    (λ given names none. (there, subst (λ (h : List ℕ). (set : PieceSet) × NamesSmallSet set h) front (names none))) c.classes_named.ensures.memory
+    (λ given names none. let counts = subst (λ (h : List ℕ). (set : PieceSet) × CountsClasses set h) front (names none) in
+    (counts.0, (there, counts.1))) c.classes_named.ensures.memory

@@ -6,7 +6,7 @@ use Rattle.dob_value.specs.Follows.{ClassTable, IsTable}
 use Rattle.dob_dbfile.specs.declared.fault.Fault.TheVariants as fault
 use Rattle.dob_dbfile.specs.Devices.{after, whole}
 use Rattle.dob_dbfile.specs.Format.{bytes_of}
-use Rattle.dob_dbfile.specs.Faults.{header, HasHeader, HasHeaderFault, HasDigest, CountsClasses, NamesSmallSet}
+use Rattle.dob_dbfile.specs.Faults.{header, HasHeader, HasHeaderFault, HasDigest, CountsClasses}
 use Rattle.dob_dbfile.specs.Reading.{EndsWith, HasRestFault}
 use Rattle.dob_dbfile.proofs.Verdicts.{header_fault, rest_fault, right_file, right_digest}
 use Rattle.dob_dbfile.proofs.Written.{table_of_codes}
@@ -69,7 +69,8 @@ returns-in_err-classes-clause-memory g c = λ stream gives.
     let there : HasHeader stream = omega (arith, len, taken.0.within) in
     let given = c.in_err-classes.field-0.0 in
     rw (p.1, p.2) (λ (none : given ≡ fault.Memory).
-    (there, subst (λ (h : List ℕ). (set : PieceSet) × NamesSmallSet set h) front (c.in_err-classes.ensures.memory none)))
+    let counts = subst (λ (h : List ℕ). (set : PieceSet) × CountsClasses set h) front (c.in_err-classes.ensures.memory none) in
+    (counts.0, (there, counts.1)))
 
 pub returns-in_err-codes-clause-memory : goal.returns-in_err-codes-clause-memory
 returns-in_err-codes-clause-memory g c = λ stream gives.
@@ -81,4 +82,4 @@ returns-in_err-codes-clause-memory g c = λ stream gives.
     let set = c.in_ok-classes.classes.set in
     let counts = subst (CountsClasses set) front c.in_ok-classes.ensures.named in
     let given = c.in_err-codes.field-0.0 in
-    rw (p.1, p.2) (λ (none : given ≡ fault.Memory). (there, (set, counts.0)))
+    rw (p.1, p.2) (λ (none : given ≡ fault.Memory). (set, (there, counts)))
