@@ -25,18 +25,6 @@ value_fault_holds text p value_fault.SetTooLarge legal spelled large deep = (p, 
 value_fault_holds text p value_fault.TooDeep legal spelled large deep = (p, legal, spelled, deep refl)
 value_fault_holds text p value_fault.Memory legal spelled large deep = tt
 
--- a fault of the set is one of its text
-pub set_fault_holds : (text : List ℕ) (set : PieceSet) (fault : Fault) → text ≡ set_text set → IsFaultOfSet set fault → IsCountFaultOf text fault
-set_fault_holds text set (Text f) named holds = absurd holds
-set_fault_holds text set SetText named holds = absurd holds
-set_fault_holds text set SetTooLarge named holds = (set, named, holds)
-set_fault_holds text set TooDeep named holds = absurd holds
-set_fault_holds text set (Run f) named holds = absurd holds
-set_fault_holds text set (File f) named holds = absurd holds
-set_fault_holds text set (Table f) named holds = absurd holds
-set_fault_holds text set Memory named holds = tt
-set_fault_holds text set Io named holds = absurd holds
-
 -- a fault, with nothing on standard output
 pub faulty : (AreLines : List ℕ → Type 0) (Holds : Fault → Type 0) (fault : Fault) (status : ℕ) (out : State) (err : Change)
     → Holds fault → TellsOneFault fault status err → Answers AreLines Holds (ended status (change out out) err)

@@ -3,18 +3,16 @@ use Rattle.std.specs.Prelude.{◌≡◌, ◌≢◌, ℕ, List, [], ◌∷◌, �
 use Rattle.std.specs.Fmt.{decimal}
 use Rattle.dob_pieces.specs.declared.piece_set.PieceSet.{PieceSet}
 use Rattle.dob_pieces.specs.Sets.{set_text}
-use Rattle.dob_rank.specs.Limits.{IsSmall, IsTooLarge}
 use Rattle.dob_rank.specs.Order.{HasSize, HasClasses}
 use Rattle.dob_cli.specs.declared.counts.Counts.{Counts}
 use Rattle.dob_cli.specs.declared.fault.Fault.{Fault}
-use Rattle.dob_cli.specs.declared.fault.Fault.TheVariants.{SetText, SetTooLarge, Memory}
+use Rattle.dob_cli.specs.declared.fault.Fault.TheVariants.{SetText, Memory}
 use Rattle.dob_pieces.specs.Bytes.{line_feed}
 use Rattle.dob_cli.specs.Endings.{AnswersOver, Ending}
 use Rattle.dob_cli.specs.Shelves.{ShelfChange}
 
--- the set is small, and these are its numbers of positions and classes
+-- these are the set's numbers of positions and classes
 pub record HasCounts (set : PieceSet) (counts : Counts) : Type 0 where
-  pub few : IsSmall set
   pub positions : HasSize set counts.positions
   pub classes : HasClasses set counts.classes
 
@@ -34,16 +32,9 @@ count_lines counts = count_line (codes "positions ") counts.positions ++ count_l
 abbrev pub AreCountLinesOf : List ℕ → List ℕ → Type 0
 AreCountLinesOf text lines = (counts : Counts) × AreCountsOf text counts × (lines ≡ count_lines counts)
 
--- a fault of counting a set: it is too large, or memory failed
-abbrev pub IsFaultOfSet : PieceSet → Fault → Type 0
-IsFaultOfSet set SetTooLarge = IsTooLarge set
-IsFaultOfSet set Memory = Unit {0}
-IsFaultOfSet set _ = ⊥
-
--- the fault is given only where no set has the text, or its set is too large, or memory failed
+-- the fault is given only where no set has the text, or memory failed for the lines
 abbrev pub IsCountFaultOf : List ℕ → Fault → Type 0
 IsCountFaultOf text SetText = (set : PieceSet) → text ≢ set_text set
-IsCountFaultOf text SetTooLarge = (set : PieceSet) × (text ≡ set_text set) × IsTooLarge set
 IsCountFaultOf text Memory = Unit {0}
 IsCountFaultOf text _ = ⊥
 

@@ -1,10 +1,10 @@
 // How many positions and classes a piece set has.
 ghost use Rattle.std.specs.Prelude.{◌≡◌, IfOk, IfErr, string_bytes};
-ghost use Rattle.dob_cli.specs.Sizes.{AreCountLinesOf, HasCounts, IsCountFaultOf, IsFaultOfSet, count_lines};
+ghost use Rattle.dob_cli.specs.Sizes.{AreCountLinesOf, HasCounts, IsCountFaultOf, count_lines};
 
 use crate::fault::Fault;
 use dob_pieces::PieceSet;
-use dob_rank::{Classes, size};
+use dob_rank::{count_classes, size};
 use std::alloc::{AllocError, Global};
 
 /// How many positions a piece set has, and how many classes.
@@ -19,8 +19,7 @@ pub(crate) fn answer_count(alloc: Global, text: &str) -> Result<String, Fault>
     ensures ok { IfOk result (λ lines. AreCountLinesOf text.now (string_bytes lines)) }
     ensures err { IfErr result (IsCountFaultOf text.now) }
 {
-    let set = PieceSet::read(text)?;
-    let counts = count_of(alloc, set)?;
+    let counts = counts_of(PieceSet::read(text)?);
     Ok(lines_with(alloc, counts)?)
 }
 
@@ -33,12 +32,12 @@ fn lines_with(alloc: Global, counts: Counts) -> Result<String, AllocError>
     format!(in alloc; "positions {positions}\nclasses {classes}\n")
 }
 
-// The numbers of positions and of classes of the piece set.
-fn count_of(alloc: Global, set: PieceSet) -> Result<Counts, Fault>
-    ensures ok { IfOk result (HasCounts set) }
-    ensures err { IfErr result (IsFaultOfSet set) }
+// The numbers of positions and of classes of the piece set, which take no memory.
+fn counts_of(set: PieceSet) -> Counts
+    ensures { HasCounts set result }
 {
-    let classes = Classes::open(alloc, set)?.class_count();
-    let positions = size(set);
-    Ok(Counts { positions, classes })
+    Counts {
+        positions: size(set),
+        classes: count_classes(set),
+    }
 }
