@@ -1,5 +1,6 @@
 // Answers about a build by threads: how many classes a piece set has, and how many of them it finds won, lost and drawn.
 use crate::about_build::tell_outcomes;
+use crate::about_world::Sizes;
 use dob_pieces::{Memory, PieceSet};
 use dob_run::{BATCH, CAPACITY, Fault, Free, run_nodes};
 use dob_value::Table;
@@ -7,14 +8,40 @@ use std::alloc::Global;
 use std::sync::Wait;
 use std::thread::Threads;
 
+/// The sizes of a build, in words: its number of nodes, and behind that none, for those that the program takes, or that of batches
+/// and that of inboxes. None where the text is no such thing.
+pub(crate) fn sizes_in(text: &str) -> Option<Sizes> {
+    let Some((nodes, rest)) = text.split_once(' ') else {
+        return Some(Sizes {
+            nodes: text.parse::<usize>().ok()?,
+            batch: BATCH,
+            capacity: CAPACITY,
+        });
+    };
+    let (batch, capacity) = rest.split_once(' ')?;
+    Some(Sizes {
+        nodes: nodes.parse::<usize>().ok()?,
+        batch: batch.parse::<usize>().ok()?,
+        capacity: capacity.parse::<usize>().ok()?,
+    })
+}
+
 /// `classes N win N loss N draw N`, as so many nodes find them, each in a thread of its own. An error is that of the build.
 pub(crate) fn about_crew<R: Threads + Wait + Sync>(
     rt: &R,
     alloc: Global,
     set: PieceSet,
-    nodes: usize,
+    sizes: Sizes,
 ) -> Result<String, Fault> {
-    let built = run_nodes(rt, alloc, set, nodes, BATCH, CAPACITY, &Free)?;
+    let built = run_nodes(
+        rt,
+        alloc,
+        set,
+        sizes.nodes,
+        sizes.batch,
+        sizes.capacity,
+        &Free,
+    )?;
     Ok(tell_classes(alloc, &built.table)?)
 }
 

@@ -15,12 +15,12 @@ use std::fmt::Display;
 // A world can make as many events.
 const MOST_EVENTS: u64 = 1 << 40;
 
-/// How many nodes a world has, how many items its batches and how many batches its links hold.
+/// How many nodes a world or a build has, how many items its batches and how many batches its links or inboxes hold.
 #[derive(Clone, Copy)]
 pub(crate) struct Sizes {
-    nodes: usize,
-    batch: usize,
-    capacity: usize,
+    pub(crate) nodes: usize,
+    pub(crate) batch: usize,
+    pub(crate) capacity: usize,
 }
 
 /// What is done in a world.

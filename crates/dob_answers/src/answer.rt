@@ -61,7 +61,7 @@ fn about_values<R: Threads + Wait + Sync>(
             told(alloc, about_cell(alloc, opened, set, class, changes))
         }
         OfValues::Build(limit) => told_build(alloc, about_build(alloc, set, limit)),
-        OfValues::Crew(nodes) => told_crew(alloc, about_crew(rt, alloc, set, nodes)),
+        OfValues::Crew(sizes) => told_crew(alloc, about_crew(rt, alloc, set, sizes)),
         OfValues::World(sizes, matter) => {
             told_world(alloc, about_world(alloc, set, sizes, matter))
         }

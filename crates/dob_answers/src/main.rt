@@ -1,7 +1,7 @@
 // Answers questions about positions and piece sets, one a line, so that this implementation can be compared with
 // another: `moves TEXT`, `after I TEXT`, `catch TEXT`, `value TEXT`, `rank TEXT`, `class TEXT`, `unrank CEG N`,
 // `classat CEG K`, `size CEG`, `back CEG K`, `edges CEG P Q`, `apply CEG CLASS CHANGE ..`, as about_cell.rt says,
-// `alone CEG LIMIT`, as about_build.rt says, `built CEG N`, as about_crew.rt says, about worlds of nodes, as
+// `alone CEG LIMIT`, as about_build.rt says, `built CEG N [BATCH CAPACITY]`, as about_crew.rt says, about worlds of nodes, as
 // about_world.rt says, and about tokens of the ring, as about_token.rt says. A text that is no position and a set that is
 // none get their faults, and any other line `unknown question`.
 #![tactic(auto)]

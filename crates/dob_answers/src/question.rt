@@ -1,4 +1,5 @@
 // The questions that a line can ask.
+use crate::about_crew::sizes_in;
 use crate::about_token::OfToken;
 use crate::about_world::{OfWorld, Sizes};
 use dob_pieces::Profile;
@@ -62,8 +63,8 @@ pub(crate) enum OfValues<'a> {
     Cell(u64, &'a str),
     /// Which values one node alone finds in so many steps.
     Build(u64),
-    /// Which values so many nodes, each in a thread of its own, find.
-    Crew(usize),
+    /// Which values a build with those sizes finds, each node in a thread of its own.
+    Crew(Sizes),
     /// What comes of something in a world with those sizes.
     World(Sizes, OfWorld<'a>),
 }
@@ -160,7 +161,7 @@ impl<'a> OfValues<'a> {
                 Some(OfValues::Cell(class.parse::<u64>().ok()?, changes))
             }
             "alone" => Some(OfValues::Build(rest.parse::<u64>().ok()?)),
-            "built" => Some(OfValues::Crew(rest.parse::<usize>().ok()?)),
+            "built" => Some(OfValues::Crew(sizes_in(rest)?)),
             _ => {
                 let (sizes, matter) = OfWorld::read(word, rest)?;
                 Some(OfValues::World(sizes, matter))
