@@ -1,5 +1,5 @@
 -- The sink was empty and took the file, which the shelf then keeps; where it took none the file is as it was made.
-use Rattle.std.proofs.Common.{[], Bool, refl, subst, sym}
+use Rattle.std.proofs.Common.{Bool, subst, sym}
 use Rattle.std.specs.Prelude.{IsTrue}
 use Rattle.dob_dbfile.specs.Format.{bytes_of}
 use Rattle.dob_cli.proofs.Building.{received_all}

@@ -1,5 +1,4 @@
 -- The position that was read is the text's, and what was looked up the file's.
-use Rattle.std.proofs.Common.{rules}
 use Rattle.std.proofs.lemmas.Result.{err_from_is_err_and}
 use Rattle.dob_cli.proofs.ByPlace.{fault_holds, shut_holds}
 use Rattle.dob_cli.proofs.looks.answer_look.Goals as goal

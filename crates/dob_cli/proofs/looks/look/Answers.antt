@@ -1,5 +1,5 @@
 -- The record is the one of the position's class in the set that the header names.
-use Rattle.std.proofs.Common.{◌≡◌, ◌⊎◌, arith, inl, inr, true, false}
+use Rattle.std.proofs.Common.{◌≡◌, arith, inr, true, false}
 use Rattle.std.proofs.lemmas.Result.{err_from_is_err_and}
 use Rattle.dob_cli.proofs.ByPlace.{few_classes, front_holds}
 use Rattle.dob_cli.proofs.looks.look.Goals as goal
