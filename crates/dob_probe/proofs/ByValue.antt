@@ -1,5 +1,5 @@
 -- Moves with their values, best first, as the list grows.
-use Rattle.std.proofs.Common.{◌≡◌, ℕ, ◌+◌, ◌-◌, ◌≤◌, ◌<◌, ◌⊎◌, ◌↔◌, inl, inr, refl, sym, subst, ap, ◌∙◌, arith, List, [], ◌∷◌, length, get_or, tt}
+use Rattle.std.proofs.Common.{◌≡◌, ℕ, ◌+◌, ◌-◌, ◌≤◌, ◌<◌, ◌⊎◌, ◌↔◌, inl, inr, refl, sym, subst, ap, ◌∙◌, arith, List, [], length, get_or}
 use Rattle.std.proofs.Common.{Option, Some, Contains, AllPairs, insert, slice_get}
 use Rattle.std.proofs.lemmas.Bool.{cases_lt, cases_order}
 use Rattle.std.proofs.lemmas.Option.{slice_get-get_or, same_Some}
@@ -10,7 +10,7 @@ use Rattle.dob_pieces.specs.declared.setup.Setup.{Setup}
 use Rattle.dob_moves.specs.declared.game_move.Move.{Move}
 use Rattle.dob_moves.specs.declared.position_status.Status.TheVariants.{Open}
 use Rattle.dob_moves.specs.Moves.{Goes, CanGo, place}
-use Rattle.dob_moves.specs.Statuses.{CanCatch, HasStatus, AreMoves, IsFirstCatch}
+use Rattle.dob_moves.specs.Statuses.{CanCatch, HasStatus, AreMoves}
 use Rattle.dob_rank.specs.Order.{IsPositionOf}
 use Rattle.dob_value.specs.declared.value.Value.{Value}
 use Rattle.dob_value.specs.declared.value.Value.TheVariants.{Win, Loss, Draw}
@@ -18,7 +18,7 @@ use Rattle.dob_value.specs.Values.{HasValue}
 use Rattle.dob_value.specs.Follows.{ClassTable, IsValueTable}
 use Rattle.dob_value.proofs.Successors.{moves_keep_the_set}
 use Rattle.dob_probe.specs.declared.choices.ValuedMove.{ValuedMove}
-use Rattle.dob_probe.specs.Choices.{seen_from_before, IsBetter, ComesBefore, IsWinningCatch, HasMoveValue, AreValuedMoves}
+use Rattle.dob_probe.specs.Choices.{seen_from_before, IsBetter, ComesBefore, HasMoveValue, AreValuedMoves}
 use Rattle.dob_probe.specs.Lines.{GivenBy}
 use Rattle.dob_probe.proofs.Entries.{one_given}
 use Rattle.dob_probe.proofs.Best.{to_value, of_value}
@@ -137,7 +137,6 @@ module _ (xs : List ValuedMove) (i : ℕ) (y : ValuedMove) (within : i ≤ lengt
               let high = get_or-insert_below xs i y d b below within in
               rw (low, high) (ordered a b d lt (omega arith))
           | inr above ↦
-              let c : ℕ = b - 1 in
               let up : b ≡ b - 1 + 1 = omega arith in
               let here : b - 1 < length xs = omega (arith, inside, long, above) in
               let high : get_or (insert xs i y) b d ≡ get_or xs (b - 1) d =
@@ -262,22 +261,6 @@ listed_all Has p choices upto list free are all listed = record {
       listed.whole there.0 valued (omega arith) read has;
   ordered = listed.ordered;
 }
-
--- the first catch alone
-pub catch_listed : (Has : Setup → Value → Type 0) (p : Setup) (valued : ValuedMove) → IsFirstCatch p valued.choice → valued.value ≡ Win 1 →
-    AreValuedMoves Has p (valued ∷ [])
-catch_listed Has p valued catch wins = record {
-  sound = λ other there. inl (subst (IsWinningCatch p) (only other there) (record { catch = catch; wins = wins }));
-  caught = λ catch. refl;
-  whole = λ other has. absurd (has.goes_on.0 (valued.choice, catch.catches));
-  ordered = λ i j d lt within. absurd (omega (arith, within, lt));
-}
-  where
-    only : (other : ValuedMove) → Contains (valued ∷ []) other → valued ≡ other
-    only other there =
-        let below : there.0 < length (valued ∷ []) = there.1 in
-        let first : there.0 ≡ 0 = omega (arith, below) in
-        sym (ap (λ k. get_or (valued ∷ []) k other) first) ∙ there.2
 
 -- ---- by the value table the values are the right ones
 

@@ -88,7 +88,10 @@ fn moves_by_value(
     let mut list = Vec::new(alloc);
     for choice in choices {
         let value = value_seen(value_to(table, position, *choice));
-        let valued = ValuedMove { choice: *choice, value };
+        let valued = ValuedMove {
+            choice: *choice,
+            value,
+        };
         insert_by_value(&mut list, valued)?;
     }
     Ok(list)
