@@ -1,16 +1,16 @@
 // The board as a picture (SVG), in the colours and forms of the game's own set.
-ghost use Rattle.std.specs.Prelude.{◌≡◌, ◌<◌, None, slice_index_or, ◌+◌, ◌*◌, ◌++◌, ◌∷◌, [], OnOk, IfOk, flat_map, string_bytes};
-ghost use Rattle.std.specs.List.{range_with_len};
+ghost use Rattle.std.specs.Prelude.{◌≡◌, ◌<◌, ◌++◌, ◌∷◌, [], OnOk, IfOk, string_bytes};
 ghost use Rattle.dob_text.specs.Letters.{letter_of_kind};
-ghost use Rattle.dob_text.specs.Pictures.{hand_left, hand_picture, hand_top, piece_picture, pieces_picture, picture_of, square_picture};
-ghost use Rattle.dob_text.specs.Pictures.{turn_text};
+ghost use Rattle.dob_text.specs.Pictures.{board_picture, hand_left, hand_picture, hand_top, piece_picture, pieces_picture, picture_of, square_picture};
+ghost use Rattle.dob_text.specs.Pictures.{turn_text, use_line};
 
 use dob_pieces::{Hand, Kind, Memory, Piece, Position, Side, Square};
 use std::alloc::{AllocError, Global};
 
 /// The pieces, each round its own centre and seen from its own side, with a red dot for each step and its letter; below the
 /// pieces the board with the names of its rows and columns, and whose hand is which.
-pub(crate) const BACKGROUND: &str = "<svg xmlns='http://www.w3.org/2000/svg' viewBox='0 0 760 480' font-family='sans-serif' font-size='20' text-anchor='middle'>
+pub(crate) const BACKGROUND: &str =
+    "<svg xmlns='http://www.w3.org/2000/svg' viewBox='0 0 760 480' font-family='sans-serif' font-size='20' text-anchor='middle'>
 <defs>
 <g id='L'><path d='M-34-44H34Q44-44 44-34V34Q44 44 34 44H-34Q-44 44-44 34V-34Q-44-44-34-44Z' fill='#f6b8bd' stroke='#7a5a3a' stroke-width='2'/><circle cx='0' cy='-37' r='4' fill='#d22'/><circle cx='0' cy='37' r='4' fill='#d22'/><circle cx='37' cy='0' r='4' fill='#d22'/><circle cx='-37' cy='0' r='4' fill='#d22'/><circle cx='37' cy='-37' r='4' fill='#d22'/><circle cx='37' cy='37' r='4' fill='#d22'/><circle cx='-37' cy='-37' r='4' fill='#d22'/><circle cx='-37' cy='37' r='4' fill='#d22'/><circle cy='-2' r='27' fill='#a8591c'/><circle cy='-2' r='19' fill='#f5c242'/><circle cx='-7' cy='-6' r='3' fill='#222'/><circle cx='7' cy='-6' r='3' fill='#222'/><path d='M-4 2H4L0 7ZM-7 11Q0 16 7 11' fill='#222'/><text x='-26' y='34' font-size='17'>L</text></g>
 <g id='G'><path d='M-34-44H34Q44-44 44-34V34Q44 44 34 44H-34Q-44 44-44 34V-34Q-44-44-34-44Z' fill='#cfc3ea' stroke='#7a5a3a' stroke-width='2'/><circle cx='0' cy='-37' r='4' fill='#d22'/><circle cx='0' cy='37' r='4' fill='#d22'/><circle cx='37' cy='0' r='4' fill='#d22'/><circle cx='-37' cy='0' r='4' fill='#d22'/><path d='M-9 30V-6L-14-22H12L17-8H5V30Z' fill='#f5d04a'/><path d='M-8-22V-31M2-22V-31' stroke='#8a5a20' stroke-width='4'/><circle cx='-3' cy='2' r='4' fill='#a8661e'/><circle cx='1' cy='14' r='4' fill='#a8661e'/><circle cx='-4' cy='24' r='3' fill='#a8661e'/><circle cx='1' cy='-15' r='3' fill='#222'/><text x='-26' y='34' font-size='17'>G</text></g>
@@ -56,6 +56,19 @@ fn turn_of(side: Side) -> &'static str
     }
 }
 
+// The line that shows the picture of that name, so turned, its centre so far from the left and from the top.
+fn use_line(
+    alloc: Global,
+    name: &str,
+    turn: &str,
+    left: usize,
+    top: usize,
+) -> Result<String, AllocError>
+    ensures { IfOk result (λ line. string_bytes line ≡ use_line name.now turn.now left top) }
+{
+    format!(in alloc; "<use href='#{name}' transform='translate({left} {top}){turn}'/>\n")
+}
+
 // Draws the piece at the end, its centre so far from the left and from the top.
 fn push_piece(
     alloc: Global,
@@ -63,14 +76,14 @@ fn push_piece(
     piece: Piece,
     left: usize,
     top: usize,
-) -> Result<(), AllocError>
+) -> Result<(), Memory>
     ensures { OnOk result (string_bytes text.new ≡ string_bytes text.old ++ piece_picture piece left top) }
 {
     let name = picture_name(piece.kind);
     let turn = turn_of(piece.side);
-    let line =
-        format!(in alloc; "<use href='#{name}' transform='translate({left} {top}){turn}'/>\n")?;
-    text.push_str(line.as_str())
+    let line = use_line(alloc, name, turn, left, top)?;
+    text.push_str(line.as_str())?;
+    Ok(())
 }
 
 // Draws what stands on the square at the end.
@@ -79,7 +92,7 @@ fn push_square(
     text: &mut String,
     cell: Option<Piece>,
     square: Square,
-) -> Result<(), AllocError>
+) -> Result<(), Memory>
     ensures { OnOk result (string_bytes text.new ≡ string_bytes text.old ++ square_picture cell square) }
 {
     match cell {
@@ -97,9 +110,8 @@ fn push_board(
     alloc: Global,
     text: &mut String,
     board: &[Option<Piece>; Square::COUNT],
-) -> Result<(), AllocError>
-    ensures { OnOk result (string_bytes text.new
-        ≡ string_bytes text.old ++ flat_map (λ square. square_picture (slice_index_or board.now square None) square) (range_with_len 0 12)) }
+) -> Result<(), Memory>
+    ensures { OnOk result (string_bytes text.new ≡ string_bytes text.old ++ board_picture board.now) }
 {
     for index in 0..Square::COUNT {
         push_square(alloc, text, board[index], Square::new(index))?;
@@ -136,7 +148,7 @@ fn push_pieces(
     piece: Piece,
     row: usize,
     count: u8,
-) -> Result<(), AllocError>
+) -> Result<(), Memory>
     requires { row < 3 }
     ensures { OnOk result (string_bytes text.new ≡ string_bytes text.old ++ pieces_picture piece row count) }
 {
@@ -149,7 +161,7 @@ fn push_pieces(
 }
 
 // Draws a hand at the end: the chicks nearest to its player, then the elephants, then the giraffes.
-fn push_hand(alloc: Global, text: &mut String, side: Side, hand: Hand) -> Result<(), AllocError>
+fn push_hand(alloc: Global, text: &mut String, side: Side, hand: Hand) -> Result<(), Memory>
     ensures { OnOk result (string_bytes text.new ≡ string_bytes text.old ++ hand_picture side hand) }
 {
     let kind = Kind::Chick;
