@@ -12,6 +12,7 @@ mod pictures;
 mod pushes;
 mod read_positions;
 mod setups;
+mod write_lines;
 mod write_moves;
 mod write_positions;
 
@@ -19,5 +20,6 @@ pub use draw_boards::draw_position;
 pub use fault::TextFault;
 pub use pictures::picture_position;
 pub use read_positions::{read_position, read_position_in};
+pub use write_lines::write_line;
 pub use write_moves::write_move;
 pub use write_positions::write_position;
