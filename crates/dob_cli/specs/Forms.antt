@@ -47,6 +47,10 @@ line_form = record { name = codes "line"; options = file_option ∷ []; position
 abbrev pub look_form : Form
 look_form = record { name = codes "look"; options = file_option ∷ []; positions = codes "POSITION" ∷ []; numbers = [] }
 
+-- `show POSITION`
+abbrev pub show_form : Form
+show_form = record { name = codes "show"; options = []; positions = codes "POSITION" ∷ []; numbers = [] }
+
 -- `check --db FILE`
 abbrev pub check_form : Form
 check_form = record { name = codes "check"; options = file_option ∷ []; positions = []; numbers = [] }
@@ -69,4 +73,4 @@ build_form = record {
 
 -- the subcommands, in the order of the help
 abbrev pub forms : List Form
-forms = value_form ∷ count_form ∷ build_form ∷ probe_form ∷ line_form ∷ check_form ∷ look_form ∷ []
+forms = value_form ∷ count_form ∷ build_form ∷ probe_form ∷ line_form ∷ check_form ∷ look_form ∷ show_form ∷ []

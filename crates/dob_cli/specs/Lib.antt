@@ -9,6 +9,7 @@ pub mod Endings
 pub mod Program
 pub mod Tables
 pub mod Looks
+pub mod Shows
 pub mod Sizes
 pub mod Builds
 pub mod Orders

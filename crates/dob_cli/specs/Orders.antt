@@ -2,13 +2,14 @@
 use Rattle.std.specs.Prelude.{ℕ, List}
 use Rattle.dob_cli.specs.declared.fault.Fault.{Fault}
 use Rattle.dob_cli.specs.declared.command.Order.{Order}
-use Rattle.dob_cli.specs.declared.command.Order.TheVariants.{Value, Count, Build, Probe, Line, Check, Look}
+use Rattle.dob_cli.specs.declared.command.Order.TheVariants.{Value, Count, Build, Probe, Line, Check, Look, Show}
 use Rattle.dob_cli.specs.Endings.{AnswersOver, Ending}
 use Rattle.dob_cli.specs.Shelves.{SameFiles, SameOthers, ShelfChange}
 use Rattle.dob_cli.specs.Program.{IsFaultOf, IsValueLineOf}
 use Rattle.dob_cli.specs.Sizes.{AreCountLinesOf, IsCountFaultOf}
 use Rattle.dob_cli.specs.Builds.{AreBuildLines, IsBuildFault}
 use Rattle.dob_cli.specs.Looks.{IsLookFault, IsLookLine}
+use Rattle.dob_cli.specs.Shows.{AreShowLinesOf, IsShowFaultOf}
 use Rattle.dob_cli.specs.Tables.{IsCheckFault, IsCheckLine, IsMovesLine, IsPositionFault, IsProbeLine}
 
 -- the lines are right for the order, over a shelf that changes so
@@ -20,6 +21,7 @@ AreLinesFor c (Probe file position) = IsProbeLine (c.before.has file.now) positi
 AreLinesFor c (Line file position) = IsMovesLine (c.before.has file.now) position.now
 AreLinesFor c (Check file) = IsCheckLine (c.before.has file.now)
 AreLinesFor c (Look file position) = IsLookLine (c.before.has file.now) position.now
+AreLinesFor c (Show position) = AreShowLinesOf position.now
 
 -- the fault holds of the order
 abbrev pub IsFaultFor : ShelfChange → Order → Fault → Type 0
@@ -30,6 +32,7 @@ IsFaultFor c (Probe file position) = IsPositionFault (c.before.has file.now) pos
 IsFaultFor c (Line file position) = IsPositionFault (c.before.has file.now) position.now
 IsFaultFor c (Check file) = IsCheckFault (c.before.has file.now)
 IsFaultFor c (Look file position) = IsLookFault (c.before.has file.now) position.now
+IsFaultFor c (Show position) = IsShowFaultOf position.now
 
 -- the order leaves each file what it had, but for the one that it names to be made
 abbrev pub KeepsFiles : ShelfChange → Order → Type 0

@@ -19,6 +19,7 @@ name_of_order (order.Probe _ _) = codes "probe"
 name_of_order (order.Line _ _) = codes "line"
 name_of_order (order.Check _) = codes "check"
 name_of_order (order.Look _ _) = codes "look"
+name_of_order (order.Show _) = codes "show"
 
 -- it has these texts, in the order of the subcommand's form; of a number the text may be any that tells it
 abbrev pub HasTexts : List Text → Order → Type 0
@@ -29,6 +30,7 @@ HasTexts texts (order.Probe file position) = file.now ∷ position.now ∷ [] �
 HasTexts texts (order.Line file position) = file.now ∷ position.now ∷ [] ≡ texts
 HasTexts texts (order.Check file) = file.now ∷ [] ≡ texts
 HasTexts texts (order.Look file position) = file.now ∷ position.now ∷ [] ≡ texts
+HasTexts texts (order.Show position) = position.now ∷ [] ≡ texts
 
 -- the order is for this subcommand and these texts
 abbrev pub IsOrder : Text → List Text → Order → Type 0

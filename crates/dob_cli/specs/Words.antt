@@ -243,3 +243,7 @@ check file = asks (codes "check") (file ∷ [])
 -- the value that the file's record of the position's class says
 abbrev pub look : Text → Text → Meaning
 look file position = asks (codes "look") (file ∷ position ∷ [])
+
+-- the position that the text names, drawn
+abbrev pub show : Text → Meaning
+show position = asks (codes "show") (position ∷ [])

@@ -14,7 +14,7 @@
 ghost use Rattle.std.specs.Prelude.{◌≡◌, ◌∷◌, [], IfOk, IsSomeAnd, List, codes, map, true};
 ghost use Rattle.clap.specs.Words.{App, Rule, kind_of, subcommand_rows_of, with_rule, with_subcommand};
 ghost use Rattle.dob_cli.specs.Forms.{Form, Text, build_form, check_form, count_form, forms, line_form, look_form, probe_form};
-ghost use Rattle.dob_cli.specs.Forms.{value_form, file_option, nodes_option, out_option, set_option};
+ghost use Rattle.dob_cli.specs.Forms.{show_form, value_form, file_option, nodes_option, out_option, set_option};
 ghost use Rattle.dob_cli.specs.Lines.{IsAmong, IsLine};
 ghost use Rattle.dob_cli.specs.Words.{asks, has_topic, is_topic, is_version, meaning_of, meaning_of_topic, names_subcommand};
 ghost use Rattle.dob_cli.specs.Shapes.{Finds, HasShape, IsRead, bare_app, dobutsu_app, form_app, option_rule, text_rule};
@@ -56,6 +56,8 @@ pub enum Order<'a> {
         file: &'a str,
         position: &'a str,
     },
+    /// To draw the position that the text names.
+    Show(&'a str),
 }
 
 /// What the words come to.
@@ -179,6 +181,15 @@ Answers: `win D`, `loss D` or `draw`, where D is the distance in plies.
 Example: dobutsu look --db 000.db \"..l/.../L../... - -\" prints `win 3`. `dobutsu value --help` says
 how a position is written.";
 
+const SHOW_HELP: &str =
+    "The board as the side to move sees it: rows 4 to 1 from top to bottom, columns a to c from left to right,
+so that `b2` names the square where column b meets row 2. Capital letters are the pieces of the side to
+move, which go up; small letters are those of the other side, which go down. A hand holds the pieces
+that were caught and can be dropped again.
+
+Example: dobutsu show \"gle/.c./.C./ELG - -\" draws the board that a game begins with.
+`dobutsu value --help` says how a position is written.";
+
 /// Reads the words after the program's name. `--help`, `-h` and the subcommand `help`, alone or with the name of another
 /// one, give a help. As the first word `--version` asks for the version. A word that begins with `-` is an option, but for a lone `-`,
 /// the first `--` and what follows it.
@@ -259,7 +270,7 @@ fn names_subcommand(name: &str) -> bool
 {
     matches!(
         name,
-        "help" | "value" | "count" | "build" | "probe" | "line" | "check" | "look"
+        "help" | "value" | "count" | "build" | "probe" | "line" | "check" | "look" | "show"
     )
 }
 
@@ -274,7 +285,8 @@ fn dobutsu_command<'a>(alloc: Global) -> Result<Command<'a>, AllocError>
     let command = add_subcommand(command, probe_command(alloc));
     let command = add_subcommand(command, line_command(alloc));
     let command = add_subcommand(command, check_command(alloc));
-    add_subcommand(command, look_command(alloc))
+    let command = add_subcommand(command, look_command(alloc));
+    add_subcommand(command, show_command(alloc))
 }
 
 // The command with the subcommand, where memory was left for both. It takes their results, since a chain of `?` is slow
@@ -379,6 +391,16 @@ fn look_command<'a>(alloc: Global) -> Result<Command<'a>, AllocError>
     add_argument(command, position_argument(alloc))
 }
 
+// The subcommand `show`.
+fn show_command<'a>(alloc: Global) -> Result<Command<'a>, AllocError>
+    ensures { IfOk result (HasShape (form_app show_form)) }
+{
+    Command::new(alloc, "show")
+        .about("Draws the board of a position, with its squares' names and both hands")
+        .after_help(SHOW_HELP)
+        .arg(position_argument(alloc))
+}
+
 // The command with a further argument, where memory was left for it so far. It takes a result, as `add_subcommand` does.
 fn add_argument<'a>(
     command: Result<Command<'a>, AllocError>,
@@ -450,6 +472,7 @@ fn order_of<'a>(matches: &ArgMatches<'a>) -> Option<Order<'a>>
         "line" => orders::line_order(inner),
         "check" => orders::check_order(inner),
         "look" => orders::look_order(inner),
+        "show" => orders::show_order(inner),
         _ => None,
     }
 }

@@ -10,6 +10,7 @@ pub mod laws;
 mod looks;
 mod program;
 mod shelf;
+mod shows;
 mod tables;
 mod tally;
 

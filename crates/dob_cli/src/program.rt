@@ -18,6 +18,7 @@ use crate::counts::answer_count;
 use crate::fault::Fault;
 use crate::looks::answer_look;
 use crate::shelf::Shelf;
+use crate::shows::answer_show;
 use crate::tables::{answer_check, answer_line, answer_probe};
 use dob_dbfile::{Lent, Sink, put_all, write_all};
 use dob_text::read_position;
@@ -128,6 +129,7 @@ fn answer<S: Shelf>(
         Order::Line { file, position } => answer_line(alloc, shelf, file, position),
         Order::Check(file) => answer_check(rt, alloc, shelf, file),
         Order::Look { file, position } => answer_look(alloc, shelf, file, position),
+        Order::Show(position) => answer_show(alloc, position),
     }
 }
 

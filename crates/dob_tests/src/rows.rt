@@ -25,6 +25,30 @@ const TRIED: &str = ".../L../.../..l - -";
 
 const CHICK: &str = "..l/.../.../L.. C -";
 
+// The setup of `SHOWN` as `show` draws it, written by hand.
+const DRAWN: &str = "The other side: small letters, going down the board.
+In hand: cg
+
+     a   b   c
+   +---+---+---+
+ 4 |   |   | l | 4
+   +---+---+---+
+ 3 | e |   |   | 3
+   +---+---+---+
+ 2 |   |   | H | 2
+   +---+---+---+
+ 1 | L |   |   | 1
+   +---+---+---+
+     a   b   c
+
+The side to move: capital letters, going up the board.
+In hand: EG
+
+L lion, G giraffe, E elephant, C chick, H hen
+";
+
+const SHOWN: &str = "..l/e../..H/L.. EG cg";
+
 const LINES_OF_000: &str = "classes 54\nwin 38\nloss 12\ndraw 4\n";
 
 // In turn over one shelf, which has `lions.db`, the file of lions alone, and spoilt ones: `short.db` ends inside the record of
@@ -167,6 +191,8 @@ const ROWS: &[Row] = &[
         "dobutsu: E7 OtherSet\n",
     ),
     // one record of a file, of which neither the others nor the digest are read
+    (&["show", SHOWN], 0, DRAWN, ""),
+    (&["show", "L../.../.../..l - -"], 1, "", "dobutsu: E6 FarLion\n"),
     (&["look", "--db", "lions.db", WIN_3], 0, "win 3\n", ""),
     (&["look", "--db", "lions.db", LOSS_2], 0, "loss 2\n", ""),
     (&["look", "--db", "lions.db", DRAW], 0, "draw\n", ""),

@@ -1,5 +1,7 @@
 pub mod Letters
 pub mod MoveText
 pub mod PositionText
+pub mod Drawings
+pub mod Pictures
 pub mod Faults
 pub mod Readings

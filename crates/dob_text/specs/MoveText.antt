@@ -1,8 +1,9 @@
 -- The text of a move.
-use Rattle.std.specs.Prelude.{ℕ, ◌+◌, Bool, List, [], ◌∷◌, ◌++◌, if◌then◌else◌}
+use Rattle.std.specs.Prelude.{ℕ, ◌+◌, Bool, false, not, List, [], ◌∷◌, ◌++◌, codes, if◌then◌else◌}
+use Rattle.std.specs.Fmt.{decimal}
 use Rattle.dob_pieces.specs.declared.kind.Side.{Side}
 use Rattle.dob_pieces.specs.declared.kind.Side.TheVariants.{Mover, Enemy}
-use Rattle.dob_pieces.specs.Bytes.{asterisk, digit_one, hyphen, lower_a, lower_x, plus_sign}
+use Rattle.dob_pieces.specs.Bytes.{asterisk, digit_one, hyphen, line_feed, lower_a, lower_x, plus_sign}
 use Rattle.dob_pieces.specs.Squares.{column, row, turned_square}
 use Rattle.dob_pieces.specs.Pieces.{kind_on_board}
 use Rattle.dob_moves.specs.declared.game_move.Move.{Move}
@@ -34,3 +35,16 @@ move_text (Put kind to) second =
     cased (side_of second) (letter_of_kind (kind_on_board kind)) ∷ []
     ++ asterisk ∷ []
     ++ square_text (seen second to)
+
+-- a move on a line of its own with its number, where so many moves stand before it
+abbrev pub numbered_move : ℕ → Bool → Move → List ℕ
+numbered_move before second move = decimal (before + 1) ++ (codes ". " ++ (move_text move second ++ line_feed ∷ []))
+
+-- so the moves in turn, whose sides alternate
+abbrev pub numbered_from : ℕ → Bool → List Move → List ℕ
+numbered_from before second [] = []
+numbered_from before second (move ∷ moves) = numbered_move before second move ++ numbered_from (before + 1) (not second) moves
+
+-- the moves of a line, numbered from 1 on
+abbrev pub numbered_text : List Move → List ℕ
+numbered_text moves = numbered_from 0 false moves

@@ -36,7 +36,7 @@ fn push_board(text: &mut String, board: &[Option<Piece>; Square::COUNT]) -> Resu
 }
 
 /// Writes the letters of a hand at the end.
-fn push_letters(text: &mut String, side: Side, hand: Hand) -> Result<(), AllocError>
+pub(crate) fn push_letters(text: &mut String, side: Side, hand: Hand) -> Result<(), AllocError>
     ensures { OnOk result (string_bytes text.new ≡ string_bytes text.old ++ hand_letters side hand) }
 {
     push_times(text, piece_letter(side, Kind::Chick), hand.chicks)?;

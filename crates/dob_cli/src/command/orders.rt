@@ -1,7 +1,8 @@
 // What the matches of each subcommand ask for.
 ghost use Rattle.std.specs.Prelude.{IsSomeAnd, List, Some, codes};
 ghost use Rattle.clap.specs.Words.{found_of, rows_of};
-ghost use Rattle.dob_cli.specs.Forms.{Text, build_form, check_form, count_form, line_form, look_form, probe_form, value_form};
+ghost use Rattle.dob_cli.specs.Forms.{Text, build_form, check_form, count_form, line_form, look_form, probe_form, show_form};
+ghost use Rattle.dob_cli.specs.Forms.{value_form};
 ghost use Rattle.dob_cli.specs.Shapes.{Finds};
 ghost use Rattle.dob_cli.specs.Readings.{IsOrder};
 
@@ -75,4 +76,12 @@ pub(super) fn look_order<'a>(inner: &ArgMatches<'a>) -> Option<Order<'a>>
         file: inner.get_str("FILE")?,
         position: inner.get_str("POSITION")?,
     })
+}
+
+/// What the matches of `show` ask for.
+pub(super) fn show_order<'a>(inner: &ArgMatches<'a>) -> Option<Order<'a>>
+    ensures { (texts : List Text) → Finds show_form texts (Some (codes "show", rows_of (found_of inner.now)))
+        → IsSomeAnd result (IsOrder (codes "show") texts) }
+{
+    Some(Order::Show(inner.get_str("POSITION")?))
 }

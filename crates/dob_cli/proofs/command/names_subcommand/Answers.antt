@@ -21,4 +21,5 @@ returns-in_default c =
       apart (codes "line") name c.in_default.not-line,
       apart (codes "check") name c.in_default.not-check,
       apart (codes "look") name c.in_default.not-look,
+      apart (codes "show") name c.in_default.not-show,
     ) refl

@@ -1,6 +1,6 @@
 -- Each subcommand's own matches are those that were found, and no other form has its name.
 use Rattle.std.proofs.Common.{refl}
-use Rattle.dob_cli.specs.Forms.{build_form, check_form, count_form, line_form, look_form, probe_form, value_form}
+use Rattle.dob_cli.specs.Forms.{build_form, check_form, count_form, line_form, look_form, probe_form, show_form, value_form}
 use Rattle.dob_cli.proofs.Matches.{order_found}
 use Rattle.dob_cli.proofs.command.order_of.Goals as goal
 
@@ -38,3 +38,8 @@ pub returns-in-look : goal.returns-in-look
 returns-in-look c =
     order_found look_form refl c.args.matches.now c.in_ok-name.inner.now c.in_ok-name.name.now c.in-look.is c.in_ok-name.ensures.name
     c.in_ok-name.ensures.rows c.look_order.result c.look_order.ensures
+
+pub returns-in-show : goal.returns-in-show
+returns-in-show c =
+    order_found show_form refl c.args.matches.now c.in_ok-name.inner.now c.in_ok-name.name.now c.in-show.is c.in_ok-name.ensures.name
+    c.in_ok-name.ensures.rows c.show_order.result c.show_order.ensures
