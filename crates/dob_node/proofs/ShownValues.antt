@@ -1,7 +1,5 @@
--- The value that a class of a lawful world shows, and lists of values with one more.
-use Rattle.std.proofs.Common.{◌≡◌, ℕ, ◌+◌, ◌<◌, inl, inr, sym, ap, ◌∙◌, subst, arith, List, [], ◌∷◌, ◌++◌, length, Some, slice_get}
-use Rattle.std.proofs.lemmas.Bool.{cases_order}
-use Rattle.std.proofs.lemmas.List.{length-append, map-append, get_or_push, get_or_append_left}
+-- The value that a class of a lawful world shows, and lists of the values that all classes show.
+use Rattle.std.proofs.Common.{◌≡◌, ℕ, ◌<◌, sym, ap, ◌∙◌, subst, List, Some, get_or}
 use Rattle.std.proofs.lemmas.Option.{slice_get-get_or}
 use Rattle.dob_pieces.specs.declared.piece_set.PieceSet.{PieceSet}
 use Rattle.dob_moves.specs.declared.position_status.Status.{Status}
@@ -10,7 +8,8 @@ use Rattle.dob_moves.specs.Statuses.{HasStatus}
 use Rattle.dob_rank.specs.Marks.{classes_of}
 use Rattle.dob_rank.specs.ClassRows.{class_setup}
 use Rattle.dob_value.specs.declared.value.Value.{Value}
-use Rattle.dob_value.specs.Codes.{value_of_code, values_of_codes}
+use Rattle.dob_value.specs.declared.value.Value.TheVariants.{Draw}
+use Rattle.dob_value.specs.Follows.{AreGiven}
 use Rattle.dob_share.specs.declared.news.Settlement.{Settlement}
 use Rattle.dob_share.specs.declared.news.Item.{Item}
 use Rattle.dob_share.specs.Cells.{Cell, CellValue}
@@ -29,26 +28,12 @@ value_shown set n histories applied cell value lawful class low shown same Stuck
 value_shown set n histories applied cell value lawful class low shown same Open v has is = one_value shown v (value class) is
     (subst (λ c. CellValue c (value class)) same (lawful.cell_values class low has))
 
--- one value more
-pub values_more : (value : ℕ → Value) (class : ℕ) (codes new : List ℕ) (code : ℕ) (v : Value) → AreValuesBelow value class (values_of_codes codes) →
-    new ≡ codes ++ code ∷ [] → value_of_code code ≡ v → v ≡ value class → AreValuesBelow value (class + 1) (values_of_codes new)
-values_more value class codes new code v are is code_is shown = subst (λ xs. AreValuesBelow value (class + 1) xs)
-    (sym (ap (λ xs. values_of_codes xs) is ∙ map-append value_of_code codes (code ∷ []))) (record {
-      whole = length-append (values_of_codes codes) (value_of_code code ∷ []) ∙ ap (λ (k : ℕ). k + 1) are.whole;
-      each = λ k low. elim (cases_order k class) [
-        | inl same ↦ slice_get_last (values_of_codes codes) (value_of_code code) k (same ∙ sym are.whole)
-            ∙ ap Some (code_is ∙ shown ∙ ap value (sym same))
-        | inr order ↦ elim order [
-          | inl less ↦ slice_get_before (values_of_codes codes) (value_of_code code) k (subst (λ (m : ℕ). k < m) (sym are.whole) less) ∙ are.each k less
-          | inr more ↦ absurd (omega arith)
-        ]
-      ];
-    })
-  where
-    slice_get_last : (xs : List Value) (x : Value) (k : ℕ) → k ≡ length xs → slice_get (xs ++ x ∷ []) k ≡ Some x
-    slice_get_last xs x k is = slice_get-get_or (xs ++ x ∷ []) k x (let sum : length (xs ++ x ∷ []) ≡ length xs + 1 = length-append xs (x ∷ []) in omega arith)
-        ∙ ap Some (get_or_push xs x x k (sym is))
-
-    slice_get_before : (xs : List Value) (x : Value) (k : ℕ) → k < length xs → slice_get (xs ++ x ∷ []) k ≡ slice_get xs k
-    slice_get_before xs x k low = slice_get-get_or (xs ++ x ∷ []) k x (let sum : length (xs ++ x ∷ []) ≡ length xs + 1 = length-append xs (x ∷ []) in omega arith)
-        ∙ ap Some (get_or_append_left xs (x ∷ []) x k low) ∙ sym (slice_get-get_or xs k x low)
+-- values that are given for each class are those that each class has where no other is given
+pub values_given : (Gives : ℕ → Value → Type 0) (value : ℕ → Value) (count : ℕ) (values : List Value) → AreGiven Gives count values →
+    ((class : ℕ) (v : Value) → class < count → Gives class v → v ≡ value class) → AreValuesBelow value count values
+values_given Gives value count values given only = record {
+  whole = given.whole;
+  each = λ class low.
+      let there = slice_get-get_or values class Draw (subst (λ (k : ℕ). class < k) (sym given.whole) low) in
+      there ∙ ap Some (only class (get_or values class Draw) low (given.each class (get_or values class Draw) there));
+}

@@ -5,7 +5,7 @@ use Rattle.dob_pieces.specs.declared.piece_set.PieceSet.{PieceSet}
 use Rattle.dob_rank.specs.Marks.{classes_of}
 use Rattle.dob_value.specs.declared.value.Value.{Value}
 use Rattle.dob_value.specs.declared.value.Value.TheVariants.{Draw}
-use Rattle.dob_value.specs.Follows.{IsEntry, IsValueTable}
+use Rattle.dob_value.specs.Follows.{IsEntry, AreGiven, IsValueTable}
 use Rattle.dob_unmove.specs.Edges.{predecessors}
 use Rattle.dob_share.specs.declared.news.Settlement.{Settlement}
 use Rattle.dob_share.specs.declared.opening.Opening.{Opening}
@@ -17,7 +17,7 @@ use Rattle.dob_node.specs.Lawful.{IsLawful}
 use Rattle.dob_node.specs.declared.node.Node.{Node}
 use Rattle.dob_node.specs.Sole.{sole_history, sole_applied, sole_items, cells_below, HasCome, HasMade, IsDone, IsUnderWay}
 use Rattle.dob_node.proofs.Kept.{last_now-entry}
-use Rattle.dob_node.proofs.ShownValues.{value_shown}
+use Rattle.dob_node.proofs.ShownValues.{value_shown, values_given}
 use Rattle.dob_node.proofs.Soles.{one_owner, cell_below}
 use Rattle.dob_node.proofs.Ends.{lawful_is_right}
 
@@ -80,3 +80,12 @@ sole_right node steps count values made idle listed number =
     all zero zero low_i low_j = sym done
     all zero (suc j) low_i low_j = absurd (omega arith)
     all (suc i) j low_i low_j = absurd (omega arith)
+
+-- the table of the values that it shows is the value table
+pub sole_given : (node : Node) (steps : ℕ) (set : PieceSet) (values : List Value) → HasMade steps node → IsDone node → set ≡ node.set →
+    AreGiven (HasValueNow node.share) (classes_of set) values → IsValueTable node.set values
+sole_given node steps set values made idle same given =
+    let number = ap (λ (s : PieceSet). classes_of s) same in
+    sole_right node steps (classes_of set) values made idle
+    (values_given (HasValueNow node.share) (value_of node.history.settlements) (classes_of set) values given
+    (λ class v low has. shows node steps made class (subst (λ (k : ℕ). class < k) number low) v has)) number

@@ -1,11 +1,10 @@
 // One node that owns all classes of a piece set, and makes its value table alone.
-ghost use Rattle.std.specs.Prelude.{◌≡◌, ℕ, ◌+◌, ◌<◌, ◌≤◌, ◌↔◌, ◌⊎◌, true, false, All, Err, IfOk, IfErr, IfSome, OnOk, IsErrOf};
+ghost use Rattle.std.specs.Prelude.{◌≡◌, ℕ, ◌+◌, ◌<◌, ◌≤◌, ◌↔◌, ◌⊎◌, true, false, Err, IfOk, IfErr, IfSome, OnOk, IsErrOf};
 ghost use Rattle.dob_pieces.specs.declared.piece_set.PieceSet.{PieceSet as Set};
 ghost use Rattle.dob_rank.specs.Marks.{classes_of};
 ghost use Rattle.dob_rank.specs.Limits.{IsTooLarge};
-ghost use Rattle.dob_value.specs.Codes.{values_of_codes};
 ghost use Rattle.dob_value.specs.Follows.{IsValueTable};
-ghost use Rattle.dob_node.specs.Histories.{value_of, AreValuesBelow};
+ghost use Rattle.dob_share.specs.Shares.{IsOwn, HasValueNow};
 ghost use Rattle.dob_node.specs.Nodes.{IsSound};
 ghost use Rattle.dob_node.specs.Causes.{IsFaultOf};
 ghost use Rattle.dob_node.specs.Sole.{HasMade, IsDone, IsUnderWay, IsDoneWithin, HasStopped, IsTooDeepWithin};
@@ -15,7 +14,7 @@ use crate::node::Node;
 use crate::openings::opening;
 use dob_pieces::{Memory, PieceSet};
 use dob_rank::Classes;
-use dob_value::{Table, code_of_value};
+use dob_value::{Table, Value};
 use std::alloc::Global;
 
 /// The value table of a piece set, made by one node that owns all its classes in at most `limit` steps: each applies the
@@ -82,8 +81,11 @@ fn table_of(alloc: Global, node: Node, classes: Classes) -> Result<Table, Memory
     ensures set { IfOk result (λ table. table.set ≡ node.set) }
     ensures table { IfOk result (λ table. IsValueTable node.set table.values) }
 {
-    let codes = codes_of(alloc, &node, classes.class_count())?;
-    Ok(Table::new(classes, codes))
+    let value_at = |class: u64| -> Value
+        requires { IsOwn node.share class }
+        ensures { HasValueNow node.share class result }
+    { node.value(class) };
+    Table::from_fn(alloc, classes, value_at)
 }
 
 // Why there is no table where the node has stopped.
@@ -128,18 +130,4 @@ fn run(node: &mut Node, classes: &Classes, limit: u64) -> Result<(), Cause>
         }
     }
     Ok(())
-}
-
-// The codes of the values of all classes.
-fn codes_of(alloc: Global, node: &Node, count: u64) -> Result<Vec<u16>, Memory>
-    requires made { (steps : ℕ) × HasMade steps node.now }
-    requires count { count ≡ classes_of node.now.set }
-    ensures codes { IfOk result (λ codes. All (λ code. code < 65536) codes.items) }
-    ensures values { IfOk result (λ codes. AreValuesBelow (value_of node.now.history.settlements) count (values_of_codes codes.items)) }
-{
-    let mut codes = Vec::with_capacity(alloc, count as usize)?;
-    for class in 0..count {
-        codes.push(code_of_value(node.value(class)))?;
-    }
-    Ok(codes)
 }

@@ -9,6 +9,7 @@ pub mod Tables  -- tables during the sweeps
 pub mod Images  -- mirror images have one value
 pub mod ClassNumbers  -- each position has one entry
 pub mod Rows  -- tables in the order of the classes
+pub mod Listed  -- values that are given for each class
 -- The graph of a sweep.
 pub mod Successors  -- the successors of a class
 pub mod Bounds  -- no distance is above the number of classes

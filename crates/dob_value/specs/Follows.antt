@@ -66,6 +66,11 @@ pub record IsTable (set : PieceSet) (values : List Value) : Type 0 where
   pub classes : HasClasses set (length values)
   pub entries : All IsEntry values
 
+-- as many values as there are classes, each one that is given for its class
+pub record AreGiven (Gives : ℕ → Value → Type 0) (count : ℕ) (values : List Value) : Type 0 where
+  pub whole : length values ≡ count
+  pub each : (class : ℕ) (value : Value) → slice_get values class ≡ Some value → Gives class value
+
 -- A consistent table: each class's value follows from its status and its successors' values.
 pub record IsConsistent (set : PieceSet) (values : List Value) : Type 0 where
   pub table : IsTable set values

@@ -1,14 +1,16 @@
 // Tables of a piece set: a value for each of its classes.
-ghost use Rattle.std.specs.Prelude.{◌≡◌, ◌<◌, All, Some, length, vec_len, slice_get};
+ghost use Rattle.std.specs.Prelude.{◌≡◌, ◌<◌, ℕ, All, Some, IfOk, length, vec_len, slice_get};
+ghost use Rattle.dob_value.specs.declared.value.Value.{Value};
 ghost use Rattle.dob_rank.specs.Order.{IsPositionOf, HasClasses};
 ghost use Rattle.dob_rank.specs.Marks.{classes_of};
 ghost use Rattle.dob_value.specs.Codes.{values_of_codes};
-ghost use Rattle.dob_value.specs.Follows.{ClassTable, HasInTable, IsTable, class_table};
+ghost use Rattle.dob_value.specs.Follows.{ClassTable, HasInTable, IsTable, IsEntry, AreGiven, class_table};
 
-use crate::codes::value_of_code;
+use crate::codes::{code_of_value, value_of_code};
 use crate::value::Value;
-use dob_pieces::{PieceSet, Position};
+use dob_pieces::{Memory, PieceSet, Position};
 use dob_rank::Classes;
+use std::alloc::Global;
 use std::marker::Model;
 
 /// A piece set with one value for each of its classes: wins have odd and losses even distances, at most
@@ -35,6 +37,24 @@ impl Table {
         ensures { result ≡ class_table classes.set (values_of_codes codes.items) }
     {
         Table { classes, codes }
+    }
+
+    /// The table of those classes with the value that is given for each, which is asked for once, in the order of their
+    /// numbers.
+    ///
+    /// Error: `Memory`.
+    pub fn from_fn<F: Fn(u64) -> Value>(alloc: Global, classes: Classes, value_at: F) -> Result<Table, Memory>
+        requires asked { (class : ℕ) → class < classes_of classes.set → F.pre value_at class }
+        requires entries { (class : ℕ) (value : Value) → class < classes_of classes.set → F.post value_at class value → IsEntry value }
+        ensures set { IfOk result (λ table. table.set ≡ classes.set) }
+        ensures given { IfOk result (λ table. AreGiven (F.post value_at) (classes_of classes.set) table.values) }
+    {
+        let count = classes.class_count();
+        let mut codes = Vec::with_capacity(alloc, count as usize)?;
+        for class in 0..count {
+            codes.push(code_of_value(value_at(class)))?;
+        }
+        Ok(Table { classes, codes })
     }
 
     /// The piece set.
