@@ -48,6 +48,20 @@ returns-then-applied g c =
       none = c.in_ok-sent.ensures.own ∙ c.in_ok-applied.ensures.none;
       few = adds_one c.args.self.now c.take_one.new.self c.apply_all.new.self c.send_all.new.self _ _ _ c.in_ok-took.ensures
           (c.in_ok-applied.ensures.mail ∙ c.in_ok-expanded.ensures.mail) c.in_ok-sent.ensures;
+      took = _;
+      expanded = _;
+      applied = _;
+      sent = _;
+      small = _;
+      taker = c.take_one.new.self;
+      expander = c.expand_all.new.self;
+      sender = c.apply_all.new.self;
+      takes = c.in_ok-took.ensures;
+      expands = c.in_ok-expanded.ensures;
+      applies = c.in_ok-applied.ensures;
+      sends = c.in_ok-sent.ensures;
+      is_small = ?;
+      is_done = ?;
     }
 
 pub returns-else-applied : goal.returns-else-applied
@@ -61,4 +75,18 @@ returns-else-applied g c =
       none = c.in_ok-sent.ensures.own ∙ c.in_ok-applied.ensures.none;
       few = adds_one c.args.self.now c.take_one.new.self c.apply_all.new.self c.send_all.new.self _ _ _ c.in_ok-took.ensures
           (c.in_ok-applied.ensures.mail ∙ c.in_ok-expanded.ensures.mail) c.in_ok-sent.ensures;
+      took = _;
+      expanded = _;
+      applied = _;
+      sent = _;
+      small = _;
+      taker = c.take_one.new.self;
+      expander = c.expand_all.new.self;
+      sender = c.apply_all.new.self;
+      takes = c.in_ok-took.ensures;
+      expands = c.in_ok-expanded.ensures;
+      applies = c.in_ok-applied.ensures;
+      sends = c.in_ok-sent.ensures;
+      is_small = ?;
+      is_done = ?;
     }
