@@ -1,5 +1,5 @@
 -- What the parts of a runner's turn do, and when each has something to do.
-use Rattle.std.specs.Prelude.{◌≡◌, ◌≢◌, ◌↔◌, ◌⊎◌, ℕ, ◌+◌, ◌<◌, ◌≤◌, [], ◌∷◌, ◌++◌, Bool, true, false, None, Some, length, slice_get}
+use Rattle.std.specs.Prelude.{◌≡◌, ◌≢◌, ◌↔◌, ◌⊎◌, ℕ, ◌+◌, ◌<◌, ◌≤◌, [], ◌∷◌, ◌++◌, Bool, IsTrue, ◌||◌, true, false, None, Some, length, slice_get}
 use Rattle.dob_update.specs.Batches.{BatchView}
 use Rattle.dob_chan.specs.Ends.{sent_by, taken_by, take_told, WasEmpty}
 use Rattle.dob_node.specs.Nodes.{outbox_to, IsExpanded, HasApplied}
@@ -166,5 +166,5 @@ pub record Works (old new : Runner) (did : Bool) : Type 0 where
   pub expands : ExpandsSome taker expander expanded
   pub applies : AppliesAll expander sender applied
   pub sends : SendsAll small sender new sent
-  pub is_small : (small ≡ true) ↔ ((took ≡ false) × (sender.node.expanded ≡ length sender.node.history.settlements))
-  pub is_done : (did ≡ true) ↔ ((took ≡ true) ⊎ (expanded ≡ true) ⊎ (applied ≡ true) ⊎ (sent ≡ true))
+  pub is_small : IsTrue small ↔ ((took ≡ false) × (sender.node.expanded ≡ length sender.node.history.settlements))
+  pub is_done : did ≡ (took || expanded || applied || sent)
