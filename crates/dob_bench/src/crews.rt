@@ -10,7 +10,7 @@ use crate::watch::Watch;
 use anyhow::Result;
 use dob_pieces::{Memory, PieceSet};
 use dob_rank::Classes;
-use dob_run::{BATCH, Built, CAPACITY, run_nodes, scan};
+use dob_run::{BATCH, Built, run_nodes, scan};
 use dob_unmove::back_into;
 use dob_value::{Table, Value};
 use std::alloc::Global;
@@ -19,15 +19,16 @@ use std::sync::Wait;
 use std::thread::Threads;
 use std::time::Instant;
 
-/// Measures a build of the set by so many nodes.
+/// Measures a build of the set by so many nodes, with inboxes for so many batches.
 pub(crate) fn run<R: Print + Clock + AllocGlobal + Files + Threads + Wait + Sync>(
     rt: &R,
     set: PieceSet,
     nodes: usize,
+    capacity: usize,
 ) -> Result<()> {
     let start = Instant::now(rt)?;
     let watch = Watch::new(rt, start);
-    let built = run_nodes(rt, rt.alloc(), set, nodes, BATCH, CAPACITY, &watch)?;
+    let built = run_nodes(rt, rt.alloc(), set, nodes, BATCH, capacity, &watch)?;
     let seconds = start.elapsed(rt)?.as_secs_f64();
     tell_build(rt, &built, nodes, &watch, seconds)?;
     measure_parts(rt, set, &built.table, nodes, seconds)

@@ -2,7 +2,7 @@
 // words are a piece set, as `111`, and the name of a file for its table, or neither; with no word it goes over lions alone and
 // prints no times, so that what it prints is the same on each machine. With `--plain` in place of a file's name it measures the
 // plain programs of the rules and of the predecessors, each beside the body that goes by masks. `build`, a piece set and a number
-// of nodes measure a build by threads.
+// of nodes measure a build by threads, with inboxes for as many batches as a last number says, or as the program has them.
 #![tactic(auto)]
 
 mod builds;
@@ -17,6 +17,7 @@ mod watch;
 use anyhow::{Result, bail};
 use dob_pieces::PieceSet;
 use dob_rank::is_too_large;
+use dob_run::CAPACITY;
 use std::rt::{Clock, Files};
 use std::sync::Wait;
 use std::thread::Threads;
@@ -27,7 +28,7 @@ const LIONS_ALONE: PieceSet = PieceSet {
     giraffes: 0,
 };
 
-const USAGE: &str = "usage: dob_bench [CEG [FILE | --plain] | build CEG NODES]";
+const USAGE: &str = "usage: dob_bench [CEG [FILE | --plain] | build CEG NODES [CAPACITY]]";
 
 fn main(rt: HostRuntime) -> Result<()> {
     let words: Vec<String> = std::env::args(&rt)?.skip(1).collect(rt.alloc())?;
@@ -37,7 +38,11 @@ fn main(rt: HostRuntime) -> Result<()> {
         [text, word] if word.as_str() == "--plain" => plain::run(&rt, small_set(text.as_str())?),
         [text, name] => write_table(&rt, text.as_str(), name.as_str()),
         [word, text, nodes] if word.as_str() == "build" => {
-            measure_build(&rt, text.as_str(), nodes.as_str())
+            measure_build(&rt, text.as_str(), nodes.as_str(), CAPACITY)
+        }
+        [word, text, nodes, capacity] if word.as_str() == "build" => {
+            let capacity = number(capacity.as_str())?;
+            measure_build(&rt, text.as_str(), nodes.as_str(), capacity)
         }
         _ => bail!("other words\n{USAGE}"),
     }
@@ -69,16 +74,22 @@ fn write_table<R: Print + Clock + AllocGlobal + Files + Threads + Sync>(
     Ok(())
 }
 
-// Measures a build of the set of that text by as many nodes as the other text says.
+// Measures a build of the set of that text by as many nodes as the other text says, with inboxes for so many batches.
 fn measure_build<R: Print + Clock + AllocGlobal + Files + Threads + Wait + Sync>(
     rt: &R,
     text: &str,
     nodes: &str,
+    capacity: usize,
 ) -> Result<()> {
-    let Ok(nodes) = nodes.parse::<usize>() else {
-        bail!("no number of nodes\n{USAGE}");
+    crews::run(rt, small_set(text)?, number(nodes)?, capacity)
+}
+
+// The number of that text.
+fn number(text: &str) -> Result<usize> {
+    let Ok(number) = text.parse::<usize>() else {
+        bail!("no number\n{USAGE}");
     };
-    crews::run(rt, small_set(text)?, nodes)
+    Ok(number)
 }
 
 // The piece set of that text, if its classes can be opened.

@@ -10,8 +10,10 @@ use lib.ListN.{get_elem?}
 use Rattle.crossbeam_queue.specs.Fifo.{Pushes, Pops, Forks, Merges, Learns}
 use Rattle.crossbeam_queue.proofs.Lists.{at_set, at_snoc}
 use Rattle.dob_update.specs.Batches.{BatchView}
+use Rattle.dob_pieces.specs.Lists.{IsBeginning}
 use Rattle.dob_chan.specs.declared.rule.Note.{Note}
-use Rattle.dob_chan.specs.Inboxes.{most_batches, batches_of, sending, taking, resting, sent_by_ended, IsLawful, AreOf, AreLast, AreNext, AreLeft, FitsSender, FitsTaker, IsDelivered}
+use Rattle.dob_chan.specs.declared.rule.Told.{Told}
+use Rattle.dob_chan.specs.Inboxes.{most_batches, batches_of, sending, taking, resting, untold, sent_by_ended, IsLawful, AreOf, AreLast, AreNext, AreLeft, GoesOn, HasSent, HasTaken, FitsSender, FitsTaker, IsDelivered}
 
 at_end : {V : Type 0} → (l : List V) (a b : V) (j : ℕ) → get_elem? l j ≢ some b → get_elem? (l ++ a ∷ []) j ≡ some b → j ≡ length l
 at_end [] a b zero n e = refl
@@ -83,8 +85,26 @@ seats_apart seat a b pass at free same = some-ne-none pass (sym at ∙ ap seat s
 passes_apart : (seat : ℕ → Option ℕ) (a b p q : ℕ) → seat a ≡ some p → seat b ≡ some q → q ≢ p → a ≢ b
 passes_apart seat a b p q at bt apart same = apart (some-injective q p (sym bt ∙ ap seat (sym same) ∙ at))
 
+-- what begins a list begins it with one thing more
+nothing_left : {X : Type 0} → (l : List X) → l ++ [] ≡ l
+nothing_left [] = refl
+nothing_left (y ∷ ys) = ap (λ l. y ∷ l) (nothing_left ys)
+
+begins_it : {X : Type 0} → (l : List X) → IsBeginning l l
+begins_it l = ([], sym (nothing_left l))
+
+begins_more : {X : Type 0} → (front whole : List X) (x : X) → IsBeginning front whole → IsBeginning front (whole ++ x ∷ [])
+begins_more front whole x is = (is.0 ++ x ∷ [], ap (λ l. l ++ x ∷ []) is.1 ∙ append_assoc front is.0 (x ∷ []))
+
+-- what was told goes on when one batch more is sent, or taken
+sent_on : (told : Told) (sent taken : List BatchView) (x : BatchView) → GoesOn told sent taken → GoesOn told (sent ++ x ∷ []) taken
+sent_on told sent taken x is = (begins_more told.sent sent x is.0, is.1)
+
+taken_on : (told : Told) (sent taken : List BatchView) (x : BatchView) → GoesOn told sent taken → GoesOn told sent (taken ++ x ∷ [])
+taken_on told sent taken x is = (is.0, begins_more told.taken taken x is.1)
+
 -- a new inbox is lawful
-pub begins : IsDelivered [] (taking 0 0 [] [] ∷ [])
+pub begins : IsDelivered [] (taking 0 0 [] [] untold ∷ [])
 begins = record {
   senders = 0;
   taker = 0;
@@ -94,18 +114,33 @@ begins = record {
   lawful = refl;
   of_senders = λ k d below. absurd (omega (arith, below));
   few = λ from. omega arith;
-  each = each_set (λ pass v. FitsSender 0 (λ _. none) [] pass v × FitsTaker 0 0 (λ _. none) [] [] pass v) (taking 0 0 [] [] ∷ []) 0 (taking 0 0 [] [])
-      ((λ p. absurd (true≢false (sym p))), λ _. (refl, refl, refl, omega arith, omega arith, (λ k _. (refl, refl)), λ k below. absurd (omega (arith, below))))
+  each = each_set (λ pass v. FitsSender 0 (λ _. none) [] [] pass v × FitsTaker 0 0 (λ _. none) [] [] pass v) (taking 0 0 [] [] untold ∷ []) 0
+      (taking 0 0 [] [] untold)
+      (
+        (λ p. absurd (true≢false (sym p))),
+        λ _. (
+          refl,
+          refl,
+          refl,
+          omega arith,
+          omega arith,
+          (λ k _. (refl, refl)),
+          (λ k below. absurd (omega (arith, below))),
+          (begins_it [], begins_it []),
+        ),
+      )
       (λ j u other e. absurd (other (at_end [] _ u j (λ x. some-ne-none u (sym x)) e)));
 }
 
 -- a sender sends one more
-pub posts : (n port : ℕ) (v : Note) (x : BatchView) → v ≡ sending v.senders v.from v.sent → x.from ≡ v.from → length v.sent < most_batches
-    → Pushes IsDelivered n port v x (λ w. w ≡ sending v.senders v.from (v.sent ++ x ∷ []))
+pub posts : (n port : ℕ) (v : Note) (x : BatchView) → v ≡ sending v.senders v.from v.sent v.told → x.from ≡ v.from → length v.sent < most_batches
+    → Pushes IsDelivered n port v x (λ w. (w ≡ sending v.senders v.from (v.sent ++ x ∷ []) w.told) × HasSent v.from x w.sent v.told w.told)
 posts n port v x role own few held views _ h at =
-    let w : Note = sending v.senders v.from (v.sent ++ x ∷ []) in
     let mine = (h.each port v at).0 (ap (λ (y : Note). y.sends) role) in
     let sent = h.sent ++ x ∷ [] in
+    let told : Told = record { sent = sent; taken = h.taken } in
+    let w : Note = sending v.senders v.from (v.sent ++ x ∷ []) told in
+    let own_sent : v.sent ++ x ∷ [] ≡ batches_of v.from sent = ap (λ l. l ++ x ∷ []) mine.3 ∙ sym (own_more v.from h.sent x own) in
     let other_seat : (k : ℕ) → h.seat k ≡ none → x.from ≢ k = λ k free. λ same. seats_apart h.seat v.from k port mine.2 free (sym own ∙ same) in (
       w,
       record {
@@ -118,11 +153,16 @@ posts n port v x role own few held views _ h at =
         of_senders = All-append (λ (b : BatchView). b.from < h.senders) h.sent (x ∷ []) h.of_senders
             (of_one (λ (b : BatchView). b.from < h.senders) x (subst (λ (k : ℕ). k < h.senders) (sym own) mine.1));
         few = few_more h.sent x most_batches (subst (λ (l : List BatchView). length l < most_batches) (mine.3 ∙ ap (λ k. batches_of k h.sent) (sym own)) few) h.few;
-        each = each_set (λ pass y. FitsSender h.senders h.seat sent pass y × FitsTaker h.senders h.taker h.seat sent h.taken pass y) views port w
-            ((λ _. (mine.0, mine.1, mine.2, ap (λ l. l ++ x ∷ []) mine.3 ∙ sym (own_more v.from h.sent x own))), λ p. absurd (true≢false (sym p)))
+        each = each_set (λ pass y. FitsSender h.senders h.seat sent h.taken pass y × FitsTaker h.senders h.taker h.seat sent h.taken pass y) views port w
+            ((λ _. (mine.0, mine.1, mine.2, own_sent, (begins_it sent, begins_it h.taken))), λ p. absurd (true≢false (sym p)))
             (λ j u other e. (
-              (λ p. let f = (h.each j u e).0 p in
-                  (f.0, f.1, f.2, f.3 ∙ sym (others_more u.from h.sent x (λ same. passes_apart h.seat v.from u.from port j mine.2 f.2 other (sym own ∙ same))))),
+              (λ p. let f = (h.each j u e).0 p in (
+                f.0,
+                f.1,
+                f.2,
+                f.3 ∙ sym (others_more u.from h.sent x (λ same. passes_apart h.seat v.from u.from port j mine.2 f.2 other (sym own ∙ same))),
+                sent_on u.told h.sent h.taken x f.4,
+              )),
               λ p. let f = (h.each j u e).1 p in (
                 f.0,
                 f.1,
@@ -130,20 +170,21 @@ posts n port v x role own few held views _ h at =
                 f.3,
                 f.4,
                 (λ k from. let g = f.5 k from in (g.0, others_more k h.sent x (other_seat k g.0) ∙ g.1)),
-                λ k below. let g = f.6 k below in (g.0, g.1 ∙ sym (others_more k h.sent x (other_seat k g.0))),
+                (λ k below. let g = f.6 k below in (g.0, g.1 ∙ sym (others_more k h.sent x (other_seat k g.0)))),
+                sent_on u.told h.sent h.taken x f.7,
               ),
             ));
       },
-      refl,
+      (refl, (h.sent, refl, mine.4, sym own_sent)),
     )
 
--- a sender learns that what the inbox holds of it is the last that it sent
-pub last : (port : ℕ) (v : Note) → v ≡ sending v.senders v.from v.sent → Learns IsDelivered port v (AreLast v.senders v.from v.sent)
+-- a sender learns that what the inbox holds was sent and not taken
+pub last : (port : ℕ) (v : Note) → v ≡ sending v.senders v.from v.sent v.told → Learns IsDelivered port v (AreLast v.senders v.from v.sent v.told)
 last port v role held views h at =
     let mine = (h.each port v at).0 (ap (λ (y : Note). y.sends) role) in (
       of_last (λ (b : BatchView). b.from < v.senders) h.taken held
           (subst (λ (y : ℕ × List BatchView). AreOf y.0 y.1) (λ i. (sym mine.0 i, h.lawful i)) h.of_senders),
-      (batches_of v.from h.taken, mine.3 ∙ of_each v.from h.sent h.taken held h.lawful),
+      (h.sent, h.taken, h.lawful, sym mine.3, mine.4),
     )
 
 -- of a sender no more is taken than it sent
@@ -153,10 +194,19 @@ part_few from sent taken held x is =
     let whole = ap length (of_each from sent (taken ++ x ∷ []) held (is ∙ sym (append_assoc taken (x ∷ []) held))) in
     omega (arith, whole, length-append (batches_of from (taken ++ x ∷ [])) (batches_of from held))
 
+-- a sender's pass still fits when one batch more is taken
+sender_stays : (senders : ℕ) (seat : ℕ → Option ℕ) (sent taken : List BatchView) (x : BatchView) (pass : ℕ) (v : Note)
+    → FitsSender senders seat sent taken pass v → FitsSender senders seat sent (taken ++ x ∷ []) pass v
+sender_stays senders seat sent taken x pass v fits p = let f = fits p in (f.0, f.1, f.2, f.3, taken_on v.told sent taken x f.4)
+
+-- what is told of so much that was sent, where one batch more is taken
+abbrev told_next : List BatchView → List BatchView → BatchView → Told
+told_next sent taken x = record { sent = sent; taken = taken ++ x ∷ [] }
+
 -- the taker takes the first
 one_taken : (port : ℕ) (v : Note) (x : BatchView) (items : List BatchView) (views : List Note) → v.takes ≡ true
-    → IsDelivered (x ∷ items) views → get_elem? views port ≡ some v
-    → IsDelivered items (set views port (taking v.senders v.opened (v.taken ++ x ∷ []) v.ended))
+    → (h : IsDelivered (x ∷ items) views) → get_elem? views port ≡ some v
+    → IsDelivered items (set views port (taking v.senders v.opened (v.taken ++ x ∷ []) v.ended (told_next h.sent h.taken x)))
 one_taken port v x items views may h at =
     let mine = (h.each port v at).1 may in
     let taken = h.taken ++ x ∷ [] in record {
@@ -168,10 +218,16 @@ one_taken port v x items views may h at =
       lawful = h.lawful ∙ sym (append_assoc h.taken (x ∷ []) items);
       of_senders = h.of_senders;
       few = h.few;
-      each = each_set (λ pass y. FitsSender h.senders h.seat h.sent pass y × FitsTaker h.senders h.taker h.seat h.sent taken pass y) views port
-          (taking v.senders v.opened (v.taken ++ x ∷ []) v.ended)
-          ((λ p. absurd (true≢false (sym p))), λ _. (mine.0, mine.1, ap (λ l. l ++ x ∷ []) mine.2, mine.3, mine.4, mine.5, mine.6))
-          (λ j u other e. ((h.each j u e).0, λ p. absurd (other (((h.each j u e).1 p).1 ∙ sym mine.1))));
+      each = each_set (λ pass y. FitsSender h.senders h.seat h.sent taken pass y × FitsTaker h.senders h.taker h.seat h.sent taken pass y) views port
+          (taking v.senders v.opened (v.taken ++ x ∷ []) v.ended (told_next h.sent h.taken x))
+          (
+            (λ p. absurd (true≢false (sym p))),
+            λ _. (mine.0, mine.1, ap (λ l. l ++ x ∷ []) mine.2, mine.3, mine.4, mine.5, mine.6, (begins_it h.sent, begins_it taken)),
+          )
+          (λ j u other e. (
+            sender_stays h.senders h.seat h.sent h.taken x j u (h.each j u e).0,
+            λ p. absurd (other (((h.each j u e).1 p).1 ∙ sym mine.1)),
+          ));
     }
 
 -- what is taken is of one of the senders
@@ -183,29 +239,44 @@ of_sender port v x items views may h at =
     (subst (λ (y : ℕ × List BatchView). AreOf y.0 y.1) (λ i. (sym ((h.each port v at).1 may).0 i, h.lawful i)) h.of_senders))
 
 pub takes : (port : ℕ) (v : Note) → v.takes ≡ true → Pops IsDelivered port v
-    (λ x w. (w ≡ taking v.senders v.opened (v.taken ++ x ∷ []) v.ended) × (x.from < v.senders) × (length (batches_of x.from w.taken) ≤ most_batches))
+    (λ x w. (w ≡ taking v.senders v.opened (v.taken ++ x ∷ []) v.ended w.told) × (x.from < v.senders)
+    × (length (batches_of x.from w.taken) ≤ most_batches) × HasTaken w.taken v.told w.told)
 takes port v may x items views h at =
     let mine = (h.each port v at).1 may in
     let part = part_few x.from h.sent h.taken items x h.lawful in
-    let same = ap (λ (l : List BatchView). length (batches_of x.from (l ++ x ∷ []))) mine.2 in (
-      taking v.senders v.opened (v.taken ++ x ∷ []) v.ended,
+    let same = ap (λ (l : List BatchView). length (batches_of x.from (l ++ x ∷ []))) mine.2 in
+    let more = ap (λ (l : List BatchView). l ++ x ∷ []) mine.2 in (
+      taking v.senders v.opened (v.taken ++ x ∷ []) v.ended (told_next h.sent h.taken x),
       one_taken port v x items views may h at,
-      (refl, of_sender port v x items views may h at, (let most = h.few x.from in omega (arith, part, same, most))),
+      (
+        refl,
+        of_sender port v x items views may h at,
+        (let most = h.few x.from in omega (arith, part, same, most)),
+        (
+          sym more,
+          (items, h.lawful ∙ sym (append_assoc h.taken (x ∷ []) items) ∙ ap (λ l. l ++ items) (sym more)),
+          taken_on v.told h.sent h.taken x mine.7,
+        ),
+      ),
     )
 
 -- the taker learns that what the inbox holds comes next
-pub next : (port : ℕ) (v : Note) → v.takes ≡ true → Learns IsDelivered port v (AreNext v.taken)
-next port v may held views h at = (h.sent, h.lawful ∙ ap (λ l. l ++ held) (sym ((h.each port v at).1 may).2))
+pub next : (port : ℕ) (v : Note) → v.takes ≡ true → Learns IsDelivered port v (AreNext v.taken v.told)
+next port v may held views h at = let mine = (h.each port v at).1 may in (
+  h.sent,
+  h.lawful ∙ ap (λ l. l ++ held) (sym mine.2),
+  subst (λ (l : List BatchView). GoesOn v.told h.sent l) (sym mine.2) mine.7,
+)
 
 -- of senders that have ended no more is taken than they sent
 pub takes_left : (port : ℕ) (v : Note) → v.takes ≡ true → Pops IsDelivered port v
-    (λ x w. (w ≡ taking v.senders v.opened (v.taken ++ x ∷ []) v.ended) × (x.from < v.senders)
+    (λ x w. (w ≡ taking v.senders v.opened (v.taken ++ x ∷ []) v.ended w.told) × (x.from < v.senders)
     × (x.from < length v.ended → length (batches_of x.from w.taken) ≤ length (sent_by_ended v.ended x.from)))
 takes_left port v may x items views h at =
     let mine = (h.each port v at).1 may in
     let part = part_few x.from h.sent h.taken items x h.lawful in
     let same = ap (λ (l : List BatchView). length (batches_of x.from (l ++ x ∷ []))) mine.2 in (
-      taking v.senders v.opened (v.taken ++ x ∷ []) v.ended,
+      taking v.senders v.opened (v.taken ++ x ∷ []) v.ended (told_next h.sent h.taken x),
       one_taken port v x items views may h at,
       (
         refl,
@@ -221,14 +292,14 @@ left port v may held views h at = let mine = (h.each port v at).1 may in λ from
 
 -- the inbox is for one sender more, as long as none has a pass
 pub counts : (port : ℕ) (v : Note) → v.takes ≡ true → v.opened ≡ 0
-    → Forks IsDelivered port v (taking (suc v.senders) v.opened v.taken v.ended) resting
+    → Forks IsDelivered port v (taking (suc v.senders) v.opened v.taken v.ended v.told) resting
 counts port v may unopened held views h at =
     let mine = (h.each port v at).1 may in
-    let l : Note = taking (suc v.senders) v.opened v.taken v.ended in
-    let Now : ℕ → Note → Type 0 = λ j u. FitsSender (suc h.senders) h.seat h.sent j u × FitsTaker (suc h.senders) h.taker h.seat h.sent h.taken j u in
+    let l : Note = taking (suc v.senders) v.opened v.taken v.ended v.told in
+    let Now : ℕ → Note → Type 0 = λ j u. FitsSender (suc h.senders) h.seat h.sent h.taken j u × FitsTaker (suc h.senders) h.taker h.seat h.sent h.taken j u in
     let now : Each Now (set views port l) = each_set Now views port l (
       (λ p. absurd (true≢false (sym p))),
-      λ _. (ap suc mine.0, mine.1, mine.2, (let some = mine.3 in omega (arith, some)), mine.4, mine.5, mine.6),
+      λ _. (ap suc mine.0, mine.1, mine.2, (let some = mine.3 in omega (arith, some)), mine.4, mine.5, mine.6, mine.7),
     )
     (λ j u other e. (
       (λ p. absurd (some-ne-none j (sym ((h.each j u e).0 p).2 ∙ (mine.5 u.from (omega (arith, unopened))).0))),
@@ -251,16 +322,16 @@ counts port v may unopened held views h at =
 
 -- the next sender gets its pass
 pub opens : (port : ℕ) (v : Note) → v.takes ≡ true → v.opened < v.senders
-    → Forks IsDelivered port v (taking v.senders (suc v.opened) v.taken v.ended) (sending v.senders v.opened [])
+    → Forks IsDelivered port v (taking v.senders (suc v.opened) v.taken v.ended v.told) (sending v.senders v.opened [] untold)
 opens port v may more held views h at =
     let mine = (h.each port v at).1 may in
-    let l : Note = taking v.senders (suc v.opened) v.taken v.ended in
-    let r : Note = sending v.senders v.opened [] in
+    let l : Note = taking v.senders (suc v.opened) v.taken v.ended v.told in
+    let r : Note = sending v.senders v.opened [] untold in
     let vs : List Note = set views port l in
     let seat : ℕ → Option ℕ = with_seat v.opened (some (length vs)) h.seat in
     let free = (mine.5 v.opened (omega arith)).0 in
     let kept : (k : ℕ) → k ≢ v.opened → seat k ≡ h.seat k = λ k apart. seat_else v.opened (some (length vs)) h.seat k apart in
-    let Old : ℕ → Note → Type 0 = λ j u. FitsSender h.senders h.seat h.sent j u × FitsTaker h.senders h.taker seat h.sent h.taken j u in
+    let Old : ℕ → Note → Type 0 = λ j u. FitsSender h.senders h.seat h.sent h.taken j u × FitsTaker h.senders h.taker seat h.sent h.taken j u in
     let old : Each Old vs = each_set Old views port l (
       (λ p. absurd (true≢false (sym p))),
       λ _. (
@@ -270,7 +341,8 @@ opens port v may more held views h at =
         (let all = mine.0 in omega (arith, more, all)),
         (let fewer = mine.4 in omega (arith, fewer)),
         (λ k from. let g = mine.5 k (omega (arith, from)) in (kept k (λ same. omega (arith, from, same)) ∙ g.0, g.1)),
-        λ k below. let g = mine.6 k below in (kept k (λ same. (let fewer = mine.4 in omega (arith, below, same, fewer))) ∙ g.0, g.1),
+        (λ k below. let g = mine.6 k below in (kept k (λ same. (let fewer = mine.4 in omega (arith, below, same, fewer))) ∙ g.0, g.1)),
+        mine.7,
       ),
     )
     (λ j u other e. ((h.each j u e).0, λ p. absurd (other (((h.each j u e).1 p).1 ∙ sym mine.1)))) in record {
@@ -284,7 +356,7 @@ opens port v may more held views h at =
       few = h.few;
       each = λ j u e. ⊎_elim
           (λ x. let o = old j u x in
-          ((λ p. let f = o.0 p in (f.0, f.1, kept u.from (seats_apart h.seat u.from v.opened j f.2 free) ∙ f.2, f.3)), o.1))
+          ((λ p. let f = o.0 p in (f.0, f.1, kept u.from (seats_apart h.seat u.from v.opened j f.2 free) ∙ f.2, f.3, f.4)), o.1))
           (λ (is : r ≡ u). (
             (λ p.
                 let place : j ≡ length vs = at_end vs r u j
@@ -293,6 +365,7 @@ opens port v may more held views h at =
                   subst (λ (y : ℕ × ℕ). y.0 < y.1) (λ i. ((ap (λ (y : Note). y.from) is) i, mine.0 i)) more,
                   seat_here v.opened (some (length vs)) h.seat u.from (sym (ap (λ (y : Note). y.from) is)) ∙ ap some (sym place),
                   sym (ap (λ (y : Note). y.sent) is) ∙ sym (mine.5 v.opened (omega arith)).1 ∙ ap (λ k. batches_of k h.sent) (ap (λ (y : Note). y.from) is),
+                  subst (λ (t : Told). GoesOn t h.sent h.taken) (ap (λ (y : Note). y.told) is) ((h.sent, refl), (h.taken, refl)),
                 )),
             λ p. absurd (true≢false (sym (ap (λ (y : Note). y.takes) is ∙ p))),
           ))
@@ -313,9 +386,9 @@ the_end xs x d k is = ap (λ j. slice_index_or (xs ++ x ∷ []) j d) is ∙ at x
 
 -- the next sender has ended
 pub ends : (port : ℕ) (v : Note) (other : ℕ) (u : Note) → v.takes ≡ true → u.sends ≡ true → u.from ≡ length v.ended
-    → Merges IsDelivered port v other u (taking v.senders v.opened v.taken (v.ended ++ u.sent ∷ [])) resting
+    → Merges IsDelivered port v other u (taking v.senders v.opened v.taken (v.ended ++ u.sent ∷ []) v.told) resting
 ends port v other u may sends place held views h at two at' =
-    let both : Note = taking v.senders v.opened v.taken (v.ended ++ u.sent ∷ []) in
+    let both : Note = taking v.senders v.opened v.taken (v.ended ++ u.sent ∷ []) v.told in
     let mine = (h.each port v at).1 may in
     let vs : List Note = set views port both in
     let was : get_elem? views other ≡ some u = ⊎_elim (λ x. absurd (two x.0)) (λ x. x.1) (at_set views port other both u at') in
@@ -324,7 +397,7 @@ ends port v other u may sends place held views h at two at' =
     let gone : (k : ℕ) → h.seat k ≡ none → seat k ≡ none = λ k free. seat_else u.from none h.seat k (λ same. seats_apart h.seat u.from k other theirs.2 free (sym same)) ∙ free in
     let unended : length v.ended < v.opened = ⊎_elim (λ x. x)
     (λ x. absurd (some-ne-none other (sym theirs.2 ∙ (mine.5 u.from (omega (arith, x, place))).0))) (cases_lt (length v.ended) v.opened) in
-    let Now : ℕ → Note → Type 0 = λ j y. j ≢ other → FitsSender h.senders seat h.sent j y × FitsTaker h.senders h.taker seat h.sent h.taken j y in
+    let Now : ℕ → Note → Type 0 = λ j y. j ≢ other → FitsSender h.senders seat h.sent h.taken j y × FitsTaker h.senders h.taker seat h.sent h.taken j y in
     let now : Each Now vs = each_set Now views port both
     (λ _. (
       (λ p. absurd (true≢false (sym p))),
@@ -335,19 +408,20 @@ ends port v other u may sends place held views h at two at' =
         mine.3,
         omega (arith, unended, length-append v.ended (u.sent ∷ [])),
         (λ k from. let g = mine.5 k from in (gone k g.0, g.1)),
-        λ k below. ⊎_elim
+        (λ k below. ⊎_elim
             (λ earlier. let g = mine.6 k earlier in (gone k g.0, before_end v.ended u.sent [] k earlier ∙ g.1))
             (λ later.
             let here : k ≡ length v.ended = omega (arith, later, below, length-append v.ended (u.sent ∷ [])) in (
               seat_here u.from none h.seat k (here ∙ sym place),
               the_end v.ended u.sent [] k here ∙ theirs.3 ∙ ap (λ j. batches_of j h.sent) (place ∙ sym here),
             ))
-            (cases_lt k (length v.ended)),
+            (cases_lt k (length v.ended))),
+        mine.7,
       ),
     ))
     (λ j y away e apart. (
       (λ p. let f = (h.each j y e).0 p in
-          (f.0, f.1, seat_else u.from none h.seat y.from (passes_apart h.seat y.from u.from j other f.2 theirs.2 (λ same. apart (sym same))) ∙ f.2, f.3)),
+          (f.0, f.1, seat_else u.from none h.seat y.from (passes_apart h.seat y.from u.from j other f.2 theirs.2 (λ same. apart (sym same))) ∙ f.2, f.3, f.4)),
       λ p. absurd (away (((h.each j y e).1 p).1 ∙ sym mine.1)),
     )) in record {
       senders = h.senders;
@@ -358,6 +432,6 @@ ends port v other u may sends place held views h at two at' =
       lawful = h.lawful;
       of_senders = h.of_senders;
       few = h.few;
-      each = each_set (λ j y. FitsSender h.senders seat h.sent j y × FitsTaker h.senders h.taker seat h.sent h.taken j y) vs other resting
+      each = each_set (λ j y. FitsSender h.senders seat h.sent h.taken j y × FitsTaker h.senders h.taker seat h.sent h.taken j y) vs other resting
           ((λ p. absurd (true≢false (sym p))), λ p. absurd (true≢false (sym p))) (λ j y apart e. now j y e apart);
     }

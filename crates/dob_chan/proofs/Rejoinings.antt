@@ -35,10 +35,10 @@ pub record IsEnding (all left : List SendEnd) (old new : Pass BatchView Note) : 
   pub same : IsSamePass old new
   pub done : List SendEnd
   pub split : all ≡ done ++ left
-  pub ended : view new ≡ taking (view old).senders (view old).opened (view old).taken (map sent_by done)
+  pub ended : view new ≡ taking (view old).senders (view old).opened (view old).taken (map sent_by done) (view old).told
 
 pub ending_begins : (all left : List SendEnd) (old : Pass BatchView Note) → left ≡ all
-    → view old ≡ taking (view old).senders (view old).opened (view old).taken [] → IsEnding all left old old
+    → view old ≡ taking (view old).senders (view old).opened (view old).taken [] (view old).told → IsEnding all left old old
 ending_begins all left old is role = record { same = (refl, refl, refl); done = []; split = sym is; ended = role }
 
 -- the next end stands where as many have ended
@@ -56,19 +56,19 @@ next_ends all left after send old new inv is ends =
 
 pub ending_goes_on : (all left after : List SendEnd) (send : SendEnd) (old now new : Pass BatchView Note) (inv : IsEnding all left old now) → left ≡ send ∷ after
     → IsSamePass now new
-    → view new ≡ taking (view now).senders (view now).opened (view now).taken ((view now).ended ++ sent_by send ∷ [])
+    → view new ≡ taking (view now).senders (view now).opened (view now).taken ((view now).ended ++ sent_by send ∷ []) (view now).told
     → IsEnding all after old new
 ending_goes_on all left after send old now new inv is same role = record {
   same = (same.0 ∙ inv.same.0, same.1 ∙ inv.same.1, same.2 ∙ inv.same.2);
   done = inv.done ++ send ∷ [];
   split = inv.split ∙ ap (λ l. inv.done ++ l) is ∙ sym (append_assoc inv.done (send ∷ []) after);
-  ended = role ∙ ap (λ (v : Note). taking v.senders v.opened v.taken (v.ended ++ sent_by send ∷ [])) inv.ended
-      ∙ ap (λ l. taking (view old).senders (view old).opened (view old).taken l) (sym (map-append sent_by inv.done (send ∷ [])));
+  ended = role ∙ ap (λ (v : Note). taking v.senders v.opened v.taken (v.ended ++ sent_by send ∷ []) v.told) inv.ended
+      ∙ ap (λ l. taking (view old).senders (view old).opened (view old).taken l (view old).told) (sym (map-append sent_by inv.done (send ∷ [])));
 }
 
 pub all_ended : (all left : List SendEnd) (old new : Pass BatchView Note) (inv : IsEnding all left old new) → left ≡ []
-    → view new ≡ taking (view old).senders (view old).opened (view old).taken (map sent_by all)
-all_ended all left old new inv is = inv.ended ∙ ap (λ l. taking (view old).senders (view old).opened (view old).taken (map sent_by l))
+    → view new ≡ taking (view old).senders (view old).opened (view old).taken (map sent_by all) (view old).told
+all_ended all left old new inv is = inv.ended ∙ ap (λ l. taking (view old).senders (view old).opened (view old).taken (map sent_by l) (view old).told)
     (sym (inv.split ∙ ap (λ l. inv.done ++ l) is ∙ nothing_more inv.done))
 
 -- one room more
@@ -81,13 +81,13 @@ one_room sends taken rooms room send at has all k s r here there = ⊎_elim
 
 -- Rooms are filled with what was taken since.
 pub record IsFilling (first now : Note) (olds news : List Rejoined) : Type 0 where
-  pub role : now ≡ taking first.senders first.opened now.taken first.ended
+  pub role : now ≡ taking first.senders first.opened now.taken first.ended now.told
   pub count : length news ≡ length olds
   pub each : (k : ℕ) (old new : Rejoined) → slice_get olds k ≡ Some old → slice_get news k ≡ Some new
       → (new.sent ≡ old.sent) × (new.received ≡ old.received) × (batches_of k now.taken ≡ batches_of k first.taken ++ new.waiting.items)
       × (vec_capacity old.waiting ≤ vec_capacity new.waiting)
 
-pub filling_begins : (first : Note) (olds : List Rejoined) → first ≡ taking first.senders first.opened first.taken first.ended
+pub filling_begins : (first : Note) (olds : List Rejoined) → first ≡ taking first.senders first.opened first.taken first.ended first.told
     → AreRoomy first.ended first.taken olds → IsFilling first first olds olds
 filling_begins first olds role roomy = record {
   role = role;
@@ -101,7 +101,7 @@ filling_begins first olds role roomy = record {
 -- what is taken next has room
 pub has_room : (first now new : Note) (olds news : List Rejoined) (x : BatchView) (room : Rejoined) → IsFilling first now olds news
     → length first.ended ≡ length olds → AreRoomy first.ended first.taken olds → slice_get news x.from ≡ Some room
-    → new ≡ taking now.senders now.opened (now.taken ++ x ∷ []) now.ended
+    → new ≡ taking now.senders now.opened (now.taken ++ x ∷ []) now.ended new.told
     → (x.from < length now.ended → length (batches_of x.from new.taken) ≤ length (sent_by_ended now.ended x.from))
     → length room.waiting.items < vec_capacity room.waiting
 has_room first now new olds news x room inv many roomy at role few =
@@ -122,12 +122,12 @@ has_room first now new olds news x room inv many roomy at role few =
 
 -- one batch more went into its sender's room
 pub filling_goes_on : (first now new : Note) (olds news more : List Rejoined) (x : BatchView) → IsFilling first now olds news
-    → new ≡ taking now.senders now.opened (now.taken ++ x ∷ []) now.ended → length more ≡ length news
+    → new ≡ taking now.senders now.opened (now.taken ++ x ∷ []) now.ended new.told → length more ≡ length news
     → ((a b : Rejoined) → slice_get news x.from ≡ Some a → slice_get more x.from ≡ Some b → HasOneMoreWaiting a x b)
     → ((k : ℕ) → k ≢ x.from → slice_get more k ≡ slice_get news k) → IsFilling first new olds more
 filling_goes_on first now new olds news more x inv role count here others = record {
-  role = role ∙ ap (λ (v : Note). taking v.senders v.opened (now.taken ++ x ∷ []) v.ended) inv.role
-      ∙ ap (λ l. taking first.senders first.opened l first.ended) (sym (ap (λ (v : Note). v.taken) role));
+  role = role ∙ ap (λ (v : Note). taking v.senders v.opened (now.taken ++ x ∷ []) v.ended new.told) inv.role
+      ∙ ap (λ l. taking first.senders first.opened l first.ended new.told) (sym (ap (λ (v : Note). v.taken) role));
   count = count ∙ inv.count;
   each = λ k old b was at. ⊎_elim
       (λ same.

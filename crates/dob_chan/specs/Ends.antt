@@ -4,10 +4,11 @@ use Rattle.std.specs.Arc.{arc_value}
 use Rattle.crossbeam_queue.specs.Passes.{Pass, view, ruled_capacity}
 use Rattle.dob_update.specs.Batches.{BatchView}
 use Rattle.dob_chan.specs.declared.rule.Note.{Note}
+use Rattle.dob_chan.specs.declared.rule.Told.{Told}
 use Rattle.dob_chan.specs.declared.ends.SendEnd.{SendEnd}
 use Rattle.dob_chan.specs.declared.ends.TakeEnd.{TakeEnd}
 use Rattle.dob_chan.specs.declared.ends.Rejoined.{Rejoined}
-use Rattle.dob_chan.specs.Inboxes.{IsLawful, AreLast, batches_of}
+use Rattle.dob_chan.specs.Inboxes.{IsLawful, AreLast, AreNext, batches_of}
 
 -- the batches that the end has sent, in order
 abbrev pub sent_by : SendEnd → List BatchView
@@ -26,6 +27,13 @@ taken_by end = (view end.pass).taken
 
 abbrev pub taken_of : TakeEnd → ℕ → List BatchView
 taken_of end from = batches_of from (taken_by end)
+
+-- what the end was told of its inbox, by its last batch
+abbrev pub send_told : SendEnd → Told
+send_told end = (view end.pass).told
+
+abbrev pub take_told : TakeEnd → Told
+take_told end = (view end.pass).told
 
 -- how many senders the inbox is for
 abbrev pub senders_of : TakeEnd → ℕ
@@ -66,13 +74,13 @@ abbrev pub AreStill : List SendEnd → List SendEnd → Type 0
 AreStill olds news = (length news ≡ length olds)
     × ((k : ℕ) (old new : SendEnd) → slice_get olds k ≡ Some old → slice_get news k ≡ Some new → SendsToSame old new)
 
--- At some moment the inbox was full of batches of its senders, and of these the sender's own were the last that it sent.
-abbrev pub WasFull : ℕ → ℕ → ℕ → List BatchView → Type 0
-WasFull capacity senders from sent = (held : List BatchView) × (length held ≡ capacity) × AreLast senders from sent held
+-- At some moment after what was told the inbox was full of batches of its senders, and that sender had sent just its own.
+abbrev pub WasFull : ℕ → ℕ → ℕ → List BatchView → Told → Type 0
+WasFull capacity senders from own told = (held : List BatchView) × (length held ≡ capacity) × AreLast senders from own told held
 
--- At some moment the inbox was empty: what had been sent was what was taken.
-abbrev pub WasEmpty : List BatchView → Type 0
-WasEmpty taken = (sent held : List BatchView) × (length held ≡ 0) × IsLawful sent taken held
+-- At some moment after what was told the inbox was empty: what had been sent was what was taken.
+abbrev pub WasEmpty : List BatchView → Told → Type 0
+WasEmpty taken told = (held : List BatchView) × (length held ≡ 0) × AreNext taken told held
 
 -- what went through an inbox from one sender: what it sent is what was taken of it and then what is left
 abbrev pub IsRejoined : SendEnd → List BatchView → Rejoined → Type 0

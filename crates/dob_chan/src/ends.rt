@@ -20,7 +20,7 @@ pub struct SendEnd {
     pub(crate) from: usize,
     pub(crate) sent: u64,
     ghost seated: { IsPassOf (arc_value inbox) pass },
-    ghost role: { view pass ≡ sending (view pass).senders from (view pass).sent },
+    ghost role: { view pass ≡ sending (view pass).senders from (view pass).sent (view pass).told },
     ghost counted: { sent ≡ length (view pass).sent },
     ghost few: { sent ≤ most_batches },
 }
@@ -32,7 +32,7 @@ pub struct TakeEnd {
     pub(crate) pass: Pass<Batch, Note>,
     pub(crate) taken: Vec<u64>,
     ghost seated: { IsPassOf (arc_value inbox) pass },
-    ghost role: { view pass ≡ taking (vec_len taken) (vec_len taken) (view pass).taken [] },
+    ghost role: { view pass ≡ taking (vec_len taken) (vec_len taken) (view pass).taken [] (view pass).told },
     ghost counted: { (k : ℕ) → k < vec_len taken → slice_index taken.items k ≡ length (batches_of k (view pass).taken) },
     ghost few: { (k : ℕ) → k < vec_len taken → slice_index taken.items k ≤ most_batches },
 }

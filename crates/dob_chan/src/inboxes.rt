@@ -2,8 +2,8 @@
 ghost use Rattle.std.specs.Prelude.{◌≡◌, ℕ, suc, ◌<◌, ◌≤◌, ◌+◌, [], ◌∷◌, ◌++◌, length, vec_len, vec_capacity, slice_get, slice_index, Some, IfOk, OnOk, IfErr, MatchOption};
 ghost use Rattle.std.specs.Arc.{arc_value};
 ghost use Rattle.crossbeam_queue.specs.Passes.{view, IsPassOf, IsSamePass, ruled_capacity};
-ghost use Rattle.dob_chan.specs.Inboxes.{most_batches, batches_of, sending, taking};
-ghost use Rattle.dob_chan.specs.Ends.{sent_by, place_of, senders_beside, taken_by, taken_of, senders_of, capacity_of, IsOpened, AreOpened, AreEndsOf, SendsToSame, TakesFromSame, WasFull, WasEmpty};
+ghost use Rattle.dob_chan.specs.Inboxes.{most_batches, batches_of, sending, taking, untold, HasSent, HasTaken};
+ghost use Rattle.dob_chan.specs.Ends.{sent_by, place_of, senders_beside, taken_by, taken_of, senders_of, capacity_of, IsOpened, AreOpened, AreEndsOf, SendsToSame, TakesFromSame, WasFull, WasEmpty, send_told, take_told};
 
 use crate::ends::{Full, Inbox, SendEnd, TakeEnd};
 use crate::rule::{Counts, Note, Opens, Sends, Takes};
@@ -36,10 +36,10 @@ pub fn inbox(
 // Tells the taking pass, and so the passes to come, how many senders there will be.
 fn count(inbox: &Inbox, pass: &mut Pass<Batch, Note>, senders: usize)
     requires seat { IsPassOf inbox.now pass.old }
-    requires role { view pass.old ≡ taking 0 0 [] [] }
+    requires role { view pass.old ≡ taking 0 0 [] [] untold }
     requires few { senders ≤ 16 }
     ensures seat { IsPassOf inbox.now pass.new }
-    ensures role { view pass.new ≡ taking senders 0 [] [] }
+    ensures role { view pass.new ≡ taking senders 0 [] [] untold }
 {
     for _ in 0..senders {
         inbox.another::<Counts>(pass);
@@ -54,10 +54,10 @@ fn open_all(
     senders: usize,
 ) -> Result<Vec<SendEnd>, AllocError>
     requires seat { IsPassOf (arc_value inbox.now) pass.old }
-    requires role { view pass.old ≡ taking senders 0 [] [] }
+    requires role { view pass.old ≡ taking senders 0 [] [] untold }
     requires few { senders ≤ 16 }
     ensures seat { IsPassOf (arc_value inbox.now) pass.new }
-    ensures role { IfOk result (λ _. view pass.new ≡ taking senders senders [] []) }
+    ensures role { IfOk result (λ _. view pass.new ≡ taking senders senders [] [] untold) }
     ensures opened { IfOk result (λ sends. (length sends.items ≡ senders) × AreOpened pass.new (ruled_capacity (arc_value inbox.now)) senders sends.items) }
 {
     let mut sends = Vec::with_capacity(alloc, senders)?;
@@ -76,10 +76,10 @@ fn open_next(
     senders: usize,
 ) -> Result<SendEnd, AllocError>
     requires seat { IsPassOf (arc_value inbox.now) pass.old }
-    requires role { view pass.old ≡ taking senders from [] [] }
+    requires role { view pass.old ≡ taking senders from [] [] untold }
     requires within { from < senders }
     ensures seat { IsSamePass pass.old pass.new }
-    ensures role { IfOk result (λ _. view pass.new ≡ taking senders (suc from) [] []) }
+    ensures role { IfOk result (λ _. view pass.new ≡ taking senders (suc from) [] [] untold) }
     ensures opened { IfOk result (IsOpened pass.old (ruled_capacity (arc_value inbox.now)) senders from) }
 {
     let shared = Arc::try_clone(inbox)?;
@@ -108,15 +108,16 @@ impl SendEnd {
     }
 
     /// Sends a batch of its owner, if the inbox has room; tries once. `Full` with the batch only where the inbox held its
-    /// capacity, of all senders together, at some moment of the call; then nothing is sent. Its promises hold if it
-    /// returns.
+    /// capacity, of all senders together, at some moment of the call; then nothing is sent. The end is told what all had sent
+    /// and what was taken when its batch went in, and the inbox was full after that. Its promises hold if it returns.
     pub fn offer<R: Wait>(&mut self, rt: &R, batch: Batch) -> Result<(), Full>
         requires few { length (sent_by self.old) < most_batches }
         requires own { batch.from ≡ place_of self.old }
         ensures same { SendsToSame self.old self.new }
         ensures sent { OnOk result (sent_by self.new ≡ sent_by self.old ++ batch ∷ []) }
-        ensures back { IfErr result (λ full. (full.batch ≡ batch) × (sent_by self.new ≡ sent_by self.old)) }
-        ensures full { IfErr result (λ full. WasFull (capacity_of self.old) (senders_beside self.old) (place_of self.old) (sent_by self.old)) }
+        ensures told { OnOk result (HasSent (place_of self.old) batch (sent_by self.new) (send_told self.old) (send_told self.new)) }
+        ensures back { IfErr result (λ full. (full.batch ≡ batch) × (sent_by self.new ≡ sent_by self.old) × (send_told self.new ≡ send_told self.old)) }
+        ensures full { IfErr result (λ full. WasFull (capacity_of self.old) (senders_beside self.old) (place_of self.old) (sent_by self.old) (send_told self.old)) }
     {
         match self.inbox.push_as::<Sends, R>(rt, &mut self.pass, batch) {
             Ok(()) => {
@@ -136,13 +137,15 @@ impl TakeEnd {
         &self.taken
     }
 
-    /// Takes the next batch, if the inbox has one; tries once. `None` only where it was empty at some moment of the call.
-    /// Its promises hold if it returns.
+    /// Takes the next batch, if the inbox has one; tries once. `None` only where it was empty at some moment of the call. With a
+    /// batch the end is told what had been sent when it came out, and the inbox was empty after that. Its promises hold if it
+    /// returns.
     pub fn next<R: Wait>(&mut self, rt: &R) -> Option<Batch>
         ensures same { TakesFromSame self.old self.new }
         ensures next { MatchOption result
-            ((taken_by self.new ≡ taken_by self.old) × WasEmpty (taken_by self.old))
-            (λ batch. (batch.from < senders_of self.old) × (taken_by self.new ≡ taken_by self.old ++ batch ∷ [])) }
+            ((taken_by self.new ≡ taken_by self.old) × (take_told self.new ≡ take_told self.old) × WasEmpty (taken_by self.old) (take_told self.old))
+            (λ batch. (batch.from < senders_of self.old) × (taken_by self.new ≡ taken_by self.old ++ batch ∷ [])
+                × HasTaken (taken_by self.new) (take_told self.old) (take_told self.new)) }
     {
         let batch = self.inbox.pop_as::<Takes, R>(rt, &mut self.pass)?;
         self.taken[batch.from()] += 1;

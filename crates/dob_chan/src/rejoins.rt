@@ -67,10 +67,10 @@ fn room_for(alloc: Global, sent: u64, received: u64) -> Result<Rejoined, AllocEr
 // The taking pass learns what each sender sent.
 fn end_all(inbox: &Inbox, pass: &mut Pass<Batch, Note>, sends: Vec<SendEnd>)
     requires seat { IsPassOf inbox.now pass.old }
-    requires role { view pass.old ≡ taking (view pass.old).senders (view pass.old).opened (view pass.old).taken [] }
+    requires role { view pass.old ≡ taking (view pass.old).senders (view pass.old).opened (view pass.old).taken [] (view pass.old).told }
     requires ends { (k : ℕ) (send : SendEnd) → slice_get sends.items k ≡ Some send → (send.pass.table_id ≡ pass.old.table_id) × (place_of send ≡ k) }
     ensures seat { IsSamePass pass.old pass.new }
-    ensures role { view pass.new ≡ taking (view pass.old).senders (view pass.old).opened (view pass.old).taken (map sent_by sends.items) }
+    ensures role { view pass.new ≡ taking (view pass.old).senders (view pass.old).opened (view pass.old).taken (map sent_by sends.items) (view pass.old).told }
 {
     for send in sends {
         end_next(inbox, pass, send);
@@ -80,10 +80,10 @@ fn end_all(inbox: &Inbox, pass: &mut Pass<Batch, Note>, sends: Vec<SendEnd>)
 // The taking pass learns what the next sender sent.
 fn end_next(inbox: &Inbox, pass: &mut Pass<Batch, Note>, send: SendEnd)
     requires seat { IsPassOf inbox.now pass.old }
-    requires role { view pass.old ≡ taking (view pass.old).senders (view pass.old).opened (view pass.old).taken (view pass.old).ended }
+    requires role { view pass.old ≡ taking (view pass.old).senders (view pass.old).opened (view pass.old).taken (view pass.old).ended (view pass.old).told }
     requires end { (send.pass.table_id ≡ pass.old.table_id) × (place_of send ≡ length (view pass.old).ended) }
     ensures seat { IsSamePass pass.old pass.new }
-    ensures role { view pass.new ≡ taking (view pass.old).senders (view pass.old).opened (view pass.old).taken ((view pass.old).ended ++ sent_by send ∷ []) }
+    ensures role { view pass.new ≡ taking (view pass.old).senders (view pass.old).opened (view pass.old).taken ((view pass.old).ended ++ sent_by send ∷ []) (view pass.old).told }
 {
     inbox.absorb::<Ends>(pass, send.pass);
 }
@@ -96,7 +96,7 @@ fn take_left<R: Wait>(
     joined: &mut Vec<Rejoined>,
 )
     requires seat { IsPassOf inbox.now pass.old }
-    requires role { view pass.old ≡ taking (vec_len joined.old) (view pass.old).opened (view pass.old).taken (view pass.old).ended }
+    requires role { view pass.old ≡ taking (vec_len joined.old) (view pass.old).opened (view pass.old).taken (view pass.old).ended (view pass.old).told }
     requires ended { length (view pass.old).ended ≡ vec_len joined.old }
     requires room { AreRoomy (view pass.old).ended (view pass.old).taken joined.old.items }
     ensures { AreFilled (view pass.old).ended (view pass.old).taken joined.old.items joined.new.items }

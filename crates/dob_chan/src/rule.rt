@@ -1,13 +1,17 @@
 // The rule of an inbox: of each sender, what was sent is what was taken and then what the inbox holds, in order.
-ghost use Rattle.std.specs.Prelude.{[]};
-ghost use Rattle.dob_chan.specs.Inboxes.{taking};
-
 use crossbeam_queue::protocol::{Join, Lesson, Outcome, Protocol, Split};
 use dob_update::Batch;
 use std::collections::LinkedList;
 
-/// What a pass of an inbox may do, send as one of the senders or take, and what it has sent and taken. The taking pass
-/// also knows how many senders' passes were made, and what those sent that have ended. No value of it is made.
+/// What was told of an inbox: the batches that had been sent, by all senders, and those that had been taken. No value of it is
+/// made.
+pub struct Told {
+    pub sent: LinkedList<Batch>,
+    pub taken: LinkedList<Batch>,
+}
+
+/// What a pass of an inbox may do, send as one of the senders or take, what it has sent and taken, and what it was told. The
+/// taking pass also knows how many senders' passes were made, and what those sent that have ended. No value of it is made.
 pub struct Note {
     pub senders: usize,
     pub sends: bool,
@@ -17,6 +21,7 @@ pub struct Note {
     pub opened: usize,
     pub taken: LinkedList<Batch>,
     pub ended: LinkedList<LinkedList<Batch>>,
+    pub told: Told,
 }
 
 /// The rule: the batches of each sender come out in the order in which they went in, each once.
@@ -24,11 +29,11 @@ pub struct InOrder;
 
 impl Protocol<Batch, Note> for InOrder {
     ghost use Rattle.std.specs.Prelude.{[]};
-    ghost use Rattle.dob_chan.specs.Inboxes.{taking, IsDelivered};
+    ghost use Rattle.dob_chan.specs.Inboxes.{taking, untold, IsDelivered};
 
     ghost holds = { IsDelivered };
 
-    ghost first = { taking 0 0 [] [] };
+    ghost first = { taking 0 0 [] [] untold };
 }
 
 /// The inbox is for one sender more. The new pass may do nothing.
@@ -38,7 +43,7 @@ impl Split<Note> for Counts {
     ghost use Rattle.std.specs.Prelude.{suc};
     ghost use Rattle.dob_chan.specs.Inboxes.{taking, resting};
 
-    ghost left = { λ v. taking (suc v.senders) v.opened v.taken v.ended };
+    ghost left = { λ v. taking (suc v.senders) v.opened v.taken v.ended v.told };
 
     ghost right = { λ v. resting };
 }
@@ -48,11 +53,11 @@ pub struct Opens;
 
 impl Split<Note> for Opens {
     ghost use Rattle.std.specs.Prelude.{suc, []};
-    ghost use Rattle.dob_chan.specs.Inboxes.{taking, sending};
+    ghost use Rattle.dob_chan.specs.Inboxes.{taking, sending, untold};
 
-    ghost left = { λ v. taking v.senders (suc v.opened) v.taken v.ended };
+    ghost left = { λ v. taking v.senders (suc v.opened) v.taken v.ended v.told };
 
-    ghost right = { λ v. sending v.senders v.opened [] };
+    ghost right = { λ v. sending v.senders v.opened [] untold };
 }
 
 /// The next sender has ended, and the taking pass knows what it sent.
@@ -62,42 +67,44 @@ impl Join<Note> for Ends {
     ghost use Rattle.std.specs.Prelude.{◌++◌, ◌∷◌, []};
     ghost use Rattle.dob_chan.specs.Inboxes.{taking, resting};
 
-    ghost both = { λ v w. taking v.senders v.opened v.taken (v.ended ++ w.sent ∷ []) };
+    ghost both = { λ v w. taking v.senders v.opened v.taken (v.ended ++ w.sent ∷ []) v.told };
 
     ghost spent = { resting };
 }
 
-/// What a send tells: the batch is the last that was sent; and what it learns where the inbox is full.
+/// What a send tells: the batch is the last that was sent, and all that happened before; and what it learns where the inbox is
+/// full.
 pub struct Sends;
 
 impl Outcome<Batch, Note> for Sends {
     ghost use Rattle.std.specs.Prelude.{◌≡◌, [], ◌∷◌, ◌++◌};
-    ghost use Rattle.dob_chan.specs.Inboxes.{sending};
+    ghost use Rattle.dob_chan.specs.Inboxes.{sending, HasSent};
 
-    ghost then = { λ v x w. w ≡ sending v.senders v.from (v.sent ++ x ∷ []) };
+    ghost then = { λ v x w. (w ≡ sending v.senders v.from (v.sent ++ x ∷ []) w.told) × HasSent v.from x w.sent v.told w.told };
 }
 
 impl Lesson<Batch, Note> for Sends {
     ghost use Rattle.dob_chan.specs.Inboxes.{AreLast};
 
-    ghost fact = { λ v held. AreLast v.senders v.from v.sent held };
+    ghost fact = { λ v held. AreLast v.senders v.from v.sent v.told held };
 }
 
-/// What a receipt tells: the batch is the last that was taken, and of one of the senders.
+/// What a receipt tells: the batch is the last that was taken, and of one of the senders, and all that happened before; and
+/// what it learns where the inbox is empty.
 pub struct Takes;
 
 impl Outcome<Batch, Note> for Takes {
     ghost use Rattle.std.specs.Prelude.{◌≡◌, [], ◌∷◌, ◌++◌, length, ◌<◌, ◌≤◌};
-    ghost use Rattle.dob_chan.specs.Inboxes.{most_batches, batches_of, taking};
+    ghost use Rattle.dob_chan.specs.Inboxes.{most_batches, batches_of, taking, HasTaken};
 
-    ghost then = { λ v x w. (w ≡ taking v.senders v.opened (v.taken ++ x ∷ []) v.ended) × (x.from < v.senders)
-        × (length (batches_of x.from w.taken) ≤ most_batches) };
+    ghost then = { λ v x w. (w ≡ taking v.senders v.opened (v.taken ++ x ∷ []) v.ended w.told) × (x.from < v.senders)
+        × (length (batches_of x.from w.taken) ≤ most_batches) × HasTaken w.taken v.told w.told };
 }
 
 impl Lesson<Batch, Note> for Takes {
     ghost use Rattle.dob_chan.specs.Inboxes.{AreNext};
 
-    ghost fact = { λ v held. AreNext v.taken held };
+    ghost fact = { λ v held. AreNext v.taken v.told held };
 }
 
 /// What a receipt tells where senders have ended: no more is taken of them than they sent; and where the inbox is empty,
@@ -108,7 +115,7 @@ impl Outcome<Batch, Note> for Left {
     ghost use Rattle.std.specs.Prelude.{◌≡◌, [], ◌∷◌, ◌++◌, length, ◌<◌, ◌≤◌};
     ghost use Rattle.dob_chan.specs.Inboxes.{batches_of, taking, sent_by_ended};
 
-    ghost then = { λ v x w. (w ≡ taking v.senders v.opened (v.taken ++ x ∷ []) v.ended) × (x.from < v.senders)
+    ghost then = { λ v x w. (w ≡ taking v.senders v.opened (v.taken ++ x ∷ []) v.ended w.told) × (x.from < v.senders)
         × (x.from < length v.ended → length (batches_of x.from w.taken) ≤ length (sent_by_ended v.ended x.from)) };
 }
 

@@ -3,7 +3,7 @@ use Rattle.std.specs.Prelude.{ℕ, List, ◌++◌}
 use Rattle.dob_pieces.specs.Lists.{IsBeginning}
 use Rattle.dob_update.specs.Batches.{BatchView}
 use Rattle.dob_chan.specs.Inboxes.{batches_of}
-use Rattle.dob_chan.specs.Ends.{sent_by, taken_by, place_of, senders_beside, capacity_of, WasFull, SendsToSame, TakesFromSame}
+use Rattle.dob_chan.specs.Ends.{sent_by, taken_by, place_of, senders_beside, capacity_of, send_told, WasFull, SendsToSame, TakesFromSame}
 use Rattle.dob_run.specs.declared.hands.Outlet.{Outlet}
 use Rattle.dob_run.specs.declared.hands.Inlet.{Inlet}
 use Rattle.dob_run.specs.Hands.{in_hand, worked_of}
@@ -19,9 +19,9 @@ worked inlet = worked_of inlet.end inlet.hand
 abbrev pub worked_from : Inlet → ℕ → List BatchView
 worked_from inlet from = batches_of from (worked inlet)
 
--- the outlet's inbox was full at some moment
+-- the outlet's inbox was full at some moment after the end was told of it
 abbrev pub IsFull : Outlet → Type 0
-IsFull outlet = WasFull (capacity_of outlet.end) (senders_beside outlet.end) (place_of outlet.end) (sent_by outlet.end)
+IsFull outlet = WasFull (capacity_of outlet.end) (senders_beside outlet.end) (place_of outlet.end) (sent_by outlet.end) (send_told outlet.end)
 
 -- the outlet sends to the same inbox, which took the same batches and maybe more
 abbrev pub KeepsOutlet : Outlet → Outlet → Type 0

@@ -1,7 +1,7 @@
 -- What the parts of a runner's turn do, and when each has something to do.
-use Rattle.std.specs.Prelude.{◌≡◌, ◌≢◌, ◌↔◌, ◌⊎◌, ℕ, ◌+◌, ◌<◌, ◌≤◌, [], ◌∷◌, ◌++◌, Bool, true, false, None, Some, length, slice_get}
+use Rattle.std.specs.Prelude.{◌≡◌, ◌≢◌, ◌↔◌, ◌⊎◌, ℕ, ◌+◌, ◌<◌, ◌≤◌, [], ◌∷◌, ◌++◌, Bool, IsTrue, ◌||◌, true, false, None, Some, length, slice_get}
 use Rattle.dob_update.specs.Batches.{BatchView}
-use Rattle.dob_chan.specs.Ends.{sent_by, taken_by, WasEmpty}
+use Rattle.dob_chan.specs.Ends.{sent_by, taken_by, take_told, WasEmpty}
 use Rattle.dob_node.specs.Nodes.{outbox_to, IsExpanded, HasApplied}
 use Rattle.dob_run.specs.declared.hands.Outlet.{Outlet}
 use Rattle.dob_run.specs.declared.hands.Inlet.{Inlet}
@@ -58,14 +58,14 @@ pub record AppliesAll (old new : Runner) (did : Bool) : Type 0 where
 -- The inbox gave at most one batch, and the hand is empty only where the inbox was.
 pub record IsAsked (before after : Inlet) : Type 0 where
   pub few : length (taken_by after.end) ≤ length (taken_by before.end) + 1
-  pub empty : after.hand ≡ None → WasEmpty (taken_by after.end)
+  pub empty : after.hand ≡ None → WasEmpty (taken_by after.end) (take_told after.end)
 
 -- The inbox gave at most one batch. One more was worked in; or none was, and the hand is empty only where the inbox was.
 pub record IsWorkedIn (did : Bool) (before after : Inlet) : Type 0 where
   pub few : length (taken_by after.end) ≤ length (taken_by before.end) + 1
   pub one : did ≡ true → (batch : BatchView) × (worked after ≡ worked before ++ batch ∷ [])
   pub none : did ≡ false → worked after ≡ worked before
-  pub empty : did ≡ false → after.hand ≡ None → WasEmpty (taken_by after.end)
+  pub empty : did ≡ false → after.hand ≡ None → WasEmpty (taken_by after.end) (take_told after.end)
 
 -- It has taken from its inbox, and nothing has changed of what it sends.
 pub record Takes (old new : Runner) (did : Bool) : Type 0 where
@@ -147,8 +147,24 @@ pub record AddsFew (count : ℕ) (old new : Mail) : Type 0 where
       length (offered after) ≤ length (offered before) + count
   pub into : length (taken_by new.inlet.end) ≤ length (taken_by old.inlet.end) + count
 
--- It has done a turn's work: none of its own items is left, and over each link at most one batch more went.
+-- It has done a turn's work: it took from its inbox, expanded settlements, applied all its own items and sent, and also batches
+-- that aren't whole just where it took nothing and has nothing to expand; and it did something just where one of these did.
+-- So none of its own items is left, and over each link at most one batch more went.
 pub record Works (old new : Runner) (did : Bool) : Type 0 where
   pub goes : GoesOn old new
   pub none : new.node.own.items ≡ []
   pub few : AddsFew 1 old.mail new.mail
+  pub took : Bool
+  pub expanded : Bool
+  pub applied : Bool
+  pub sent : Bool
+  pub small : Bool
+  pub taker : Runner
+  pub expander : Runner
+  pub sender : Runner
+  pub takes : Takes old taker took
+  pub expands : ExpandsSome taker expander expanded
+  pub applies : AppliesAll expander sender applied
+  pub sends : SendsAll small sender new sent
+  pub is_small : IsTrue small ↔ ((took ≡ false) × (sender.node.expanded ≡ length sender.node.history.settlements))
+  pub is_done : did ≡ (took || expanded || applied || sent)

@@ -1,5 +1,5 @@
 // A turn of a runner.
-ghost use Rattle.std.specs.Prelude.{◌≡◌, ◌≢◌, ◌↔◌, ◌<◌, ◌≤◌, IsTrue, Err, None, IfErr, MatchResult};
+ghost use Rattle.std.specs.Prelude.{◌≡◌, ◌≢◌, ◌↔◌, ◌<◌, ◌≤◌, IsTrue, Err, None, IfErr, MatchResult, length, false};
 ghost use Rattle.dob_board.specs.declared.halt.Halt.TheVariants.{Running};
 ghost use Rattle.dob_node.specs.declared.cause.Cause.TheVariants.{Held};
 ghost use Rattle.dob_board.specs.Seats.{HearsHalt};
@@ -120,8 +120,18 @@ impl Runner {
         let took = self.take_one(rt)?;
         let expanded = self.expand_all(classes)?;
         let applied = self.apply_all()?;
-        let small = !took && self.node.is_expanded();
+        let small = self.sends_small(took);
         let sent = self.send_all(rt, small)?;
-        Ok(took || expanded || applied || sent)
+        Ok(took | expanded | applied | sent)
+    }
+
+    // Whether batches that aren't whole are sent too: where nothing was taken, and nothing is left to expand.
+    fn sends_small(&self, took: bool) -> bool
+        ensures { IsTrue result ↔ ((took ≡ false) × (self.now.node.expanded ≡ length self.now.node.history.settlements)) }
+    {
+        if took {
+            return false;
+        }
+        self.node.is_expanded()
     }
 }

@@ -197,7 +197,7 @@ fn sees_the_token(rt: &impl Abort, first: &mut NodeSeat, second: &mut NodeSeat)
     assert!(rt; announce_if_it_may(first) == Halt::Running);
 }
 
-// The token goes round once more, and then the end is announced; a failure after it doesn't change it.
+// The token goes round once more, and then the end is announced.
 fn sees_the_end(rt: &impl Abort, first: &mut NodeSeat, second: &mut NodeSeat)
     ensures first { IsSameSeat first.old first.new }
     ensures second { IsSameSeat second.old second.new }
@@ -209,8 +209,14 @@ fn sees_the_end(rt: &impl Abort, first: &mut NodeSeat, second: &mut NodeSeat)
     assert!(rt; first.counter() == 1);
     assert!(rt; second.halted() == Halt::Running);
     assert!(rt; announce_if_it_may(first) == Halt::Ended);
-    assert!(rt; second.halted() == Halt::Ended);
-    assert!(rt; second.fail() == Halt::Ended);
+}
+
+// The seat finds the end, and its failure doesn't change that.
+fn finds_the_end(rt: &impl Abort, seat: &mut NodeSeat)
+    ensures { IsSameSeat seat.old seat.new }
+{
+    assert!(rt; seat.halted() == Halt::Ended);
+    assert!(rt; seat.fail() == Halt::Ended);
 }
 
 // One seat reads what the other wrote: counts, the token on two rounds of the ring, and the end.
@@ -220,8 +226,20 @@ fn board_reads_back(rt: HostRuntime) -> Result<(), Fault> {
     sees_a_post(&rt, &mut first, &mut second);
     sees_the_token(&rt, &mut first, &mut second);
     sees_the_end(&rt, &mut first, &mut second);
+    finds_the_end(&rt, &mut second);
     let words = close_two(rt.alloc(), board, first, second)?.words;
     assert!(rt; words[2] == 1);
+    Ok(())
+}
+
+// A seat that fails after the end was announced, and hasn't seen it, finds it.
+#[test]
+fn a_failure_after_the_end(rt: HostRuntime) -> Result<(), Fault> {
+    let (_board, mut first, mut second) = open_two(rt.alloc())?;
+    sees_a_post(&rt, &mut first, &mut second);
+    sees_the_token(&rt, &mut first, &mut second);
+    sees_the_end(&rt, &mut first, &mut second);
+    assert!(rt; second.fail() == Halt::Ended);
     Ok(())
 }
 
@@ -232,8 +250,8 @@ fn sees_the_failure(rt: &impl Abort, first: &mut NodeSeat, second: &mut NodeSeat
 {
     assert!(rt; first.halted() == Halt::Running);
     assert!(rt; second.fail() == Halt::Failed(1));
-    assert!(rt; first.halted() == Halt::Failed(1));
     assert!(rt; first.fail() == Halt::Failed(1));
+    assert!(rt; first.halted() == Halt::Failed(1));
     assert!(rt; second.halted() == Halt::Failed(1));
 }
 

@@ -1,5 +1,5 @@
 -- Taking, expanding, applying and sending make one step of the runner, which fails where one of the four fails.
-use Rattle.std.proofs.Common.{sym, ◌∙◌}
+use Rattle.std.proofs.Common.{refl, sym, ◌∙◌}
 use Rattle.dob_run.specs.Rounds.{Works}
 use Rattle.dob_run.specs.Runners.{GoesOn}
 use Rattle.dob_run.proofs.Keeping.{runner_same, goes_trans, broken_on}
@@ -37,8 +37,8 @@ returns-in_err-sent g c =
     broken_on Works c.args.self.now c.apply_all.new.self c.send_all.new.self c.from_residual-in_err-sent.result c.in_err-sent.field-0.0
     c.from_residual-in_err-sent.ensures.1 applied.keeps c.in_err-sent.ensures
 
-pub returns-then-applied : goal.returns-then-applied
-returns-then-applied g c =
+pub returns : goal.returns
+returns g c =
     let expanded : GoesOn c.args.self.now c.expand_all.new.self =
     goes_trans c.args.self.now c.take_one.new.self c.expand_all.new.self c.in_ok-took.ensures.goes c.in_ok-expanded.ensures.goes in
     let applied : GoesOn c.args.self.now c.apply_all.new.self =
@@ -48,17 +48,18 @@ returns-then-applied g c =
       none = c.in_ok-sent.ensures.own ∙ c.in_ok-applied.ensures.none;
       few = adds_one c.args.self.now c.take_one.new.self c.apply_all.new.self c.send_all.new.self _ _ _ c.in_ok-took.ensures
           (c.in_ok-applied.ensures.mail ∙ c.in_ok-expanded.ensures.mail) c.in_ok-sent.ensures;
-    }
-
-pub returns-else-applied : goal.returns-else-applied
-returns-else-applied g c =
-    let expanded : GoesOn c.args.self.now c.expand_all.new.self =
-    goes_trans c.args.self.now c.take_one.new.self c.expand_all.new.self c.in_ok-took.ensures.goes c.in_ok-expanded.ensures.goes in
-    let applied : GoesOn c.args.self.now c.apply_all.new.self =
-    goes_trans c.args.self.now c.expand_all.new.self c.apply_all.new.self expanded c.in_ok-applied.ensures.goes in
-    record {
-      goes = goes_trans c.args.self.now c.apply_all.new.self c.send_all.new.self applied c.in_ok-sent.ensures.goes;
-      none = c.in_ok-sent.ensures.own ∙ c.in_ok-applied.ensures.none;
-      few = adds_one c.args.self.now c.take_one.new.self c.apply_all.new.self c.send_all.new.self _ _ _ c.in_ok-took.ensures
-          (c.in_ok-applied.ensures.mail ∙ c.in_ok-expanded.ensures.mail) c.in_ok-sent.ensures;
+      took = c.in_ok-took.took;
+      expanded = c.in_ok-expanded.expanded;
+      applied = c.in_ok-applied.applied;
+      sent = c.in_ok-sent.sent;
+      small = _;
+      taker = c.take_one.new.self;
+      expander = c.expand_all.new.self;
+      sender = c.apply_all.new.self;
+      takes = c.in_ok-took.ensures;
+      expands = c.in_ok-expanded.ensures;
+      applies = c.in_ok-applied.ensures;
+      sends = c.in_ok-sent.ensures;
+      is_small = c.sends_small-small.ensures;
+      is_done = refl;
     }
