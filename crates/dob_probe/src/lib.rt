@@ -5,6 +5,7 @@
 mod checks;
 mod choices;
 mod fault;
+mod groups;
 pub mod laws;
 mod lines;
 mod probes;
@@ -13,5 +14,6 @@ mod successors;
 pub use checks::check;
 pub use choices::{ValuedMove, valued_moves};
 pub use fault::{Fault, OtherSet};
+pub use groups::{Group, statistics};
 pub use lines::line;
 pub use probes::probe;
