@@ -175,7 +175,12 @@ const ROWS: &[Row] = &[
     ),
     // one record of a file, of which neither the others nor the digest are read
     (&["show", SHOWN], 0, DRAWN, ""),
-    (&["show", "L../.../.../..l - -"], 1, "", "dobutsu: E6 FarLion\n"),
+    (
+        &["show", "L../.../.../..l - -"],
+        1,
+        "",
+        "dobutsu: E6 FarLion\n",
+    ),
     (&["look", "--db", "lions.db", WIN_3], 0, "win 3\n", ""),
     (&["look", "--db", "lions.db", LOSS_2], 0, "loss 2\n", ""),
     (&["look", "--db", "lions.db", DRAW], 0, "draw\n", ""),
