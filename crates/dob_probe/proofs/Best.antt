@@ -22,10 +22,10 @@ use Rattle.dob_probe.specs.Faults.{IsFaultOfLine}
 use Rattle.dob_probe.specs.Laws.{LinesAreBest, NoneBreaks}
 
 module _ (table : ClassTable) (right : IsValueTable table.set table.values) where
-  to_value : (p : Setup) (v : Value) → IsPositionOf table.set p → GivenBy table p v → HasValue p v
+  pub to_value : (p : Setup) (v : Value) → IsPositionOf table.set p → GivenBy table p v → HasValue p v
   to_value p v is given = right.values_are p v is given
 
-  of_value : (p : Setup) (v : Value) → IsPositionOf table.set p → HasValue p v → GivenBy table p v
+  pub of_value : (p : Setup) (v : Value) → IsPositionOf table.set p → HasValue p v → GivenBy table p v
   of_value p v is value =
       let given = right.known p is in
       let same = at_most_one_value p given.0 v (to_value p given.0 is given.1) value in

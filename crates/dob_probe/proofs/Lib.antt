@@ -5,3 +5,4 @@ pub mod Best  -- by the value table lines are the best lines, and none breaks of
 pub mod Kept  -- what is kept of a list of values, as the list grows
 pub mod Following  -- the one value that follows from the successors' values
 pub mod Verdicts  -- the first fault among the verdicts of all classes
+pub mod ByValue  -- moves with their values, best first, as the list grows

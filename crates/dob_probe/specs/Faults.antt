@@ -37,6 +37,12 @@ IsFaultOfLine table p OtherSet = ¬ IsPositionOf table.set p
 IsFaultOfLine table p (Inconsistent class) = IsPositionOf table.set p × BreaksAt table p class
 IsFaultOfLine table p Memory = Unit {0}
 
+-- a fault of listing moves with their values: the position is of another set, or memory failed
+abbrev pub IsFaultOfMoves : ClassTable → Setup → Fault → Type 0
+IsFaultOfMoves table p OtherSet = ¬ IsPositionOf table.set p
+IsFaultOfMoves table p (Inconsistent class) = ⊥
+IsFaultOfMoves table p Memory = Unit {0}
+
 -- a fault of checking a table: that class is the first whose value doesn't follow, or memory failed
 abbrev pub IsFaultOfCheck : ClassTable → Fault → Type 0
 IsFaultOfCheck table OtherSet = ⊥

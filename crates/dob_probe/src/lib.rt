@@ -3,6 +3,7 @@
 #![tactic(auto)]
 
 mod checks;
+mod choices;
 mod fault;
 pub mod laws;
 mod lines;
@@ -10,6 +11,7 @@ mod probes;
 mod successors;
 
 pub use checks::check;
+pub use choices::{ValuedMove, valued_moves};
 pub use fault::{Fault, OtherSet};
 pub use lines::line;
 pub use probes::probe;

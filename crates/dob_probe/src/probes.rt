@@ -25,7 +25,7 @@ pub fn probe(table: &Table, position: &Position) -> Result<Value, OtherSet>
 }
 
 // Whether the position has just the pieces of the set.
-fn is_of_set(position: &Position, set: PieceSet) -> bool
+pub(crate) fn is_of_set(position: &Position, set: PieceSet) -> bool
     ensures { IsTrue result ↔ IsPositionOf set position.now.setup }
 {
     position.piece_set() == set

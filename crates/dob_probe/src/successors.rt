@@ -127,7 +127,7 @@ fn successors_of(table: &Table, position: &Position, choices: &[Move]) -> Succes
 }
 
 // The value of the position to which the move leads.
-fn value_to(table: &Table, position: &Position, choice: Move) -> Value
+pub(crate) fn value_to(table: &Table, position: &Position, choice: Move) -> Value
     requires member { IsPositionOf table.now.set position.now.setup }
     requires open { HasStatus position.now.setup Status.Open }
     requires can_go { CanGo position.now.setup choice }

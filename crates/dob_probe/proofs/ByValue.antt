@@ -1,0 +1,297 @@
+-- Moves with their values, best first, as the list grows.
+use Rattle.std.proofs.Common.{◌≡◌, ℕ, ◌+◌, ◌-◌, ◌≤◌, ◌<◌, ◌⊎◌, ◌↔◌, inl, inr, refl, sym, subst, ap, ◌∙◌, arith, List, [], length, get_or}
+use Rattle.std.proofs.Common.{Option, Some, Contains, AllPairs, insert, slice_get}
+use Rattle.std.proofs.lemmas.Bool.{cases_lt, cases_order}
+use Rattle.std.proofs.lemmas.Option.{slice_get-get_or, same_Some}
+use Rattle.std.proofs.lemmas.Grind.{in_insert}
+use Rattle.std.proofs.lemmas.List.Elements.{Contains-get_or}
+use Rattle.std.proofs.lemmas.List.Edits.{length-insert, get_or-insert_below, get_or-insert_at, get_or-insert_above}
+use Rattle.dob_pieces.specs.declared.setup.Setup.{Setup}
+use Rattle.dob_moves.specs.declared.game_move.Move.{Move}
+use Rattle.dob_moves.specs.declared.position_status.Status.TheVariants.{Open}
+use Rattle.dob_moves.specs.Moves.{Goes, CanGo, place}
+use Rattle.dob_moves.specs.Statuses.{CanCatch, HasStatus, AreMoves}
+use Rattle.dob_rank.specs.Order.{IsPositionOf}
+use Rattle.dob_value.specs.declared.value.Value.{Value}
+use Rattle.dob_value.specs.declared.value.Value.TheVariants.{Win, Loss, Draw}
+use Rattle.dob_value.specs.Values.{HasValue}
+use Rattle.dob_value.specs.Follows.{ClassTable, IsValueTable}
+use Rattle.dob_value.proofs.Successors.{moves_keep_the_set}
+use Rattle.dob_probe.specs.declared.choices.ValuedMove.{ValuedMove}
+use Rattle.dob_probe.specs.Choices.{seen_from_before, IsBetter, ComesBefore, HasMoveValue, AreValuedMoves}
+use Rattle.dob_probe.specs.Lines.{GivenBy}
+use Rattle.dob_probe.proofs.Entries.{one_given}
+use Rattle.dob_probe.proofs.Best.{to_value, of_value}
+
+-- ---- values by preference
+
+better_still : (x y z : Value) → IsBetter x y → IsBetter y z → IsBetter x z
+better_still (Win a) (Win b) (Win c) h k = omega (arith, h, k)
+better_still (Win a) (Win b) Draw h k = tt
+better_still (Win a) (Win b) (Loss c) h k = tt
+better_still (Win a) Draw (Win c) h k = absurd k
+better_still (Win a) Draw Draw h k = absurd k
+better_still (Win a) Draw (Loss c) h k = tt
+better_still (Win a) (Loss b) (Win c) h k = absurd k
+better_still (Win a) (Loss b) Draw h k = absurd k
+better_still (Win a) (Loss b) (Loss c) h k = tt
+better_still Draw (Win b) (Win c) h k = absurd h
+better_still Draw (Win b) Draw h k = absurd h
+better_still Draw (Win b) (Loss c) h k = absurd h
+better_still Draw Draw (Win c) h k = absurd h
+better_still Draw Draw Draw h k = absurd h
+better_still Draw Draw (Loss c) h k = absurd h
+better_still Draw (Loss b) (Win c) h k = absurd k
+better_still Draw (Loss b) Draw h k = absurd k
+better_still Draw (Loss b) (Loss c) h k = tt
+better_still (Loss a) (Win b) (Win c) h k = absurd h
+better_still (Loss a) (Win b) Draw h k = absurd h
+better_still (Loss a) (Win b) (Loss c) h k = absurd h
+better_still (Loss a) Draw (Win c) h k = absurd h
+better_still (Loss a) Draw Draw h k = absurd h
+better_still (Loss a) Draw (Loss c) h k = absurd h
+better_still (Loss a) (Loss b) (Win c) h k = absurd k
+better_still (Loss a) (Loss b) Draw h k = absurd k
+better_still (Loss a) (Loss b) (Loss c) h k = omega (arith, h, k)
+
+compare : (x y : Value) → IsBetter x y ⊎ ((x ≡ y) ⊎ IsBetter y x)
+compare (Win a) (Win b) = elim (cases_order a b) [
+  | inl same ↦ inr (inl (ap (λ n. let v : Value = Win n in v) same))
+  | inr order ↦ elim order [
+    | inl below ↦ inl below
+    | inr above ↦ inr (inr above)
+  ]
+]
+compare (Win a) Draw = inl tt
+compare (Win a) (Loss b) = inl tt
+compare Draw (Win b) = inr (inr tt)
+compare Draw Draw = inr (inl refl)
+compare Draw (Loss b) = inl tt
+compare (Loss a) (Win b) = inr (inr tt)
+compare (Loss a) Draw = inr (inr tt)
+compare (Loss a) (Loss b) = elim (cases_order a b) [
+  | inl same ↦ inr (inl (ap (λ n. let v : Value = Loss n in v) same))
+  | inr order ↦ elim order [
+    | inl below ↦ inr (inr below)
+    | inr above ↦ inl above
+  ]
+]
+
+comes_before : (x y : ValuedMove) → (¬ IsBetter y.value x.value) → place x.choice < place y.choice → ComesBefore x y
+comes_before x y no_better earlier = elim (compare x.value y.value) [
+  | inl better ↦ inl better
+  | inr others ↦ elim others [
+    | inl same ↦ inr (same, earlier)
+    | inr worse ↦ absurd (no_better worse)
+  ]
+]
+
+worse_behind : (v : Value) (x y : ValuedMove) → IsBetter v x.value → ComesBefore x y → IsBetter v y.value
+worse_behind v x y better comes = elim comes [
+  | inl behind ↦ better_still v x.value y.value better behind
+  | inr same ↦ subst (IsBetter v) same.0 better
+]
+
+-- ---- one move more, inserted before the first that is worse
+
+module _ (xs : List ValuedMove) (i : ℕ) (y : ValuedMove) (within : i ≤ length xs) where
+  pub insert_has : (x : ValuedMove) → Contains (insert xs i y) x ↔ (Contains xs x ⊎ (x ≡ y))
+  insert_has x = (
+    λ there. elim (cases_order there.0 i) [
+      | inl same ↦
+          inr (sym there.2 ∙ (ap (λ n. get_or (insert xs i y) n x) same ∙ get_or-insert_at xs i y x within))
+      | inr order ↦ elim order [
+        | inl below ↦ inl (there.0, omega arith, sym (get_or-insert_below xs i y x there.0 below within) ∙ there.2)
+        | inr above ↦
+            let long = length-insert xs i y within in
+            let inside : there.0 < length (insert xs i y) = there.1 in
+            let back : there.0 ≡ there.0 - 1 + 1 = omega arith in
+            inl (
+              there.0 - 1,
+              omega arith,
+              sym (get_or-insert_above xs i y x (there.0 - 1) (omega arith) within)
+                  ∙ (sym (ap (λ n. get_or (insert xs i y) n x) back) ∙ there.2),
+            )
+      ]
+    ],
+    λ either. elim either [
+      | inl there ↦ (in_insert xs i there.0 y x within there.1 (sym there.2)).1
+      | inr same ↦ (i, let long = length-insert xs i y within in omega arith, get_or-insert_at xs i y x within ∙ sym same)
+    ],
+  )
+
+  pub insert_sorted : AllPairs ComesBefore xs → ((x : ValuedMove) → Contains xs x → place x.choice < place y.choice) →
+      ((k : ℕ) (d : ValuedMove) → k < i → ¬ IsBetter y.value (get_or xs k d).value) →
+      ((d : ValuedMove) → i < length xs → IsBetter y.value (get_or xs i d).value) → AllPairs ComesBefore (insert xs i y)
+  insert_sorted ordered later before first a b d lt inside =
+      let long = length-insert xs i y within in
+      elim (cases_order b i) [
+        | inl same ↦
+            let below : a < i = omega (arith, lt, same) in
+            let low = get_or-insert_below xs i y d a below within in
+            let high : get_or (insert xs i y) b d ≡ y = ap (λ n. get_or (insert xs i y) n d) same ∙ get_or-insert_at xs i y d within in
+            rw (low, high) (ahead a d below)
+        | inr order ↦ elim order [
+          | inl below ↦
+              let low = get_or-insert_below xs i y d a (omega (arith, lt, below)) within in
+              let high = get_or-insert_below xs i y d b below within in
+              rw (low, high) (ordered a b d lt (omega arith))
+          | inr above ↦
+              let up : b ≡ b - 1 + 1 = omega arith in
+              let here : b - 1 < length xs = omega (arith, inside, long, above) in
+              let high : get_or (insert xs i y) b d ≡ get_or xs (b - 1) d =
+              ap (λ n. get_or (insert xs i y) n d) up ∙ get_or-insert_above xs i y d (b - 1) (omega arith) within in
+              elim (cases_order a i) [
+                | inl same ↦
+                    let low : get_or (insert xs i y) a d ≡ y = ap (λ n. get_or (insert xs i y) n d) same ∙ get_or-insert_at xs i y d within in
+                    rw (low, high) (inl (behind (b - 1) d (omega arith) here))
+                | inr place_of ↦ elim place_of [
+                  | inl low_below ↦
+                      let low = get_or-insert_below xs i y d a low_below within in
+                      rw (low, high) (ordered a (b - 1) d (omega arith) here)
+                  | inr low_above ↦
+                      let down : a ≡ a - 1 + 1 = omega arith in
+                      let low : get_or (insert xs i y) a d ≡ get_or xs (a - 1) d =
+                      ap (λ n. get_or (insert xs i y) n d) down ∙ get_or-insert_above xs i y d (a - 1) (omega arith) within in
+                      rw (low, high) (ordered (a - 1) (b - 1) d (omega arith) here)
+                ]
+              ]
+        ]
+      ]
+    where
+      stands : (k : ℕ) (d : ValuedMove) → k < length xs → Contains xs (get_or xs k d)
+      stands k d below = Contains-get_or xs k d below
+
+      ahead : (k : ℕ) (d : ValuedMove) → k < i → ComesBefore (get_or xs k d) y
+      ahead k d below = comes_before (get_or xs k d) y (before k d below) (later (get_or xs k d) (stands k d (omega arith)))
+
+      behind : (k : ℕ) (d : ValuedMove) → i ≤ k → k < length xs → IsBetter y.value (get_or xs k d).value
+      behind k d from below = elim (cases_lt i k) [
+        | inl apart ↦
+            worse_behind y.value (get_or xs i d) (get_or xs k d) (first d (omega arith)) (ordered i k d apart below)
+        | inr upto ↦
+            let same : i ≡ k = omega arith in
+            subst (λ n. IsBetter y.value (get_or xs n d).value) same (first d (omega arith))
+      ]
+
+-- ---- the moves of the first choices
+
+pub record AreListed (Has : Setup → Value → Type 0) (p : Setup) (choices : List Move) (upto : ℕ) (list : List ValuedMove) : Type 0 where
+  pub sound : (valued : ValuedMove) → Contains list valued →
+      HasMoveValue Has p valued × ((index : ℕ) × (index < upto) × (slice_get choices index ≡ Some valued.choice))
+  pub whole : (index : ℕ) (valued : ValuedMove) → index < upto → slice_get choices index ≡ Some valued.choice → HasMoveValue Has p valued →
+      Contains list valued
+  pub ordered : AllPairs ComesBefore list
+
+pub listed_none : (Has : Setup → Value → Type 0) (p : Setup) (choices : List Move) → AreListed Has p choices 0 []
+listed_none Has p choices = record {
+  sound = λ valued there. absurd (omega (arith, there.1));
+  whole = λ index valued below there has. absurd (omega arith);
+  ordered = λ i j d lt within. absurd (omega (arith, within));
+}
+
+-- each listed move stands before the next of the list of moves
+pub listed_earlier : (Has : Setup → Value → Type 0) (p : Setup) (choices : List Move) (upto : ℕ) (list : List ValuedMove) (choice : Move) →
+    AreMoves p choices → upto < length choices → slice_get choices upto ≡ Some choice → AreListed Has p choices upto list →
+    (valued : ValuedMove) → Contains list valued → place valued.choice < place choice
+listed_earlier Has p choices upto list choice are within here listed valued there =
+    let earlier = (listed.sound valued there).1 in
+    let index : ℕ = earlier.0 in
+    let below : index < upto = earlier.1 in
+    let first = read index valued.choice (omega arith) earlier.2 choice in
+    let last = read upto choice within here choice in
+    let rising : place (get_or choices index choice) < place (get_or choices upto choice) = are.ordered index upto choice below within in
+    let low = ap place first in
+    let high = ap place last in
+    omega (arith, low, high, rising)
+  where
+    read : (k : ℕ) (m : Move) → k < length choices → slice_get choices k ≡ Some m → (d : Move) → get_or choices k d ≡ m
+    read k m below stands d = same_Some (get_or choices k d) m (sym (slice_get-get_or choices k d below) ∙ stands)
+
+same_valued : (a b : ValuedMove) → a.choice ≡ b.choice → a.value ≡ b.value → a ≡ b
+same_valued a b choice value = λ i. record { choice = choice i; value = value i }
+
+module _ (table : ClassTable) (p : Setup) (member : IsPositionOf table.set p) (choices : List Move) where
+  pub listed_more : (upto : ℕ) (list new : List ValuedMove) (more : ValuedMove) (value : Value) → slice_get choices upto ≡ Some more.choice →
+      HasStatus p Open → CanGo p more.choice → ((q : Setup) → Goes p more.choice q → GivenBy table q value) →
+      more.value ≡ seen_from_before value → ((x : ValuedMove) → Contains new x ↔ (Contains list x ⊎ (x ≡ more))) → AllPairs ComesBefore new →
+      AreListed (GivenBy table) p choices upto list → AreListed (GivenBy table) p choices (upto + 1) new
+  listed_more upto list new more value here goes_on can_go given seen has ordered before = record {
+    sound = λ valued there. elim ((has valued).0 there) [
+      | inl earlier ↦
+          let known = before.sound valued earlier in
+          let below : known.1.0 < upto = known.1.1 in
+          (known.0, (known.1.0, omega (arith, below), known.1.2))
+      | inr same ↦
+          let this : HasMoveValue (GivenBy table) p more = record {
+            goes_on = goes_on;
+            outcome = can_go.0;
+            goes = can_go.1;
+            value = value;
+            has = given can_go.0 can_go.1;
+            seen = seen;
+          } in
+          subst (λ x. HasMoveValue (GivenBy table) p x × ((index : ℕ) × (index < upto + 1) × (slice_get choices index ≡ Some x.choice)))
+          (sym same) (this, (upto, omega arith, here))
+    ];
+    whole = λ index valued below there known. elim (cases_lt index upto) [
+      | inl earlier ↦ (has valued).1 (inl (before.whole index valued earlier there known))
+      | inr from ↦
+          let same : upto ≡ index = omega arith in
+          let here_too : slice_get choices index ≡ Some more.choice = subst (λ k. slice_get choices k ≡ Some more.choice) same here in
+          let choice : valued.choice ≡ more.choice = same_Some valued.choice more.choice (sym there ∙ here_too) in
+          let goes : Goes p more.choice known.outcome = subst (λ m. Goes p m known.outcome) choice known.goes in
+          let inside = moves_keep_the_set table.set p valued.choice known.outcome member goes_on known.goes in
+          let one : known.value ≡ value = one_given table known.outcome known.value value inside known.has (given known.outcome goes) in
+          (has valued).1 (inr (same_valued valued more choice (known.seen ∙ ap seen_from_before one ∙ sym seen)))
+    ];
+    ordered = ordered;
+  }
+
+pub listed_all : (Has : Setup → Value → Type 0) (p : Setup) (choices : List Move) (upto : ℕ) (list : List ValuedMove) → (¬ CanCatch p) →
+    AreMoves p choices → length choices ≤ upto → AreListed Has p choices upto list → AreValuedMoves Has p list
+listed_all Has p choices upto list free are all listed = record {
+  sound = λ valued there. inr (listed.sound valued there).0;
+  caught = λ catch. absurd (free catch);
+  whole = λ valued has.
+      let there = are.whole valued.choice has.goes_on (has.outcome, has.goes) in
+      let read : slice_get choices there.0 ≡ Some valued.choice = slice_get-get_or choices there.0 valued.choice there.1
+      ∙ ap (λ m. let o : Option Move = Some m in o) there.2 in
+      let within : there.0 < length choices = there.1 in
+      listed.whole there.0 valued (omega arith) read has;
+  ordered = listed.ordered;
+}
+
+-- ---- by the value table the values are the right ones
+
+module _ (table : ClassTable) (right : IsValueTable table.set table.values) (p : Setup) (is : IsPositionOf table.set p) where
+  by_value : (valued : ValuedMove) → HasMoveValue (GivenBy table) p valued → HasMoveValue HasValue p valued
+  by_value valued has = record {
+    goes_on = has.goes_on;
+    outcome = has.outcome;
+    goes = has.goes;
+    value = has.value;
+    has = to_value table right has.outcome has.value (moves_keep_the_set table.set p valued.choice has.outcome is has.goes_on has.goes) has.has;
+    seen = has.seen;
+  }
+
+  by_table : (valued : ValuedMove) → HasMoveValue HasValue p valued → HasMoveValue (GivenBy table) p valued
+  by_table valued has = record {
+    goes_on = has.goes_on;
+    outcome = has.outcome;
+    goes = has.goes;
+    value = has.value;
+    has = of_value table right has.outcome has.value (moves_keep_the_set table.set p valued.choice has.outcome is has.goes_on has.goes) has.has;
+    seen = has.seen;
+  }
+
+  pub valued_rightly : (list : List ValuedMove) → AreValuedMoves (GivenBy table) p list → AreValuedMoves HasValue p list
+  valued_rightly list are = record {
+    sound = λ valued there. elim (are.sound valued there) [
+      | inl catch ↦ inl catch
+      | inr has ↦ inr (by_value valued has)
+    ];
+    caught = are.caught;
+    whole = λ valued has. are.whole valued (by_table valued has);
+    ordered = are.ordered;
+  }
