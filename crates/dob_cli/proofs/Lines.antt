@@ -8,7 +8,7 @@ use Rattle.std.specs.Str.{bytes_eq}
 use Rattle.std.proofs.lemmas.Slice.Eq.{bytes_eq-Decides}
 use Rattle.std.proofs.lemmas.Bool.Decides.{Decides-eqb}
 use Rattle.clap.specs.Lexer.{has_byte}
-use Rattle.dob_cli.specs.Forms.{Form, Text, build_form, check_form, count_form, forms, labels, line_form, look_form, probe_form, show_form, value_form}
+use Rattle.dob_cli.specs.Forms.{Form, Text, build_form, check_form, count_form, forms, labels, line_form, look_form, moves_form, probe_form, show_form, value_form}
 use Rattle.dob_cli.specs.Words.{Given, Meaning, Stand, after_dashes, after_part, after_word, asked, asks, at_end, behind, between, call, dashes}
 use Rattle.dob_cli.specs.Words.{ended, fits, has_topic, help, meaning_of_topic}
 use Rattle.dob_cli.specs.Words.{is_dashes, is_help_flag, is_text, label_of, meaning_of, meaning_of_form, meaning_of_other, name_in, option, option_part}
@@ -368,6 +368,10 @@ look_spelled =
 pub show_spelled : IsSpelled show_form
 show_spelled = record { by_name = tt; by_value = tt }
 
+pub moves_spelled : IsSpelled moves_form
+moves_spelled =
+    record { by_name = (long_part moves_form.options 100 (codes "b") refl, tt); by_value = (λ t. long_part moves_form.options 100 (codes "b=" ++ t) refl, tt) }
+
 abbrev EachForm : (Form → Type 0) → List Form → Type 0
 EachForm P [] = Unit {0}
 EachForm P (f ∷ fs) = P f × (EachForm P fs)
@@ -382,7 +386,7 @@ all_known = (
     (count_spelled, λ rest. refl),
     (
       (build_spelled, λ rest. refl),
-      ((probe_spelled, λ rest. refl), ((line_spelled, λ rest. refl), ((check_spelled, λ rest. refl), ((look_spelled, λ rest. refl), ((show_spelled, λ rest. refl), tt))))),
+      ((probe_spelled, λ rest. refl), ((line_spelled, λ rest. refl), ((check_spelled, λ rest. refl), ((look_spelled, λ rest. refl), ((show_spelled, λ rest. refl), ((moves_spelled, λ rest. refl), tt)))))),
     ),
   ),
 )

@@ -4,7 +4,7 @@ use Rattle.std.specs.Borrow.{Bor}
 use Rattle.std.specs.Str.{bytes_eq}
 use Rattle.dob_cli.specs.Forms.{Text}
 use Rattle.dob_cli.specs.declared.command.Order.{Order}
-use Rattle.dob_cli.specs.declared.command.Order.TheVariants.{Value, Count, Build, Probe, Line, Check, Look, Show}
+use Rattle.dob_cli.specs.declared.command.Order.TheVariants.{Value, Count, Build, Probe, Line, Check, Look, Show, Moves}
 use Rattle.dob_cli.specs.Endings.{Ending}
 use Rattle.dob_cli.specs.Shelves.{SameFiles, SameOthers, ShelfChange}
 use Rattle.dob_cli.specs.Words.{Meaning, asks, build, help, number_of, usage, version}
@@ -15,6 +15,7 @@ use Rattle.dob_cli.specs.Program.{AnswersValue}
 use Rattle.dob_cli.specs.Sizes.{AnswersCount}
 use Rattle.dob_cli.specs.Builds.{AnswersBuild}
 use Rattle.dob_cli.specs.Looks.{AnswersLook}
+use Rattle.dob_cli.specs.Choices.{AnswersMoves}
 use Rattle.dob_cli.specs.Shows.{AnswersShow}
 use Rattle.dob_cli.specs.Tables.{AnswersCheck, AnswersLine, AnswersProbe}
 use Rattle.dob_cli.proofs.Outcomes.{first_text}
@@ -76,6 +77,12 @@ module _ (c : ShelfChange) (e : Ending) where
   done_show (Show t) text is answers = subst (λ (x : Text). AnswersShow c x e) (first_text t.now text is.1) answers
   done_show o text is answers = absurd (differs (name_of_order o) (codes "show") refl refl is.0)
 
+  pub done_moves : (o : Order) (file text : Text) → IsOrder (codes "moves") (file ∷ text ∷ []) o → AnswersOrder c o e → AnswersMoves c file text e
+  done_moves (Moves f t) file text is answers =
+      let same = two_texts f.now t.now file text is.1 in
+      subst (λ (x : Text). AnswersMoves c x text e) same.0 (subst (λ (x : Text). AnswersMoves c f.now x e) same.1 answers)
+  done_moves o file text is answers = absurd (differs (name_of_order o) (codes "moves") refl refl is.0)
+
 -- ---- files
 
 module _ (c : ShelfChange) where
@@ -104,3 +111,4 @@ module _ (c : ShelfChange) where
   kept_files m (Check f) is none keeps = keeps
   kept_files m (Look f t) is none keeps = keeps
   kept_files m (Show t) is none keeps = keeps
+  kept_files m (Moves f t) is none keeps = keeps

@@ -5,7 +5,7 @@ use Rattle.dob_value.specs.Follows.{ClassTable, HasInTable, IsValueTable}
 use Rattle.dob_dbfile.proofs.Written.{same_files}
 use Rattle.dob_probe.specs.declared.fault.Fault as probing
 use Rattle.dob_probe.specs.declared.fault.Fault.TheVariants as table_fault
-use Rattle.dob_probe.specs.Faults.{IsFaultOfCheck, IsFaultOfLine}
+use Rattle.dob_probe.specs.Faults.{IsFaultOfCheck, IsFaultOfLine, IsFaultOfMoves}
 use Rattle.dob_cli.specs.declared.fault.Fault.{Fault}
 use Rattle.dob_cli.specs.declared.fault.Fault.TheVariants.{Text, SetText, SetTooLarge, TooDeep, Run, File, Table, Memory, Io}
 use Rattle.dob_cli.specs.Shelves.{FailsWhere, ShelfChange}
@@ -28,6 +28,12 @@ module _ (Has : List ℕ → Type 0) (table : ClassTable) (file : IsFileOf Has t
   line_fault_holds words position table_fault.OtherSet named holds = (position, named, (table, file, holds))
   line_fault_holds words position (table_fault.Inconsistent class) named holds = (position, named, (table, file, holds.1))
   line_fault_holds words position table_fault.Memory named holds = (position, named, tt)
+
+  pub choice_fault_holds : (words : List ℕ) (position : Setup) (fault : probing.Fault) → IsTextOf words position →
+      IsFaultOfMoves table position fault → IsPositionFault Has words (Table fault)
+  choice_fault_holds words position table_fault.OtherSet named holds = (position, named, (table, file, holds))
+  choice_fault_holds words position (table_fault.Inconsistent class) named holds = absurd holds
+  choice_fault_holds words position table_fault.Memory named holds = (position, named, tt)
 
 -- where a file that a shelf has isn't opened for want of memory alone, it isn't there where the cause is another one
 pub is_shut : (Has : List ℕ → Type 0) → ((bytes : List ℕ) → Has bytes → shelf_fault.Failed ≡ shelf_fault.Memory) → IsShut Has

@@ -51,6 +51,10 @@ look_form = record { name = codes "look"; options = file_option ∷ []; position
 abbrev pub show_form : Form
 show_form = record { name = codes "show"; options = []; positions = codes "POSITION" ∷ []; numbers = [] }
 
+-- `moves --db FILE POSITION`
+abbrev pub moves_form : Form
+moves_form = record { name = codes "moves"; options = file_option ∷ []; positions = codes "POSITION" ∷ []; numbers = [] }
+
 -- `check --db FILE`
 abbrev pub check_form : Form
 check_form = record { name = codes "check"; options = file_option ∷ []; positions = []; numbers = [] }
@@ -73,4 +77,4 @@ build_form = record {
 
 -- the subcommands, in the order of the help
 abbrev pub forms : List Form
-forms = value_form ∷ count_form ∷ build_form ∷ probe_form ∷ line_form ∷ check_form ∷ look_form ∷ show_form ∷ []
+forms = value_form ∷ count_form ∷ build_form ∷ probe_form ∷ line_form ∷ check_form ∷ look_form ∷ show_form ∷ moves_form ∷ []

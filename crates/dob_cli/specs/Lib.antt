@@ -10,6 +10,7 @@ pub mod Program
 pub mod Tables
 pub mod Looks
 pub mod Shows
+pub mod Choices
 pub mod Sizes
 pub mod Builds
 pub mod Orders

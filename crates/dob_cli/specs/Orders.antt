@@ -2,13 +2,14 @@
 use Rattle.std.specs.Prelude.{ℕ, List}
 use Rattle.dob_cli.specs.declared.fault.Fault.{Fault}
 use Rattle.dob_cli.specs.declared.command.Order.{Order}
-use Rattle.dob_cli.specs.declared.command.Order.TheVariants.{Value, Count, Build, Probe, Line, Check, Look, Show}
+use Rattle.dob_cli.specs.declared.command.Order.TheVariants.{Value, Count, Build, Probe, Line, Check, Look, Show, Moves}
 use Rattle.dob_cli.specs.Endings.{AnswersOver, Ending}
 use Rattle.dob_cli.specs.Shelves.{SameFiles, SameOthers, ShelfChange}
 use Rattle.dob_cli.specs.Program.{IsFaultOf, IsValueLineOf}
 use Rattle.dob_cli.specs.Sizes.{AreCountLinesOf, IsCountFaultOf}
 use Rattle.dob_cli.specs.Builds.{AreBuildLines, IsBuildFault}
 use Rattle.dob_cli.specs.Looks.{IsLookFault, IsLookLine}
+use Rattle.dob_cli.specs.Choices.{AreChoiceLines}
 use Rattle.dob_cli.specs.Shows.{AreShowLinesOf, IsShowFaultOf}
 use Rattle.dob_cli.specs.Tables.{IsCheckFault, IsCheckLine, IsMovesLine, IsPositionFault, IsProbeLine}
 
@@ -22,6 +23,7 @@ AreLinesFor c (Line file position) = IsMovesLine (c.before.has file.now) positio
 AreLinesFor c (Check file) = IsCheckLine (c.before.has file.now)
 AreLinesFor c (Look file position) = IsLookLine (c.before.has file.now) position.now
 AreLinesFor c (Show position) = AreShowLinesOf position.now
+AreLinesFor c (Moves file position) = AreChoiceLines (c.before.has file.now) position.now
 
 -- the fault holds of the order
 abbrev pub IsFaultFor : ShelfChange → Order → Fault → Type 0
@@ -33,6 +35,7 @@ IsFaultFor c (Line file position) = IsPositionFault (c.before.has file.now) posi
 IsFaultFor c (Check file) = IsCheckFault (c.before.has file.now)
 IsFaultFor c (Look file position) = IsLookFault (c.before.has file.now) position.now
 IsFaultFor c (Show position) = IsShowFaultOf position.now
+IsFaultFor c (Moves file position) = IsPositionFault (c.before.has file.now) position.now
 
 -- the order leaves each file what it had, but for the one that it names to be made
 abbrev pub KeepsFiles : ShelfChange → Order → Type 0

@@ -20,6 +20,7 @@ name_of_order (order.Line _ _) = codes "line"
 name_of_order (order.Check _) = codes "check"
 name_of_order (order.Look _ _) = codes "look"
 name_of_order (order.Show _) = codes "show"
+name_of_order (order.Moves _ _) = codes "moves"
 
 -- it has these texts, in the order of the subcommand's form; of a number the text may be any that tells it
 abbrev pub HasTexts : List Text → Order → Type 0
@@ -31,6 +32,7 @@ HasTexts texts (order.Line file position) = file.now ∷ position.now ∷ [] ≡
 HasTexts texts (order.Check file) = file.now ∷ [] ≡ texts
 HasTexts texts (order.Look file position) = file.now ∷ position.now ∷ [] ≡ texts
 HasTexts texts (order.Show position) = position.now ∷ [] ≡ texts
+HasTexts texts (order.Moves file position) = file.now ∷ position.now ∷ [] ≡ texts
 
 -- the order is for this subcommand and these texts
 abbrev pub IsOrder : Text → List Text → Order → Type 0

@@ -1,7 +1,7 @@
 -- What the program does with its words, whatever they are.
 use Rattle.std.specs.Prelude.{◌≡◌, ◌≢◌, ◌⊎◌, ℕ, false, List, [], ◌∷◌, ◌++◌, Option, codes}
 use Rattle.dob_dbfile.specs.Sinks.{Change, IsSame, IsUntouched, Says}
-use Rattle.dob_cli.specs.Words.{Text, build, check, count, help, line, look, meaning_of, number_of, probe, show, usage, value, version}
+use Rattle.dob_cli.specs.Words.{Text, build, check, count, help, line, look, meaning_of, moves, number_of, probe, show, usage, value, version}
 use Rattle.dob_pieces.specs.Bytes.{line_feed}
 use Rattle.dob_cli.specs.Endings.{AnswersHelp, AnswersUsage, AnswersVersion, Ending, TellsMemory, ended}
 use Rattle.dob_cli.specs.Shelves.{SameFiles, SameOthers, ShelfChange}
@@ -9,6 +9,7 @@ use Rattle.dob_cli.specs.Program.{AnswersValue}
 use Rattle.dob_cli.specs.Sizes.{AnswersCount}
 use Rattle.dob_cli.specs.Builds.{AnswersBuild}
 use Rattle.dob_cli.specs.Looks.{AnswersLook, AnswersLookRight}
+use Rattle.dob_cli.specs.Choices.{AnswersMoves}
 use Rattle.dob_cli.specs.Shows.{AnswersShow}
 use Rattle.dob_cli.specs.Tables.{AnswersCheck, AnswersLine, AnswersProbe, AnswersProbeRight, HasValueFile}
 
@@ -29,6 +30,7 @@ pub record Ran (c : ShelfChange) (words : List Text) (e : Ending) : Type 0 where
   pub look_right : (file position : Text) → meaning_of words ≡ look file position → HasValueFile (c.before.has file) → AnswersLookRight c file position e
   pub look : (file position : Text) → meaning_of words ≡ look file position → AnswersLook c file position e
   pub show : (position : Text) → meaning_of words ≡ show position → AnswersShow c position e
+  pub moves : (file position : Text) → meaning_of words ≡ moves file position → AnswersMoves c file position e
   pub help : meaning_of words ≡ help → AnswersHelp e
   pub version : meaning_of words ≡ version → AnswersVersion e
   pub usage : meaning_of words ≡ usage → AnswersUsage e

@@ -247,3 +247,7 @@ look file position = asks (codes "look") (file ∷ position ∷ [])
 -- the position that the text names, drawn
 abbrev pub show : Text → Meaning
 show position = asks (codes "show") (position ∷ [])
+
+-- the moves of the position with their values by the table of the file
+abbrev pub moves : Text → Text → Meaning
+moves file position = asks (codes "moves") (file ∷ position ∷ [])

@@ -14,7 +14,7 @@
 ghost use Rattle.std.specs.Prelude.{◌≡◌, ◌∷◌, [], IfOk, IsSomeAnd, List, codes, map, true};
 ghost use Rattle.clap.specs.Words.{App, Rule, kind_of, subcommand_rows_of, with_rule, with_subcommand};
 ghost use Rattle.dob_cli.specs.Forms.{Form, Text, build_form, check_form, count_form, forms, line_form, look_form, probe_form};
-ghost use Rattle.dob_cli.specs.Forms.{show_form, value_form, file_option, nodes_option, out_option, set_option};
+ghost use Rattle.dob_cli.specs.Forms.{moves_form, show_form, value_form, file_option, nodes_option, out_option, set_option};
 ghost use Rattle.dob_cli.specs.Lines.{IsAmong, IsLine};
 ghost use Rattle.dob_cli.specs.Words.{asks, has_topic, is_topic, is_version, meaning_of, meaning_of_topic, names_subcommand};
 ghost use Rattle.dob_cli.specs.Shapes.{Finds, HasShape, IsRead, bare_app, dobutsu_app, form_app, option_rule, text_rule};
@@ -58,6 +58,11 @@ pub enum Order<'a> {
     },
     /// To draw the position that the text names.
     Show(&'a str),
+    /// To print the moves of the position with their values by the table of the file.
+    Moves {
+        file: &'a str,
+        position: &'a str,
+    },
 }
 
 /// What the words come to.
@@ -190,6 +195,16 @@ that were caught and can be dropped again.
 Example: dobutsu show \"gle/.c./.C./ELG - -\" draws the board that a game begins with.
 `dobutsu value --help` says how a position is written.";
 
+const MOVES_HELP: &str =
+    "A line for each move of the side to move, with what it comes to for that side: a win in so many plies from
+here, a loss, or a draw. Wins come first, the soonest first; then draws; then losses, the latest first;
+equal ones by the squares that they leave and reach. `dobutsu line --help` says how a move is written.
+
+Answers: `MOVE win D`, `MOVE loss D` or `MOVE draw`; where the other side's lion can be caught, just that
+catch, `MOVE win 1`; and `end` where the side to move has lost already.
+
+Example: dobutsu moves --db 000.db \"..l/.../L../... - -\" prints `La2-a3 win 3` first.";
+
 /// Reads the words after the program's name. `--help`, `-h` and the subcommand `help`, alone or with the name of another
 /// one, give a help. As the first word `--version` asks for the version. A word that begins with `-` is an option, but for a lone `-`,
 /// the first `--` and what follows it.
@@ -270,7 +285,7 @@ fn names_subcommand(name: &str) -> bool
 {
     matches!(
         name,
-        "help" | "value" | "count" | "build" | "probe" | "line" | "check" | "look" | "show"
+        "help" | "value" | "count" | "build" | "probe" | "line" | "check" | "look" | "show" | "moves"
     )
 }
 
@@ -286,7 +301,8 @@ fn dobutsu_command<'a>(alloc: Global) -> Result<Command<'a>, AllocError>
     let command = add_subcommand(command, line_command(alloc));
     let command = add_subcommand(command, check_command(alloc));
     let command = add_subcommand(command, look_command(alloc));
-    add_subcommand(command, show_command(alloc))
+    let command = add_subcommand(command, show_command(alloc));
+    add_subcommand(command, moves_command(alloc))
 }
 
 // The command with the subcommand, where memory was left for both. It takes their results, since a chain of `?` is slow
@@ -401,6 +417,17 @@ fn show_command<'a>(alloc: Global) -> Result<Command<'a>, AllocError>
         .arg(position_argument(alloc))
 }
 
+// The subcommand `moves`.
+fn moves_command<'a>(alloc: Global) -> Result<Command<'a>, AllocError>
+    ensures { IfOk result (HasShape (form_app moves_form)) }
+{
+    let command = Command::new(alloc, "moves")
+        .about("Prints each move of a position with its value by a database file, best first")
+        .after_help(MOVES_HELP)
+        .arg(file_argument(alloc));
+    add_argument(command, position_argument(alloc))
+}
+
 // The command with a further argument, where memory was left for it so far. It takes a result, as `add_subcommand` does.
 fn add_argument<'a>(
     command: Result<Command<'a>, AllocError>,
@@ -473,6 +500,7 @@ fn order_of<'a>(matches: &ArgMatches<'a>) -> Option<Order<'a>>
         "check" => orders::check_order(inner),
         "look" => orders::look_order(inner),
         "show" => orders::show_order(inner),
+        "moves" => orders::moves_order(inner),
         _ => None,
     }
 }

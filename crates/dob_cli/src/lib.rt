@@ -2,6 +2,7 @@
 #![tactic(auto)]
 
 mod builds;
+mod choices;
 pub mod command;
 mod counts;
 mod disk;

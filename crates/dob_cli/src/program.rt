@@ -13,6 +13,7 @@ ghost use Rattle.dob_cli.specs.Program.{IsValueLineOf, IsFaultOf, value_line};
 ghost use Rattle.dob_cli.specs.declared.fault.Fault.TheVariants.{Memory};
 
 use crate::builds::answer_build;
+use crate::choices::answer_moves;
 use crate::command::{Order, Reading, read_words};
 use crate::counts::answer_count;
 use crate::fault::Fault;
@@ -130,6 +131,7 @@ fn answer<S: Shelf>(
         Order::Check(file) => answer_check(rt, alloc, shelf, file),
         Order::Look { file, position } => answer_look(alloc, shelf, file, position),
         Order::Show(position) => answer_show(alloc, position),
+        Order::Moves { file, position } => answer_moves(alloc, shelf, file, position),
     }
 }
 

@@ -74,7 +74,7 @@ pub(crate) fn answer_check<S: Shelf>(
 }
 
 // The table of the file.
-fn open<S: Shelf>(alloc: Global, shelf: &mut S, file: &str) -> Result<Table, Fault>
+pub(crate) fn open<S: Shelf>(alloc: Global, shelf: &mut S, file: &str) -> Result<Table, Fault>
     ensures table { IfOk result (λ table. IsFileOf ((S.state shelf.old).has file.now) table) }
     ensures fault { IfErr result (IsOpeningFault ((S.state shelf.old).has file.now)) }
     ensures files { SameFiles (S.state shelf.old).has (S.state shelf.new).has }

@@ -25,6 +25,10 @@ const TRIED: &str = ".../L../.../..l - -";
 
 const CHICK: &str = "..l/.../.../L.. C -";
 
+// By the values of lions alone that were found apart from this program.
+const MOVES_OF_WIN_3: &str =
+    "La2-a3 win 3\nLa2-b2 draw\nLa2-a1 loss 8\nLa2-b1 loss 6\nLa2-b3 loss 2\n";
+
 // The setup of `SHOWN` as `show` draws it, written by hand.
 const DRAWN: &str = "The other side: small letters, going down the board.
 In hand: cg
@@ -191,8 +195,27 @@ const ROWS: &[Row] = &[
         "dobutsu: E7 OtherSet\n",
     ),
     // one record of a file, of which neither the others nor the digest are read
+    (&["moves", "--db", "lions.db", WIN_3], 0, MOVES_OF_WIN_3, ""),
+    (
+        &["moves", "--db", "lions.db", CATCH],
+        0,
+        "Lb2xb3 win 1\n",
+        "",
+    ),
+    (&["moves", "--db", "lions.db", TRIED], 0, "end\n", ""),
+    (
+        &["moves", "--db", "lions.db", CHICK],
+        1,
+        "",
+        "dobutsu: E7 OtherSet\n",
+    ),
     (&["show", SHOWN], 0, DRAWN, ""),
-    (&["show", "L../.../.../..l - -"], 1, "", "dobutsu: E6 FarLion\n"),
+    (
+        &["show", "L../.../.../..l - -"],
+        1,
+        "",
+        "dobutsu: E6 FarLion\n",
+    ),
     (&["look", "--db", "lions.db", WIN_3], 0, "win 3\n", ""),
     (&["look", "--db", "lions.db", LOSS_2], 0, "loss 2\n", ""),
     (&["look", "--db", "lions.db", DRAW], 0, "draw\n", ""),

@@ -2,7 +2,7 @@
 ghost use Rattle.std.specs.Prelude.{IsSomeAnd, List, Some, codes};
 ghost use Rattle.clap.specs.Words.{found_of, rows_of};
 ghost use Rattle.dob_cli.specs.Forms.{Text, build_form, check_form, count_form, line_form, look_form, probe_form, show_form};
-ghost use Rattle.dob_cli.specs.Forms.{value_form};
+ghost use Rattle.dob_cli.specs.Forms.{moves_form, value_form};
 ghost use Rattle.dob_cli.specs.Shapes.{Finds};
 ghost use Rattle.dob_cli.specs.Readings.{IsOrder};
 
@@ -84,4 +84,15 @@ pub(super) fn show_order<'a>(inner: &ArgMatches<'a>) -> Option<Order<'a>>
         → IsSomeAnd result (IsOrder (codes "show") texts) }
 {
     Some(Order::Show(inner.get_str("POSITION")?))
+}
+
+/// What the matches of `moves` ask for.
+pub(super) fn moves_order<'a>(inner: &ArgMatches<'a>) -> Option<Order<'a>>
+    ensures { (texts : List Text) → Finds moves_form texts (Some (codes "moves", rows_of (found_of inner.now)))
+        → IsSomeAnd result (IsOrder (codes "moves") texts) }
+{
+    Some(Order::Moves {
+        file: inner.get_str("FILE")?,
+        position: inner.get_str("POSITION")?,
+    })
 }

@@ -22,4 +22,5 @@ returns-in_default c =
       apart (codes "check") name c.in_default.not-check,
       apart (codes "look") name c.in_default.not-look,
       apart (codes "show") name c.in_default.not-show,
+      apart (codes "moves") name c.in_default.not-moves,
     ) refl

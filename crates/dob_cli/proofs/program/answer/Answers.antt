@@ -18,3 +18,6 @@ returns-in-Build-clause-ok g c = rw c.in-Build.is c.answer_build.ensures.ok
 
 pub returns-in-Build-clause-err : goal.returns-in-Build-clause-err
 returns-in-Build-clause-err g c = rw c.in-Build.is c.answer_build.ensures.err
+
+pub returns-in-Moves-clause-ok : goal.returns-in-Moves-clause-ok
+returns-in-Moves-clause-ok g c = rw c.in-Moves.is c.answer_moves.ensures.ok

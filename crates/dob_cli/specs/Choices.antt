@@ -1,0 +1,36 @@
+-- What the program owes where it is asked for the moves of a position with their values by a database file.
+use Rattle.std.specs.Prelude.{◌≡◌, ℕ, false, List, [], ◌∷◌, ◌++◌, codes, flat_map}
+use Rattle.dob_pieces.specs.declared.setup.Setup.{Setup}
+use Rattle.dob_pieces.specs.Bytes.{line_feed, space}
+use Rattle.dob_text.specs.MoveText.{move_text}
+use Rattle.dob_value.specs.Follows.{ClassTable}
+use Rattle.dob_probe.specs.declared.choices.ValuedMove.{ValuedMove}
+use Rattle.dob_probe.specs.Choices.{AreValuedMoves}
+use Rattle.dob_probe.specs.Lines.{GivenBy}
+use Rattle.dob_cli.specs.Endings.{AnswersOver, Ending}
+use Rattle.dob_cli.specs.Program.{value_line}
+use Rattle.dob_cli.specs.Shelves.{ShelfChange}
+use Rattle.dob_cli.specs.Tables.{IsFileOf, IsPositionFault, IsTextOf}
+
+-- a move and its value, as `La2-a3 win 3`
+abbrev pub choice_line : ValuedMove → List ℕ
+choice_line valued = move_text valued.choice false ++ (space ∷ value_line valued.value)
+
+-- a line for each move, or that there is none
+abbrev pub choice_lines : List ValuedMove → List ℕ
+choice_lines [] = codes "end" ++ line_feed ∷ []
+choice_lines choices = flat_map choice_line choices
+
+-- the lines tell the moves of the text's position with their values by the file's table, best first
+pub record AreChoiceLines (Has : List ℕ → Type 0) (words lines : List ℕ) : Type 0 where
+  pub table : ClassTable
+  pub file : IsFileOf Has table
+  pub position : Setup
+  pub named : IsTextOf words position
+  pub choices : List ValuedMove
+  pub valued : AreValuedMoves (GivenBy table) position choices
+  pub same : lines ≡ choice_lines choices
+
+-- what the program does where it is asked for the moves of the position that a text names
+abbrev pub AnswersMoves : ShelfChange → List ℕ → List ℕ → Ending → Type 0
+AnswersMoves c file words = AnswersOver c (AreChoiceLines (c.before.has file) words) (IsPositionFault (c.before.has file) words)

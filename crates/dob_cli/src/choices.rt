@@ -1,0 +1,67 @@
+// The moves of a position with their values by the table of a database file.
+ghost use Rattle.std.specs.Prelude.{◌≡◌, ◌++◌, IfOk, IfErr, OnOk, flat_map, string_bytes};
+ghost use Rattle.dob_cli.specs.Choices.{AreChoiceLines, choice_line, choice_lines};
+ghost use Rattle.dob_cli.specs.Faults.{is_io_error};
+ghost use Rattle.dob_cli.specs.Shelves.{FailsWhere, SameFiles, shelf_change};
+ghost use Rattle.dob_cli.specs.Tables.{IsPositionFault};
+
+use crate::fault::Fault;
+use crate::program::line_of;
+use crate::shelf::Shelf;
+use crate::tables::open;
+use dob_pieces::Memory;
+use dob_probe::{ValuedMove, valued_moves};
+use dob_text::{read_position, write_move};
+use std::alloc::Global;
+
+/// The lines that tell the moves of the position that the text names, each with its value by the table of the file.
+pub(crate) fn answer_moves<S: Shelf>(
+    alloc: Global,
+    shelf: &mut S,
+    file: &str,
+    text: &str,
+) -> Result<String, Fault>
+    ensures ok { IfOk result (λ lines. AreChoiceLines ((S.state shelf.old).has file.now) text.now (string_bytes lines)) }
+    ensures err { IfErr result (IsPositionFault ((S.state shelf.old).has file.now) text.now) }
+    ensures files { SameFiles (S.state shelf.old).has (S.state shelf.new).has }
+    ensures failed { FailsWhere (shelf_change (S.state shelf.old) (S.state shelf.new)) (is_io_error result) }
+{
+    let position = read_position(text)?;
+    let table = open(alloc, shelf, file)?;
+    let choices = valued_moves(alloc, &table, &position)?;
+    Ok(choice_lines(alloc, &choices)?)
+}
+
+// The lines of the moves, or that there is none.
+fn choice_lines(alloc: Global, choices: &[ValuedMove]) -> Result<String, Memory>
+    ensures { IfOk result (λ lines. string_bytes lines ≡ choice_lines choices.now) }
+{
+    if choices.is_empty() {
+        Ok("end\n".to_string(alloc)?)
+    } else {
+        some_lines(alloc, choices)
+    }
+}
+
+// A line for each move.
+fn some_lines(alloc: Global, choices: &[ValuedMove]) -> Result<String, Memory>
+    ensures { IfOk result (λ lines. string_bytes lines ≡ flat_map choice_line choices.now) }
+{
+    let mut lines = String::new(alloc);
+    for valued in choices {
+        push_choice(alloc, &mut lines, *valued)?;
+    }
+    Ok(lines)
+}
+
+// Writes the line of the move at the end.
+fn push_choice(alloc: Global, lines: &mut String, valued: ValuedMove) -> Result<(), Memory>
+    ensures { OnOk result (string_bytes lines.new ≡ string_bytes lines.old ++ choice_line valued) }
+{
+    let choice = write_move(alloc, valued.choice, false)?;
+    let value = line_of(alloc, valued.value)?;
+    lines.push_str(choice.as_str())?;
+    lines.push_str(" ")?;
+    lines.push_str(value.as_str())?;
+    Ok(())
+}
