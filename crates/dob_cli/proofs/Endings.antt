@@ -15,7 +15,6 @@ use Rattle.dob_cli.specs.Faults.{fault_of_value}
 use Rattle.dob_cli.specs.Endings.{Answers, Ending, Tells, TellsMemory, TellsOneFault, ended}
 use Rattle.dob_rank.specs.Limits.{HasManyPieces}
 use Rattle.dob_cli.specs.Program.{IsFaultOf}
-use Rattle.dob_cli.specs.Sizes.{IsCountFaultOf, IsFaultOfSet}
 
 -- a fault of finding a value is one of the text's
 pub value_fault_holds : (text : List ℕ) (p : Setup) (f : value.Fault) → IsLegal p → Spells text p
