@@ -1,5 +1,6 @@
 -- The first news of a loss of the enemy.
-use Rattle.std.proofs.Common.{refl, ◌-◌, inl, inr, arith}
+use Rattle.std.proofs.lemmas.Grind.{common_steps}
+use Rattle.std.proofs.Common.{refl, ◌-◌, arith}
 use Rattle.dob_share.proofs.Rows.{few_plies, no_move_left_to_win, loss_too_deep, loss_applied}
 use Rattle.dob_share.proofs.steps.apply_loss.Goals as goal
 
@@ -18,4 +19,4 @@ pub returns : goal.returns
 returns c = λ pool pooled. loss_applied c.args.slots.now pool c.args.place c.args.to c.index-slot.result.now pooled c.requires.place c.index-slot.ensures
     (record { start = c.index-slot.result.now.start; win = c.win_after-win.result; left = c.index-slot.result.now.left - 1; status = c.index-slot.result.now.status })
     c.win_value.result c.change.result refl refl c.win_value.ensures.some c.win_value.ensures.none c.change.ensures
-    c.args.plies (omega arith) (λ none. elim c.else-slot-eq0-2.either [ inl both ↦ (omega arith) | inr not ↦ absurd (not none) ]) refl c.win_after-win.ensures
+    c.args.plies (omega arith) (λ none. grind (arith, common_steps)) refl c.win_after-win.ensures
