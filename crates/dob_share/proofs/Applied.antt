@@ -1,64 +1,19 @@
 -- An item applied at one place: what the steps of the code give of it.
-use Rattle.std.proofs.Common.{◌≡◌, ◌↔◌, ℕ, ◌+◌, ◌<◌, ◌≤◌, List, length, refl, sym, ap, ◌∙◌, subst, inl, inr, arith, get_or, Result, Ok, Err}
-use Rattle.std.proofs.Math.ListN.{set}
+use Rattle.std.proofs.Common.{◌≡◌, ◌↔◌, ℕ, ◌+◌, ◌<◌, ◌≤◌, List, length, refl, sym, ap, ◌∙◌, subst, inl, inr, arith, get_or, Option, None, Some, MatchOption, Result, Ok, Err}
+use Rattle.std.proofs.Math.ListN.{set, length-set}
 use Rattle.std.proofs.lemmas.List.{get_or_default}
 use Rattle.dob_value.specs.declared.value.Value.{Value}
 use Rattle.dob_value.specs.declared.value.Value.TheVariants.{Win, Loss, Draw}
 use Rattle.dob_share.specs.declared.cells.Slot.{Slot}
 use Rattle.dob_share.specs.declared.cells.Count.{Count}
 use Rattle.dob_share.specs.declared.fault.Fault.{Fault}
+use Rattle.dob_share.specs.declared.fault.Fault.TheVariants.{TooDeep, Contradiction}
 use Rattle.dob_share.specs.Cells.{Cell, CellValue, SameCell, Takes, changed}
 use Rattle.dob_share.specs.Pools.{tally, moves_of, wins_in, ChangesRun}
-use Rattle.dob_share.specs.Slots.{beyond, slot_at, start_at, room_at, cell_of, cell_in, IsShortCell, ArePooled}
-use Rattle.dob_share.specs.Steps.{IsStep, changed_wins, gained}
+use Rattle.dob_share.specs.Slots.{beyond, slot_at, start_at, room_at, least_of, cell_of, cell_in, IsShortCell, ArePooled}
+use Rattle.dob_share.specs.Steps.{IsChange, IsApplied, IsTooDeep}
 use Rattle.dob_share.proofs.Keeping.{same_short, cell_is, cell_here, cell_other, status_same, still_pooled}
-
--- a fault handed on, and an answer
-pub err_same : {A B : Type 0} (r : Result A Fault) (answer : Result B Fault) (e f : Fault) {P : Type 0} → answer ≡ Err e → r ≡ Err e →
-    ((r ≡ Err f) ↔ P) → ((answer ≡ Err f) ↔ P)
-err_same r answer e f a is h =
-    (λ q. h.0 (let k : e ≡ f = cc in is ∙ ap Err k), λ p. let q = h.1 p in let k : e ≡ f = cc in a ∙ ap Err k)
-
-pub ok_same : {A B : Type 0} (r : Result A Fault) (x : A) (y : B) (f : Fault) {P : Type 0} → r ≡ Ok x → ((r ≡ Err f) ↔ P) →
-    ((Ok y ≡ Err f) ↔ P)
-ok_same r x y f is h = (λ q. absurd (cc), λ p. let q = h.1 p in absurd (cc))
-
--- what the rows of the table ask and keep
-takes_left : (was now : Value) (cell : Cell) → Takes was now cell → was ≡ Draw → 0 < cell.left
-takes_left Draw Draw cell takes e = absurd takes
-takes_left Draw (Win _) cell takes e = takes
-takes_left Draw (Loss _) cell takes e = takes
-takes_left (Win _) now cell takes e = absurd (cc)
-takes_left (Loss _) now cell takes e = absurd (cc)
-
-takes_counted : (was now : Value) (cell : Cell) (plies : ℕ) → Takes was now cell → was ≡ Win plies → 0 < cell.wins plies
-takes_counted (Win was) (Win now) cell plies takes e = let same : was ≡ plies = cc in subst (λ (k : ℕ). 0 < cell.wins k) same takes.1
-takes_counted (Win was) Draw cell plies takes e = absurd takes
-takes_counted (Win was) (Loss _) cell plies takes e = absurd takes
-takes_counted Draw now cell plies takes e = absurd (cc)
-takes_counted (Loss _) now cell plies takes e = absurd (cc)
-
-left_kept : (was now : Value) (cell : Cell) → Takes was now cell → (changed was now cell).left + gained was now ≤ cell.left
-left_kept Draw Draw cell takes = absurd takes
-left_kept Draw (Win _) cell takes = omega arith
-left_kept Draw (Loss _) cell takes = omega arith
-left_kept (Win _) Draw cell takes = absurd takes
-left_kept (Win _) (Win _) cell takes = omega arith
-left_kept (Win _) (Loss _) cell takes = absurd takes
-left_kept (Loss _) Draw cell takes = absurd takes
-left_kept (Loss _) (Win _) cell takes = absurd takes
-left_kept (Loss _) (Loss _) cell takes = omega arith
-
-wins_changed : (was now : Value) (cell : Cell) (plies : ℕ) → changed_wins was now cell.wins plies ≡ (changed was now cell).wins plies
-wins_changed Draw Draw cell plies = refl
-wins_changed Draw (Win _) cell plies = refl
-wins_changed Draw (Loss _) cell plies = refl
-wins_changed (Win _) Draw cell plies = refl
-wins_changed (Win _) (Win _) cell plies = refl
-wins_changed (Win _) (Loss _) cell plies = refl
-wins_changed (Loss _) Draw cell plies = refl
-wins_changed (Loss _) (Win _) cell plies = refl
-wins_changed (Loss _) (Loss _) cell plies = refl
+use Rattle.dob_share.proofs.Changing.{IsStep, misfits, not_too_deep}
 
 -- two cells that say the same have the same values
 pub CellValue-same : (a b : Cell) (value : Value) → SameCell a b → CellValue b value → CellValue a value
@@ -78,13 +33,62 @@ CellValue-same a b Draw same is = (
   ],
 )
 
-module _ (slots : List Slot) (pool : List Count) (place start room to : ℕ) (was now : Value) (slot : Slot) (result : Result Slot Fault)
+-- the two values of a change, or the one of none
+pub change_of : (old new : Cell) (v w : Value) (change : Option (Value × Value)) → CellValue old v → CellValue new w →
+    MatchOption change (v ≡ w) (λ values. (values.0 ≡ v) × (values.1 ≡ w) × (v ≡ w → ⊥)) → IsChange old new change
+change_of old new v w None is then same = (v, is, subst (λ x. CellValue new x) (sym same) then)
+change_of old new v w (Some values) is then both = (
+  subst (λ x. CellValue old x) (sym both.0) is,
+  subst (λ x. CellValue new x) (sym both.1) then,
+  λ e. both.2 (sym both.0 ∙ e ∙ both.1),
+)
+
+same_itself : (cell : Cell) → SameCell cell cell
+same_itself cell = record { left = refl; wins = λ plies. refl; least = refl }
+
+-- a fault leaves all as it was
+pub refused : (to : ℕ) (was now : Value) (place : ℕ) (slots : List Slot) (pool : List Count) (slot : Slot) (fault : Fault) →
+    ArePooled slots pool → IsStep to was now (cell_in slots pool place) slot (Err fault) →
+    IsApplied to was now place slots pool slots pool (Err fault)
+refused to was now place slots pool slot fault pooled step = record {
+  misfit = (
+    λ e. step.misfit.0 (let k : fault ≡ Contradiction to = cc in ap Err k),
+    λ not. let e = step.misfit.1 not in let k : fault ≡ Contradiction to = cc in ap Err k,
+  );
+  deep = (
+    λ e. step.deep.0 (let k : fault ≡ TooDeep = cc in ap Err k),
+    λ both. let e = step.deep.1 both in let k : fault ≡ TooDeep = cc in ap Err k,
+  );
+  named = λ class e. step.named class (let k : fault ≡ Contradiction class = cc in ap Err k);
+  unchanged = λ other e. (refl, refl);
+  pooled = pooled;
+  places = refl;
+  statuses = λ other. refl;
+  others = λ other n. same_itself (cell_in slots pool other);
+  takes = λ change e. absurd (cc);
+  cell = λ change e. absurd (cc);
+  values = λ change e. absurd (cc);
+}
+
+pub unfitting : (to : ℕ) (was now : Value) (place : ℕ) (slots : List Slot) (pool : List Count) →
+    ArePooled slots pool → (Takes was now (cell_in slots pool place) → ⊥) →
+    IsApplied to was now place slots pool slots pool (Err (Contradiction to))
+unfitting to was now place slots pool pooled not =
+    refused to was now place slots pool (slot_at slots (length pool) place) (Contradiction to) pooled
+    (misfits to was now (cell_in slots pool place) (slot_at slots (length pool) place) not)
+
+-- the slot that was read
+pub read : (slots : List Slot) (pool : List Count) (place : ℕ) (slot : Slot) → place < length slots → slot ≡ get_or slots place slot →
+    slot ≡ slot_at slots (length pool) place
+read slots pool place slot within is = is ∙ get_or_default slots place slot (beyond (length pool)) within
+
+module _ (slots : List Slot) (pool : List Count) (place start room : ℕ) (slot : Slot)
     (pooled : ArePooled slots pool) (within : place < length slots) (slot_read : slot ≡ get_or slots place slot)
     (start_is : start ≡ start_at slots (length pool) place) (room_is : room ≡ room_at slots (length pool) place) where
   slot_is : slot ≡ slot_at slots (length pool) place
-  slot_is = slot_read ∙ get_or_default slots place slot (beyond (length pool)) within
+  slot_is = read slots pool place slot within slot_read
 
-  pub cell_same : cell_of slot (wins_in pool start room) ≡ cell_in slots pool place
+  cell_same : cell_of slot (wins_in pool start room) ≡ cell_in slots pool place
   cell_same = ap (λ s. cell_of s (wins_in pool start room)) slot_is
       ∙ ap (λ (k : ℕ). cell_of (slot_at slots (length pool) place) (wins_in pool k room)) start_is
       ∙ ap (λ (k : ℕ). cell_of (slot_at slots (length pool) place) (wins_in pool (start_at slots (length pool) place) k)) room_is
@@ -92,12 +96,6 @@ module _ (slots : List Slot) (pool : List Count) (place start room to : ℕ) (wa
 
   pub short_here : IsShortCell (cell_of slot (wins_in pool start room))
   short_here = subst (λ c. IsShortCell c) (sym cell_same) (pooled.short place within)
-
-  pub value_here : (value : Value) → CellValue (cell_of slot (wins_in pool start room)) value → CellValue (cell_in slots pool place) value
-  value_here value is = subst (λ c. CellValue c value) cell_same is
-
-  pub step_here : IsStep to was now (cell_of slot (wins_in pool start room)) slot result → IsStep to was now (cell_in slots pool place) slot result
-  step_here step = subst (λ c. IsStep to was now c slot result) cell_same step
 
   room_left : slot.left + tally moves_of pool start room ≤ room
   room_left =
@@ -107,39 +105,36 @@ module _ (slots : List Slot) (pool : List Count) (place start room to : ℕ) (wa
       let most = pooled.room place within in
       omega arith
 
-  pub counts_fit : tally moves_of pool start room ≤ room
-  counts_fit = let most : slot.left + tally moves_of pool start room ≤ room = room_left in omega arith
+  pub some_free : 0 < slot.left → tally moves_of pool start room < room
+  some_free some = let most : slot.left + tally moves_of pool start room ≤ room = room_left in omega arith
 
-  module _ (next : Slot) (step : IsStep to was now (cell_of slot (wins_in pool start room)) slot result) (is : result ≡ Ok next) where
-    takes : Takes was now (cell_of slot (wins_in pool start room))
-    takes = (step.fits next is).0
+  -- after one less is counted
+  pub free_again : (less : List Count) → tally moves_of less start room + 1 ≡ tally moves_of pool start room → tally moves_of less start room < room
+  free_again less fewer = let most : slot.left + tally moves_of pool start room ≤ room = room_left in omega arith
 
-    pub takes_here : Takes was now (cell_in slots pool place)
-    takes_here = subst (λ c. Takes was now c) cell_same takes
+  module _ (to : ℕ) (was now : Value) where
+    pub refused_here : (fault : Fault) → IsStep to was now (cell_of slot (wins_in pool start room)) slot (Err fault) →
+        IsApplied to was now place slots pool slots pool (Err fault)
+    refused_here fault step = refused to was now place slots pool slot fault pooled (subst (λ c. IsStep to was now c slot (Err fault)) cell_same step)
 
-    pub some_free : was ≡ Draw → tally moves_of pool start room < room
-    some_free e =
-        let left : 0 < slot.left = takes_left was now (cell_of slot (wins_in pool start room)) takes e in
-        let most : slot.left + tally moves_of pool start room ≤ room = room_left in omega arith
+    module _ (next : Slot) (new_pool : List Count)
+        (step : IsStep to was now (cell_of slot (wins_in pool start room)) slot (Ok next))
+        (changes : ChangesRun start room pool new_pool)
+        (wins : (plies : ℕ) → wins_in new_pool start room plies ≡ (changed was now (cell_of slot (wins_in pool start room))).wins plies)
+        (fits : next.left + tally moves_of new_pool start room ≤ slot.left + tally moves_of pool start room) where
+      made : (next.start ≡ slot.start) × (next.status ≡ slot.status) × (next.left ≡ (changed was now (cell_of slot (wins_in pool start room))).left)
+          × (least_of next.win ≡ (changed was now (cell_of slot (wins_in pool start room))).least)
+      made = step.made next refl
 
-    pub some_counted : (plies : ℕ) → was ≡ Win plies → 0 < wins_in pool start room plies
-    some_counted plies e = takes_counted was now (cell_of slot (wins_in pool start room)) plies takes e
-
-    module _ (new_pool : List Count) (changes : ChangesRun start room pool new_pool)
-        (wins : (other : ℕ) → wins_in new_pool start room other ≡ changed_wins was now (wins_in pool start room) other)
-        (total : tally moves_of new_pool start room ≡ tally moves_of pool start room + gained was now) where
       same_after : SameCell (cell_of next (wins_in new_pool start room)) (changed was now (cell_of slot (wins_in pool start room)))
-      same_after = let made = step.made next is in record {
-        left = made.2;
-        wins = λ plies. wins plies ∙ wins_changed was now (cell_of slot (wins_in pool start room)) plies;
-        least = made.3;
-      }
+      same_after = record { left = made.2; wins = wins; least = made.3 }
 
       pub short_after : IsShortCell (cell_of next (wins_in new_pool start room))
-      short_after = same_short (cell_of next (wins_in new_pool start room)) (changed was now (cell_of slot (wins_in pool start room))) same_after (step.fits next is).1
+      short_after = same_short (cell_of next (wins_in new_pool start room)) (changed was now (cell_of slot (wins_in pool start room))) same_after
+          (step.fits next refl).1
 
       start_kept : next.start ≡ start_at slots (length pool) place
-      start_kept = (step.made next is).0 ∙ ap (λ s. s.start) slot_is
+      start_kept = made.0 ∙ ap (λ s. s.start) slot_is
 
       changes_here : ChangesRun (start_at slots (length pool) place) (room_at slots (length pool) place) pool new_pool
       changes_here = subst (λ (k : ℕ). ChangesRun (start_at slots (length pool) place) k pool new_pool) room_is
@@ -153,30 +148,41 @@ module _ (slots : List Slot) (pool : List Count) (place start room to : ℕ) (wa
       cell_after : cell_of next (wins_in new_pool start room) ≡ cell_in (set slots place next) new_pool place
       cell_after = cell_next ∙ sym (cell_here slots pool new_pool place next pooled within start_kept changes_here)
 
-      pub same_cell : SameCell (cell_in (set slots place next) new_pool place) (changed was now (cell_in slots pool place))
+      same_cell : SameCell (cell_in (set slots place next) new_pool place) (changed was now (cell_in slots pool place))
       same_cell = subst (λ c. SameCell c (changed was now (cell_in slots pool place))) cell_after
           (subst (λ c. SameCell (cell_of next (wins_in new_pool start room)) (changed was now c)) cell_same same_after)
 
-      pub value_after : (value : Value) → CellValue (cell_of next (wins_in new_pool start room)) value →
-          CellValue (cell_in (set slots place next) new_pool place) value
-      value_after value is_value = subst (λ c. CellValue c value) cell_after is_value
+      takes_here : Takes was now (cell_in slots pool place)
+      takes_here = subst (λ c. Takes was now c) cell_same (step.fits next refl).0
 
-      pub others_same : (other : ℕ) → (other ≡ place → ⊥) → SameCell (cell_in (set slots place next) new_pool other) (cell_in slots pool other)
-      others_same = cell_other slots pool new_pool place next pooled within start_kept changes_here
-
-      pub statuses_same : (other : ℕ) → (slot_at (set slots place next) (length new_pool) other).status ≡ (slot_at slots (length pool) other).status
-      statuses_same other = status_same slots pool new_pool place next pooled within start_kept changes_here other
-          ((step.made next is).1 ∙ ap (λ s. s.status) slot_is)
-
-      pub pooled_after : ArePooled (set slots place next) new_pool
+      pooled_after : ArePooled (set slots place next) new_pool
       pooled_after =
-          let left : next.left + gained was now ≤ slot.left
-          = (let made : next.left ≡ (changed was now (cell_of slot (wins_in pool start room))).left = (step.made next is).2 in
-          let kept : (changed was now (cell_of slot (wins_in pool start room))).left + gained was now ≤ slot.left
-          = left_kept was now (cell_of slot (wins_in pool start room)) takes in omega arith) in
           let most : slot.left + tally moves_of pool start room ≤ room = room_left in
-          let fits : next.left + tally moves_of new_pool start room ≤ room = omega arith in
+          let within_room : next.left + tally moves_of new_pool start room ≤ room = (let kept = fits in omega arith) in
           still_pooled slots pool new_pool place next pooled within start_kept changes_here
           (subst (λ (k : ℕ). next.left + tally moves_of new_pool (start_at slots (length pool) place) k ≤ k) room_is
-          (subst (λ (k : ℕ). next.left + tally moves_of new_pool k room ≤ room) start_is fits))
+          (subst (λ (k : ℕ). next.left + tally moves_of new_pool k room ≤ room) start_is within_room))
           (subst (λ c. IsShortCell c) cell_next short_after)
+
+      pub applied_here : (change : Option (Value × Value)) → IsChange (cell_of slot (wins_in pool start room)) (cell_of next (wins_in new_pool start room)) change →
+          IsApplied to was now place slots pool (set slots place next) new_pool (Ok change)
+      applied_here change values = record {
+        misfit = (λ e. absurd (cc), λ not. absurd (not takes_here));
+        deep = (λ e. absurd (cc), λ both. absurd (not_deep both.1));
+        named = λ class e. absurd (cc);
+        unchanged = λ fault e. absurd (cc);
+        pooled = pooled_after;
+        places = length-set slots place next;
+        statuses = λ other. status_same slots pool new_pool place next pooled within start_kept changes_here other
+            (made.1 ∙ ap (λ s. s.status) slot_is);
+        others = cell_other slots pool new_pool place next pooled within start_kept changes_here;
+        takes = λ given e. takes_here;
+        cell = λ given e. same_cell;
+        values = λ given e. (let same : change ≡ given = cc in subst (λ x. IsChange (cell_in slots pool place) (cell_in (set slots place next) new_pool place) x) same
+            (subst (λ c. IsChange c (cell_in (set slots place next) new_pool place) change) cell_same
+            (subst (λ c. IsChange (cell_of slot (wins_in pool start room)) c change) cell_after values)));
+      }
+        where
+          not_deep : IsTooDeep (changed was now (cell_in slots pool place)) → ⊥
+          not_deep deep = not_too_deep (changed was now (cell_of slot (wins_in pool start room))) (step.fits next refl).1
+              (subst (λ c. IsTooDeep (changed was now c)) (sym cell_same) deep)

@@ -1,15 +1,16 @@
 -- One item at one cell: when it is refused, and what its slot becomes.
-use Rattle.std.proofs.Common.{◌≡◌, ℕ, zero, suc, ◌+◌, ◌-◌, ◌<◌, ◌≤◌, ◌⊎◌, refl, sym, ap, subst, inl, inr, arith, max, Option, Some, None, Ok, Err}
+use Rattle.std.proofs.Common.{◌≡◌, ◌↔◌, ℕ, zero, suc, ◌+◌, ◌-◌, ◌<◌, ◌≤◌, ◌⊎◌, refl, sym, ap, subst, inl, inr, arith, max, Option, Some, None, Result, Ok, Err}
 use Rattle.std.proofs.lemmas.Bool.{cases_eq, cases_lt}
 use Rattle.dob_value.specs.declared.value.Value.{Value}
 use Rattle.dob_value.specs.declared.value.Value.TheVariants.{Win, Loss, Draw}
 use Rattle.dob_value.specs.Codes.{IsShort}
 use Rattle.dob_value.specs.Distances.{lesser_of, greater_of}
 use Rattle.dob_share.specs.declared.cells.Slot.{Slot}
+use Rattle.dob_share.specs.declared.fault.Fault.{Fault}
 use Rattle.dob_share.specs.declared.fault.Fault.TheVariants.{TooDeep, Contradiction}
 use Rattle.dob_share.specs.Cells.{Cell, CellValue, Takes, changed, more_at, less_at, IsGreatest, IsGreatestIn, KnowsLossWithin}
 use Rattle.dob_share.specs.Slots.{least_of, cell_of, IsShortCell}
-use Rattle.dob_share.specs.Steps.{IsStep, IsTooDeep}
+use Rattle.dob_share.specs.Steps.{IsTooDeep}
 use Rattle.dob_share.proofs.Tallies.{more_at-same, more_at-other, less_at-same, less_at-other}
 
 pub least_some : (win : ℕ) → 0 < win → (least : ℕ) × (least_of win ≡ Some least) × (win ≡ least + 1)
@@ -32,6 +33,15 @@ pub not_too_deep : (cell : Cell) → IsShortCell cell → IsTooDeep cell → ⊥
 not_too_deep cell short deep = deep.2 (short_value cell deep.0 short deep.1)
 
 -- ---- the three answers
+
+-- The slot after an item to a class, or its fault: that the item doesn't fit comes before that the value is too deep.
+pub record IsStep (to : ℕ) (was now : Value) (cell : Cell) (slot : Slot) (result : Result Slot Fault) : Type 0 where
+  pub misfit : (result ≡ Err (Contradiction to)) ↔ (Takes was now cell → ⊥)
+  pub deep : (result ≡ Err TooDeep) ↔ (Takes was now cell × IsTooDeep (changed was now cell))
+  pub named : (class : ℕ) → result ≡ Err (Contradiction class) → class ≡ to
+  pub fits : (next : Slot) → result ≡ Ok next → Takes was now cell × IsShortCell (changed was now cell)
+  pub made : (next : Slot) → result ≡ Ok next → (next.start ≡ slot.start) × (next.status ≡ slot.status)
+      × (next.left ≡ (changed was now cell).left) × (least_of next.win ≡ (changed was now cell).least)
 
 pub misfits : (to : ℕ) (was now : Value) (cell : Cell) (slot : Slot) → (Takes was now cell → ⊥) →
     IsStep to was now cell slot (Err (Contradiction to))

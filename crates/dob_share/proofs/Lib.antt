@@ -5,6 +5,7 @@ pub mod Keeping  -- one cell is written: the others and the order of the pool st
 pub mod Changing  -- when an item does not fit at a cell, and what its slot becomes
 pub mod Growing  -- an item that fits never makes the cell's value worse
 pub mod Applied  -- what the steps of the code give of an item at one place
+pub mod Rows  -- the rows of the table of items: what each makes of its cell
 pub mod Owning  -- what an item at one place is for the share's classes
 -- Shares as they are opened.
 pub mod Opened  -- what has been opened grows by a slot with its run

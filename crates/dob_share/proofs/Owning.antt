@@ -1,5 +1,5 @@
 -- What an item at one place is for the share's classes.
-use Rattle.std.proofs.Common.{◌≡◌, ◌↔◌, ℕ, ◌+◌, ◌*◌, ◌/◌, ◌%◌, ◌<◌, length, refl, sym, ap, ◌∙◌, subst, inl, inr, arith, Result, Err}
+use Rattle.std.proofs.Common.{◌≡◌, ◌↔◌, ℕ, ◌+◌, ◌*◌, ◌/◌, ◌%◌, ◌<◌, length, refl, sym, ap, ◌∙◌, subst, inl, inr, arith, Result, Ok, Err}
 use Rattle.std.proofs.lemmas.Nat.{div-add-mod'}
 use Rattle.dob_moves.specs.declared.position_status.Status.TheVariants.{Open}
 use Rattle.dob_value.specs.declared.value.Value.{Value}
@@ -14,6 +14,16 @@ use Rattle.dob_share.specs.Steps.{IsTooDeep}
 use Rattle.dob_share.specs.Shares.{places_of, IsOwn, IsOwnOpen, status_at, cell_at, IsValue, HasValueNow, Fits, GoesTooDeep, SameClasses}
 use Rattle.dob_share.proofs.Applied.{CellValue-same}
 use Rattle.dob_share.proofs.Growing.{no_worse}
+
+-- a fault handed on, and an answer
+pub err_same : {A B : Type 0} (r : Result A Fault) (answer : Result B Fault) (e f : Fault) {P : Type 0} → answer ≡ Err e → r ≡ Err e →
+    ((r ≡ Err f) ↔ P) → ((answer ≡ Err f) ↔ P)
+err_same r answer e f a is h =
+    (λ q. h.0 (let k : e ≡ f = cc in is ∙ ap Err k), λ p. let q = h.1 p in let k : e ≡ f = cc in a ∙ ap Err k)
+
+pub ok_same : {A B : Type 0} (r : Result A Fault) (x : A) (y : B) (f : Fault) {P : Type 0} → r ≡ Ok x → ((r ≡ Err f) ↔ P) →
+    ((Ok y ≡ Err f) ↔ P)
+ok_same r x y f is h = (λ q. absurd (cc), λ p. let q = h.1 p in absurd (cc))
 
 pub not_open : (share : Share) (item : Item) → (IsOwnOpen share item.to → ⊥) → Fits share item → ⊥
 unfolding IsOwnOpen Fits

@@ -1,34 +1,39 @@
--- What an item makes of a cell: a fault, or the slot after it.
-use Rattle.std.specs.Prelude.{◌≡◌, ℕ, ◌↔◌, Result, Ok, Err}
+-- What an item makes of the cells: a fault, or one cell changed.
+use Rattle.std.specs.Prelude.{◌≡◌, ◌≢◌, ℕ, ◌↔◌, List, length, Option, None, Some, Result, Ok, Err}
 use Rattle.dob_value.specs.declared.value.Value.{Value}
 use Rattle.dob_value.specs.declared.value.Value.TheVariants.{Win, Draw}
 use Rattle.dob_value.specs.Codes.{IsShort}
 use Rattle.dob_share.specs.declared.cells.Slot.{Slot}
+use Rattle.dob_share.specs.declared.cells.Count.{Count}
 use Rattle.dob_share.specs.declared.fault.Fault.{Fault}
 use Rattle.dob_share.specs.declared.fault.Fault.TheVariants.{TooDeep, Contradiction}
-use Rattle.dob_share.specs.Cells.{Cell, CellValue, Takes, changed, more_at, less_at}
-use Rattle.dob_share.specs.Slots.{least_of, IsShortCell}
+use Rattle.dob_share.specs.Cells.{Cell, CellValue, SameCell, Takes, changed}
+use Rattle.dob_share.specs.Slots.{slot_at, cell_in, ArePooled}
 
 -- the cell's value has a distance above the greatest that is kept
 abbrev pub IsTooDeep : Cell → Type 0
 IsTooDeep cell = (value : Value) × CellValue cell value × ¬ IsShort value
 
--- The slot after an item to a class, or its fault: that the item doesn't fit comes before that the value is too deep.
-pub record IsStep (to : ℕ) (was now : Value) (cell : Cell) (slot : Slot) (result : Result Slot Fault) : Type 0 where
-  pub misfit : (result ≡ Err (Contradiction to)) ↔ (¬ Takes was now cell)
-  pub deep : (result ≡ Err TooDeep) ↔ (Takes was now cell × IsTooDeep (changed was now cell))
+-- the cell's value before and after, where they differ; else nothing
+abbrev pub IsChange : Cell → Cell → Option (Value × Value) → Type 0
+IsChange old new None = (value : Value) × CellValue old value × CellValue new value
+IsChange old new (Some values) = CellValue old values.0 × CellValue new values.1 × (values.0 ≢ values.1)
+
+-- What an item to a class, whose cell is at that place, makes of slots and pool. That it doesn't fit comes before that
+-- the value is too deep; a fault leaves all as it was, and no item touches another cell or a status.
+pub record IsApplied (to : ℕ) (was now : Value) (place : ℕ) (old_slots : List Slot) (old_pool : List Count)
+    (slots : List Slot) (pool : List Count) (result : Result (Option (Value × Value)) Fault) : Type 0 where
+  pub misfit : (result ≡ Err (Contradiction to)) ↔ (¬ Takes was now (cell_in old_slots old_pool place))
+  pub deep : (result ≡ Err TooDeep)
+      ↔ (Takes was now (cell_in old_slots old_pool place) × IsTooDeep (changed was now (cell_in old_slots old_pool place)))
   pub named : (class : ℕ) → result ≡ Err (Contradiction class) → class ≡ to
-  pub fits : (next : Slot) → result ≡ Ok next → Takes was now cell × IsShortCell (changed was now cell)
-  pub made : (next : Slot) → result ≡ Ok next → (next.start ≡ slot.start) × (next.status ≡ slot.status)
-      × (next.left ≡ (changed was now cell).left) × (least_of next.win ≡ (changed was now cell).least)
-
--- what is counted after the change
-abbrev pub changed_wins : Value → Value → (ℕ → ℕ) → ℕ → ℕ
-changed_wins Draw (Win now) wins = more_at now wins
-changed_wins (Win was) (Win now) wins = more_at now (less_at was wins)
-changed_wins _ _ wins = wins
-
--- how many more moves are counted after the change
-abbrev pub gained : Value → Value → ℕ
-gained Draw (Win _) = 1
-gained _ _ = 0
+  pub unchanged : (fault : Fault) → result ≡ Err fault → (slots ≡ old_slots) × (pool ≡ old_pool)
+  pub pooled : ArePooled slots pool
+  pub places : length slots ≡ length old_slots
+  pub statuses : (other : ℕ) → (slot_at slots (length pool) other).status ≡ (slot_at old_slots (length old_pool) other).status
+  pub others : (other : ℕ) → other ≢ place → SameCell (cell_in slots pool other) (cell_in old_slots old_pool other)
+  pub takes : (change : Option (Value × Value)) → result ≡ Ok change → Takes was now (cell_in old_slots old_pool place)
+  pub cell : (change : Option (Value × Value)) → result ≡ Ok change →
+      SameCell (cell_in slots pool place) (changed was now (cell_in old_slots old_pool place))
+  pub values : (change : Option (Value × Value)) → result ≡ Ok change →
+      IsChange (cell_in old_slots old_pool place) (cell_in slots pool place) change

@@ -4,6 +4,7 @@ ghost use Rattle.std.specs.Prelude.{◌≡◌, ℕ, ◌<◌, ◌≤◌, ◌+◌,
 ghost use Rattle.dob_value.specs.Distances.{greater_of};
 ghost use Rattle.dob_share.specs.Cells.{more_at, less_at, IsGreatestIn};
 ghost use Rattle.dob_share.specs.Pools.{vacant, tally, moves_of, wins_in, IsWithin, IsCountedAt, ChangesRun};
+ghost use Rattle.dob_share.specs.Slots.{ArePooled, start_at, room_at};
 
 use dob_moves::Status;
 use dob_rank::Segments;
@@ -30,6 +31,26 @@ pub(crate) struct Count {
 pub(crate) struct Run {
     pub(crate) start: u32,
     pub(crate) room: u8,
+}
+
+/// The run of the cell at that place.
+pub(crate) fn run_at(slots: &Segments<Slot>, pool: &Segments<Count>, place: usize) -> Run
+    requires pooled { ArePooled slots.now pool.now }
+    requires place { place < length slots.now }
+    ensures start { result.start ≡ start_at slots.now (length pool.now) place }
+    ensures room { result.room ≡ room_at slots.now (length pool.now) place }
+    ensures within { result.start + result.room ≤ length pool.now }
+{
+    let start = slots[place].start;
+    let end = if slots.len() - place as u64 > 1 {
+        slots[place + 1].start as u64
+    } else {
+        pool.len()
+    };
+    Run {
+        start,
+        room: (end - start as u64) as u8,
+    }
 }
 
 // The entry of the run that counts that distance.

@@ -5,10 +5,10 @@ ghost use Rattle.dob_share.specs.declared.fault.Fault.TheVariants as fault;
 ghost use Rattle.dob_share.specs.Values.{Better};
 ghost use Rattle.dob_share.specs.Owners.{class_of_place};
 ghost use Rattle.dob_share.specs.Pools.{vacant};
-ghost use Rattle.dob_share.specs.Slots.{ArePooled, start_at, room_at};
+ghost use Rattle.dob_share.specs.Slots.{ArePooled};
 ghost use Rattle.dob_share.specs.Openings.{opening_of, settles, settled_among, new_slot};
 
-use crate::cells::{Count, Run, Slot};
+use crate::cells::{Count, Slot, run_at};
 use crate::fault::Fault;
 use crate::news::{Item, Settlement};
 use crate::opening::Opening;
@@ -95,7 +95,7 @@ impl Share {
         match slot.status {
             Status::Caught => Value::Win(1),
             Status::Tried | Status::Stuck => Value::Loss(0),
-            Status::Open => value_in(&self.pool, slot, self.run(place)),
+            Status::Open => value_in(&self.pool, slot, run_at(&self.slots, &self.pool, place)),
         }
     }
 
@@ -118,31 +118,27 @@ impl Share {
         let Some(place) = self.open_place(item.to) else {
             return Err(Fault::Contradiction(item.to));
         };
-        let run = self.run(place);
-        let values = match apply_at(
+        match apply_at(
             &mut self.slots,
             &mut self.pool,
             place,
-            run,
             item.to,
             item.was,
             item.now,
         ) {
-            Ok(values) => values,
-            Err(fault) => return Err(fault),
-        };
-        let (was, now) = values;
-        if is_same(was, now) {
-            return Ok(None);
+            Ok(None) => Ok(None),
+            Ok(Some((was, now))) => {
+                let number = self.settled;
+                self.settled += 1;
+                Ok(Some(Settlement {
+                    number,
+                    class: item.to,
+                    was,
+                    now,
+                }))
+            }
+            Err(fault) => Err(fault),
         }
-        let number = self.settled;
-        self.settled += 1;
-        Ok(Some(Settlement {
-            number,
-            class: item.to,
-            was,
-            now,
-        }))
     }
 
     // The place of an own class that is open.
@@ -164,33 +160,6 @@ impl Share {
             Status::Caught | Status::Tried | Status::Stuck => None,
         }
     }
-
-    // The run of the cell at that place.
-    fn run(&self, place: usize) -> Run
-        requires { place < length self.now.slots }
-        ensures start { result.start ≡ start_at self.now.slots (length self.now.pool) place }
-        ensures room { result.room ≡ room_at self.now.slots (length self.now.pool) place }
-        ensures within { result.start + result.room ≤ length self.now.pool }
-    {
-        let start = self.slots[place].start;
-        let end = if self.slots.len() - place as u64 > 1 {
-            self.slots[place + 1].start as u64
-        } else {
-            self.pool.len()
-        };
-        Run {
-            start,
-            room: (end - start as u64) as u8,
-        }
-    }
-}
-
-// Whether two values are the same.
-fn is_same(one: Value, other: Value) -> bool
-    ensures yes { result ≡ true → one ≡ other }
-    ensures no { result ≡ false → one ≢ other }
-{
-    one == other
 }
 
 // How many of that many classes an owner has: those with the numbers k * n + id.

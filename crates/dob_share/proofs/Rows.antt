@@ -1,0 +1,192 @@
+-- The rows of the table of items: what each makes of its cell, and of the cell's value.
+use Rattle.std.proofs.Common.{◌≡◌, ℕ, zero, suc, ◌+◌, ◌-◌, ◌<◌, ◌≤◌, List, length, refl, sym, ap, ◌∙◌, subst, inl, inr, arith, get_or, cond, eqb, Option, None, Some, MatchOption, Result, Ok, Err}
+use Rattle.std.proofs.Math.ListN.{set}
+use Rattle.std.proofs.lemmas.List.{set-get_or}
+use Rattle.std.proofs.lemmas.Bool.{cases_eq}
+use Rattle.dob_value.specs.declared.value.Value.{Value}
+use Rattle.dob_value.specs.declared.value.Value.TheVariants.{Win, Loss, Draw}
+use Rattle.dob_value.specs.Distances.{lesser_of, greater_of}
+use Rattle.dob_share.specs.declared.cells.Slot.{Slot}
+use Rattle.dob_share.specs.declared.cells.Count.{Count}
+use Rattle.dob_share.specs.declared.fault.Fault.TheVariants.{TooDeep, Contradiction}
+use Rattle.dob_share.specs.Cells.{Cell, CellValue, SameCell, more_at, less_at, IsGreatestIn}
+use Rattle.dob_share.specs.Pools.{tally, moves_of, wins_in, vacant, ChangesRun}
+use Rattle.dob_share.specs.Slots.{least_of, cell_of, start_at, room_at, IsShortCell, ArePooled}
+use Rattle.dob_share.specs.Steps.{IsChange, IsApplied}
+use Rattle.dob_share.proofs.Changing.{misfits, least_some, greatest_more, win_most, win_deep, win_step, loss_deep, loss_step, better_win_step, better_loss_step, better_loss_misfits}
+use Rattle.dob_share.proofs.Applied.{CellValue-same, change_of, refused_here, short_here, short_after, applied_here}
+
+-- ---- values of a cell with a win, or with none while moves are left
+
+win_value_is : (slot : Slot) (wins : ℕ → ℕ) (value : Value) → (slot.win ≡ 0 → 0 < slot.left) → (0 < slot.win → value ≡ Win slot.win) →
+    (slot.win ≡ 0 → value ≡ Draw) → CellValue (cell_of slot wins) value
+win_value_is slot wins value left some none = elim (cases_eq slot.win 0) [
+  | inl e ↦ subst (λ v. CellValue (cell_of slot wins) v) (sym (none e)) (ap least_of e, inl (left e))
+  | inr n ↦ subst (λ v. CellValue (cell_of slot wins) v) (sym (some (omega arith))) (least_some slot.win (omega arith))
+]
+
+least_is : (win least : ℕ) → least_of win ≡ Some least → win ≡ least + 1
+least_is zero least e = absurd (cc)
+least_is (suc win) least e = let same : win ≡ least = cc in omega arith
+
+-- after a loss of the enemy
+nearer_win : (slot next : Slot) (wins : ℕ → ℕ) (least : ℕ) (value : Value) (change : Option (Value × Value)) → (slot.win ≡ 0 → 0 < slot.left) →
+    (0 < slot.win → value ≡ Win slot.win) → (slot.win ≡ 0 → value ≡ Draw) → least_of next.win ≡ Some least →
+    MatchOption change (value ≡ Win next.win) (λ values. (values.0 ≡ value) × (values.1 ≡ Win next.win) × (value ≡ Win next.win → ⊥)) →
+    IsChange (cell_of slot wins) (cell_of next wins) change
+nearer_win slot next wins least value change left some none win both =
+    change_of (cell_of slot wins) (cell_of next wins) value (Win next.win) change
+    (win_value_is slot wins value left some none)
+    (least, win, least_is next.win least win)
+    both
+
+-- after a win of the enemy that isn't the last move's
+value_kept : (slot next : Slot) (wins new_wins : ℕ → ℕ) → 0 < slot.left → (slot.left ≡ 1 → slot.win ≡ 0 → ⊥) → next.left ≡ slot.left - 1 →
+    next.win ≡ slot.win → IsChange (cell_of slot wins) (cell_of next new_wins) None
+value_kept slot next wins new_wins some not_last left win = elim (cases_eq slot.win 0) [
+  | inl none ↦
+      let more : 0 < next.left = elim (cases_eq slot.left 1) [ inl e ↦ absurd (not_last e none) | inr n ↦ (let k : 0 < next.left = omega arith in k) ] in
+      (Draw, (ap least_of none, inl some), (ap least_of (win ∙ none), inl more))
+  | inr n ↦
+      let known = least_some slot.win (omega arith) in
+      (Win slot.win, known, (known.0, ap least_of win ∙ known.1, known.2))
+]
+
+-- after the last move's win of the enemy
+lost : (slot next : Slot) (wins new_wins : ℕ → ℕ) (plies : ℕ) (greatest : Option ℕ) → slot.left ≡ 1 → slot.win ≡ 0 → next.left ≡ 0 → next.win ≡ 0 →
+    IsGreatestIn wins greatest → ((other : ℕ) → new_wins other ≡ more_at plies wins other) →
+    IsChange (cell_of slot wins) (cell_of next new_wins) (Some (Draw, Loss (greater_of greatest plies + 1)))
+lost slot next wins new_wins plies greatest left win none_left none is more = (
+  (ap least_of win, inl (let k : 0 < slot.left = omega arith in k)),
+  CellValue-same (cell_of next new_wins) (record { left = 0; wins = more_at plies wins; least = None }) (Loss (greater_of greatest plies + 1))
+      (record { left = none_left; wins = more; least = ap least_of none })
+      (refl, refl, greater_of greatest plies, greatest_more plies wins greatest is, refl),
+  λ e. absurd (cc),
+)
+
+-- ---- the rows
+
+module _ (slots : List Slot) (pool : List Count) (place start room : ℕ) (slot : Slot)
+    (pooled : ArePooled slots pool) (within : place < length slots) (slot_read : slot ≡ get_or slots place slot)
+    (start_is : start ≡ start_at slots (length pool) place) (room_is : room ≡ room_at slots (length pool) place) where
+  short : IsShortCell (cell_of slot (wins_in pool start room))
+  short = short_here slots pool place start room slot pooled within slot_read start_is room_is
+
+  pub no_move_left : (to plies : ℕ) → slot.left ≡ 0 → IsApplied to Draw (Win plies) place slots pool slots pool (Err (Contradiction to))
+  no_move_left to plies none = refused_here slots pool place start room slot pooled within slot_read start_is room_is to Draw (Win plies) (Contradiction to)
+      (misfits to Draw (Win plies) (cell_of slot (wins_in pool start room)) slot (λ takes. absurd (omega arith)))
+
+  pub win_too_deep : (to plies : ℕ) (greatest : Option ℕ) → slot.left ≡ 1 → slot.win ≡ 0 → IsGreatestIn (wins_in pool start room) greatest →
+      65534 ≤ greater_of greatest plies → IsApplied to Draw (Win plies) place slots pool slots pool (Err TooDeep)
+  win_too_deep to plies greatest last none is deep = refused_here slots pool place start room slot pooled within slot_read start_is room_is to Draw (Win plies) TooDeep
+      (win_deep to plies slot (wins_in pool start room) greatest last none is deep)
+
+  pub win_not_counted : (to was now : ℕ) → (0 < wins_in pool start room was → ⊥) →
+      IsApplied to (Win was) (Win now) place slots pool slots pool (Err (Contradiction to))
+  win_not_counted to was now not = refused_here slots pool place start room slot pooled within slot_read start_is room_is to (Win was) (Win now) (Contradiction to)
+      (misfits to (Win was) (Win now) (cell_of slot (wins_in pool start room)) slot (λ takes. not takes.1))
+
+  module _ (to plies : ℕ) (next : Slot) (new_pool : List Count) (some : 0 < slot.left)
+      (start_same : next.start ≡ slot.start) (status_same : next.status ≡ slot.status) (left : next.left ≡ slot.left - 1) (win : next.win ≡ slot.win)
+      (changes : ChangesRun start room pool new_pool)
+      (wins : (other : ℕ) → wins_in new_pool start room other ≡ more_at plies (wins_in pool start room) other)
+      (total : tally moves_of new_pool start room ≡ tally moves_of pool start room + 1) where
+    one_counted : (change : Option (Value × Value)) →
+        (slot.win ≡ 0 → slot.left ≡ 1 → (greatest : Option ℕ) × IsGreatestIn (wins_in pool start room) greatest × (greater_of greatest plies < 65534)) →
+        IsChange (cell_of slot (wins_in pool start room)) (cell_of next (wins_in new_pool start room)) change →
+        IsApplied to Draw (Win plies) place slots pool (set slots place next) new_pool (Ok change)
+    one_counted change below values = applied_here slots pool place start room slot pooled within slot_read start_is room_is to Draw (Win plies) next new_pool
+        (win_step to plies slot next (wins_in pool start room) short some below start_same status_same left win)
+        changes wins (let more = total in let less = left in omega arith) change values
+
+    pub win_applied : (slot.left ≡ 1 → slot.win ≡ 0 → ⊥) → IsApplied to Draw (Win plies) place slots pool (set slots place next) new_pool (Ok None)
+    win_applied not_last = one_counted None (λ none last. absurd (not_last last none))
+        (value_kept slot next (wins_in pool start room) (wins_in new_pool start room) some not_last left win)
+
+    pub last_win_applied : slot.left ≡ 1 → slot.win ≡ 0 → (greatest : Option ℕ) → IsGreatestIn (wins_in pool start room) greatest → greater_of greatest plies < 65534 →
+        IsApplied to Draw (Win plies) place slots pool (set slots place next) new_pool (Ok (Some (Draw, Loss (greater_of greatest plies + 1))))
+    last_win_applied last none greatest is below = one_counted (Some (Draw, Loss (greater_of greatest plies + 1))) (λ _ _. (greatest, is, below))
+        (lost slot next (wins_in pool start room) (wins_in new_pool start room) plies greatest last none (omega arith) (win ∙ none) is wins)
+
+  module _ (to was now : ℕ) (less new_pool : List Count) (better : now < was) (counted : 0 < wins_in pool start room was)
+      (before : ChangesRun start room pool less) (after : ChangesRun start room less new_pool)
+      (wins_less : (other : ℕ) → wins_in less start room other ≡ less_at was (wins_in pool start room) other)
+      (wins_more : (other : ℕ) → wins_in new_pool start room other ≡ more_at now (wins_in less start room) other)
+      (total_less : tally moves_of less start room + 1 ≡ tally moves_of pool start room)
+      (total_more : tally moves_of new_pool start room ≡ tally moves_of less start room + 1) where
+    both : ChangesRun start room pool new_pool
+    both = record {
+      whole = after.whole ∙ before.whole;
+      before = λ at under. after.before at under ∙ before.before at under;
+      behind = λ at above. after.behind at above ∙ before.behind at above;
+    }
+
+    wins : (other : ℕ) → wins_in new_pool start room other ≡ more_at now (less_at was (wins_in pool start room)) other
+    wins other = wins_more other ∙ ap (λ (k : ℕ). cond {A = ℕ} (eqb other now) (k + 1) k) (wins_less other)
+
+    pub better_win_short : IsShortCell (cell_of slot (wins_in new_pool start room))
+    better_win_short = short_after slots pool place start room slot pooled within slot_read start_is room_is to (Win was) (Win now) slot new_pool
+        (better_win_step to was now slot (wins_in pool start room) short better counted) both wins (omega arith)
+
+    pub better_win_applied : (change : Option (Value × Value)) →
+        IsChange (cell_of slot (wins_in pool start room)) (cell_of slot (wins_in new_pool start room)) change →
+        IsApplied to (Win was) (Win now) place slots pool slots new_pool (Ok change)
+    better_win_applied change values = subst (λ xs. IsApplied to (Win was) (Win now) place slots pool xs new_pool (Ok change))
+        (ap (λ s. set slots place s) slot_read ∙ set-get_or slots place slot)
+        (applied_here slots pool place start room slot pooled within slot_read start_is room_is to (Win was) (Win now) slot new_pool
+        (better_win_step to was now slot (wins_in pool start room) short better counted) both wins (omega arith) change values)
+
+-- losses of the enemy change no count
+module _ (slots : List Slot) (pool : List Count) (place to : ℕ) (slot : Slot)
+    (pooled : ArePooled slots pool) (within : place < length slots) (slot_read : slot ≡ get_or slots place slot) where
+  short_slot : IsShortCell (cell_of slot (wins_in pool (start_at slots (length pool) place) (room_at slots (length pool) place)))
+  short_slot = short_here slots pool place (start_at slots (length pool) place) (room_at slots (length pool) place) slot pooled within slot_read refl refl
+
+  pub few_plies : slot.win ≤ 65534
+  few_plies = win_most slot (wins_in pool (start_at slots (length pool) place) (room_at slots (length pool) place)) short_slot
+
+  pub no_move_left_to_win : (plies : ℕ) → slot.left ≡ 0 → IsApplied to Draw (Loss plies) place slots pool slots pool (Err (Contradiction to))
+  no_move_left_to_win plies none = refused_here slots pool place (start_at slots (length pool) place) (room_at slots (length pool) place) slot pooled within slot_read refl refl
+      to Draw (Loss plies) (Contradiction to)
+      (misfits to Draw (Loss plies) (cell_of slot (wins_in pool (start_at slots (length pool) place) (room_at slots (length pool) place))) slot (λ takes. absurd (omega arith)))
+
+  pub loss_too_deep : (plies : ℕ) → 0 < slot.left → slot.win ≡ 0 → 65534 ≤ plies → IsApplied to Draw (Loss plies) place slots pool slots pool (Err TooDeep)
+  loss_too_deep plies some none deep = refused_here slots pool place (start_at slots (length pool) place) (room_at slots (length pool) place) slot pooled within slot_read refl refl
+      to Draw (Loss plies) TooDeep
+      (loss_deep to plies slot (wins_in pool (start_at slots (length pool) place) (room_at slots (length pool) place)) some none deep)
+
+  pub loss_not_known : (was now : ℕ) → (now < was → 0 < slot.win → slot.win - 1 ≤ was → ⊥) →
+      IsApplied to (Loss was) (Loss now) place slots pool slots pool (Err (Contradiction to))
+  loss_not_known was now not = refused_here slots pool place (start_at slots (length pool) place) (room_at slots (length pool) place) slot pooled within slot_read refl refl
+      to (Loss was) (Loss now) (Contradiction to)
+      (better_loss_misfits to was now slot (wins_in pool (start_at slots (length pool) place) (room_at slots (length pool) place)) not)
+
+  module _ (next : Slot) (value : Value) (change : Option (Value × Value))
+      (start_same : next.start ≡ slot.start) (status_same : next.status ≡ slot.status)
+      (some_win : 0 < slot.win → value ≡ Win slot.win) (no_win : slot.win ≡ 0 → value ≡ Draw)
+      (told : MatchOption change (value ≡ Win next.win) (λ values. (values.0 ≡ value) × (values.1 ≡ Win next.win) × (value ≡ Win next.win → ⊥))) where
+    untouched : ChangesRun (start_at slots (length pool) place) (room_at slots (length pool) place) pool pool
+    untouched = record { whole = refl; before = λ at under. refl; behind = λ at above. refl }
+
+    pub loss_applied : (plies : ℕ) → 0 < slot.left → (slot.win ≡ 0 → plies < 65534) → next.left ≡ slot.left - 1 →
+        least_of next.win ≡ Some (lesser_of (least_of slot.win) plies) →
+        IsApplied to Draw (Loss plies) place slots pool (set slots place next) pool (Ok change)
+    loss_applied plies some below left win =
+        applied_here slots pool place (start_at slots (length pool) place) (room_at slots (length pool) place) slot pooled within slot_read refl refl
+        to Draw (Loss plies) next pool
+        (loss_step to plies slot next (wins_in pool (start_at slots (length pool) place) (room_at slots (length pool) place)) short_slot some below start_same status_same left win)
+        untouched (λ other. refl) (let less = left in omega arith) change
+        (nearer_win slot next (wins_in pool (start_at slots (length pool) place) (room_at slots (length pool) place)) (lesser_of (least_of slot.win) plies)
+        value change (λ none. some) some_win no_win win told)
+
+    pub better_loss_applied : (was now : ℕ) → now < was → 0 < slot.win → slot.win - 1 ≤ was → next.left ≡ slot.left →
+        least_of next.win ≡ Some (lesser_of (least_of slot.win) now) →
+        IsApplied to (Loss was) (Loss now) place slots pool (set slots place next) pool (Ok change)
+    better_loss_applied was now better some most left win =
+        applied_here slots pool place (start_at slots (length pool) place) (room_at slots (length pool) place) slot pooled within slot_read refl refl
+        to (Loss was) (Loss now) next pool
+        (better_loss_step to was now slot next (wins_in pool (start_at slots (length pool) place) (room_at slots (length pool) place)) short_slot better some most
+        start_same status_same left win)
+        untouched (λ other. refl) (let same = left in omega arith) change
+        (nearer_win slot next (wins_in pool (start_at slots (length pool) place) (room_at slots (length pool) place)) (lesser_of (least_of slot.win) now)
+        value change (λ none. absurd (omega arith)) some_win no_win win told)
