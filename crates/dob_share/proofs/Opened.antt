@@ -1,7 +1,7 @@
 -- What has been opened: it grows by a slot with its run, and is in order.
-use Rattle.std.proofs.Common.{◌≡◌, ℕ, zero, suc, ◌+◌, ◌-◌, ◌*◌, ◌<◌, ◌≤◌, List, [], ◌∷◌, ◌++◌, length, refl, sym, ap}
+use Rattle.std.proofs.Common.{◌≡◌, ℕ, zero, suc, ◌+◌, ◌-◌, ◌*◌, ◌<◌, ◌≤◌, List, [], ◌∷◌, ◌++◌, length, replicate, refl, sym, ap}
 use Rattle.std.proofs.Common.{◌∙◌, subst, inl, inr, arith, get_or, eqb, Bool, true, false, cond}
-use Rattle.std.proofs.lemmas.List.{get_or_append_left, get_or_push, get_or_past, get_or_default, length_push}
+use Rattle.std.proofs.lemmas.List.{get_or_append_left, get_or_push, get_or_past, get_or_default, get_or-replicate, length_push, length-replicate}
 use Rattle.std.proofs.lemmas.Bool.{cases_eq, cases_lt}
 use Rattle.dob_share.specs.declared.cells.Slot.{Slot}
 use Rattle.dob_share.specs.declared.cells.Count.{Count}
@@ -165,15 +165,15 @@ module _ (openings : List Opening) (n id : ℕ) (slots : List Slot) (pool : List
       free = free;
     }
 
--- one more free entry
-pub free_push : (pool : List Count) → ((place : ℕ) → get_or pool place vacant ≡ vacant) → (place : ℕ) → get_or (pool ++ vacant ∷ []) place vacant ≡ vacant
-free_push pool free place = elim (cases_lt place (length pool)) [
-  | inl inside ↦ get_or_append_left pool (vacant ∷ []) vacant place inside ∙ free place
-  | inr after ↦ elim (cases_eq place (length pool)) [
-    | inl e ↦ get_or_push pool vacant vacant place (sym e)
-    | inr n ↦ get_or_past (pool ++ vacant ∷ []) place vacant (let e : length (pool ++ vacant ∷ []) ≡ length pool + 1 = length_push pool vacant in omega arith)
-  ]
+-- a pool of free entries
+pub all_free : (size place : ℕ) → get_or (replicate size vacant) place vacant ≡ vacant
+all_free size place = elim (cases_lt place size) [
+  | inl inside ↦ get_or-replicate size place vacant vacant inside
+  | inr after ↦ get_or_past (replicate size vacant) place vacant (let e : length (replicate size vacant) ≡ size = length-replicate size vacant in omega arith)
 ]
+
+pub longer : (size moves : ℕ) → length (replicate (size + moves) vacant) ≡ length (replicate size vacant) + moves
+longer size moves = length-replicate (size + moves) vacant ∙ ap (λ (k : ℕ). k + moves) (sym (length-replicate size vacant))
 
 pub none_opened : (openings : List Opening) (n id : ℕ) (slots : List Slot) (pool : List Count) → slots ≡ [] → pool ≡ [] → AreOpened openings n id slots pool
 none_opened openings n id slots pool no_slot no_count =

@@ -1,5 +1,5 @@
 -- The rows of the table of items: what each makes of its cell, and of the cell's value.
-use Rattle.std.proofs.Common.{◌≡◌, ℕ, zero, suc, ◌+◌, ◌-◌, ◌<◌, ◌≤◌, List, length, refl, sym, ap, ◌∙◌, subst, inl, inr, arith, get_or, cond, eqb, Option, None, Some, MatchOption, Result, Ok, Err}
+use Rattle.std.proofs.Common.{◌≡◌, ℕ, zero, suc, ◌+◌, ◌-◌, ◌<◌, ◌≤◌, List, length, refl, sym, ap, ◌∙◌, subst, inl, inr, arith, get_or, cond, eqb, Option, None, Some, MatchOption, Ok, Err}
 use Rattle.std.proofs.Math.ListN.{set}
 use Rattle.std.proofs.lemmas.List.{set-get_or}
 use Rattle.std.proofs.lemmas.Bool.{cases_eq}
@@ -9,8 +9,8 @@ use Rattle.dob_value.specs.Distances.{lesser_of, greater_of}
 use Rattle.dob_share.specs.declared.cells.Slot.{Slot}
 use Rattle.dob_share.specs.declared.cells.Count.{Count}
 use Rattle.dob_share.specs.declared.fault.Fault.TheVariants.{TooDeep, Contradiction}
-use Rattle.dob_share.specs.Cells.{Cell, CellValue, SameCell, more_at, less_at, IsGreatestIn}
-use Rattle.dob_share.specs.Pools.{tally, moves_of, wins_in, vacant, ChangesRun}
+use Rattle.dob_share.specs.Cells.{CellValue, more_at, less_at, IsGreatestIn}
+use Rattle.dob_share.specs.Pools.{tally, moves_of, wins_in, ChangesRun}
 use Rattle.dob_share.specs.Slots.{least_of, cell_of, start_at, room_at, IsShortCell, ArePooled}
 use Rattle.dob_share.specs.Steps.{IsChange, IsApplied}
 use Rattle.dob_share.proofs.Changing.{misfits, least_some, greatest_more, win_most, win_deep, win_step, loss_deep, loss_step, better_win_step, better_loss_step, better_loss_misfits}

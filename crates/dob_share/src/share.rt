@@ -22,6 +22,12 @@ use std::alloc::Global;
 // The shift of a share's segments: 2 to the power of 20 cells, or counts, in each.
 const SHIFT: u32 = 20;
 
+// An entry of the pool that counts nothing.
+const FREE: Count = Count {
+    distance: 0,
+    moves: 0,
+};
+
 /// The cells of the classes k * n + id, for k from 0 on, of one owner `id` among `n`.
 #[derive(Drop)]
 pub struct Share {
@@ -53,13 +59,15 @@ impl Share {
     {
         let places = places_among(openings.len() as u64, id as u64, n as u64);
         let mut slots = Segments::new(alloc, SHIFT);
-        let mut pool = Segments::new(alloc, SHIFT);
+        let mut moves = 0;
         let mut settled = 0;
         for place in 0..places {
             let opening = opening_at(openings, place as usize * n + id);
-            open_cell(&mut slots, &mut pool, opening)?;
+            push_slot(&mut slots, moves, opening)?;
+            moves += opening.moves as u64;
             settled += settlements_of(opening.status);
         }
+        let pool = Segments::filled(alloc, SHIFT, moves, FREE)?;
         Ok(Share {
             id,
             n,
@@ -184,20 +192,12 @@ fn settlements_of(status: Status) -> u64
     }
 }
 
-// Appends a cell that knows nothing, and its run of free entries.
-#[tactic(auto, using(crate::proofs::Opened::free_push))]
-fn open_cell(
-    slots: &mut Segments<Slot>,
-    pool: &mut Segments<Count>,
-    opening: Opening,
-) -> Result<(), Memory>
-    requires { (place : ℕ) → slice_index_or pool.old place vacant ≡ vacant }
+// Appends the slot of a class of which nothing is known, whose run begins at `start`.
+fn push_slot(slots: &mut Segments<Slot>, start: u64, opening: Opening) -> Result<(), Memory>
+    ensures small { OnOk result (start < 2 ^ 32) }
     ensures few { opening.moves < 256 }
-    ensures slots { OnOk result (slots.new ≡ slots.old ++ new_slot (length pool.old) opening ∷ []) }
-    ensures longer { OnOk result (length pool.new ≡ length pool.old + opening.moves) }
-    ensures free { OnOk result ((place : ℕ) → slice_index_or pool.new place vacant ≡ vacant) }
+    ensures slots { OnOk result (slots.new ≡ slots.old ++ new_slot start opening ∷ []) }
 {
-    let start = pool.len();
     if start > u64::from(u32::MAX) {
         return Err(Memory);
     }
@@ -206,14 +206,7 @@ fn open_cell(
         win: 0,
         left: opening.moves,
         status: opening.status,
-    })?;
-    for _entry in 0..opening.moves {
-        pool.push(Count {
-            distance: 0,
-            moves: 0,
-        })?;
-    }
-    Ok(())
+    })
 }
 
 // What is listed of the class.

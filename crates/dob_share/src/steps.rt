@@ -88,13 +88,14 @@ fn apply_win(
         return apply_last_win(slots, pool, place, plies);
     }
     let run = run_at(slots, pool, place);
-    count_more(pool, run, plies);
+    // The slot first: after a write to the pool its place would be looked for anew.
     slots[place] = Slot {
         start: slot.start,
         win: slot.win,
         left: slot.left - 1,
         status: slot.status,
     };
+    count_more(pool, run, plies);
     Ok(None)
 }
 
@@ -117,13 +118,13 @@ fn apply_last_win(
     if greatest >= MAX_DISTANCE {
         return Err(Fault::TooDeep);
     }
-    count_more(pool, run, plies);
     slots[place] = Slot {
         start: slot.start,
         win: 0,
         left: 0,
         status: slot.status,
     };
+    count_more(pool, run, plies);
     Ok(Some((Value::Draw, Value::Loss(greatest + 1))))
 }
 

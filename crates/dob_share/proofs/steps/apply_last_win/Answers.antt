@@ -29,8 +29,8 @@ returns c = λ to. subst (λ (k : ℕ). IsApplied to Draw (Win c.args.plies) c.a
     c.greatest_win.result c.greatest_win.ensures (let same : c.later-greatest.result ≡ greater_of c.greatest_win.result c.args.plies = c.later-greatest.ensures in
     let below : c.later-greatest.result < 65534 = c.if-greatest-ge-MAX_DISTANCE.false in omega arith))
   where
-    last : (c : goal.After-slots-1) → c.index-slot.result.now.left ≡ 1
+    last : (c : goal.After-count_more) → c.index-slot.result.now.left ≡ 1
     last c = ap (λ s. s.left) (read c.args.slots.now c.args.pool.now c.args.place c.index-slot.result.now c.requires.place c.index-slot.ensures) ∙ c.requires.last
 
-    no_loss : (c : goal.After-slots-1) → c.index-slot.result.now.win ≡ 0
+    no_loss : (c : goal.After-count_more) → c.index-slot.result.now.win ≡ 0
     no_loss c = ap (λ s. s.win) (read c.args.slots.now c.args.pool.now c.args.place c.index-slot.result.now c.requires.place c.index-slot.ensures) ∙ c.requires.no_loss

@@ -1,10 +1,11 @@
 -- One class more is opened with its slot and run; the share owns those listed, with their statuses and fresh cells.
-use Rattle.std.proofs.Common.{◌≡◌, ℕ, ◌+◌, ◌*◌, ◌<◌, ◌≤◌, length, refl, sym, ap, subst, ◌∙◌, arith}
-use Rattle.std.proofs.lemmas.List.{length_push}
+use Rattle.std.proofs.Common.{◌≡◌, ℕ, ◌+◌, ◌*◌, ◌<◌, ◌≤◌, length, replicate, refl, sym, ap, subst, ◌∙◌, arith}
+use Rattle.std.proofs.lemmas.List.{length_push, length-replicate}
 use Rattle.dob_share.specs.Owners.{class_of_place}
+use Rattle.dob_share.specs.Pools.{vacant}
 use Rattle.dob_share.specs.Openings.{opening_of, new_slot, settles, settled_among, AreOpened}
 use Rattle.dob_share.specs.Shares.{places_of}
-use Rattle.dob_share.proofs.Opened.{one_more, pooled_open, settles_most, settled_more}
+use Rattle.dob_share.proofs.Opened.{all_free, longer, one_more, pooled_open, settles_most, settled_more}
 use Rattle.dob_share.proofs.OwnOpened.{owned_here, status_here, cell_here_fresh}
 use Rattle.dob_share.proofs.share.Share.open.Goals as goal
 
@@ -18,11 +19,14 @@ loop-place-preserved c =
     let more : c.settlements_of-settled.result ≡ settles (opening_of c.args.openings.now (c.loop-place.place * c.args.n + c.args.id)).status
     = c.settlements_of-settled.ensures ∙ ap (λ o. settles o.status) opening_is in
     record {
-      opened = subst (λ xs. AreOpened c.args.openings.now c.args.n c.args.id xs c.open_cell.new.pool) (sym c.in_ok-open_cell.ensures.slots)
-          (one_more c.args.openings.now c.args.n c.args.id c.loop-place.slots c.loop-place.pool c.loop-place.invariant.opened
-          (new_slot (length c.loop-place.pool) c.opening_at-opening.result) c.open_cell.new.pool refl c.in_ok-open_cell.ensures.longer
-          c.in_ok-open_cell.ensures.few refl c.in_ok-open_cell.ensures.free (ap (λ o. o.status) known) (ap (λ o. o.moves) known));
-      count = ap length c.in_ok-open_cell.ensures.slots ∙ length_push c.loop-place.slots (new_slot (length c.loop-place.pool) c.opening_at-opening.result)
+      opened = subst (λ xs. AreOpened c.args.openings.now c.args.n c.args.id xs (replicate (c.loop-place.moves + c.opening_at-opening.result.moves) vacant))
+          (sym c.in_ok-push_slot.ensures.slots)
+          (one_more c.args.openings.now c.args.n c.args.id c.loop-place.slots (replicate c.loop-place.moves vacant) c.loop-place.invariant.opened
+          (new_slot c.loop-place.moves c.opening_at-opening.result) (replicate (c.loop-place.moves + c.opening_at-opening.result.moves) vacant)
+          (sym (length-replicate c.loop-place.moves vacant)) (longer c.loop-place.moves c.opening_at-opening.result.moves)
+          c.in_ok-push_slot.ensures.few refl (all_free (c.loop-place.moves + c.opening_at-opening.result.moves))
+          (ap (λ o. o.status) known) (ap (λ o. o.moves) known));
+      count = ap length c.in_ok-push_slot.ensures.slots ∙ length_push c.loop-place.slots (new_slot c.loop-place.moves c.opening_at-opening.result)
           ∙ ap (λ (k : ℕ). k + 1) c.loop-place.invariant.count;
       settled = settled_more (λ place. (opening_of c.args.openings.now (class_of_place c.args.n c.args.id place)).status) c.loop-place.place c.loop-place.settled
           c.settlements_of-settled.result c.loop-place.invariant.settled more;
@@ -33,23 +37,27 @@ loop-place-preserved c =
 pub invariant_of-result : goal.invariant_of-result
 invariant_of-result c = record {
   owners = (c.requires.owner, c.requires.owners);
-  pooled = pooled_open c.args.openings.now c.args.n c.args.id c.loop-place.slots c.loop-place.pool c.loop-place.invariant.opened;
+  pooled = pooled_open c.args.openings.now c.args.n c.args.id c.loop-place.slots c.in_ok-pool.pool
+      (subst (λ xs. AreOpened c.args.openings.now c.args.n c.args.id c.loop-place.slots xs) (sym c.in_ok-pool.ensures) c.loop-place.invariant.opened);
 }
 
 pub returns-clause-owned : goal.returns-clause-owned
 returns-clause-owned c =
     let whole : length c.loop-place.slots ≡ c.places_among-places.result = (let e : length c.loop-place.slots ≡ c.loop-place.place = c.loop-place.invariant.count in omega arith) in
-    owned_here _ c.args.openings.now c.loop-place.invariant.opened
+    owned_here _ c.args.openings.now
+    (subst (λ xs. AreOpened c.args.openings.now c.args.n c.args.id c.loop-place.slots xs) (sym c.in_ok-pool.ensures) c.loop-place.invariant.opened)
     (λ place. (
       λ inside. (c.places_among-places.ensures place).0 (subst (λ (k : ℕ). place < k) whole inside),
       λ below. subst (λ (k : ℕ). place < k) (sym whole) ((c.places_among-places.ensures place).1 below),
     ))
 
 pub returns-clause-statuses : goal.returns-clause-statuses
-returns-clause-statuses c = status_here _ c.args.openings.now c.loop-place.invariant.opened
+returns-clause-statuses c = status_here _ c.args.openings.now
+    (subst (λ xs. AreOpened c.args.openings.now c.args.n c.args.id c.loop-place.slots xs) (sym c.in_ok-pool.ensures) c.loop-place.invariant.opened)
 
 pub returns-clause-cells : goal.returns-clause-cells
-returns-clause-cells c = cell_here_fresh _ c.args.openings.now c.loop-place.invariant.opened
+returns-clause-cells c = cell_here_fresh _ c.args.openings.now
+    (subst (λ xs. AreOpened c.args.openings.now c.args.n c.args.id c.loop-place.slots xs) (sym c.in_ok-pool.ensures) c.loop-place.invariant.opened)
 
 pub returns-clause-settled : goal.returns-clause-settled
 unfolding places_of
