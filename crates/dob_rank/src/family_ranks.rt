@@ -127,7 +127,7 @@ fn chosen_before(chicks: u64, hands: u64, lions: u64, choice: u64) -> u64
 }
 
 /// How many forms that choice has.
-fn weight_of(chicks: u64, lions: u64, choice: u64) -> u64
+pub(crate) fn weight_of(chicks: u64, lions: u64, choice: u64) -> u64
     requires chicks { chicks ≤ 2 }
     requires lions { lions < LIONS }
     requires choice { choice < choose FREE_SQUARES chicks }

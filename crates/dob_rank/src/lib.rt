@@ -12,6 +12,7 @@ mod block_classes;
 mod class_counts;
 mod classes;
 mod family_ranks;
+mod far_places;
 mod far_rows;
 mod far_starts;
 mod fault;
