@@ -6,14 +6,13 @@ ghost use Rattle.dob_rank.specs.Numbers.{order, choose, settle};
 ghost use Rattle.dob_rank.specs.Marks.{marks_below};
 ghost use Rattle.dob_rank.specs.Runs.{AreFewOnBoard};
 ghost use Rattle.dob_rank.specs.Weights.{may_have, are_allowed, forms_stand, lions_in, forms_before, forms_in, lions_before, hand_size, others_squares, others_forms};
-ghost use Rattle.dob_rank.specs.Places.{IsPlaceFor};
+ghost use Rattle.dob_rank.specs.Places.{AreChickParts, IsPlaceFor};
 
 use crate::block::{self, EachKind};
 use crate::far_rows::{before_choice, before_lions};
 use crate::family_ranks::weight_of;
 use crate::layers::Layer;
 use crate::placing;
-use crate::radix;
 use crate::runs::{ENEMY_SQUARES, FREE_SQUARES, LIONS};
 
 /// The squares on which a choice puts at most two chicks where those lions stand, the lower first.
@@ -102,7 +101,7 @@ fn choice_at(chicks: u64, lions: u64, number: u64) -> u64
 }
 
 /// The lions in whose run the choice with forms of that number is, of those in the runs of one hand.
-fn lions_at(chicks: u64, number: u64) -> u64
+pub(crate) fn lions_at(chicks: u64, number: u64) -> u64
     requires chicks { chicks ≤ 2 }
     requires number { number < hand_size B chicks }
     ensures lions { result < LIONS }
@@ -122,6 +121,22 @@ fn lions_at(chicks: u64, number: u64) -> u64
     low
 }
 
+/// The choice of the chicks' squares, that of the others' squares, of which there are so many, and the number of the chicks' forms, before which
+/// so many places stand where those lions do.
+fn parts_at(chicks: u64, lions: u64, others: u64, number: u64) -> (u64, u64, u64)
+    requires chicks { chicks ≤ 2 }
+    requires lions { lions < LIONS }
+    requires others { others ≤ 2025 }
+    requires number { number < forms_in B chicks lions * others }
+    ensures { AreChickParts chicks lions others number result.0 result.1 result.2 }
+{
+    let choice = choice_at(chicks, lions, number / others);
+    let left = number - before_choice(chicks, lions, choice) * others;
+    let weight = weight_of(chicks, lions, choice);
+    let forms = forms_at(chicks, chick_squares(chicks, lions, choice), left % weight);
+    (choice, left / weight, forms)
+}
+
 /// The place in a run of those lions at which the position stands before which the run has so many of profile B.
 pub(crate) fn local_at(on_board: &EachKind, lions: u64, number: u64) -> u64
     requires few { AreFewOnBoard on_board.now }
@@ -132,13 +147,8 @@ pub(crate) fn local_at(on_board: &EachKind, lions: u64, number: u64) -> u64
     let chicks = on_board[0];
     let choices = block::choices_in(on_board);
     let others = choices[1] * choices[2];
-    let bits = on_board[1] + on_board[2];
-    let (chosen, form) = radix::split_by_power(number, bits);
-    let choice = choice_at(chicks, lions, chosen / others);
-    let left = chosen - before_choice(chicks, lions, choice) * others;
-    let weight = weight_of(chicks, lions, choice);
-    let forms = forms_at(chicks, chick_squares(chicks, lions, choice), left % weight);
-    let squares = choice * others + left / weight;
-    let joined = radix::join_by_power(squares, forms, 2 * chicks);
-    radix::join_by_power(joined, form, bits)
+    let forms = block::power(2, on_board[1]) * block::power(2, on_board[2]);
+    let (choice, squares, chick_forms) = parts_at(chicks, lions, others, number / forms);
+    let all_forms = block::power(4, chicks) * forms;
+    (choice * others + squares) * all_forms + (chick_forms * forms + number % forms)
 }
