@@ -1,16 +1,15 @@
 -- The place of a run before which the run has so many positions of profile B, by its choice, squares and forms.
-use Rattle.std.proofs.Common.{◌≡◌, ℕ, zero, suc, ◌+◌, ◌-◌, ◌*◌, ◌/◌, ◌%◌, ◌^◌, ◌<◌, ◌≤◌, ◌&&◌, Bool, true, false, List, slice_index, refl, sym, ap, ◌∙◌, subst, arith}
+use Rattle.std.proofs.Common.{◌≡◌, ℕ, suc, ◌+◌, ◌-◌, ◌*◌, ◌/◌, ◌%◌, ◌^◌, ◌<◌, ◌≤◌, Bool, true, false, List, slice_index, refl, sym, ap, ◌∙◌, subst, arith}
 use Rattle.std.proofs.lemmas.Nat.{div-mul-add, div_below, mod_below, div-add-mod'}
 use Rattle.std.proofs.Math.Nat.{mul_comm, mul_assoc, add-mul, mul-le-mul, mul-le-mul_right}
 use Rattle.dob_pieces.specs.declared.piece_set.PieceSet.{PieceSet}
-use Rattle.dob_pieces.specs.declared.profile.Profile.{Profile}
 use Rattle.dob_pieces.specs.declared.profile.Profile.TheVariants.{B}
-use Rattle.dob_rank.specs.Numbers.{product, digits_of, sum_below, choose, settle, order, count, block_bases, free_squares}
+use Rattle.dob_rank.specs.Numbers.{product, digits_of, sum_below, choose, settle, order, block_bases, free_squares}
 use Rattle.dob_rank.specs.Marks.{one_if, marks_below}
-use Rattle.dob_rank.specs.Runs.{runs_in, run_size, run_start, lion_pairs}
+use Rattle.dob_rank.specs.Runs.{runs_in, run_start, lion_pairs}
 use Rattle.dob_rank.specs.Families.{family_of, is_present}
 use Rattle.dob_rank.specs.Places.{stands, AreChickParts, IsPresentAt, IsPlaceFor}
-use Rattle.dob_rank.specs.Weights.{weight, forms_on, may_have, are_allowed, forms_stand, lions_in, choice_weight, forms_before, forms_in, lions_before}
+use Rattle.dob_rank.specs.Weights.{weight, forms_on, may_have, are_allowed, forms_stand, lions_in, choice_weight, forms_before, lions_before}
 use Rattle.dob_rank.specs.Weights.{hand_size, others_squares, others_forms}
 use Rattle.dob_rank.specs.declared.layers.Layer.TheVariants.{Chicks}
 use Rattle.dob_rank.proofs.MixedRadix.{digit_below, factor_positive}
@@ -23,7 +22,7 @@ use Rattle.dob_rank.proofs.RunWeights.{low_alike}
 use Rattle.dob_rank.proofs.RunMarks.{marks_agree}
 use Rattle.dob_rank.proofs.RunCounts.{is_form, form_in_run}
 use Rattle.dob_rank.proofs.FamilyRuns.{others_forms-some, spot_in_run, run_size-parts}
-use Rattle.dob_rank.proofs.FamilyRanks.{before_place, IsPlaceIn, present_at}
+use Rattle.dob_rank.proofs.FamilyRanks.{present_at}
 
 -- ---- what the searches keep
 
@@ -135,15 +134,15 @@ in_run set block run c q d g f number within below p =
           ∙ ap (λ (x : ℕ). stands run (slice_index (digits_of (block_bases set) block) 0) c x) (div-mul-add g (others_forms (digits_of (block_bases set) block)) f p.forms_below)
           ∙ p.on;
       before = present_at (family_of set B) block run c q g d f (record {
-          block_below = within;
-          run_below = below;
-          choice_below = p.choice_below;
-          squares_below = p.squares_below;
-          form_below = p.form_below;
-          forms_below = p.forms_below;
-          forms_are = forms_before_one run (slice_index (digits_of (block_bases set) block) 0) (others_forms (digits_of (block_bases set) block)) c g f d some p.forms_below
-              p.on p.counted;
-        })
+        block_below = within;
+        run_below = below;
+        choice_below = p.choice_below;
+        squares_below = p.squares_below;
+        form_below = p.form_below;
+        forms_below = p.forms_below;
+        forms_are = forms_before_one run (slice_index (digits_of (block_bases set) block) 0) (others_forms (digits_of (block_bases set) block)) c g f d some p.forms_below
+            p.on p.counted;
+      })
           ∙ ap (λ (x : ℕ). marks_below (is_present (family_of set B)) (run_start set block run) + x) p.number_is;
     }
 

@@ -4,7 +4,7 @@ use Rattle.std.proofs.Math.ListN.{set}
 use Rattle.std.proofs.lemmas.Bool.{cases_eq}
 use Rattle.std.proofs.Math.Nat.{pow-zero, pow-succ'}
 use Rattle.dob_pieces.specs.declared.profile.Profile.TheVariants.{B}
-use Rattle.dob_rank.specs.Numbers.{count, choose, settle, order, own_squares, enemy_squares, free_squares, empty_layers}
+use Rattle.dob_rank.specs.Numbers.{count, choose, settle, order, enemy_squares, free_squares, empty_layers}
 use Rattle.dob_rank.specs.Placing.{past, lower_of, higher_of, first_place, second_place}
 use Rattle.dob_rank.specs.Runs.{lion_pairs}
 use Rattle.dob_rank.specs.Weights.{may_have, are_allowed, forms_stand, lions_in}

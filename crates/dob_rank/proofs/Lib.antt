@@ -61,5 +61,6 @@ pub mod PlaceParts  -- the parts of a place in profile B as the code finds them
 pub mod FarPlaces  -- a position of profile B by what the code finds of it
 pub mod FarSpots  -- the place of a run before which it has so many positions of profile B
 pub mod FamilyClasses  -- the representatives of a family where the lions say which positions are earlier
+pub mod FarUnranks  -- the position of a rank of profile B
 -- Long lists.
 pub mod Segmentation  -- lists in segments

@@ -17,13 +17,13 @@ ghost use Rattle.dob_rank.specs.Weights.{may_have, allowed_number, choice_weight
 ghost use Rattle.dob_rank.specs.Weights.{squares_by, others_by, hand_size, place_in};
 
 use crate::block::{self, DIGITS, EachKind};
+use crate::far_places::{lions_at, local_at};
 use crate::far_rows::{before_choice, before_lions, forms_below, hand_size};
 use crate::far_starts::far_start;
 use crate::forms::form_of;
 use crate::layers::Layer;
 use crate::masks::{self, Masks};
 use crate::radix;
-use crate::far_places::{lions_at, local_at};
 use crate::ranks::{digits_of, numbers_on_board, piece_set_of, position_by, rank, size, unrank};
 use crate::runs::{FREE_SQUARES, LIONS, Spot};
 use dob_pieces::{Family, Piece, PieceSet, Position, Profile, Square};
@@ -105,7 +105,9 @@ fn far_spot_at(on_board: &EachKind, choices: &EachKind, number: u64) -> Spot
     ensures { IsSpotFor on_board.now number result.run result.local }
 {
     let chicks = on_board[0];
-    let others = choices[1] * choices[2] * block::power(2, on_board[1]) * block::power(2, on_board[2]);
+    let squares = choices[1] * choices[2];
+    let forms = block::power(2, on_board[1]) * block::power(2, on_board[2]);
+    let others = squares * forms;
     let in_hand = hand_size(chicks);
     let chosen = number / others;
     let hands = chosen / in_hand;

@@ -9,8 +9,8 @@ ghost use Rattle.dob_rank.specs.Weights.{may_have, are_allowed, forms_stand, lio
 ghost use Rattle.dob_rank.specs.Places.{AreChickParts, IsPlaceFor};
 
 use crate::block::{self, EachKind};
-use crate::far_rows::{before_choice, before_lions};
 use crate::family_ranks::weight_of;
+use crate::far_rows::{before_choice, before_lions};
 use crate::layers::Layer;
 use crate::placing;
 use crate::runs::{ENEMY_SQUARES, FREE_SQUARES, LIONS};
@@ -25,7 +25,10 @@ fn chick_squares(chicks: u64, lions: u64, choice: u64) -> (u64, u64)
 {
     let own = lions / ENEMY_SQUARES;
     let enemy = lions % ENEMY_SQUARES;
-    placing::among((enemy, own), placing::places_of(FREE_SQUARES, chicks, choice))
+    placing::among(
+        (enemy, own),
+        placing::places_of(FREE_SQUARES, chicks, choice),
+    )
 }
 
 /// Whether a chick or hen of that form may stand on the square.

@@ -2,7 +2,6 @@
 use Rattle.std.proofs.Common.{◌≤◌, ◌<◌, ◌-◌}
 use Rattle.dob_pieces.specs.declared.profile.Profile.TheVariants.{B}
 use Rattle.dob_rank.specs.Numbers.{choose, free_squares}
-use Rattle.dob_rank.specs.Runs.{lion_pairs}
 use Rattle.dob_rank.specs.Weights.{forms_before}
 use Rattle.dob_rank.proofs.far_places.choice_at.Given as goal
 

@@ -1,7 +1,6 @@
 -- The number stands between the two sums, which come closer.
 use Rattle.std.proofs.Common.{◌≤◌, ◌<◌, ◌-◌}
 use Rattle.dob_pieces.specs.declared.profile.Profile.TheVariants.{B}
-use Rattle.dob_rank.specs.Numbers.{choose, free_squares}
 use Rattle.dob_rank.specs.Runs.{lion_pairs}
 use Rattle.dob_rank.specs.Weights.{lions_before}
 use Rattle.dob_rank.proofs.far_places.lions_at.Given as goal

@@ -1,9 +1,7 @@
 -- The parts join to a place, each of them small.
-use Rattle.std.proofs.Common.{◌≡◌, ◌*◌, ◌+◌, ◌%◌, ◌^◌, ◌<◌, ◌≤◌, [], get_or, slice_index, refl, sym, subst, arith}
-use Rattle.std.proofs.lemmas.Nat.{mod_below}
+use Rattle.std.proofs.Common.{◌*◌, ◌<◌, ◌≤◌, [], slice_index, refl, sym, subst, arith}
 use Rattle.dob_pieces.specs.declared.profile.Profile.TheVariants.{B}
 use Rattle.dob_rank.specs.Weights.{others_squares, others_forms, forms_in}
-use Rattle.dob_rank.proofs.Blocks.{choose_ten, four_small}
 use Rattle.dob_rank.proofs.FamilyRuns.{others_forms-some}
 use Rattle.dob_rank.proofs.PlaceParts.{others_squares_are, others_forms_are}
 use Rattle.dob_rank.proofs.FarSpots.{small_parts, forms_out_of, place_found, in_all_forms, in_square, in_place}

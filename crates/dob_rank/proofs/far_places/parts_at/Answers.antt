@@ -1,5 +1,4 @@
 -- What is left of the choice found is less than its weight for each of the others' squares.
-use Rattle.std.proofs.Common.{◌≡◌, ◌*◌, ◌<◌, ◌≤◌, arith}
 use Rattle.std.proofs.lemmas.Nat.{div_below, mod_below}
 use Rattle.dob_rank.proofs.MixedRadix.{factor_positive}
 use Rattle.dob_rank.proofs.FarSpots.{choice_found, weight_some, form_in_weight, parts_are}
