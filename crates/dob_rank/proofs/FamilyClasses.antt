@@ -17,7 +17,7 @@ use Rattle.dob_rank.proofs.BlockTables.{place_below_size}
 use Rattle.dob_rank.proofs.Present.{there}
 
 -- a place of a run is below the set's size
-in_set : (set : PieceSet) (block run local : ℕ) → IsInRun set block run local → run_start set block run + local < size_of set
+pub in_set : (set : PieceSet) (block run local : ℕ) → IsInRun set block run local → run_start set block run + local < size_of set
 in_set set block run local h =
     let start = run_start-is set block run in
     let below = place_below_size set block (run * run_size set block + local) h.block_below (place_in_run set block run local h) in

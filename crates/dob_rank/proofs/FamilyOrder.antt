@@ -1,11 +1,11 @@
 -- Ranks in a family are below its size, and no two of its positions have one; the position of a present rank of its set.
-use Rattle.std.proofs.Common.{◌≡◌, ℕ, suc, ◌+◌, ◌-◌, ◌<◌, Bool, true, ap, ◌∙◌, subst, inl, inr, arith}
+use Rattle.std.proofs.Common.{◌≡◌, ℕ, suc, ◌+◌, ◌-◌, ◌<◌, Bool, true, sym, ap, ◌∙◌, subst, inl, inr, arith}
 use Rattle.std.proofs.lemmas.Bool.{cases_lt}
 use Rattle.dob_pieces.specs.declared.profile.Family.{Family}
 use Rattle.dob_pieces.specs.declared.setup.Setup.{Setup}
 use Rattle.dob_rank.specs.Numbers.{size_of, rank_of, nth}
 use Rattle.dob_rank.specs.Marks.{one_if, marks_below}
-use Rattle.dob_rank.specs.Families.{IsPositionIn, HasRankIn, is_present, size_in, rank_in}
+use Rattle.dob_rank.specs.Families.{IsPositionIn, HasRankIn, IsRanked, is_present, size_in, rank_in}
 use Rattle.dob_rank.proofs.Numbering.{nth-block, rank_of-nth, rank_of-below, rank_of-same}
 use Rattle.dob_rank.proofs.Words.{marks_below_more, marks_below-up}
 use Rattle.dob_rank.proofs.Present.{present, allowed, HasRankIn-rank_in}
@@ -34,12 +34,6 @@ rank_in-same family p q hp hq same = elim (cases_lt (rank_of family.set p) (rank
   ]
 ]
 
--- what a present rank of the set is in the family
-pub record IsRanked (family : Family) (s : Setup) (number : ℕ) : Type 0 where
-  pub position : IsPositionIn family s
-  pub rank_is : rank_in family s ≡ number
-  pub count : HasRankIn family s number
-
 pub ranked_at : (family : Family) (r : ℕ) → r < size_of family.set → is_present family r ≡ true
     → IsRanked family (nth family.set r) (marks_below (is_present family) r)
 unfolding rank_in
@@ -53,3 +47,10 @@ ranked_at family r below on =
       rank_is = same;
       count = subst (HasRankIn family (nth family.set r)) same (HasRankIn-rank_in family (nth family.set r) p);
     }
+
+-- a position of that rank is the only one
+pub record IsOnly (family : Family) (s : Setup) (number : ℕ) : Type 0 where
+  pub only : (p : Setup) → IsPositionIn family p → rank_in family p ≡ number → p ≡ s
+
+pub only_ranked : (family : Family) (s : Setup) (number : ℕ) → IsRanked family s number → IsOnly family s number
+only_ranked family s number at = record { only = λ p is same. rank_in-same family p s is at.position (same ∙ sym at.rank_is) }

@@ -197,6 +197,13 @@ hand_size_is chicks few =
     all_lions : lion_pairs ≤ lion_pairs
     all_lions = omega arith
 
+-- there are some
+pub hand_size-some : (chicks : ℕ) → chicks ≤ 2 → 0 < hand_size B chicks
+hand_size-some zero few = subst (λ (n : ℕ). 0 < n) (hand_size_is 0 few).value_is (omega arith)
+hand_size-some (suc zero) few = subst (λ (n : ℕ). 0 < n) (hand_size_is 1 few).value_is (omega arith)
+hand_size-some (suc (suc zero)) few = subst (λ (n : ℕ). 0 < n) (hand_size_is 2 few).value_is (omega arith)
+hand_size-some (suc (suc (suc n))) few = absurd (omega (arith, few))
+
 -- ---- the forms on a square
 
 abbrev pub form_entry : ℕ → ℕ → ℕ

@@ -106,11 +106,11 @@ open_two t a b (l ∷ ls) h z k low =
     five (suc a) (suc b) less under rec = (h, rec a b (omega arith) (omega arith))
 
 -- the two places of a choice
-record IsChoice (m a b : ℕ) : Type 0 where
-  rising : a < b
-  below : b < m
+pub record IsChoice (m a b : ℕ) : Type 0 where
+  pub rising : a < b
+  pub below : b < m
 
-choice_of : (m n : ℕ) → n < choose m 2 → IsChoice m (lower_of m n) (higher_of m n)
+pub choice_of : (m n : ℕ) → n < choose m 2 → IsChoice m (lower_of m n) (higher_of m n)
 choice_of zero n h = absurd (omega arith)
 choice_of (suc m) n h = elim (cases_lt n m) [
   | inl lt ↦ (let more : suc n < suc m = omega arith in rw (lt-ltb n m lt) (record { rising = omega arith; below = more }))

@@ -85,7 +85,7 @@ in_run family block run c s f n r d t g i ld lt lg =
     }
 
 -- what stands there
-form_in_run : (family : Family) (block run c s f n r d t g : ℕ) → IsSpotIn family block run c s f n r → d ≤ c → t < n
+pub form_in_run : (family : Family) (block run c s f n r d t g : ℕ) → IsSpotIn family block run c s f n r → d ≤ c → t < n
     → g < 4 ^ slice_index (digits_of (block_bases family.set) block) 0 * r
     → is_present family (run_start family.set block run + ((d * n + t) * (4 ^ slice_index (digits_of (block_bases family.set) block) 0 * r) + g))
     ≡ is_form family.profile run (slice_index (digits_of (block_bases family.set) block) 0) r d g

@@ -101,7 +101,7 @@ low_digits n m b w hb hw e = same_from_place (n / w % b) (n % w) (m / w % b) (m 
 more_digits : (base t : ℕ) (ls : List ℕ) → base ^ count t (t ∷ ls) ≡ base * base ^ count t ls
 more_digits base t ls = ap (λ (x : ℕ). base ^ x) (count_same t ls) ∙ pow-succ' base (count t ls)
 
-allowed_same : (ok : ℕ → ℕ → Bool) (base t n s : ℕ) (ls : List ℕ)
+pub allowed_same : (ok : ℕ → ℕ → Bool) (base t n s : ℕ) (ls : List ℕ)
     → are_allowed ok base t n s (t ∷ ls) ≡ ok s (n / base ^ count t ls % base) && are_allowed ok base t n (suc s) ls
 allowed_same ok base t n s ls = rw (eq-eqb t t refl) refl
 

@@ -1,5 +1,5 @@
 -- The positions of a family: how many there are, how many stand before one, and its classes. Which of the ranks of its set are its own.
-use Rattle.std.specs.Prelude.{ℕ, ◌&&◌, Bool}
+use Rattle.std.specs.Prelude.{◌≡◌, ℕ, ◌&&◌, Bool}
 use Rattle.dob_pieces.specs.declared.piece_set.PieceSet.{PieceSet}
 use Rattle.dob_pieces.specs.declared.profile.Family.{Family}
 use Rattle.dob_pieces.specs.declared.profile.Profile.{Profile}
@@ -56,3 +56,9 @@ rank_in family setup = marks_below (is_present family) (rank_of family.set setup
 
 unfoldable pub classes_in : Family → ℕ
 classes_in family = marks_below (is_marked family) (size_of family.set)
+
+-- a position of the family and its rank
+pub record IsRanked (family : Family) (setup : Setup) (number : ℕ) : Type 0 where
+  pub position : IsPositionIn family setup
+  pub rank_is : rank_in family setup ≡ number
+  pub count : HasRankIn family setup number

@@ -8,6 +8,7 @@ pub mod Families
 pub mod ClassRows
 pub mod Runs
 pub mod Weights
+pub mod Places
 pub mod RunTables
 pub mod BlockTables
 pub mod Laws

@@ -1,6 +1,7 @@
 -- Weighted choices of squares: a piece has as many forms on a square as a profile lets it have there.
 use Rattle.std.specs.Prelude.{ℕ, zero, suc, ◌+◌, ◌-◌, ◌*◌, ◌/◌, ◌%◌, ◌^◌, ◌==◌, ◌&&◌, nat_lt, cond, Bool, true, List, [], ◌∷◌, length, map, slice_index}
 use Rattle.dob_pieces.specs.declared.profile.Profile.{Profile}
+use Rattle.dob_pieces.specs.declared.profile.Profile.TheVariants.{B}
 use Rattle.dob_pieces.specs.Profiles.{may_stand}
 use Rattle.dob_pieces.specs.Setups.{Cell}
 use Rattle.dob_rank.specs.Order.{form}
@@ -31,6 +32,12 @@ are_allowed ok base t number s (l ∷ ls) =
 -- a chick or hen of that form may stand on the square
 abbrev pub may_have : Profile → ℕ → ℕ → Bool
 may_have profile square form = may_stand profile square (cell_of (order Chicks) form)
+
+-- chicks and hens on so many squares, the first two of these, may have the forms that the number tells
+abbrev pub forms_stand : ℕ → ℕ → ℕ → ℕ → Bool
+forms_stand zero first second n = true
+forms_stand (suc zero) first second n = may_have B first (n % 4)
+forms_stand (suc (suc pieces)) first second n = may_have B first (n / 4 % 4) && may_have B second (n % 4)
 
 -- ---- the same by the squares that are left alone
 

@@ -233,7 +233,7 @@ fn form_number(on_board: &EachKind, forms: &EachKind) -> u64
 }
 
 /// In how many ways at most two squares are chosen from so many.
-fn choose(squares: u64, pieces: u64) -> u64
+pub(crate) fn choose(squares: u64, pieces: u64) -> u64
     requires few { pieces ≤ 2 }
     requires small { squares ≤ 12 }
     ensures { result ≡ choose squares pieces }

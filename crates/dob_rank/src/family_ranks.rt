@@ -5,24 +5,27 @@ ghost use Rattle.std.specs.Prelude.{◌≡◌, ◌<◌, ◌≤◌, ◌+◌, ◌*
 ghost use Rattle.dob_pieces.specs.Profiles.{IsAllowed};
 ghost use Rattle.dob_pieces.specs.declared.profile.Profile.TheVariants.{B};
 ghost use Rattle.dob_rank.specs.BoardMasks.{AreMasks};
-ghost use Rattle.dob_rank.specs.Families.{family_of, HasSizeIn, HasRankIn, is_present, size_in, rank_in};
+ghost use Rattle.dob_pieces.specs.declared.setup.Setup.{Setup};
+ghost use Rattle.dob_rank.specs.Families.{family_of, IsPositionIn, HasSizeIn, HasRankIn, IsRanked, is_present, size_in, rank_in};
 ghost use Rattle.dob_rank.specs.Marks.{marks_below};
 ghost use Rattle.dob_rank.specs.Masks.{layer_mask};
-ghost use Rattle.dob_rank.specs.Numbers.{start_of, block_of, order, layer, count, choose, free_squares, on_board as on_board_of};
+ghost use Rattle.dob_rank.specs.Numbers.{product, block_bases, start_of, block_of, order, layer, count, choose, free_squares, on_board as on_board_of};
 ghost use Rattle.dob_rank.specs.Order.{IsPositionOf};
-ghost use Rattle.dob_rank.specs.Runs.{AreFewOnBoard, lion_pairs};
+ghost use Rattle.dob_rank.specs.Places.{IsSpotFor};
+ghost use Rattle.dob_rank.specs.Runs.{AreFewOnBoard, lion_pairs, square_bases};
 ghost use Rattle.dob_rank.specs.Weights.{may_have, allowed_number, choice_weight, forms_before, lions_before, others_squares, others_forms};
 ghost use Rattle.dob_rank.specs.Weights.{squares_by, others_by, hand_size, place_in};
 
 use crate::block::{self, DIGITS, EachKind};
+use crate::far_places::{lions_at, local_at};
 use crate::far_rows::{before_choice, before_lions, forms_below, hand_size};
 use crate::far_starts::far_start;
 use crate::forms::form_of;
 use crate::layers::Layer;
 use crate::masks::{self, Masks};
 use crate::radix;
-use crate::ranks::{digits_of, numbers_on_board, piece_set_of, rank, size};
-use crate::runs::{FREE_SQUARES, LIONS};
+use crate::ranks::{digits_of, numbers_on_board, piece_set_of, position_by, rank, size, unrank};
+use crate::runs::{FREE_SQUARES, LIONS, Spot};
 use dob_pieces::{Family, Piece, PieceSet, Position, Profile, Square};
 
 /// How many positions the family has.
@@ -46,6 +49,74 @@ pub fn rank_in(profile: Profile, position: &Position) -> u64
     match profile {
         Profile::A => rank(position),
         Profile::B => far_rank(position),
+    }
+}
+
+/// The position of the family before which there are so many of them, fewer than it has.
+pub fn unrank_in(family: Family, rank: u64) -> Position
+    requires { rank < size_in family }
+    ensures position { IsPositionIn family result.setup }
+    ensures count { HasRankIn family result.setup rank }
+    ensures number { rank_in family result.setup ≡ rank }
+    ensures only { (p : Setup) → IsPositionIn family p → rank_in family p ≡ rank → p ≡ result.setup }
+{
+    match family.profile {
+        Profile::A => unrank(family.set, rank),
+        Profile::B => far_unrank(family.set, rank),
+    }
+}
+
+/// The position of profile B of that rank.
+fn far_unrank(set: PieceSet, rank: u64) -> Position
+    requires { rank < size_in (family_of set B) }
+    ensures { IsRanked (family_of set B) result.setup rank }
+{
+    let (block, number) = find_far_block(set, rank);
+    let on_board = block::numbers_in(set, block);
+    let choices = block::choices_in(&on_board);
+    let spot = far_spot_at(&on_board, &choices, number);
+    position_by(set, &on_board, &choices, spot)
+}
+
+/// The block in which a rank of profile B is, and how many positions of the profile the block has before it.
+fn find_far_block(set: PieceSet, rank: u64) -> (u64, u64)
+    requires { rank < size_in (family_of set B) }
+    ensures block { result.0 < product (block_bases set) }
+    ensures number { marks_below (is_present (family_of set B)) (start_of set result.0) + result.1 ≡ rank }
+    ensures within { rank < marks_below (is_present (family_of set B)) (start_of set (result.0 + 1)) }
+{
+    let blocks = block::blocks(set);
+    let mut start = 0;
+    for block in 0..blocks {
+        let end = far_start(set, block + 1);
+        if rank < end {
+            return (block, rank - start);
+        }
+        start = end;
+    }
+    (blocks, 0)
+}
+
+/// The spot of a block of those numbers on the board before which the block has so many positions of profile B.
+fn far_spot_at(on_board: &EachKind, choices: &EachKind, number: u64) -> Spot
+    requires few { AreFewOnBoard on_board.now }
+    requires choices { choices.now ≡ square_bases on_board.now }
+    requires small { number < 2 ^ 42 }
+    ensures { IsSpotFor on_board.now number result.run result.local }
+{
+    let chicks = on_board[0];
+    let squares = choices[1] * choices[2];
+    let forms = block::power(2, on_board[1]) * block::power(2, on_board[2]);
+    let others = squares * forms;
+    let in_hand = hand_size(chicks);
+    let chosen = number / others;
+    let hands = chosen / in_hand;
+    let lions = lions_at(chicks, chosen % in_hand);
+    let before = hands * in_hand + before_lions(chicks, lions);
+    let local = local_at(on_board, lions, number - before * others);
+    Spot {
+        run: hands * LIONS + lions,
+        local,
     }
 }
 
@@ -127,7 +198,7 @@ fn chosen_before(chicks: u64, hands: u64, lions: u64, choice: u64) -> u64
 }
 
 /// How many forms that choice has.
-fn weight_of(chicks: u64, lions: u64, choice: u64) -> u64
+pub(crate) fn weight_of(chicks: u64, lions: u64, choice: u64) -> u64
     requires chicks { chicks ≤ 2 }
     requires lions { lions < LIONS }
     requires choice { choice < choose FREE_SQUARES chicks }

@@ -12,6 +12,7 @@ mod block_classes;
 mod class_counts;
 mod classes;
 mod family_ranks;
+mod far_places;
 mod far_rows;
 mod far_starts;
 mod fault;
@@ -30,7 +31,7 @@ mod stretches;
 
 pub use class_counts::count_classes;
 pub use classes::Classes;
-pub use family_ranks::{rank_in, size_in};
+pub use family_ranks::{rank_in, size_in, unrank_in};
 pub use fault::Fault;
 pub use limit::{MOST_PIECES, is_too_large};
 pub use ranks::{rank, representative, size, unrank};

@@ -1,6 +1,6 @@
 // Lists in segments: a list that grows without moving what it has, in vectors of 2 to the power of `shift` items, of
 // which only the last may be shorter.
-ghost use Rattle.std.specs.Prelude.{◌≡◌, ◌≢◌, ◌+◌, ◌*◌, ◌/◌, ◌%◌, ◌^◌, ◌<◌, ◌≤◌, ◌==◌, List, [], ◌∷◌, ◌++◌, length, replicate, Some, IfOk};
+ghost use Rattle.std.specs.Prelude.{◌≡◌, ◌≢◌, ℕ, take, ◌+◌, ◌*◌, ◌/◌, ◌%◌, ◌^◌, ◌<◌, ◌≤◌, ◌==◌, List, [], ◌∷◌, ◌++◌, length, replicate, Some, IfOk};
 ghost use Rattle.std.specs.Prelude.{OnOk, OnErr, vec_len, slice_set, slice_get, slice_index_or};
 ghost use Rattle.dob_rank.specs.Segmented.{joined, AreSegments};
 ghost use Rattle.dob_rank.specs.SegmentsLeft.{rest_of};
@@ -59,6 +59,14 @@ impl<T> Segments<T> {
         self.count
     }
 
+    /// How many items each segment but the last has.
+    pub fn segment_length(&self) -> u64
+        ensures low { 0 < result }
+        ensures high { result ≤ 2 ^ 20 }
+    {
+        1 << self.shift
+    }
+
     /// Whether it has no item.
     pub fn is_empty(&self) -> bool
         ensures { result ≡ (length self.now == 0) }
@@ -90,6 +98,19 @@ impl<T: Copy> Segments<T> {
     {
         let (number, within) = split(place, self.shift);
         self.segments[number][within]
+    }
+
+    /// Appends the items one after another.
+    ///
+    /// Error: `Memory`, which may leave the list with the first of them.
+    pub fn append(&mut self, items: &[T]) -> Result<(), Memory>
+        ensures appended { OnOk result (self.new ≡ self.old ++ items.now) }
+        ensures begun { OnErr result ((count : ℕ) × (self.new ≡ self.old ++ take count items.now)) }
+    {
+        for i in 0..items.len() {
+            self.push(items[i])?;
+        }
+        Ok(())
     }
 
     /// Appends the item.

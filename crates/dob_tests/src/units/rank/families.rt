@@ -1,7 +1,8 @@
 // Ranks of profile B, from outside.
 use crate::positions::position;
-use dob_pieces::Profile;
-use dob_rank::rank_in;
+use crate::sets::set_of;
+use dob_pieces::{Family, Profile};
+use dob_rank::{rank_in, size_in, unrank_in};
 use std::process::Abort;
 
 // Positions with a chick or two on the board, each with its rank in profile B.
@@ -44,4 +45,52 @@ fn has_rank_in_b(rt: &impl Abort, text: &str, want: u64) {
     let position = position(rt, text);
     assert!(rt; position.is_allowed(Profile::B), "{text}");
     assert!(rt; rank_in(Profile::B, &position) == want, "rank of {text}");
+}
+
+// Sets with ranks in profile B, and the position of each.
+const RANKED: [(&str, u64, &str); 27] = [
+    ("100", 499, "l../H../.../L.. - -"),
+    ("100", 868, "..c/..l/.../.L. - -"),
+    ("100", 2_523, ".../L../..H/l.. - -"),
+    ("100", 2_002, ".../..l/.LC/... - -"),
+    ("101", 69_709, ".../g.L/..l/.C. - -"),
+    ("101", 48_171, "g../H../l.L/... - -"),
+    ("110", 56_846, "E../Ll./.H./... - -"),
+    ("110", 50_487, ".e./..l/..L/..H - -"),
+    ("111", 231_287, "l../.e./..h/L.. - g"),
+    ("111", 283_622, "..c/..L/l../E.. - g"),
+    ("111", 736_364, "..h/G../LEl/... - -"),
+    ("111", 591_593, "gE./.c./.../.lL - -"),
+    ("200", 53_208, ".H./.Ll/.../C.. - -"),
+    ("200", 35_933, "..h/.Hl/.L./... - -"),
+    ("200", 43_037, "..l/..H/..L/h.. - -"),
+    ("201", 195_280, ".c./.HL/.l./... - g"),
+    ("201", 475_531, "gc./.../l.h/..L - -"),
+    ("210", 1_107_268, "cl./.cL/.../..E - -"),
+    ("210", 413_830, ".c./ElH/.../.L. - -"),
+    ("120", 149_233, ".../.cl/.L./.e. E -"),
+    ("202", 4_802_580, "..g/G../.l./hHL - -"),
+    ("211", 18_159_533, "lh./.cL/g.E/... - -"),
+    ("211", 12_252_928, "..c/..E/lLC/G.. - -"),
+    ("112", 3_247_609, ".gl/..L/.E./..C - g"),
+    ("000", 55, ".../.../..L/l.. - -"),
+    ("011", 32_698, "e../L../G../.l. - -"),
+    ("220", 8_406_962, ".H./.Ll/eH./..e - -"),
+];
+
+#[test]
+fn ranks_have_their_positions_in_profile_b(rt: HostRuntime) {
+    for (set, number, text) in &RANKED {
+        has_position_in_b(&rt, set, *number, text);
+    }
+}
+
+// The position of that rank is the one of that text.
+fn has_position_in_b(rt: &impl Abort, set: &str, number: u64, text: &str) {
+    let family = Family {
+        set: set_of(rt, set),
+        profile: Profile::B,
+    };
+    assert!(rt; number < size_in(family));
+    assert!(rt; unrank_in(family, number) == position(rt, text), "rank {number} of {set}");
 }
