@@ -285,7 +285,16 @@ fn names_subcommand(name: &str) -> bool
 {
     matches!(
         name,
-        "help" | "value" | "count" | "build" | "probe" | "line" | "check" | "look" | "show" | "moves"
+        "help"
+            | "value"
+            | "count"
+            | "build"
+            | "probe"
+            | "line"
+            | "check"
+            | "look"
+            | "show"
+            | "moves"
     )
 }
 
