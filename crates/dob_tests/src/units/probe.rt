@@ -8,6 +8,7 @@ use dob_probe::{Fault, Group, OtherSet, check, line, probe, statistics, valued_m
 use dob_rank::{size, unrank};
 use dob_text::write_move;
 use dob_value::{Table, Value, sweep_table, sweep_value};
+use std::alloc::Global;
 use std::process::Abort;
 use std::test::Fail;
 
@@ -84,18 +85,18 @@ fn groups_of_lions_alone(rt: HostRuntime) -> Result<(), Fail> {
 }
 
 // The moves of a position with their values, as a text.
-fn moves_told(rt: &HostRuntime, table: &Table, text: &str) -> Result<String, Fail> {
+fn moves_told(rt: &impl Abort, alloc: Global, table: &Table, text: &str) -> Result<String, Fail> {
     let position = position_of(rt, text);
-    let mut told = String::new(rt.alloc());
-    for valued in &valued_moves(rt.alloc(), table, &position)? {
-        told.push_str(&write_move(rt.alloc(), valued.choice, false)?)?;
+    let mut told = String::new(alloc);
+    for valued in &valued_moves(alloc, table, &position)? {
+        told.push_str(&write_move(alloc, valued.choice, false)?)?;
         let (word, plies) = match valued.value {
             Value::Win(plies) => (" win ", plies),
             Value::Loss(plies) => (" loss ", plies),
             Value::Draw => (" draw ", 0),
         };
         told.push_str(word)?;
-        told.push_str(&format!(rt.alloc(), "{plies}; ")?)?;
+        told.push_str(&format!(in alloc; "{plies}; ")?)?;
     }
     Ok(told)
 }
@@ -115,7 +116,7 @@ const MOVES: [(&str, &str); 5] = [
 fn moves_best_first(rt: HostRuntime) -> Result<(), Fail> {
     let table = sweep_table(rt.alloc(), NO_PIECES)?;
     for (text, told) in &MOVES {
-        assert!(rt; moves_told(&rt, &table, text)? == *told, "of {text}");
+        assert!(rt; moves_told(&rt, rt.alloc(), &table, text)?.as_str() == *told, "of {text}");
     }
     let other = position(&rt, ONE_CHICK, 0);
     assert!(rt; matches!(valued_moves(rt.alloc(), &table, &other), Err(Fault::OtherSet)));
