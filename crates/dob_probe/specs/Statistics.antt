@@ -5,8 +5,8 @@ use Rattle.dob_value.specs.Follows.{IsEntry}
 use Rattle.dob_value.specs.Codes.{code_of_value}
 use Rattle.dob_probe.specs.declared.groups.Group.{Group}
 
--- The entry has that code: 0 is a draw, and any other one more than the distance, odd for losses and even for wins. So it is the same
--- entry as any other of that code.
+-- The entry has that code: 0 of a draw, else one more than its distance, so that losses have odd codes and wins even ones, and entries
+-- of one code are the same.
 abbrev pub has_code : ℕ → Value → Bool
 has_code code v = code_of_value v == code
 
