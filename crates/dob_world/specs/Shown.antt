@@ -144,9 +144,9 @@ IsStanding world = Stand (setting_of world) world.nodes.items world.lanes.items 
 abbrev pub WillStand : World → Type 0
 WillStand world = Stand (setting_of world) world.nodes.items world.lanes.items world.detector (world.steps + 1)
 
--- The world stands, or it has stopped; but never because an item contradicts its cell.
+-- The world stands, or it has stopped; but never because an item contradicts its cell, nor after its end was announced.
 abbrev pub IsKept : World → Type 0
-IsKept world = MatchOption world.failed (IsStanding world) IsStop
+IsKept world = MatchOption world.failed (IsStanding world) (λ fault. IsStop fault × (world.detector.announced ≡ false))
 
 -- the world keeps all that it has
 pub record IsUnchanged (old new : World) : Type 0 where
