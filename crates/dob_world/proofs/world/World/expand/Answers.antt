@@ -28,7 +28,6 @@ expand-requires-clause-going c =
     let low : c.args.node < length c.args.self.now.nodes.items = omega (arith, c.requires.standing.places.nodes_whole) in
     (c.requires.standing.places.node c.args.node c.index_mut.result.now (read_there c.args.self.now.nodes.items c.args.node c.index_mut.result.now low c.index_mut.ensures.value)).going
 
-
 pub returns-in-Ok-clause-done : goal.returns-in-Ok-clause-done
 returns-in-Ok-clause-done c = λ e.
     let k = setting_of c.args.self.now in

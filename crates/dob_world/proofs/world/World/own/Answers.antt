@@ -26,7 +26,6 @@ apply_own-requires-clause-going c =
     (c.requires.standing.places.node c.args.node c.index_mut.result.now
     (read_there nodes c.args.node c.index_mut.result.now low c.index_mut.ensures.value)).going
 
-
 pub returns-in-Ok-clause-done : goal.returns-in-Ok-clause-done
 returns-in-Ok-clause-done c = λ e.
     let k = setting_of c.args.self.now in

@@ -40,7 +40,6 @@ post-requires-clause-going c =
     let there_n = node_there k nodes lanes c.requires.standing.places i node low_i c.index_mut.ensures.value in
     (c.requires.standing.places.node i node there_n).going
 
-
 pub post-requires-clause-to : goal.post-requires-clause-to
 post-requires-clause-to c =
     let k = setting_of c.args.self.now in

@@ -43,7 +43,6 @@ receive-requires-clause-going c =
     let there_n = node_there k nodes lanes c.requires.standing.places j node low_j c.index_mut.ensures.value in
     (c.requires.standing.places.node j node there_n).going
 
-
 pub receive-requires-clause-batches : goal.receive-requires-clause-batches
 receive-requires-clause-batches c =
     let k = setting_of c.args.self.now in
