@@ -1,5 +1,5 @@
 -- A settlement that a node of the world expands.
-use Rattle.std.proofs.Common.{◌≡◌, ℕ, ◌+◌, ◌<◌, ◌≤◌, inl, inr, arith, refl, sym, ap, ◌∙◌, subst, cond, nat_lt, List, [], ◌++◌, length, Some, slice_get, set}
+use Rattle.std.proofs.Common.{◌≡◌, ℕ, ◌+◌, ◌<◌, ◌≤◌, inl, inr, arith, refl, sym, ap, ◌∙◌, subst, cond, nat_lt, List, [], ◌++◌, length, None, Some, slice_get, set}
 use Rattle.std.proofs.lemmas.Bool.{cases_lt, cases_eq}
 use Rattle.std.proofs.lemmas.Option.{slice_get_within}
 use Rattle.std.proofs.lemmas.List.{length-set}
@@ -39,9 +39,10 @@ module _ (k : Setting) (nodes : List Node) (lanes : List Lane) (i : ℕ) (node a
   items_same j = ap (λ st. items_of (predecessors st) node.n j step.settlement) is.of.0
       ∙ ap (λ m. items_of (predecessors k.set) m j step.settlement) is.of.2
 
-  pub still_node : IsSound after → IsNodeOf k i after
-  still_node sound = record {
+  pub still_node : IsSound after → after.failed ≡ None → IsNodeOf k i after
+  still_node sound going = record {
     sound = sound;
+    going = going;
     of = (step.same.0 ∙ is.of.0, step.same.1 ∙ is.of.1, step.same.2 ∙ is.of.2);
     statuses = subst (λ (share : Share). (class : ℕ) → IsOwn share class → HasStatus (class_setup k.set class) (status_at share class))
         (sym step.same.3) is.statuses;

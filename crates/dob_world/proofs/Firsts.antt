@@ -1,5 +1,5 @@
 -- First elements, and calls that can't have failed.
-use Rattle.std.proofs.Common.{◌≡◌, refl, sym, ap, ◌∙◌, List, [], ◌∷◌, Some, None, slice_get, Result, Ok, Err, OnOk, OnErr}
+use Rattle.std.proofs.Common.{◌≡◌, refl, sym, ap, ◌∙◌, ℕ, List, [], ◌∷◌, ◌++◌, length, take, Some, None, slice_get, Result, Ok, Err, OnOk, OnErr}
 
 pub none_first : {X : Type 0} (xs : List X) → slice_get xs 0 ≡ None → xs ≡ []
 none_first [] is = refl
@@ -17,3 +17,11 @@ went_well (Err e) A B good bad not = absurd (not bad)
 
 pub ok_is : {T E : Type 0} (a b : T) → ◌≡◌ {A = Result T E} (Ok a) (Ok b) → a ≡ b
 ok_is a b e = cc
+
+-- the first so many of a list, where it is told what they are
+pub front_is : {X : Type 0} (xs front behind : List X) (x : X) (count : ℕ) → xs ≡ front ++ x ∷ behind → length front ≡ count → take count xs ≡ front
+front_is {X = X} xs front behind x count is counted = ap (λ k. take k xs) (sym counted) ∙ ap (λ ys. take (length front) ys) is ∙ alone front
+  where
+    alone : (front : List X) → take (length front) (front ++ x ∷ behind) ≡ front
+    alone [] = refl
+    alone (y ∷ ys) = ap (λ zs. y ∷ zs) (alone ys)

@@ -1,6 +1,6 @@
 -- Own items applied, batches taken and batches posted in a world that stands.
 use Rattle.std.proofs.Common.{◌≡◌, ◌≢◌, ℕ, ◌+◌, ◌*◌, ◌<◌, ◌⊎◌, inl, inr, cond, nat_lt, sym, ap, ◌∙◌, subst}
-use Rattle.std.proofs.Common.{List, [], ◌∷◌, ◌++◌, length, take, drop, Some, slice_get, set}
+use Rattle.std.proofs.Common.{List, [], ◌∷◌, ◌++◌, length, take, drop, None, Some, slice_get, set}
 use Rattle.std.specs.List.{All}
 use Rattle.std.proofs.lemmas.List.Elements.{All-head, All-tail, All-append, All-cons, All-nil}
 use Rattle.dob_moves.specs.declared.position_status.Status.{Status}
@@ -37,16 +37,18 @@ pub low_own : (k : Setting) (i : ℕ) (node : Node) → IsSound node → (node.s
 low_own k i node sound of class own = (((kept_sound k.set k.n i node of sound).owned class).0 own).1
 
 pub node_opened : (k : Setting) (i : ℕ) (node : Node) → IsSound node → (node.set ≡ k.set) × (node.id ≡ i) × (node.n ≡ k.n) →
-    ((class : ℕ) → IsOwn node.share class → HasStatus (class_setup k.set class) (status_at node.share class)) → IsNodeOf k i node
-node_opened k i node sound of statuses = record { sound = sound; of = of; statuses = statuses }
+    ((class : ℕ) → IsOwn node.share class → HasStatus (class_setup k.set class) (status_at node.share class)) → node.failed ≡ None →
+    IsNodeOf k i node
+node_opened k i node sound of statuses going = record { sound = sound; of = of; statuses = statuses; going = going }
 
 pub kept_of : (k : Setting) (i : ℕ) (node : Node) → IsNodeOf k i node → AreKept k.set k.n i node.share node.history
 kept_of k i node is = kept_sound k.set k.n i node is.of is.sound
 
-pub node_after : (k : Setting) (i : ℕ) (node after : Node) → IsNodeOf k i node → IsSound after → after.set ≡ node.set → after.id ≡ node.id →
+pub node_after : (k : Setting) (i : ℕ) (node after : Node) → IsNodeOf k i node → IsSound after → after.failed ≡ None → after.set ≡ node.set → after.id ≡ node.id →
     after.n ≡ node.n → ((class : ℕ) → status_at after.share class ≡ status_at node.share class) → IsNodeOf k i after
-node_after k i node after is sound set_is id_is n_is statuses = record {
+node_after k i node after is sound going set_is id_is n_is statuses = record {
   sound = sound;
+  going = going;
   of = of_after;
   statuses = λ class own. subst (λ (s : Status). HasStatus (class_setup k.set class) s) (sym (statuses class))
       (is.statuses class (((kept_of k i node is).owned class).1 ((kept_there.owned class).0 own)));
@@ -69,8 +71,8 @@ chain_statuses (item ∷ items) share after history grown taken class =
 module _ (k : Setting) (nodes : List Node) (lanes : List Lane) (i : ℕ) (low : i < k.n) (node after : Node) (lane next : Lane)
     (there_n : slice_get nodes i ≡ Some node) (there_l : lane_at k.n lanes i i ≡ Some lane) (whole : length lanes ≡ k.n * k.n)
     (is : IsNodeOf k i node) (step : HasListed node lane after next) where
-  pub node_owned : IsSound after → IsNodeOf k i after
-  node_owned sound = node_after k i node after is sound step.applied.same.0 step.applied.same.1 step.applied.same.2 step.applied.taken.statuses
+  pub node_owned : IsSound after → after.failed ≡ None → IsNodeOf k i after
+  node_owned sound going = node_after k i node after is sound going step.applied.same.0 step.applied.same.1 step.applied.same.2 step.applied.taken.statuses
 
   pub lane_owned : IsLaneOf k i i lane → IsLaneOf k i i next
   lane_owned of = record {
@@ -109,8 +111,8 @@ module _ (k : Setting) (nodes : List Node) (lanes : List Lane) (i : ℕ) (low : 
 module _ (k : Setting) (nodes : List Node) (lanes : List Lane) (i j : ℕ) (low_i : i < k.n) (low_j : j < k.n) (differs : i ≢ j) (node after : Node)
     (lane next : Lane) (there_n : slice_get nodes j ≡ Some node) (there_l : lane_at k.n lanes i j ≡ Some lane) (whole : length lanes ≡ k.n * k.n)
     (is : IsNodeOf k j node) (is_lane : IsLaneOf k i j lane) (step : HasReceived node lane after next) where
-  pub node_received : IsSound after → IsNodeOf k j after
-  node_received sound = node_after k j node after is sound step.taken.same.0 step.taken.same.1 step.taken.same.2
+  pub node_received : IsSound after → after.failed ≡ None → IsNodeOf k j after
+  node_received sound going = node_after k j node after is sound going step.taken.same.0 step.taken.same.1 step.taken.same.2
       (chain_statuses step.batch.items node.share after.share node.history after.history step.taken.taken)
 
   waits_are : lane.link.waiting ≡ step.batch ∷ next.link.waiting
@@ -155,8 +157,8 @@ module _ (k : Setting) (nodes : List Node) (lanes : List Lane) (i j : ℕ) (low_
 module _ (k : Setting) (nodes : List Node) (lanes : List Lane) (i j : ℕ) (low_i : i < k.n) (low_j : j < k.n) (node after : Node)
     (lane next : Lane) (there_n : slice_get nodes i ≡ Some node) (there_l : lane_at k.n lanes i j ≡ Some lane) (whole : length lanes ≡ k.n * k.n)
     (is : IsNodeOf k i node) (is_lane : IsLaneOf k i j lane) (step : HasPosted j k.batch node lane after next) where
-  pub node_posted : IsSound after → IsNodeOf k i after
-  node_posted sound = node_after k i node after is sound step.cut.same.0 step.cut.same.1 step.cut.same.2
+  pub node_posted : IsSound after → after.failed ≡ None → IsNodeOf k i after
+  node_posted sound going = node_after k i node after is sound going step.cut.same.0 step.cut.same.1 step.cut.same.2
       (λ class. ap (λ (s : Share). status_at s class) step.cut.kept.0)
 
   batch_for : IsBatchFor k.set k.n j step.batch

@@ -1,5 +1,5 @@
 -- What comes of an event in a world that stands: it was possible, it happened, and the world stands.
-use Rattle.std.proofs.Common.{◌≡◌, ◌≢◌, ℕ, ◌+◌, ◌*◌, ◌<◌, ◌≤◌, ◌⊎◌, inl, inr, arith, refl, sym, ap, ◌∙◌, subst, List, [], ◌∷◌, length, Some, slice_get, set}
+use Rattle.std.proofs.Common.{None, ◌≡◌, ◌≢◌, ℕ, ◌+◌, ◌*◌, ◌<◌, ◌≤◌, ◌⊎◌, inl, inr, arith, refl, sym, ap, ◌∙◌, subst, List, [], ◌∷◌, length, Some, slice_get, set}
 use Rattle.dob_update.specs.Batches.{BatchView}
 use Rattle.dob_share.specs.declared.news.Item.{Item}
 use Rattle.dob_node.specs.declared.node.Node.{Node}
@@ -31,7 +31,7 @@ none_of xs is some = let e : length xs ≡ 0 = ap length is in omega arith
 
 module _ (k : Setting) (nodes : List Node) (lanes : List Lane) (some : 0 < k.n) (places : AreInPlace k nodes lanes)
     (lawful : AreLawful k (world_shown k.set k.n nodes lanes).nodes) (linked : IsLinked k (world_shown k.set k.n nodes lanes))
-    (node after : Node) (lane next : Lane) (sound : IsSound after) where
+    (node after : Node) (lane next : Lane) (sound : IsSound after) (going : after.failed ≡ None) where
   pub owned : (i : ℕ) → i < k.n → slice_get nodes i ≡ Some node → lane_at k.n lanes i i ≡ Some lane → HasListed node lane after next →
       Outcome k ((i < k.n) × (0 < length ((world_shown k.set k.n nodes lanes).own i)))
       (AppliesOwn k i (world_shown k.set k.n nodes lanes) (world_shown k.set k.n (set nodes i after) (set lanes (i * k.n + i) next)))
@@ -47,7 +47,7 @@ module _ (k : Setting) (nodes : List Node) (lanes : List Lane) (some : 0 < k.n) 
         );
         happens = happens;
         places = in_place_both k nodes lanes i node after i i lane next low low there_n there_l places
-            (node_owned k nodes lanes i low node after lane next there_n there_l places.lanes_whole is step sound)
+            (node_owned k nodes lanes i low node after lane next there_n there_l places.lanes_whole is step sound going)
             (lane_owned k nodes lanes i low node after lane next there_n there_l places.lanes_whole is step (places.lane i i lane there_l));
       }
 
@@ -68,7 +68,7 @@ module _ (k : Setting) (nodes : List Node) (lanes : List Lane) (some : 0 < k.n) 
         );
         happens = receives k nodes lanes i j low_i low_j differs node after lane next there_n there_l places.lanes_whole is is_lane step some lawful linked;
         places = in_place_both k nodes lanes j node after i j lane next low_i low_j there_n there_l places
-            (node_received k nodes lanes i j low_i low_j differs node after lane next there_n there_l places.lanes_whole is is_lane step sound)
+            (node_received k nodes lanes i j low_i low_j differs node after lane next there_n there_l places.lanes_whole is is_lane step sound going)
             (lane_received k nodes lanes i j low_i low_j differs node after lane next there_n there_l places.lanes_whole is is_lane step);
       }
 
@@ -100,7 +100,7 @@ module _ (k : Setting) (nodes : List Node) (lanes : List Lane) (some : 0 < k.n) 
         );
         happens = posts k nodes lanes i j low_i low_j node after lane next there_n there_l places.lanes_whole is is_lane step;
         places = in_place_both k nodes lanes i node after i j lane next low_i low_j there_n there_l places
-            (node_posted k nodes lanes i j low_i low_j node after lane next there_n there_l places.lanes_whole is is_lane step sound)
+            (node_posted k nodes lanes i j low_i low_j node after lane next there_n there_l places.lanes_whole is is_lane step sound going)
             (lane_posted k nodes lanes i j low_i low_j node after lane next there_n there_l places.lanes_whole is is_lane step);
       }
 

@@ -2,6 +2,7 @@
 use Rattle.std.proofs.Common.{◌≡◌, ℕ, ◌+◌, ◌^◌, ◌<◌, ◌≤◌, inl, inr, true, false, sym, ap, ◌∙◌, subst, arith, List, [], ◌∷◌, length}
 use Rattle.std.proofs.Math.IntN.{pos}
 use Rattle.std.proofs.lemmas.Int.{ints}
+use Rattle.std.proofs.lemmas.Bool.{cases_Bool}
 use Rattle.dob_safra.specs.declared.token.Token.{Token}
 use Rattle.dob_safra.specs.Rings.{Ring, IsLawful, black_token, IsStart as IsStartRing}
 use Rattle.dob_moves.specs.declared.position_status.Status.TheVariants.{Caught, Tried, Stuck, Open}
@@ -160,3 +161,11 @@ stand_unchanged old new same standing =
     (subst (λ xs. Stand (setting_of old) old.nodes.items xs new.detector new.steps) (sym same.lanes)
     (subst (λ (d : Detector). Stand (setting_of old) old.nodes.items old.lanes.items d new.steps) (sym same.detector)
     (subst (λ (m : ℕ). Stand (setting_of old) old.nodes.items old.lanes.items old.detector m) (sym same.steps) standing))))
+
+-- a world in which an event can happen hasn't announced its end, and one with the same ring hasn't either
+pub stopped_silent : (old new : World) → IsStanding old → (event : Event) → CanHappen (setting_of old) (state_of old) event →
+    new.detector ≡ old.detector → new.detector.announced ≡ false
+stopped_silent old new standing event can same = ap (λ (d : Detector). d.announced) same ∙ (elim (cases_Bool old.detector.announced) [
+  | inl ended ↦ absurd (((standing_headline old standing).silence ended).nothing event can)
+  | inr going ↦ going
+])

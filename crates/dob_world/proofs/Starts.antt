@@ -67,7 +67,7 @@ module _ (k : Setting) (openings : List Opening) (nodes : List Node) (lanes : Li
   is_node : (i : ℕ) (node : Node) → slice_get nodes i ≡ Some node → IsNodeOf k i node
   is_node i node there = let o = opened.each i node there in
       node_opened k i node o.1 o.0.of (λ class own. subst (λ (s : Status). HasStatus (class_setup k.set class) s) (sym (o.0.statuses class own))
-      (listed_opening k.set openings class are (low_own k i node o.1 o.0.of class own)).status)
+      (listed_opening k.set openings class are (low_own k i node o.1 o.0.of class own)).status) o.0.going
 
   lane_empty : (i j : ℕ) (lane : Lane) → lane_at k.n lanes i j ≡ Some lane → IsEmptyLane k.capacity lane
   lane_empty i j lane there = by (nat_lt j k.n) refl

@@ -22,6 +22,7 @@ use Rattle.dob_node.proofs.Stored.{same_settlement}
 use Rattle.dob_node.proofs.Parity.{short_own}
 use Rattle.dob_node.proofs.Kepts.{fits_own, kept_still}
 use Rattle.dob_node.proofs.ItemChanges.{same_by, Change, item_changes}
+use Rattle.dob_node.proofs.TakenLists.{kept_with_room}
 use Rattle.dob_world.specs.Worlds.{Setting, Nodes, value_in, items_in, AreLawful}
 use Rattle.dob_world.specs.Events.{NodesStay, Applies, AppliesAll}
 use Rattle.dob_world.proofs.Applied.{next_fits, lawful_step, step_grows, next_after}
@@ -204,7 +205,7 @@ module _ (k : Setting) (some : 0 < k.n) (i j : ℕ) (low_i : i < k.n) (low_j : j
         (ap (λ x. with_share k i j nodes x grown.settlements (items ++ [])) taken.0
         ∙ ap (λ (x : HistoryView). with_share k i j nodes share x.settlements (items ++ [])) taken.1
         ∙ ap (λ xs. with_share k i j nodes share history.settlements xs) (append-nil items)),
-    subst (λ (x : HistoryView). AreKept k.set k.n j after x) (sym taken.1) (subst (λ (x : Share). AreKept k.set k.n j x history) (sym taken.0) kept),
+    kept_with_room k.set k.n j after history grown taken.1 (subst (λ (x : Share). AreKept k.set k.n j x history) (sym taken.0) kept),
   )
   items_apply (item ∷ more) share after history grown items rest differs kept entries taken lawful is =
       let between = taken.0 in

@@ -4,15 +4,22 @@ use Rattle.std.specs.List.{All}
 use Rattle.dob_pieces.specs.declared.piece_set.PieceSet.{PieceSet}
 use Rattle.dob_update.specs.Batches.{BatchView}
 use Rattle.dob_link.specs.Links.{link_of}
+use Rattle.dob_node.specs.declared.cause.Cause.{Cause}
 use Rattle.dob_node.specs.declared.node.Node.{Node}
 use Rattle.dob_node.specs.Takes.{HasEntries}
-use Rattle.dob_node.specs.Nodes.{HasApplied, HasTaken, HasCut}
+use Rattle.dob_node.specs.Nodes.{HasApplied, HasTaken, HasTakenBefore, HasCut}
 use Rattle.dob_world.specs.declared.lane.Lane.{Lane}
 
 -- a batch for one of n nodes, with items that have such values as a table can have
 pub record IsBatchFor (set : PieceSet) (n to : ℕ) (batch : BatchView) : Type 0 where
   pub of : (batch.set ≡ set) × (batch.n ≡ n) × (batch.to ≡ to)
   pub entries : All HasEntries batch.items
+
+-- the same batches wait on the lane, and it lists the same items
+pub record LaneStays (old new : Lane) : Type 0 where
+  pub link : new.link ≡ old.link
+  pub sent : new.sent.items ≡ old.sent.items
+  pub applied : new.applied.items ≡ old.applied.items
 
 -- The node has applied the first of its own items, and the lane lists it.
 pub record HasListed (old : Node) (lane : Lane) (new : Node) (after : Lane) : Type 0 where
@@ -34,4 +41,13 @@ pub record HasReceived (old : Node) (lane : Lane) (new : Node) (after : Lane) : 
   pub first : lane.link ≡ link_of (batch ∷ after.link.waiting) after.link.capacity
   pub taken : HasTaken batch.items old new
   pub listed : after.applied.items ≡ lane.applied.items ++ batch.items
+  pub same : after.sent.items ≡ lane.sent.items
+
+-- The node has taken the first batch that waited on the lane up to an item that can't be applied; those before it are applied,
+-- and listed.
+pub record HasReceivedFront (old : Node) (lane : Lane) (new : Node) (after : Lane) (why : Cause) : Type 0 where
+  pub batch : BatchView
+  pub first : lane.link ≡ link_of (batch ∷ after.link.waiting) after.link.capacity
+  pub taken : HasTakenBefore batch.items old new why
+  pub listed : after.applied.items ≡ lane.applied.items ++ taken.front
   pub same : after.sent.items ≡ lane.sent.items

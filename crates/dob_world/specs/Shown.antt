@@ -82,11 +82,12 @@ pub record IsSetting (k : Setting) : Type 0 where
   pub nodes : IsSize k.n
   pub sizes : AreSizes k.batch k.capacity
 
--- the node of owner i
+-- the node of owner i, which hasn't failed
 pub record IsNodeOf (k : Setting) (i : ℕ) (node : Node) : Type 0 where
   pub sound : IsSound node
   pub of : (node.set ≡ k.set) × (node.id ≡ i) × (node.n ≡ k.n)
   pub statuses : (class : ℕ) → IsOwn node.share class → HasStatus (class_setup k.set class) (status_at node.share class)
+  pub going : node.failed ≡ None
 
 -- the lane from node i to node j
 pub record IsLaneOf (k : Setting) (i j : ℕ) (lane : Lane) : Type 0 where
@@ -143,9 +144,9 @@ IsStanding world = Stand (setting_of world) world.nodes.items world.lanes.items 
 abbrev pub WillStand : World → Type 0
 WillStand world = Stand (setting_of world) world.nodes.items world.lanes.items world.detector (world.steps + 1)
 
--- The world stands, or it has stopped; but never because an item contradicts its cell.
+-- The world stands, or it has stopped; but never because an item contradicts its cell, nor after its end was announced.
 abbrev pub IsKept : World → Type 0
-IsKept world = MatchOption world.failed (IsStanding world) IsStop
+IsKept world = MatchOption world.failed (IsStanding world) (λ fault. IsStop fault × (world.detector.announced ≡ false))
 
 -- the world keeps all that it has
 pub record IsUnchanged (old new : World) : Type 0 where

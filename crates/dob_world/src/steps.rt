@@ -1,26 +1,30 @@
 // What an event does to the nodes and the lane that it names.
-ghost use Rattle.std.specs.Prelude.{◌≡◌, ◌<◌, ◌≤◌, ◌^◌, Err, ◌↔◌, ◌⊎◌, List, [], ◌∷◌, length, true, false, IfErr, OnOk, OnErr};
+ghost use Rattle.std.specs.Prelude.{◌≡◌, ◌≢◌, ◌+◌, ◌<◌, ◌≤◌, ◌^◌, None, Err, ◌↔◌, ◌⊎◌, List, [], ◌∷◌, ◌++◌, length, vec_len, vec_capacity, true, false, IfErr, OnOk, OnErr};
 ghost use Rattle.std.specs.List.{All};
 ghost use Rattle.dob_update.specs.Batches.{BatchView};
 ghost use Rattle.dob_node.specs.declared.cause.Cause.TheVariants as cause;
-ghost use Rattle.dob_node.specs.Nodes.{outbox_to, IsSound, HasItemFault};
+ghost use Rattle.dob_node.specs.Nodes.{outbox_to, IsSound, IsUnchanged, HasItemFault};
 ghost use Rattle.dob_node.specs.Takes.{StopsAt};
-ghost use Rattle.dob_world.specs.Lanes.{IsBatchFor, HasListed, HasPosted, HasReceived};
+ghost use Rattle.dob_world.specs.Lanes.{LaneStays, IsBatchFor, HasListed, HasPosted, HasReceived, HasReceivedFront};
 
 use crate::lane::Lane;
 use dob_link::Link;
 use dob_node::{Cause, Node};
+use dob_share::Item;
 
 /// Applies the first own item of a node, and lists it as applied. False where there is none.
 ///
-/// Errors, after which node and lane are of no use: those of the node.
+/// Errors, which leave node and lane as they were: those of the node; `Memory`.
 pub(crate) fn apply_own(node: &mut Node, lane: &mut Lane) -> Result<bool, Cause>
-    requires { IsSound node.old }
+    requires sound { IsSound node.old }
+    requires going { node.old.failed ≡ None }
     ensures none { (result ≡ Ok false) ↔ (node.old.own.items ≡ []) }
     ensures nothing { result ≡ Ok false → (node.new ≡ node.old) × (lane.new ≡ lane.old) }
     ensures applied { result ≡ Ok true → HasListed node.old lane.old node.new lane.new }
     ensures stopped { IfErr result (λ why. (why ≡ cause.Memory) ⊎ HasItemFault node.old why) }
-    ensures sound { OnOk result (IsSound node.new) }
+    ensures unchanged { OnErr result (IsUnchanged node.old node.new × LaneStays lane.old lane.new) }
+    ensures going { OnOk result (node.new.failed ≡ None) }
+    ensures sound { IsSound node.new }
 {
     let item = match node.first_own() {
         Some(item) => item,
@@ -37,9 +41,10 @@ pub(crate) fn apply_own(node: &mut Node, lane: &mut Lane) -> Result<bool, Cause>
 /// Cuts a batch of at most `size` items that the node has to send to the node `to`, which goes over the lane. False where
 /// there is nothing to send, or the lane's link has no room.
 ///
-/// Errors, after which node and lane are of no use: those of the node.
+/// Errors, which leave node and lane as they were: those of the node; `Memory`.
 pub(crate) fn post(node: &mut Node, lane: &mut Lane, to: usize, size: usize) -> Result<bool, Cause>
     requires sound { IsSound node.old }
+    requires going { node.old.failed ≡ None }
     requires to { to < node.old.n }
     requires some { 0 < size }
     requires at_most { size ≤ 4096 }
@@ -49,15 +54,22 @@ pub(crate) fn post(node: &mut Node, lane: &mut Lane, to: usize, size: usize) -> 
     ensures posted { result ≡ Ok true → HasPosted to size node.old lane.old node.new lane.new }
     ensures stopped { IfErr result (λ why. ((why ≡ cause.Counts) × (2 ^ 40 ≤ (outbox_to node.old to).next)) ⊎ (why ≡ cause.Memory)) }
     ensures moment { OnErr result (((outbox_to node.old to).items ≡ [] → ⊥) × (length lane.old.link.waiting < lane.old.link.capacity)) }
-    ensures sound { OnOk result (IsSound node.new) }
+    ensures unchanged { OnErr result (IsUnchanged node.old node.new × LaneStays lane.old lane.new) }
+    ensures going { OnOk result (node.new.failed ≡ None) }
+    ensures sound { IsSound node.new }
 {
     if lane.link.is_full() {
         return Ok(false);
     }
-    let Some(batch) = node.cut_for(to, size)? else {
+    let count = node.left_for(to).min(size);
+    if count == 0 {
         return Ok(false);
+    }
+    lane.sent.reserve(count)?;
+    let Some(batch) = node.cut_for(to, size)? else {
+        unreachable!();
     };
-    lane.sent.extend_from_slice(batch.items())?;
+    list_items(&mut lane.sent, batch.items());
     // It has room.
     let _ = lane.link.offer(batch);
     Ok(true)
@@ -65,24 +77,45 @@ pub(crate) fn post(node: &mut Node, lane: &mut Lane, to: usize, size: usize) -> 
 
 /// Takes the first batch that waits on the lane, and applies its items. False where none waits.
 ///
-/// Errors, after which node and lane are of no use: those of the node.
+/// Errors: `Memory`, which leaves node and lane as they were; those of the node at an item, after which just the items before it
+/// are applied and listed, and the batch no longer waits.
 pub(crate) fn receive(node: &mut Node, lane: &mut Lane) -> Result<bool, Cause>
     requires sound { IsSound node.old }
+    requires going { node.old.failed ≡ None }
     requires batches { All (IsBatchFor node.old.set node.old.n node.old.id) lane.old.link.waiting }
     ensures none { (result ≡ Ok false) ↔ (lane.old.link.waiting ≡ []) }
     ensures nothing { result ≡ Ok false → (node.new ≡ node.old) × (lane.new ≡ lane.old) }
     ensures received { result ≡ Ok true → HasReceived node.old lane.old node.new lane.new }
     ensures stopped { IfErr result (λ why. (why ≡ cause.Memory) ⊎ ((batch : BatchView) × (rest : List BatchView) × (lane.old.link.waiting ≡ batch ∷ rest) × StopsAt batch.items node.old.share node.old.history why)) }
-    ensures sound { OnOk result (IsSound node.new) }
+    ensures unchanged { result ≡ Err cause.Memory → IsUnchanged node.old node.new × LaneStays lane.old lane.new }
+    ensures front { IfErr result (λ why. why ≢ cause.Memory → HasReceivedFront node.old lane.old node.new lane.new why) }
+    ensures going { OnOk result (node.new.failed ≡ None) }
+    ensures sound { IsSound node.new }
 {
-    let Some(batch) = lane.link.next() else {
+    let Some(count) = lane.link.first_len() else {
         return Ok(false);
     };
-    lane.applied.reserve(batch.items().len())?;
+    lane.applied.reserve(count)?;
+    node.reserve(count)?;
+    let Some(batch) = lane.link.next() else {
+        unreachable!();
+    };
     match node.apply_batch(&batch) {
-        Ok(()) => {}
-        Err(cause) => return Err(cause),
+        Ok(()) => list_items(&mut lane.applied, batch.items()),
+        Err(cause) => {
+            list_items(&mut lane.applied, &batch.items()[..node.taken()]);
+            return Err(cause);
+        }
     }
-    lane.applied.extend_from_slice(batch.items())?;
     Ok(true)
+}
+
+// Lists the items, for which there is room.
+fn list_items(list: &mut Vec<Item>, items: &[Item])
+    requires { vec_len list.old + length items.now ≤ vec_capacity list.old }
+    ensures { list.new.items ≡ list.old.items ++ items.now }
+{
+    for item in items {
+        list.push_reserved(*item);
+    }
 }

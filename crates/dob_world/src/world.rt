@@ -92,7 +92,8 @@ impl World {
 
     /// Makes the event happen, or skips it where it can't.
     ///
-    /// Error: `Stopped`, where the node that makes a step at the event has stopped; then, and at each further step, the same.
+    /// Error: `Stopped`, where the node that makes a step at the event has stopped; then, and at each further step, the same, which
+    /// changes nothing. A world that has stopped isn't one whose end is announced.
     /// In a set of fewer than 65,535 classes it stops for want of memory alone.
     pub fn step(&mut self, event: Event) -> Result<Step, Fault>
         requires few { self.old.steps < 2 ^ 40 }
@@ -102,10 +103,11 @@ impl World {
         ensures stopped { IfErr result (λ fault. IsStop fault × (self.new.failed ≡ Some fault)) }
         ensures ring { OnErr result ((self.new.detector ≡ self.old.detector) × (self.new.steps ≡ self.old.steps)) }
         ensures named { self.old.failed ≡ None → IfErr result (λ fault. IsStopBy (setting_of self.old) (state_of self.old) event fault) }
-        ensures stays { IfSome self.old.failed (λ fault. result ≡ Err fault) }
+        ensures stays { IfSome self.old.failed (λ fault. (result ≡ Err fault) × (self.new ≡ self.old)) }
+        ensures unannounced { OnErr result (self.new.detector.announced ≡ false) }
         ensures memory { self.old.failed ≡ None → classes_of (setting_of self.old).set < 65535 → IfErr result IsForMemory }
         ensures falls { OnOk result (HaveFallsIn (setting_of self.new) (state_of self.new).world.nodes) }
-        ensures silent { self.old.failed ≡ None → self.old.detector.announced ≡ true → result ≡ Ok Step.Skipped }
+        ensures silent { self.old.detector.announced ≡ true → result ≡ Ok Step.Skipped }
         ensures headline { OnOk result (Headline (setting_of self.new) (state_of self.new)) }
         ensures going { OnOk result ((self.new.failed ≡ None) × IsStanding self.new) }
         ensures kept { IsKept self.new }

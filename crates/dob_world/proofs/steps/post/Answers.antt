@@ -17,6 +17,7 @@ returns-clause-posted c = λ e.
       cut = subst (λ given. IfSome given (λ (b : BatchView). HasCut c.args.to c.args.size b c.args.node.now c.cut_for.new.self)) c.in-Some.is c.in_ok-batch.ensures.cut;
       link = ap (λ w. link_of w c.offer.new.self.capacity) steps
           ∙ ap (λ k. link_of (c.args.lane.now.link.waiting ++ c.in-Some.batch ∷ []) k) c.offer.ensures.capacity;
-      sent = c.in_ok-extend_from_slice.ensures.items ∙ ap (λ xs. c.args.lane.now.sent.items ++ xs) c.items.ensures.items;
+      sent = c.list_items.ensures ∙ ap (λ xs. xs ++ c.items.result.now) c.in_ok-reserve.ensures.items
+          ∙ ap (λ xs. c.args.lane.now.sent.items ++ xs) c.items.ensures.items;
       same = refl;
     }

@@ -12,12 +12,19 @@ use Rattle.dob_world.proofs.Firsts.{ok_is}
 use Rattle.dob_world.proofs.Stood.{stand_after}
 use Rattle.dob_world.proofs.world.World.own.Goals as goal
 
-pub apply_own-requires : goal.apply_own-requires
-apply_own-requires c =
+pub apply_own-requires-clause-sound : goal.apply_own-requires-clause-sound
+apply_own-requires-clause-sound c =
     let nodes = c.args.self.now.nodes.items in
     let low : c.args.node < length nodes = omega (arith, c.requires.standing.places.nodes_whole) in
     (c.requires.standing.places.node c.args.node c.index_mut.result.now
     (read_there nodes c.args.node c.index_mut.result.now low c.index_mut.ensures.value)).sound
+
+pub apply_own-requires-clause-going : goal.apply_own-requires-clause-going
+apply_own-requires-clause-going c =
+    let nodes = c.args.self.now.nodes.items in
+    let low : c.args.node < length nodes = omega (arith, c.requires.standing.places.nodes_whole) in
+    (c.requires.standing.places.node c.args.node c.index_mut.result.now
+    (read_there nodes c.args.node c.index_mut.result.now low c.index_mut.ensures.value)).going
 
 pub returns-in-Ok-clause-done : goal.returns-in-Ok-clause-done
 returns-in-Ok-clause-done c = λ e.
@@ -33,7 +40,7 @@ returns-in-Ok-clause-done c = λ e.
     let step = c.in-Ok.ensures.applied (ap Ok (ok_is c.in-Ok.happened true e)) in
     let o = owned k nodes lanes c.requires.standing.setting.nodes.0 c.requires.standing.places c.requires.standing.lawful c.requires.standing.linked
     node c.apply_own.new.node lane c.apply_own.new.lane
-    c.in-Ok.ensures.sound i below there_n there_l step in (
+    c.in-Ok.ensures.sound c.in-Ok.ensures.going i below there_n there_l step in (
       record { setting = refl; can = o.can; happens = (o.happens, refl) },
       stand_after k nodes lanes c.args.self.now.detector c.args.self.now.steps c.requires.standing (slice_set nodes i c.apply_own.new.node)
           (slice_set lanes (i * c.args.self.now.n + i) c.apply_own.new.lane) c.args.self.now.detector

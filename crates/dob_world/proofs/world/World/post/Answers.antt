@@ -26,6 +26,20 @@ post-requires-clause-sound c =
     let there_n = node_there k nodes lanes c.requires.standing.places i node low_i c.index_mut.ensures.value in
     (c.requires.standing.places.node i node there_n).sound
 
+pub post-requires-clause-going : goal.post-requires-clause-going
+post-requires-clause-going c =
+    let k = setting_of c.args.self.now in
+    let nodes = c.args.self.now.nodes.items in
+    let lanes = c.args.self.now.lanes.items in
+    let i = c.args.from in
+    let j = c.args.to in
+    let node = c.index_mut.result.now in
+    let lane = c.index_mut-2.result.now in
+    let low_i : i < c.args.self.now.n = c.if-from-self.false in
+    let low_j : j < c.args.self.now.n = c.if-to-self.false in
+    let there_n = node_there k nodes lanes c.requires.standing.places i node low_i c.index_mut.ensures.value in
+    (c.requires.standing.places.node i node there_n).going
+
 pub post-requires-clause-to : goal.post-requires-clause-to
 post-requires-clause-to c =
     let k = setting_of c.args.self.now in
@@ -90,7 +104,7 @@ count_post-requires-clause-black c =
     let done = ap Ok c.in-Ok-true.field-0-test in
     let some = c.in-Ok-true.ensures.some done in
     let o = posted k nodes lanes stand.setting.nodes.0 stand.places stand.lawful stand.linked node c.post.new.node lane c.post.new.lane
-    c.in-Ok-true.ensures.sound i j low_i low_j c.if-from-to.false there_n there_l (c.in-Ok-true.ensures.posted done) some.0 some.1 in
+    c.in-Ok-true.ensures.sound c.in-Ok-true.ensures.going i j low_i low_j c.if-from-to.false there_n there_l (c.in-Ok-true.ensures.posted done) some.0 some.1 in
     sender_black k nodes lanes detector c.args.self.now.steps stand i j low_i low_j c.if-from-to.false o.can.3
 
 pub returns-in-Ok-true-clause-done : goal.returns-in-Ok-true-clause-done
@@ -111,7 +125,7 @@ returns-in-Ok-true-clause-done c = λ e.
     let done = ap Ok c.in-Ok-true.field-0-test in
     let some = c.in-Ok-true.ensures.some done in
     let o = posted k nodes lanes stand.setting.nodes.0 stand.places stand.lawful stand.linked node c.post.new.node lane c.post.new.lane
-    c.in-Ok-true.ensures.sound i j low_i low_j c.if-from-to.false there_n there_l (c.in-Ok-true.ensures.posted done) some.0 some.1 in
+    c.in-Ok-true.ensures.sound c.in-Ok-true.ensures.going i j low_i low_j c.if-from-to.false there_n there_l (c.in-Ok-true.ensures.posted done) some.0 some.1 in
     let step = c.in-Ok-true.ensures.posted done in
     let moved = moved_here k nodes lanes detector c.args.self.now.steps stand (ring.Post i j) (ring_of c.count_post.new.self) c.count_post.ensures.moved in (
       record { setting = refl; can = o.can; happens = (o.happens, moved) },

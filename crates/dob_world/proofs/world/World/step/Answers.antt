@@ -2,7 +2,7 @@
 use Rattle.std.proofs.Common.{◌≡◌, ◌+◌, rules, refl, ap, ◌∙◌, Ok, None}
 use Rattle.dob_world.specs.Shown.{setting_of, state_of, IsStanding}
 use Rattle.dob_world.proofs.Bounds.{few_stop}
-use Rattle.dob_world.proofs.Promise.{standing_headline, stood_headline, stand_unchanged}
+use Rattle.dob_world.proofs.Promise.{stopped_silent, standing_headline, stood_headline, stand_unchanged}
 use Rattle.dob_world.proofs.world.World.step.Goals as goal
 
 pub returns-in-Ok-true-clause-headline : goal.returns-in-Ok-true-clause-headline
@@ -35,10 +35,19 @@ returns-in-Err-clause-stopped c =
     let old = c.args.self.now in
     ((setting_of old, state_of old, c.args.event, c.in-Err.ensures.stopped), refl)
 
+pub returns-in-Err-clause-unannounced : goal.returns-in-Err-clause-unannounced
+returns-in-Err-clause-unannounced c =
+    let old = c.args.self.now in
+    let standing : IsStanding old = search rules in
+    stopped_silent old c.make.new.self standing c.args.event c.in-Err.ensures.stopped.0 c.in-Err.ensures.ring.0
+
 pub returns-in-Err-clause-kept : goal.returns-in-Err-clause-kept
 returns-in-Err-clause-kept c =
     let old = c.args.self.now in
-    (setting_of old, state_of old, c.args.event, c.in-Err.ensures.stopped)
+    let standing : IsStanding old = search rules in (
+      (setting_of old, state_of old, c.args.event, c.in-Err.ensures.stopped),
+      stopped_silent old c.make.new.self standing c.args.event c.in-Err.ensures.stopped.0 c.in-Err.ensures.ring.0,
+    )
 
 pub returns-in-Err-clause-memory : goal.returns-in-Err-clause-memory
 returns-in-Err-clause-memory c = λ going few.
@@ -59,12 +68,12 @@ returns-in-Ok-false-clause-falls c =
     (stand_unchanged c.args.self.now c.make.new.self skipped.1 standing).falls
 
 pub returns-in-Ok-true-clause-silent : goal.returns-in-Ok-true-clause-silent
-returns-in-Ok-true-clause-silent c = λ going ended.
+returns-in-Ok-true-clause-silent c = λ ended.
     let made = c.in-Ok-true.ensures.done (ap Ok c.in-Ok-true.field-0-test) in
     let standing : IsStanding c.args.self.now = search rules in
     absurd (((standing_headline c.args.self.now standing).silence ended).nothing c.args.event made.0.can)
 
 pub returns-in-Err-clause-silent : goal.returns-in-Err-clause-silent
-returns-in-Err-clause-silent c = λ going ended.
+returns-in-Err-clause-silent c = λ ended.
     let standing : IsStanding c.args.self.now = search rules in
     absurd (((standing_headline c.args.self.now standing).silence ended).nothing c.args.event c.in-Err.ensures.stopped.0)

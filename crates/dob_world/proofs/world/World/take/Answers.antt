@@ -29,6 +29,20 @@ receive-requires-clause-sound c =
     let there_n = node_there k nodes lanes c.requires.standing.places j node low_j c.index_mut.ensures.value in
     (c.requires.standing.places.node j node there_n).sound
 
+pub receive-requires-clause-going : goal.receive-requires-clause-going
+receive-requires-clause-going c =
+    let k = setting_of c.args.self.now in
+    let nodes = c.args.self.now.nodes.items in
+    let lanes = c.args.self.now.lanes.items in
+    let i = c.args.from in
+    let j = c.args.to in
+    let node = c.index_mut.result.now in
+    let lane = c.index_mut-2.result.now in
+    let low_i : i < c.args.self.now.n = c.if-from-self.false in
+    let low_j : j < c.args.self.now.n = c.if-to-self.false in
+    let there_n = node_there k nodes lanes c.requires.standing.places j node low_j c.index_mut.ensures.value in
+    (c.requires.standing.places.node j node there_n).going
+
 pub receive-requires-clause-batches : goal.receive-requires-clause-batches
 receive-requires-clause-batches c =
     let k = setting_of c.args.self.now in
@@ -89,7 +103,7 @@ count_take-requires-clause-waiting c =
     let there_l = lane_there k nodes lanes stand.places i j lane low_i low_j c.index_mut-2.ensures.value in
     let done = ap Ok c.in-Ok-true.field-0-test in
     let o = received k nodes lanes stand.setting.nodes.0 stand.places stand.lawful stand.linked node c.receive.new.node lane c.receive.new.lane
-    c.in-Ok-true.ensures.sound i j low_i low_j c.if-from-to.false there_n there_l (c.in-Ok-true.ensures.received done) in
+    c.in-Ok-true.ensures.sound c.in-Ok-true.ensures.going i j low_i low_j c.if-from-to.false there_n there_l (c.in-Ok-true.ensures.received done) in
     batch_waits k nodes lanes detector c.args.self.now.steps stand i j low_i low_j o.can.3
 
 pub returns-in-Ok-true-clause-done : goal.returns-in-Ok-true-clause-done
@@ -109,7 +123,7 @@ returns-in-Ok-true-clause-done c = λ e.
     let there_l = lane_there k nodes lanes stand.places i j lane low_i low_j c.index_mut-2.ensures.value in
     let done = ap Ok c.in-Ok-true.field-0-test in
     let o = received k nodes lanes stand.setting.nodes.0 stand.places stand.lawful stand.linked node c.receive.new.node lane c.receive.new.lane
-    c.in-Ok-true.ensures.sound i j low_i low_j c.if-from-to.false there_n there_l (c.in-Ok-true.ensures.received done) in
+    c.in-Ok-true.ensures.sound c.in-Ok-true.ensures.going i j low_i low_j c.if-from-to.false there_n there_l (c.in-Ok-true.ensures.received done) in
     let step = c.in-Ok-true.ensures.received done in
     let moved = moved_here k nodes lanes detector c.args.self.now.steps stand (ring.Take i j) (ring_of c.count_take.new.self) c.count_take.ensures.moved in (
       record { setting = refl; can = o.can; happens = (o.happens, moved) },
