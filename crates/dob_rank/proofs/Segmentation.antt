@@ -3,7 +3,8 @@ use Rattle.std.proofs.Common.{◌≡◌, ℕ, zero, suc, ◌+◌, ◌-◌, ◌*�
 use Rattle.std.proofs.Common.{length-append, get_or, append_assoc, ◌/◌, ◌%◌, ◌^◌, vec_len}
 use Rattle.std.proofs.Math.ListN.{set, length-set}
 use Rattle.std.proofs.lemmas.List.{get_or_append_left, get_or-append_right, set-append_left, set-append_right, append-nil}
-use Rattle.std.proofs.lemmas.Nat.{shr_split, mod_below}
+use Rattle.std.proofs.lemmas.Nat.{shr_split, mod_below, one_shl}
+use Rattle.std.proofs.Math.Nat.{pow-le-pow_right}
 use Rattle.std.specs.declared.vec.Vec.{Vec}
 use Rattle.dob_rank.proofs.FormDigits.{power_positive}
 use Rattle.dob_rank.specs.Segmented.{joined, AreSegments}
@@ -125,6 +126,17 @@ split_is i s = sym (shr_split i s)
 
 rest_below : (i s : ℕ) → i % 2 ^ s < 2 ^ s
 rest_below i s = mod_below i (2 ^ s) (power_positive 2 s (omega arith))
+
+-- the length of a segment
+pub shift_small : (s : ℕ) → s ≤ 20 → 1 * 2 ^ s % 2 ^ 64 ≤ 2 ^ 20
+shift_small s h =
+    subst (λ (x : ℕ). x ≤ 2 ^ 20) (sym (one_shl s 64 (below s h))) (pow-le-pow_right two h)
+  where
+    below : (s : ℕ) → s ≤ 20 → s < 64
+    below s h = omega (arith, h)
+
+    two : 0 < 2
+    two = omega arith
 
 -- the end of the list
 pub end_at : {X Z : Type 0} (s i : ℕ) (vs : List (Vec X Z)) → AreSegments (2 ^ s) vs → i ≡ length (joined vs) →

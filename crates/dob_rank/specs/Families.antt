@@ -1,13 +1,15 @@
 -- The positions of a family: how many there are, how many stand before one, and its classes. Which of the ranks of its set are its own.
-use Rattle.std.specs.Prelude.{◌≡◌, ℕ, ◌&&◌, Bool}
+use Rattle.std.specs.Prelude.{◌≡◌, ℕ, ◌&&◌, min, Bool}
 use Rattle.dob_pieces.specs.declared.piece_set.PieceSet.{PieceSet}
 use Rattle.dob_pieces.specs.declared.profile.Family.{Family}
 use Rattle.dob_pieces.specs.declared.profile.Profile.{Profile}
 use Rattle.dob_pieces.specs.declared.setup.Setup.{Setup}
 use Rattle.dob_pieces.specs.Profiles.{is_allowed, IsAllowed}
-use Rattle.dob_rank.specs.Order.{IsPositionOf, Before, HasCount, IsFirstOfTwo}
+use Rattle.dob_pieces.specs.Setups.{mirrored}
+use Rattle.dob_rank.specs.Order.{IsPositionOf, Before, HasCount, IsFirstOfTwo, RepresentativeOf}
 use Rattle.dob_rank.specs.Numbers.{size_of, rank_of, nth}
 use Rattle.dob_rank.specs.Marks.{marks_below, is_first}
+use Rattle.dob_rank.specs.ClassRows.{marked_place}
 
 abbrev pub family_of : PieceSet → Profile → Family
 family_of set profile = record { set = set; profile = profile }
@@ -62,3 +64,20 @@ pub record IsRanked (family : Family) (setup : Setup) (number : ℕ) : Type 0 wh
   pub position : IsPositionIn family setup
   pub rank_is : rank_in family setup ≡ number
   pub count : HasRankIn family setup number
+
+-- ---- classes
+
+-- the position of the family is in the class of that number: so many representatives of the family stand before its own
+pub record IsInClassIn (family : Family) (setup : Setup) (number : ℕ) : Type 0 where
+  pub position : IsPositionIn family setup
+  pub representative : Setup
+  pub stands : RepresentativeOf setup representative
+  pub before : HasClassIn family representative number
+
+-- the number of the setup's class: the representatives below its rank or that of its mirror image, whichever is lower
+unfoldable pub class_number_in : Family → Setup → ℕ
+class_number_in family setup = marks_below (is_marked family) (min (rank_of family.set setup) (rank_of family.set (mirrored setup)))
+
+-- the representative with so many representatives of the family before it
+unfoldable pub class_setup_in : Family → ℕ → Setup
+class_setup_in family class = nth family.set (marked_place (is_marked family) class (size_of family.set))

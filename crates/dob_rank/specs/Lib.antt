@@ -4,8 +4,8 @@ pub mod Placing
 pub mod Masks
 pub mod BoardMasks
 pub mod Marks
-pub mod Families
 pub mod ClassRows
+pub mod Families
 pub mod Runs
 pub mod Weights
 pub mod Places
