@@ -19,7 +19,7 @@ shown c =
     let value = value_in c.args.self.now.n (state_of c.args.self.now).world.nodes in
     IfOk-both c.from_fn.result _ _ _ (λ table given same.
     subst (λ (count : ℕ). AreValuesBelow value count table.values) (ap (λ (set : PieceSet). classes_of set) c.in-Ok.ensures.set)
-    (values_given _ value (classes_of c.in-Ok.classes.set) table.values given (λ class v low has. has.value)))
+    (values_given _ value (classes_of c.in-Ok.classes.set) table.values given (λ class v low has. has.0)))
     c.from_fn.ensures.given c.from_fn.ensures.set
 
 pub returns-clause-values : goal.returns-clause-values
