@@ -1,5 +1,5 @@
 -- What each class's owner shows is an entry.
-use Rattle.std.proofs.Common.{sym}
+use Rattle.std.proofs.Common.{refl}
 use Rattle.dob_run.proofs.Shown.{shown_entry}
 use Rattle.dob_run.proofs.finishing.table_of.Goals as goal
 
