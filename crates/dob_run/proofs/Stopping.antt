@@ -151,7 +151,7 @@ module _ (board : Board) (set : PieceSet) (size : ℕ) (runners : List Runner) (
         subst (λ (p : ℕ × List Node). AreShownBelow p.0 (classes_of set) p.1 values) (λ q. (count q, is q)) shown in
         record {
           whole = by_nodes.whole;
-          each = λ class value runner at owns. by_nodes.each class value runner.node at (get_map node_of runners (owner_of board.nodes class) runner owns);
+          each = λ class value runner at owns. by_nodes.each class value at runner.node (get_map node_of runners (owner_of board.nodes class) runner owns);
         }
 
     -- as many batches were posted as were taken

@@ -4,7 +4,7 @@ use Rattle.dob_pieces.specs.declared.piece_set.PieceSet.{PieceSet}
 use Rattle.dob_rank.specs.Limits.{IsSmall}
 use Rattle.dob_rank.specs.Marks.{classes_of}
 use Rattle.dob_value.specs.declared.value.Value.{Value}
-use Rattle.dob_value.specs.Follows.{IsEntry}
+use Rattle.dob_value.specs.Follows.{IsEntry, AreGiven}
 use Rattle.dob_share.specs.Owners.{owner_of}
 use Rattle.dob_share.specs.Shares.{IsOwn, HasValueNow}
 use Rattle.dob_board.specs.declared.halt.Halt.{Halt}
@@ -63,8 +63,10 @@ pub record IsOwner (set : PieceSet) (n k : ℕ) (node : Node) : Type 0 where
 abbrev pub AreOwners : PieceSet → ℕ → List Node → Type 0
 AreOwners set n nodes = (k : ℕ) (node : Node) → slice_get nodes k ≡ Some node → IsOwner set n k node
 
+-- the value is one that the class's owner, of n nodes, shows for it
+abbrev pub IsShown : ℕ → List Node → ℕ → Value → Type 0
+IsShown n nodes class value = (node : Node) → slice_get nodes (owner_of n class) ≡ Some node → HasValueNow node.share class value
+
 -- the values of the classes below a number are those that their owners show
-pub record AreShownBelow (n upto : ℕ) (nodes : List Node) (values : List Value) : Type 0 where
-  pub whole : length values ≡ upto
-  pub each : (class : ℕ) (value : Value) (node : Node) → slice_get values class ≡ Some value →
-      slice_get nodes (owner_of n class) ≡ Some node → HasValueNow node.share class value
+abbrev pub AreShownBelow : ℕ → ℕ → List Node → List Value → Type 0
+AreShownBelow n upto nodes values = AreGiven (IsShown n nodes) upto values

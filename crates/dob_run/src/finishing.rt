@@ -1,19 +1,18 @@
 // What a build by threads leaves, when its crew has come to its end.
-ghost use Rattle.std.specs.Prelude.{◌≡◌, ◌≢◌, ◌+◌, ◌<◌, ℕ, All, Some, IfOk, IfErr, OnOk, MatchOption, map, length, slice_get, slice_index};
+ghost use Rattle.std.specs.Prelude.{◌≡◌, ◌≢◌, ◌+◌, ◌<◌, ℕ, Some, IfOk, IfErr, OnOk, MatchOption, map, length, slice_get, slice_index};
 ghost use Rattle.dob_pieces.specs.declared.piece_set.PieceSet.{PieceSet};
 ghost use Rattle.dob_rank.specs.Limits.{IsSmall};
 ghost use Rattle.dob_rank.specs.Marks.{classes_of};
-ghost use Rattle.dob_value.specs.declared.value.Value.{Value};
-ghost use Rattle.dob_value.specs.Codes.{value_of_code, values_of_codes};
-ghost use Rattle.dob_value.specs.Follows.{IsEntry};
-ghost use Rattle.dob_share.specs.Shares.{IsOwn, HasValueNow};
+ghost use Rattle.dob_share.specs.Owners.{owner_of};
+ghost use Rattle.dob_share.specs.Shares.{IsOwn};
 ghost use Rattle.dob_node.specs.declared.cause.Cause.{Cause};
+ghost use Rattle.dob_node.specs.declared.node.Node.{Node as Shower};
 ghost use Rattle.dob_run.specs.declared.runner.Runner.{Runner};
 ghost use Rattle.dob_run.specs.Manned.{mail_of, node_of};
 ghost use Rattle.dob_run.specs.Closing.{IsCrew, HasEnded};
 ghost use Rattle.dob_run.specs.Built.{IsBuilt};
 ghost use Rattle.dob_run.specs.Turned.{AreUnfailed};
-ghost use Rattle.dob_run.specs.Finishing.{HaveStopped, IsFailureOf, AreOwners, AreShownBelow, failed_of};
+ghost use Rattle.dob_run.specs.Finishing.{HaveStopped, IsFailureOf, AreOwners, IsShown, AreShownBelow, failed_of};
 
 use crate::closing::{Ended, close_mails};
 use crate::fault::Fault;
@@ -25,7 +24,7 @@ use dob_node::{Cause, Node};
 use dob_pieces::{Memory, PieceSet};
 use dob_rank::Classes;
 use dob_share::owner;
-use dob_value::{Table, code_of_value};
+use dob_value::{Table, Value};
 use std::alloc::Global;
 use std::sync::Wait;
 
@@ -134,32 +133,22 @@ fn table_of(alloc: Global, classes: Classes, nodes: &[Node]) -> Result<Table, Me
     ensures set { IfOk result (λ table. table.set ≡ classes.set) }
     ensures values { IfOk result (λ table. AreShownBelow (length nodes.now) (classes_of classes.set) nodes.now table.values) }
 {
-    let codes = codes_of(alloc, &classes, nodes)?;
-    Ok(Table::new(classes, codes))
+    let value_at = |class: u64| -> Value
+        requires some { 0 < length nodes.now }
+        requires own { (node : Shower) → slice_get nodes.now (owner_of (length nodes.now) class) ≡ Some node → IsOwn node.share class }
+        ensures { IsShown (length nodes.entry.now) nodes.entry.now class result }
+    {
+        value_of(nodes, class)
+    };
+    Table::from_fn(alloc, classes, value_at)
 }
 
-// The codes of the values that the nodes show.
-fn codes_of(alloc: Global, classes: &Classes, nodes: &[Node]) -> Result<Vec<u16>, Memory>
+// The value that the class's owner shows.
+fn value_of(nodes: &[Node], class: u64) -> Value
     requires some { 0 < length nodes.now }
-    requires owners { AreOwners classes.now.set (length nodes.now) nodes.now }
-    ensures codes { IfOk result (λ codes. All (λ code. code < 65536) codes.items) }
-    ensures values { IfOk result (λ codes.
-        AreShownBelow (length nodes.now) (classes_of classes.now.set) nodes.now (values_of_codes codes.items)) }
+    requires own { (node : Shower) → slice_get nodes.now (owner_of (length nodes.now) class) ≡ Some node → IsOwn node.share class }
+    ensures { IsShown (length nodes.now) nodes.now class result }
 {
-    let count = classes.class_count();
-    let mut codes = Vec::with_capacity(alloc, count as usize)?;
-    for class in 0..count {
-        let node = owner(class, nodes.len());
-        codes.push(code_of(&nodes[node], class))?;
-    }
-    Ok(codes)
-}
-
-// The code of the value that the node shows of an own class, which is such as a table can have.
-fn code_of(node: &Node, class: u64) -> u16
-    requires own { IsOwn node.now.share class }
-    requires entry { (value : Value) → HasValueNow node.now.share class value → IsEntry value }
-    ensures { HasValueNow node.now.share class (value_of_code result) }
-{
-    code_of_value(node.value(class))
+    let node = owner(class, nodes.len());
+    nodes[node].value(class)
 }

@@ -12,7 +12,7 @@ pub enum Value {
 
 impl Value {
     /// Whether this is a win in at most that many plies.
-    pub fn is_win_within(self, depth: u16) -> bool
+    pub(crate) fn is_win_within(self, depth: u16) -> bool
         ensures { result ≡ is_win_within depth self }
     {
         match self {
@@ -22,7 +22,7 @@ impl Value {
     }
 
     /// Whether this is a loss in at most that many plies.
-    pub fn is_loss_within(self, depth: u16) -> bool
+    pub(crate) fn is_loss_within(self, depth: u16) -> bool
         ensures { result ≡ is_loss_within depth self }
     {
         match self {
@@ -32,7 +32,7 @@ impl Value {
     }
 
     /// Whether this is a draw.
-    pub fn is_draw(self) -> bool
+    pub(crate) fn is_draw(self) -> bool
         ensures { result ≡ is_draw self }
     {
         match self {

@@ -1,5 +1,5 @@
 -- The values that the nodes of a world show.
-use Rattle.std.proofs.Common.{◌≡◌, ℕ, ◌<◌, cond, refl, sym, ap, ◌∙◌, subst, List, [], Some, slice_get, eqb, arith}
+use Rattle.std.proofs.Common.{◌≡◌, ℕ, ◌<◌, cond, refl, sym, ap, ◌∙◌, subst, List, Some, slice_get, eqb}
 use Rattle.std.proofs.lemmas.Bool.{lt-ltb}
 use Rattle.dob_rank.specs.Marks.{classes_of}
 use Rattle.dob_value.specs.declared.value.Value.{Value}
@@ -9,7 +9,6 @@ use Rattle.dob_share.specs.Owners.{owner_of}
 use Rattle.dob_share.specs.Cells.{fresh}
 use Rattle.dob_share.specs.Shares.{IsOwn, status_at, cell_at, HasValueNow}
 use Rattle.dob_node.specs.declared.node.Node.{Node}
-use Rattle.dob_node.specs.Histories.{AreValuesBelow}
 use Rattle.dob_node.proofs.Kept.{last_now-entry}
 use Rattle.dob_node.proofs.Rest.{below_owner}
 use Rattle.dob_node.proofs.ShownValues.{value_shown}
@@ -17,10 +16,6 @@ use Rattle.dob_world.specs.declared.lane.Lane.{Lane}
 use Rattle.dob_world.specs.Worlds.{Setting, Nodes, value_in, AreLawful}
 use Rattle.dob_world.specs.Shown.{part, nodes_shown, world_shown, IsNodeOf, AreInPlace}
 use Rattle.dob_world.proofs.Made.{kept_of}
-
--- before the first class there is none
-pub no_values : (value : ℕ → Value) → AreValuesBelow value 0 []
-no_values value = record { whole = refl; each = λ class low. absurd (omega (arith, low)) }
 
 module _ (k : Setting) (nodes : List Node) (lanes : List Lane) (some : 0 < k.n) (places : AreInPlace k nodes lanes)
     (lawful : AreLawful k (world_shown k.set k.n nodes lanes).nodes) (class : ℕ) (low : class < classes_of k.set) (node : Node)

@@ -1,8 +1,7 @@
 // The table of the values that a world holds.
-ghost use Rattle.std.specs.Prelude.{◌≡◌, ◌<◌, true, All, IfOk};
+ghost use Rattle.std.specs.Prelude.{◌≡◌, ◌<◌, true, IfOk};
 ghost use Rattle.dob_rank.specs.Marks.{classes_of};
-ghost use Rattle.dob_value.specs.Codes.{values_of_codes};
-ghost use Rattle.dob_value.specs.Follows.{IsValueTable};
+ghost use Rattle.dob_value.specs.Follows.{IsEntry, IsValueTable};
 ghost use Rattle.dob_node.specs.Histories.{AreValuesBelow};
 ghost use Rattle.dob_world.specs.Worlds.{value_in, IsAtRest};
 ghost use Rattle.dob_world.specs.Shown.{setting_of, state_of, IsStanding};
@@ -11,7 +10,7 @@ use crate::world::World;
 use dob_pieces::Memory;
 use dob_rank::{Classes, Fault};
 use dob_share::owner;
-use dob_value::{Table, code_of_value};
+use dob_value::{Table, Value};
 
 impl World {
     /// The present values of all classes. Where nothing is left to do, and so where the end is announced, it is the value
@@ -30,22 +29,25 @@ impl World {
             Err(Fault::Memory) => return Err(Memory),
             Err(Fault::SetTooLarge) => unreachable!(),
         };
-        let codes = self.codes()?;
-        Ok(Table::new(classes, codes))
+        let value_at = |class: u64| -> Value
+            requires standing { IsStanding self.now }
+            requires low { class < classes_of self.now.classes.set }
+            ensures value { result ≡ value_in self.entry.now.n (state_of self.entry.now).world.nodes class }
+            ensures entry { IsEntry result }
+        {
+            self.value_of(class)
+        };
+        Table::from_fn(self.alloc, classes, value_at)
     }
 
-    // The codes of the values.
-    fn codes(&self) -> Result<Vec<u16>, Memory>
+    // The present value of the class.
+    fn value_of(&self, class: u64) -> Value
         requires standing { IsStanding self.now }
-        ensures codes { IfOk result (λ codes. All (λ code. code < 65536) codes.items) }
-        ensures values { IfOk result (λ codes. AreValuesBelow (value_in self.now.n (state_of self.now).world.nodes) (classes_of self.now.classes.set) (values_of_codes codes.items)) }
+        requires low { class < classes_of self.now.classes.set }
+        ensures value { result ≡ value_in self.now.n (state_of self.now).world.nodes class }
+        ensures entry { IsEntry result }
     {
-        let count = self.classes.class_count();
-        let mut codes = Vec::with_capacity(self.alloc, count as usize)?;
-        for class in 0..count {
-            let node = owner(class, self.n);
-            codes.push(code_of_value(self.nodes[node].value(class)))?;
-        }
-        Ok(codes)
+        let node = owner(class, self.n);
+        self.nodes[node].value(class)
     }
 }

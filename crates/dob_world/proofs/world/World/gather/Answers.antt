@@ -1,27 +1,38 @@
 -- At rest it is the value table.
-use Rattle.std.proofs.Common.{sym, subst}
-use Rattle.dob_value.specs.Codes.{values_of_codes}
-use Rattle.dob_value.specs.Follows.{ClassTable, IsValueTable}
+use Rattle.std.proofs.Common.{◌≡◌, ℕ, IfOk, ap, subst}
+use Rattle.dob_pieces.specs.declared.piece_set.PieceSet.{PieceSet}
+use Rattle.dob_rank.specs.Marks.{classes_of}
+use Rattle.dob_value.proofs.Parity.{IfOk-both}
+use Rattle.dob_node.specs.Histories.{AreValuesBelow}
+use Rattle.dob_node.proofs.ShownValues.{values_given}
+use Rattle.dob_world.specs.Worlds.{value_in}
 use Rattle.dob_world.specs.Shown.{setting_of, state_of}
 use Rattle.dob_world.proofs.Over.{end_is_silent}
 use Rattle.dob_world.proofs.Rest.{rest_is_right}
 use Rattle.dob_world.proofs.world.World.gather.Goals as goal
+use Rattle.dob_world.proofs.world.World.gather.Goals.{After-from_fn}
+
+-- the values given are those that the nodes show
+shown : (c : After-from_fn) → IfOk c.from_fn.result (λ table. AreValuesBelow (value_in c.args.self.now.n (state_of c.args.self.now).world.nodes)
+    (classes_of c.args.self.now.classes.set) table.values)
+shown c =
+    let value = value_in c.args.self.now.n (state_of c.args.self.now).world.nodes in
+    IfOk-both c.from_fn.result _ _ _ (λ table given same.
+    subst (λ (count : ℕ). AreValuesBelow value count table.values) (ap (λ (set : PieceSet). classes_of set) c.in-Ok.ensures.set)
+    (values_given _ value (classes_of c.in-Ok.classes.set) table.values given (λ class v low has. has.0)))
+    c.from_fn.ensures.given c.from_fn.ensures.set
+
+pub returns-clause-values : goal.returns-clause-values
+returns-clause-values c = shown c
 
 pub returns-clause-right : goal.returns-clause-right
 returns-clause-right c = λ rest.
     let k = setting_of c.args.self.now in
     let standing = c.requires.standing in
-    let values = c.in_ok-codes.ensures.values in
-    subst (λ (table : ClassTable). IsValueTable k.set table.values) (sym c.new.ensures)
-    (rest_is_right k (state_of c.args.self.now).world standing.openings.0 (values_of_codes c.in_ok-codes.codes.items) standing.setting.nodes.0
-    standing.openings.1 standing.lawful standing.linked rest values.whole values.each)
+    IfOk-both c.from_fn.result _ _ _ (λ table values same.
+    rest_is_right k (state_of c.args.self.now).world standing.openings.0 table.values standing.setting.nodes.0
+    standing.openings.1 standing.lawful standing.linked rest values.whole values.each) (shown c) c.from_fn.ensures.set
 
 pub returns-clause-announced : goal.returns-clause-announced
 returns-clause-announced c = λ ended.
-    let k = setting_of c.args.self.now in
-    let standing = c.requires.standing in
-    let values = c.in_ok-codes.ensures.values in
-    let rest = (end_is_silent k (state_of c.args.self.now) standing.told ended).rest in
-    subst (λ (table : ClassTable). IsValueTable k.set table.values) (sym c.new.ensures)
-    (rest_is_right k (state_of c.args.self.now).world standing.openings.0 (values_of_codes c.in_ok-codes.codes.items) standing.setting.nodes.0
-    standing.openings.1 standing.lawful standing.linked rest values.whole values.each)
+    returns-clause-right c (end_is_silent (setting_of c.args.self.now) (state_of c.args.self.now) c.requires.standing.told ended).rest
