@@ -1,7 +1,7 @@
 -- The faults of a table are those of the file that it was read from, and by the file of a value table the value told is right.
-use Rattle.std.proofs.Common.{◌≡◌, ◌||◌, ℕ, Bool, true, false, List, inl, inr, refl, subst, sym}
+use Rattle.std.proofs.Common.{◌≡◌, ℕ, false, List, inl, inr, subst}
 use Rattle.dob_pieces.specs.declared.setup.Setup.{Setup}
-use Rattle.dob_value.specs.Follows.{ClassTable, HasInTable, IsValueTable}
+use Rattle.dob_value.specs.Follows.{ClassTable, IsValueTable}
 use Rattle.dob_dbfile.proofs.Written.{same_files}
 use Rattle.dob_probe.specs.declared.fault.Fault as probing
 use Rattle.dob_probe.specs.declared.fault.Fault.TheVariants as table_fault
