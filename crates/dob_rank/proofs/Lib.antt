@@ -62,5 +62,6 @@ pub mod FarPlaces  -- a position of profile B by what the code finds of it
 pub mod FarSpots  -- the place of a run before which it has so many positions of profile B
 pub mod FamilyClasses  -- the representatives of a family where the lions say which positions are earlier
 pub mod FarUnranks  -- the position of a rank of profile B
+pub mod FamilyNumbers  -- a position of a family is in the class of its class number
 -- Long lists.
 pub mod Segmentation  -- lists in segments

@@ -5,7 +5,8 @@ ghost use Rattle.dob_pieces.specs.declared.profile.Profile.TheVariants.{B};
 ghost use Rattle.dob_rank.specs.Numbers.{order, choose, settle};
 ghost use Rattle.dob_rank.specs.Marks.{marks_below};
 ghost use Rattle.dob_rank.specs.Runs.{AreFewOnBoard};
-ghost use Rattle.dob_rank.specs.Weights.{may_have, are_allowed, forms_stand, lions_in, forms_before, forms_in, lions_before, hand_size, others_squares, others_forms};
+ghost use Rattle.dob_rank.specs.Weights.{may_have, are_allowed, forms_stand, lions_in, forms_before, forms_in, lions_before, hand_size};
+ghost use Rattle.dob_rank.specs.Weights.{others_squares, others_forms};
 ghost use Rattle.dob_rank.specs.Places.{AreChickParts, IsPlaceFor};
 
 use crate::block::{self, EachKind};

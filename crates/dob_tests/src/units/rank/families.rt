@@ -92,5 +92,8 @@ fn has_position_in_b(rt: &impl Abort, set: &str, number: u64, text: &str) {
         profile: Profile::B,
     };
     assert!(rt; number < size_in(family));
-    assert!(rt; unrank_in(family, number) == position(rt, text), "rank {number} of {set}");
+    assert!(rt;
+        unrank_in(family, number) == position(rt, text),
+        "rank {number} of {set}"
+    );
 }
