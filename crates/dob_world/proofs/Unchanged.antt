@@ -1,9 +1,9 @@
 -- What a node and a lane show that are as they were.
-use Rattle.std.proofs.Common.{◌≡◌, ℕ, ◌+◌, ◌*◌, ◌<◌, ap, ◌∙◌, cond, nat_lt, List, [], length, Some, slice_get, set}
+use Rattle.std.proofs.Common.{◌≡◌, ℕ, ◌+◌, ◌*◌, ◌<◌, ap, cond, nat_lt, List, [], length, Some, slice_get, set}
 use Rattle.dob_link.specs.Links.{LinkView}
 use Rattle.dob_rank.specs.Marks.{classes_of}
 use Rattle.dob_share.specs.declared.share.Share.{Share}
-use Rattle.dob_share.specs.Cells.{Cell, fresh}
+use Rattle.dob_share.specs.Cells.{fresh}
 use Rattle.dob_share.specs.Owners.{owner_of}
 use Rattle.dob_share.specs.Shares.{cell_at}
 use Rattle.dob_update.specs.Batches.{OutboxView}
