@@ -10,7 +10,7 @@ use Rattle.dob_world.specs.Events.{CanHappen}
 use Rattle.dob_world.specs.Runs.{IsAfter, IsStepOf, IsAfterSteps}
 use Rattle.dob_world.specs.Rounds.{round_length, round_event, round_front, round_of, rounds_of, IsStill}
 use Rattle.dob_world.specs.Shown.{setting_of, state_of, IsStanding}
-use Rattle.dob_world.specs.Results.{HasMadeRound, HasDriven, SomeCan, IsBusyRound, IsStillRound}
+use Rattle.dob_world.specs.Results.{HasMadeRound, HasDriven, SomeCan, IsBusyRound}
 use Rattle.dob_world.specs.declared.fault.Fault.{Fault}
 use Rattle.dob_world.specs.Stops.{IsStopBy, IsStopInRounds}
 use Rattle.dob_world.proofs.Still.{still_ended}

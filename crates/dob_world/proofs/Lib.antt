@@ -21,6 +21,7 @@ pub mod Expanded  -- a settlement that a node expands
 pub mod Moves  -- items that a node applies, and batches that it posts
 pub mod Made  -- items applied, and batches taken and posted, where a world stands
 pub mod Outcomes  -- the event was possible, it happened, and the world stands
+pub mod Unchanged  -- what a node and a lane show that are as they were
 pub mod Stood  -- what standing gives of the ring and of idle nodes
 pub mod Stopped  -- a node never stops because an item contradicts its cell
 -- Runs from the start to the end.

@@ -5,7 +5,7 @@ use Rattle.std.proofs.lemmas.Option.{slice_get_within}
 use Rattle.dob_unmove.specs.Edges.{predecessors}
 use Rattle.dob_share.specs.declared.news.Item.{Item}
 use Rattle.dob_update.specs.Items.{items_of, items_from}
-use Rattle.dob_update.specs.Batches.{BatchView, items_of_batches}
+use Rattle.dob_update.specs.Batches.{items_of_batches}
 use Rattle.dob_update.proofs.BatchItems.{items_in_more}
 use Rattle.dob_node.proofs.Settles.{told_more, told_grown}
 use Rattle.dob_world.specs.Worlds.{Setting, World, told_in, IsLinked}

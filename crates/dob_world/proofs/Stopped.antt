@@ -21,9 +21,9 @@ use Rattle.dob_node.specs.Takes.{HasEntries, AreKept, IsReason, StopsAt}
 use Rattle.dob_node.specs.declared.node.Node.{Node}
 use Rattle.dob_node.specs.Nodes.{HasItemFault}
 use Rattle.dob_world.specs.declared.lane.Lane.{Lane}
-use Rattle.dob_world.specs.declared.event.Event.TheVariants.{Expand, Own, Take}
+use Rattle.dob_world.specs.declared.event.Event.TheVariants.{Own, Take}
 use Rattle.dob_world.specs.declared.fault.Fault.TheVariants.{Stopped}
-use Rattle.dob_world.specs.Worlds.{Setting, World as Seen, AreLawful, IsLinked, items_in}
+use Rattle.dob_world.specs.Worlds.{Setting, AreLawful, IsLinked, items_in}
 use Rattle.dob_world.specs.Lanes.{IsBatchFor}
 use Rattle.dob_world.specs.Stops.{IsCauseOf}
 use Rattle.dob_world.specs.Shown.{lane_at, nodes_shown, world_shown, IsNodeOf, AreInPlace}

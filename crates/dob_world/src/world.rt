@@ -93,7 +93,8 @@ impl World {
     /// Makes the event happen, or skips it where it can't.
     ///
     /// Error: `Stopped`, where the node that makes a step at the event has stopped; then, and at each further step, the same, which
-    /// changes nothing. A world that has stopped isn't one whose end is announced.
+    /// changes nothing. A world that has stopped isn't one whose end is announced. After want of memory all lists, counts and the
+    /// token are as before the event.
     /// In a set of fewer than 65,535 classes it stops for want of memory alone.
     pub fn step(&mut self, event: Event) -> Result<Step, Fault>
         requires few { self.old.steps < 2 ^ 40 }
@@ -102,6 +103,7 @@ impl World {
         ensures skipped { result ≡ Ok Step.Skipped → (¬ CanHappen (setting_of self.old) (state_of self.old) event) × IsUnchanged self.old self.new }
         ensures stopped { IfErr result (λ fault. IsStop fault × (self.new.failed ≡ Some fault)) }
         ensures ring { OnErr result ((self.new.detector ≡ self.old.detector) × (self.new.steps ≡ self.old.steps)) }
+        ensures shown { IfErr result (λ fault. IsForMemory fault → (state_of self.new).world ≡ (state_of self.old).world) }
         ensures named { self.old.failed ≡ None → IfErr result (λ fault. IsStopBy (setting_of self.old) (state_of self.old) event fault) }
         ensures stays { IfSome self.old.failed (λ fault. (result ≡ Err fault) × (self.new ≡ self.old)) }
         ensures unannounced { OnErr result (self.new.detector.announced ≡ false) }
@@ -136,6 +138,7 @@ impl World {
         ensures skipped { result ≡ Ok false → (¬ CanHappen (setting_of self.old) (state_of self.old) event) × IsUnchanged self.old self.new }
         ensures stopped { IfErr result (λ fault. IsStopBy (setting_of self.old) (state_of self.old) event fault) }
         ensures ring { OnErr result ((self.new.detector ≡ self.old.detector) × (self.new.steps ≡ self.old.steps)) }
+        ensures shown { IfErr result (λ fault. IsForMemory fault → (state_of self.new).world ≡ (state_of self.old).world) }
     {
         match event {
             Event::Expand(node) => self.expand(node),
@@ -155,6 +158,7 @@ impl World {
         ensures skipped { result ≡ Ok false → (¬ CanHappen (setting_of self.old) (state_of self.old) (Expand node)) × IsUnchanged self.old self.new }
         ensures stopped { IfErr result (λ fault. IsStopBy (setting_of self.old) (state_of self.old) (Expand node) fault) }
         ensures ring { OnErr result ((self.new.detector ≡ self.old.detector) × (self.new.steps ≡ self.old.steps)) }
+        ensures shown { IfErr result (λ fault. IsForMemory fault → (state_of self.new).world ≡ (state_of self.old).world) }
     {
         if node >= self.n {
             return Ok(false);
@@ -173,6 +177,7 @@ impl World {
         ensures skipped { result ≡ Ok false → (¬ CanHappen (setting_of self.old) (state_of self.old) (Own node)) × IsUnchanged self.old self.new }
         ensures stopped { IfErr result (λ fault. IsStopBy (setting_of self.old) (state_of self.old) (Own node) fault) }
         ensures ring { OnErr result ((self.new.detector ≡ self.old.detector) × (self.new.steps ≡ self.old.steps)) }
+        ensures shown { IfErr result (λ fault. IsForMemory fault → (state_of self.new).world ≡ (state_of self.old).world) }
     {
         if node >= self.n {
             return Ok(false);
@@ -192,6 +197,7 @@ impl World {
         ensures skipped { result ≡ Ok false → (¬ CanHappen (setting_of self.old) (state_of self.old) (Post from to)) × IsUnchanged self.old self.new }
         ensures stopped { IfErr result (λ fault. IsStopBy (setting_of self.old) (state_of self.old) (Post from to) fault) }
         ensures ring { OnErr result ((self.new.detector ≡ self.old.detector) × (self.new.steps ≡ self.old.steps)) }
+        ensures shown { IfErr result (λ fault. IsForMemory fault → (state_of self.new).world ≡ (state_of self.old).world) }
     {
         if from >= self.n || to >= self.n || from == to {
             return Ok(false);
@@ -220,6 +226,7 @@ impl World {
         ensures skipped { result ≡ Ok false → (¬ CanHappen (setting_of self.old) (state_of self.old) (Take from to)) × IsUnchanged self.old self.new }
         ensures stopped { IfErr result (λ fault. IsStopBy (setting_of self.old) (state_of self.old) (Take from to) fault) }
         ensures ring { OnErr result ((self.new.detector ≡ self.old.detector) × (self.new.steps ≡ self.old.steps)) }
+        ensures shown { IfErr result (λ fault. IsForMemory fault → (state_of self.new).world ≡ (state_of self.old).world) }
     {
         if from >= self.n || to >= self.n || from == to {
             return Ok(false);

@@ -9,6 +9,7 @@ use Rattle.dob_world.specs.Shown.{setting_of, state_of, ring_of, IsNodeOf}
 use Rattle.dob_world.proofs.Slots.{set_same}
 use Rattle.dob_world.proofs.Expanded.{in_place_node, still_node, expands, can_expand, cant_expand, left_to_expand, cuts_expanded}
 use Rattle.dob_world.proofs.Firsts.{ok_is}
+use Rattle.dob_world.proofs.Unchanged.{node_unseen}
 use Rattle.dob_world.proofs.Stood.{stand_after}
 use Rattle.dob_world.proofs.world.World.expand.Goals as goal
 
@@ -89,3 +90,15 @@ returns-in-Err-clause-stopped c =
       ),
       ap (λ (why : Cause). Stopped i why) c.in-Err.ensures.memory,
     )
+
+pub returns-in-Err-clause-shown : goal.returns-in-Err-clause-shown
+returns-in-Err-clause-shown c = λ memory.
+    let k = setting_of c.args.self.now in
+    let nodes = c.args.self.now.nodes.items in
+    let i = c.args.node in
+    let node = c.index_mut.result.now in
+    let low : i < length nodes = omega (arith, c.requires.standing.places.nodes_whole) in
+    let below : i < c.args.self.now.n = c.if-node-self.false in
+    let there : slice_get nodes i ≡ Some node = read_there nodes i node low c.index_mut.ensures.value in
+    let told : node.expanded ≤ length node.history.settlements = (c.requires.standing.places.node i node there).sound.told in
+    node_unseen k nodes c.args.self.now.lanes.items i node c.expand.new.self there c.in-Err.ensures.unchanged

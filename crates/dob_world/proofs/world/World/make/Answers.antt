@@ -1,8 +1,7 @@
 -- What a node does by itself is what the event does.
 use Rattle.std.proofs.Common.{sym, subst, IfErr}
 use Rattle.dob_world.specs.declared.event.Event.{Event}
-use Rattle.dob_world.specs.declared.event.Event.TheVariants.{Own}
-use Rattle.dob_world.specs.Shown.{setting_of, state_of, IsMade, WillStand, IsUnchanged}
+use Rattle.dob_world.specs.Shown.{setting_of, state_of, IsMade}
 use Rattle.dob_world.specs.Events.{CanHappen}
 use Rattle.dob_world.specs.Stops.{IsStopBy}
 use Rattle.dob_world.proofs.world.World.make.Goals as goal

@@ -9,6 +9,7 @@ use Rattle.dob_world.proofs.Cuts.{cuts_stay, next_same}
 use Rattle.dob_world.proofs.Outcomes.{owned, cant_own, some_own}
 use Rattle.dob_world.proofs.Stopped.{own_stops}
 use Rattle.dob_world.proofs.Firsts.{ok_is}
+use Rattle.dob_world.proofs.Unchanged.{node_unseen, lane_unseen}
 use Rattle.dob_world.proofs.Stood.{stand_after}
 use Rattle.dob_world.proofs.world.World.own.Goals as goal
 
@@ -95,3 +96,18 @@ returns-in-Err-clause-stopped c =
       own_stops k nodes lanes c.requires.standing.setting.nodes.0 c.requires.standing.places c.requires.standing.lawful c.requires.standing.linked i node lane
           c.in-Err.cause below there_n there_l c.in-Err.ensures.stopped,
     )
+
+pub returns-in-Err-clause-shown : goal.returns-in-Err-clause-shown
+returns-in-Err-clause-shown c = λ memory.
+    let k = setting_of c.args.self.now in
+    let nodes = c.args.self.now.nodes.items in
+    let lanes = c.args.self.now.lanes.items in
+    let i = c.args.node in
+    let node = c.index_mut.result.now in
+    let lane = c.index_mut-2.result.now in
+    let below : i < c.args.self.now.n = c.if-node-self.false in
+    let there_n = node_there k nodes lanes c.requires.standing.places i node below c.index_mut.ensures.value in
+    let there_l = lane_there k nodes lanes c.requires.standing.places i i lane below below c.index_mut-2.ensures.value in
+    let same = c.in-Err.ensures.unchanged in
+    lane_unseen k (slice_set nodes i c.apply_own.new.node) lanes i i lane c.apply_own.new.lane below below c.requires.standing.places.lanes_whole there_l same.1
+    ∙ node_unseen k nodes lanes i node c.apply_own.new.node there_n same.0

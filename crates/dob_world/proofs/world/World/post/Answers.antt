@@ -9,6 +9,7 @@ use Rattle.dob_world.proofs.Slots.{set_same}
 use Rattle.dob_world.proofs.Stands.{node_there, lane_there, slot_there}
 use Rattle.dob_world.proofs.Cuts.{cuts_posted, few_cut}
 use Rattle.dob_world.proofs.Outcomes.{posted, cant_post, can_post}
+use Rattle.dob_world.proofs.Unchanged.{node_unseen, lane_unseen}
 use Rattle.dob_world.proofs.Stood.{stand_after, ring_lawful, low_ring, moved_here, sender_black, room_to_post}
 use Rattle.dob_world.proofs.world.World.post.Goals as goal
 
@@ -197,3 +198,23 @@ returns-in-Err-clause-stopped c =
         | inr memory ↦ ap (λ (why : Cause). Stopped i why) memory
       ],
     )
+
+pub returns-in-Err-clause-shown : goal.returns-in-Err-clause-shown
+returns-in-Err-clause-shown c = λ memory.
+    let k = setting_of c.args.self.now in
+    let nodes = c.args.self.now.nodes.items in
+    let lanes = c.args.self.now.lanes.items in
+    let i = c.args.from in
+    let j = c.args.to in
+    let node = c.index_mut.result.now in
+    let lane = c.index_mut-2.result.now in
+    let low_i : i < c.args.self.now.n = c.if-from-self.false in
+    let low_j : j < c.args.self.now.n = c.if-to-self.false in
+    let stand = c.requires.standing in
+    let there_n = node_there k nodes lanes stand.places i node low_i c.index_mut.ensures.value in
+    let there_l = lane_there k nodes lanes stand.places i j lane low_i low_j c.index_mut-2.ensures.value in
+    let can = can_post k nodes lanes node lane stand.places.lanes_whole i j low_i low_j there_n there_l (stand.places.lane i j lane there_l).capacity
+    c.in-Err.ensures.moment.0 c.in-Err.ensures.moment.1 in
+    let same = c.in-Err.ensures.unchanged in
+    lane_unseen k (slice_set nodes i c.post.new.node) lanes i j lane c.post.new.lane low_i low_j c.requires.standing.places.lanes_whole there_l same.1
+    ∙ node_unseen k nodes lanes i node c.post.new.node there_n same.0

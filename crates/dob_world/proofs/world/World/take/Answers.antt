@@ -12,6 +12,9 @@ use Rattle.dob_world.proofs.Stands.{node_there, lane_there, slot_there}
 use Rattle.dob_world.proofs.Cuts.{cuts_stay, next_same}
 use Rattle.dob_world.proofs.Outcomes.{received, cant_take, some_waits}
 use Rattle.dob_world.proofs.Stopped.{take_stops}
+use Rattle.dob_world.proofs.Unchanged.{node_unseen, lane_unseen}
+use Rattle.dob_node.specs.declared.cause.Cause.TheVariants as cause
+use Rattle.std.proofs.Common.{◌≡◌, Err}
 use Rattle.dob_world.proofs.Stood.{stand_after, ring_lawful, low_ring, moved_here, batch_waits}
 use Rattle.dob_world.proofs.world.World.take.Goals as goal
 
@@ -188,3 +191,21 @@ returns-in-Err-clause-stopped c =
       take_stops k nodes lanes c.requires.standing.setting.nodes.0 c.requires.standing.places c.requires.standing.lawful c.requires.standing.linked i j node lane
           c.in-Err.cause low_i low_j c.if-from-to.false there_n there_l c.in-Err.ensures.stopped,
     )
+
+pub returns-in-Err-clause-shown : goal.returns-in-Err-clause-shown
+returns-in-Err-clause-shown c = λ memory.
+    let k = setting_of c.args.self.now in
+    let nodes = c.args.self.now.nodes.items in
+    let lanes = c.args.self.now.lanes.items in
+    let i = c.args.from in
+    let j = c.args.to in
+    let node = c.index_mut.result.now in
+    let lane = c.index_mut-2.result.now in
+    let low_i : i < c.args.self.now.n = c.if-from-self.false in
+    let low_j : j < c.args.self.now.n = c.if-to-self.false in
+    let there_n = node_there k nodes lanes c.requires.standing.places j node low_j c.index_mut.ensures.value in
+    let there_l = lane_there k nodes lanes c.requires.standing.places i j lane low_i low_j c.index_mut-2.ensures.value in
+    let why : c.in-Err.cause ≡ cause.Memory = let is = memory.1 in cc in
+    let same = c.in-Err.ensures.unchanged (ap Err why) in
+    lane_unseen k (slice_set nodes j c.receive.new.node) lanes i j lane c.receive.new.lane low_i low_j c.requires.standing.places.lanes_whole there_l same.1
+    ∙ node_unseen k nodes lanes j node c.receive.new.node there_n same.0
