@@ -83,7 +83,7 @@ unfolding Fits
 fits_own share item fits = fits.0
 
 -- a history to which nothing is added
-pub same_history : (history : HistoryView) → history ≡ record history { settlements = history.settlements ++ [] }
+pub same_history : (history : HistoryView) → history ≡ record history { settlements = history.settlements ++ []; room = history.room }
 same_history history = ap (λ (xs : List Settlement). record history { settlements = xs }) (sym (append-nil history.settlements))
 
 -- ---- the same classes
@@ -164,7 +164,7 @@ module _ (set : PieceSet) (n id : ℕ) (share after : Share) (history : HistoryV
       (subst (λ (k : ℕ). k < classes_of set) (sym settled.2) mine.1) (All-nil (λ (s : Settlement). s.class < classes_of set))
 
   pub kept_still : (given : Option Settlement) → HasSettled share after item.to given → (grown : HistoryView) →
-      grown ≡ record history { settlements = history.settlements ++ listed given } → AreKept set n id after grown
+      grown ≡ record history { settlements = history.settlements ++ listed given; room = grown.room } → AreKept set n id after grown
   kept_still given settled grown is = subst (λ (view : HistoryView). AreKept set n id after view) (sym is) (record {
     share_is = (same.n ∙ kept.share_is.0, same.id ∙ kept.share_is.1);
     history_is = kept.history_is;

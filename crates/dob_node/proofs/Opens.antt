@@ -58,9 +58,9 @@ settled_low status n id count (suc k) low =
 
 -- one place more
 pub opening_more : (openings : List Opening) (n id k : ℕ) (history new : HistoryView) (status : Status) → status ≡ status_in openings (k * n + id) →
-    history ≡ record { id = id; n = n; settlements = opening_settlements (status_in openings) n id k } →
+    history ≡ record { id = id; n = n; settlements = opening_settlements (status_in openings) n id k; room = 0 } →
     new ≡ record history { settlements = history.settlements ++ opening_settlement (length history.settlements) (k * n + id) (opening_value status) } →
-    new ≡ record { id = id; n = n; settlements = opening_settlements (status_in openings) n id (k + 1) }
+    new ≡ record { id = id; n = n; settlements = opening_settlements (status_in openings) n id (k + 1); room = 0 }
 opening_more openings n id k history new status listed was is = rw add-one (
     is
     ∙ ap (λ (v : HistoryView). record v { settlements = v.settlements ++ opening_settlement (length v.settlements) (k * n + id) (opening_value status) }) was
@@ -69,9 +69,9 @@ opening_more openings n id k history new status listed was is = rw add-one (
   where
     more : (xs : List Settlement) →
         ◌≡◌ {A = HistoryView}
-        (record { id = id; n = n; settlements = xs ++ opening_settlement (length xs) (k * n + id) (opening_value status) })
-        (record { id = id; n = n; settlements = xs ++ opening_settlement (length xs) (k * n + id) (opening_value (status_in openings (k * n + id))) })
-    more xs = ap {B = HistoryView} (λ (st : Status). record { id = id; n = n; settlements = xs ++ opening_settlement (length xs) (k * n + id) (opening_value st) }) listed
+        (record { id = id; n = n; settlements = xs ++ opening_settlement (length xs) (k * n + id) (opening_value status); room = 0 })
+        (record { id = id; n = n; settlements = xs ++ opening_settlement (length xs) (k * n + id) (opening_value (status_in openings (k * n + id))); room = 0 })
+    more xs = ap {B = HistoryView} (λ (st : Status). record { id = id; n = n; settlements = xs ++ opening_settlement (length xs) (k * n + id) (opening_value st); room = 0 }) listed
 
 -- ---- the places
 
@@ -108,7 +108,7 @@ pub opened_kept : (set : PieceSet) (openings : List Opening) (n id : ℕ) (share
     ((class : ℕ) → IsOwn share class ↔ ((class % n ≡ id) × (class < length openings))) →
     ((class : ℕ) → IsOwn share class → SameCell (cell_at share class) (fresh (opening_of openings class).moves)) →
     share.settled ≡ settled_among (λ place. (opening_of openings (class_of_place n id place)).status) (places_of share) →
-    history ≡ record { id = id; n = n; settlements = opening_settlements (status_in openings) n id (places_of share) } →
+    history ≡ record { id = id; n = n; settlements = opening_settlements (status_in openings) n id (places_of share); room = 0 } →
     AreKept set n id share history
 opened_kept set openings n id share history are less few who owned cells settled is = subst (λ v. AreKept set n id share v) (sym is) (record {
   share_is = (who.1, who.0);

@@ -70,6 +70,6 @@ entries_more s own new items targets was now entries are is = subst (λ xs. All 
 -- ---- openings
 
 -- the class at a place is the owner's
-pub own_there : (view : HistoryView) (n id place : ℕ) (xs : List Settlement) → id < n → view ≡ record { id = id; n = n; settlements = xs } →
+pub own_there : (view : HistoryView) (n id place : ℕ) (xs : List Settlement) → id < n → view ≡ record { id = id; n = n; settlements = xs; room = 0 } →
     owner_of view.n (place * n + id) ≡ view.id
 own_there view n id place xs some is = ap (λ (v : HistoryView). owner_of v.n (place * n + id)) is ∙ mod-mul-add place n id some ∙ sym (ap (λ (v : HistoryView). v.id) is)

@@ -53,16 +53,16 @@ class_again class n id some own =
 
 -- ---- what is seen of a history
 
-abbrev pub seen : ℕ → ℕ → List Stored → HistoryView
-seen n id stored = record { id = id; n = n; settlements = settlements_from n id 0 stored }
+abbrev pub seen : ℕ → ℕ → ℕ → List Stored → HistoryView
+seen n id room stored = record { id = id; n = n; settlements = settlements_from n id 0 stored; room = room }
 
-pub seen_length : (n id : ℕ) (stored : List Stored) (view : HistoryView) → seen n id stored ≡ view → length stored ≡ length view.settlements
-seen_length n id stored view is =
+pub seen_length : (n id room : ℕ) (stored : List Stored) (view : HistoryView) → seen n id room stored ≡ view → length stored ≡ length view.settlements
+seen_length n id room stored view is =
     sym (length-settlements_from n id 0 stored) ∙ ap (λ (v : HistoryView). length v.settlements) is
 
-pub seen_at : (n id k : ℕ) (stored : List Stored) (view : HistoryView) (s : Stored) (given : Settlement) → seen n id stored ≡ view →
+pub seen_at : (n id room k : ℕ) (stored : List Stored) (view : HistoryView) (s : Stored) (given : Settlement) → seen n id room stored ≡ view →
     slice_get stored k ≡ Some s → settlement_of n id k s ≡ given → slice_get view.settlements k ≡ Some given
-seen_at n id k stored view s given is there same =
+seen_at n id room k stored view s given is there same =
     ap (λ (v : HistoryView). slice_get v.settlements k) (sym is) ∙ settlements_from-at n id k stored s there ∙ ap Some same
 
 pub same_settlement : (a b c d : ℕ) (u v w x : Value) → a ≡ b → c ≡ d → u ≡ v → w ≡ x →
@@ -77,23 +77,15 @@ stored_again n id count given was now some own number is_was is_now =
     same_settlement count given.number (given.class / n * n + id) given.class (value_of_code was) given.was (value_of_code now) given.now
     number (class_again given.class n id some own) is_was is_now
 
--- one more is seen at the end
-pub seen_more : (n id : ℕ) (stored new : List Stored) (view : HistoryView) (s : Stored) (given : Settlement) → seen n id stored ≡ view →
-    settlement_of n id (length stored) s ≡ given → new ≡ stored ++ s ∷ [] →
-    seen n id new ≡ record { id = view.id; n = view.n; settlements = view.settlements ++ given ∷ [] }
-seen_more n id stored new view s given is same more =
-    let pushed : settlements_from n id 0 new ≡ settlements_from n id 0 stored ++ given ∷ [] =
-    ap (settlements_from n id 0) more ∙ settlements_from-push n id 0 stored s
-    ∙ ap (λ m. settlements_from n id 0 stored ++ settlement_of n id m s ∷ []) (let e : 0 + length stored ≡ length stored = omega arith in e)
-    ∙ ap (λ t. settlements_from n id 0 stored ++ t ∷ []) same in
-    subst (λ (v : HistoryView). seen n id new ≡ record { id = v.id; n = v.n; settlements = v.settlements ++ given ∷ [] }) is
-    (ap (λ l. let v : HistoryView = record { id = id; n = n; settlements = l } in v) pushed)
-
 -- ---- the first so many of those stored
 
-pub count_is : (n id count : ℕ) (stored : List Stored) (view : HistoryView) → count ≤ length stored → seen n id (take count stored) ≡ view →
+pub all_there : (count room : ℕ) (stored : List Stored) → count + room ≤ length stored → count ≤ length stored
+all_there count room stored all = omega arith
+
+pub count_is : (n id room count : ℕ) (stored : List Stored) (view : HistoryView) → count + room ≤ length stored → seen n id room (take count stored) ≡ view →
     count ≡ length view.settlements
-count_is n id count stored view all is = sym (length-take-le count stored all) ∙ seen_length n id (take count stored) view is
+count_is n id room count stored view all is =
+    sym (length-take-le count stored (all_there count room stored all)) ∙ seen_length n id room (take count stored) view is
 
 pub got_within : (count k : ℕ) (stored : List Stored) (s : Stored) → k < count → count ≤ length stored → slice_get stored k ≡ Some s →
     slice_get (take count stored) k ≡ Some s
@@ -115,16 +107,31 @@ stored_more n id count stored s given low is =
     ∙ ap (λ m. settlements_from n id 0 (take count stored) ++ settlement_of n id m s ∷ []) place
     ∙ ap (λ t. settlements_from n id 0 (take count stored) ++ t ∷ []) is
 
--- room is seen by nobody
-pub room_unseen : (n id count : ℕ) (stored more : List Stored) (view : HistoryView) → seen n id (take count stored) ≡ view →
-    take count more ≡ take count stored → seen n id (take count more) ≡ view
-room_unseen n id count stored more view is same = ap (λ list. seen n id list) same ∙ is
+-- what is stored behind those counted is seen by nobody
+pub room_unseen : (n id room count : ℕ) (stored more : List Stored) (view : HistoryView) → seen n id room (take count stored) ≡ view →
+    take count more ≡ take count stored → seen n id room (take count more) ≡ view
+room_unseen n id room count stored more view is same = ap (λ list. seen n id room list) same ∙ is
 
-pub next_seen : (n id count : ℕ) (stored more new : List Stored) (view : HistoryView) (given : Settlement) → seen n id (take count stored) ≡ view →
-    take count more ≡ take count stored →
+-- nor is it, where there is other room
+pub room_made : (n id room other count : ℕ) (stored more : List Stored) (view : HistoryView) → seen n id room (take count stored) ≡ view →
+    take count more ≡ take count stored → seen n id other (take count more) ≡ record view { room = other }
+room_made n id room other count stored more view is same =
+    ap (λ list. seen n id other list) same ∙ ap (λ (v : HistoryView). record v { room = other }) is
+
+pub next_seen : (n id room left count : ℕ) (stored more new : List Stored) (view : HistoryView) (given : Settlement) →
+    seen n id room (take count stored) ≡ view → take count more ≡ take count stored →
     settlements_from n id 0 (take (count + 1) new) ≡ settlements_from n id 0 (take count more) ++ given ∷ [] →
-    seen n id (take (count + 1) new) ≡ record { id = view.id; n = view.n; settlements = view.settlements ++ given ∷ [] }
-next_seen n id count stored more new view given is same one_more =
-    subst (λ (v : HistoryView). seen n id (take (count + 1) new) ≡ record { id = v.id; n = v.n; settlements = v.settlements ++ given ∷ [] })
-    (room_unseen n id count stored more view is same)
-    (ap (λ l. let v : HistoryView = record { id = id; n = n; settlements = l } in v) one_more)
+    seen n id left (take (count + 1) new) ≡ record { id = view.id; n = view.n; settlements = view.settlements ++ given ∷ []; room = left }
+next_seen n id room left count stored more new view given is same one_more =
+    subst (λ (v : HistoryView). seen n id left (take (count + 1) new) ≡ record { id = v.id; n = v.n; settlements = v.settlements ++ given ∷ []; room = left })
+    (room_unseen n id room count stored more view is same)
+    (ap (λ l. let v : HistoryView = record { id = id; n = n; settlements = l; room = left } in v) one_more)
+
+-- the same, where the room stays
+pub next_seen_there : (n id room count : ℕ) (stored more new : List Stored) (view : HistoryView) (given : Settlement) →
+    seen n id room (take count stored) ≡ view → take count more ≡ take count stored →
+    settlements_from n id 0 (take (count + 1) new) ≡ settlements_from n id 0 (take count more) ++ given ∷ [] →
+    seen n id room (take (count + 1) new) ≡ record view { settlements = view.settlements ++ given ∷ [] }
+next_seen_there n id room count stored more new view given is same one_more =
+    next_seen n id room room count stored more new view given is same one_more
+    ∙ ap (λ (v : HistoryView). record view { settlements = view.settlements ++ given ∷ []; room = v.room }) is

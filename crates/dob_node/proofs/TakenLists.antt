@@ -1,15 +1,57 @@
 -- Items taken one after the other.
-use Rattle.std.proofs.Common.{◌≡◌, ℕ, ◌+◌, ◌<◌, ◌≤◌, refl, sym, ap, ◌∙◌, subst, add-one, List, [], ◌∷◌, ◌++◌, length, take, drop, get_or, Result}
+use Rattle.std.proofs.Common.{◌≡◌, ℕ, ◌+◌, ◌<◌, ◌≤◌, refl, sym, ap, ◌∙◌, subst, add-one, arith, List, [], ◌∷◌, ◌++◌, length, take, drop, get_or, Result}
 use Rattle.std.specs.Result.{IfErr, IsErrAnd}
 use Rattle.std.proofs.lemmas.Result.{err_from_is_err_and}
 use Rattle.std.proofs.Math.Seq.{take-suc, drop-cons}
-use Rattle.std.proofs.lemmas.List.{take-append-drop}
+use Rattle.std.proofs.lemmas.List.{take-append-drop, length-take-le}
 use Rattle.dob_share.specs.declared.news.Item.{Item}
 use Rattle.dob_share.specs.declared.share.Share.{Share}
+use Rattle.dob_pieces.specs.declared.piece_set.PieceSet.{PieceSet}
 use Rattle.dob_node.specs.declared.cause.Cause.{Cause}
+use Rattle.dob_node.specs.declared.cause.Cause.TheVariants as cause
+use Rattle.dob_node.specs.declared.node.Node.{Node}
+use Rattle.dob_node.specs.Nodes.{IsUnchanged, HasTakenBefore}
 use Rattle.dob_node.specs.Stores.{HistoryView}
 use Rattle.dob_node.proofs.Sounds.{told_still}
-use Rattle.dob_node.specs.Takes.{IsTaken, AreTaken, IsReason, StopsAt, AreTakenBefore}
+use Rattle.dob_node.specs.Takes.{AreKept, IsTaken, AreTaken, IsHistory, IsReason, StopsAt, AreTakenBefore}
+
+-- ---- room doesn't matter
+
+one_with_room : (item : Item) (share after : Share) (history grown : HistoryView) (room : ℕ) → IsTaken item share after (record history { room = room }) grown →
+    IsTaken item share after history grown
+one_with_room item share after history grown room taken = record {
+  fits = taken.fits;
+  classes = taken.classes;
+  cell = taken.cell;
+  others = taken.others;
+  statuses = taken.statuses;
+  settled = taken.settled;
+}
+
+-- what is taken with other room is taken
+pub all_with_room : (items : List Item) (share after : Share) (history mid grown : HistoryView) → IsHistory history mid →
+    AreTaken items share after mid grown → AreTaken items share after history grown
+all_with_room items share after history mid grown same taken =
+    alike items (subst (λ (h : HistoryView). AreTaken items share after h grown) same taken)
+  where
+    alike : (items : List Item) → AreTaken items share after (record history { room = mid.room }) grown → AreTaken items share after history grown
+    alike [] none = none
+    alike (item ∷ items) all = (all.0, all.1, one_with_room item share all.0 history all.1 mid.room all.2, all.3)
+
+pub stops_with_room : (items : List Item) (share : Share) (history mid : HistoryView) (why : Cause) → IsHistory history mid →
+    StopsAt items share mid why → StopsAt items share history why
+stops_with_room items share history mid why same stops = record {
+  front = stops.front;
+  item = stops.item;
+  behind = stops.behind;
+  items_are = stops.items_are;
+  after = stops.after;
+  grown = stops.grown;
+  taken = all_with_room stops.front share stops.after history mid stops.grown same stops.taken;
+  reason = stops.reason;
+}
+
+-- ---- one more
 
 -- one more at the end
 pub taken_more : (front : List Item) (item : Item) (share mid after : Share) (history longer grown : HistoryView) →
@@ -17,7 +59,9 @@ pub taken_more : (front : List Item) (item : Item) (share mid after : Share) (hi
 taken_more [] item share mid after history longer grown none taken = (
   after,
   grown,
-  subst (λ (s : Share). IsTaken item s after history grown) none.0 (subst (λ (h : HistoryView). IsTaken item mid after h grown) none.1 taken),
+  one_with_room item share after history grown longer.room
+      (subst (λ (s : Share). IsTaken item s after (record history { room = longer.room }) grown) none.0
+      (subst (λ (h : HistoryView). IsTaken item mid after h grown) none.1 taken)),
   (refl, refl),
 )
 taken_more (first ∷ front) item share mid after history longer grown before taken = (
@@ -51,12 +95,13 @@ stops_there items k default share mid history longer why low before reason = rec
 -- where the item that can't be taken changes nothing, just those before it are taken
 pub taken_before : (items : List Item) (k : ℕ) (default : Item) (share mid after : Share) (history longer grown : HistoryView) (why : Cause) →
     k < length items → AreTaken (take k items) share mid history longer → (after ≡ mid) × (grown ≡ longer) → IsReason (get_or items k default) mid why →
-    AreTakenBefore items share after history grown why
+    AreTakenBefore items k share after history grown why
 taken_before items k default share mid after history longer grown why low before same reason = record {
   front = take k items;
   item = get_or items k default;
   behind = drop (k + 1) items;
   items_are = sym (take-append-drop k items) ∙ ap (λ xs. take k items ++ xs) (rw add-one (drop-cons items k default low));
+  counted = length-take-le k items (omega arith);
   taken = subst (λ (s : Share). AreTaken (take k items) share s history grown) (sym same.0)
       (subst (λ (h : HistoryView). AreTaken (take k items) share mid history h) (sym same.1) before);
   reason = subst (λ (s : Share). IsReason (get_or items k default) s why) (sym same.0) reason;
@@ -75,3 +120,46 @@ told_all [] share after history grown expanded none told =
     subst (λ (h : HistoryView). expanded ≤ length h.settlements) (sym none.1) told
 told_all (item ∷ items) share after history grown expanded taken told =
     told_all items taken.0 after taken.1 grown expanded taken.3 (told_still item share taken.0 history taken.1 expanded taken.2 told)
+
+-- ---- a batch
+
+-- what is kept stays so with other room
+pub kept_with_room : (set : PieceSet) (n id : ℕ) (share : Share) (history mid : HistoryView) → IsHistory history mid → AreKept set n id share history →
+    AreKept set n id share mid
+kept_with_room set n id share history mid same kept = subst (λ (h : HistoryView). AreKept set n id share h) (sym same) (record {
+  share_is = kept.share_is;
+  history_is = kept.history_is;
+  one_of_n = kept.one_of_n;
+  few = kept.few;
+  owned = kept.owned;
+  counted = kept.counted;
+  classes = kept.classes;
+  parities = kept.parities;
+})
+
+-- where room is refused, none is taken
+pub stops_first : (items : List Item) (share : Share) (history : HistoryView) → 0 < length items → StopsAt items share history cause.Memory
+stops_first [] share history some = absurd (omega arith)
+stops_first (item ∷ items) share history some = record {
+  front = [];
+  item = item;
+  behind = items;
+  items_are = refl;
+  after = share;
+  grown = history;
+  taken = (refl, refl);
+  reason = tt;
+}
+
+pub before_first : (items : List Item) (old new : Node) → 0 < length items → new.taken ≡ 0 → IsUnchanged old new →
+    HasTakenBefore items old new cause.Memory
+before_first [] old new some none same = absurd (omega arith)
+before_first (item ∷ items) old new some none same = record {
+  front = [];
+  item = item;
+  behind = items;
+  items_are = refl;
+  counted = sym none;
+  taken = record { taken = (same.kept.0, same.kept.1); same = same.same; own = same.kept.2; outboxes = same.outboxes };
+  reason = tt;
+}

@@ -1,5 +1,5 @@
 -- A node as it is opened, and what its steps make of it.
-use Rattle.std.specs.Prelude.{◌≡◌, ◌≢◌, ℕ, ◌+◌, ◌*◌, ◌<◌, ◌≤◌, ◌↔◌, List, [], ◌∷◌, ◌++◌, length, slice_get, Some}
+use Rattle.std.specs.Prelude.{◌≡◌, ◌≢◌, ℕ, ◌+◌, ◌*◌, ◌<◌, ◌≤◌, ◌↔◌, List, [], ◌∷◌, ◌++◌, length, slice_get, None, Some}
 use Rattle.std.specs.List.{All}
 use Rattle.dob_pieces.specs.declared.piece_set.PieceSet.{PieceSet}
 use Rattle.dob_value.specs.declared.value.Value.{Value}
@@ -17,7 +17,7 @@ use Rattle.dob_update.specs.Batches.{BatchView, OutboxView, empty_outbox, added,
 use Rattle.dob_node.specs.declared.cause.Cause.{Cause}
 use Rattle.dob_node.specs.declared.node.Node.{Node}
 use Rattle.dob_node.specs.OpeningLists.{opening_settlements, status_in}
-use Rattle.dob_node.specs.Takes.{HasEntries, AreKept, IsTaken, AreTaken, IsReason}
+use Rattle.dob_node.specs.Takes.{HasEntries, AreKept, IsHistory, IsTaken, AreTaken, IsReason}
 use Rattle.dob_node.specs.Outboxes.{outbox_in, IsOutboxTo}
 
 -- what the node has still to send to another
@@ -35,7 +35,7 @@ pub record IsSound (node : Node) : Type 0 where
   pub addressed : (to : ℕ) → IsOutboxTo node.set node.n node.id to (outbox_to node to)
   pub nothing_to_self : (outbox_to node node.id).items ≡ []
 
--- The node is that of owner `id` among n, and has made no step: its history is that of the opening, nothing is known of
+-- The node is that of owner `id` among n, hasn't failed, and has made no step: its history is that of the opening, nothing is known of
 -- the moves of its classes, and it has nothing to send.
 pub record IsOpened (openings : List Opening) (set : PieceSet) (id n : ℕ) (node : Node) : Type 0 where
   pub of : (node.set ≡ set) × (node.id ≡ id) × (node.n ≡ n)
@@ -45,6 +45,7 @@ pub record IsOpened (openings : List Opening) (set : PieceSet) (id n : ℕ) (nod
   pub cells : (class : ℕ) → IsOwn node.share class → SameCell (cell_at node.share class) (fresh (opening_of openings class).moves)
   pub nothing : (node.expanded ≡ 0) × (node.own.items ≡ [])
   pub outboxes : (to : ℕ) → outbox_to node to ≡ empty_outbox set n id to
+  pub going : node.failed ≡ None
 
 -- The first settlement that wasn't expanded is: its items for the node itself are the last that it has to apply, and
 -- those for each other node are added to the outbox for it.
@@ -80,12 +81,13 @@ pub record HasTaken (items : List Item) (old new : Node) : Type 0 where
   pub own : new.own.items ≡ old.own.items
   pub outboxes : new.outboxes.items ≡ old.outboxes.items
 
--- Those of the items before one that can't be are applied, in order, and nothing else has changed.
+-- Those of the items before one that can't be are applied, in order, as many as the node tells, and nothing else has changed.
 pub record HasTakenBefore (items : List Item) (old new : Node) (why : Cause) : Type 0 where
   pub front : List Item
   pub item : Item
   pub behind : List Item
   pub items_are : items ≡ front ++ item ∷ behind
+  pub counted : length front ≡ new.taken
   pub taken : HasTaken front old new
   pub reason : IsReason item new.share why
 
@@ -98,10 +100,10 @@ pub record HasCut (to size : ℕ) (batch : BatchView) (old new : Node) : Type 0 
   pub same : (new.set ≡ old.set) × (new.id ≡ old.id) × (new.n ≡ old.n) × (new.expanded ≡ old.expanded)
   pub kept : (new.share ≡ old.share) × (new.history ≡ old.history) × (new.own.items ≡ old.own.items)
 
--- The node is as it was.
+-- The node is as it was, but for the room that its history has.
 pub record IsUnchanged (old new : Node) : Type 0 where
   pub same : (new.set ≡ old.set) × (new.id ≡ old.id) × (new.n ≡ old.n) × (new.expanded ≡ old.expanded)
-  pub kept : (new.share ≡ old.share) × (new.history ≡ old.history) × (new.own.items ≡ old.own.items)
+  pub kept : (new.share ≡ old.share) × IsHistory old.history new.history × (new.own.items ≡ old.own.items)
   pub outboxes : new.outboxes.items ≡ old.outboxes.items
 
 -- The node has nothing to expand, to apply or to send.

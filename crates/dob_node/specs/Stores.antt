@@ -5,11 +5,12 @@ use Rattle.dob_share.specs.declared.news.Settlement.{Settlement}
 use Rattle.dob_share.specs.Owners.{class_of_place}
 use Rattle.dob_node.specs.declared.history.Stored.{Stored}
 
--- the settlements of one owner among n
+-- the settlements of one owner among n, and how many more its store has room for at least
 pub record HistoryView : Type 0 where
   pub id : ℕ
   pub n : ℕ
   pub settlements : List Settlement
+  pub room : ℕ
 
 -- what is stored, as the settlement of that number
 abbrev pub settlement_of : ℕ → ℕ → ℕ → Stored → Settlement

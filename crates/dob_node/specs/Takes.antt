@@ -40,7 +40,12 @@ abbrev pub listed : Option Settlement → List Settlement
 listed None = []
 listed (Some s) = s ∷ []
 
--- The share takes the item, which fits, and the history has the settlement that this makes, where it makes one.
+-- the history is that one, but for the room that it has
+abbrev pub IsHistory : HistoryView → HistoryView → Type 0
+IsHistory history same = same ≡ record history { room = same.room }
+
+-- The share takes the item, which fits, and the history has the settlement that this makes, where it makes one; what room it has
+-- left isn't said.
 pub record IsTaken (item : Item) (share after : Share) (history grown : HistoryView) : Type 0 where
   pub fits : Fits share item
   pub classes : SameClasses share after
@@ -48,11 +53,11 @@ pub record IsTaken (item : Item) (share after : Share) (history grown : HistoryV
   pub others : (class : ℕ) → IsOwn share class → class ≢ item.to → SameCell (cell_at after class) (cell_at share class)
   pub statuses : (class : ℕ) → status_at after class ≡ status_at share class
   pub settled : (given : Option Settlement) × HasSettled share after item.to given
-      × (grown ≡ record history { settlements = history.settlements ++ listed given })
+      × (grown ≡ record history { settlements = history.settlements ++ listed given; room = grown.room })
 
 -- The items are taken, one after the other.
 abbrev pub AreTaken : List Item → Share → Share → HistoryView → HistoryView → Type 0
-AreTaken [] share after history grown = (after ≡ share) × (grown ≡ history)
+AreTaken [] share after history grown = (after ≡ share) × IsHistory history grown
 AreTaken (item ∷ items) share after history grown = (between : Share) × (longer : HistoryView)
     × IsTaken item share between history longer × AreTaken items between after longer grown
 
@@ -76,11 +81,12 @@ pub record StopsAt (items : List Item) (share : Share) (history : HistoryView) (
   pub taken : AreTaken front share after history grown
   pub reason : IsReason item after why
 
--- The share and the history are those after the items before one of them, which can't be taken.
-pub record AreTakenBefore (items : List Item) (share after : Share) (history grown : HistoryView) (why : Cause) : Type 0 where
+-- The share and the history are those after the items before one of them, so many, which can't be taken.
+pub record AreTakenBefore (items : List Item) (count : ℕ) (share after : Share) (history grown : HistoryView) (why : Cause) : Type 0 where
   pub front : List Item
   pub item : Item
   pub behind : List Item
   pub items_are : items ≡ front ++ item ∷ behind
+  pub counted : length front ≡ count
   pub taken : AreTaken front share after history grown
   pub reason : IsReason item after why

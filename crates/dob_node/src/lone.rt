@@ -1,5 +1,5 @@
 // One node that owns all classes of a piece set, and makes its value table alone.
-ghost use Rattle.std.specs.Prelude.{◌≡◌, ℕ, ◌+◌, ◌<◌, ◌≤◌, ◌↔◌, ◌⊎◌, true, false, All, Err, IfOk, IfErr, IfSome, OnOk, IsErrOf};
+ghost use Rattle.std.specs.Prelude.{◌≡◌, ℕ, ◌+◌, ◌<◌, ◌≤◌, ◌↔◌, ◌⊎◌, true, false, All, None, Err, IfOk, IfErr, IfSome, OnOk, IsErrOf};
 ghost use Rattle.dob_pieces.specs.declared.piece_set.PieceSet.{PieceSet as Set};
 ghost use Rattle.dob_rank.specs.Marks.{classes_of};
 ghost use Rattle.dob_rank.specs.Limits.{IsTooLarge};
@@ -48,6 +48,7 @@ fn begin(alloc: Global, classes: &Classes, set: PieceSet) -> Result<Node, Memory
     requires { classes.now.set ≡ set }
     ensures set { IfOk result (λ node. node.set ≡ set) }
     ensures made { IfOk result (λ node. HasMade 0 node) }
+    ensures going { IfOk result (λ node. node.failed ≡ None) }
 {
     let openings = opening(alloc, classes)?;
     Node::open(alloc, &openings, set, 0, 1)
@@ -57,6 +58,7 @@ fn begin(alloc: Global, classes: &Classes, set: PieceSet) -> Result<Node, Memory
 fn finish(mut node: Node, classes: &Classes, limit: u64) -> Result<Option<Node>, Fault>
     requires set { classes.now.set ≡ node.set }
     requires begun { HasMade 0 node }
+    requires going { node.failed ≡ None }
     ensures too_large { ¬ (result ≡ Err Fault.SetTooLarge) }
     ensures too_deep { result ≡ Err Fault.TooDeep → IsTooDeepWithin node.set limit }
     ensures fits { (class : ℕ) → ¬ (result ≡ Err (Fault.Contradiction class)) }
@@ -103,9 +105,11 @@ fn fault_of(why: Cause) -> Fault
 fn step(node: &mut Node, classes: &Classes) -> Result<bool, Cause>
     requires set { classes.now.set ≡ node.old.set }
     requires sound { IsSound node.old }
+    requires going { node.old.failed ≡ None }
     ensures set { OnOk result (node.new.set ≡ node.old.set) }
     ensures stopped { IfErr result (λ why. (steps limit : ℕ) → HasMade steps node.old → steps < limit → HasStopped node.old.set limit why) }
     ensures idle { result ≡ Ok false → IsDone node.new × (node.new ≡ node.old) }
+    ensures going { OnOk result (node.new.failed ≡ None) }
     ensures made { result ≡ Ok true → (steps : ℕ) → HasMade steps node.old → HasMade (steps + 1) node.new }
 {
     if node.apply_own()? {
@@ -118,6 +122,7 @@ fn step(node: &mut Node, classes: &Classes) -> Result<bool, Cause>
 fn run(node: &mut Node, classes: &Classes, limit: u64) -> Result<(), Cause>
     requires set { classes.now.set ≡ node.old.set }
     requires opened { HasMade 0 node.old }
+    requires going { node.old.failed ≡ None }
     ensures set { OnOk result (node.new.set ≡ node.old.set) }
     ensures stopped { IfErr result (λ why. HasStopped node.old.set limit why) }
     ensures made { OnOk result ((steps : ℕ) × (steps ≤ limit) × HasMade steps node.new × ((steps ≡ limit) ⊎ IsDone node.new)) }

@@ -1,6 +1,6 @@
 // A node: the cells of one owner's classes with their history, the items that it has for itself, and its outboxes.
 ghost use Rattle.std.specs.Prelude.{◌≡◌, ◌≢◌, ◌⊎◌, ℕ, ◌+◌, ◌*◌, ◌/◌, ◌^◌, ◌<◌, ◌≤◌, ◌↔◌, [], ◌++◌, length, slice_get};
-ghost use Rattle.std.specs.Prelude.{true, false, Some, IsTrue, IfOk, IfErr, IfSome, OnOk, OnErr};
+ghost use Rattle.std.specs.Prelude.{true, false, None, Some, Ok, Err, IsTrue, IfOk, IfErr, IfSome, OnOk, OnErr};
 ghost use Rattle.std.specs.List.{All};
 ghost use Rattle.std.specs.VecDeque.{deque_len, deque_capacity};
 ghost use Rattle.dob_share.specs.Openings.{opening_of};
@@ -28,7 +28,8 @@ use std::mem;
 /// How many batches a node may cut for another.
 pub const MAX_BATCHES: u64 = 1 << 40;
 
-/// A node that owns the classes k * n + id of a piece set, one of n.
+/// A node that owns the classes k * n + id of a piece set, one of n. Once a call that grows it or applies an item has failed, the
+/// node has failed for that cause, and what it has stays as it is.
 #[derive(Drop)]
 pub struct Node {
     alloc: Global,
@@ -43,6 +44,9 @@ pub struct Node {
     // Lists whose room each expansion uses again.
     targets: Vec<u64>,
     items: Vec<Item>,
+    // How many items were applied of the batch that was applied last.
+    taken: usize,
+    failed: Option<Cause>,
 }
 
 /// What a node has to give when it is done: the values of its own classes, in the order of the classes.
@@ -93,14 +97,36 @@ impl Node {
             outboxes,
             targets: Vec::new(alloc),
             items: Vec::new(alloc),
+            taken: 0,
+            failed: None,
         })
     }
 
     /// Expands the first settlement of the history that isn't: its items for the own classes are to be applied, those for
     /// other nodes' classes are to be sent. False where there is none.
     ///
-    /// Error: `Memory`, which leaves the node as it was.
+    /// Error: `Memory`, by which the node fails and stays as it was.
     pub fn expand(&mut self, classes: &Classes) -> Result<bool, Cause>
+        requires set { classes.now.set ≡ self.old.set }
+        requires sound { IsSound self.old }
+        requires going { self.old.failed ≡ None }
+        ensures done { (result ≡ Ok false) ↔ (self.old.expanded ≡ length self.old.history.settlements) }
+        ensures nothing { result ≡ Ok false → self.new ≡ self.old }
+        ensures expanded { result ≡ Ok true → IsExpanded self.old self.new }
+        ensures memory { IfErr result (λ why. why ≡ cause.Memory) }
+        ensures unchanged { OnErr result (IsUnchanged self.old self.new) }
+        ensures sound { IsSound self.new }
+        ensures going { OnOk result (self.new.failed ≡ None) }
+        ensures failed { IfErr result (λ why. self.new.failed ≡ Some why) }
+    {
+        match self.expand_next(classes) {
+            Ok(done) => Ok(done),
+            Err(why) => Err(self.fail(why)),
+        }
+    }
+
+    // As `expand`, but that the node doesn't fail.
+    fn expand_next(&mut self, classes: &Classes) -> Result<bool, Cause>
         requires set { classes.now.set ≡ self.old.set }
         requires sound { IsSound self.old }
         ensures done { (result ≡ Ok false) ↔ (self.old.expanded ≡ length self.old.history.settlements) }
@@ -109,6 +135,7 @@ impl Node {
         ensures memory { IfErr result (λ why. why ≡ cause.Memory) }
         ensures unchanged { OnErr result (IsUnchanged self.old self.new) }
         ensures sound { IsSound self.new }
+        ensures going { self.new.failed ≡ self.old.failed }
     {
         if self.expanded == self.history.len() {
             return Ok(false);
@@ -141,16 +168,36 @@ impl Node {
 
     /// Applies the first of the own items. False where there is none.
     ///
-    /// Errors, which leave the node as it was: `Memory`; else `Contradiction` where the item doesn't fit, else `TooDeep` where
+    /// Errors, by which the node fails and stays as it was: `Memory`; else `Contradiction` where the item doesn't fit, else `TooDeep` where
     /// its class's value would be too deep.
     pub fn apply_own(&mut self) -> Result<bool, Cause>
-        requires { IsSound self.old }
+        requires sound { IsSound self.old }
+        requires going { self.old.failed ≡ None }
         ensures done { (result ≡ Ok false) ↔ (self.old.own.items ≡ []) }
         ensures nothing { result ≡ Ok false → self.new ≡ self.old }
         ensures applied { result ≡ Ok true → HasApplied self.old self.new }
         ensures stopped { IfErr result (λ why. HasItemFault self.old why) }
         ensures unchanged { OnErr result (IsUnchanged self.old self.new) }
-        ensures sound { OnOk result (IsSound self.new) }
+        ensures sound { IsSound self.new }
+        ensures going { OnOk result (self.new.failed ≡ None) }
+        ensures failed { IfErr result (λ why. self.new.failed ≡ Some why) }
+    {
+        match self.apply_first() {
+            Ok(done) => Ok(done),
+            Err(why) => Err(self.fail(why)),
+        }
+    }
+
+    // As `apply_own`, but that the node doesn't fail.
+    fn apply_first(&mut self) -> Result<bool, Cause>
+        requires sound { IsSound self.old }
+        ensures done { (result ≡ Ok false) ↔ (self.old.own.items ≡ []) }
+        ensures nothing { result ≡ Ok false → self.new ≡ self.old }
+        ensures applied { result ≡ Ok true → HasApplied self.old self.new }
+        ensures stopped { IfErr result (λ why. HasItemFault self.old why) }
+        ensures unchanged { OnErr result (IsUnchanged self.old self.new) }
+        ensures sound { IsSound self.new }
+        ensures going { self.new.failed ≡ self.old.failed }
     {
         if self.own.is_empty() {
             return Ok(false);
@@ -162,11 +209,33 @@ impl Node {
     }
 
     /// Applies the items of a batch of the node's piece set and number of nodes, with values that a table can have, in order.
-    /// One for a class of another node doesn't fit.
+    /// One for a class of another node doesn't fit. It makes its growths first.
     ///
-    /// Errors, after which just the items before one are applied: `Contradiction` where it doesn't fit its class's cell then;
-    /// `TooDeep` where it fits and its class's value would be too deep; `Memory`.
+    /// Errors, by which the node fails: `Memory`, which leaves it as it was, and never comes where there is room for as many items
+    /// (`reserve`); after the others just the items before one are applied, as many as `taken` tells: `Contradiction` where it
+    /// doesn't fit its class's cell then; `TooDeep` where it fits and its class's value would be too deep.
     pub fn apply_batch(&mut self, batch: &Batch) -> Result<(), Cause>
+        requires sound { IsSound self.old }
+        requires set { batch.now.set ≡ self.old.set }
+        requires n { batch.now.n ≡ self.old.n }
+        requires entries { All HasEntries batch.now.items }
+        requires going { self.old.failed ≡ None }
+        ensures taken { OnOk result (HasTaken batch.now.items self.old self.new) }
+        ensures stopped { IfErr result (λ why. StopsAt batch.now.items self.old.share self.old.history why) }
+        ensures before { IfErr result (λ why. HasTakenBefore batch.now.items self.old self.new why) }
+        ensures memory { result ≡ Err cause.Memory → IsUnchanged self.old self.new × (self.old.history.room < length batch.now.items) }
+        ensures sound { IsSound self.new }
+        ensures going { OnOk result (self.new.failed ≡ None) }
+        ensures failed { IfErr result (λ why. self.new.failed ≡ Some why) }
+    {
+        match self.take_batch(batch) {
+            Ok(()) => Ok(()),
+            Err(why) => Err(self.fail(why)),
+        }
+    }
+
+    // As `apply_batch`, but that the node doesn't fail.
+    fn take_batch(&mut self, batch: &Batch) -> Result<(), Cause>
         requires sound { IsSound self.old }
         requires set { batch.now.set ≡ self.old.set }
         requires n { batch.now.n ≡ self.old.n }
@@ -174,18 +243,88 @@ impl Node {
         ensures taken { OnOk result (HasTaken batch.now.items self.old self.new) }
         ensures stopped { IfErr result (λ why. StopsAt batch.now.items self.old.share self.old.history why) }
         ensures before { IfErr result (λ why. HasTakenBefore batch.now.items self.old self.new why) }
-        ensures sound { OnOk result (IsSound self.new) }
+        ensures memory { result ≡ Err cause.Memory → IsUnchanged self.old self.new × (self.old.history.room < length batch.now.items) }
+        ensures sound { IsSound self.new }
+        ensures going { self.new.failed ≡ self.old.failed }
     {
-        take_items(&mut self.share, &mut self.history, batch.items())?;
+        let items = batch.items();
+        self.taken = 0;
+        self.history.reserve(items.len() as u64)?;
+        take_items(&mut self.share, &mut self.history, &mut self.taken, items)?;
         Ok(())
+    }
+
+    /// Makes the growths of an `apply_batch` of up to that many items, which then doesn't answer `Memory`.
+    ///
+    /// Error: `Memory`, by which the node fails and stays as it was.
+    pub fn reserve(&mut self, items: usize) -> Result<(), Cause>
+        requires sound { IsSound self.old }
+        requires going { self.old.failed ≡ None }
+        ensures room { OnOk result (items ≤ self.new.history.room) }
+        ensures memory { IfErr result (λ why. why ≡ cause.Memory) }
+        ensures unchanged { IsUnchanged self.old self.new }
+        ensures sound { IsSound self.new }
+        ensures going { OnOk result (self.new.failed ≡ None) }
+        ensures failed { IfErr result (λ why. self.new.failed ≡ Some why) }
+    {
+        match self.history.reserve(items as u64) {
+            Ok(()) => Ok(()),
+            Err(_) => Err(self.fail(Cause::Memory)),
+        }
+    }
+
+    /// How many items were applied of the batch that was applied last.
+    pub fn taken(&self) -> usize
+        ensures { result ≡ self.now.taken }
+    {
+        self.taken
+    }
+
+    /// Why the node has failed, where it has.
+    pub fn failed(&self) -> Option<Cause>
+        ensures { result ≡ self.now.failed }
+    {
+        self.failed
+    }
+
+    // The node fails for the cause, which is the answer.
+    fn fail(&mut self, why: Cause) -> Cause
+        ensures answer { result ≡ why }
+        ensures failed { self.new ≡ record self.old { failed = Some why } }
+    {
+        self.failed = Some(why);
+        why
     }
 
     /// Cuts a batch of at most `size` items, from 1 to 4096, of those that the node has to send to the node `to`. `None`
     /// where it has none.
     ///
-    /// Errors, which leave the node as it was: `Counts` where something is left to send and 2 to the power of 40 batches
+    /// Errors, by which the node fails and stays as it was: `Counts` where something is left to send and 2 to the power of 40 batches
     /// were cut for that node before; `Memory`.
     pub fn cut_for(&mut self, to: usize, size: usize) -> Result<Option<Batch>, Cause>
+        requires sound { IsSound self.old }
+        requires to { to < self.old.n }
+        requires some { 0 < size }
+        requires at_most { size ≤ 4096 }
+        requires going { self.old.failed ≡ None }
+        ensures none { (result ≡ Ok None) ↔ ((outbox_to self.old to).items ≡ []) }
+        ensures nothing { result ≡ Ok None → self.new ≡ self.old }
+        ensures cut { IfOk result (λ given. IfSome given (λ batch. HasCut to size batch self.old self.new)) }
+        ensures counts { (result ≡ Err cause.Counts) ↔ (((outbox_to self.old to).items ≢ []) × (2 ^ 40 ≤ (outbox_to self.old to).next)) }
+        ensures why { IfErr result (λ why. (why ≡ cause.Counts) ⊎ (why ≡ cause.Memory)) }
+        ensures unchanged { OnErr result (IsUnchanged self.old self.new) }
+        ensures sound { IsSound self.new }
+        ensures going { OnOk result (self.new.failed ≡ None) }
+        ensures failed { IfErr result (λ why. self.new.failed ≡ Some why) }
+    {
+        match self.cut_next(to, size) {
+            Ok(cut) => Ok(cut),
+            Err(why) => Err(self.fail(why)),
+        }
+    }
+
+    // As `cut_for`, but that the node doesn't fail.
+    fn cut_next(&mut self, to: usize, size: usize) -> Result<Option<Batch>, Cause>
         requires sound { IsSound self.old }
         requires to { to < self.old.n }
         requires some { 0 < size }
@@ -197,6 +336,7 @@ impl Node {
         ensures why { IfErr result (λ why. (why ≡ cause.Counts) ⊎ (why ≡ cause.Memory)) }
         ensures unchanged { OnErr result (IsUnchanged self.old self.new) }
         ensures sound { IsSound self.new }
+        ensures going { self.new.failed ≡ self.old.failed }
     {
         if self.outboxes[to].is_empty() {
             return Ok(None);
@@ -339,6 +479,7 @@ fn opening_value(status: Status) -> Option<Value>
 
 // Adds the settlement of a class at the opening, if it has one.
 fn push_opening(history: &mut History, class: u64, status: Status) -> Result<(), Memory>
+    requires room { history.old.room ≡ 0 }
     requires own { owner_of history.old.n class ≡ history.old.id }
     requires place { class / history.old.n < 2 ^ 32 }
     ensures { OnOk result (history.new ≡ record history.old { settlements = history.old.settlements ++ opening_settlement (length history.old.settlements) class (opening_value status) }) }
@@ -367,7 +508,7 @@ fn opening_history(
     requires owners { n ≤ 16 }
     requires few { length openings.now ≤ 2 ^ 32 }
     requires places { (place : ℕ) → place < places → place * n + id < length openings.now }
-    ensures { IfOk result (λ history. history ≡ record { id = id; n = n; settlements = opening_settlements (status_in openings.now) n id places }) }
+    ensures { IfOk result (λ history. history ≡ record { id = id; n = n; settlements = opening_settlements (status_in openings.now) n id places; room = 0 }) }
 {
     let mut history = History::new(alloc, id, n);
     for place in 0..places {

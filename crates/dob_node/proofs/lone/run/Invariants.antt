@@ -1,5 +1,5 @@
 -- So many steps are made.
-use Rattle.std.proofs.Common.{◌≡◌}
+use Rattle.std.proofs.Common.{◌≡◌, None}
 use Rattle.dob_node.specs.Sole.{HasMade}
 use Rattle.dob_node.proofs.lone.run.Given as goal
 
@@ -8,4 +8,5 @@ invariant-loop-step l = record {
   made : HasMade l._step l.node;
   set : l.classes.set ≡ l.node.set;
   same : l.node.set ≡ l.initial.node.set;
+  going : l.node.failed ≡ None;
 }

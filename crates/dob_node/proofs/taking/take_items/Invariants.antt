@@ -1,5 +1,5 @@
--- The items so far are taken.
-use Rattle.std.proofs.Common.{take}
+-- The items so far are taken, and counted; as much room is left as for those that aren't.
+use Rattle.std.proofs.Common.{◌≡◌, ◌+◌, ◌≤◌, take}
 use Rattle.dob_pieces.specs.declared.piece_set.PieceSet.{PieceSet}
 use Rattle.dob_node.specs.Takes.{AreKept, AreTaken}
 use Rattle.dob_node.proofs.taking.take_items.Given as goal
@@ -7,6 +7,8 @@ use Rattle.dob_node.proofs.taking.take_items.Given as goal
 abbrev pub invariant-loop-item : goal.invariant-loop-item
 invariant-loop-item l = record {
   taken : AreTaken (take l.item-index l.items) l.initial.share l.share l.initial.history l.history;
+  counted : l.taken ≡ l.item-index;
+  room : l.initial.history.room ≤ l.history.room + l.item-index;
   kept : (set : PieceSet) → AreKept set l.initial.share.n l.initial.share.id l.initial.share l.initial.history →
       AreKept set l.initial.share.n l.initial.share.id l.share l.history;
 }

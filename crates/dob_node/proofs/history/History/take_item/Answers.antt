@@ -2,7 +2,7 @@
 use Rattle.std.proofs.Common.{◌≡◌, ◌<◌, ◌/◌, ◌%◌, ◌^◌, Some, None, sym, ◌∙◌, subst}
 use Rattle.dob_share.specs.Shares.{Fits, HasSettled}
 use Rattle.dob_node.specs.Stores.{HistoryView}
-use Rattle.dob_node.proofs.Stored.{count_is, room_unseen, next_seen}
+use Rattle.dob_node.proofs.Stored.{count_is, room_made, next_seen}
 use Rattle.dob_node.proofs.Kepts.{sure_fits, own_is, place_is, was_is, now_is, same_history, kept_still}
 use Rattle.dob_node.proofs.history.History.take_item.Goals as goal
 
@@ -44,7 +44,7 @@ pub store-requires-clause-number : goal.store-requires-clause-number
 store-requires-clause-number c =
     let settled = subst (λ given. HasSettled c.args.share.now c.apply.new.self c.args.item.to given) c.in-Some.is c.in_ok-given.ensures.settled in
     settled.1 ∙ c.requires.kept.1.counted
-    ∙ sym (count_is c.self.inside.n c.self.inside.id c.self.inside.count c.self.inside.stored c.args.self.now c.self.invariant.2 c.self.view_is)
+    ∙ sym (count_is c.self.inside.n c.self.inside.id c.self.inside.room c.self.inside.count c.self.inside.stored c.args.self.now c.self.invariant.2 c.self.view_is)
 
 pub returns-in-Some-clause-taken : goal.returns-in-Some-clause-taken
 returns-in-Some-clause-taken c =
@@ -59,7 +59,7 @@ returns-in-Some-clause-taken c =
     = subst (λ (v : HistoryView). c.in-Some.settlement.class % v.n ≡ v.id) (sym c.self.view_is)
     (own_is c.requires.kept.0 share.n share.id share after history item c.requires.kept.1 c.requires.entries out.classes fits out.cell out.others
     c.in-Some.settlement settled) in
-    let grown = next_seen c.self.inside.n c.self.inside.id c.self.inside.count c.self.inside.stored c.make_room.new.stored c.store.new.stored
+    let grown = next_seen c.self.inside.n c.self.inside.id c.self.inside.room _ c.self.inside.count c.self.inside.stored c.make_room.new.stored c.store.new.stored
     history c.in-Some.settlement c.self.view_is c.make_room.ensures.same (c.store.ensures.one_more c.self.inside.id own) in
     record {
       fits = fits;
@@ -83,7 +83,7 @@ returns-in-Some-clause-kept c = λ set kept.
     = subst (λ (v : HistoryView). c.in-Some.settlement.class % v.n ≡ v.id) (sym c.self.view_is)
     (own_is c.requires.kept.0 share.n share.id share after history item c.requires.kept.1 c.requires.entries out.classes fits out.cell out.others
     c.in-Some.settlement settled) in
-    let grown = next_seen c.self.inside.n c.self.inside.id c.self.inside.count c.self.inside.stored c.make_room.new.stored c.store.new.stored
+    let grown = next_seen c.self.inside.n c.self.inside.id c.self.inside.room _ c.self.inside.count c.self.inside.stored c.make_room.new.stored c.store.new.stored
     history c.in-Some.settlement c.self.view_is c.make_room.ensures.same (c.store.ensures.one_more c.self.inside.id own) in
     kept_still set share.n share.id share after history item kept c.requires.entries out.classes fits out.cell out.others
     (Some c.in-Some.settlement) settled _ grown
@@ -100,8 +100,8 @@ returns-in_default-clause-taken c =
       settled = (
         None,
         subst (λ given. HasSettled c.args.share.now c.apply.new.self c.args.item.to given) c.in_default.is out.settled,
-        room_unseen c.self.inside.n c.self.inside.id c.self.inside.count c.self.inside.stored c.make_room.new.stored c.args.self.now c.self.view_is c.make_room.ensures.same
-            ∙ same_history c.args.self.now,
+        room_made c.self.inside.n c.self.inside.id c.self.inside.room c.self.inside.room c.self.inside.count c.self.inside.stored c.make_room.new.stored c.args.self.now c.self.view_is c.make_room.ensures.same
+            ∙ same_history (record c.args.self.now { room = c.self.inside.room }),
       );
     }
 
@@ -115,5 +115,5 @@ returns-in_default-clause-kept c = λ set kept.
     let fits : Fits share item = sure_fits share item (λ no. let is = out.contradiction.1 no in cc) in
     kept_still set share.n share.id share after history item kept c.requires.entries out.classes fits out.cell out.others
     None (subst (λ given. HasSettled share after item.to given) c.in_default.is out.settled) _
-    (room_unseen c.self.inside.n c.self.inside.id c.self.inside.count c.self.inside.stored c.make_room.new.stored history c.self.view_is c.make_room.ensures.same
-    ∙ same_history history)
+    (room_made c.self.inside.n c.self.inside.id c.self.inside.room c.self.inside.room c.self.inside.count c.self.inside.stored c.make_room.new.stored history c.self.view_is c.make_room.ensures.same
+    ∙ same_history (record history { room = c.self.inside.room }))

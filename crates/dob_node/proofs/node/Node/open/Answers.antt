@@ -27,6 +27,7 @@ returns-clause-opened c =
       statuses = out.statuses;
       cells = out.cells;
       nothing = (refl, c.new.ensures.items);
+      going = refl;
       outboxes = c.in_ok-outboxes.ensures.empty;
     }
 
@@ -36,7 +37,7 @@ returns-clause-sound c =
     record {
       kept = opened_kept c.args.set c.args.openings.now c.args.n c.args.id c.in_ok-share.share c.in_ok-history.history c.requires.openings c.requires.owner
           (omega (arith, c.if-openings-from.false, c.from.ensures)) out.who out.owned out.cells out.settled
-          (subst (λ (k : ℕ). c.in_ok-history.history ≡ record { id = c.args.id; n = c.args.n; settlements = opening_settlements (status_in c.args.openings.now) c.args.n c.args.id k })
+          (subst (λ (k : ℕ). c.in_ok-history.history ≡ record { id = c.args.id; n = c.args.n; settlements = opening_settlements (status_in c.args.openings.now) c.args.n c.args.id k; room = 0 })
           c.places.ensures c.in_ok-history.ensures);
       told = omega arith;
       entries = subst (λ xs. All HasEntries xs) (sym c.new.ensures.items) (All-nil HasEntries);

@@ -8,7 +8,7 @@ use Rattle.dob_node.specs.Takes.{HasEntries}
 use Rattle.dob_node.specs.Outboxes.{IsOutboxTo, outbox_in}
 use Rattle.dob_node.proofs.Sounds.{next_told, entries_more}
 use Rattle.dob_node.proofs.Sends.{ready_added, ready_same}
-use Rattle.dob_node.proofs.node.Node.expand.Goals as goal
+use Rattle.dob_node.proofs.node.Node.expand_next.Goals as goal
 
 pub add_for_others-requires : goal.add_for_others-requires
 add_for_others-requires c =

@@ -4,7 +4,7 @@ use Rattle.std.proofs.lemmas.Option.{IfSome_then}
 use Rattle.dob_update.specs.Batches.{empty_outbox}
 use Rattle.dob_node.specs.Outboxes.{outbox_in}
 use Rattle.dob_node.proofs.Sends.{ready_cut, cut_of, cut_entries}
-use Rattle.dob_node.proofs.node.Node.cut_for.Goals as goal
+use Rattle.dob_node.proofs.node.Node.cut_next.Goals as goal
 
 pub returns-clause-sound : goal.returns-clause-sound
 returns-clause-sound c =

@@ -1,0 +1,99 @@
+-- What is taken is kept.
+use Rattle.std.proofs.Common.{◌∙◌, refl, sym, subst}
+use Rattle.dob_node.specs.Takes.{AreTaken, StopsAt}
+use Rattle.dob_node.specs.Nodes.{HasTakenBefore}
+use Rattle.dob_node.specs.declared.cause.Cause.TheVariants as cause
+use Rattle.dob_node.proofs.Sounds.{kept_own, kept_back}
+use Rattle.dob_node.proofs.TakenLists.{carried, told_all, all_with_room, stops_with_room, kept_with_room, stops_first}
+use Rattle.dob_node.proofs.node.Node.take_batch.Goals as goal
+
+pub returns-in_err-reserve-clause-stopped : goal.returns-in_err-reserve-clause-stopped
+returns-in_err-reserve-clause-stopped c =
+    let node = c.args.self.now in
+    carried (λ why. StopsAt c.args.batch.now.items node.share node.history why) c.from_residual.result cause.Memory c.from_residual.ensures.1
+    (stops_first c.args.batch.now.items node.share node.history c.items-items.ensures.batch.some)
+
+pub take_items-requires-clause-kept : goal.take_items-requires-clause-kept
+take_items-requires-clause-kept c =
+    let node = c.args.self.now in (
+      node.set,
+      kept_own node.set node.n node.id node.share c.reserve.new.self
+          (kept_with_room node.set node.n node.id node.share node.history c.reserve.new.self c.reserve.ensures.same c.requires.sound.kept),
+    )
+
+pub returns-in_err-take_items-clause-stopped : goal.returns-in_err-take_items-clause-stopped
+returns-in_err-take_items-clause-stopped c =
+    let node = c.args.self.now in
+    let why = c.in_err-take_items.field-0.0 in
+    carried (λ given. StopsAt c.args.batch.now.items node.share node.history given) c.from_residual-in_err-take_items.result why
+    c.from_residual-in_err-take_items.ensures.1
+    (stops_with_room c.args.batch.now.items node.share node.history c.reserve.new.self why c.reserve.ensures.same
+    (subst (λ xs. StopsAt xs node.share c.reserve.new.self why) c.items-items.ensures.items c.in_err-take_items.ensures.stopped))
+
+pub returns-in_err-take_items-clause-before : goal.returns-in_err-take_items-clause-before
+returns-in_err-take_items-clause-before c =
+    let node = c.args.self.now in
+    let why = c.in_err-take_items.field-0.0 in
+    let before = c.in_err-take_items.ensures.before in
+    carried (λ given. HasTakenBefore c.args.batch.now.items node _ given) c.from_residual-in_err-take_items.result why
+    c.from_residual-in_err-take_items.ensures.1
+    (record {
+      front = before.front;
+      item = before.item;
+      behind = before.behind;
+      items_are = sym c.items-items.ensures.items ∙ before.items_are;
+      counted = before.counted;
+      taken = record {
+        taken = all_with_room before.front node.share c.take_items.new.share node.history c.reserve.new.self c.take_items.new.history c.reserve.ensures.same before.taken;
+        same = (refl, refl, refl, refl);
+        own = refl;
+        outboxes = refl;
+      };
+      reason = before.reason;
+    })
+
+pub returns-in_err-take_items-clause-sound : goal.returns-in_err-take_items-clause-sound
+returns-in_err-take_items-clause-sound c =
+    let node = c.args.self.now in
+    let sound = c.requires.sound in
+    let before = c.in_err-take_items.ensures.before in
+    let front = all_with_room before.front node.share c.take_items.new.share node.history c.reserve.new.self c.take_items.new.history c.reserve.ensures.same
+    before.taken in
+    record {
+      kept = kept_back node.set node.n node.id node.share c.take_items.new.share c.reserve.new.self c.take_items.new.history
+          (kept_with_room node.set node.n node.id node.share node.history c.reserve.new.self c.reserve.ensures.same sound.kept) c.take_items.ensures.kept;
+      told = told_all before.front node.share c.take_items.new.share node.history c.take_items.new.history node.expanded front sound.told;
+      entries = sound.entries;
+      receivers = sound.receivers;
+      addressed = sound.addressed;
+      nothing_to_self = sound.nothing_to_self;
+    }
+
+pub returns-clause-taken : goal.returns-clause-taken
+returns-clause-taken c =
+    let node = c.args.self.now in
+    record {
+      taken = all_with_room c.args.batch.now.items node.share c.take_items.new.share node.history c.reserve.new.self c.take_items.new.history
+          c.reserve.ensures.same (subst (λ xs. AreTaken xs node.share c.take_items.new.share c.reserve.new.self c.take_items.new.history)
+          c.items-items.ensures.items c.in_ok-take_items.ensures.taken);
+      same = (refl, refl, refl, refl);
+      own = refl;
+      outboxes = refl;
+    }
+
+pub returns-clause-sound : goal.returns-clause-sound
+returns-clause-sound c =
+    let node = c.args.self.now in
+    let sound = c.requires.sound in
+    let out = c.in_ok-take_items.ensures in
+    let all = all_with_room c.items-items.result.now node.share c.take_items.new.share node.history c.reserve.new.self c.take_items.new.history
+    c.reserve.ensures.same out.taken in
+    record {
+      kept = kept_back node.set node.n node.id node.share c.take_items.new.share c.reserve.new.self c.take_items.new.history
+          (kept_with_room node.set node.n node.id node.share node.history c.reserve.new.self c.reserve.ensures.same sound.kept) out.kept;
+      told = told_all c.items-items.result.now node.share c.take_items.new.share node.history c.take_items.new.history node.expanded all sound.told;
+      entries = sound.entries;
+      receivers = sound.receivers;
+      addressed = sound.addressed;
+      nothing_to_self = sound.nothing_to_self;
+    }
