@@ -8,7 +8,7 @@ use Rattle.dob_node.specs.Nodes.{IsSound, IsUnchanged}
 use Rattle.dob_run.specs.declared.runner.Runner.{Runner}
 use Rattle.dob_run.specs.Workers.{IsLawful}
 use Rattle.dob_run.specs.Batches.{IsBatchFor}
-use Rattle.dob_run.proofs.Keeping.{mail_trans, links_kept, own_still, some_cause, failed_first, refused_reason, node_goes, agrees_going, agrees_failed, unspared_reason, memory_reason}
+use Rattle.dob_run.proofs.Keeping.{mail_trans, links_kept, own_still, some_cause, failed_first, refused_reason, node_goes, agrees_going, agrees_failed, unspared_reason, memory_reason, before_roomy}
 use Rattle.dob_run.proofs.Applied.{worked_again, worked_else, worked_more}
 use Rattle.dob_run.proofs.Lawfuls.{recoloured, same_inlet, applied_batch, unchanged_node}
 use Rattle.dob_run.proofs.Taking.{takes_none, takes_one}
@@ -137,6 +137,6 @@ returns g c =
         came = same_inlet c.accept.new.self c.fail.new.self c.fail.ensures.links.inlet c.in-Some.batch.from
             ∙ worked_more c.receive.new.self.inlet c.accept.new.self.inlet c.in-Some.batch c.in-Some.ensures.worked.1
             ∙ ap (λ xs. xs ++ c.in-Some.batch.items) (worked_again r.mail.inlet c.receive.new.self.inlet c.receive.ensures.worked c.in-Some.batch.from);
-        before = c.in-Err.ensures.before;
+        before = before_roomy c.in-Some.batch.items r.node c.reserve.new.self c.apply_batch.new.self c.in-Err.why c.reserve.ensures.unchanged c.in-Err.ensures.before;
       });
     }
