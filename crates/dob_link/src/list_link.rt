@@ -1,5 +1,6 @@
 // A link as a ring of slots.
-ghost use Rattle.std.specs.Prelude.{◌≡◌, ◌≤◌, ◌↔◌, [], length, IsTrue, IfOk};
+ghost use Rattle.std.specs.Prelude.{◌≡◌, ◌≤◌, ◌↔◌, List, [], ◌∷◌, length, IsTrue, IfOk, IfSome, IfNone};
+ghost use Rattle.dob_update.specs.Batches.{BatchView};
 ghost use Rattle.dob_link.specs.Links.{link_of};
 
 use crate::link::{Full, Link};
@@ -40,6 +41,17 @@ impl ListLink {
         ensures { IsTrue result ↔ (self.now.capacity ≤ length self.now.waiting) }
     {
         self.slots.capacity() <= self.slots.len()
+    }
+
+    /// How many items the batch has that is handed out next, where one waits.
+    pub fn first_len(&self) -> Option<usize>
+        ensures none { IfNone result (self.now.waiting ≡ []) }
+        ensures some { IfSome result (λ count. (batch : BatchView) × (rest : List BatchView) × (self.now.waiting ≡ batch ∷ rest) × (count ≡ length batch.items)) }
+    {
+        match self.slots.front() {
+            Some(batch) => Some(batch.items().len()),
+            None => None,
+        }
     }
 }
 

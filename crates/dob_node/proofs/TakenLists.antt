@@ -10,7 +10,7 @@ use Rattle.dob_pieces.specs.declared.piece_set.PieceSet.{PieceSet}
 use Rattle.dob_node.specs.declared.cause.Cause.{Cause}
 use Rattle.dob_node.specs.declared.cause.Cause.TheVariants as cause
 use Rattle.dob_node.specs.declared.node.Node.{Node}
-use Rattle.dob_node.specs.Nodes.{IsUnchanged, HasTakenBefore}
+use Rattle.dob_node.specs.Nodes.{IsUnchanged, HasTaken, HasTakenBefore}
 use Rattle.dob_node.specs.Stores.{HistoryView}
 use Rattle.dob_node.proofs.Sounds.{told_still}
 use Rattle.dob_node.specs.Takes.{AreKept, IsTaken, AreTaken, IsHistory, IsReason, StopsAt, AreTakenBefore}
@@ -163,3 +163,31 @@ before_first (item ∷ items) old new some none same = record {
   taken = record { taken = (same.kept.0, same.kept.1); same = same.same; own = same.kept.2; outboxes = same.outboxes };
   reason = tt;
 }
+
+-- ---- what is taken of a node that made room before
+
+pub taken_since : (items : List Item) (old mid new : Node) → IsUnchanged old mid → HasTaken items mid new → HasTaken items old new
+taken_since items old mid new same taken = record {
+  taken = all_with_room items old.share new.share old.history mid.history new.history same.kept.1
+      (subst (λ (s : Share). AreTaken items s new.share mid.history new.history) same.kept.0 taken.taken);
+  same = (taken.same.0 ∙ same.same.0, taken.same.1 ∙ same.same.1, taken.same.2 ∙ same.same.2, taken.same.3 ∙ same.same.3);
+  own = taken.own ∙ same.kept.2;
+  outboxes = taken.outboxes ∙ same.outboxes;
+}
+
+pub before_since : (items : List Item) (old mid new : Node) (why : Cause) → IsUnchanged old mid → HasTakenBefore items mid new why →
+    HasTakenBefore items old new why
+before_since items old mid new why same before = record {
+  front = before.front;
+  item = before.item;
+  behind = before.behind;
+  items_are = before.items_are;
+  counted = before.counted;
+  taken = taken_since before.front old mid new same before.taken;
+  reason = before.reason;
+}
+
+pub stops_since : (items : List Item) (old mid : Node) (why : Cause) → IsUnchanged old mid → StopsAt items mid.share mid.history why →
+    StopsAt items old.share old.history why
+stops_since items old mid why same stops = stops_with_room items old.share old.history mid.history why same.kept.1
+    (subst (λ (s : Share). StopsAt items s mid.history why) same.kept.0 stops)

@@ -1,0 +1,2 @@
+-- Lemmas of links.
+pub mod Firsts  -- the first batch that waits
