@@ -20,10 +20,9 @@ use Rattle.dob_board.specs.Seats.{IsSameSeat, KnewOwn}
 use Rattle.dob_node.specs.declared.cause.Cause.{Cause}
 use Rattle.dob_node.specs.declared.cause.Cause.TheVariants.{TooDeep, Contradiction, Memory, Held, Counts}
 use Rattle.dob_node.specs.declared.node.Node.{Node}
-use Rattle.dob_node.specs.Takes.{IsReason, AreTaken}
-use Rattle.dob_node.proofs.TakenLists.{all_with_room}
+use Rattle.dob_node.specs.Takes.{IsReason}
 use Rattle.dob_node.specs.Outboxes.{outbox_in}
-use Rattle.dob_node.specs.Nodes.{outbox_to, HasItemFault, HasTakenBefore, IsUnchanged}
+use Rattle.dob_node.specs.Nodes.{outbox_to, HasItemFault, IsUnchanged}
 use Rattle.dob_chan.specs.declared.ends.SendEnd.{SendEnd}
 use Rattle.dob_chan.specs.declared.ends.TakeEnd.{TakeEnd}
 use Rattle.dob_chan.specs.Ends.{sent_by, taken_by, SendsToSame, TakesFromSame}
@@ -233,24 +232,6 @@ fault_still old new why same fault = record {
   behind = fault.behind;
   first = same.kept.2 ∙ fault.first;
   reason = subst (λ (share : Share). IsReason fault.item share why) (sym same.kept.0) fault.reason;
-}
-
--- what was taken by a node that had made room was taken by the node
-pub before_roomy : (items : List Item) (old mid new : Node) (why : Cause) → IsUnchanged old mid → HasTakenBefore items mid new why → HasTakenBefore items old new why
-before_roomy items old mid new why same before = record {
-  front = before.front;
-  item = before.item;
-  behind = before.behind;
-  items_are = before.items_are;
-  counted = before.counted;
-  taken = record {
-    same = (before.taken.same.0 ∙ same.same.0, before.taken.same.1 ∙ same.same.1, before.taken.same.2 ∙ same.same.2, before.taken.same.3 ∙ same.same.3);
-    taken = all_with_room before.front old.share new.share old.history mid.history new.history same.kept.1
-        (subst (λ (share : Share). AreTaken before.front share new.share mid.history new.history) same.kept.0 before.taken.taken);
-    own = before.taken.own ∙ same.kept.2;
-    outboxes = before.taken.outboxes ∙ same.outboxes;
-  };
-  reason = before.reason;
 }
 
 pub outbox_still : (old new : Node) (to : ℕ) → IsUnchanged old new → outbox_to new to ≡ outbox_to old to

@@ -24,8 +24,8 @@ err_of why = Err why
 pub cut_for-requires-clause-going : goal.cut_for-requires-clause-going
 cut_for-requires-clause-going c = (let r = c.args.self.now in node_goes r.node.failed r.failed r.agrees c.requires.unfailed)
 
-pub invariant_of-self-in-Err : goal.invariant_of-self-in-Err
-invariant_of-self-in-Err c =
+pub invariant_of-self : goal.invariant_of-self
+invariant_of-self c =
     let r = c.args.self.now in
     record {
       some = r.some;
