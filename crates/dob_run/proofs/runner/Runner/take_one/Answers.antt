@@ -72,7 +72,7 @@ invariant_of-self-in-Err-apply_batch g c =
       lawful = failed_first c.in-Err-apply_batch.why c.fail-in-Err-apply_batch.new.self.seat.halt (c.fail-in-Err-apply_batch.ensures.black (ap (λ (s : Stand). s.black) taken.counted))
           (unspared_reason c.in-Err-apply_batch.ensures.before.item c.apply_batch.new.self.share c.in-Err-apply_batch.why c.in-Err-apply_batch.ensures.before.reason
           (λ memory. (let room = c.in-Ok.ensures.room in let less = (c.in-Err-apply_batch.ensures.memory (ap Err memory)).1 in
-          let many = c.held_items.ensures c.in-Some.batch (sym (ap (λ i. i.hand) refl) ∙ c.in-Some.ensures.held) in omega (arith, room, less, many))));
+          let many = c.held_items.ensures c.in-Some.batch c.in-Some.ensures.held in omega (arith, room, less, many))));
     }
 
 pub invariant_of-self-in-Ok-apply_batch : goal.invariant_of-self-in-Ok-apply_batch
