@@ -9,6 +9,7 @@ use Rattle.std.proofs.lemmas.Option.{same_Some}
 use Rattle.std.proofs.lemmas.Bool.{cases_eq}
 use Rattle.dob_pieces.proofs.Elements.{get_set_other}
 use Rattle.dob_pieces.specs.Lists.{IsBeginning}
+use Rattle.dob_share.specs.declared.news.Item.{Item}
 use Rattle.dob_share.specs.declared.share.Share.{Share}
 use Rattle.dob_update.specs.Batches.{BatchView}
 use Rattle.dob_board.specs.declared.seat.NodeSeat.{NodeSeat}
@@ -30,6 +31,7 @@ use Rattle.dob_run.specs.declared.hands.Inlet.{Inlet}
 use Rattle.dob_run.specs.declared.mail.Mail.{Mail}
 use Rattle.dob_run.specs.declared.runner.Runner.{Runner}
 use Rattle.dob_run.specs.Links.{KeepsOutlet, KeepsInlet}
+use Rattle.dob_run.specs.Workers.{IsSpared}
 use Rattle.dob_run.specs.Mails.{KeepsEach, AreOut}
 use Rattle.dob_run.specs.Keeps.{KeepsMail, HasSameLinks}
 use Rattle.dob_run.specs.Runners.{KeepsRunner, GoesOn, HasFailed, HasBroken, HasTurned, HasRefused, HasCutAll, IsReasonFor, IsReasoned, IsAsked, no_gate, StepsBy, Steps}
@@ -150,9 +152,33 @@ own_still old new halt node own = sym halt ∙ own ∙ ap Failed node
 pub some_cause : (why : Cause) → (let failed : Option Cause = Some why in failed ≡ None) → ⊥
 some_cause why none = absurd (cc)
 
--- and where its seat didn't find the end, nothing is asked of it
-pub failed_first : {L : Type 0} (why : Cause) (halt : Halt) → halt ≢ Ended → (let failed : Option Cause = Some why in failed ≡ None) ⊎ (halt ≡ Ended) → L
-failed_first why halt unended still = elim still [ inl none ↦ absurd (some_cause why none) | inr ended ↦ absurd (unended ended) ]
+-- and where its seat didn't find the end, and it failed by an item, nothing is asked of it
+pub failed_first : {L : Type 0} (why : Cause) (halt : Halt) → halt ≢ Ended → (IsSpared (Some why) → ⊥) →
+    (let failed : Option Cause = Some why in failed ≡ None) ⊎ (halt ≡ Ended) ⊎ IsSpared (Some why) → L
+failed_first why halt unended unspared still =
+    elim still [ inl none ↦ absurd (some_cause why none) | inr (inl ended) ↦ absurd (unended ended) | inr (inr spared) ↦ absurd (unspared spared) ]
+
+-- no item makes a worker fail for another cause, but for want of memory
+pub unspared_reason : (item : Item) (share : Share) (why : Cause) → IsReason item share why → (why ≡ Memory → ⊥) → IsSpared (Some why) → ⊥
+unspared_reason item share TooDeep reason other spared = spared
+unspared_reason item share (Contradiction class) reason other spared = spared
+unspared_reason item share Memory reason other spared = other refl
+unspared_reason item share Held reason other spared = reason
+unspared_reason item share Counts reason other spared = reason
+
+-- ---- the causes of a node and of its runner
+
+-- where the runner hasn't failed its node hasn't
+pub node_goes : (of_node failed : Option Cause) → ((why : Cause) → of_node ≡ Some why → failed ≡ Some why) → failed ≡ None → of_node ≡ None
+node_goes None failed agrees none = refl
+node_goes (Some why) failed agrees none = absurd (let both = sym none ∙ agrees why refl in cc)
+
+-- a node that hasn't failed agrees with any, and one that failed with its own cause
+pub agrees_going : (of_node failed : Option Cause) → of_node ≡ None → (why : Cause) → of_node ≡ Some why → failed ≡ Some why
+agrees_going of_node failed going why is = absurd (let both = sym going ∙ is in cc)
+
+pub agrees_failed : (of_node : Option Cause) (cause : Cause) → of_node ≡ Some cause → (why : Cause) → of_node ≡ Some why → (let failed : Option Cause = Some cause in failed ≡ Some why)
+agrees_failed of_node cause failed why is = sym failed ∙ is
 
 -- ---- reasons
 

@@ -18,7 +18,7 @@ use Rattle.dob_update.proofs.BatchItems.{items_in_more}
 use Rattle.dob_node.specs.Stores.{HistoryView}
 use Rattle.dob_node.specs.declared.node.Node.{Node}
 use Rattle.dob_node.specs.Takes.{HasEntries, listed}
-use Rattle.dob_node.specs.Nodes.{outbox_to, IsSound, IsIdle, IsExpanded, HasApplied, HasTaken, HasCut}
+use Rattle.dob_node.specs.Nodes.{outbox_to, IsSound, IsIdle, IsExpanded, HasApplied, HasTaken, HasCut, IsUnchanged}
 use Rattle.dob_node.proofs.Settles.{told_more, told_grown}
 use Rattle.dob_node.proofs.Nodes.{outbox_same}
 use Rattle.dob_run.specs.declared.hands.Outlet.{Outlet}
@@ -27,13 +27,14 @@ use Rattle.dob_run.specs.declared.mail.Mail.{Mail}
 use Rattle.dob_run.specs.Knows.{KnowsRight}
 use Rattle.dob_chan.specs.Inboxes.{batches_of}
 use Rattle.dob_run.specs.Links.{offered, KeepsOutlet}
+use Rattle.dob_run.specs.Keeps.{HasSameLinks}
 use Rattle.dob_run.specs.Mails.{HasChangedOne, AreOut}
 use Rattle.dob_run.specs.Runners.{IsNew}
 use Rattle.dob_run.specs.Workers.{planned, items_worked, own_applied, applied_from, AreLast, SendsRight, IsLawful}
 use Rattle.dob_run.proofs.Applied.{own_less, own_more, own_still, applied_here, applied_else, applied_still, knows_after}
 use Rattle.dob_run.proofs.Knowing.{taken_one, knows_same, taken_all}
 use Rattle.dob_run.proofs.Opened.{knows_opened}
-use Rattle.dob_run.proofs.Keeping.{each_after}
+use Rattle.dob_run.proofs.Keeping.{each_after, outbox_still}
 use Rattle.dob_run.proofs.Planned.{history_grown, last_more, last_less, each_more}
 
 -- ---- the mail alone changed
@@ -65,6 +66,47 @@ recoloured set size node old new law same_node same_nodes same_outlets same_work
 -- a worker that has something to do is black
 pub busy_black : (set : PieceSet) (size : ℕ) (node : Node) (mail : Mail) → IsLawful set size node mail → (IsIdle node → ⊥) → mail.seat.black ≡ true
 busy_black set size node mail law busy = elim (cases_Bool mail.seat.black) [ inl black ↦ black | inr white ↦ absurd (busy (law.white white).0) ]
+
+-- the node is as it was, but for the room of its history
+pub unchanged_node : (set : PieceSet) (size : ℕ) (old new : Node) (mail : Mail) → IsLawful set size old mail → IsUnchanged old new → IsSound new →
+    IsLawful set size new mail
+unchanged_node set size old new mail law same sound =
+    let settled : new.history.settlements ≡ old.history.settlements = ap (λ (h : HistoryView). h.settlements) same.kept.1 in
+    let outbox : (to : ℕ) → outbox_to new to ≡ outbox_to old to = λ to. outbox_still old new to same in
+    let plan : (to : ℕ) → planned new to ≡ planned old to = λ to q. items_from (predecessors (same.same.0 q)) (same.same.2 q) to (take (same.same.3 q) (settled q)) in
+    let own : planned new new.id ≡ planned old old.id = plan new.id ∙ ap (λ i. planned old i) same.same.1 in
+    record {
+      of = (same.same.0 ∙ law.of.0, same.same.1 ∙ law.of.1, same.same.2 ∙ law.of.2);
+      sound = sound;
+      sends = λ to outlet apart at. (let right = law.sends to outlet apart at in record {
+        items = plan to ∙ right.items ∙ ap (λ (o : OutboxView). items_of_batches (offered outlet) ++ o.items) (sym (outbox to));
+        cut = ap (λ (o : OutboxView). o.next) (outbox to) ∙ right.cut;
+        small = right.small;
+      });
+      unused = law.unused;
+      own = subst (λ (p : List Item × List Item). AreLast p.0 p.1) (λ q. ((sym own) q, (sym same.kept.2) q)) law.own;
+      knows = knows_after old new (applied_from new mail.inlet) same.same.0 same.same.1 same.same.2
+          (subst (λ (sh : Share). KnowsRight old.set old.n old.id sh new.history.settlements (applied_from new mail.inlet)) (sym same.kept.0)
+          (subst (λ (l : List Settlement). KnowsRight old.set old.n old.id old.share l (applied_from new mail.inlet)) (sym settled)
+          (knows_same old.set old.n old.id old.share old.history.settlements (applied_from old mail.inlet) (applied_from new mail.inlet)
+          (applied_still old new mail.inlet mail.inlet same.same.1 (own_still old new own same.kept.2) (λ k. refl)) law.knows)));
+      white = λ is. (let rest = law.white is in (
+        record {
+          expanded = same.same.3 ∙ rest.0.expanded ∙ ap length (sym settled);
+          applied = same.kept.2 ∙ rest.0.applied;
+          sent = λ to. ap (λ (o : OutboxView). o.items) (outbox to) ∙ rest.0.sent to;
+        },
+        rest.1,
+      ));
+    }
+
+-- and so it is where its runner says that it failed
+pub unchanged_failed : (set : PieceSet) (size : ℕ) (old new : Node) (mail now : Mail) → IsLawful set size old mail → IsUnchanged old new → IsSound new →
+    HasSameLinks mail now → now.seat.black ≡ mail.seat.black → IsLawful set size new now
+unchanged_failed set size old new mail now law same sound links colour =
+    let still = unchanged_node set size old new mail law same sound in
+    recoloured set size new mail now still links.seat.node links.seat.nodes (ap (λ v. v.items) links.outlets) (same_inlet mail now links.inlet)
+    (λ is. still.white (sym colour ∙ is))
 
 -- one outlet was offered what it was before
 pub offered_again : (set : PieceSet) (size to : ℕ) (node : Node) (old new : Mail) → IsLawful set size node old → new.seat ≡ old.seat →

@@ -115,7 +115,7 @@ module _ (board : Board) (set : PieceSet) (size : ℕ) (runners : List Runner) (
 
     -- where each runner is lawful, whether it gave up afterwards or not
     law_own : (k : ℕ) (runner : Runner) → slice_get runners k ≡ Some runner → IsLawful runner.set runner.size runner.node runner.mail
-    law_own k runner at = runner.lawful (inr (same_halt runner.mail.seat.halt Ended (halt_is k runner at ∙ ended)))
+    law_own k runner at = runner.lawful (inr (inl (same_halt runner.mail.seat.halt Ended (halt_is k runner at ∙ ended))))
 
     law : (k : ℕ) (runner : Runner) → slice_get runners k ≡ Some runner → IsLawful set size runner.node runner.mail
     law k runner at =

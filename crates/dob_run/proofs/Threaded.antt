@@ -73,15 +73,18 @@ let_by_turn Says a b (Ok halt) turned asked unfailed = elim (cases_Bool asked.0)
 ]
 let_by_turn Says a b (Err why) failed asked unfailed = absurd (let both = sym failed.cause ∙ unfailed in cc)
 
+-- one that failed for want of memory has ended
+pub ended_without_memory : (Says : ℕ → Bool → Type 0) (until : Until) (old new : Runner) → HasFailed old new Memory → EndsBy Says until old new
+ended_without_memory Says until old new failed = (
+  (failed.keeps, through until old new Memory failed, reasoned_failed (says_no Says) new Memory failed.cause tt),
+  let_failed Says until old new Memory failed,
+)
+
 module _ {G : Type 0} (Says : G → ℕ → Bool → Type 0) (gate : G) (until : Until) where
   ended : (runner now : Runner) (started : Started G) → IsStartOf Says gate until runner started → IsEndOf Says started now →
       EndsBy (Says gate) until runner now
   ended runner now (Runs handle) start end = subst (λ (p : G × Until × Runner). EndsBy (Says p.0) p.1 p.2 now) (λ i. (start.2 i, start.1 i, start.0 i)) end
-  ended runner now (GaveUp was) start end =
-      subst (λ (r : Runner). EndsBy (Says gate) until runner r) (sym end) (
-        (start.keeps, through until runner was Memory start, reasoned_failed (says_no (Says gate)) was Memory start.cause tt),
-        let_failed (Says gate) until runner was Memory start,
-      )
+  ended runner now (GaveUp was) start end = subst (λ (r : Runner). EndsBy (Says gate) until runner r) (sym end) start
 
   -- each runner that was started and ended is where it was in its crew, and through with its turns
   pub all_ended : (runners : List Runner) (started : List (Started G)) (after : List Runner) → AllZip (IsStartOf Says gate until) runners started →

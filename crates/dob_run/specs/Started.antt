@@ -1,20 +1,18 @@
 -- Runners whose threads were started, and what became of them.
 use Rattle.std.specs.Prelude.{◌≡◌, ℕ, Bool}
-use Rattle.dob_node.specs.declared.cause.Cause.TheVariants.{Memory}
 use Rattle.dob_run.specs.declared.runner.Runner.{Runner}
 use Rattle.dob_run.specs.declared.threads.Started.{Started}
 use Rattle.dob_run.specs.declared.threads.Started.TheVariants.{Runs, GaveUp}
 use Rattle.dob_run.specs.declared.turns.Until.{Until}
-use Rattle.dob_run.specs.Runners.{HasFailed}
 use Rattle.dob_run.specs.Turns.{EndsBy}
 
 module _ {G : Type 0} (Says : G → ℕ → Bool → Type 0) where
-  -- The thread of the runner runs for so long, with that gate, and promises what it keeps; or none could be made, and it has failed
-  -- for want of memory.
+  -- The thread of the runner runs for so long, with that gate, and promises what it keeps; or none could be made, and the runner
+  -- itself keeps that.
   abbrev pub IsStartOf : G → Until → Runner → Started G → Type 0
   IsStartOf gate until runner (Runs handle) =
       (handle.promise.was.value ≡ runner) × (handle.promise.until.value ≡ until) × (handle.promise.gate.value ≡ gate)
-  IsStartOf gate until runner (GaveUp now) = HasFailed runner now Memory
+  IsStartOf gate until runner (GaveUp now) = EndsBy (Says gate) until runner now
 
   -- the runner whose thread ran, or the one that gave up
   abbrev pub IsEndOf : Started G → Runner → Type 0

@@ -1,10 +1,12 @@
 -- A worker's node beside its mail, and when the two are lawful together.
-use Rattle.std.specs.Prelude.{◌≡◌, ◌≢◌, ℕ, ◌-◌, ◌≤◌, ◌==◌, cond, List, [], ◌++◌, Some, false, length, take, drop, slice_get}
+use Rattle.std.specs.Prelude.{◌≡◌, ◌≢◌, ℕ, ◌-◌, ◌≤◌, ◌==◌, cond, List, [], ◌++◌, ⊤, Option, None, Some, false, length, take, drop, slice_get}
 use Rattle.dob_pieces.specs.declared.piece_set.PieceSet.{PieceSet}
 use Rattle.dob_unmove.specs.Edges.{predecessors}
 use Rattle.dob_share.specs.declared.news.Item.{Item}
 use Rattle.dob_update.specs.Items.{items_from}
 use Rattle.dob_update.specs.Batches.{BatchView, items_of_batches}
+use Rattle.dob_node.specs.declared.cause.Cause.{Cause}
+use Rattle.dob_node.specs.declared.cause.Cause.TheVariants.{TooDeep, Contradiction, Memory, Held, Counts}
 use Rattle.dob_node.specs.declared.node.Node.{Node}
 use Rattle.dob_node.specs.Nodes.{outbox_to, IsSound, IsIdle}
 use Rattle.dob_run.specs.declared.hands.Outlet.{Outlet}
@@ -40,6 +42,15 @@ pub record SendsRight (node : Node) (size to : ℕ) (batches : List BatchView) :
   pub items : planned node to ≡ items_of_batches batches ++ (outbox_to node to).items
   pub cut : (outbox_to node to).next ≡ length batches
   pub small : (k : ℕ) (batch : BatchView) → slice_get batches k ≡ Some batch → length batch.items ≤ size
+
+-- what failed, failed for another cause than an item
+abbrev pub IsSpared : Option Cause → Type 0
+IsSpared None = ⊥
+IsSpared (Some TooDeep) = ⊥
+IsSpared (Some (Contradiction class)) = ⊥
+IsSpared (Some Memory) = ⊤
+IsSpared (Some Held) = ⊤
+IsSpared (Some Counts) = ⊤
 
 -- The worker of a node is lawful: its node is that of the seat and of the piece set; what it planned for other nodes is on
 -- its way or left in its outboxes, and what it planned for itself and hasn't applied is in its own list; it knows what the

@@ -78,6 +78,16 @@ impl Inlet {
         self.hand.is_some()
     }
 
+    /// How many items the batch in the hand has, 0 where the hand is empty.
+    pub(crate) fn held_items(&self) -> usize
+        ensures { (batch : BatchView) → self.now.hand ≡ Some batch → result ≡ length batch.items }
+    {
+        let Some(batch) = &self.hand else {
+            return 0;
+        };
+        batch.items().len()
+    }
+
     /// The sender of the batch in the hand, if that is one that another node cut for the node `to` of that piece set, one of `n`,
     /// with items that such a node can work in. Any other batch is none of the node's.
     pub(crate) fn sender_for(&self, set: PieceSet, n: usize, to: usize) -> Option<usize>

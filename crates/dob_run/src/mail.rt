@@ -6,6 +6,7 @@ ghost use Rattle.dob_board.specs.Views.{posts_more};
 ghost use Rattle.dob_board.specs.Histories.{Makes};
 ghost use Rattle.dob_board.specs.Seats.{IsSameSeat, TakesOne, stand_of, told_of};
 ghost use Rattle.dob_chan.specs.Ends.{senders_of};
+ghost use Rattle.dob_update.specs.Batches.{BatchView};
 ghost use Rattle.dob_run.specs.Batches.{IsBatchFor};
 ghost use Rattle.dob_run.specs.Links.{offered, worked, IsFull, KeepsOutlet, KeepsInlet};
 ghost use Rattle.dob_run.specs.Mails.{AreCounts, AreTaken, AreOwn, HasChangedOne};
@@ -111,10 +112,18 @@ impl Mail {
         self.inlet.receive(rt);
     }
 
+    /// How many items the batch in the taking hand has, 0 where it is empty.
+    pub(crate) fn held_items(&self) -> usize
+        ensures { (batch : BatchView) → self.now.inlet.hand ≡ Some batch → result ≡ length batch.items }
+    {
+        self.inlet.held_items()
+    }
+
     /// The batch in the taking hand, if it is one of the piece set from another node to this one, and the board says that it was
     /// posted: it is counted on the board, which blackens the node, and now it is the node's to work in. Otherwise it stays in
     /// the hand, uncounted.
     pub(crate) fn accept(&mut self, set: PieceSet) -> Option<Batch>
+        ensures held { IfSome result (λ batch. self.old.inlet.hand ≡ Some batch) }
         ensures other { IfSome result (λ batch. (batch.from < self.old.seat.nodes) × (batch.from ≢ self.old.seat.node)) }
         ensures fit { IfSome result (λ batch. IsBatchFor set self.old.seat.nodes batch.from self.old.seat.node batch) }
         ensures same { IsSameSeat self.old.seat self.new.seat }

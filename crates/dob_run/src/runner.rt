@@ -1,8 +1,9 @@
 // A worker of a build: a node, and its mail.
-ghost use Rattle.std.specs.Prelude.{◌≡◌, ◌≢◌, ◌⊎◌, ◌<◌, ◌≤◌, None};
+ghost use Rattle.std.specs.Prelude.{◌≡◌, ◌≢◌, ◌⊎◌, ◌<◌, ◌≤◌, None, Some};
 ghost use Rattle.std.specs.Coded.{Π_prop};
 ghost use Rattle.dob_board.specs.declared.halt.Halt.TheVariants.{Running, Ended, Failed};
-ghost use Rattle.dob_run.specs.Workers.{IsLawful};
+ghost use Rattle.dob_node.specs.declared.cause.Cause.{Cause};
+ghost use Rattle.dob_run.specs.Workers.{IsLawful, IsSpared};
 ghost use Rattle.dob_run.specs.Props.{IsLawful-prop};
 
 use crate::mail::Mail;
@@ -11,8 +12,9 @@ use dob_node::{Cause, Node};
 use dob_pieces::PieceSet;
 
 /// A worker of a build by nodes that own the classes of a piece set: its node, its seat with its ends of the inboxes, and
-/// the greatest size of a batch. It is lawful at every moment, unless it has failed before the end was announced: one that
-/// gives up after that has changed nothing. The board says that its node failed only where it has.
+/// the greatest size of a batch. It is lawful at every moment, unless an item of another node's batch made it fail before the end
+/// was announced: where it failed for another cause, as for want of memory, it has changed nothing. The board says that its
+/// node failed only where it has, and where its node has failed it has failed for the same cause.
 #[derive(Drop)]
 pub struct Runner {
     pub(crate) node: Node,
@@ -25,5 +27,6 @@ pub struct Runner {
     ghost at_most: { size ≤ 4096 },
     ghost going: { mail.seat.halt ≡ Running → failed ≡ None },
     ghost own: { mail.seat.halt ≡ Failed mail.seat.node → failed ≢ None },
-    ghost lawful: { (failed ≡ None) ⊎ (mail.seat.halt ≡ Ended) → IsLawful set size node mail } by { Π_prop (λ _. IsLawful-prop set size node mail) },
+    ghost agrees: { (why : Cause) → node.failed ≡ Some why → failed ≡ Some why },
+    ghost lawful: { (failed ≡ None) ⊎ (mail.seat.halt ≡ Ended) ⊎ IsSpared failed → IsLawful set size node mail } by { Π_prop (λ _. IsLawful-prop set size node mail) },
 }

@@ -119,7 +119,8 @@ fn start_all<'s, E, R: Threads + Wait + Sync, G: Gate + Sync>(
     Ok(started)
 }
 
-// Starts the thread of a runner. Where none can be made its node is noted first, so that it makes no turn here; and it fails.
+// Starts the thread of a runner. Where none can be made its node is noted first, so that it makes no turn here; and it fails,
+// if it hadn't.
 fn start<'s, E, R: Threads + Wait + Sync, G: Gate + Sync>(
     rt: &'s R,
     scope: &Scope<'s, E>,
@@ -147,6 +148,9 @@ fn start<'s, E, R: Threads + Wait + Sync, G: Gate + Sync>(
         Err(handed_back) => {
             unstarted.store(node, Ordering::SeqCst);
             let mut back = (handed_back.value)();
+            let None = back.failed else {
+                return Started::GaveUp(back);
+            };
             back.give_up(Cause::Memory);
             Started::GaveUp(back)
         }

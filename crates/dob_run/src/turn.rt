@@ -49,6 +49,7 @@ impl Runner {
     /// Gives up for a cause that isn't the node's own: the board is told, and the runner keeps the cause. Its node is as it
     /// was.
     pub(crate) fn give_up(&mut self, why: Cause)
+        requires { self.old.failed ≡ None }
         ensures failed { HasFailed self.old self.new why }
         ensures same { IsHeldBack self.old self.new }
     {

@@ -11,12 +11,20 @@ use std::sync::Wait;
 
 impl Runner {
     /// Takes the batch in the taking hand, else the next of the inbox, if it is one of another node that the board knows of, and
-    /// applies its items. False where there is none.
+    /// applies its items. False where there is none. Its node makes room for the items before the batch is counted.
     pub(crate) fn take_one<R: Wait>(&mut self, rt: &R) -> Result<bool, Cause>
         requires { self.old.failed ≡ None }
         ensures { StepsBy Takes self.old self.new result }
     {
         self.mail.receive(rt);
+        match self.node.reserve(self.mail.held_items()) {
+            Ok(()) => {}
+            Err(why) => {
+                self.failed = Some(why);
+                self.mail.fail();
+                return Err(why);
+            }
+        }
         let Some(batch) = self.mail.accept(self.set) else {
             return Ok(false);
         };

@@ -1,4 +1,4 @@
--- A runner for which no thread can be made keeps its place when it is handed back, and has failed for want of memory.
+-- A runner for which no thread can be made keeps its place when it is handed back, and has failed, at the latest for want of memory.
 use Rattle.std.proofs.Common.{◌≡◌, rules, subst}
 use Rattle.dob_node.specs.declared.cause.Cause.TheVariants.{Memory}
 use Rattle.dob_run.specs.declared.runner.Runner.{Runner}
@@ -6,6 +6,7 @@ use Rattle.dob_run.specs.declared.turns.Until.{Until}
 use Rattle.dob_run.specs.Turns.{EndsBy}
 use Rattle.dob_run.specs.Runners.{KeepsRunner}
 use Rattle.dob_run.proofs.Keeping.{failed_after}
+use Rattle.dob_run.proofs.Threaded.{ended_without_memory}
 use Rattle.dob_run.proofs.threads.start.Goals as goal
 
 pub spawn_with-requires-clause-keeps : goal.spawn_with-requires-clause-keeps
@@ -16,8 +17,15 @@ spawn_with-requires-clause-keeps g c κs within =
     λ r ends. subst (λ q. EndsBy (g.G.Gate.says q) c.of-2.result.value c.of.result.value r) gate
     (subst (λ (p : Runner × Until). EndsBy (g.G.Gate.says c.args.gate.now) p.1 p.0 r) (λ i. (was i, until i)) ends)
 
+pub returns-in_default : goal.returns-in_default
+returns-in_default g c =
+    let back = c.in-Err.ensures.err in
+    subst (λ (p : g.row.G.Denot × Until × Runner). EndsBy (g.G.Gate.says p.0) p.1 p.2 c.run-back.result)
+    (λ i. ((back i).4.now, (back i).5.now, (back i).2)) c.run-back.ensures
+
 pub returns-in-Err : goal.returns-in-Err
 returns-in-Err g c =
     let was : c.in-Err.handed_back.value.2 ≡ c.args.runner = λ i. (c.in-Err.ensures.err i).2 in
-    failed_after c.args.runner c.run-back.result c.give_up.new.self Memory (subst (λ (r : Runner). KeepsRunner r c.run-back.result) was c.run-back.ensures.0.0)
-    c.give_up.ensures.failed
+    ended_without_memory (g.G.Gate.says c.args.gate.now) c.args.until.now c.args.runner c.give_up.new.self
+    (failed_after c.args.runner c.run-back.result c.give_up.new.self Memory (subst (λ (r : Runner). KeepsRunner r c.run-back.result) was c.run-back.ensures.0.0)
+    c.give_up.ensures.failed)

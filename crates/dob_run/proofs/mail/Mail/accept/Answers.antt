@@ -39,6 +39,12 @@ invariant_of-self-2 c =
       taken = subst (λ (p : ℕ × List ℕ). AreTaken p.0 p.1 c.release.new.self) (λ q. ((sym c.take.ensures.same.nodes) q, (sym taken_is) q)) counted;
     }
 
+pub returns-clause-held : goal.returns-clause-held
+returns-clause-held c =
+    let mail = c.args.self.now in
+    let held = c.in-Some.ensures in
+    of_held (λ b. mail.inlet.hand ≡ Some b) c.release.result mail.inlet.hand held.0 c.release.ensures.batch held.1 held.1
+
 pub returns-clause-other : goal.returns-clause-other
 returns-clause-other c =
     let mail = c.args.self.now in

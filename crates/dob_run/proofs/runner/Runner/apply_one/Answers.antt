@@ -3,10 +3,26 @@ use Rattle.std.proofs.Common.{Ok, refl, ap, sym, subst, inl, inr}
 use Rattle.std.proofs.lemmas.Bool.{cases_Bool}
 use Rattle.dob_node.specs.declared.node.Node.{Node}
 use Rattle.dob_run.specs.Workers.{IsLawful}
-use Rattle.dob_run.proofs.Keeping.{mail_same, links_kept, own_reason, fault_still}
-use Rattle.dob_run.proofs.Lawfuls.{applied_own}
+use Rattle.dob_run.proofs.Keeping.{mail_same, links_kept, own_reason, fault_still, some_cause, node_goes, agrees_going, agrees_failed}
+use Rattle.dob_run.proofs.Lawfuls.{applied_own, unchanged_failed}
 use Rattle.dob_run.proofs.Turning.{same_answer}
 use Rattle.dob_run.proofs.runner.Runner.apply_one.Goals as goal
+
+pub apply_own-requires-clause-going : goal.apply_own-requires-clause-going
+apply_own-requires-clause-going c = (let r = c.args.self.now in node_goes r.node.failed r.failed r.agrees c.requires)
+
+pub invariant_of-self-in-Err : goal.invariant_of-self-in-Err
+invariant_of-self-in-Err c =
+    let r = c.args.self.now in
+    record {
+      some = r.some;
+      at_most = r.at_most;
+      going = λ running. absurd (c.fail.ensures.stopped running);
+      own = λ _ none. some_cause c.in-Err.why none;
+      agrees = agrees_failed c.apply_own.new.self.failed c.in-Err.why c.in-Err.ensures.failed;
+      lawful = λ _. unchanged_failed r.set r.size r.node c.apply_own.new.self r.mail c.fail.new.self (r.lawful (inl c.requires))
+          c.in-Err.ensures.unchanged c.in-Err.ensures.sound c.fail.ensures.links c.fail.ensures.colour;
+    }
 
 pub invariant_of-self : goal.invariant_of-self
 invariant_of-self c =
@@ -16,6 +32,7 @@ invariant_of-self c =
       at_most = r.at_most;
       going = r.going;
       own = r.own;
+      agrees = agrees_going c.apply_own.new.self.failed _ c.in-Ok.ensures.going;
       lawful = λ _. (let law = r.lawful (inl c.requires) in elim (cases_Bool c.in-Ok.applied) [
         | inl did ↦ applied_own r.set r.size r.node c.apply_own.new.self r.mail law (c.in-Ok.ensures.applied (ap Ok did)) c.in-Ok.ensures.sound
         | inr none_left ↦ subst (λ (n : Node). IsLawful r.set r.size n r.mail) (sym (c.in-Ok.ensures.nothing (ap Ok none_left))) law

@@ -7,8 +7,8 @@ use Rattle.dob_board.specs.declared.view.Stand.{Stand}
 use Rattle.dob_board.proofs.Halting.{same_halt}
 use Rattle.dob_node.specs.declared.cause.Cause.{Cause}
 use Rattle.dob_node.specs.Nodes.{outbox_to, HasCut}
-use Rattle.dob_run.proofs.Keeping.{own_still, links_kept, cut_reason, outbox_still}
-use Rattle.dob_run.proofs.Lawfuls.{cut_one, few_cut}
+use Rattle.dob_run.proofs.Keeping.{own_still, links_kept, cut_reason, outbox_still, some_cause, node_goes, agrees_going, agrees_failed}
+use Rattle.dob_run.proofs.Lawfuls.{cut_one, few_cut, unchanged_failed}
 use Rattle.dob_run.proofs.Sending.{cut_nothing, cut_more}
 use Rattle.dob_run.proofs.runner.Runner.cut_for.Goals as goal
 
@@ -20,6 +20,22 @@ cut_counts cut why is = absurd (cc)
 
 abbrev err_of : Cause → Result (Option BatchView) Cause
 err_of why = Err why
+
+pub cut_for-requires-clause-going : goal.cut_for-requires-clause-going
+cut_for-requires-clause-going c = (let r = c.args.self.now in node_goes r.node.failed r.failed r.agrees c.requires.unfailed)
+
+pub invariant_of-self : goal.invariant_of-self
+invariant_of-self c =
+    let r = c.args.self.now in
+    record {
+      some = r.some;
+      at_most = r.at_most;
+      going = λ running. absurd (c.fail.ensures.stopped running);
+      own = λ _ none. some_cause c.in-Err.why none;
+      agrees = agrees_failed c.cut_for.new.self.failed c.in-Err.why c.in-Err.ensures.failed;
+      lawful = λ _. unchanged_failed r.set r.size r.node c.cut_for.new.self r.mail c.fail.new.self (r.lawful (inl c.requires.unfailed))
+          c.in-Err.ensures.unchanged c.in-Err.ensures.sound c.fail.ensures.links c.fail.ensures.colour;
+    }
 
 pub returns-in-Err : goal.returns-in-Err
 returns-in-Err c = record {
@@ -72,6 +88,7 @@ invariant_of-self-2 c =
       going = λ _. c.requires.unfailed;
       own = λ found. r.own (own_still r.mail.seat c.post.new.self.seat
           (same_halt c.post.new.self.seat.halt r.mail.seat.halt (ap (λ (s : Stand). s.halt) c.post.ensures.counted)) c.post.ensures.same.node found);
+      agrees = agrees_going c.cut_for.new.self.failed _ c.in-Ok.ensures.going;
       lawful = λ _. cut_one r.set r.size c.args.to c.in-Some.batch r.node c.cut_for.new.self r.mail c.post.new.self law c.requires.other cut c.in-Ok.ensures.sound
           c.post.ensures.same.node c.post.ensures.same.nodes (ap (λ (s : Stand). s.black) c.post.ensures.counted ∙ was_black) c.post.ensures.offered
           c.post.ensures.inlet;

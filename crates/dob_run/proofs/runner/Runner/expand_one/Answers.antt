@@ -1,28 +1,28 @@
--- An expanded settlement leaves the runner lawful; one that fails finds no end, as its seat was black.
-use Rattle.std.proofs.Common.{◌≡◌, Bool, false, Result, Ok, Err, refl, ap, sym, subst, inl, inr}
+-- An expanded settlement leaves the runner lawful, and so does want of memory.
+use Rattle.std.proofs.Common.{Ok, refl, ap, sym, subst, inl, inr}
 use Rattle.std.proofs.lemmas.Bool.{cases_Bool}
-use Rattle.dob_node.specs.declared.cause.Cause.{Cause}
 use Rattle.dob_node.specs.declared.node.Node.{Node}
 use Rattle.dob_run.specs.Workers.{IsLawful}
-use Rattle.dob_run.proofs.Keeping.{mail_same, links_kept, memory_reason, some_cause, failed_first}
+use Rattle.dob_run.proofs.Keeping.{mail_same, links_kept, memory_reason, some_cause, node_goes, agrees_going, agrees_failed}
 use Rattle.dob_run.specs.Runners.{no_gate}
-use Rattle.dob_run.proofs.Lawfuls.{expanded_one, busy_black}
+use Rattle.dob_run.proofs.Lawfuls.{expanded_one, unchanged_failed}
 use Rattle.dob_run.proofs.Turning.{same_answer}
 use Rattle.dob_run.proofs.runner.Runner.expand_one.Goals as goal
 
-err_not_ok : (why : Cause) → (let given : Result Bool Cause = Err why in given ≡ Ok false) → ⊥
-err_not_ok why is = absurd (cc)
+pub expand-requires-clause-going : goal.expand-requires-clause-going
+expand-requires-clause-going c = (let r = c.args.self.now in node_goes r.node.failed r.failed r.agrees c.requires.unfailed)
 
 pub invariant_of-self-in-Err : goal.invariant_of-self-in-Err
 invariant_of-self-in-Err c =
     let r = c.args.self.now in
-    let black = busy_black r.set r.size r.node r.mail (r.lawful (inl c.requires.unfailed)) (λ idle. err_not_ok c.in-Err.why (c.in-Err.ensures.done.1 idle.expanded)) in
     record {
       some = r.some;
       at_most = r.at_most;
       going = λ running. absurd (c.fail.ensures.stopped running);
       own = λ _ none. some_cause c.in-Err.why none;
-      lawful = failed_first c.in-Err.why c.fail.new.self.seat.halt (c.fail.ensures.black black);
+      agrees = agrees_failed c.expand.new.self.failed c.in-Err.why c.in-Err.ensures.failed;
+      lawful = λ _. unchanged_failed r.set r.size r.node c.expand.new.self r.mail c.fail.new.self (r.lawful (inl c.requires.unfailed))
+          c.in-Err.ensures.unchanged c.in-Err.ensures.sound c.fail.ensures.links c.fail.ensures.colour;
     }
 
 pub invariant_of-self : goal.invariant_of-self
@@ -33,6 +33,7 @@ invariant_of-self c =
       at_most = r.at_most;
       going = r.going;
       own = r.own;
+      agrees = agrees_going c.expand.new.self.failed _ c.in-Ok.ensures.going;
       lawful = λ _. (let law = r.lawful (inl c.requires.unfailed) in elim (cases_Bool c.in-Ok.expanded) [
         | inl did ↦ expanded_one r.set r.size r.node c.expand.new.self r.mail law (c.in-Ok.ensures.expanded (ap Ok did)) c.in-Ok.ensures.sound
         | inr none_left ↦ subst (λ (n : Node). IsLawful r.set r.size n r.mail) (sym (c.in-Ok.ensures.nothing (ap Ok none_left))) law

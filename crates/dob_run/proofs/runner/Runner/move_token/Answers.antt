@@ -15,6 +15,7 @@ invariant_of-self c =
       at_most = r.at_most;
       going = λ _. c.requires.unfailed;
       own = λ found. r.own (own_still r.mail.seat c.finds_token.new.self.seat c.finds_token.ensures.halt c.finds_token.ensures.links.seat.node found);
+      agrees = r.agrees;
       lawful = λ _. recoloured r.set r.size r.node r.mail c.finds_token.new.self (r.lawful (inl c.requires.unfailed))
           c.finds_token.ensures.links.seat.node c.finds_token.ensures.links.seat.nodes (ap (λ v. v.items) c.finds_token.ensures.links.outlets)
           (same_inlet r.mail c.finds_token.new.self c.finds_token.ensures.links.inlet)
@@ -30,6 +31,7 @@ invariant_of-self-then-may_announce c =
       going = λ _. c.requires.unfailed;
       own = λ found. r.own (own_still r.mail.seat c.finds_token.new.self.seat c.finds_token.ensures.halt c.finds_token.ensures.links.seat.node
           (own_before c.finds_token.new.self.seat c.announce.new.self.seat c.announce.ensures.own c.announce.ensures.links.seat.node found));
+      agrees = r.agrees;
       lawful = λ _. recoloured r.set r.size r.node r.mail c.announce.new.self (r.lawful (inl c.requires.unfailed))
           (c.announce.ensures.links.seat.node ∙ c.finds_token.ensures.links.seat.node)
           (c.announce.ensures.links.seat.nodes ∙ c.finds_token.ensures.links.seat.nodes)
@@ -47,6 +49,7 @@ invariant_of-self-else-may_announce c =
       going = λ _. c.requires.unfailed;
       own = λ found. r.own (own_still r.mail.seat c.pass.new.self.seat (c.pass.ensures.halt ∙ c.finds_token.ensures.halt)
           (c.pass.ensures.links.seat.node ∙ c.finds_token.ensures.links.seat.node) found);
+      agrees = r.agrees;
       lawful = λ _. recoloured r.set r.size r.node r.mail c.pass.new.self (r.lawful (inl c.requires.unfailed))
           (c.pass.ensures.links.seat.node ∙ c.finds_token.ensures.links.seat.node)
           (c.pass.ensures.links.seat.nodes ∙ c.finds_token.ensures.links.seat.nodes)

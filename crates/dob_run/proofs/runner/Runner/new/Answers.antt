@@ -1,5 +1,6 @@
 -- A node that was opened and a mail that nothing has gone over make a lawful runner, which hasn't failed.
 use Rattle.std.proofs.Common.{refl}
+use Rattle.dob_run.proofs.Keeping.{agrees_going}
 use Rattle.dob_run.proofs.Lawfuls.{begun}
 use Rattle.dob_run.proofs.runner.Runner.new.Goals as goal
 
@@ -9,5 +10,6 @@ invariant_of-result c = record {
   at_most = c.requires.at_most;
   going = λ _. refl;
   own = λ found. absurd (let was = c.requires.fresh.running in cc);
+  agrees = agrees_going c.args.node.failed _ c.requires.fresh.opened.going;
   lawful = λ _. begun c.args.set c.args.size c.args.node c.args.mail c.requires.fresh;
 }

@@ -16,6 +16,7 @@ invariant_of-self g c =
       at_most = f.at_most;
       going = λ _. went.unfailed;
       own = λ found. f.own (own_still f.mail.seat c.offer.new.self.seat (ap (λ s. s.halt) c.offer.ensures.seat) (ap (λ s. s.node) c.offer.ensures.seat) found);
+      agrees = f.agrees;
       lawful = λ _. offered_again f.set f.size c.args.to f.node f.mail c.offer.new.self (f.lawful (inl went.unfailed)) c.offer.ensures.seat c.offer.ensures.offered c.offer.ensures.inlet
           (out_still f.mail c.offer.new.self (ap (λ s. s.nodes) c.offer.ensures.seat) c.offer.ensures.hands);
     }
