@@ -1,5 +1,5 @@
 -- What sending to one node after another does.
-use Rattle.std.proofs.Common.{◌≡◌, ◌≢◌, ◌⊎◌, ℕ, ◌+◌, ◌≤◌, List, ◌∷◌, [], ◌++◌, length, Bool, true, false, not, ◌||◌, Option, Some, None, Result, Ok, Err}
+use Rattle.std.proofs.Common.{◌≡◌, ◌≢◌, ◌⊎◌, ℕ, ◌+◌, ◌<◌, ◌≤◌, List, ◌∷◌, [], ◌++◌, length, Bool, true, false, not, ◌||◌, Option, Some, None, Result, Ok, Err}
 use Rattle.std.proofs.Common.{refl, sym, ap, ◌∙◌, subst, inl, inr, arith, length-append}
 use Rattle.std.specs.Prelude.{slice_get}
 use Rattle.std.proofs.lemmas.Bool.{cases_eq, cases_Bool, both_ways}
@@ -17,10 +17,10 @@ use Rattle.dob_run.specs.Hands.{in_hand}
 use Rattle.dob_run.specs.Keeps.{KeepsMail}
 use Rattle.dob_run.specs.Links.{offered, KeepsOutlet, IsFull}
 use Rattle.dob_run.specs.Mails.{HasChangedOne}
-use Rattle.dob_run.specs.Rounds.{HasToSend, IsToFill, IsMoreOut, CutsFor, CutsLeft, FillsFor, IsSent, SendsTo, SendsBelow}
+use Rattle.dob_run.specs.Rounds.{HasToSend, IsToFill, IsMoreOut, CutsFor, CutsLeft, FillsFor, IsSent, HasSentOne, SendsTo, SendsBelow}
 use Rattle.dob_run.specs.Runners.{GoesOn, StepsBy}
 use Rattle.dob_run.proofs.Keeping.{mail_same, runner_same, goes_trans}
-use Rattle.dob_run.proofs.Taking.{changed_at, changed_else}
+use Rattle.dob_run.proofs.Taking.{changed_there, changed_at, changed_else}
 
 -- ---- to all nodes
 
@@ -44,11 +44,23 @@ pub none_sent : (small : Bool) (r : Runner) → r.failed ≡ None → SendsBelow
 none_sent small r unfailed = record {
   goes = record { keeps = runner_same r; unfailed = unfailed; halt = refl };
   sent = λ to low apart before after was is. absurd (omega (arith, low));
+  some = λ never. absurd (cc);
   itself = refl;
   own = refl;
   later = λ j high. refl;
   inlet = refl;
 }
+
+-- to whom one more went
+sent_some : (small : Bool) (k : ℕ) (a b c : Runner) (did one : Bool) → SendsBelow k small a b did → SendsTo k small b c one → (did || one) ≡ true →
+    (to : ℕ) × (to < k + 1) × HasSentOne to a.mail.outlets.items c.mail.outlets.items
+sent_some small k a b c true one so_far next said =
+    let found = so_far.some refl in
+    let apart = next.others found.0 (λ same. absurd (omega (arith, same, found.1))) in
+    (found.0, omega (arith, found.1), (found.2.0, found.2.1, found.2.2, apart ∙ found.2.3, found.2.4))
+sent_some small k a b c false one so_far next said =
+    let found = next.some said in
+    (k, omega arith, (found.0, found.1, sym (so_far.later k (omega arith)) ∙ found.2, found.3, found.4))
 
 -- and the next
 pub sends_more : (small : Bool) (k : ℕ) (a b c : Runner) (did one : Bool) → SendsBelow k small a b did → SendsTo k small b c one →
@@ -68,6 +80,7 @@ sends_more small k a b c did one so_far next = record {
         let found = so_far.sent to (omega (arith, low, other)) apart before after was (sym (next.others to other) ∙ is) in
         (found.0, sent_still small to b c found.0 before after (next.outboxes to other) next.goes.keeps.size found.1, λ said. first did one (found.2 said))
   ];
+  some = sent_some small k a b c did one so_far next;
   itself = elim (cases_eq a.mail.seat.node k) [
     | inl here ↦ ap (λ (l : List Outlet). slice_get l a.mail.seat.node) (next.itself (sym here ∙ sym so_far.goes.keeps.mail.seat.node)).1 ∙ so_far.itself
     | inr other ↦ next.others a.mail.seat.node other ∙ so_far.itself
@@ -155,6 +168,7 @@ own_unsent small r to unfailed is = record {
   goes = record { keeps = runner_same r; unfailed = unfailed; halt = refl };
   itself = λ same. (refl, refl);
   sent = λ apart before after was there. absurd (apart is);
+  some = λ never. absurd (cc);
   own = refl;
   outboxes = λ j other. refl;
   others = λ j other. refl;
@@ -225,6 +239,7 @@ module _ (to : ℕ) (small : Bool) (old mid : Runner) (any : Bool) (apart : to �
           ));
           full = λ unsent stuck. absurd (stuck (out after is));
         };
+    some = λ never. absurd (cc);
     own = fills.0.own;
     outboxes = fills.0.others;
     others = others;
@@ -269,6 +284,17 @@ module _ (to : ℕ) (small : Bool) (old mid : Runner) (any : Bool) (apart : to �
       | inr out ↦ absurd (unsent out)
     ]
 
+    was_there : (before : Outlet) × (slice_get old.mail.outlets.items to ≡ Some before)
+    was_there = elim (cases_Bool any) [
+      | inl did ↦ ((fills.0.one did).1.0, (fills.0.one did).1.2)
+      | inr none ↦ (offer.0, ap (λ (m : Mail). slice_get m.outlets.items to) (sym (fills.0.nothing none).1) ∙ offer.2)
+    ]
+
+    one_more : (after : Outlet) → slice_get new.mail.outlets.items to ≡ Some after → after.hand ≡ None → HasSentOne to old.mail.outlets.items new.mail.outlets.items
+    one_more after is out =
+        let took = took_it was_there.0 after was_there.1 is out in
+        (was_there.0, after, was_there.1, is, omega (arith, ap length took.1, length-append (sent_by was_there.0.end) (took.0 ∷ [])))
+
     -- it still lies there, or not
     pub sends_offered : (still : Bool) → (still ≡ true → (outlet : Outlet) → slice_get new.mail.outlets.items to ≡ Some outlet → outlet.hand ≢ None) →
         (still ≡ false → (outlet : Outlet) → slice_get new.mail.outlets.items to ≡ Some outlet → outlet.hand ≡ None) → SendsTo to small old new (not still)
@@ -282,6 +308,7 @@ module _ (to : ℕ) (small : Bool) (old mid : Runner) (any : Bool) (apart : to �
         spent = λ left empty has. unsent refl after is empty;
         full = λ left stuck. was_full after is stuck;
       };
+      some = λ never. absurd (cc);
       own = ap (λ n. n.own.items) node ∙ fills.0.own;
       outboxes = λ j other. ap (λ n. outbox_to n j) node ∙ fills.0.others j other;
       others = else_where;
@@ -297,6 +324,7 @@ module _ (to : ℕ) (small : Bool) (old mid : Runner) (any : Bool) (apart : to �
         spent = λ never. absurd (cc);
         full = λ never. absurd (cc);
       };
+      some = λ sent. (let there = changed_there IsSameOut mid.mail.outlets.items new.mail.outlets.items to offer in one_more offer.1 there (out refl offer.1 there));
       own = ap (λ n. n.own.items) node ∙ fills.0.own;
       outboxes = λ j other. ap (λ n. outbox_to n j) node ∙ fills.0.others j other;
       others = else_where;

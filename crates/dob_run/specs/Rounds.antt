@@ -1,5 +1,5 @@
 -- What the parts of a runner's turn do, and when each has something to do.
-use Rattle.std.specs.Prelude.{◌≡◌, ◌≢◌, ◌↔◌, ◌⊎◌, ℕ, ◌+◌, ◌<◌, ◌≤◌, [], ◌∷◌, ◌++◌, Bool, IsTrue, ◌||◌, true, false, None, Some, length, slice_get}
+use Rattle.std.specs.Prelude.{◌≡◌, ◌≢◌, ◌↔◌, ◌⊎◌, ℕ, ◌+◌, ◌<◌, ◌≤◌, List, [], ◌∷◌, ◌++◌, Bool, IsTrue, ◌||◌, true, false, None, Some, length, slice_get}
 use Rattle.dob_update.specs.Batches.{BatchView}
 use Rattle.dob_chan.specs.Ends.{sent_by, taken_by, take_told, WasEmpty}
 use Rattle.dob_node.specs.Nodes.{outbox_to, IsExpanded, HasApplied}
@@ -114,22 +114,30 @@ pub record IsSent (small : Bool) (to : ℕ) (runner : Runner) (did : Bool) (befo
   pub spent : did ≡ false → after.hand ≡ None → ¬ HasToSend runner to small
   pub full : did ≡ false → after.hand ≢ None → IsFull after
 
+-- one batch more went into the inbox of that node
+abbrev pub HasSentOne : ℕ → List Outlet → List Outlet → Type 0
+HasSentOne to old new = (before : Outlet) × (after : Outlet) × (slice_get old to ≡ Some before) × (slice_get new to ≡ Some after) ×
+    (length (sent_by after.end) ≡ length (sent_by before.end) + 1)
+
 -- It has sent to that node, if that is another one, and nothing has changed of the other links.
 pub record SendsTo (to : ℕ) (small : Bool) (old new : Runner) (did : Bool) : Type 0 where
   pub goes : GoesOn old new
   pub itself : to ≡ old.mail.seat.node → (did ≡ false) × (new.mail.outlets.items ≡ old.mail.outlets.items)
   pub sent : to ≢ old.mail.seat.node → (before after : Outlet) → slice_get old.mail.outlets.items to ≡ Some before →
       slice_get new.mail.outlets.items to ≡ Some after → IsSent small to new did before after
+  pub some : did ≡ true → HasSentOne to old.mail.outlets.items new.mail.outlets.items
   pub own : new.node.own.items ≡ old.node.own.items
   pub outboxes : (j : ℕ) → j ≢ to → outbox_to new.node j ≡ outbox_to old.node j
   pub others : (j : ℕ) → j ≢ to → slice_get new.mail.outlets.items j ≡ slice_get old.mail.outlets.items j
   pub inlet : new.mail.inlet ≡ old.mail.inlet
 
--- It has sent to each of the other nodes below a number, and nothing has changed of the other links.
+-- It has sent to each of the other nodes below a number, just where one more went to one of them, and nothing has changed of the
+-- other links.
 pub record SendsBelow (upto : ℕ) (small : Bool) (old new : Runner) (did : Bool) : Type 0 where
   pub goes : GoesOn old new
   pub sent : (to : ℕ) → to < upto → to ≢ old.mail.seat.node → (before after : Outlet) → slice_get old.mail.outlets.items to ≡ Some before →
       slice_get new.mail.outlets.items to ≡ Some after → (one : Bool) × IsSent small to new one before after × (one ≡ true → did ≡ true)
+  pub some : did ≡ true → (to : ℕ) × (to < upto) × HasSentOne to old.mail.outlets.items new.mail.outlets.items
   pub itself : slice_get new.mail.outlets.items old.mail.seat.node ≡ slice_get old.mail.outlets.items old.mail.seat.node
   pub own : new.node.own.items ≡ old.node.own.items
   pub later : (j : ℕ) → upto ≤ j → slice_get new.mail.outlets.items j ≡ slice_get old.mail.outlets.items j

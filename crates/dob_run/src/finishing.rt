@@ -137,9 +137,7 @@ fn table_of(alloc: Global, classes: Classes, nodes: &[Node]) -> Result<Table, Me
         requires some { 0 < length nodes.now }
         requires own { (node : Shower) → slice_get nodes.now (owner_of (length nodes.now) class) ≡ Some node → IsOwn node.share class }
         ensures { IsShown (length nodes.entry.now) nodes.entry.now class result }
-    {
-        value_of(nodes, class)
-    };
+    { value_of(nodes, class) };
     Table::from_fn(alloc, classes, value_at)
 }
 

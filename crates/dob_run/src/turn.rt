@@ -81,9 +81,9 @@ impl Runner {
             return Err(Cause::Held);
         }
         let halt = self.looks();
-        if halt != Halt::Running {
+        let Halt::Running = halt else {
             return Ok(halt);
-        }
+        };
         let did = self.work(rt, classes)?;
         self.ends_turn(did);
         Ok(self.mail.seat.halt)

@@ -19,10 +19,10 @@ impl Runner {
         self.mail.receive(rt);
         match self.node.reserve(self.mail.held_items()) {
             Ok(()) => {}
-            Err(why) => {
-                self.failed = Some(why);
+            Err(refused) => {
+                self.failed = Some(refused);
                 self.mail.fail();
-                return Err(why);
+                return Err(refused);
             }
         }
         let Some(batch) = self.mail.accept(self.set) else {

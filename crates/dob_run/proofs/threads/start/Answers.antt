@@ -23,8 +23,8 @@ returns-in_default g c =
     subst (λ (p : g.row.G.Denot × Until × Runner). EndsBy (g.G.Gate.says p.0) p.1 p.2 c.run-back.result)
     (λ i. ((back i).4.now, (back i).5.now, (back i).2)) c.run-back.ensures
 
-pub returns-in-Err : goal.returns-in-Err
-returns-in-Err g c =
+pub returns-in-None : goal.returns-in-None
+returns-in-None g c =
     let was : c.in-Err.handed_back.value.2 ≡ c.args.runner = λ i. (c.in-Err.ensures.err i).2 in
     ended_without_memory (g.G.Gate.says c.args.gate.now) c.args.until.now c.args.runner c.give_up.new.self
     (failed_after c.args.runner c.run-back.result c.give_up.new.self Memory (subst (λ (r : Runner). KeepsRunner r c.run-back.result) was c.run-back.ensures.0.0)

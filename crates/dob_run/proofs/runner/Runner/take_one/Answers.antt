@@ -34,8 +34,8 @@ invariant_of-self g c =
       some = r.some;
       at_most = r.at_most;
       going = λ running. absurd (c.fail.ensures.stopped running);
-      own = λ _ none. some_cause c.in-Err.why none;
-      agrees = agrees_failed c.reserve.new.self.failed c.in-Err.why c.in-Err.ensures.failed;
+      own = λ _ none. some_cause c.in-Err.refused none;
+      agrees = agrees_failed c.reserve.new.self.failed c.in-Err.refused c.in-Err.ensures.failed;
       lawful = λ _. unchanged_failed r.set r.size r.node c.reserve.new.self c.receive.new.self c.fail.new.self received
           c.reserve.ensures.unchanged c.reserve.ensures.sound c.fail.ensures.links c.fail.ensures.colour;
     }

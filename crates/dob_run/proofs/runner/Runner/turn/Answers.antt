@@ -21,7 +21,7 @@ pub returns-clause-turned : goal.returns-clause-turned
 returns-clause-turned g c =
     let worked : GoesOn c.looks-halt.new.self c.work.new.self = c.in_ok-did.ensures.goes in
     let ended : GoesRound c.work.new.self c.ends_turn.new.self = c.ends_turn.ensures in
-    let goes_on : c.looks-halt.result ≡ Running = search rules in
+    let goes_on : c.looks-halt.result ≡ Running = c.in-Running.is in
     record {
       keeps = runner_trans c.args.self.now c.work.new.self c.ends_turn.new.self
           (runner_trans c.args.self.now c.looks-halt.new.self c.work.new.self c.looks-halt.ensures.goes.keeps worked.keeps) ended.keeps;
@@ -32,3 +32,14 @@ returns-clause-turned g c =
       heard = c.looks-halt.ensures.heard;
       first = λ stopped. absurd (stopped (sym c.looks-halt.ensures.halt ∙ goes_on));
     }
+
+pub returns-in_default-clause-turned : goal.returns-in_default-clause-turned
+returns-in_default-clause-turned g c = record {
+  keeps = c.looks-halt.ensures.goes.keeps;
+  unfailed = c.looks-halt.ensures.goes.unfailed;
+  halt_is = c.looks-halt.ensures.halt;
+  looked = c.looks-halt.new.self.mail.seat;
+  same = c.looks-halt.ensures.goes.keeps.mail.seat;
+  heard = c.looks-halt.ensures.heard;
+  first = λ stopped. c.looks-halt.ensures.halt;
+}
