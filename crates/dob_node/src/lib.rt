@@ -2,6 +2,7 @@
 #![tactic(auto)]
 
 mod cause;
+mod entries;
 mod history;
 pub mod laws;
 mod lone;
@@ -12,6 +13,7 @@ mod taking;
 
 pub use cause::{Cause, Fault, Stopped};
 pub use dob_share::Opening;
+pub use entries::have_entries;
 pub use lone::alone;
 pub use node::{MAX_BATCHES, Node, Part};
 pub use openings::{opening, opening_at};

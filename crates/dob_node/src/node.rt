@@ -208,8 +208,8 @@ impl Node {
         Ok(true)
     }
 
-    /// Applies the items of a batch of the node's piece set and number of nodes, with values that a table can have, in order.
-    /// One for a class of another node doesn't fit. It makes its growths first.
+    /// Applies the items of a batch in order. The batch has to be of the node's piece set and number of nodes, and its items have to have
+    /// values that a table can have, which `have_entries` tests. An item for a class of another node doesn't fit. It makes its growths first.
     ///
     /// Errors, by which the node fails: `Memory`, which leaves it as it was, and never comes where there is room for as many items
     /// (`reserve`); after the others just the items before one are applied, as many as `taken` tells: `Contradiction` where it

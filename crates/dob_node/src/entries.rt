@@ -1,0 +1,32 @@
+// Which items a node takes of others: those with values that a table can have.
+ghost use Rattle.std.specs.Prelude.{◌↔◌, IsTrue};
+ghost use Rattle.std.specs.List.{All};
+ghost use Rattle.dob_value.specs.Follows.{IsEntry};
+ghost use Rattle.dob_node.specs.Takes.{HasEntries};
+
+use dob_share::Item;
+use dob_value::{MAX_DISTANCE, Value};
+
+/// Whether the values of each item, before and after, are such as a table can have: a draw, or a win in an odd or a loss in an even
+/// number of plies, of at most `MAX_DISTANCE`. `Node::apply_batch` takes no other items.
+pub fn have_entries(items: &[Item]) -> bool
+    ensures { IsTrue result ↔ All HasEntries items.now }
+{
+    for item in items {
+        if !is_entry(item.was) || !is_entry(item.now) {
+            return false;
+        }
+    }
+    true
+}
+
+// Whether a table can have the value.
+fn is_entry(value: Value) -> bool
+    ensures { IsTrue result ↔ IsEntry value }
+{
+    match value {
+        Value::Win(plies) => plies % 2 == 1 && plies <= MAX_DISTANCE,
+        Value::Loss(plies) => plies % 2 == 0 && plies <= MAX_DISTANCE,
+        Value::Draw => true,
+    }
+}
