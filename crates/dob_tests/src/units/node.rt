@@ -1,5 +1,5 @@
 // Nodes over lions alone, and over sets with one piece more, by values known from outside.
-ghost use Rattle.std.specs.Prelude.{◌≡◌, ◌<◌, ◌≤◌};
+ghost use Rattle.std.specs.Prelude.{◌≡◌, ◌<◌, ◌≤◌, None};
 ghost use Rattle.dob_node.specs.Nodes.{IsSound};
 
 use crate::sets::{classes_of, is_same_table, set_of};
@@ -137,6 +137,7 @@ fn stuck_cells(rt: HostRuntime) {
 fn one_of_two<A: Abort>(rt: &A, alloc: Global, classes: &Classes, id: usize) -> Node
     requires { id < 2 }
     ensures sound { IsSound result }
+    ensures going { result.failed ≡ None }
     ensures set { result.set ≡ classes.now.set }
     ensures id { result.id ≡ id }
     ensures n { result.n ≡ 2 }
@@ -196,10 +197,12 @@ fn send<A: Abort>(
     requires some { 0 < size }
     requires at_most { size ≤ 4096 }
     requires sound { IsSound node.old × IsSound receiver.old }
+    requires going { (node.old.failed ≡ None) × (receiver.old.failed ≡ None) }
     requires set { node.old.set ≡ receiver.old.set }
     requires n { (node.old.n ≡ 2) × (receiver.old.n ≡ 2) }
     requires id { receiver.old.id ≡ to }
     ensures sound { IsSound node.new × IsSound receiver.new }
+    ensures going { (node.new.failed ≡ None) × (receiver.new.failed ≡ None) }
     ensures set { (node.new.set ≡ node.old.set) × (receiver.new.set ≡ receiver.old.set) }
     ensures n { (node.new.n ≡ 2) × (receiver.new.n ≡ 2) }
     ensures id { (node.new.id ≡ node.old.id) × (receiver.new.id ≡ to) }
@@ -227,10 +230,12 @@ fn step<A: Abort>(
     requires some { 0 < size }
     requires at_most { size ≤ 4096 }
     requires sound { IsSound node.old × IsSound receiver.old }
+    requires going { (node.old.failed ≡ None) × (receiver.old.failed ≡ None) }
     requires set { (node.old.set ≡ classes.now.set) × (receiver.old.set ≡ classes.now.set) }
     requires n { (node.old.n ≡ 2) × (receiver.old.n ≡ 2) }
     requires id { receiver.old.id ≡ to }
     ensures sound { IsSound node.new × IsSound receiver.new }
+    ensures going { (node.new.failed ≡ None) × (receiver.new.failed ≡ None) }
     ensures set { (node.new.set ≡ classes.now.set) × (receiver.new.set ≡ classes.now.set) }
     ensures n { (node.new.n ≡ 2) × (receiver.new.n ≡ 2) }
     ensures id { (node.new.id ≡ node.old.id) × (receiver.new.id ≡ to) }
@@ -262,6 +267,7 @@ fn run<A: Abort>(
     requires some { 0 < size }
     requires at_most { size ≤ 4096 }
     requires sound { IsSound first.old × IsSound second.old }
+    requires going { (first.old.failed ≡ None) × (second.old.failed ≡ None) }
     requires set { (first.old.set ≡ classes.now.set) × (second.old.set ≡ classes.now.set) }
     requires n { (first.old.n ≡ 2) × (second.old.n ≡ 2) }
     requires id { (first.old.id ≡ 0) × (second.old.id ≡ 1) }

@@ -2,8 +2,8 @@
 // boards that they are read from.
 ghost use Rattle.std.specs.Prelude.{◌<◌};
 
-use dob_pieces::{PieceSet, Position};
 use crate::positions::position as position_of;
+use dob_pieces::{PieceSet, Position};
 use dob_probe::{Fault, Group, OtherSet, check, line, probe, statistics, valued_moves};
 use dob_rank::{size, unrank};
 use dob_text::write_move;
@@ -106,8 +106,14 @@ const MOVES: [(&str, &str); 5] = [
         ".l./.../.../.L. - -",
         "Lb1-b2 win 5; Lb1-a2 draw 0; Lb1-c2 draw 0; Lb1-a1 loss 8; Lb1-c1 loss 8; ",
     ),
-    ("..l/.../L../... - -", "La2-a3 win 3; La2-b2 draw 0; La2-a1 loss 8; La2-b1 loss 6; La2-b3 loss 2; "),
-    (".../.../..l/L.. - -", "La1-b1 loss 2; La1-a2 loss 2; La1-b2 loss 2; "),
+    (
+        "..l/.../L../... - -",
+        "La2-a3 win 3; La2-b2 draw 0; La2-a1 loss 8; La2-b1 loss 6; La2-b3 loss 2; ",
+    ),
+    (
+        ".../.../..l/L.. - -",
+        "La1-b1 loss 2; La1-a2 loss 2; La1-b2 loss 2; ",
+    ),
     (".../.l./.L./... - -", "Lb2xb3 win 1; "),
     (".../L../.../..l - -", ""),
 ];
@@ -116,9 +122,17 @@ const MOVES: [(&str, &str); 5] = [
 fn moves_best_first(rt: HostRuntime) -> Result<(), Fail> {
     let table = sweep_table(rt.alloc(), NO_PIECES)?;
     for (text, told) in &MOVES {
-        assert!(rt; moves_told(&rt, rt.alloc(), &table, text)?.as_str() == *told, "of {text}");
+        assert!(rt;
+            moves_told(&rt, rt.alloc(), &table, text)?.as_str() == *told,
+            "of {text}"
+        );
     }
     let other = position(&rt, ONE_CHICK, 0);
-    assert!(rt; matches!(valued_moves(rt.alloc(), &table, &other), Err(Fault::OtherSet)));
+    assert!(rt;
+        matches!(
+            valued_moves(rt.alloc(), &table, &other),
+            Err(Fault::OtherSet)
+        )
+    );
     Ok(())
 }

@@ -1,6 +1,8 @@
 // Texts that are read and written back, texts that are refused, and moves as text.
 ghost use Rattle.std.specs.Prelude.{◌<◌};
 
+mod drawings;
+
 use dob_moves::Move;
 use dob_pieces::{Hand, HandKind, Kind, Memory, Piece, Profile, Side, Square};
 use dob_text::{TextFault, read_position, read_position_in, write_move, write_position};

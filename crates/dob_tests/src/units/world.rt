@@ -4,6 +4,7 @@ ghost use Rattle.dob_world.specs.Shown.{IsStanding, IsKept};
 
 mod ring;
 mod schedules;
+mod stops;
 
 use crate::sets::{is_same_table, set_of};
 use dob_pieces::PieceSet;

@@ -1,11 +1,13 @@
--- The nodes are those of one set, and sound.
+-- The nodes are those of one set, sound, and haven't failed.
 use Rattle.std.proofs.Common.{◌≡◌}
+use Rattle.std.specs.Prelude.{None}
 use Rattle.dob_node.specs.Nodes.{IsSound}
 use Rattle.dob_tests.proofs.units.node.run.Given as goal
 
 abbrev pub invariant-loop-round : goal.invariant-loop-round
 invariant-loop-round g l = record {
   sound : IsSound l.first × IsSound l.second;
+  going : (l.first.failed ≡ None) × (l.second.failed ≡ None);
   set : (l.first.set ≡ l.classes.set) × (l.second.set ≡ l.classes.set);
   n : (l.first.n ≡ 2) × (l.second.n ≡ 2);
   id : (l.first.id ≡ 0) × (l.second.id ≡ 1);
