@@ -1,5 +1,5 @@
-// A world that stops. `rt try --test --fail-alloc 1.. -- stopped_world` refuses it each growth in turn; with none refused it comes to its
-// end.
+// A world that stops. `rt try --test --fail-alloc N -- stopped_world` refuses the growth of that number; with none refused the world
+// comes to its end.
 ghost use Rattle.dob_world.specs.Shown.{IsKept};
 
 use crate::sets::set_of;
