@@ -4,7 +4,7 @@ ghost use Rattle.std.specs.Prelude.{◌<◌};
 
 use crate::positions::position as position_of;
 use dob_pieces::{PieceSet, Position};
-use dob_probe::{Fault, Group, OtherSet, check, line, probe, statistics, valued_moves};
+use dob_probe::{Fault, OtherSet, check, line, probe, statistics, valued_moves};
 use dob_rank::{size, unrank};
 use dob_text::write_move;
 use dob_value::{Table, Value, sweep_table, sweep_value};
