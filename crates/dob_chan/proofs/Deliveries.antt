@@ -115,8 +115,7 @@ begins = record {
   of_senders = λ k d below. absurd (omega (arith, below));
   few = λ from. omega arith;
   each = each_set (λ pass v. FitsSender 0 (λ _. none) [] [] pass v × FitsTaker 0 0 (λ _. none) [] [] pass v) (taking 0 0 [] [] untold ∷ []) 0
-      (taking 0 0 [] [] untold)
-      (
+      (taking 0 0 [] [] untold) (
         (λ p. absurd (true≢false (sym p))),
         λ _. (
           refl,
@@ -219,8 +218,7 @@ one_taken port v x items views may h at =
       of_senders = h.of_senders;
       few = h.few;
       each = each_set (λ pass y. FitsSender h.senders h.seat h.sent taken pass y × FitsTaker h.senders h.taker h.seat h.sent taken pass y) views port
-          (taking v.senders v.opened (v.taken ++ x ∷ []) v.ended (told_next h.sent h.taken x))
-          (
+          (taking v.senders v.opened (v.taken ++ x ∷ []) v.ended (told_next h.sent h.taken x)) (
             (λ p. absurd (true≢false (sym p))),
             λ _. (mine.0, mine.1, ap (λ l. l ++ x ∷ []) mine.2, mine.3, mine.4, mine.5, mine.6, (begins_it h.sent, begins_it taken)),
           )

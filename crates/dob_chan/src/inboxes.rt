@@ -145,7 +145,7 @@ impl TakeEnd {
         ensures next { MatchOption result
             ((taken_by self.new ≡ taken_by self.old) × (take_told self.new ≡ take_told self.old) × WasEmpty (taken_by self.old) (take_told self.old))
             (λ batch. (batch.from < senders_of self.old) × (taken_by self.new ≡ taken_by self.old ++ batch ∷ [])
-                × HasTaken (taken_by self.new) (take_told self.old) (take_told self.new)) }
+            × HasTaken (taken_by self.new) (take_told self.old) (take_told self.new)) }
     {
         let batch = self.inbox.pop_as::<Takes, R>(rt, &mut self.pass)?;
         self.taken[batch.from()] += 1;

@@ -43,7 +43,11 @@ impl Table {
     /// numbers.
     ///
     /// Error: `Memory`.
-    pub fn from_fn<F: Fn(u64) -> Value>(alloc: Global, classes: Classes, value_at: F) -> Result<Table, Memory>
+    pub fn from_fn<F: Fn(u64) -> Value>(
+        alloc: Global,
+        classes: Classes,
+        value_at: F,
+    ) -> Result<Table, Memory>
         requires asked { (class : ℕ) → class < classes_of classes.set → F.pre value_at class }
         requires entries { (class : ℕ) (value : Value) → class < classes_of classes.set → F.post value_at class value → IsEntry value }
         ensures set { IfOk result (λ table. table.set ≡ classes.set) }

@@ -34,9 +34,7 @@ impl World {
             requires low { class < classes_of self.now.classes.set }
             ensures value { result ≡ value_in self.entry.now.n (state_of self.entry.now).world.nodes class }
             ensures entry { IsEntry result }
-        {
-            self.value_of(class)
-        };
+        { self.value_of(class) };
         Table::from_fn(self.alloc, classes, value_at)
     }
 
