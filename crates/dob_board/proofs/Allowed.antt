@@ -9,7 +9,7 @@ use Rattle.dob_board.specs.declared.view.Stand.{Stand}
 use Rattle.dob_board.specs.declared.view.View.{View}
 use Rattle.dob_board.specs.Words.{posted_word, taken_word}
 use Rattle.dob_board.specs.Views.{one, posts_more, takes_more, sees}
-use Rattle.dob_board.specs.Histories.{Makes, Hears, HasPosted}
+use Rattle.dob_board.specs.Histories.{MakesEvent, Observes, HasPosted}
 use Rattle.dob_board.specs.Rule.{IsHeld}
 use Rattle.dob_board.specs.Plays.{Posted, Looked, Took}
 use Rattle.dob_board.proofs.Places.{posted_place, taken_place}
@@ -27,16 +27,16 @@ pub same_stand : (one other : Stand) → one ∷ [] ≡ other ∷ [] → one ≡
 same_stand one other e = cc
 
 abbrev pub seated : ℕ → ℕ → Stand → List RingEvent → Seated
-seated n i stand told = (one n i stand told, [])
+seated n i stand witnessed = (one n i stand witnessed, [])
 
 -- ---- post
 
-posts_allows : (n i j id slots : ℕ) (stand : Stand) (told : List RingEvent) → j < n → j ≢ i → stand.black ≡ true → slice_index stand.posted j < 2 ^ 40 →
-    Allows (Held n) slots id (seated n i stand told) (posted_word n i j) (λ x. (x + 1) % 2 ^ 64)
-    (Posted (step slots (posted_word n i j) 1 0 none) (seated n i stand told))
-posts_allows n i j id slots stand told j_in other is_black room s held len at small =
-    let made = posts n i j id s.words s.views stand told held at j_in other is_black room in
-    let mine = own_node n i id s.words s.views stand told held at in
+posts_allows : (n i j id slots : ℕ) (stand : Stand) (witnessed : List RingEvent) → j < n → j ≢ i → stand.black ≡ true → slice_index stand.posted j < 2 ^ 40 →
+    Allows (Held n) slots id (seated n i stand witnessed) (posted_word n i j) (λ x. (x + 1) % 2 ^ 64)
+    (Posted (step slots (posted_word n i j) 1 0 none) (seated n i stand witnessed))
+posts_allows n i j id slots stand witnessed j_in other is_black room s held len at small =
+    let made = posts n i j id s.words s.views stand witnessed held at j_in other is_black room in
+    let mine = own_node n i id s.words s.views stand witnessed held at in
     let x : ℕ = slice_index s.words (posted_word n i j) in
     let fits : (x + 1) % 2 ^ 64 ≡ suc x = omega (arith, mine.is_stand.shows.posted j j_in, room) in
     let log = held.log in (
@@ -49,23 +49,23 @@ posts_allows n i j id slots stand told j_in other is_black room s held len at sm
           let stand_is : stand ≡ stand' = same_stand stand stand' stands in
           subst
           (λ (p : ℕ × Stand). (seated n i (posts_more stand j) (Post i j ∷ log) ≡ seated n i (posts_more p.1 p.0) (Post i j ∷ log))
-          × Makes n i (Post i p.0) p.1 (posts_more p.1 p.0) told (Post i j ∷ log))
+          × MakesEvent n i (Post i p.0) p.1 (posts_more p.1 p.0) witnessed (Post i j ∷ log))
           (λ q. (j_is q, stand_is q)) (refl, made.1),
     )
 
-pub posts_call : (key n i j id slots word : ℕ) (me : Seated) (stand : Stand) (told : List RingEvent) → key ≡ n → me ≡ seated n i stand told
+pub posts_call : (key n i j id slots word : ℕ) (me : Seated) (stand : Stand) (witnessed : List RingEvent) → key ≡ n → me ≡ seated n i stand witnessed
     → word ≡ posted_word n i j →
     j < n → j ≢ i → stand.black ≡ true → slice_index stand.posted j < 2 ^ 40 →
     Allows (Held key) slots id me word (λ x. (x + 1) % 2 ^ 64) (Posted (step slots word 1 0 none) me)
-posts_call key n i j id slots word me stand told key_is me_is word_is j_in other is_black room =
+posts_call key n i j id slots word me stand witnessed key_is me_is word_is j_in other is_black room =
     subst (λ (p : ℕ × Seated × ℕ). Allows (Held p.0) slots id p.1 p.2 (λ x. (x + 1) % 2 ^ 64) (Posted (step slots p.2 1 0 none) p.1))
-    (λ q. (sym key_is q, sym me_is q, sym word_is q)) (posts_allows n i j id slots stand told j_in other is_black room)
+    (λ q. (sym key_is q, sym me_is q, sym word_is q)) (posts_allows n i j id slots stand witnessed j_in other is_black room)
 
-pub posts_tell : (n i j word found : ℕ) (me after : Seated) (stand : Stand) (told : List RingEvent) → me ≡ seated n i stand told → word ≡ posted_word n i j
+pub posts_tell : (n i j word found : ℕ) (me after : Seated) (stand : Stand) (witnessed : List RingEvent) → me ≡ seated n i stand witnessed → word ≡ posted_word n i j
     → j < n →
     Posted (step 0 word 1 0 none) me found after →
-    (after ≡ seated n i (posts_more stand j) after.0.told) × Makes n i (Post i j) stand (posts_more stand j) told after.0.told
-posts_tell n i j word found me after stand told me_is word_is j_in tells =
+    (after ≡ seated n i (posts_more stand j) after.0.witnessed) × MakesEvent n i (Post i j) stand (posts_more stand j) witnessed after.0.witnessed
+posts_tell n i j word found me after stand witnessed me_is word_is j_in tells =
     (subst (λ (p : Seated × ℕ). Posted (step 0 p.1 1 0 none) p.0 found after) (λ q. (me_is q, word_is q)) tells) j stand j_in refl refl
 
 pub same_default : (xs : List ℕ) (j d e : ℕ) → j < length xs → get_or xs j d ≡ get_or xs j e
@@ -85,17 +85,17 @@ set_same [] k = refl
 set_same (x ∷ xs) zero = refl
 set_same (x ∷ xs) (suc k) = ap (λ (ys : List ℕ). x ∷ ys) (set_same xs k)
 
-looks_allows : (n i j id slots : ℕ) (stand : Stand) (told : List RingEvent) → i < n → j < n →
-    Allows (Held n) slots id (seated n i stand told) (posted_word n j i) (λ x. x) (Looked (step slots (posted_word n j i) 0 0 none) (seated n i stand told))
-looks_allows n i j id slots stand told i_in j_in s held len at small =
-    let seen = looks n i j id s.words s.views stand told held at j_in in
+looks_allows : (n i j id slots : ℕ) (stand : Stand) (witnessed : List RingEvent) → i < n → j < n →
+    Allows (Held n) slots id (seated n i stand witnessed) (posted_word n j i) (λ x. x) (Looked (step slots (posted_word n j i) 0 0 none) (seated n i stand witnessed))
+looks_allows n i j id slots stand witnessed i_in j_in s held len at small =
+    let seen = looks n i j id s.words s.views stand witnessed held at j_in in
     let log = held.log in
     let number : ℕ = slice_index s.words (posted_word n j i) in
     let after : View = one n i (sees stand j number) log in
     let holds : IsHeld n s.words (slice_set s.views id after) =
     subst (λ (x : ℕ). IsHeld n s.words (slice_set s.views id (one n i (sees stand j x) log))) seen.1 seen.2 in
-    let heard : Hears n i (sees stand j number) told log (HasPosted j i number) =
-    subst (λ (x : ℕ). Hears n i (sees stand j x) told log (HasPosted j i x)) seen.1 seen.5 in (
+    let observed : Observes n i (sees stand j number) witnessed log (HasPosted j i number) =
+    subst (λ (x : ℕ). Observes n i (sees stand j x) witnessed log (HasPosted j i x)) seen.1 seen.5 in (
       after,
       keeps,
       tt,
@@ -104,33 +104,33 @@ looks_allows n i j id slots stand told i_in j_in s held len at small =
           let j_is : j ≡ k = (posted_place n j i k i i_in i_in place).0 in
           let stand_is : stand ≡ stand' = same_stand stand stand' stands in
           subst (λ (p : ℕ × Stand). (seated n i (sees stand j number) log ≡ seated n i (sees p.1 p.0 number) log)
-          × (slice_index p.1.seen p.0 ≤ number) × (slice_index p.1.taken p.0 ≤ number) × Hears n i (sees p.1 p.0 number) told log (HasPosted p.0 i number))
-          (λ q. (j_is q, stand_is q)) (refl, omega (arith, seen.1, seen.3), omega (arith, seen.1, seen.4), heard),
+          × (slice_index p.1.seen p.0 ≤ number) × (slice_index p.1.taken p.0 ≤ number) × Observes n i (sees p.1 p.0 number) witnessed log (HasPosted p.0 i number))
+          (λ q. (j_is q, stand_is q)) (refl, omega (arith, seen.1, seen.3), omega (arith, seen.1, seen.4), observed),
     )
 
-pub looks_call : (key n i j id slots word : ℕ) (me : Seated) (stand : Stand) (told : List RingEvent) → key ≡ n → me ≡ seated n i stand told
+pub looks_call : (key n i j id slots word : ℕ) (me : Seated) (stand : Stand) (witnessed : List RingEvent) → key ≡ n → me ≡ seated n i stand witnessed
     → word ≡ posted_word n j i →
     i < n → j < n → Allows (Held key) slots id me word (λ x. x) (Looked (step slots word 0 0 none) me)
-looks_call key n i j id slots word me stand told key_is me_is word_is i_in j_in =
+looks_call key n i j id slots word me stand witnessed key_is me_is word_is i_in j_in =
     subst (λ (p : ℕ × Seated × ℕ). Allows (Held p.0) slots id p.1 p.2 (λ x. x) (Looked (step slots p.2 0 0 none) p.1))
-    (λ q. (sym key_is q, sym me_is q, sym word_is q)) (looks_allows n i j id slots stand told i_in j_in)
+    (λ q. (sym key_is q, sym me_is q, sym word_is q)) (looks_allows n i j id slots stand witnessed i_in j_in)
 
-pub looks_tell : (n i j word found : ℕ) (me after : Seated) (stand : Stand) (told : List RingEvent) → me ≡ seated n i stand told → word ≡ posted_word n j i
+pub looks_tell : (n i j word found : ℕ) (me after : Seated) (stand : Stand) (witnessed : List RingEvent) → me ≡ seated n i stand witnessed → word ≡ posted_word n j i
     → j < n →
     Looked (step 0 word 0 0 none) me found after →
-    (after ≡ seated n i (sees stand j found) after.0.told) × (slice_index stand.seen j ≤ found) × (slice_index stand.taken j ≤ found)
-    × Hears n i (sees stand j found) told after.0.told (HasPosted j i found)
-looks_tell n i j word found me after stand told me_is word_is j_in tells =
+    (after ≡ seated n i (sees stand j found) after.0.witnessed) × (slice_index stand.seen j ≤ found) × (slice_index stand.taken j ≤ found)
+    × Observes n i (sees stand j found) witnessed after.0.witnessed (HasPosted j i found)
+looks_tell n i j word found me after stand witnessed me_is word_is j_in tells =
     (subst (λ (p : Seated × ℕ). Looked (step 0 p.1 0 0 none) p.0 found after) (λ q. (me_is q, word_is q)) tells) j stand j_in refl refl
 
 -- ---- take
 
-takes_allows : (n i j id slots : ℕ) (stand : Stand) (told : List RingEvent) → i < n → j < n → slice_index stand.taken j < slice_index stand.seen j →
-    Allows (Held n) slots id (seated n i stand told) (taken_word n j i) (λ x. (x + 1) % 2 ^ 64)
-    (Took (step slots (taken_word n j i) 1 0 none) (seated n i stand told))
-takes_allows n i j id slots stand told i_in j_in waiting s held len at small =
-    let made = takes n i j id s.words s.views stand told held at j_in waiting in
-    let mine = own_node n i id s.words s.views stand told held at in
+takes_allows : (n i j id slots : ℕ) (stand : Stand) (witnessed : List RingEvent) → i < n → j < n → slice_index stand.taken j < slice_index stand.seen j →
+    Allows (Held n) slots id (seated n i stand witnessed) (taken_word n j i) (λ x. (x + 1) % 2 ^ 64)
+    (Took (step slots (taken_word n j i) 1 0 none) (seated n i stand witnessed))
+takes_allows n i j id slots stand witnessed i_in j_in waiting s held len at small =
+    let made = takes n i j id s.words s.views stand witnessed held at j_in waiting in
+    let mine = own_node n i id s.words s.views stand witnessed held at in
     let x : ℕ = slice_index s.words (taken_word n j i) in
     let fits : (x + 1) % 2 ^ 64 ≡ suc x = omega (arith, held.lawful.in_order j i j_in i_in, held.lawful.few j i j_in i_in) in
     let log = held.log in (
@@ -142,21 +142,21 @@ takes_allows n i j id slots stand told i_in j_in waiting s held len at small =
           let j_is : j ≡ k = (taken_place n j i k i i_in i_in place).0 in
           let stand_is : stand ≡ stand' = same_stand stand stand' stands in
           subst (λ (p : ℕ × Stand). (seated n i (takes_more stand j) (Take j i ∷ log) ≡ seated n i (takes_more p.1 p.0) (Take j i ∷ log))
-          × Makes n i (Take p.0 i) p.1 (takes_more p.1 p.0) told (Take j i ∷ log))
+          × MakesEvent n i (Take p.0 i) p.1 (takes_more p.1 p.0) witnessed (Take j i ∷ log))
           (λ q. (j_is q, stand_is q)) (refl, made.1),
     )
 
-pub takes_call : (key n i j id slots word : ℕ) (me : Seated) (stand : Stand) (told : List RingEvent) → key ≡ n → me ≡ seated n i stand told
+pub takes_call : (key n i j id slots word : ℕ) (me : Seated) (stand : Stand) (witnessed : List RingEvent) → key ≡ n → me ≡ seated n i stand witnessed
     → word ≡ taken_word n j i →
     i < n → j < n → slice_index stand.taken j < slice_index stand.seen j
     → Allows (Held key) slots id me word (λ x. (x + 1) % 2 ^ 64) (Took (step slots word 1 0 none) me)
-takes_call key n i j id slots word me stand told key_is me_is word_is i_in j_in waiting =
+takes_call key n i j id slots word me stand witnessed key_is me_is word_is i_in j_in waiting =
     subst (λ (p : ℕ × Seated × ℕ). Allows (Held p.0) slots id p.1 p.2 (λ x. (x + 1) % 2 ^ 64) (Took (step slots p.2 1 0 none) p.1))
-    (λ q. (sym key_is q, sym me_is q, sym word_is q)) (takes_allows n i j id slots stand told i_in j_in waiting)
+    (λ q. (sym key_is q, sym me_is q, sym word_is q)) (takes_allows n i j id slots stand witnessed i_in j_in waiting)
 
-pub takes_tell : (n i j word found : ℕ) (me after : Seated) (stand : Stand) (told : List RingEvent) → me ≡ seated n i stand told → word ≡ taken_word n j i
+pub takes_tell : (n i j word found : ℕ) (me after : Seated) (stand : Stand) (witnessed : List RingEvent) → me ≡ seated n i stand witnessed → word ≡ taken_word n j i
     → j < n →
     Took (step 0 word 1 0 none) me found after →
-    (after ≡ seated n i (takes_more stand j) after.0.told) × Makes n i (Take j i) stand (takes_more stand j) told after.0.told
-takes_tell n i j word found me after stand told me_is word_is j_in tells =
+    (after ≡ seated n i (takes_more stand j) after.0.witnessed) × MakesEvent n i (Take j i) stand (takes_more stand j) witnessed after.0.witnessed
+takes_tell n i j word found me after stand witnessed me_is word_is j_in tells =
     (subst (λ (p : Seated × ℕ). Took (step 0 p.1 1 0 none) p.0 found after) (λ q. (me_is q, word_is q)) tells) j stand j_in refl refl

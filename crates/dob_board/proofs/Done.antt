@@ -7,12 +7,12 @@ use Rattle.atomic_table.specs.Table.{step}
 use Rattle.dob_safra.specs.declared.token.Token.{Token}
 use Rattle.dob_safra.specs.declared.event.RingEvent.{RingEvent}
 use Rattle.dob_safra.specs.declared.event.RingEvent.TheVariants.{Post, Take}
-use Rattle.dob_safra.specs.Rings.{Ring, IsLawful}
+use Rattle.dob_safra.specs.Rings.{Ring, IsLawfulRing}
 use Rattle.dob_board.specs.declared.halt.Halt.{Halt}
 use Rattle.dob_board.specs.declared.view.Stand.{Stand}
 use Rattle.dob_board.specs.Words.{posted_word, taken_word}
 use Rattle.dob_board.specs.Views.{Shows, sees, stand_from}
-use Rattle.dob_board.specs.Histories.{GoesOn, Makes}
+use Rattle.dob_board.specs.Histories.{GoesOn, MakesEvent}
 use Rattle.dob_board.specs.Plays.{Posted, Took}
 use Rattle.dob_board.proofs.Allowed.{Seated, seated, posts_tell, takes_tell, one_more, same_default}
 
@@ -21,77 +21,77 @@ pub record FewCounts (n : ℕ) (stand : Stand) : Type 0 where
   pub posted : (k : ℕ) → k < n → slice_index stand.posted k ≤ 2 ^ 40
   pub taken : (k : ℕ) → k < n → slice_index stand.taken k ≤ 2 ^ 40
 
-pub makes_few : (n i : ℕ) (event : RingEvent) (before after : Stand) (told now : List RingEvent) → i < n → Makes n i event before after told now
+pub makes_few : (n i : ℕ) (event : RingEvent) (before after : Stand) (witnessed now : List RingEvent) → i < n → MakesEvent n i event before after witnessed now
     → FewCounts n after
-makes_few n i event before after told now i_in made = record {
+makes_few n i event before after witnessed now i_in made = record {
   posted = λ k k_in. omega (arith, made.shows_after.posted k k_in, made.is_lawful.few i k i_in k_in);
   taken = λ k k_in. omega (arith, made.shows_after.taken k k_in, made.is_lawful.in_order k i k_in i_in, made.is_lawful.few k i k_in i_in);
 }
 
 -- a node that knows that the end was announced is white
-pub white_shown : (n i : ℕ) (ring : Ring) (stand : Stand) → i < n → IsLawful n ring → Shows n ring i stand → stand.halt ≡ 1 → stand.black ≡ false
+pub white_shown : (n i : ℕ) (ring : Ring) (stand : Stand) → i < n → IsLawfulRing n ring → Shows n ring i stand → stand.halt ≡ 1 → stand.black ≡ false
 white_shown n i ring stand i_in lawful shows ended = shows.colour ∙ lawful.all_white (shows.ended ended) i i_in
 
 -- and takes nothing
-pub takes_before : (n i j : ℕ) (before after : Stand) (told now : List RingEvent) → Makes n i (Take j i) before after told now → before.halt ≢ 1
-takes_before n i j before after told now made ended =
+pub takes_before : (n i j : ℕ) (before after : Stand) (witnessed now : List RingEvent) → MakesEvent n i (Take j i) before after witnessed now → before.halt ≢ 1
+takes_before n i j before after witnessed now made ended =
     let announced : made.old.announced ≡ true = made.shows_before.ended ended in
     let going : made.old.announced ≡ false = made.in_time in
     cc
 
 -- the seat's view after a step, and the event that it made
-pub record Stepped (n i : ℕ) (event : RingEvent) (before after : Stand) (told : List RingEvent) (me : Seated) : Type 0 where
-  pub view_is : me ≡ seated n i after me.0.told
-  pub made : Makes n i event before after told me.0.told
+pub record Stepped (n i : ℕ) (event : RingEvent) (before after : Stand) (witnessed : List RingEvent) (me : Seated) : Type 0 where
+  pub view_is : me ≡ seated n i after me.0.witnessed
+  pub made : MakesEvent n i event before after witnessed me.0.witnessed
   pub few : FewCounts n after
 
 pub posts_done : (n i j word found x : ℕ) (me after : Seated) (posted taken seen : List ℕ) (black : Bool) (token : Option Token) (halt : Halt)
-    (told : List RingEvent) →
-    me ≡ seated n i (stand_from posted taken seen black token halt) told → word ≡ posted_word n i j → i < n → j < n → length posted ≡ n
+    (witnessed : List RingEvent) →
+    me ≡ seated n i (stand_from posted taken seen black token halt) witnessed → word ≡ posted_word n i j → i < n → j < n → length posted ≡ n
     → x ≡ get_or posted j x →
     Posted (step 0 word 1 0 none) me found after →
-    Stepped n i (Post i j) (stand_from posted taken seen black token halt) (stand_from (set posted j (x + 1)) taken seen black token halt) told after
-posts_done n i j word found x me after posted taken seen black token halt told me_is word_is i_in j_in long x_is tells =
+    Stepped n i (Post i j) (stand_from posted taken seen black token halt) (stand_from (set posted j (x + 1)) taken seen black token halt) witnessed after
+posts_done n i j word found x me after posted taken seen black token halt witnessed me_is word_is i_in j_in long x_is tells =
     let stand : List ℕ → Stand = λ xs. stand_from xs taken seen black token halt in
-    let told' = posts_tell n i j word found me after (stand posted) told me_is word_is j_in tells in
+    let witnessed' = posts_tell n i j word found me after (stand posted) witnessed me_is word_is j_in tells in
     let raised : set posted j (x + 1) ≡ set posted j (suc (get_or posted j 0)) = one_more posted j x (omega (arith, long, j_in)) x_is in
-    let made : Makes n i (Post i j) (stand posted) (stand (set posted j (x + 1))) told after.0.told =
-    subst (λ (xs : List ℕ). Makes n i (Post i j) (stand posted) (stand xs) told after.0.told) (sym raised) told'.1 in
+    let made : MakesEvent n i (Post i j) (stand posted) (stand (set posted j (x + 1))) witnessed after.0.witnessed =
+    subst (λ (xs : List ℕ). MakesEvent n i (Post i j) (stand posted) (stand xs) witnessed after.0.witnessed) (sym raised) witnessed'.1 in
     record {
-      view_is = told'.0 ∙ ap (λ (xs : List ℕ). seated n i (stand xs) after.0.told) (sym raised);
+      view_is = witnessed'.0 ∙ ap (λ (xs : List ℕ). seated n i (stand xs) after.0.witnessed) (sym raised);
       made = made;
-      few = makes_few n i (Post i j) (stand posted) (stand (set posted j (x + 1))) told after.0.told i_in made;
+      few = makes_few n i (Post i j) (stand posted) (stand (set posted j (x + 1))) witnessed after.0.witnessed i_in made;
     }
 
 pub takes_done : (n i j word found x : ℕ) (me after : Seated) (posted taken seen : List ℕ) (black : Bool) (token : Option Token) (halt : Halt)
-    (told : List RingEvent) →
-    me ≡ seated n i (stand_from posted taken seen black token halt) told → word ≡ taken_word n j i → i < n → j < n → length taken ≡ n → x ≡ get_or taken j x →
+    (witnessed : List RingEvent) →
+    me ≡ seated n i (stand_from posted taken seen black token halt) witnessed → word ≡ taken_word n j i → i < n → j < n → length taken ≡ n → x ≡ get_or taken j x →
     Took (step 0 word 1 0 none) me found after →
-    Stepped n i (Take j i) (stand_from posted taken seen black token halt) (stand_from posted (set taken j (x + 1)) seen true token halt) told after
-takes_done n i j word found x me after posted taken seen black token halt told me_is word_is i_in j_in long x_is tells =
+    Stepped n i (Take j i) (stand_from posted taken seen black token halt) (stand_from posted (set taken j (x + 1)) seen true token halt) witnessed after
+takes_done n i j word found x me after posted taken seen black token halt witnessed me_is word_is i_in j_in long x_is tells =
     let stand : Stand = stand_from posted taken seen black token halt in
     let new : List ℕ → Stand = λ xs. stand_from posted xs seen true token halt in
-    let told' = takes_tell n i j word found me after stand told me_is word_is j_in tells in
+    let witnessed' = takes_tell n i j word found me after stand witnessed me_is word_is j_in tells in
     let raised : set taken j (x + 1) ≡ set taken j (suc (get_or taken j 0)) = one_more taken j x (omega (arith, long, j_in)) x_is in
-    let made : Makes n i (Take j i) stand (new (set taken j (x + 1))) told after.0.told =
-    subst (λ (xs : List ℕ). Makes n i (Take j i) stand (new xs) told after.0.told) (sym raised) told'.1 in
+    let made : MakesEvent n i (Take j i) stand (new (set taken j (x + 1))) witnessed after.0.witnessed =
+    subst (λ (xs : List ℕ). MakesEvent n i (Take j i) stand (new xs) witnessed after.0.witnessed) (sym raised) witnessed'.1 in
     record {
-      view_is = told'.0 ∙ ap (λ (xs : List ℕ). seated n i (new xs) after.0.told) (sym raised);
+      view_is = witnessed'.0 ∙ ap (λ (xs : List ℕ). seated n i (new xs) after.0.witnessed) (sym raised);
       made = made;
-      few = makes_few n i (Take j i) stand (new (set taken j (x + 1))) told after.0.told i_in made;
+      few = makes_few n i (Take j i) stand (new (set taken j (x + 1))) witnessed after.0.witnessed i_in made;
     }
 
--- what was told is told still
+-- what was witnessed is witnessed still
 pub goes_on : (first middle last : List RingEvent) → GoesOn first middle → GoesOn middle last → GoesOn first last
 goes_on first middle last on further =
     (further.0 ++ on.0, further.1 ∙ ap (λ (l : List RingEvent). further.0 ++ l) on.1 ∙ sym (append_assoc further.0 on.0 first))
 
 -- a look before an event changes neither counts nor colour
-pub makes_later : (n i j number : ℕ) (event : RingEvent) (stand after : Stand) (told middle now : List RingEvent) → GoesOn told middle →
-    Makes n i event (sees stand j number) after middle now → Makes n i event stand after told now
-makes_later n i j number event stand after told middle now on made = record {
+pub makes_later : (n i j number : ℕ) (event : RingEvent) (stand after : Stand) (witnessed middle now : List RingEvent) → GoesOn witnessed middle →
+    MakesEvent n i event (sees stand j number) after middle now → MakesEvent n i event stand after witnessed now
+makes_later n i j number event stand after witnessed middle now on made = record {
   log = made.log;
-  went_on = goes_on told middle made.log on made.went_on;
+  went_on = goes_on witnessed middle made.log on made.went_on;
   is_next = made.is_next;
   old = made.old;
   new = made.new;

@@ -26,8 +26,8 @@ use Rattle.dob_board.specs.declared.seat.NodeSeat.{NodeSeat}
 use Rattle.dob_board.specs.declared.board.Closed.{Closed}
 use Rattle.dob_board.specs.Histories.{GoesOn}
 use Rattle.dob_board.specs.Rule.{fresh}
-use Rattle.dob_board.specs.Seats.{stand_of, told_of, log_of, IsSeatOf, AreSeats, AreWords, IsHistory}
-use Rattle.dob_board.specs.Boards.{joined, nobody, behind, gathered, closed_view, LeadsTo, IsWord, AreRead, AreTold, Read}
+use Rattle.dob_board.specs.Seats.{stand_of, witnessed_by, log_of, IsSeatOf, AreSeats, AreWords, IsHistory}
+use Rattle.dob_board.specs.Boards.{joined, nobody, behind, gathered, closed_view, LeadsTo, IsWord, AreRead, AreAsWitnessed, Read}
 use Rattle.dob_pieces.proofs.Elements.{get_front, middle}
 use Rattle.dob_board.proofs.Places.{posted_within, taken_within}
 use Rattle.dob_board.proofs.Kept.{own_node}
@@ -40,27 +40,27 @@ use Rattle.dob_board.proofs.Starts.{port_of, port_here, port_else, elsewhere, vi
 
 nobody_is_view : (n port halt : ℕ) (owner : ℕ → ℕ) (ring : Ring) (log : List RingEvent) → IsView n owner ring halt log port nobody
 nobody_is_view n port halt owner ring log = record {
-  was_told = (log, sym (append-nil log));
+  was_witnessed = (log, sym (append-nil log));
   nodes = λ k stand e. absurd (some-ne-none stand (sym e));
   is_closed = λ e. absurd (cc);
 }
 
 -- the rest's view, closed or not
 abbrev rest_view : ℕ → ℕ → List Stand → List RingEvent → Bool → View
-rest_view n from stands told closed = record { size = n; from = from; stands = stands; told = told; closed = closed }
+rest_view n from stands witnessed closed = record { size = n; from = from; stands = stands; witnessed = witnessed; closed = closed }
 
-joins : (n i id other size : ℕ) (words : List ℕ) (views : List View) (stand : Stand) (behind : List Stand) (told heard : List RingEvent) (closed : Bool)
+joins : (n i id other size : ℕ) (words : List ℕ) (views : List View) (stand : Stand) (behind : List Stand) (witnessed observed : List RingEvent) (closed : Bool)
     (held : IsHeld n words views) →
-    get_elem? views id ≡ some (rest_view size (suc i) behind told closed) → other ≢ id →
-    get_elem? (slice_set views id (view_from n i (stand ∷ behind) heard)) other ≡ some (one n i stand heard) →
-    IsHeld n words (slice_set (slice_set views id (view_from n i (stand ∷ behind) heard)) other nobody)
-joins n i id other size words views stand behind told heard closed held at apart there =
+    get_elem? views id ≡ some (rest_view size (suc i) behind witnessed closed) → other ≢ id →
+    get_elem? (slice_set views id (view_from n i (stand ∷ behind) observed)) other ≡ some (one n i stand observed) →
+    IsHeld n words (slice_set (slice_set views id (view_from n i (stand ∷ behind) observed)) other nobody)
+joins n i id other size words views stand behind witnessed observed closed held at apart there =
     let ring : Ring = ring_of n words held.black held.token in
     let halt : ℕ = slice_index words 2 in
-    let both : View = view_from n i (stand ∷ behind) heard in
-    let at_other : get_elem? views other ≡ some (one n i stand heard) = sym (set_else views id other both apart) ∙ there in
-    let mine : IsNode n held.owner ring halt other n i stand = own_node n i other words views stand heard held at_other in
-    let rest = held.views_are id (rest_view size (suc i) behind told closed) at in
+    let both : View = view_from n i (stand ∷ behind) observed in
+    let at_other : get_elem? views other ≡ some (one n i stand observed) = sym (set_else views id other both apart) ∙ there in
+    let mine : IsNode n held.owner ring halt other n i stand = own_node n i other words views stand observed held at_other in
+    let rest = held.views_are id (rest_view size (suc i) behind witnessed closed) at in
     let owner : ℕ → ℕ = port_of i id held.owner in
     record {
       size = held.size;
@@ -83,7 +83,7 @@ joins n i id other size words views stand behind told heard closed held at apart
           (λ (y : (port ≡ id) × (both ≡ view)).
           subst (λ (p : ℕ × View). IsView n owner ring halt held.log p.0 p.1) (λ q. (sym y.0 q, y.1 q))
           (record {
-            was_told = (held.views_are other (one n i stand heard) at_other).was_told;
+            was_witnessed = (held.views_are other (one n i stand observed) at_other).was_witnessed;
             nodes = both_nodes n i id halt size held.owner ring stand behind mine.within mine.is_stand rest.nodes;
             is_closed = λ e'. absurd (cc);
           }))
@@ -108,16 +108,16 @@ joins n i id other size words views stand behind told heard closed held at apart
         subst (λ (x : ℕ). IsNode n (port_of i id owner) ring halt id n x at) place
         (record { size_is = refl; within = node.within; owned = port_else i id (suc i + k) owner apart ∙ node.owned; is_stand = node.is_stand })
 
-pub joins_call : (key n i id other : ℕ) (view : View) (me : Seated) (stand : Stand) (heard : List RingEvent) → key ≡ n → view.from ≡ suc i
-    → me ≡ seated n i stand heard →
+pub joins_call : (key n i id other : ℕ) (view : View) (me : Seated) (stand : Stand) (observed : List RingEvent) → key ≡ n → view.from ≡ suc i
+    → me ≡ seated n i stand observed →
     Joins (Held key) id view other me.0 (joined view me.0) nobody
-joins_call key n i id other view me stand heard key_is from_is me_is =
+joins_call key n i id other view me stand observed key_is from_is me_is =
     let from_here : (s : State (Unit {0}) View) → Held n s → get_elem? s.views id ≡ some view → ¬ (other ≡ id) →
-    get_elem? (slice_set s.views id (joined view (one n i stand heard))) other ≡ some (one n i stand heard) →
-    IsHeld n s.words (slice_set (slice_set s.views id (joined view (one n i stand heard))) other nobody) =
-    λ s held at apart there. joins n i id other view.size s.words s.views stand view.stands view.told heard view.closed held
-    (at ∙ ap (λ (from : ℕ). some (rest_view view.size from view.stands view.told view.closed)) from_is) apart there in
-    let view_is : me.0 ≡ one n i stand heard = ap (λ (x : Seated). x.0) me_is in
+    get_elem? (slice_set s.views id (joined view (one n i stand observed))) other ≡ some (one n i stand observed) →
+    IsHeld n s.words (slice_set (slice_set s.views id (joined view (one n i stand observed))) other nobody) =
+    λ s held at apart there. joins n i id other view.size s.words s.views stand view.stands view.witnessed observed view.closed held
+    (at ∙ ap (λ (from : ℕ). some (rest_view view.size from view.stands view.witnessed view.closed)) from_is) apart there in
+    let view_is : me.0 ≡ one n i stand observed = ap (λ (x : Seated). x.0) me_is in
     subst (λ (p : ℕ × View). Joins (Held p.0) id view other p.1 (joined view p.1) nobody) (λ q. (sym key_is q, sym view_is q)) from_here
 
 -- ---- read
@@ -189,9 +189,9 @@ closes n id words views view held at from_is all_is =
           (λ (x : (port ≡ id) × (after ≡ other)).
           subst (λ (p : ℕ × View). IsView n held.owner ring halt held.log p.0 p.1) (λ q. (sym x.0 q, x.1 q))
           (record {
-            was_told = ([], refl);
+            was_witnessed = ([], refl);
             nodes = λ k stand e'. subst (λ (from : ℕ). IsNode n held.owner ring halt id view.size (from + k) stand) from_is (was.nodes k stand e');
-            is_closed = λ e'. record { from_first = refl; all_nodes = all_is; all_told = refl };
+            is_closed = λ e'. record { from_first = refl; all_nodes = all_is; all_witnessed = refl };
           }))
           (λ (x : (port ≢ id) × (get_elem? views port ≡ some other)). held.views_are port other x.1)
           (at_set views id port after other e);
@@ -210,8 +210,8 @@ reads_call key n w id slots me key_is size_is from_is all_is s held len at small
           (closes key id s.words s.views me.0 held at from_is (all_is ∙ sym key_is)),
       (
         refl,
-        (λ e. sym (was.is_closed e).all_told),
-        was.was_told,
+        (λ e. sym (was.is_closed e).all_witnessed),
+        was.was_witnessed,
         subst (λ (m : ℕ). IsWord m me.0.stands held.log w (slice_index s.words w)) (key_is ∙ sym size_is) word,
       ),
     )
@@ -238,8 +238,8 @@ pub one_less : (board : TableId) (n : ℕ) (all : List Stand) (seats fewer : Lis
     seats ≡ fewer ++ seat ∷ [] → after ≡ (joined me.0 seat.seat.me.0, []) → AreLeft board n all fewer after
 one_less board n all seats fewer seat me after left seats_is after_is =
     let is : IsSeatOf board n (length fewer) seat = (last_seat board n all seats fewer seat me left seats_is).0 in
-    let own : seat.seat.me.0 ≡ one seat.nodes seat.node (stand_of seat) seat.seat.me.0.told = ap (λ (x : Seated). x.0) seat.view_is in
-    let after_view : after.0 ≡ joined me.0 (one seat.nodes seat.node (stand_of seat) seat.seat.me.0.told) =
+    let own : seat.seat.me.0 ≡ one seat.nodes seat.node (stand_of seat) seat.seat.me.0.witnessed = ap (λ (x : Seated). x.0) seat.view_is in
+    let after_view : after.0 ≡ joined me.0 (one seat.nodes seat.node (stand_of seat) seat.seat.me.0.witnessed) =
     ap (λ (x : Seated). x.0) after_is ∙ ap (joined me.0) own in
     record {
       size_is = ap (λ (v : View). v.size) after_view ∙ is.nodes;
@@ -254,11 +254,11 @@ one_less board n all seats fewer seat me after left seats_is after_is =
     }
 
 pub none_left : (board : TableId) (n : ℕ) (all : List Stand) (seats : List NodeSeat) (me : Seated) → AreLeft board n all seats me → seats ≡ [] →
-    me ≡ (gathered n all me.0.told, [])
+    me ≡ (gathered n all me.0.witnessed, [])
 none_left board n all seats me left none_is =
     let from_is : me.0.from ≡ 0 = left.from_is ∙ ap length none_is in
     let stands_are : me.0.stands ≡ all = sym (left.all_are ∙ ap (λ (xs : List NodeSeat). map stand_of xs ++ me.0.stands) none_is) in
-    λ q. (record { size = left.size_is q; from = from_is q; stands = stands_are q; told = me.0.told; closed = left.not_closed q }, left.no_slot q)
+    λ q. (record { size = left.size_is q; from = from_is q; stands = stands_are q; witnessed = me.0.witnessed; closed = left.not_closed q }, left.no_slot q)
 
 pub all_left : (board : TableId) (n : ℕ) (seats : List NodeSeat) (me : Seated) → AreSeats board n seats → me ≡ (behind n n, [])
     → AreLeft board n (map stand_of seats) seats me
@@ -318,9 +318,9 @@ read_ring n stands log words some_nodes read =
 word_once : (token : Token) (one other : ℕ) → IsPacked token one → IsPacked token other → one ≡ other
 word_once token one other first second = omega (arith, ints, first.word_is, second.word_is)
 
-pub are_told : (n : ℕ) (stands : List Stand) (log : List RingEvent) (words : List ℕ) → 0 < n → length stands ≡ n → AreRead n stands log words →
-    AreTold (closed_view n stands log) words
-are_told n stands log words some_nodes all_nodes read =
+pub are_as_witnessed : (n : ℕ) (stands : List Stand) (log : List RingEvent) (words : List ℕ) → 0 < n → length stands ≡ n → AreRead n stands log words →
+    AreAsWitnessed (closed_view n stands log) words
+are_as_witnessed n stands log words some_nodes all_nodes read =
     let has = read_ring n stands log words some_nodes read in
     let halt = read.words_are 2 (omega arith) in
     let within : (k : ℕ) (stand : Stand) → get_elem? stands k ≡ some stand → k < n = λ k stand e. omega (arith, there_in stands k stand e, all_nodes) in
@@ -345,9 +345,9 @@ are_told n stands log words some_nodes all_nodes read =
 
 -- ---- the seat of node 0
 
--- Of the seats that are left the first is the first of all; or none is left, and the rest was told what that one was.
-abbrev pub IsFirstTold : List NodeSeat → List NodeSeat → Seated → Type 0
-IsFirstTold all seats me = (seat : NodeSeat) → slice_get all 0 ≡ Some seat → (slice_get seats 0 ≡ Some seat) ⊎ ((seats ≡ []) × (me.0.told ≡ told_of seat))
+-- Of the seats that are left the first is the first of all; or none is left, and the rest has witnessed what that one was.
+abbrev pub IsFirstWitnessed : List NodeSeat → List NodeSeat → Seated → Type 0
+IsFirstWitnessed all seats me = (seat : NodeSeat) → slice_get all 0 ≡ Some seat → (slice_get seats 0 ≡ Some seat) ⊎ ((seats ≡ []) × (me.0.witnessed ≡ witnessed_by seat))
 
 one_more_there : {A : Type 0} (x : A) (xs : List A) → [] ≡ x ∷ xs → ⊥
 one_more_there x xs e = cc
@@ -365,23 +365,23 @@ never_none : {A : Type 0} (all fewer : List A) (last : A) → all ≡ fewer ++ l
 never_none all [] last all_is none_is = one_more_there last [] (sym none_is ∙ all_is)
 never_none all (y ∷ fewer) last all_is none_is = one_more_there y (fewer ++ last ∷ []) (sym none_is ∙ all_is)
 
-pub first_less : (all seats fewer : List NodeSeat) (last : NodeSeat) (me after : Seated) → IsFirstTold all seats me → seats ≡ fewer ++ last ∷ [] →
-    after.0.told ≡ told_of last → IsFirstTold all fewer after
-first_less all seats fewer last me after first seats_is told seat e =
+pub first_less : (all seats fewer : List NodeSeat) (last : NodeSeat) (me after : Seated) → IsFirstWitnessed all seats me → seats ≡ fewer ++ last ∷ [] →
+    after.0.witnessed ≡ witnessed_by last → IsFirstWitnessed all fewer after
+first_less all seats fewer last me after first seats_is witnessed seat e =
     ⊎_elim
     (λ (here : slice_get seats 0 ≡ Some seat).
     ⊎_elim (λ (there : slice_get fewer 0 ≡ Some seat). inl there)
-    (λ (it : (fewer ≡ []) × (last ≡ seat)). inr (it.0, told ∙ ap told_of it.1))
+    (λ (it : (fewer ≡ []) × (last ≡ seat)). inr (it.0, witnessed ∙ ap witnessed_by it.1))
     (first_of_fewer seats fewer last seat seats_is here))
-    (λ (none : (seats ≡ []) × (me.0.told ≡ told_of seat)). absurd (never_none seats fewer last seats_is none.0))
+    (λ (none : (seats ≡ []) × (me.0.witnessed ≡ witnessed_by seat)). absurd (never_none seats fewer last seats_is none.0))
     (first seat e)
 
-pub first_done : (all seats : List NodeSeat) (me : Seated) → IsFirstTold all seats me → seats ≡ [] → (seat : NodeSeat) → slice_get all 0 ≡ Some seat →
-    me.0.told ≡ told_of seat
+pub first_done : (all seats : List NodeSeat) (me : Seated) → IsFirstWitnessed all seats me → seats ≡ [] → (seat : NodeSeat) → slice_get all 0 ≡ Some seat →
+    me.0.witnessed ≡ witnessed_by seat
 first_done all seats me first none_is seat e =
     ⊎_elim
     (λ (here : slice_get seats 0 ≡ Some seat). absurd (nothing_there seat (ap (λ (xs : List NodeSeat). slice_get xs 0) (sym none_is) ∙ here)))
-    (λ (none : (seats ≡ []) × (me.0.told ≡ told_of seat)). none.1)
+    (λ (none : (seats ≡ []) × (me.0.witnessed ≡ witnessed_by seat)). none.1)
     (first seat e)
 
 pub are_words : (board : TableId) (n : ℕ) (seats : List NodeSeat) (log : List RingEvent) (words : List ℕ) → AreSeats board n seats →
@@ -427,13 +427,13 @@ are_words board n seats log words are read = record {
     seat_within k seat e = omega (arith, found_within seats k seat e, are.count)
 
 -- what happened on a closed board
-pub is_history : (n : ℕ) (seats : List NodeSeat) (closed : Closed) (told : List RingEvent) → 0 < n →
-    ((seat : NodeSeat) → slice_get seats 0 ≡ Some seat → told ≡ told_of seat) → GoesOn told (log_of closed) →
+pub is_history : (n : ℕ) (seats : List NodeSeat) (closed : Closed) (witnessed : List RingEvent) → 0 < n →
+    ((seat : NodeSeat) → slice_get seats 0 ≡ Some seat → witnessed ≡ witnessed_by seat) → GoesOn witnessed (log_of closed) →
     AreRead n (map stand_of seats) (log_of closed) closed.words.items → IsHistory n seats closed
-is_history n seats closed told some_nodes first on read =
+is_history n seats closed witnessed some_nodes first on read =
     let has = read_ring n (map stand_of seats) (log_of closed) closed.words.items some_nodes read in
     record {
-      told = λ seat e. subst (λ (l : List RingEvent). GoesOn l (log_of closed)) (first seat e) on;
+      witnessed = λ seat e. subst (λ (l : List RingEvent). GoesOn l (log_of closed)) (first seat e) on;
       ring = has.0;
       runs = has.1.runs;
       is_lawful = has.1.is_lawful;

@@ -12,7 +12,7 @@ use Rattle.dob_safra.specs.declared.token.Token.{Token}
 use Rattle.dob_safra.specs.declared.event.RingEvent.{RingEvent}
 use Rattle.dob_safra.specs.declared.event.RingEvent.TheVariants.{Announce}
 use Rattle.dob_safra.specs.Tokens.{IsPacked, MayAnnounce}
-use Rattle.dob_safra.specs.Rings.{Ring, counter, IsLawful, Announces}
+use Rattle.dob_safra.specs.Rings.{Ring, counter, IsLawfulRing, Announces}
 use Rattle.dob_safra.specs.Laws.{HasFew}
 use Rattle.dob_safra.proofs.Kept.{moved_kept}
 use Rattle.dob_board.specs.declared.halt.Halt.{Halt}
@@ -21,7 +21,7 @@ use Rattle.dob_board.specs.declared.view.Stand.{Stand}
 use Rattle.dob_board.specs.declared.view.View.{View}
 use Rattle.dob_board.specs.Words.{halt_word, halt_after, ring_of}
 use Rattle.dob_board.specs.Views.{one, counter_of, finds, stand_from, IsStand}
-use Rattle.dob_board.specs.Histories.{Runs, Makes, Hears, HasHalt}
+use Rattle.dob_board.specs.Histories.{Runs, MakesEvent, Observes, HasHalt}
 use Rattle.dob_board.specs.Rule.{IsHeld}
 use Rattle.dob_board.specs.Seats.{MayEnd, failed_after}
 use Rattle.dob_board.specs.Plays.{Found, Halted, FailedRun, Announced}
@@ -84,37 +84,37 @@ finds_stand n i halt ring stand so is = record {
 }
 
 -- What a step that found the halt word at one number and left it at another, and made no event, tells.
-pub record Finding (n i id : ℕ) (words : List ℕ) (views : List View) (log : List RingEvent) (stand : Stand) (told : List RingEvent) (now : List ℕ)
+pub record Finding (n i id : ℕ) (words : List ℕ) (views : List View) (log : List RingEvent) (stand : Stand) (witnessed : List RingEvent) (now : List ℕ)
     (was word : ℕ) : Type 0 where
   pub held : IsHeld n now (slice_set views id (one n i (finds stand word) log))
   pub within : word < 2 + n
   pub stays : stand.halt ≢ 0 → word ≡ stand.halt
   pub announced : i ≡ 0 → word ≡ 1 → stand.halt ≡ 1
-  pub heard : Hears n i (finds stand word) told log (HasHalt was)
+  pub observed : Observes n i (finds stand word) witnessed log (HasHalt was)
 
 -- the halt word is this node's failure only where it knew that
 abbrev pub IsKnown : ℕ → Stand → ℕ → Type 0
 IsKnown i stand word = word ≡ 2 + i → stand.halt ≡ 2 + i
 
-pub knew_own : (n i id : ℕ) (words : List ℕ) (views : List View) (stand : Stand) (told : List RingEvent) (held : IsHeld n words views) →
-    get_elem? views id ≡ some (one n i stand told) → IsKnown i stand (slice_index words 2)
-knew_own n i id words views stand told held at = (own_node n i id words views stand told held at).is_stand.failed
+pub knew_own : (n i id : ℕ) (words : List ℕ) (views : List View) (stand : Stand) (witnessed : List RingEvent) (held : IsHeld n words views) →
+    get_elem? views id ≡ some (one n i stand witnessed) → IsKnown i stand (slice_index words 2)
+knew_own n i id words views stand witnessed held at = (own_node n i id words views stand witnessed held at).is_stand.failed
 
 -- a look
-pub looks_at_halt : (n i id : ℕ) (words : List ℕ) (views : List View) (stand : Stand) (told : List RingEvent) (held : IsHeld n words views) →
-    get_elem? views id ≡ some (one n i stand told) → Finding n i id words views held.log stand told words (slice_index words 2) (slice_index words 2)
-looks_at_halt n i id words views stand told held at =
+pub looks_at_halt : (n i id : ℕ) (words : List ℕ) (views : List View) (stand : Stand) (witnessed : List RingEvent) (held : IsHeld n words views) →
+    get_elem? views id ≡ some (one n i stand witnessed) → Finding n i id words views held.log stand witnessed words (slice_index words 2) (slice_index words 2)
+looks_at_halt n i id words views stand witnessed held at =
     let ring : Ring = ring_of n words held.black held.token in
-    let mine = own_node n i id words views stand told held at in
+    let mine = own_node n i id words views stand witnessed held at in
     let now : IsStand n ring (slice_index words 2) i (finds stand (slice_index words 2)) =
     finds_stand n i (slice_index words 2) ring stand refl mine.is_stand in
     record {
-      held = known n i id words views stand (finds stand (slice_index words 2)) told held at now;
+      held = known n i id words views stand (finds stand (slice_index words 2)) witnessed held at now;
       within = held.halt_within;
       stays = mine.is_stand.halt_seen;
       announced = mine.is_stand.announced;
-      heard = record {
-        went_on = (held.views_are id (one n i stand told) at).was_told;
+      observed = record {
+        went_on = (held.views_are id (one n i stand witnessed) at).was_witnessed;
         ring = ring;
         runs = held.runs;
         is_lawful = held.lawful;
@@ -172,14 +172,14 @@ fails_stand n i ring stand is = record {
   announced = λ first e. absurd (omega (arith, e));
 }
 
-pub fails : (n i id : ℕ) (words : List ℕ) (views : List View) (stand : Stand) (told : List RingEvent) (held : IsHeld n words views) →
-    get_elem? views id ≡ some (one n i stand told) → slice_index words 2 ≡ 0 →
-    Finding n i id words views held.log stand told (set words 2 (2 + i)) 0 (2 + i)
-fails n i id words views stand told held at running =
+pub fails : (n i id : ℕ) (words : List ℕ) (views : List View) (stand : Stand) (witnessed : List RingEvent) (held : IsHeld n words views) →
+    get_elem? views id ≡ some (one n i stand witnessed) → slice_index words 2 ≡ 0 →
+    Finding n i id words views held.log stand witnessed (set words 2 (2 + i)) 0 (2 + i)
+fails n i id words views stand witnessed held at running =
     let after : List ℕ = set words 2 (2 + i) in
     let old : Ring = ring_of n words held.black held.token in
     let new : Ring = ring_of n after held.black held.token in
-    let mine = own_node n i id words views stand told held at in
+    let mine = own_node n i id words views stand witnessed held at in
     let wide : 2 < length words = omega (arith, held.wide) in
     let same : old ≡ new = same_ring n (2 + i) words held.black held.token wide (λ e. omega (arith, e, running)) (λ e. omega (arith, e)) in
     let there : get_or after 2 0 ≡ 2 + i = get_or-set_same words 2 (2 + i) 0 wide in
@@ -189,23 +189,23 @@ fails n i id words views stand told held at running =
     let leaves : Leaves n i old new (slice_index words 2) (slice_index after 2) =
     subst (λ (p : Ring × ℕ × ℕ). Leaves n i old p.0 p.1 p.2) (λ q. (same q, sym running q, sym there q)) (fails_leaves n i old) in
     record {
-      held = kept n i id words after views stand (finds stand (2 + i)) told [] held.black held.token held at
+      held = kept n i id words after views stand (finds stand (2 + i)) witnessed [] held.black held.token held at
           (length-set words 2 (2 + i))
           (get_or-set_other words 2 0 (2 + i) 0 (λ e. omega (arith, e)))
           (subst (IsPacked held.token) (sym (get_or-set_other words 2 1 (2 + i) 0 (λ e. omega (arith, e)))) held.packed)
           (omega (arith, there, mine.within))
-          (subst (IsLawful n) same held.lawful)
+          (subst (IsLawfulRing n) same held.lawful)
           (subst (Runs n held.log) same held.runs)
           leaves
           now;
       within = omega (arith, mine.within);
       stays = λ ne. absurd (ne (sym (is.halt_seen ne)));
       announced = λ first e. absurd (omega (arith, e));
-      heard = record {
-        went_on = (held.views_are id (one n i stand told) at).was_told;
+      observed = record {
+        went_on = (held.views_are id (one n i stand witnessed) at).was_witnessed;
         ring = new;
         runs = subst (Runs n held.log) same held.runs;
-        is_lawful = subst (IsLawful n) same held.lawful;
+        is_lawful = subst (IsLawfulRing n) same held.lawful;
         shows = now.shows;
         is_so = ap (λ (h : ℕ). eqb h 1) there ∙ ne_eqb (2 + i) 1 (λ e. omega (arith, e));
       };
@@ -257,16 +257,16 @@ announces_stand n i old new stand within moved is = record {
   announced = λ first e. refl;
 }
 
-pub announces : (n i id : ℕ) (words : List ℕ) (views : List View) (stand : Stand) (told : List RingEvent) (held : IsHeld n words views) →
-    get_elem? views id ≡ some (one n i stand told) → MayEnd stand → slice_index words 2 ≡ 0 →
+pub announces : (n i id : ℕ) (words : List ℕ) (views : List View) (stand : Stand) (witnessed : List RingEvent) (held : IsHeld n words views) →
+    get_elem? views id ≡ some (one n i stand witnessed) → MayEnd stand → slice_index words 2 ≡ 0 →
     IsHeld n (set words 2 1) (slice_set views id (one n i (finds stand 1) (Announce ∷ held.log)))
     × (stand.halt ≢ 0 → 1 ≡ stand.halt)
-    × Makes n i Announce stand (finds stand 1) told (Announce ∷ held.log)
-announces n i id words views stand told held at may running =
+    × MakesEvent n i Announce stand (finds stand 1) witnessed (Announce ∷ held.log)
+announces n i id words views stand witnessed held at may running =
     let after : List ℕ = set words 2 1 in
     let old : Ring = ring_of n words held.black held.token in
     let new : Ring = ring_of n after held.black held.token in
-    let mine = own_node n i id words views stand told held at in
+    let mine = own_node n i id words views stand witnessed held at in
     let wide : 2 < length words = omega (arith, held.wide) in
     let is : IsStand n old 0 i stand = subst (λ (h : ℕ). IsStand n old h i stand) running mine.is_stand in
     let known_token = is.shows.token may.token may.known in
@@ -278,13 +278,13 @@ announces n i id words views stand told held at may running =
     subst (λ (k : ℕ). MayAnnounce held.token (counter n old k) (held.black k) true) first may_i in
     let moved : Announces n old new = announces_moved n words held.black held.token wide may_first in
     let few : HasFew n new = λ k l k_in l_in. omega (arith, moved.posted k l k_in l_in, held.lawful.few k l k_in l_in) in
-    let lawful : IsLawful n new = moved_kept n old new Announce held.size held.lawful moved few in
+    let lawful : IsLawfulRing n new = moved_kept n old new Announce held.size held.lawful moved few in
     let there : get_or after 2 0 ≡ 1 = get_or-set_same words 2 1 0 wide in
     let now : IsStand n new (slice_index after 2) i (finds stand 1) =
     subst (λ (h : ℕ). IsStand n new h i (finds stand 1)) (sym there) (announces_stand n i old new stand mine.within moved is) in
     let leaves : Leaves n i old new (slice_index words 2) (slice_index after 2) =
     subst (λ (p : ℕ × ℕ). Leaves n i old new p.0 p.1) (λ q. (sym running q, sym there q)) (announces_leaves n i old new first moved) in (
-      kept n i id words after views stand (finds stand 1) told (Announce ∷ []) held.black held.token held at
+      kept n i id words after views stand (finds stand 1) witnessed (Announce ∷ []) held.black held.token held at
           (length-set words 2 1)
           (get_or-set_other words 2 0 1 0 (λ e. omega (arith, e)))
           (subst (IsPacked held.token) (sym (get_or-set_other words 2 1 1 0 (λ e. omega (arith, e)))) held.packed)
@@ -296,7 +296,7 @@ announces n i id words views stand told held at may running =
       (λ ne. absurd (ne (sym (is.halt_seen ne)))),
       record {
         log = held.log;
-        went_on = (held.views_are id (one n i stand told) at).was_told;
+        went_on = (held.views_are id (one n i stand witnessed) at).was_witnessed;
         is_next = refl;
         old = old;
         new = new;
@@ -312,89 +312,89 @@ announces n i id words views stand told held at may running =
 
 -- ---- what the calls ask and are told
 
-halts_allows : (n i id slots : ℕ) (stand : Stand) (told : List RingEvent) →
-    Allows (Held n) slots id (seated n i stand told) 2 (λ x. x) (Halted (step slots 2 0 0 none) (seated n i stand told))
-halts_allows n i id slots stand told s held len at small =
+halts_allows : (n i id slots : ℕ) (stand : Stand) (witnessed : List RingEvent) →
+    Allows (Held n) slots id (seated n i stand witnessed) 2 (λ x. x) (Halted (step slots 2 0 0 none) (seated n i stand witnessed))
+halts_allows n i id slots stand witnessed s held len at small =
     let found : ℕ = slice_index s.words 2 in
     let log = held.log in
-    let made = looks_at_halt n i id s.words s.views stand told held at in (
+    let made = looks_at_halt n i id s.words s.views stand witnessed held at in (
       one n i (finds stand found) log,
       keeps,
       tt,
       subst (λ (ws : List ℕ). IsHeld n ws (slice_set s.views id (one n i (finds stand found) log))) (sym (set_same s.words 2)) made.held,
       λ stand' place stands.
           subst (λ (p : Stand). ((seated n i (finds stand found) log ≡ seated n i (finds p found) log) × (found < 2 + n) × (p.halt ≢ 0 → found ≡ p.halt))
-          × IsKnown i p found × (i ≡ 0 → found ≡ 1 → p.halt ≡ 1) × Hears n i (finds p found) told log (HasHalt found))
-          (same_stand stand stand' stands) ((refl, made.within, made.stays), knew_own n i id s.words s.views stand told held at, made.announced, made.heard),
+          × IsKnown i p found × (i ≡ 0 → found ≡ 1 → p.halt ≡ 1) × Observes n i (finds p found) witnessed log (HasHalt found))
+          (same_stand stand stand' stands) ((refl, made.within, made.stays), knew_own n i id s.words s.views stand witnessed held at, made.announced, made.observed),
     )
 
-pub halts_call : (key n i id slots : ℕ) (me : Seated) (stand : Stand) (told : List RingEvent) → key ≡ n → me ≡ seated n i stand told →
+pub halts_call : (key n i id slots : ℕ) (me : Seated) (stand : Stand) (witnessed : List RingEvent) → key ≡ n → me ≡ seated n i stand witnessed →
     Allows (Held key) slots id me 2 (λ x. x) (Halted (step slots 2 0 0 none) me)
-halts_call key n i id slots me stand told key_is me_is =
+halts_call key n i id slots me stand witnessed key_is me_is =
     subst (λ (p : ℕ × Seated). Allows (Held p.0) slots id p.1 2 (λ x. x) (Halted (step slots 2 0 0 none) p.1))
-    (λ q. (sym key_is q, sym me_is q)) (halts_allows n i id slots stand told)
+    (λ q. (sym key_is q, sym me_is q)) (halts_allows n i id slots stand witnessed)
 
-pub halts_tell : (n i found : ℕ) (me after : Seated) (stand : Stand) (told : List RingEvent) → me ≡ seated n i stand told →
+pub halts_tell : (n i found : ℕ) (me after : Seated) (stand : Stand) (witnessed : List RingEvent) → me ≡ seated n i stand witnessed →
     Halted (step 0 2 0 0 none) me found after →
-    Found (seated n i stand told) stand found after × IsKnown i stand found × (i ≡ 0 → found ≡ 1 → stand.halt ≡ 1)
-    × Hears n i (finds stand found) told after.0.told (HasHalt found)
-halts_tell n i found me after stand told me_is tells =
+    Found (seated n i stand witnessed) stand found after × IsKnown i stand found × (i ≡ 0 → found ≡ 1 → stand.halt ≡ 1)
+    × Observes n i (finds stand found) witnessed after.0.witnessed (HasHalt found)
+halts_tell n i found me after stand witnessed me_is tells =
     (subst (λ (p : Seated). Halted (step 0 2 0 0 none) p found after) me_is tells) stand refl refl
 
-fails_finding : (n i id : ℕ) (words : List ℕ) (views : List View) (stand : Stand) (told : List RingEvent) (held : IsHeld n words views) →
-    get_elem? views id ≡ some (one n i stand told) →
-    Finding n i id words views held.log stand told (set words 2 (either (eqb (slice_index words 2) 0) (2 + i) (slice_index words 2)))
+fails_finding : (n i id : ℕ) (words : List ℕ) (views : List View) (stand : Stand) (witnessed : List RingEvent) (held : IsHeld n words views) →
+    get_elem? views id ≡ some (one n i stand witnessed) →
+    Finding n i id words views held.log stand witnessed (set words 2 (either (eqb (slice_index words 2) 0) (2 + i) (slice_index words 2)))
     (slice_index words 2) (halt_after (slice_index words 2) (2 + i))
-fails_finding n i id words views stand told held at =
+fails_finding n i id words views stand witnessed held at =
     let found : ℕ = slice_index words 2 in
-    let with : (was after : ℕ) → found ≡ was → halt_after found (2 + i) ≡ after → Finding n i id words views held.log stand told (set words 2 after) was after →
-    Finding n i id words views held.log stand told (set words 2 (either (eqb found 0) (2 + i) found)) found (halt_after found (2 + i)) =
-    λ was after was_is is made. subst (λ (p : ℕ × ℕ × ℕ). Finding n i id words views held.log stand told (set words 2 p.0) p.1 p.2)
+    let with : (was after : ℕ) → found ≡ was → halt_after found (2 + i) ≡ after → Finding n i id words views held.log stand witnessed (set words 2 after) was after →
+    Finding n i id words views held.log stand witnessed (set words 2 (either (eqb found 0) (2 + i) found)) found (halt_after found (2 + i)) =
+    λ was after was_is is made. subst (λ (p : ℕ × ℕ × ℕ). Finding n i id words views held.log stand witnessed (set words 2 p.0) p.1 p.2)
     (λ q. (sym (exchanged found (2 + i) ∙ is) q, sym was_is q, sym is q)) made in
     elim (cases_eq found 0) [
-      | inl running ↦ with 0 (2 + i) running (halt_marked found (2 + i) running) (fails n i id words views stand told held at running)
+      | inl running ↦ with 0 (2 + i) running (halt_marked found (2 + i) running) (fails n i id words views stand witnessed held at running)
       | inr stopped ↦ with found found refl (halt_found found (2 + i) stopped)
-          (subst (λ (ws : List ℕ). Finding n i id words views held.log stand told ws found found) (sym (set_same words 2))
-          (looks_at_halt n i id words views stand told held at))
+          (subst (λ (ws : List ℕ). Finding n i id words views held.log stand witnessed ws found found) (sym (set_same words 2))
+          (looks_at_halt n i id words views stand witnessed held at))
     ]
 
-fails_allows : (n i id slots : ℕ) (stand : Stand) (told : List RingEvent) →
-    Allows (Held n) slots id (seated n i stand told) 2 (λ x. either (eqb x 0) (2 + i) x) (FailedRun (step slots 2 0 (2 + i) none) (seated n i stand told))
-fails_allows n i id slots stand told s held len at small =
+fails_allows : (n i id slots : ℕ) (stand : Stand) (witnessed : List RingEvent) →
+    Allows (Held n) slots id (seated n i stand witnessed) 2 (λ x. either (eqb x 0) (2 + i) x) (FailedRun (step slots 2 0 (2 + i) none) (seated n i stand witnessed))
+fails_allows n i id slots stand witnessed s held len at small =
     let found : ℕ = slice_index s.words 2 in
     let word : ℕ = halt_after found (2 + i) in
     let log = held.log in
-    let made = fails_finding n i id s.words s.views stand told held at in (
+    let made = fails_finding n i id s.words s.views stand witnessed held at in (
       one n i (finds stand word) log,
       keeps,
       tt,
       made.held,
       λ stand' place mark stands.
           subst (λ (p : Stand). ((seated n i (finds stand word) log ≡ seated n i (finds p word) log) × (word < 2 + n) × (p.halt ≢ 0 → word ≡ p.halt))
-          × (i ≡ 0 → word ≡ 1 → p.halt ≡ 1) × Hears n i (finds p word) told log (HasHalt found))
-          (same_stand stand stand' stands) ((refl, made.within, made.stays), made.announced, made.heard),
+          × (i ≡ 0 → word ≡ 1 → p.halt ≡ 1) × Observes n i (finds p word) witnessed log (HasHalt found))
+          (same_stand stand stand' stands) ((refl, made.within, made.stays), made.announced, made.observed),
     )
 
-pub fails_call : (key n i id slots mark : ℕ) (me : Seated) (stand : Stand) (told : List RingEvent) → key ≡ n → me ≡ seated n i stand told → mark ≡ 2 + i →
+pub fails_call : (key n i id slots mark : ℕ) (me : Seated) (stand : Stand) (witnessed : List RingEvent) → key ≡ n → me ≡ seated n i stand witnessed → mark ≡ 2 + i →
     Allows (Held key) slots id me 2 (λ x. either (eqb x 0) mark x) (FailedRun (step slots 2 0 mark none) me)
-fails_call key n i id slots mark me stand told key_is me_is mark_is =
+fails_call key n i id slots mark me stand witnessed key_is me_is mark_is =
     subst (λ (p : ℕ × Seated × ℕ). Allows (Held p.0) slots id p.1 2 (λ x. either (eqb x 0) p.2 x) (FailedRun (step slots 2 0 p.2 none) p.1))
-    (λ q. (sym key_is q, sym me_is q, sym mark_is q)) (fails_allows n i id slots stand told)
+    (λ q. (sym key_is q, sym me_is q, sym mark_is q)) (fails_allows n i id slots stand witnessed)
 
-pub fails_tell : (n i found mark : ℕ) (me after : Seated) (stand : Stand) (told : List RingEvent) → me ≡ seated n i stand told → mark ≡ 2 + i →
+pub fails_tell : (n i found mark : ℕ) (me after : Seated) (stand : Stand) (witnessed : List RingEvent) → me ≡ seated n i stand witnessed → mark ≡ 2 + i →
     FailedRun (step 0 2 0 mark none) me found after →
-    Found (seated n i stand told) stand (halt_after found mark) after × (i ≡ 0 → halt_after found mark ≡ 1 → stand.halt ≡ 1)
-    × Hears n i (finds stand (halt_after found mark)) told after.0.told (HasHalt found)
-fails_tell n i found mark me after stand told me_is mark_is tells =
+    Found (seated n i stand witnessed) stand (halt_after found mark) after × (i ≡ 0 → halt_after found mark ≡ 1 → stand.halt ≡ 1)
+    × Observes n i (finds stand (halt_after found mark)) witnessed after.0.witnessed (HasHalt found)
+fails_tell n i found mark me after stand witnessed me_is mark_is tells =
     (subst (λ (p : Seated). FailedRun (step 0 2 0 mark none) p found after) me_is tells) stand refl mark_is refl
 
-announces_allows : (n i id slots : ℕ) (stand : Stand) (told : List RingEvent) → MayEnd stand →
-    Allows (Held n) slots id (seated n i stand told) 2 (λ x. either (eqb x 0) 1 x) (Announced (step slots 2 0 1 none) (seated n i stand told))
-announces_allows n i id slots stand told may s held len at small =
+announces_allows : (n i id slots : ℕ) (stand : Stand) (witnessed : List RingEvent) → MayEnd stand →
+    Allows (Held n) slots id (seated n i stand witnessed) 2 (λ x. either (eqb x 0) 1 x) (Announced (step slots 2 0 1 none) (seated n i stand witnessed))
+announces_allows n i id slots stand witnessed may s held len at small =
     let found : ℕ = slice_index s.words 2 in
     let word : ℕ = halt_after found 1 in
     elim (cases_eq found 0) [
-      | inl running ↦ let made = announces n i id s.words s.views stand told held at may running in
+      | inl running ↦ let made = announces n i id s.words s.views stand witnessed held at may running in
           let log = Announce ∷ held.log in
           let word_is : word ≡ 1 = halt_marked found 1 running in
           let view_is : one n i (finds stand 1) log ≡ one n i (finds stand word) log = ap (λ (w : ℕ). one n i (finds stand w) log) (sym word_is) in (
@@ -404,8 +404,8 @@ announces_allows n i id slots stand told may s held len at small =
             subst (λ (w : ℕ). IsHeld n (set s.words 2 w) (slice_set s.views id (one n i (finds stand 1) log))) (sym (exchanged found 1 ∙ word_is)) made.0,
             λ stand' place stands.
                 subst (λ (p : Stand). ((seated n i (finds stand 1) log ≡ seated n i (finds p word) log) × (word < 2 + n) × (p.halt ≢ 0 → word ≡ p.halt))
-                × IsKnown i p word × (found ≡ 0 → Makes n i Announce p (finds p 1) told log)
-                × (found ≢ 0 → (found ≡ 1 → p.halt ≡ 1) × Hears n i (finds p found) told log (HasHalt found)))
+                × IsKnown i p word × (found ≡ 0 → MakesEvent n i Announce p (finds p 1) witnessed log)
+                × (found ≢ 0 → (found ≡ 1 → p.halt ≡ 1) × Observes n i (finds p found) witnessed log (HasHalt found)))
                 (same_stand stand stand' stands) (
                   (ap (λ (v : View). (v, [])) view_is, omega (arith, word_is, held.size.0), (λ ne. word_is ∙ made.1 ne)),
                   (λ e. absurd (omega (arith, e, word_is))),
@@ -413,9 +413,9 @@ announces_allows n i id slots stand told may s held len at small =
                   (λ ne. absurd (ne running)),
                 ),
           )
-      | inr stopped ↦ let made = looks_at_halt n i id s.words s.views stand told held at in
+      | inr stopped ↦ let made = looks_at_halt n i id s.words s.views stand witnessed held at in
           let log = held.log in
-          let known_token = (own_node n i id s.words s.views stand told held at).is_stand.shows.token may.token may.known in
+          let known_token = (own_node n i id s.words s.views stand witnessed held at).is_stand.shows.token may.token may.known in
           let first : i ≡ 0 = sym known_token.1 ∙ may.may.at_first in
           let word_is : word ≡ found = halt_found found 1 stopped in
           let view_is : one n i (finds stand found) log ≡ one n i (finds stand word) log = ap (λ (w : ℕ). one n i (finds stand w) log) (sym word_is) in (
@@ -426,44 +426,44 @@ announces_allows n i id slots stand told may s held len at small =
                 (sym (ap (set s.words 2) (exchanged found 1 ∙ word_is) ∙ set_same s.words 2)) made.held,
             λ stand' place stands.
                 subst (λ (p : Stand). ((seated n i (finds stand found) log ≡ seated n i (finds p word) log) × (word < 2 + n) × (p.halt ≢ 0 → word ≡ p.halt))
-                × IsKnown i p word × (found ≡ 0 → Makes n i Announce p (finds p 1) told log)
-                × (found ≢ 0 → (found ≡ 1 → p.halt ≡ 1) × Hears n i (finds p found) told log (HasHalt found)))
+                × IsKnown i p word × (found ≡ 0 → MakesEvent n i Announce p (finds p 1) witnessed log)
+                × (found ≢ 0 → (found ≡ 1 → p.halt ≡ 1) × Observes n i (finds p found) witnessed log (HasHalt found)))
                 (same_stand stand stand' stands) (
                   (ap (λ (v : View). (v, [])) view_is, omega (arith, word_is, made.within), (λ ne. word_is ∙ made.stays ne)),
-                  (λ e. knew_own n i id s.words s.views stand told held at (sym word_is ∙ e)),
+                  (λ e. knew_own n i id s.words s.views stand witnessed held at (sym word_is ∙ e)),
                   (λ e. absurd (stopped e)),
-                  (λ ne. (made.announced first, made.heard)),
+                  (λ ne. (made.announced first, made.observed)),
                 ),
           )
     ]
 
-pub announces_call : (key n i id slots : ℕ) (me : Seated) (stand : Stand) (told : List RingEvent) → key ≡ n → me ≡ seated n i stand told → MayEnd stand →
+pub announces_call : (key n i id slots : ℕ) (me : Seated) (stand : Stand) (witnessed : List RingEvent) → key ≡ n → me ≡ seated n i stand witnessed → MayEnd stand →
     Allows (Held key) slots id me 2 (λ x. either (eqb x 0) 1 x) (Announced (step slots 2 0 1 none) me)
-announces_call key n i id slots me stand told key_is me_is may =
+announces_call key n i id slots me stand witnessed key_is me_is may =
     subst (λ (p : ℕ × Seated). Allows (Held p.0) slots id p.1 2 (λ x. either (eqb x 0) 1 x) (Announced (step slots 2 0 1 none) p.1))
-    (λ q. (sym key_is q, sym me_is q)) (announces_allows n i id slots stand told may)
+    (λ q. (sym key_is q, sym me_is q)) (announces_allows n i id slots stand witnessed may)
 
-pub announces_tell : (n i found : ℕ) (me after : Seated) (stand : Stand) (told : List RingEvent) → me ≡ seated n i stand told →
+pub announces_tell : (n i found : ℕ) (me after : Seated) (stand : Stand) (witnessed : List RingEvent) → me ≡ seated n i stand witnessed →
     Announced (step 0 2 0 1 none) me found after →
-    Found (seated n i stand told) stand (halt_after found 1) after × IsKnown i stand (halt_after found 1)
-    × (found ≡ 0 → Makes n i Announce stand (finds stand 1) told after.0.told)
-    × (found ≢ 0 → (found ≡ 1 → stand.halt ≡ 1) × Hears n i (finds stand found) told after.0.told (HasHalt found))
-announces_tell n i found me after stand told me_is tells =
+    Found (seated n i stand witnessed) stand (halt_after found 1) after × IsKnown i stand (halt_after found 1)
+    × (found ≡ 0 → MakesEvent n i Announce stand (finds stand 1) witnessed after.0.witnessed)
+    × (found ≢ 0 → (found ≡ 1 → stand.halt ≡ 1) × Observes n i (finds stand found) witnessed after.0.witnessed (HasHalt found))
+announces_tell n i found me after stand witnessed me_is tells =
     (subst (λ (p : Seated). Announced (step 0 2 0 1 none) p found after) me_is tells) stand refl refl
 
 -- ---- what a seat's fields are afterwards
 
 -- The seat's view after it found a halt, and the halt that it knows.
 pub record HasFound (n i : ℕ) (stand : Halt → Stand) (old new : Halt) (after : Seated) : Type 0 where
-  pub view_is : after ≡ seated n i (stand new) after.0.told
+  pub view_is : after ≡ seated n i (stand new) after.0.witnessed
   pub within : halt_word new < 2 + n
   pub stays : old ≢ Running → new ≡ old
 
-pub found_done : (n i word : ℕ) (posted taken seen : List ℕ) (black : Bool) (token : Option Token) (old new : Halt) (told : List RingEvent) (after : Seated) →
-    Found (seated n i (stand_from posted taken seen black token old) told) (stand_from posted taken seen black token old) word after → halt_word new ≡ word →
+pub found_done : (n i word : ℕ) (posted taken seen : List ℕ) (black : Bool) (token : Option Token) (old new : Halt) (witnessed : List RingEvent) (after : Seated) →
+    Found (seated n i (stand_from posted taken seen black token old) witnessed) (stand_from posted taken seen black token old) word after → halt_word new ≡ word →
     HasFound n i (stand_from posted taken seen black token) old new after
-found_done n i word posted taken seen black token old new told after found new_is = record {
-  view_is = found.0 ∙ ap (λ (w : ℕ). seated n i (finds (stand_from posted taken seen black token old) w) after.0.told) (sym new_is);
+found_done n i word posted taken seen black token old new witnessed after found new_is = record {
+  view_is = found.0 ∙ ap (λ (w : ℕ). seated n i (finds (stand_from posted taken seen black token old) w) after.0.witnessed) (sym new_is);
   within = omega (arith, found.1, new_is);
   stays = λ stopped. same_halt new old (new_is ∙ found.2 (runs_on old stopped));
 }
@@ -476,12 +476,12 @@ knew_done i word posted taken seen black token old new knew new_is own =
     same_halt old new (knew (sym new_is ∙ mark) ∙ sym mark)
 
 -- what was heard with the words was heard with their halts
-pub heard_halt : (n i was word : ℕ) (posted taken seen : List ℕ) (black : Bool) (token : Option Token) (old found new : Halt) (told now : List RingEvent) →
-    Hears n i (finds (stand_from posted taken seen black token old) word) told now (HasHalt was) → halt_word found ≡ was → halt_word new ≡ word →
-    Hears n i (stand_from posted taken seen black token new) told now (HasHalt (halt_word found))
-heard_halt n i was word posted taken seen black token old found new told now heard found_is new_is =
-    subst (λ (p : ℕ × ℕ). Hears n i (finds (stand_from posted taken seen black token old) p.0) told now (HasHalt p.1))
-    (λ q. (sym new_is q, sym found_is q)) heard
+pub heard_halt : (n i was word : ℕ) (posted taken seen : List ℕ) (black : Bool) (token : Option Token) (old found new : Halt) (witnessed now : List RingEvent) →
+    Observes n i (finds (stand_from posted taken seen black token old) word) witnessed now (HasHalt was) → halt_word found ≡ was → halt_word new ≡ word →
+    Observes n i (stand_from posted taken seen black token new) witnessed now (HasHalt (halt_word found))
+heard_halt n i was word posted taken seen black token old found new witnessed now observed found_is new_is =
+    subst (λ (p : ℕ × ℕ). Observes n i (finds (stand_from posted taken seen black token old) p.0) witnessed now (HasHalt p.1))
+    (λ q. (sym new_is q, sym found_is q)) observed
 
 -- what node 0 knew of the end
 pub knew_end_done : (i word : ℕ) (posted taken seen : List ℕ) (black : Bool) (token : Option Token) (old new : Halt) →
@@ -489,25 +489,25 @@ pub knew_end_done : (i word : ℕ) (posted taken seen : List ℕ) (black : Bool)
 knew_end_done i word posted taken seen black token old new knew new_is first ended =
     same_halt old Ended (knew first (sym new_is ∙ ap halt_word ended))
 
--- a node that was told of all events and knows the end is white
-pub white_heard : (n i : ℕ) (stand : Stand) (told now : List RingEvent) (IsSo : Ring → Type 0) → i < n → Hears n i stand told now IsSo →
+-- a node that has witnessed all events and knows the end is white
+pub white_heard : (n i : ℕ) (stand : Stand) (witnessed now : List RingEvent) (IsSo : Ring → Type 0) → i < n → Observes n i stand witnessed now IsSo →
     stand.halt ≡ 1 → stand.black ≡ false
-white_heard n i stand told now IsSo within heard ended = white_shown n i heard.ring stand within heard.is_lawful heard.shows ended
+white_heard n i stand witnessed now IsSo within observed ended = white_shown n i observed.ring stand within observed.is_lawful observed.shows ended
 
 -- so a black one doesn't know it
-pub black_hears : (n i : ℕ) (stand : Stand) (told now : List RingEvent) (IsSo : Ring → Type 0) → i < n → Hears n i stand told now IsSo →
+pub black_hears : (n i : ℕ) (stand : Stand) (witnessed now : List RingEvent) (IsSo : Ring → Type 0) → i < n → Observes n i stand witnessed now IsSo →
     stand.black ≡ true → stand.halt ≢ 1
-black_hears n i stand told now IsSo within heard black ended =
-    let white : stand.black ≡ false = white_heard n i stand told now IsSo within heard ended in cc
+black_hears n i stand witnessed now IsSo within observed black ended =
+    let white : stand.black ≡ false = white_heard n i stand witnessed now IsSo within observed ended in cc
 
--- a node that announced the end, or was told that it came, is white
-pub white_announced : (n i : ℕ) (before stand : Stand) (told now : List RingEvent) (halt old : Halt) → i < n →
-    ((halt ≡ Ended) × Makes n i Announce before stand told now) ⊎ ((halt ≡ Ended → old ≡ Ended) × Hears n i stand told now (HasHalt (halt_word halt))) →
+-- a node that announced the end, or has witnessed that it came, is white
+pub white_announced : (n i : ℕ) (before stand : Stand) (witnessed now : List RingEvent) (halt old : Halt) → i < n →
+    ((halt ≡ Ended) × MakesEvent n i Announce before stand witnessed now) ⊎ ((halt ≡ Ended → old ≡ Ended) × Observes n i stand witnessed now (HasHalt (halt_word halt))) →
     stand.halt ≡ 1 → stand.black ≡ false
-white_announced n i before stand told now halt old within done ended =
+white_announced n i before stand witnessed now halt old within done ended =
     elim done [
       | inl made ↦ white_shown n i made.1.new stand within made.1.is_lawful made.1.shows_after ended
-      | inr heard ↦ white_heard n i stand told now (HasHalt (halt_word halt)) within heard.1 ended
+      | inr observed ↦ white_heard n i stand witnessed now (HasHalt (halt_word halt)) within observed.1 ended
     ]
 
 -- the halt of each word
@@ -527,21 +527,21 @@ failed_answer i word found new found_is new_is =
     answered (Failed node) = halt_found (2 + node) (2 + i) (λ e. omega (arith, e))
 
 -- an announcement, or what was heard in its place
-pub announced_done : (n i found : ℕ) (posted taken seen : List ℕ) (black : Bool) (token : Option Token) (old new : Halt) (told now : List RingEvent) →
-    (found ≡ 0 → Makes n i Announce (stand_from posted taken seen black token old) (finds (stand_from posted taken seen black token old) 1) told now) →
+pub announced_done : (n i found : ℕ) (posted taken seen : List ℕ) (black : Bool) (token : Option Token) (old new : Halt) (witnessed now : List RingEvent) →
+    (found ≡ 0 → MakesEvent n i Announce (stand_from posted taken seen black token old) (finds (stand_from posted taken seen black token old) 1) witnessed now) →
     (found ≢ 0 → (found ≡ 1 → (stand_from posted taken seen black token old).halt ≡ 1)
-    × Hears n i (finds (stand_from posted taken seen black token old) found) told now (HasHalt found)) → halt_word new ≡ halt_after found 1 →
-    ((new ≡ Ended) × Makes n i Announce (stand_from posted taken seen black token old) (stand_from posted taken seen black token new) told now)
-    ⊎ ((new ≡ Ended → old ≡ Ended) × Hears n i (stand_from posted taken seen black token new) told now (HasHalt (halt_word new)))
-announced_done n i found posted taken seen black token old new told now made heard new_is =
+    × Observes n i (finds (stand_from posted taken seen black token old) found) witnessed now (HasHalt found)) → halt_word new ≡ halt_after found 1 →
+    ((new ≡ Ended) × MakesEvent n i Announce (stand_from posted taken seen black token old) (stand_from posted taken seen black token new) witnessed now)
+    ⊎ ((new ≡ Ended → old ≡ Ended) × Observes n i (stand_from posted taken seen black token new) witnessed now (HasHalt (halt_word new)))
+announced_done n i found posted taken seen black token old new witnessed now made observed new_is =
     let before : Stand = stand_from posted taken seen black token old in
     elim (cases_eq found 0) [
       | inl running ↦ let word_is : halt_word new ≡ 1 = new_is ∙ halt_marked found 1 running in
-          inl (same_halt new Ended word_is, subst (λ (w : ℕ). Makes n i Announce before (finds before w) told now) (sym word_is) (made running))
+          inl (same_halt new Ended word_is, subst (λ (w : ℕ). MakesEvent n i Announce before (finds before w) witnessed now) (sym word_is) (made running))
       | inr stopped ↦ let word_is : halt_word new ≡ found = new_is ∙ halt_found found 1 stopped in
-          let known = heard stopped in
+          let known = observed stopped in
           inr (
             (λ ended. same_halt old Ended (known.0 (sym word_is ∙ ap halt_word ended))),
-            heard_halt n i found found posted taken seen black token old new new told now known.1 word_is word_is,
+            heard_halt n i found found posted taken seen black token old new new witnessed now known.1 word_is word_is,
           )
     ]

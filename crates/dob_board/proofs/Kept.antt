@@ -8,7 +8,7 @@ use Rattle.atomic_table.proofs.Lists.{at_set}
 use Rattle.dob_safra.specs.declared.token.Token.{Token}
 use Rattle.dob_safra.specs.declared.event.RingEvent.{RingEvent}
 use Rattle.dob_safra.specs.Tokens.{IsPacked}
-use Rattle.dob_safra.specs.Rings.{Ring, IsLawful}
+use Rattle.dob_safra.specs.Rings.{Ring, IsLawfulRing}
 use Rattle.dob_board.specs.declared.view.Stand.{Stand}
 use Rattle.dob_board.specs.declared.view.View.{View}
 use Rattle.dob_board.specs.Words.{ring_of}
@@ -49,14 +49,14 @@ stand_stays n i k old new halt now stand within apart leaves is = record {
   announced = λ first e. is.announced first (leaves.ended k apart first e);
 }
 
--- the log goes on from what was told
-goes_further : (told log more : List RingEvent) → GoesOn told log → GoesOn told (more ++ log)
-goes_further told log more on = (more ++ on.0, ap (λ (l : List RingEvent). more ++ l) on.1 ∙ sym (append_assoc more on.0 told))
+-- the log goes on from what was witnessed
+goes_further : (witnessed log more : List RingEvent) → GoesOn witnessed log → GoesOn witnessed (more ++ log)
+goes_further witnessed log more on = (more ++ on.0, ap (λ (l : List RingEvent). more ++ l) on.1 ∙ sym (append_assoc more on.0 witnessed))
 
 -- the view of one node is right where that node is
-pub one_is_view : (n i id halt : ℕ) (owner : ℕ → ℕ) (ring : Ring) (log told : List RingEvent) (stand : Stand) → i < n → owner i ≡ id →
-    GoesOn told log → IsStand n ring halt i stand → IsView n owner ring halt log id (one n i stand told)
-one_is_view n i id halt owner ring log told stand within owned on is = record { was_told = on; nodes = node; is_closed = λ e. absurd (cc) }
+pub one_is_view : (n i id halt : ℕ) (owner : ℕ → ℕ) (ring : Ring) (log witnessed : List RingEvent) (stand : Stand) → i < n → owner i ≡ id →
+    GoesOn witnessed log → IsStand n ring halt i stand → IsView n owner ring halt log id (one n i stand witnessed)
+one_is_view n i id halt owner ring log witnessed stand within owned on is = record { was_witnessed = on; nodes = node; is_closed = λ e. absurd (cc) }
   where
     node : (k : ℕ) (at : Stand) → get_elem? (stand ∷ []) k ≡ some at → IsNode n owner ring halt id n (i + k) at
     node zero at e =
@@ -83,7 +83,7 @@ has_all n i id port halt owner ring log view within owned was closed =
 other_view : (n i id port halt now : ℕ) (owner : ℕ → ℕ) (old new : Ring) (log more : List RingEvent) (view : View) → i < n → owner i ≡ id → port ≢ id →
     Leaves n i old new halt now → IsView n owner old halt log port view → IsView n owner new now (more ++ log) port view
 other_view n i id port halt now owner old new log more view within owned apart leaves was = record {
-  was_told = goes_further view.told log more was.was_told;
+  was_witnessed = goes_further view.witnessed log more was.was_witnessed;
   nodes = λ k stand e.
       let node = was.nodes k stand e in
       let other : view.from + k ≢ i = λ same. apart (sym node.owned ∙ ap owner same ∙ owned) in
@@ -97,23 +97,23 @@ other_view n i id port halt now owner old new log more view within owned apart l
 }
 
 -- node i is the seat's that stands for it alone, and what it knows is right
-pub own_node : (n i id : ℕ) (words : List ℕ) (views : List View) (stand : Stand) (told : List RingEvent) (held : IsHeld n words views) →
-    get_elem? views id ≡ some (one n i stand told) →
+pub own_node : (n i id : ℕ) (words : List ℕ) (views : List View) (stand : Stand) (witnessed : List RingEvent) (held : IsHeld n words views) →
+    get_elem? views id ≡ some (one n i stand witnessed) →
     IsNode n held.owner (ring_of n words held.black held.token) (slice_index words 2) id n i stand
-own_node n i id words views stand told held at =
+own_node n i id words views stand witnessed held at =
     let first : i + 0 ≡ i = omega arith in
     subst (λ (x : ℕ). IsNode n held.owner (ring_of n words held.black held.token) (slice_index words 2) id n x stand) first
-    ((held.views_are id (one n i stand told) at).nodes 0 stand refl)
+    ((held.views_are id (one n i stand witnessed) at).nodes 0 stand refl)
 
-pub kept : (n i id : ℕ) (words after : List ℕ) (views : List View) (stand new : Stand) (told more : List RingEvent) (black : ℕ → Bool) (token : Token)
-    (held : IsHeld n words views) → get_elem? views id ≡ some (one n i stand told) →
+pub kept : (n i id : ℕ) (words after : List ℕ) (views : List View) (stand new : Stand) (witnessed more : List RingEvent) (black : ℕ → Bool) (token : Token)
+    (held : IsHeld n words views) → get_elem? views id ≡ some (one n i stand witnessed) →
     length after ≡ length words → slice_index after 0 ≡ slice_index words 0 → IsPacked token (slice_index after 1) → slice_index after 2 < 2 + n →
-    IsLawful n (ring_of n after black token) → Runs n (more ++ held.log) (ring_of n after black token) →
+    IsLawfulRing n (ring_of n after black token) → Runs n (more ++ held.log) (ring_of n after black token) →
     Leaves n i (ring_of n words held.black held.token) (ring_of n after black token) (slice_index words 2) (slice_index after 2) →
     IsStand n (ring_of n after black token) (slice_index after 2) i new →
     IsHeld n after (slice_set views id (one n i new (more ++ held.log)))
-kept n i id words after views stand new told more black token held at long nodes packed within lawful runs leaves is =
-    let mine = own_node n i id words views stand told held at in
+kept n i id words after views stand new witnessed more black token held at long nodes packed within lawful runs leaves is =
+    let mine = own_node n i id words views stand witnessed held at in
     record {
       size = held.size;
       wide = long ∙ held.wide;

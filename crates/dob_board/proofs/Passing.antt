@@ -13,7 +13,7 @@ use Rattle.dob_safra.specs.declared.token.Token.{Token}
 use Rattle.dob_safra.specs.declared.event.RingEvent.{RingEvent}
 use Rattle.dob_safra.specs.declared.event.RingEvent.TheVariants.{Pass}
 use Rattle.dob_safra.specs.Tokens.{IsToken, IsPacked, passed_on}
-use Rattle.dob_safra.specs.Rings.{Ring, counter, sum_below, IsLawful, Passes}
+use Rattle.dob_safra.specs.Rings.{Ring, counter, sum_below, IsLawfulRing, Passes}
 use Rattle.dob_safra.specs.Laws.{HasFew}
 use Rattle.dob_safra.proofs.Sums.{sum_same}
 use Rattle.dob_safra.proofs.Kept.{moved_kept}
@@ -21,7 +21,7 @@ use Rattle.dob_board.specs.declared.view.Stand.{Stand}
 use Rattle.dob_board.specs.declared.view.View.{View}
 use Rattle.dob_board.specs.Words.{posted_word, taken_word, ring_of}
 use Rattle.dob_board.specs.Views.{one, token_at, meets, counter_of, passed_by, passes, IsStand, IsInBounds}
-use Rattle.dob_board.specs.Histories.{Makes, Hears, HasToken}
+use Rattle.dob_board.specs.Histories.{MakesEvent, Observes, HasToken}
 use Rattle.dob_board.specs.Rule.{IsHeld}
 use Rattle.dob_board.specs.Plays.{Met, Passed}
 use Rattle.dob_board.proofs.Places.{posted_in, taken_in}
@@ -108,18 +108,18 @@ meets_stand n i halt ring stand is = record {
   announced = is.announced;
 }
 
-meets_allows : (n i id slots : ℕ) (stand : Stand) (told : List RingEvent) →
-    Allows (Held n) slots id (seated n i stand told) 1 (λ x. x) (Met (step slots 1 0 0 none) (seated n i stand told))
-meets_allows n i id slots stand told s held len at small =
+meets_allows : (n i id slots : ℕ) (stand : Stand) (witnessed : List RingEvent) →
+    Allows (Held n) slots id (seated n i stand witnessed) 1 (λ x. x) (Met (step slots 1 0 0 none) (seated n i stand witnessed))
+meets_allows n i id slots stand witnessed s held len at small =
     let ring : Ring = ring_of n s.words held.black held.token in
-    let mine = own_node n i id s.words s.views stand told held at in
+    let mine = own_node n i id s.words s.views stand witnessed held at in
     let is = mine.is_stand in
     let log = held.log in
     let after : View = one n i (meets i stand held.token) log in
     let now : IsStand n ring (slice_index s.words 2) i (meets i stand held.token) = meets_stand n i (slice_index s.words 2) ring stand is in
-    let holds : IsHeld n s.words (slice_set s.views id after) = known n i id s.words s.views stand (meets i stand held.token) told held at now in
-    let heard : Hears n i (meets i stand held.token) told log (HasToken held.token) = record {
-      went_on = (held.views_are id (one n i stand told) at).was_told;
+    let holds : IsHeld n s.words (slice_set s.views id after) = known n i id s.words s.views stand (meets i stand held.token) witnessed held at now in
+    let observed : Observes n i (meets i stand held.token) witnessed log (HasToken held.token) = record {
+      went_on = (held.views_are id (one n i stand witnessed) at).was_witnessed;
       ring = ring;
       runs = held.runs;
       is_lawful = held.lawful;
@@ -135,25 +135,25 @@ meets_allows n i id slots stand told s held len at small =
           subst (λ (p : Stand). (token : Token) × IsPacked token (slice_index s.words 1)
           × (seated n i (meets i stand held.token) log ≡ seated n i (meets i p token) log)
           × ((seen : Token) → p.token ≡ Some seen → token ≡ seen)
-          × Hears n i (meets i p token) told log (HasToken token))
-          stand_is (held.token, held.packed, refl, (λ seen e. sym (is.shows.token seen e).0), heard),
+          × Observes n i (meets i p token) witnessed log (HasToken token))
+          stand_is (held.token, held.packed, refl, (λ seen e. sym (is.shows.token seen e).0), observed),
     )
 
-pub meets_call : (key n i id slots : ℕ) (me : Seated) (stand : Stand) (told : List RingEvent) → key ≡ n → me ≡ seated n i stand told →
+pub meets_call : (key n i id slots : ℕ) (me : Seated) (stand : Stand) (witnessed : List RingEvent) → key ≡ n → me ≡ seated n i stand witnessed →
     Allows (Held key) slots id me 1 (λ x. x) (Met (step slots 1 0 0 none) me)
-meets_call key n i id slots me stand told key_is me_is =
+meets_call key n i id slots me stand witnessed key_is me_is =
     subst (λ (p : ℕ × Seated). Allows (Held p.0) slots id p.1 1 (λ x. x) (Met (step slots 1 0 0 none) p.1))
-    (λ q. (sym key_is q, sym me_is q)) (meets_allows n i id slots stand told)
+    (λ q. (sym key_is q, sym me_is q)) (meets_allows n i id slots stand witnessed)
 
-pub meets_tell : (n i found : ℕ) (me after : Seated) (stand : Stand) (told : List RingEvent) (token : Token) → me ≡ seated n i stand told →
+pub meets_tell : (n i found : ℕ) (me after : Seated) (stand : Stand) (witnessed : List RingEvent) (token : Token) → me ≡ seated n i stand witnessed →
     Met (step 0 1 0 0 none) me found after → IsPacked token found →
-    (after ≡ seated n i (meets i stand token) after.0.told) × ((seen : Token) → stand.token ≡ Some seen → token ≡ seen)
-    × Hears n i (meets i stand token) told after.0.told (HasToken token)
-meets_tell n i found me after stand told token me_is tells packed =
+    (after ≡ seated n i (meets i stand token) after.0.witnessed) × ((seen : Token) → stand.token ≡ Some seen → token ≡ seen)
+    × Observes n i (meets i stand token) witnessed after.0.witnessed (HasToken token)
+meets_tell n i found me after stand witnessed token me_is tells packed =
     let here = (subst (λ (p : Seated). Met (step 0 1 0 0 none) p found after) me_is tells) stand refl refl in
     let same : here.0 ≡ token = packed_once found here.0 token here.1 packed in
-    subst (λ (t : Token). (after ≡ seated n i (meets i stand t) after.0.told) × ((seen : Token) → stand.token ≡ Some seen → t ≡ seen)
-    × Hears n i (meets i stand t) told after.0.told (HasToken t)) same (here.2, here.3, here.4)
+    subst (λ (t : Token). (after ≡ seated n i (meets i stand t) after.0.witnessed) × ((seen : Token) → stand.token ≡ Some seen → t ≡ seen)
+    × Observes n i (meets i stand t) witnessed after.0.witnessed (HasToken t)) same (here.2, here.3, here.4)
 
 -- ---- pass
 
@@ -208,17 +208,17 @@ passes_stand n i old new halt now stand token within moved same next is = record
   announced = λ first e. is.announced first (sym same ∙ e);
 }
 
-pub passes_held : (n i id word : ℕ) (words : List ℕ) (views : List View) (stand : Stand) (token : Token) (told : List RingEvent) (held : IsHeld n words views) →
-    get_elem? views id ≡ some (one n i stand told) → stand.token ≡ Some token → IsPacked (passed_by n stand token) word →
+pub passes_held : (n i id word : ℕ) (words : List ℕ) (views : List View) (stand : Stand) (token : Token) (witnessed : List RingEvent) (held : IsHeld n words views) →
+    get_elem? views id ≡ some (one n i stand witnessed) → stand.token ≡ Some token → IsPacked (passed_by n stand token) word →
     IsHeld n (set words 1 word) (slice_set views id (one n i (passes n i stand token) (Pass i ∷ held.log)))
-    × Makes n i (Pass i) stand (passes n i stand token) told (Pass i ∷ held.log)
-passes_held n i id word words views stand token told held at has packed =
+    × MakesEvent n i (Pass i) stand (passes n i stand token) witnessed (Pass i ∷ held.log)
+passes_held n i id word words views stand token witnessed held at has packed =
     let black : ℕ → Bool = painted i false held.black in
     let next : Token = passed_by n stand token in
     let after : List ℕ = set words 1 word in
     let old : Ring = ring_of n words held.black held.token in
     let new : Ring = ring_of n after black next in
-    let mine = own_node n i id words views stand told held at in
+    let mine = own_node n i id words views stand witnessed held at in
     let is = mine.is_stand in
     let there = is.shows.token token has in
     let here : held.token.at ≡ i = ap (λ (t : Token). t.at) (sym there.0) ∙ there.1 in
@@ -226,11 +226,11 @@ passes_held n i id word words views stand token told held at has packed =
     let next_is : next ≡ passed_on n held.token (counter n old i) (held.black i) = λ q. passed_on n (there.0 q) (sym sums q) (is.shows.colour q) in
     let moved : Passes n old i new = passes_moved n i word words held.black held.token next here next_is in
     let few : HasFew n new = λ k l k_in l_in. omega (arith, moved.posted k l k_in l_in, held.lawful.few k l k_in l_in) in
-    let lawful : IsLawful n new = moved_kept n old new (Pass i) held.size held.lawful moved few in
+    let lawful : IsLawfulRing n new = moved_kept n old new (Pass i) held.size held.lawful moved few in
     let halt : slice_index after 2 ≡ slice_index words 2 = get_or-set_other words 1 2 word 0 (λ e. omega (arith, e)) in
     let now : IsStand n new (slice_index after 2) i (passes n i stand token) =
     passes_stand n i old new (slice_index words 2) (slice_index after 2) stand token mine.within moved halt refl is in (
-      kept n i id words after views stand (passes n i stand token) told (Pass i ∷ []) black next held at
+      kept n i id words after views stand (passes n i stand token) witnessed (Pass i ∷ []) black next held at
           (length-set words 1 word)
           (get_or-set_other words 1 0 word 0 (λ e. omega (arith, e)))
           (subst (IsPacked next) (sym (get_or-set_same words 1 word 0 (omega (arith, held.wide)))) packed)
@@ -241,7 +241,7 @@ passes_held n i id word words views stand token told held at has packed =
           now,
       record {
         log = held.log;
-        went_on = (held.views_are id (one n i stand told) at).was_told;
+        went_on = (held.views_are id (one n i stand witnessed) at).was_witnessed;
         is_next = refl;
         old = old;
         new = new;
@@ -258,11 +258,11 @@ passes_held n i id word words views stand token told held at has packed =
 same_token : (first other : Token) → Some first ≡ Some other → first ≡ other
 same_token first other e = cc
 
-passes_allows : (n i id slots word : ℕ) (stand : Stand) (token : Token) (told : List RingEvent) → stand.token ≡ Some token
+passes_allows : (n i id slots word : ℕ) (stand : Stand) (token : Token) (witnessed : List RingEvent) → stand.token ≡ Some token
     → IsPacked (passed_by n stand token) word →
-    Allows (Held n) slots id (seated n i stand told) 1 (λ _. word) (λ _. Passed (step slots 1 word 0 none) (seated n i stand told) word)
-passes_allows n i id slots word stand token told has packed s held len at small =
-    let made = passes_held n i id word s.words s.views stand token told held at has packed in
+    Allows (Held n) slots id (seated n i stand witnessed) 1 (λ _. word) (λ _. Passed (step slots 1 word 0 none) (seated n i stand witnessed) word)
+passes_allows n i id slots word stand token witnessed has packed s held len at small =
+    let made = passes_held n i id word s.words s.views stand token witnessed held at has packed in
     let log = held.log in (
       one n i (passes n i stand token) (Pass i ∷ log),
       keeps,
@@ -272,42 +272,42 @@ passes_allows n i id slots word stand token told has packed s held len at small 
           let stand_is : stand ≡ stand' = same_stand stand stand' stands in
           let token_is : token ≡ token' = same_token token token' (sym has ∙ ap (λ (x : Stand). x.token) stand_is ∙ has') in
           subst (λ (p : Stand × Token). (seated n i (passes n i stand token) (Pass i ∷ log) ≡ seated n i (passes n i p.0 p.1) (Pass i ∷ log))
-          × Makes n i (Pass i) p.0 (passes n i p.0 p.1) told (Pass i ∷ log))
+          × MakesEvent n i (Pass i) p.0 (passes n i p.0 p.1) witnessed (Pass i ∷ log))
           (λ q. (stand_is q, token_is q)) (refl, made.1),
     )
 
-pub passes_call : (key n i id slots word : ℕ) (me : Seated) (stand : Stand) (token : Token) (told : List RingEvent) → key ≡ n → me ≡ seated n i stand told →
+pub passes_call : (key n i id slots word : ℕ) (me : Seated) (stand : Stand) (token : Token) (witnessed : List RingEvent) → key ≡ n → me ≡ seated n i stand witnessed →
     stand.token ≡ Some token → IsPacked (passed_by n stand token) word →
     Allows (Held key) slots id me 1 (λ _. word) (λ _. Passed (step slots 1 word 0 none) me word)
-passes_call key n i id slots word me stand token told key_is me_is has packed =
+passes_call key n i id slots word me stand token witnessed key_is me_is has packed =
     subst (λ (p : ℕ × Seated). Allows (Held p.0) slots id p.1 1 (λ _. word) (λ _. Passed (step slots 1 word 0 none) p.1 word))
-    (λ q. (sym key_is q, sym me_is q)) (passes_allows n i id slots word stand token told has packed)
+    (λ q. (sym key_is q, sym me_is q)) (passes_allows n i id slots word stand token witnessed has packed)
 
-pub passes_tell : (n i word : ℕ) (me after : Seated) (stand : Stand) (token : Token) (told : List RingEvent) → me ≡ seated n i stand told
+pub passes_tell : (n i word : ℕ) (me after : Seated) (stand : Stand) (token : Token) (witnessed : List RingEvent) → me ≡ seated n i stand witnessed
     → stand.token ≡ Some token →
     Passed (step 0 1 word 0 none) me word after →
-    (after ≡ seated n i (passes n i stand token) after.0.told) × Makes n i (Pass i) stand (passes n i stand token) told after.0.told
-passes_tell n i word me after stand token told me_is has tells =
+    (after ≡ seated n i (passes n i stand token) after.0.witnessed) × MakesEvent n i (Pass i) stand (passes n i stand token) witnessed after.0.witnessed
+passes_tell n i word me after stand token witnessed me_is has tells =
     (subst (λ (p : Seated). Passed (step 0 1 word 0 none) p word after) me_is tells) stand token refl refl has
 
 -- ---- bounds
 
 -- a lawful ring's token at node i is in the bounds that stand for i
-pub heard_bounds : (n i : ℕ) (stand : Stand) (told now : List RingEvent) (token : Token) → Hears n i stand told now (HasToken token) → token.at ≡ i
+pub heard_bounds : (n i : ℕ) (stand : Stand) (witnessed now : List RingEvent) (token : Token) → Observes n i stand witnessed now (HasToken token) → token.at ≡ i
     → IsInBounds n i token
-heard_bounds n i stand told now token heard here = (
+heard_bounds n i stand witnessed now token observed here = (
   here,
   subst (λ (p : ℕ × Token). neg_ℤ (pos ((n - 1 - p.0) * 2 ^ 44)) ≤ℤ p.1.sum)
-      (λ q. ((ap (λ (t : Token). t.at) heard.is_so ∙ here) q, heard.is_so q)) heard.is_lawful.low,
+      (λ q. ((ap (λ (t : Token). t.at) observed.is_so ∙ here) q, observed.is_so q)) observed.is_lawful.low,
   subst (λ (p : ℕ × Token). p.1.sum ≤ℤ pos ((n - 1 - p.0) * 2 ^ 44))
-      (λ q. ((ap (λ (t : Token). t.at) heard.is_so ∙ here) q, heard.is_so q)) heard.is_lawful.high,
+      (λ q. ((ap (λ (t : Token). t.at) observed.is_so ∙ here) q, observed.is_so q)) observed.is_lawful.high,
 )
 
-pub seen_bounds : (n i : ℕ) (stand : Stand) (told now : List RingEvent) (token known : Token) → Hears n i stand told now (HasToken token) →
+pub seen_bounds : (n i : ℕ) (stand : Stand) (witnessed now : List RingEvent) (token known : Token) → Observes n i stand witnessed now (HasToken token) →
     token_at i token ≡ Some known → IsInBounds n i known
-seen_bounds n i stand told now token known heard e =
+seen_bounds n i stand witnessed now token known observed e =
     let there = seen_there i token known e in
-    subst (IsInBounds n i) (sym there.0) (heard_bounds n i stand told now token heard (ap (λ (t : Token). t.at) (sym there.0) ∙ there.1))
+    subst (IsInBounds n i) (sym there.0) (heard_bounds n i stand witnessed now token observed (ap (λ (t : Token). t.at) (sym there.0) ∙ there.1))
 
 -- the token that is passed has a word
 pub passed_fits : (n i : ℕ) (token : Token) (count : ℤ) (black : Bool) → n ≤ 16 → i < n → IsInBounds n i token →

@@ -10,7 +10,7 @@ use Rattle.atomic_table.specs.Table.{Splits}
 use Rattle.atomic_table.proofs.Lists.{at_set}
 use Rattle.dob_safra.specs.declared.event.RingEvent.{RingEvent}
 use Rattle.dob_safra.specs.Tokens.{IsPacked, first_token}
-use Rattle.dob_safra.specs.Rings.{Ring, IsLawful, IsStart, black_token}
+use Rattle.dob_safra.specs.Rings.{Ring, IsLawfulRing, IsStart, black_token}
 use Rattle.dob_safra.specs.Laws.{IsSize}
 use Rattle.dob_board.specs.declared.view.Stand.{Stand}
 use Rattle.dob_board.specs.declared.view.View.{View}
@@ -48,7 +48,7 @@ views_end (x ∷ xs) a b (suc j) e = ⊎_elim (λ l. inl l) (λ r. inr (ap suc r
 pub elsewhere : (n i id fresh_port port halt : ℕ) (owner : ℕ → ℕ) (ring : Ring) (log : List RingEvent) (view : View) → i < n → owner i ≡ id
     → port ≢ id → IsView n owner ring halt log port view → IsView n (port_of i fresh_port owner) ring halt log port view
 elsewhere n i id fresh_port port halt owner ring log view within owned apart was = record {
-  was_told = was.was_told;
+  was_witnessed = was.was_witnessed;
   nodes = λ k stand e.
       let node = was.nodes k stand e in
       let other : view.from + k ≢ i = λ same. apart (sym node.owned ∙ ap owner same ∙ owned) in
@@ -62,15 +62,15 @@ elsewhere n i id fresh_port port halt owner ring log view within owned apart was
 }
 
 abbrev pub view_from : ℕ → ℕ → List Stand → List RingEvent → View
-view_from n from stands told = record { size = n; from = from; stands = stands; told = told; closed = false }
+view_from n from stands witnessed = record { size = n; from = from; stands = stands; witnessed = witnessed; closed = false }
 
-splits : (n i id : ℕ) (words : List ℕ) (views : List View) (stand : Stand) (rest : List Stand) (told : List RingEvent) (held : IsHeld n words views) →
-    get_elem? views id ≡ some (view_from n i (stand ∷ rest) told) →
-    IsHeld n words (slice_set views id (view_from n (suc i) rest told) ++ one n i stand told ∷ [])
-splits n i id words views stand rest told held at =
+splits : (n i id : ℕ) (words : List ℕ) (views : List View) (stand : Stand) (rest : List Stand) (witnessed : List RingEvent) (held : IsHeld n words views) →
+    get_elem? views id ≡ some (view_from n i (stand ∷ rest) witnessed) →
+    IsHeld n words (slice_set views id (view_from n (suc i) rest witnessed) ++ one n i stand witnessed ∷ [])
+splits n i id words views stand rest witnessed held at =
     let ring : Ring = ring_of n words held.black held.token in
     let halt : ℕ = slice_index words 2 in
-    let was = held.views_are id (view_from n i (stand ∷ rest) told) at in
+    let was = held.views_are id (view_from n i (stand ∷ rest) witnessed) at in
     let first : i + 0 ≡ i = omega arith in
     let own : IsNode n held.owner ring halt id n i stand = subst (λ (x : ℕ). IsNode n held.owner ring halt id n x stand) first (was.nodes 0 stand refl) in
     let port' : ℕ = length views in
@@ -89,12 +89,12 @@ splits n i id words views stand rest told held at =
       owner = owner;
       views_are = λ port view e.
           ⊎_elim
-          (λ (there : get_elem? (set views id (view_from n (suc i) rest told)) port ≡ some view).
+          (λ (there : get_elem? (set views id (view_from n (suc i) rest witnessed)) port ≡ some view).
           ⊎_elim
-          (λ (x : (port ≡ id) × (view_from n (suc i) rest told ≡ view)).
+          (λ (x : (port ≡ id) × (view_from n (suc i) rest witnessed ≡ view)).
           subst (λ (p : ℕ × View). IsView n owner ring halt held.log p.0 p.1) (λ q. (sym x.0 q, x.1 q))
           (record {
-            was_told = was.was_told;
+            was_witnessed = was.was_witnessed;
             nodes = λ k at' e'.
                 let node = was.nodes (suc k) at' e' in
                 let apart : i + suc k ≢ i = λ same. omega (arith, same) in
@@ -106,12 +106,12 @@ splits n i id words views stand rest told held at =
           }))
           (λ (x : (port ≢ id) × (get_elem? views port ≡ some view)).
           elsewhere n i id port' port halt held.owner ring held.log view own.within own.owned x.0 (held.views_are port view x.1))
-          (at_set views id port (view_from n (suc i) rest told) view there))
-          (λ (last : (port ≡ length (set views id (view_from n (suc i) rest told))) × (one n i stand told ≡ view)).
-          let port_is : port' ≡ port = sym (length-set views id (view_from n (suc i) rest told)) ∙ sym last.0 in
+          (at_set views id port (view_from n (suc i) rest witnessed) view there))
+          (λ (last : (port ≡ length (set views id (view_from n (suc i) rest witnessed))) × (one n i stand witnessed ≡ view)).
+          let port_is : port' ≡ port = sym (length-set views id (view_from n (suc i) rest witnessed)) ∙ sym last.0 in
           subst (λ (p : ℕ × View). IsView n owner ring halt held.log p.0 p.1) (λ q. (port_is q, last.1 q))
-          (one_is_view n i port' halt owner ring held.log told stand own.within (port_here i port' held.owner) was.was_told own.is_stand))
-          (views_end (set views id (view_from n (suc i) rest told)) (one n i stand told) view port e);
+          (one_is_view n i port' halt owner ring held.log witnessed stand own.within (port_here i port' held.owner) was.was_witnessed own.is_stand))
+          (views_end (set views id (view_from n (suc i) rest witnessed)) (one n i stand witnessed) view port e);
     }
 
 abbrev stands_behind : ℕ → ℕ → List Stand
@@ -169,7 +169,7 @@ first_start n word = record {
   running = ap (λ (halt : ℕ). eqb halt 1) (first_zero n word 2 (omega arith));
 }
 
-first_lawful : (n word : ℕ) → IsSize n → IsLawful n (first_ring n word)
+first_lawful : (n word : ℕ) → IsSize n → IsLawfulRing n (first_ring n word)
 first_lawful n word size =
     let start = first_start n word in
     record {
@@ -231,7 +231,7 @@ begins n word size packed = record {
     view : (port : ℕ) (v : View) → get_elem? (whole n ∷ []) port ≡ some v → IsView n (λ k. 0) (first_ring n word) (slice_index (first_words n word) 2) [] port v
     view zero v e = subst (λ (x : View). IsView n (λ k. 0) (first_ring n word) (slice_index (first_words n word) 2) [] 0 x) (some-injective (whole n) v e)
         (record {
-          was_told = ([], refl);
+          was_witnessed = ([], refl);
           nodes = λ k stand there.
               let found = at_fresh n k (fresh n) stand there in
               let place : k ≡ 0 + k = omega arith in

@@ -9,14 +9,14 @@ use Rattle.dob_safra.specs.declared.token.Token.{Token}
 use Rattle.dob_safra.specs.declared.event.RingEvent.{RingEvent}
 use Rattle.dob_safra.specs.declared.event.RingEvent.TheVariants.{Post, Take}
 use Rattle.dob_safra.specs.Tokens.{IsPacked}
-use Rattle.dob_safra.specs.Rings.{Ring, IsLawful, Colours, Posts, Takes}
+use Rattle.dob_safra.specs.Rings.{Ring, IsLawfulRing, Colours, Posts, Takes}
 use Rattle.dob_safra.specs.Laws.{HasFew}
 use Rattle.dob_safra.proofs.Kept.{moved_kept, raised_at_least, raised_at_most}
 use Rattle.dob_board.specs.declared.view.Stand.{Stand}
 use Rattle.dob_board.specs.declared.view.View.{View}
 use Rattle.dob_board.specs.Words.{posted_word, taken_word, word_count, ring_of}
 use Rattle.dob_board.specs.Views.{one, posts_more, takes_more, sees, IsStand}
-use Rattle.dob_board.specs.Histories.{Makes, Hears, HasPosted}
+use Rattle.dob_board.specs.Histories.{MakesEvent, Observes, HasPosted}
 use Rattle.dob_board.specs.Rule.{IsHeld}
 use Rattle.dob_board.proofs.Places.{posted_in, taken_in, posted_raised, taken_raised, taken_stays, posted_stays, head_stays}
 use Rattle.dob_board.proofs.Kept.{Leaves, own_node, kept}
@@ -85,7 +85,7 @@ posts_stand n i j old new halt now stand other moved same is = record {
 }
 
 -- a ring with a black node isn't announced
-not_announced : (n i : ℕ) (ring : Ring) → IsLawful n ring → i < n → ring.black i ≡ true → ring.announced ≡ false
+not_announced : (n i : ℕ) (ring : Ring) → IsLawfulRing n ring → i < n → ring.black i ≡ true → ring.announced ≡ false
 not_announced n i ring lawful within black =
     elim (cases_Bool ring.announced) [
       | inl ended ↦ let white : ring.black i ≡ false = lawful.all_white ended i within in absurd (cc)
@@ -93,28 +93,28 @@ not_announced n i ring lawful within black =
     ]
 
 -- no other count passes 2^40
-posts_few : (n i j : ℕ) (old new : Ring) → IsLawful n old → Posts n old i j new → old.posted i j < 2 ^ 40 → HasFew n new
+posts_few : (n i j : ℕ) (old new : Ring) → IsLawfulRing n old → Posts n old i j new → old.posted i j < 2 ^ 40 → HasFew n new
 posts_few n i j old new lawful moved room k l k_in l_in =
     raised_at_most n i j k l old.posted new.posted (λ a b. 2 ^ 40) k_in l_in moved.posted room (lawful.few k l k_in l_in)
 
-pub posts : (n i j id : ℕ) (words : List ℕ) (views : List View) (stand : Stand) (told : List RingEvent) (held : IsHeld n words views) →
-    get_elem? views id ≡ some (one n i stand told) → j < n → j ≢ i → stand.black ≡ true → slice_index stand.posted j < 2 ^ 40 →
+pub posts : (n i j id : ℕ) (words : List ℕ) (views : List View) (stand : Stand) (witnessed : List RingEvent) (held : IsHeld n words views) →
+    get_elem? views id ≡ some (one n i stand witnessed) → j < n → j ≢ i → stand.black ≡ true → slice_index stand.posted j < 2 ^ 40 →
     IsHeld n (posted_after n i j words) (slice_set views id (one n i (posts_more stand j) (Post i j ∷ held.log)))
-    × Makes n i (Post i j) stand (posts_more stand j) told (Post i j ∷ held.log)
-posts n i j id words views stand told held at j_in other is_black room =
+    × MakesEvent n i (Post i j) stand (posts_more stand j) witnessed (Post i j ∷ held.log)
+posts n i j id words views stand witnessed held at j_in other is_black room =
     let old : Ring = ring_of n words held.black held.token in
     let new : Ring = ring_of n (posted_after n i j words) held.black held.token in
-    let mine = own_node n i id words views stand told held at in
+    let mine = own_node n i id words views stand witnessed held at in
     let is = mine.is_stand in
     let painted_black : old.black i ≡ true = sym is.shows.colour ∙ is_black in
     let moved : Posts n old i j new = posts_moved n i j words held.black held.token held.wide mine.within j_in painted_black in
     let few : HasFew n new = posts_few n i j old new held.lawful moved (omega (arith, is.shows.posted j j_in, room)) in
-    let lawful : IsLawful n new = moved_kept n old new (Post i j) held.size held.lawful moved few in
+    let lawful : IsLawfulRing n new = moved_kept n old new (Post i j) held.size held.lawful moved few in
     let halt : slice_index (posted_after n i j words) 2 ≡ slice_index words 2 =
     head_stays words (posted_word n i j) (suc (posted_in n words i j)) 2 (omega arith) (omega arith) in
     let after : IsStand n new (slice_index (posted_after n i j words) 2) i (posts_more stand j) =
     posts_stand n i j old new (slice_index words 2) (slice_index (posted_after n i j words) 2) stand other moved halt is in (
-      kept n i id words (posted_after n i j words) views stand (posts_more stand j) told (Post i j ∷ []) held.black held.token held at
+      kept n i id words (posted_after n i j words) views stand (posts_more stand j) witnessed (Post i j ∷ []) held.black held.token held at
           (length-set words (posted_word n i j) (suc (posted_in n words i j)))
           (head_stays words (posted_word n i j) (suc (posted_in n words i j)) 0 (omega arith) (omega arith))
           (subst (IsPacked held.token) (sym (head_stays words (posted_word n i j) (suc (posted_in n words i j)) 1 (omega arith) (omega arith))) held.packed)
@@ -125,7 +125,7 @@ posts n i j id words views stand told held at j_in other is_black room =
           after,
       record {
         log = held.log;
-        went_on = (held.views_are id (one n i stand told) at).was_told;
+        went_on = (held.views_are id (one n i stand witnessed) at).was_witnessed;
         is_next = refl;
         old = old;
         new = new;
@@ -155,12 +155,12 @@ stays n i ring halt = record {
 }
 
 -- a step that changes no word, but what the node knows
-pub known : (n i id : ℕ) (words : List ℕ) (views : List View) (stand new : Stand) (told : List RingEvent) (held : IsHeld n words views) →
-    get_elem? views id ≡ some (one n i stand told) →
+pub known : (n i id : ℕ) (words : List ℕ) (views : List View) (stand new : Stand) (witnessed : List RingEvent) (held : IsHeld n words views) →
+    get_elem? views id ≡ some (one n i stand witnessed) →
     IsStand n (ring_of n words held.black held.token) (slice_index words 2) i new →
     IsHeld n words (slice_set views id (one n i new held.log))
-known n i id words views stand new told held at is =
-    kept n i id words words views stand new told [] held.black held.token held at refl refl held.packed held.halt_within held.lawful held.runs
+known n i id words views stand new witnessed held at is =
+    kept n i id words words views stand new witnessed [] held.black held.token held at refl refl held.packed held.halt_within held.lawful held.runs
     (stays n i (ring_of n words held.black held.token) (slice_index words 2)) is
 
 sees_stand : (n i j halt : ℕ) (ring : Ring) (stand : Stand) → i < n → j < n → IsStand n ring halt i stand
@@ -182,25 +182,25 @@ sees_stand n i j halt ring stand i_in j_in is = record {
   announced = is.announced;
 }
 
-pub looks : (n i j id : ℕ) (words : List ℕ) (views : List View) (stand : Stand) (told : List RingEvent) (held : IsHeld n words views) →
-    get_elem? views id ≡ some (one n i stand told) → j < n →
+pub looks : (n i j id : ℕ) (words : List ℕ) (views : List View) (stand : Stand) (witnessed : List RingEvent) (held : IsHeld n words views) →
+    get_elem? views id ≡ some (one n i stand witnessed) → j < n →
     (number : ℕ) × (number ≡ slice_index words (posted_word n j i))
     × IsHeld n words (slice_set views id (one n i (sees stand j number) held.log))
     × (slice_index stand.seen j ≤ number) × (slice_index stand.taken j ≤ number)
-    × Hears n i (sees stand j number) told held.log (HasPosted j i number)
-looks n i j id words views stand told held at j_in =
+    × Observes n i (sees stand j number) witnessed held.log (HasPosted j i number)
+looks n i j id words views stand witnessed held at j_in =
     let ring : Ring = ring_of n words held.black held.token in
-    let mine = own_node n i id words views stand told held at in
+    let mine = own_node n i id words views stand witnessed held at in
     let is = mine.is_stand in
     let after : IsStand n ring (slice_index words 2) i (sees stand j (ring.posted j i)) =
     sees_stand n i j (slice_index words 2) ring stand mine.within j_in is in (
       ring.posted j i,
       refl,
-      known n i id words views stand (sees stand j (ring.posted j i)) told held at after,
+      known n i id words views stand (sees stand j (ring.posted j i)) witnessed held at after,
       is.seen j j_in,
       omega (arith, is.shows.taken j j_in, held.lawful.in_order j i j_in mine.within),
       record {
-        went_on = (held.views_are id (one n i stand told) at).was_told;
+        went_on = (held.views_are id (one n i stand witnessed) at).was_witnessed;
         ring = ring;
         runs = held.runs;
         is_lawful = held.lawful;
@@ -283,32 +283,32 @@ takes_stand n i j old new halt now stand moved same is = record {
 }
 
 -- a ring with a batch that isn't taken isn't announced
-not_announced_yet : (n i j : ℕ) (ring : Ring) → IsLawful n ring → i < n → j < n → ring.taken i j < ring.posted i j → ring.announced ≡ false
+not_announced_yet : (n i j : ℕ) (ring : Ring) → IsLawfulRing n ring → i < n → j < n → ring.taken i j < ring.posted i j → ring.announced ≡ false
 not_announced_yet n i j ring lawful i_in j_in waiting =
     elim (cases_Bool ring.announced) [
       | inl ended ↦ absurd (omega (arith, lawful.all_taken ended i j i_in j_in, waiting))
       | inr going ↦ going
     ]
 
-pub takes : (n i j id : ℕ) (words : List ℕ) (views : List View) (stand : Stand) (told : List RingEvent) (held : IsHeld n words views) →
-    get_elem? views id ≡ some (one n i stand told) → j < n → slice_index stand.taken j < slice_index stand.seen j →
+pub takes : (n i j id : ℕ) (words : List ℕ) (views : List View) (stand : Stand) (witnessed : List RingEvent) (held : IsHeld n words views) →
+    get_elem? views id ≡ some (one n i stand witnessed) → j < n → slice_index stand.taken j < slice_index stand.seen j →
     IsHeld n (taken_after n j i words) (slice_set views id (one n i (takes_more stand j) (Take j i ∷ held.log)))
-    × Makes n i (Take j i) stand (takes_more stand j) told (Take j i ∷ held.log)
-takes n i j id words views stand told held at j_in waiting =
+    × MakesEvent n i (Take j i) stand (takes_more stand j) witnessed (Take j i ∷ held.log)
+takes n i j id words views stand witnessed held at j_in waiting =
     let black : ℕ → Bool = painted i true held.black in
     let old : Ring = ring_of n words held.black held.token in
     let new : Ring = ring_of n (taken_after n j i words) black held.token in
-    let mine = own_node n i id words views stand told held at in
+    let mine = own_node n i id words views stand witnessed held at in
     let is = mine.is_stand in
     let in_flight : old.taken j i < old.posted j i = omega (arith, is.shows.taken j j_in, is.seen j j_in, waiting) in
     let moved : Takes n old j i new = takes_moved n i j words held.black held.token held.wide mine.within j_in in_flight in
     let few : HasFew n new = λ k l k_in l_in. omega (arith, moved.posted k l k_in l_in, held.lawful.few k l k_in l_in) in
-    let lawful : IsLawful n new = moved_kept n old new (Take j i) held.size held.lawful moved few in
+    let lawful : IsLawfulRing n new = moved_kept n old new (Take j i) held.size held.lawful moved few in
     let write : ℕ = suc (taken_in n words j i) in
     let halt : slice_index (taken_after n j i words) 2 ≡ slice_index words 2 = head_stays words (taken_word n j i) write 2 (omega arith) (omega arith) in
     let after : IsStand n new (slice_index (taken_after n j i words) 2) i (takes_more stand j) =
     takes_stand n i j old new (slice_index words 2) (slice_index (taken_after n j i words) 2) stand moved halt is in (
-      kept n i id words (taken_after n j i words) views stand (takes_more stand j) told (Take j i ∷ []) black held.token held at
+      kept n i id words (taken_after n j i words) views stand (takes_more stand j) witnessed (Take j i ∷ []) black held.token held at
           (length-set words (taken_word n j i) write)
           (head_stays words (taken_word n j i) write 0 (omega arith) (omega arith))
           (subst (IsPacked held.token) (sym (head_stays words (taken_word n j i) write 1 (omega arith) (omega arith))) held.packed)
@@ -319,7 +319,7 @@ takes n i j id words views stand told held at j_in waiting =
           after,
       record {
         log = held.log;
-        went_on = (held.views_are id (one n i stand told) at).was_told;
+        went_on = (held.views_are id (one n i stand witnessed) at).was_witnessed;
         is_next = refl;
         old = old;
         new = new;

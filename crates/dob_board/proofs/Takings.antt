@@ -5,21 +5,21 @@ use Rattle.dob_safra.specs.declared.event.RingEvent.TheVariants.{Take}
 use Rattle.dob_board.specs.declared.view.Stand.{Stand}
 use Rattle.dob_board.specs.declared.seat.NodeSeat.{NodeSeat}
 use Rattle.dob_board.specs.Views.{sees, takes_more}
-use Rattle.dob_board.specs.Histories.{Makes, Hears, HasPosted}
-use Rattle.dob_board.specs.Seats.{stand_of, told_of, IsSameSeat, TakesOne}
+use Rattle.dob_board.specs.Histories.{MakesEvent, Observes, HasPosted}
+use Rattle.dob_board.specs.Seats.{stand_of, witnessed_by, IsSameSeat, TakesOne}
 use Rattle.dob_board.proofs.Done.{makes_later}
 
 pub take_one : (old middle new : NodeSeat) (from number : ℕ) → slice_index old.seen.items from ≤ number → slice_index old.taken.items from < number →
     stand_of middle ≡ sees (stand_of old) from number → IsSameSeat old middle → stand_of new ≡ takes_more (stand_of middle) from →
-    Hears old.nodes old.node (stand_of middle) (told_of old) (told_of middle) (HasPosted from old.node number) →
-    Makes middle.nodes middle.node (Take from middle.node) (stand_of middle) (stand_of new) (told_of middle) (told_of new) → TakesOne old new from
-take_one old middle new from number not_less waiting noted same counted heard made = record {
+    Observes old.nodes old.node (stand_of middle) (witnessed_by old) (witnessed_by middle) (HasPosted from old.node number) →
+    MakesEvent middle.nodes middle.node (Take from middle.node) (stand_of middle) (stand_of new) (witnessed_by middle) (witnessed_by new) → TakesOne old new from
+take_one old middle new from number not_less waiting noted same counted observed made = record {
   number = number;
   not_less = not_less;
   waiting = waiting;
   counted = counted ∙ ap (λ (s : Stand). takes_more s from) noted;
   event =
-      makes_later old.nodes old.node from number (Take from old.node) (stand_of old) (stand_of new) (told_of old) (told_of middle) (told_of new) heard.went_on
-      (subst (λ (p : ℕ × ℕ × Stand). Makes p.0 p.1 (Take from p.1) p.2 (stand_of new) (told_of middle) (told_of new))
+      makes_later old.nodes old.node from number (Take from old.node) (stand_of old) (stand_of new) (witnessed_by old) (witnessed_by middle) (witnessed_by new) observed.went_on
+      (subst (λ (p : ℕ × ℕ × Stand). MakesEvent p.0 p.1 (Take from p.1) p.2 (stand_of new) (witnessed_by middle) (witnessed_by new))
       (λ q. (same.nodes q, same.node q, noted q)) made);
 }

@@ -5,7 +5,7 @@ use lib.ListN.{get_elem?}
 use Rattle.atomic_table.specs.Table.{Me, Step}
 use Rattle.dob_safra.specs.declared.event.RingEvent.{RingEvent}
 use Rattle.dob_safra.specs.Tokens.{IsPacked}
-use Rattle.dob_safra.specs.Rings.{Ring, IsLawful}
+use Rattle.dob_safra.specs.Rings.{Ring, IsLawfulRing}
 use Rattle.dob_board.specs.declared.view.Stand.{Stand}
 use Rattle.dob_board.specs.declared.view.View.{View}
 use Rattle.dob_board.specs.Words.{posted_word, taken_word, word_count}
@@ -19,30 +19,30 @@ first_words n word = slice_set (slice_set (replicate (word_count n) 0) 0 n) 1 wo
 
 -- the nodes from k on at the start, in one view
 abbrev pub behind : ℕ → ℕ → View
-behind n k = record { size = n; from = k; stands = replicate (n - k) (fresh n); told = []; closed = false }
+behind n k = record { size = n; from = k; stands = replicate (n - k) (fresh n); witnessed = []; closed = false }
 
 -- a seat's view, before that of the nodes that come behind it
 abbrev pub joined : View → View → View
-joined behind seat = record { size = seat.size; from = seat.from; stands = seat.stands ++ behind.stands; told = seat.told; closed = false }
+joined behind seat = record { size = seat.size; from = seat.from; stands = seat.stands ++ behind.stands; witnessed = seat.witnessed; closed = false }
 
 -- a view of no node
 abbrev pub nobody : View
-nobody = record { size = 0; from = 0; stands = []; told = []; closed = false }
+nobody = record { size = 0; from = 0; stands = []; witnessed = []; closed = false }
 
 -- the view of all nodes, before it is closed and after
 abbrev pub gathered : ℕ → List Stand → List RingEvent → View
-gathered n stands told = record { size = n; from = 0; stands = stands; told = told; closed = false }
+gathered n stands witnessed = record { size = n; from = 0; stands = stands; witnessed = witnessed; closed = false }
 
 abbrev pub closed_view : ℕ → List Stand → List RingEvent → View
-closed_view n stands told = record { size = n; from = 0; stands = stands; told = told; closed = true }
+closed_view n stands witnessed = record { size = n; from = 0; stands = stands; witnessed = witnessed; closed = true }
 
 -- The events of a log led to this lawful ring, which shows how the nodes stand, from the first one on.
 pub record LeadsTo (n : ℕ) (stands : List Stand) (log : List RingEvent) (ring : Ring) : Type 0 where
   pub runs : Runs n log ring
-  pub is_lawful : IsLawful n ring
+  pub is_lawful : IsLawfulRing n ring
   pub shows : (i : ℕ) (stand : Stand) → get_elem? stands i ≡ some stand → Shows n ring i stand
 
--- A word as a seat that stands for these nodes, from the first one on, and was told that log reads it.
+-- A word as a seat that stands for these nodes, from the first one on, and has witnessed that log reads it.
 pub record IsWord (n : ℕ) (stands : List Stand) (log : List RingEvent) (word found : ℕ) : Type 0 where
   pub ring : Ring
   pub leads : LeadsTo n stands log ring
@@ -61,24 +61,24 @@ pub record IsWord (n : ℕ) (stands : List Stand) (log : List RingEvent) (word f
       slice_index one.posted j ≡ slice_index other.taken i
 
 module _ {S : Type 0} where
-  -- A load of any word by a seat that stands for all nodes. Its view is closed from then on, and what it was told stays.
+  -- A load of any word by a seat that stands for all nodes. Its view is closed from then on, and what it has witnessed stays.
   abbrev pub Read : Step S → Me S View → ℕ → Me S View → Type 0
-  Read st me found after = (after ≡ (closed_view me.0.size me.0.stands after.0.told, me.1)) × (me.0.closed ≡ true → after.0.told ≡ me.0.told)
-      × GoesOn me.0.told after.0.told × IsWord me.0.size me.0.stands after.0.told st.word found
+  Read st me found after = (after ≡ (closed_view me.0.size me.0.stands after.0.witnessed, me.1)) × (me.0.closed ≡ true → after.0.witnessed ≡ me.0.witnessed)
+      × GoesOn me.0.witnessed after.0.witnessed × IsWord me.0.size me.0.stands after.0.witnessed st.word found
 
--- all words of a board of n nodes, as a seat that stands for these nodes and was told that log reads them
+-- all words of a board of n nodes, as a seat that stands for these nodes and has witnessed that log reads them
 pub record AreRead (n : ℕ) (stands : List Stand) (log : List RingEvent) (words : List ℕ) : Type 0 where
   pub count : length words ≡ word_count n
   pub words_are : (w : ℕ) → w < word_count n → IsWord n stands log w (slice_index words w)
 
 -- The words as a closed view tells them: word 1 is that of the ring's token, the end is announced where word 2 is 1 and
 -- nowhere else, and the halt and the counts are those of the nodes.
-pub record AreTold (view : View) (words : List ℕ) : Type 0 where
+pub record AreAsWitnessed (view : View) (words : List ℕ) : Type 0 where
   pub is_closed : view.closed ≡ true
   pub count : length words ≡ word_count view.size
   pub nodes : slice_index words 0 ≡ view.size
-  pub token : (ring : Ring) (word : ℕ) → Runs view.size view.told ring → IsPacked ring.token word → slice_index words 1 ≡ word
-  pub announced : (ring : Ring) → Runs view.size view.told ring → ring.announced ≡ (slice_index words 2 == 1)
+  pub token : (ring : Ring) (word : ℕ) → Runs view.size view.witnessed ring → IsPacked ring.token word → slice_index words 1 ≡ word
+  pub announced : (ring : Ring) → Runs view.size view.witnessed ring → ring.announced ≡ (slice_index words 2 == 1)
   pub halt_seen : (i : ℕ) (stand : Stand) → get_elem? view.stands i ≡ some stand → stand.halt ≢ 0 → slice_index words 2 ≡ stand.halt
   pub failed : (i : ℕ) (stand : Stand) → get_elem? view.stands i ≡ some stand → slice_index words 2 ≡ 2 + i → stand.halt ≡ 2 + i
   pub posted : (i j : ℕ) (stand : Stand) → get_elem? view.stands i ≡ some stand → j < view.size →

@@ -2,7 +2,7 @@
 use Rattle.std.specs.Prelude.{ℕ, Bool, List}
 use Rattle.std.specs.Coded.{Coded-set, coded_ℕ, coded_bool, Π_prop}
 use Rattle.dob_board.specs.declared.view.View.{View}
-use Rattle.dob_board.specs.Boards.{AreTold}
+use Rattle.dob_board.specs.Boards.{AreAsWitnessed}
 
 ℕ-set : IsSet ℕ
 ℕ-set = Coded-set coded_ℕ
@@ -10,8 +10,8 @@ use Rattle.dob_board.specs.Boards.{AreTold}
 Bool-set : IsSet Bool
 Bool-set = Coded-set coded_bool
 
-pub AreTold-prop : (view : View) (words : List ℕ) → IsProp (AreTold view words)
-AreTold-prop view words a b = λ i. record {
+pub AreAsWitnessed-prop : (view : View) (words : List ℕ) → IsProp (AreAsWitnessed view words)
+AreAsWitnessed-prop view words a b = λ i. record {
   is_closed = Bool-set _ _ a.is_closed b.is_closed i;
   count = ℕ-set _ _ a.count b.count i;
   nodes = ℕ-set _ _ a.nodes b.nodes i;

@@ -5,7 +5,7 @@ use lib.ListN.{get_elem?}
 use Rattle.dob_safra.specs.declared.token.Token.{Token}
 use Rattle.dob_safra.specs.declared.event.RingEvent.{RingEvent}
 use Rattle.dob_safra.specs.Tokens.{IsPacked}
-use Rattle.dob_safra.specs.Rings.{Ring, IsLawful}
+use Rattle.dob_safra.specs.Rings.{Ring, IsLawfulRing}
 use Rattle.dob_safra.specs.Laws.{IsSize}
 use Rattle.dob_board.specs.declared.view.Stand.{Stand}
 use Rattle.dob_board.specs.declared.view.View.{View}
@@ -20,16 +20,16 @@ pub record IsNode (n : ℕ) (owner : ℕ → ℕ) (ring : Ring) (halt port size 
   pub owned : owner node ≡ port
   pub is_stand : IsStand n ring halt node stand
 
--- A view that is closed is that of all nodes, and was told the whole log: nothing happens any more without its seat.
+-- A view that is closed is that of all nodes, and has witnessed the whole log: nothing happens any more without its seat.
 pub record IsClosed (n : ℕ) (log : List RingEvent) (view : View) : Type 0 where
   pub from_first : view.from ≡ 0
   pub all_nodes : length view.stands ≡ n
-  pub all_told : view.told ≡ log
+  pub all_witnessed : view.witnessed ≡ log
 
--- The view of a seat is right: the log went on from what it was told; what it says of each of its nodes, from the first one
+-- The view of a seat is right: the log went on from what it has witnessed; what it says of each of its nodes, from the first one
 -- on, is right; and if it is closed it is that of all nodes.
 pub record IsView (n : ℕ) (owner : ℕ → ℕ) (ring : Ring) (halt : ℕ) (log : List RingEvent) (port : ℕ) (view : View) : Type 0 where
-  pub was_told : GoesOn view.told log
+  pub was_witnessed : GoesOn view.witnessed log
   pub nodes : (k : ℕ) (stand : Stand) → get_elem? view.stands k ≡ some stand → IsNode n owner ring halt port view.size (view.from + k) stand
   pub is_closed : view.closed ≡ true → IsClosed n log view
 
@@ -42,7 +42,7 @@ pub record IsHeld (n : ℕ) (words : List ℕ) (views : List View) : Type 0 wher
   pub black : ℕ → Bool
   pub token : Token
   pub packed : IsPacked token (slice_index words 1)
-  pub lawful : IsLawful n (ring_of n words black token)
+  pub lawful : IsLawfulRing n (ring_of n words black token)
   pub halt_within : slice_index words 2 < 2 + n
   pub log : List RingEvent
   pub runs : Runs n log (ring_of n words black token)
@@ -56,4 +56,4 @@ fresh n = record { posted = replicate n 0; taken = replicate n 0; seen = replica
 
 -- all nodes at the start, in one view
 abbrev pub whole : ℕ → View
-whole n = record { size = n; from = 0; stands = replicate n (fresh n); told = []; closed = false }
+whole n = record { size = n; from = 0; stands = replicate n (fresh n); witnessed = []; closed = false }

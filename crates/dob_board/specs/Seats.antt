@@ -5,23 +5,23 @@ use Rattle.dob_safra.specs.declared.token.Token.{Token}
 use Rattle.dob_safra.specs.declared.event.RingEvent.{RingEvent}
 use Rattle.dob_safra.specs.declared.event.RingEvent.TheVariants.{Take, Announce}
 use Rattle.dob_safra.specs.Tokens.{IsPacked, MayAnnounce}
-use Rattle.dob_safra.specs.Rings.{Ring, IsLawful}
+use Rattle.dob_safra.specs.Rings.{Ring, IsLawfulRing}
 use Rattle.dob_board.specs.declared.halt.Halt.{Halt}
 use Rattle.dob_board.specs.declared.halt.Halt.TheVariants.{Running, Ended, Failed}
 use Rattle.dob_board.specs.declared.view.Stand.{Stand}
 use Rattle.dob_board.specs.declared.seat.NodeSeat.{NodeSeat}
 use Rattle.dob_board.specs.declared.board.Closed.{Closed}
 use Rattle.dob_board.specs.Words.{posted_word, taken_word, word_count, halt_word}
-use Rattle.dob_board.specs.Histories.{Runs, GoesOn, Makes, Hears, HasPosted, HasHalt}
+use Rattle.dob_board.specs.Histories.{Runs, GoesOn, MakesEvent, Observes, HasPosted, HasHalt}
 use Rattle.dob_board.specs.Views.{Shows, stand_from, sees, takes_more, counter_of, finds}
 
 -- what the seat knows of its node
 abbrev pub stand_of : NodeSeat → Stand
 stand_of seat = stand_from seat.posted.items seat.taken.items seat.seen.items seat.black seat.token seat.halt
 
--- the events of which the seat was told
-abbrev pub told_of : NodeSeat → List RingEvent
-told_of seat = seat.seat.me.0.told
+-- the events that the seat has witnessed
+abbrev pub witnessed_by : NodeSeat → List RingEvent
+witnessed_by seat = seat.seat.me.0.witnessed
 
 -- it is the seat of the same node of the same board
 pub record IsSameSeat (old new : NodeSeat) : Type 0 where
@@ -47,7 +47,7 @@ pub record TakesOne (old new : NodeSeat) (from : ℕ) : Type 0 where
   pub not_less : slice_index old.seen.items from ≤ number
   pub waiting : slice_index old.taken.items from < number
   pub counted : stand_of new ≡ takes_more (sees (stand_of old) from number) from
-  pub event : Makes old.nodes old.node (Take from old.node) (stand_of old) (stand_of new) (told_of old) (told_of new)
+  pub event : MakesEvent old.nodes old.node (Take from old.node) (stand_of old) (stand_of new) (witnessed_by old) (witnessed_by new)
 
 -- The word of what `from` posted was read: the number was not less than what was seen before, and no more than what was
 -- taken; and the seat took nothing.
@@ -55,7 +55,7 @@ pub record TakesNone (old new : NodeSeat) (from number : ℕ) : Type 0 where
   pub not_less : slice_index old.seen.items from ≤ number
   pub all_taken : slice_index old.taken.items from ≡ number
   pub noted : stand_of new ≡ sees (stand_of old) from number
-  pub heard : Hears old.nodes old.node (stand_of new) (told_of old) (told_of new) (HasPosted from old.node number)
+  pub observed : Observes old.nodes old.node (stand_of new) (witnessed_by old) (witnessed_by new) (HasPosted from old.node number)
 
 -- The node, as the seat knows, may announce the end.
 pub record MayEnd (stand : Stand) : Type 0 where
@@ -64,23 +64,23 @@ pub record MayEnd (stand : Stand) : Type 0 where
   pub may : MayAnnounce token (counter_of stand) stand.black true
 
 -- The seat found that halt, of one of the board's nodes if any, and the one that it knew if it knew one.
-pub record Finds (old new : NodeSeat) (halt : Halt) : Type 0 where
+pub record FindsHalt (old new : NodeSeat) (halt : Halt) : Type 0 where
   pub noted : stand_of new ≡ finds (stand_of old) (halt_word halt)
   pub halt_is : new.halt ≡ halt
   pub within : halt_word halt < 2 + old.nodes
   pub stays : old.halt ≢ Running → halt ≡ old.halt
 
 -- The seat finds that its own node failed only where it knew that.
-abbrev pub KnewOwn : NodeSeat → Halt → Type 0
-KnewOwn old halt = halt ≡ Failed old.node → old.halt ≡ halt
+abbrev pub KnewOwnFailure : NodeSeat → Halt → Type 0
+KnewOwnFailure old halt = halt ≡ Failed old.node → old.halt ≡ halt
 
 -- The seat of node 0, which alone announces the end, finds it only where it knew it.
 abbrev pub KnewEnd : NodeSeat → Halt → Type 0
 KnewEnd old halt = old.node ≡ 0 → halt ≡ Ended → old.halt ≡ Ended
 
--- The seat was told of all events so far, and whether they announced the end.
-abbrev pub HearsHalt : NodeSeat → NodeSeat → Halt → Type 0
-HearsHalt old new halt = Hears old.nodes old.node (stand_of new) (told_of old) (told_of new) (HasHalt (halt_word halt))
+-- The seat has witnessed all events so far, and whether they announced the end.
+abbrev pub ObservesHalt : NodeSeat → NodeSeat → Halt → Type 0
+ObservesHalt old new halt = Observes old.nodes old.node (stand_of new) (witnessed_by old) (witnessed_by new) (HasHalt (halt_word halt))
 
 -- the halt where that one was found, and the node said that it failed the run if it went on
 abbrev pub failed_after : Halt → ℕ → Halt
@@ -88,18 +88,18 @@ failed_after Running node = Failed node
 failed_after Ended node = Ended
 failed_after (Failed other) node = Failed other
 
--- The seat said that its node failed the run: before it did it was told of all events so far, and found whether they announced
+-- The seat said that its node failed the run: before it did it had witnessed all events so far, and found whether they announced
 -- the end; the halt is the one found, and the node's failure where the run went on.
 pub record FailsAfter (old new : NodeSeat) (halt : Halt) : Type 0 where
   pub found : Halt
-  pub heard : HearsHalt old new found
+  pub observed : ObservesHalt old new found
   pub answer : halt ≡ failed_after found old.node
 
--- The seat announced the end; or it was told of all events so far, and the run had failed before, or ended, as it knew.
+-- The seat announced the end; or it has witnessed all events so far, and the run had failed before, or ended, as it knew.
 abbrev pub HasAnnounced : NodeSeat → NodeSeat → Halt → Type 0
 HasAnnounced old new halt =
-    ((halt ≡ Ended) × Makes old.nodes old.node Announce (stand_of old) (stand_of new) (told_of old) (told_of new))
-    ⊎ ((halt ≡ Ended → old.halt ≡ Ended) × HearsHalt old new halt)
+    ((halt ≡ Ended) × MakesEvent old.nodes old.node Announce (stand_of old) (stand_of new) (witnessed_by old) (witnessed_by new))
+    ⊎ ((halt ≡ Ended → old.halt ≡ Ended) × ObservesHalt old new halt)
 
 -- The words of a board of n nodes with these seats: the counts are those of the seats, and 0 of a node with itself; the halt
 -- is the one that each seat knows that knows one, and names a node that knows that it failed; and where it is the end node 0
@@ -120,16 +120,16 @@ pub record AreWords (n : ℕ) (seats : List NodeSeat) (words : List ℕ) : Type 
 
 -- the events of a board that is closed
 abbrev pub log_of : Closed → List RingEvent
-log_of closed = closed.rest.me.0.told
+log_of closed = closed.rest.me.0.witnessed
 
--- What happened on a board of n nodes with these seats until it was closed, the first of it as the seat of node 0 was told:
+-- What happened on a board of n nodes with these seats until it was closed, the first of it as the seat of node 0 has witnessed:
 -- it led to this lawful ring, which shows how each node stands; word 1 is that of its token; and its end is announced where
 -- word 2 is 1, and nowhere else.
 pub record IsHistory (n : ℕ) (seats : List NodeSeat) (closed : Closed) : Type 0 where
-  pub told : (seat : NodeSeat) → slice_get seats 0 ≡ Some seat → GoesOn (told_of seat) (log_of closed)
+  pub witnessed : (seat : NodeSeat) → slice_get seats 0 ≡ Some seat → GoesOn (witnessed_by seat) (log_of closed)
   pub ring : Ring
   pub runs : Runs n (log_of closed) ring
-  pub is_lawful : IsLawful n ring
+  pub is_lawful : IsLawfulRing n ring
   pub shows : (i : ℕ) (seat : NodeSeat) → slice_get seats i ≡ Some seat → Shows n ring i (stand_of seat)
   pub token : IsPacked ring.token (slice_index closed.words.items 1)
   pub announced : ring.announced ≡ (slice_index closed.words.items 2 == 1)

@@ -12,7 +12,7 @@ use Rattle.dob_board.specs.Words.{halt_word}
 
 -- the view of the seat of node i alone
 abbrev pub one : ℕ → ℕ → Stand → List RingEvent → View
-one n i stand told = record { size = n; from = i; stands = stand ∷ []; told = told; closed = false }
+one n i stand witnessed = record { size = n; from = i; stands = stand ∷ []; witnessed = witnessed; closed = false }
 
 -- one batch more was posted to j
 abbrev pub posts_more : Stand → ℕ → Stand

@@ -2,8 +2,8 @@
 ghost use Rattle.std.specs.Prelude.{◌≡◌, ◌≤◌, ◌<◌, [], vec_len, slice_index};
 ghost use Rattle.std.specs.Arc.{arc_value};
 ghost use Rattle.dob_board.specs.Words.{word_count, halt_word};
-ghost use Rattle.dob_board.specs.Boards.{behind, AreTold};
-ghost use Rattle.dob_board.specs.Props.{AreTold-prop};
+ghost use Rattle.dob_board.specs.Boards.{behind, AreAsWitnessed};
+ghost use Rattle.dob_board.specs.Props.{AreAsWitnessed-prop};
 
 use crate::Halt;
 use crate::seat::Words;
@@ -39,7 +39,7 @@ pub struct Closed {
     pub words: Vec<u64>,
     // The seat that stands for all nodes. It takes no room, and knows all that happened.
     pub(crate) rest: Seat<(), View>,
-    pub ghost told: { AreTold rest.me.0 words.items } by { AreTold-prop _ _ },
+    pub ghost witnessed: { AreAsWitnessed rest.me.0 words.items } by { AreAsWitnessed-prop _ _ },
 }
 
 impl Closed {

@@ -3,8 +3,8 @@ ghost use Rattle.std.specs.Prelude.{◌≡◌, ◌≢◌, ◌^◌, ◌<◌, ◌�
 ghost use Rattle.dob_safra.specs.declared.event.RingEvent.TheVariants.{Post, Take};
 ghost use Rattle.dob_board.specs.declared.halt.Halt.TheVariants.{Ended};
 ghost use Rattle.dob_board.specs.Views.{posts_more, takes_more, sees};
-ghost use Rattle.dob_board.specs.Histories.{Makes, Hears, HasPosted};
-ghost use Rattle.dob_board.specs.Seats.{stand_of, told_of, IsSameSeat, TakesOne, TakesNone};
+ghost use Rattle.dob_board.specs.Histories.{MakesEvent, Observes, HasPosted};
+ghost use Rattle.dob_board.specs.Seats.{stand_of, witnessed_by, IsSameSeat, TakesOne, TakesNone};
 
 use crate::rule::{Looks, Posts, Takes};
 use crate::words::{posted_index, taken_index};
@@ -20,8 +20,8 @@ impl NodeSeat {
         requires few { slice_index self.old.posted.items to < 2 ^ 40 }
         ensures counted { stand_of self.new ≡ posts_more (stand_of self.old) to }
         ensures same { IsSameSeat self.old self.new }
-        ensures event { Makes self.old.nodes self.old.node (Post self.old.node to) (stand_of self.old) (stand_of self.new)
-            (told_of self.old) (told_of self.new) }
+        ensures event { MakesEvent self.old.nodes self.old.node (Post self.old.node to) (stand_of self.old) (stand_of self.new)
+            (witnessed_by self.old) (witnessed_by self.new) }
         ensures goes_on { self.old.halt ≢ Ended }
     {
         let word = posted_index(self.nodes, self.node, to);
@@ -39,7 +39,7 @@ impl NodeSeat {
         ensures same { IsSameSeat self.old self.new }
         ensures not_less { slice_index self.old.seen.items from ≤ result }
         ensures taken_first { slice_index self.old.taken.items from ≤ result }
-        ensures heard { Hears self.old.nodes self.old.node (stand_of self.new) (told_of self.old) (told_of self.new) (HasPosted from self.old.node result) }
+        ensures observed { Observes self.old.nodes self.old.node (stand_of self.new) (witnessed_by self.old) (witnessed_by self.new) (HasPosted from self.old.node result) }
     {
         let word = posted_index(self.nodes, from, self.node);
         let number = self.board.shared.load::<Looks>(&mut self.seat, word);
@@ -53,8 +53,8 @@ impl NodeSeat {
         requires waiting { slice_index self.old.taken.items from < slice_index self.old.seen.items from }
         ensures counted { stand_of self.new ≡ takes_more (stand_of self.old) from }
         ensures same { IsSameSeat self.old self.new }
-        ensures event { Makes self.old.nodes self.old.node (Take from self.old.node) (stand_of self.old) (stand_of self.new)
-            (told_of self.old) (told_of self.new) }
+        ensures event { MakesEvent self.old.nodes self.old.node (Take from self.old.node) (stand_of self.old) (stand_of self.new)
+            (witnessed_by self.old) (witnessed_by self.new) }
     {
         let word = taken_index(self.nodes, from, self.node);
         self.board

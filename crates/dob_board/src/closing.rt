@@ -4,7 +4,7 @@ ghost use Rattle.std.specs.Arc.{arc_value};
 ghost use Rattle.dob_board.specs.Words.{word_count};
 ghost use Rattle.dob_board.specs.Boards.{behind, gathered, joined, closed_view, AreRead};
 ghost use Rattle.dob_board.specs.Histories.{GoesOn};
-ghost use Rattle.dob_board.specs.Seats.{stand_of, told_of, IsSeatOf, AreSeats, AreWords, IsHistory};
+ghost use Rattle.dob_board.specs.Seats.{stand_of, witnessed_by, IsSeatOf, AreSeats, AreWords, IsHistory};
 
 use crate::rule::{Back, Reads};
 use crate::seat::Words;
@@ -41,8 +41,8 @@ fn join_all(shared: &Arc<Words>, rest: &mut Seat<(), View>, mut seats: Vec<NodeS
     requires seats { AreSeats rest.old.table_id nodes seats.items }
     requires rest { rest.old.me ≡ (behind nodes nodes, []) }
     ensures of_board { rest.new.table_id ≡ rest.old.table_id }
-    ensures rest { rest.new.me ≡ (gathered nodes (map stand_of seats.items) rest.new.me.0.told, []) }
-    ensures told { (seat : NodeSeat) → slice_get seats.items 0 ≡ Some seat → rest.new.me.0.told ≡ told_of seat }
+    ensures rest { rest.new.me ≡ (gathered nodes (map stand_of seats.items) rest.new.me.0.witnessed, []) }
+    ensures witnessed { (seat : NodeSeat) → slice_get seats.items 0 ≡ Some seat → rest.new.me.0.witnessed ≡ witnessed_by seat }
 {
     while let Some(seat) = seats.pop() {
         join_last(shared, rest, seat, nodes);
@@ -80,9 +80,9 @@ fn read_all(
     requires no_slot { rest.old.me.1 ≡ [] }
     requires all { length rest.old.me.0.stands ≡ nodes }
     requires room { vec_len words ≡ word_count nodes }
-    ensures rest { rest.new.me ≡ (closed_view nodes rest.old.me.0.stands rest.new.me.0.told, []) }
-    ensures told { GoesOn rest.old.me.0.told rest.new.me.0.told }
-    ensures read { AreRead nodes rest.old.me.0.stands rest.new.me.0.told result.items }
+    ensures rest { rest.new.me ≡ (closed_view nodes rest.old.me.0.stands rest.new.me.0.witnessed, []) }
+    ensures witnessed { GoesOn rest.old.me.0.witnessed rest.new.me.0.witnessed }
+    ensures read { AreRead nodes rest.old.me.0.stands rest.new.me.0.witnessed result.items }
 {
     for word in 0..words.len() {
         words[word] = shared.shared.load::<Reads>(rest, word);

@@ -52,5 +52,5 @@ pub struct NodeSeat {
     pub ghost in_bounds: { (t : Token) → token ≡ Some t → IsInBounds nodes node t },
     pub ghost halt_within: { halt_word halt < 2 + nodes },
     pub ghost white: { halt ≡ Ended → black ≡ false },
-    pub ghost view_is: { seat.me ≡ (one nodes node (stand_from posted.items taken.items seen.items black token halt) seat.me.0.told, []) },
+    pub ghost view_is: { seat.me ≡ (one nodes node (stand_from posted.items taken.items seen.items black token halt) seat.me.0.witnessed, []) },
 }

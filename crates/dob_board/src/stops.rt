@@ -1,7 +1,7 @@
 // How a seat finds out that the run ended or failed, and says so.
 ghost use Rattle.std.specs.Prelude.{◌≡◌, ◌≢◌, true};
 ghost use Rattle.dob_board.specs.declared.halt.Halt.TheVariants.{Running, Ended};
-ghost use Rattle.dob_board.specs.Seats.{stand_of, IsSameSeat, MayEnd, Finds, KnewOwn, KnewEnd, HearsHalt, FailsAfter, HasAnnounced};
+ghost use Rattle.dob_board.specs.Seats.{stand_of, IsSameSeat, MayEnd, FindsHalt, KnewOwnFailure, KnewEnd, ObservesHalt, FailsAfter, HasAnnounced};
 
 use crate::rule::{Announces, Fails, Halts};
 use crate::words::{ENDED, FAILED, HALT, RUNNING, halt_after, halt_of};
@@ -11,10 +11,10 @@ impl NodeSeat {
     /// Whether the run goes on. Once a seat found that it doesn't, it finds the same for ever. It finds a failure of its own
     /// node only after it said so itself, an end only while it is white, and as node 0 an end only after it announced it.
     pub fn halted(&mut self) -> Halt
-        ensures found { Finds self.old self.new result }
+        ensures found { FindsHalt self.old self.new result }
         ensures same { IsSameSeat self.old self.new }
-        ensures heard { HearsHalt self.old self.new result }
-        ensures own { KnewOwn self.old result }
+        ensures observed { ObservesHalt self.old self.new result }
+        ensures own { KnewOwnFailure self.old result }
         ensures unannounced { KnewEnd self.old result }
         ensures black { self.old.black ≡ true → result ≢ Ended }
     {
@@ -27,11 +27,11 @@ impl NodeSeat {
     /// the failure of a node that came before, of its own only where it said so itself.
     pub fn announce(&mut self) -> Halt
         requires { MayEnd (stand_of self.old) }
-        ensures found { Finds self.old self.new result }
+        ensures found { FindsHalt self.old self.new result }
         ensures stopped { result ≢ Running }
         ensures same { IsSameSeat self.old self.new }
         ensures event { HasAnnounced self.old self.new result }
-        ensures own { KnewOwn self.old result }
+        ensures own { KnewOwnFailure self.old result }
     {
         let found = self
             .board
@@ -44,10 +44,10 @@ impl NodeSeat {
     /// Says that this node failed the run. The answer is its failure, or the failure of another node that came before, or, if
     /// the node is white, the end, which node 0 announced before.
     pub fn fail(&mut self) -> Halt
-        ensures found { Finds self.old self.new result }
+        ensures found { FindsHalt self.old self.new result }
         ensures stopped { result ≢ Running }
         ensures same { IsSameSeat self.old self.new }
-        ensures heard { FailsAfter self.old self.new result }
+        ensures observed { FailsAfter self.old self.new result }
         ensures unannounced { KnewEnd self.old result }
         ensures black { self.old.black ≡ true → result ≢ Ended }
     {

@@ -3,8 +3,8 @@ ghost use Rattle.std.specs.Prelude.{◌≡◌, ◌≢◌, ◌↔◌, ℕ, ◌^�
 ghost use Rattle.dob_safra.specs.declared.token.Token.{Token};
 ghost use Rattle.dob_safra.specs.declared.event.RingEvent.TheVariants.{Pass};
 ghost use Rattle.dob_board.specs.Views.{counter_of, token_at, meets, passes};
-ghost use Rattle.dob_board.specs.Histories.{Makes, Hears, HasToken};
-ghost use Rattle.dob_board.specs.Seats.{stand_of, told_of, IsSameSeat, MayEnd};
+ghost use Rattle.dob_board.specs.Histories.{MakesEvent, Observes, HasToken};
+ghost use Rattle.dob_board.specs.Seats.{stand_of, witnessed_by, IsSameSeat, MayEnd};
 
 use crate::NodeSeat;
 use crate::rule::{Meets, Passes};
@@ -47,7 +47,7 @@ impl NodeSeat {
         ensures noted { stand_of self.new ≡ meets self.old.node (stand_of self.old) result }
         ensures same { IsSameSeat self.old self.new }
         ensures stays { (known : Token) → self.old.token ≡ Some known → result ≡ known }
-        ensures heard { Hears self.old.nodes self.old.node (stand_of self.new) (told_of self.old) (told_of self.new) (HasToken result) }
+        ensures observed { Observes self.old.nodes self.old.node (stand_of self.new) (witnessed_by self.old) (witnessed_by self.new) (HasToken result) }
     {
         let word = self.board.shared.load::<Meets>(&mut self.seat, TOKEN);
         let Some(token) = unpack(word) else {
@@ -75,7 +75,7 @@ impl NodeSeat {
         ensures passed { (token : Token) → self.old.token ≡ Some token →
             stand_of self.new ≡ passes self.old.nodes self.old.node (stand_of self.old) token }
         ensures same { IsSameSeat self.old self.new }
-        ensures event { Makes self.old.nodes self.old.node (Pass self.old.node) (stand_of self.old) (stand_of self.new) (told_of self.old) (told_of self.new) }
+        ensures event { MakesEvent self.old.nodes self.old.node (Pass self.old.node) (stand_of self.old) (stand_of self.new) (witnessed_by self.old) (witnessed_by self.new) }
     {
         let Some(token) = self.token else {
             unreachable!()

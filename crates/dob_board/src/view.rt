@@ -15,12 +15,12 @@ pub struct Stand {
 }
 
 // What a seat knows: the number of all nodes, its first node, what it knows of its nodes from that one on (of one alone,
-// once the board is open), the events of which it was told, the newest first, and whether it is closed: it is of all nodes,
-// and was told of all events.
+// once the board is open), the events that it has witnessed, the newest first, and whether it is closed: it is of all nodes,
+// and has witnessed all events.
 pub struct View {
     pub size: u64,
     pub from: u64,
     pub stands: LinkedList<Stand>,
-    pub told: LinkedList<RingEvent>,
+    pub witnessed: LinkedList<RingEvent>,
     pub closed: bool,
 }

@@ -13,7 +13,7 @@ use Rattle.dob_update.specs.Batches.{BatchView}
 use Rattle.dob_pieces.specs.Lists.{IsBeginning}
 use Rattle.dob_chan.specs.declared.rule.Note.{Note}
 use Rattle.dob_chan.specs.declared.rule.Told.{Told}
-use Rattle.dob_chan.specs.Inboxes.{most_batches, batches_of, sending, taking, resting, untold, sent_by_ended, IsLawful, AreOf, AreLast, AreNext, AreLeft, GoesOn, HasSent, HasTaken, FitsSender, FitsTaker, IsDelivered}
+use Rattle.dob_chan.specs.Inboxes.{most_batches, batches_of, sending, taking, resting, untold, sent_by_ended, IsLawfulInbox, AreOf, AreLast, AreNext, AreLeft, GoesOn, HasSent, HasTaken, FitsSender, FitsTaker, IsDelivered}
 
 at_end : {V : Type 0} → (l : List V) (a b : V) (j : ℕ) → get_elem? l j ≢ some b → get_elem? (l ++ a ∷ []) j ≡ some b → j ≡ length l
 at_end [] a b zero n e = refl
@@ -44,8 +44,8 @@ of_one P x p zero d below = p
 of_one P x p (suc k) d below = absurd (omega (arith, below))
 
 -- of each sender, what was sent is what was taken and then what is held
-pub of_each : (from : ℕ) (sent taken held : List BatchView) → IsLawful sent taken held
-    → IsLawful (batches_of from sent) (batches_of from taken) (batches_of from held)
+pub of_each : (from : ℕ) (sent taken held : List BatchView) → IsLawfulInbox sent taken held
+    → IsLawfulInbox (batches_of from sent) (batches_of from taken) (batches_of from held)
 of_each from sent taken held is = ap (batches_of from) is ∙ filter-append (λ (b : BatchView). nat_eq b.from from) taken held
 
 -- one batch more is one of its sender's more, and none of another's

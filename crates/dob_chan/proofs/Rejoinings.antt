@@ -13,7 +13,7 @@ use Rattle.dob_chan.specs.declared.rule.Note.{Note}
 use Rattle.dob_chan.specs.declared.ends.SendEnd.{SendEnd}
 use Rattle.dob_chan.specs.declared.ends.TakeEnd.{TakeEnd}
 use Rattle.dob_chan.specs.declared.ends.Rejoined.{Rejoined}
-use Rattle.dob_chan.specs.Inboxes.{batches_of, taking, sent_by_ended, AreLeft, IsLawful}
+use Rattle.dob_chan.specs.Inboxes.{batches_of, taking, sent_by_ended, AreLeft, IsLawfulInbox}
 use Rattle.dob_chan.specs.Ends.{sent_by, place_of, taken_by, AreEndsOf, AreRejoined}
 use Rattle.dob_chan.specs.Rooms.{HasRoom, AreRooms, AreRoomy, AreFilled, HasOneMoreWaiting}
 use Rattle.dob_chan.proofs.Deliveries.{own_more, others_more}
@@ -193,7 +193,7 @@ all_rejoined sends take rooms joined ends count many all filled = (
       let so = filled.1 k room.0 this room.1 there in
       let place : place_of send ≡ k = (ends.1 k send at).1 in
       subst (λ (p : ℕ). (this.sent ≡ length (sent_by send)) × (this.received ≡ length (batches_of p (taken_by take)))
-      × IsLawful (sent_by send) (batches_of p (taken_by take)) this.waiting.items) (sym place) (
+      × IsLawfulInbox (sent_by send) (batches_of p (taken_by take)) this.waiting.items) (sym place) (
         so.0 ∙ has.0 ∙ send.counted,
         so.1 ∙ has.1 ∙ take.counted k (omega (arith, within, count)),
         sym (mapped sent_by sends k send [] at) ∙ so.2,

@@ -8,7 +8,7 @@ use Rattle.dob_chan.specs.declared.rule.Told.{Told}
 use Rattle.dob_chan.specs.declared.ends.SendEnd.{SendEnd}
 use Rattle.dob_chan.specs.declared.ends.TakeEnd.{TakeEnd}
 use Rattle.dob_chan.specs.declared.ends.Rejoined.{Rejoined}
-use Rattle.dob_chan.specs.Inboxes.{IsLawful, AreLast, AreNext, batches_of}
+use Rattle.dob_chan.specs.Inboxes.{IsLawfulInbox, AreLast, AreNext, batches_of}
 
 -- the batches that the end has sent, in order
 abbrev pub sent_by : SendEnd → List BatchView
@@ -85,7 +85,7 @@ WasEmpty taken told = (held : List BatchView) × (length held ≡ 0) × AreNext 
 -- what went through an inbox from one sender: what it sent is what was taken of it and then what is left
 abbrev pub IsRejoined : SendEnd → List BatchView → Rejoined → Type 0
 IsRejoined send taken joined = (joined.sent ≡ length (sent_by send)) × (joined.received ≡ length (batches_of (place_of send) taken))
-    × IsLawful (sent_by send) (batches_of (place_of send) taken) joined.waiting.items
+    × IsLawfulInbox (sent_by send) (batches_of (place_of send) taken) joined.waiting.items
 
 -- one for each sender
 abbrev pub AreRejoined : List SendEnd → List BatchView → List Rejoined → Type 0

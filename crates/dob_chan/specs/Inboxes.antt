@@ -38,8 +38,8 @@ abbrev pub sent_by_ended : List (List BatchView) → ℕ → List BatchView
 sent_by_ended ended from = slice_index_or ended from []
 
 -- What was sent is what was taken and then what the inbox holds.
-abbrev pub IsLawful : List BatchView → List BatchView → List BatchView → Type 0
-IsLawful sent taken held = sent ≡ taken ++ held
+abbrev pub IsLawfulInbox : List BatchView → List BatchView → List BatchView → Type 0
+IsLawfulInbox sent taken held = sent ≡ taken ++ held
 
 -- each is of one of the senders
 abbrev pub AreOf : ℕ → List BatchView → Type 0
@@ -53,11 +53,11 @@ GoesOn told sent taken = IsBeginning told.sent sent × IsBeginning told.taken ta
 -- just its own batches were sent.
 abbrev pub AreLast : ℕ → ℕ → List BatchView → Told → List BatchView → Type 0
 AreLast senders from own told held = AreOf senders held
-    × ((sent taken : List BatchView) × IsLawful sent taken held × (batches_of from sent ≡ own) × GoesOn told sent taken)
+    × ((sent taken : List BatchView) × IsLawfulInbox sent taken held × (batches_of from sent ≡ own) × GoesOn told sent taken)
 
 -- the inbox holds what was sent, since what was told, after what was taken
 abbrev pub AreNext : List BatchView → Told → List BatchView → Type 0
-AreNext taken told held = (sent : List BatchView) × IsLawful sent taken held × GoesOn told sent taken
+AreNext taken told held = (sent : List BatchView) × IsLawfulInbox sent taken held × GoesOn told sent taken
 
 -- The sender, whose own batches are these now, was told that the batch is the last one sent, and what was sent and taken before.
 abbrev pub HasSent : ℕ → BatchView → List BatchView → Told → Told → Type 0
@@ -69,7 +69,7 @@ HasTaken taken old new = (new.taken ≡ taken) × IsBeginning taken new.sent × 
 
 -- what the senders that have ended sent is what was taken of them and then what the inbox holds of them
 abbrev pub AreLeft : List BatchView → List (List BatchView) → List BatchView → Type 0
-AreLeft taken ended held = (from : ℕ) → from < length ended → IsLawful (sent_by_ended ended from) (batches_of from taken) (batches_of from held)
+AreLeft taken ended held = (from : ℕ) → from < length ended → IsLawfulInbox (sent_by_ended ended from) (batches_of from taken) (batches_of from held)
 
 -- A sender's pass knows what was sent with its place, and was told what is so; `seat` tells the pass of each place.
 abbrev pub FitsSender : ℕ → (ℕ → Option ℕ) → List BatchView → List BatchView → ℕ → Note → Type 0
@@ -92,7 +92,7 @@ pub record IsDelivered (held : List BatchView) (views : List Note) : Type 0 wher
   pub seat : ℕ → Option ℕ
   pub sent : List BatchView
   pub taken : List BatchView
-  pub lawful : IsLawful sent taken held
+  pub lawful : IsLawfulInbox sent taken held
   pub of_senders : AreOf senders sent
   pub few : (from : ℕ) → length (batches_of from sent) ≤ most_batches
   pub each : (pass : ℕ) (v : Note) → get_elem? views pass ≡ some v → FitsSender senders seat sent taken pass v × FitsTaker senders taker seat sent taken pass v

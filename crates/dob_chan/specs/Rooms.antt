@@ -3,7 +3,7 @@ use Rattle.std.specs.Prelude.{◌≡◌, ℕ, ◌≤◌, ◌+◌, List, [], ◌�
 use Rattle.dob_update.specs.Batches.{BatchView}
 use Rattle.dob_chan.specs.declared.ends.SendEnd.{SendEnd}
 use Rattle.dob_chan.specs.declared.ends.Rejoined.{Rejoined}
-use Rattle.dob_chan.specs.Inboxes.{IsLawful, batches_of, sent_by_ended}
+use Rattle.dob_chan.specs.Inboxes.{IsLawfulInbox, batches_of, sent_by_ended}
 
 -- an empty room for what is left where so many batches were sent and so many received
 abbrev pub HasRoom : ℕ → ℕ → Rejoined → Type 0
@@ -23,7 +23,7 @@ AreRoomy ended taken rooms = (k : ℕ) (room : Rejoined) → slice_get rooms k �
 abbrev pub AreFilled : List (List BatchView) → List BatchView → List Rejoined → List Rejoined → Type 0
 AreFilled ended taken olds news = (length news ≡ length olds)
     × ((k : ℕ) (old new : Rejoined) → slice_get olds k ≡ Some old → slice_get news k ≡ Some new
-    → (new.sent ≡ old.sent) × (new.received ≡ old.received) × IsLawful (sent_by_ended ended k) (batches_of k taken) new.waiting.items)
+    → (new.sent ≡ old.sent) × (new.received ≡ old.received) × IsLawfulInbox (sent_by_ended ended k) (batches_of k taken) new.waiting.items)
 
 -- one batch more waits
 abbrev pub HasOneMoreWaiting : Rejoined → BatchView → Rejoined → Type 0

@@ -14,7 +14,7 @@ use Rattle.dob_rank.specs.Limits.{IsSmall}
 use Rattle.dob_value.specs.declared.value.Value.{Value}
 use Rattle.dob_value.specs.Entries.{is_draw}
 use Rattle.dob_value.specs.Follows.{ClassTable, IsValueTable}
-use Rattle.dob_run.specs.declared.finishing.Built.{Built}
+use Rattle.dob_run.specs.declared.build_end.Built.{Built}
 use Rattle.dob_run.specs.Built.{IsBuilt}
 use Rattle.dob_run.specs.Faults.{AreWithin}
 use Rattle.dob_dbfile.specs.declared.fault.Fault as file

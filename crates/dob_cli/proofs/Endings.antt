@@ -29,7 +29,7 @@ pub faulty : (AreLines : List ℕ → Type 0) (Holds : Fault → Type 0) (fault 
     → Holds fault → TellsOneFault fault status err → Answers AreLines Holds (ended status (change out out) err)
 faulty AreLines Holds fault status out err holds told = inr (inl (record { fault = fault; holds = holds; told = told; silent = refl }))
 
--- want of memory, with nothing on standard output
+-- lack of memory, with nothing on standard output
 pub memory_told : (status : ℕ) (out : State) (err : Change) → TellsOneFault Memory status err → TellsMemory (ended status (change out out) err)
 memory_told status out err (inl told) = (told, refl)
 memory_told status out err (inr told) = (told, refl)

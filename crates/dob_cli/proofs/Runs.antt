@@ -43,7 +43,7 @@ answers_same AreLines Holds e (inr (inr failed)) = (failed.part.1.same, fault_sa
 
 -- ---- what was done is what the words ask for
 
--- want of memory is a fault of every order
+-- lack of memory is a fault of every order
 memory_answered : (AreLines : List ℕ → Type 0) (Holds : Fault → Type 0) (e : Ending) → Holds Memory → TellsMemory e → Answers AreLines Holds e
 memory_answered AreLines Holds e holds told = inr (inl (record { fault = Memory; holds = holds; told = inl told.0; silent = told.1 }))
 

@@ -35,7 +35,7 @@ module _ (Has : List ℕ → Type 0) (table : ClassTable) (file : IsFileOf Has t
   choice_fault_holds words position (table_fault.Inconsistent class) named holds = absurd holds
   choice_fault_holds words position table_fault.Memory named holds = (position, named, tt)
 
--- where a file that a shelf has isn't opened for want of memory alone, it isn't there where the cause is another one
+-- where a file that a shelf has isn't opened for lack of memory alone, it isn't there where the cause is another one
 pub is_shut : (Has : List ℕ → Type 0) → ((bytes : List ℕ) → Has bytes → shelf_fault.Failed ≡ shelf_fault.Memory) → IsShut Has
 is_shut Has found bytes has = let never : shelf_fault.Failed ≡ shelf_fault.Memory = found bytes has in absurd (cc)
 

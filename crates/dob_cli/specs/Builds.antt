@@ -9,8 +9,8 @@ use Rattle.dob_value.specs.declared.value.Value.{Value}
 use Rattle.dob_value.specs.declared.value.Value.TheVariants.{Win, Loss}
 use Rattle.dob_value.specs.Entries.{is_draw}
 use Rattle.dob_value.specs.Follows.{ClassTable, IsValueTable}
-use Rattle.dob_run.specs.Faults.{HasFault}
-use Rattle.dob_run.specs.Turned.{IsUnheld}
+use Rattle.dob_run.specs.Faults.{HasBuildFault}
+use Rattle.dob_run.specs.BoundedRun.{IsUnheld}
 use Rattle.dob_dbfile.specs.declared.fault.Fault.TheVariants as file_fault
 use Rattle.dob_dbfile.specs.Format.{bytes_of}
 use Rattle.dob_cli.specs.declared.tally.Tally.{Tally}
@@ -86,7 +86,7 @@ IsKeepingFault c file table _ = ⊥
 abbrev pub IsBuildFault : ShelfChange → List ℕ → ℕ → List ℕ → Fault → Type 0
 IsBuildFault c text nodes file SetText = ((set : PieceSet) → text ≢ set_text set) × SameFiles c.before.has c.after.has
 IsBuildFault c text nodes file (Run fault) =
-    (set : PieceSet) × (text ≡ set_text set) × HasFault set nodes 256 64 fault × IsUnheld fault × SameFiles c.before.has c.after.has
+    (set : PieceSet) × (text ≡ set_text set) × HasBuildFault set nodes 256 64 fault × IsUnheld fault × SameFiles c.before.has c.after.has
 IsBuildFault c text nodes file Memory = SameFiles c.before.has c.after.has
 IsBuildFault c text nodes file Io = (table : ClassTable) × IsTableFor text nodes table × IsKeepingFault c file table Io
 IsBuildFault c text nodes file (File fault) =

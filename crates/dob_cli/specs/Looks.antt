@@ -66,7 +66,7 @@ IsLookingFault Has position fault = IsFaultOfLook (GivesWhole Has) position faul
 
 -- a fault of looking for the position of a text: the text's; or memory failed; the file is asked only where the text is a position's
 abbrev pub IsLookFault : (List ℕ → Type 0) → List ℕ → Fault → Type 0
-IsLookFault Has words (Text fault) = text.HasFault words fault
+IsLookFault Has words (Text fault) = text.HasTextFault words fault
 IsLookFault Has words Memory = Unit {0}
 IsLookFault Has words fault = (position : Setup) × IsTextOf words position × IsLookingFault Has position fault
 

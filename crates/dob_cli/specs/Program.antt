@@ -4,7 +4,7 @@ use Rattle.std.specs.Fmt.{decimal}
 use Rattle.dob_pieces.specs.declared.setup.Setup.{Setup}
 use Rattle.dob_pieces.specs.Setups.{IsLegal}
 use Rattle.dob_text.specs.PositionText.{Spells}
-use Rattle.dob_text.specs.Faults.{HasFault}
+use Rattle.dob_text.specs.Faults.{HasTextFault}
 use Rattle.dob_rank.specs.Limits.{HasManyPieces}
 use Rattle.dob_value.specs.declared.value.Value.{Value}
 use Rattle.dob_value.specs.declared.value.Value.TheVariants.{Win, Loss, Draw}
@@ -35,7 +35,7 @@ IsValueLineOf text line = (value : Value) × IsValueOf text value × (line ≡ v
 
 -- The fault is given only where it is one of the text's, or memory failed.
 abbrev pub IsFaultOf : List ℕ → Fault → Type 0
-IsFaultOf text (Text fault) = HasFault text fault
+IsFaultOf text (Text fault) = HasTextFault text fault
 IsFaultOf text SetText = ⊥
 IsFaultOf text SetTooLarge = (position : Setup) × IsLegal position × Spells text position × HasManyPieces position
 IsFaultOf text TooDeep = (position : Setup) × IsLegal position × Spells text position × SomeTooDeep (HasSamePieces position)

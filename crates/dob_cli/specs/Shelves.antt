@@ -29,7 +29,7 @@ shelf_change before after = record { before = before; after = after }
 abbrev pub FailsWhere : ShelfChange → Bool → Type 0
 FailsWhere c failed = c.after.has_failed ≡ (c.before.has_failed || failed)
 
--- whether the shelf failed to make a file, for another cause than want of memory
+-- whether the shelf failed to make a file, for another cause than lack of memory
 abbrev pub is_failed : {X : Type 0} → Result X ShelfFault → Bool
 is_failed (Ok x) = false
 is_failed (Err Memory) = false

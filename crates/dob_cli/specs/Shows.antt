@@ -2,7 +2,7 @@
 use Rattle.std.specs.Prelude.{◌≡◌, ℕ, List}
 use Rattle.dob_pieces.specs.declared.setup.Setup.{Setup}
 use Rattle.dob_text.specs.Drawings.{drawing_of}
-use Rattle.dob_text.specs.Faults.{HasFault}
+use Rattle.dob_text.specs.Faults.{HasTextFault}
 use Rattle.dob_cli.specs.declared.fault.Fault.{Fault}
 use Rattle.dob_cli.specs.declared.fault.Fault.TheVariants.{Text, Memory}
 use Rattle.dob_cli.specs.Endings.{AnswersOver, Ending}
@@ -15,7 +15,7 @@ AreShowLinesOf text lines = (position : Setup) × IsTextOf text position × (lin
 
 -- the fault is the text's, or memory failed
 abbrev pub IsShowFaultOf : List ℕ → Fault → Type 0
-IsShowFaultOf text (Text fault) = HasFault text fault
+IsShowFaultOf text (Text fault) = HasTextFault text fault
 IsShowFaultOf text Memory = Unit {0}
 IsShowFaultOf text _ = ⊥
 

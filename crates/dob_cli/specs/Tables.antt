@@ -38,7 +38,7 @@ HasValueFile Has = (table : ClassTable) × IsValueTable table.set table.values �
 
 -- the fault is the first that the file has, or memory failed
 abbrev pub HasFileFault : (List ℕ → Type 0) → file.Fault → Type 0
-HasFileFault Has fault = (bytes : List ℕ) → Has bytes → (fault ≡ file_fault.Memory) ⊎ reading.HasFault (whole bytes) fault
+HasFileFault Has fault = (bytes : List ℕ) → Has bytes → (fault ≡ file_fault.Memory) ⊎ reading.HasReadFault (whole bytes) fault
 
 -- the text is that of a position
 abbrev pub IsTextOf : List ℕ → Setup → Type 0
@@ -122,7 +122,7 @@ IsProbingFault Has position _ = ⊥
 -- A fault of asking for the position of a text: the text's, or memory failed for the words; the file is asked only where the
 -- text is a position's.
 abbrev pub IsPositionFault : (List ℕ → Type 0) → List ℕ → Fault → Type 0
-IsPositionFault Has words (Text fault) = text.HasFault words fault
+IsPositionFault Has words (Text fault) = text.HasTextFault words fault
 IsPositionFault Has words Memory = Unit {0}
 IsPositionFault Has words fault = (position : Setup) × IsTextOf words position × IsProbingFault Has position fault
 

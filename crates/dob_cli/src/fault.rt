@@ -28,7 +28,7 @@ pub enum Fault {
     File(dob_dbfile::Fault),
     /// E7, E21, E23: the table has no answer.
     Table(dob_probe::Fault),
-    /// E23: a growth was refused for want of memory.
+    /// E23: a growth was refused for lack of memory.
     Memory,
     /// E24: standard output failed, or the file couldn't be opened or made.
     Io,

@@ -44,7 +44,7 @@ const NO_TEXT: &[u8] = b"error: an argument is not UTF-8\n\nFor more information
 /// to the writer `out`, a fault's line and a word on wrong usage to `err`. The answer is the exit status.
 ///
 /// The status is 0 where it is done or help was asked for, 1 where what was asked is refused, 2 for words that it
-/// doesn't know, 3 for want of memory, for a distance above 65,534 plies, for a build that stops and where `out` or a file fails. Where `err` fails,
+/// doesn't know, 3 for lack of memory, for a distance above 65,534 plies, for a build that stops and where `out` or a file fails. Where `err` fails,
 /// the status is the same.
 pub fn run_words<'a, S: Shelf, O: Write, E: Write>(
     rt: &(impl Threads + Wait + Sync),

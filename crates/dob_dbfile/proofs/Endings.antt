@@ -5,7 +5,7 @@ use Rattle.dob_dbfile.specs.declared.fault.Fault.{Fault}
 use Rattle.dob_dbfile.specs.declared.fault.Fault.TheVariants.{SetTooLarge, Truncated, Magic, SetByte, ClassCount, Trailing, Digest, Memory, Io}
 use Rattle.dob_dbfile.specs.Devices.{Stream, after, whole}
 use Rattle.dob_dbfile.specs.Format.{code_bytes}
-use Rattle.dob_dbfile.specs.Reading.{Takes, IsCut, ReadsCodes, IsDigest, EndsWith, HasDigestFault}
+use Rattle.dob_dbfile.specs.Reading.{TakesBytes, IsCut, ReadsCodes, IsDigest, EndsWith, HasDigestFault}
 
 -- a digest that is cut short
 pub digest_cut : (message : List ℕ) (before : ℕ) (stream : Stream) (fault : Fault) → IsCut 32 before stream fault → HasDigestFault message before stream fault
@@ -25,7 +25,7 @@ pub record IsAll (stream : Stream) (room : List ℕ) : Type 0 where
   pub whole : length stream.bytes ≡ length room
   pub same : stream.bytes ≡ room
 
-pub all_taken : (stream : Stream) (room : List ℕ) → Takes stream room → after (length room) stream ≡ whole [] → IsAll stream room
+pub all_taken : (stream : Stream) (room : List ℕ) → TakesBytes stream room → after (length room) stream ≡ whole [] → IsAll stream room
 all_taken stream room taken end =
     let none : drop (length room) stream.bytes ≡ [] = ap (λ (s : Stream). s.bytes) end in
     let rest : length stream.bytes - length room ≡ 0 = sym (length-drop (length room) stream.bytes) ∙ ap length none in

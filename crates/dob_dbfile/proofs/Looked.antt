@@ -18,7 +18,7 @@ use Rattle.dob_dbfile.specs.Devices.{Stream, after, whole}
 use Rattle.dob_dbfile.specs.Format.{bytes_of, contents, records}
 use Rattle.dob_dbfile.specs.Faults.{HasHeader, HasHeaderFault, IsOfSet, header}
 use Rattle.dob_dbfile.specs.Looking.{HasFrontFault, HasRecord, HasRecordFault, RecordsAreEntries, place_of}
-use Rattle.dob_dbfile.specs.Reading.{IsCut, Takes}
+use Rattle.dob_dbfile.specs.Reading.{IsCut, TakesBytes}
 use Rattle.dob_dbfile.proofs.CodeBytes.{code_of_code, pair_back}
 use Rattle.dob_dbfile.proofs.Decoded.{same_records}
 use Rattle.dob_dbfile.proofs.Places.{same_set}
@@ -74,7 +74,7 @@ record_of code bytes value two fits number means =
     ∙ take_all 2 bytes (omega (arith, two))
 
 -- the two bytes that were read are the class's
-pub record_is : (stream : Stream) (class : ℕ) (room : List ℕ) (value : Value) → length room ≡ 2 → Takes (after (place_of class) stream) room
+pub record_is : (stream : Stream) (class : ℕ) (room : List ℕ) (value : Value) → length room ≡ 2 → TakesBytes (after (place_of class) stream) room
     → little_bytes 2 (code_of_value value) ≡ room → IsEntry value → HasRecord stream class value
 record_is stream class room value two taken back entry = record {
   entry = entry;

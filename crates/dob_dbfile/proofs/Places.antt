@@ -10,7 +10,7 @@ use Rattle.dob_dbfile.specs.Devices.{Stream}
 use Rattle.dob_dbfile.specs.Format.{set_bytes}
 use Rattle.dob_rank.specs.Limits.{IsSmall}
 use Rattle.dob_dbfile.specs.Faults.{HasTitle, NamesSet, NamesSmallSet, CountsClasses, header, HasHeader, IsOfSet, IsWhole, IsNoLonger, Ends}
-use Rattle.dob_dbfile.specs.Faults.{HasDigest, HasFault}
+use Rattle.dob_dbfile.specs.Faults.{HasDigest, HasReadFault}
 
 -- ---- one set
 
@@ -100,7 +100,7 @@ fault_at s (suc (suc (suc (suc (suc (suc (suc zero))))))) = fault.Io (length s.b
 fault_at s (suc (suc (suc (suc (suc (suc (suc (suc n)))))))) = fault.Digest
 
 -- each fault has its place
-place_of : (s : Stream) (given : Fault) → HasFault s given → (n : ℕ) × StopsAt s n × (given ≡ fault_at s n)
+place_of : (s : Stream) (given : Fault) → HasReadFault s given → (n : ℕ) × StopsAt s n × (given ≡ fault_at s n)
 place_of s fault.Truncated h =
     let is : fault.Truncated ≡ cut_fault s.fails (length s.bytes) = sym (ap (λ (b : Bool). cut_fault b (length s.bytes)) h.1) in
     elim h.0 [
@@ -182,14 +182,14 @@ place_of s (fault.Io bytes) h =
 place_of s fault.Memory h = absurd h
 
 -- of a stream one fault holds at most
-pub one_fault : (s : Stream) (f g : Fault) → HasFault s f → HasFault s g → f ≡ g
+pub one_fault : (s : Stream) (f g : Fault) → HasReadFault s f → HasReadFault s g → f ≡ g
 one_fault s f g at_f at_g =
     let a = place_of s f at_f in
     let b = place_of s g at_g in
     a.2 ∙ ap (fault_at s) (one_place s a.0 b.0 a.1 b.1) ∙ sym b.2
 
 -- and none where all tests are passed
-pub no_fault : (s : Stream) (set : PieceSet) (f : Fault) → HasDigest set s → HasFault s f → ⊥
+pub no_fault : (s : Stream) (set : PieceSet) (f : Fault) → HasDigest set s → HasReadFault s f → ⊥
 no_fault s set f right at_f =
     let a = place_of s f at_f in
     let all : level s 9 = (set, right) in
@@ -197,7 +197,7 @@ no_fault s set f right at_f =
 
 -- what reading gives says so of each fault
 pub exact_as : {X : Type 0} (s : Stream) (result : Result X Fault) (Passes : X → PieceSet) → IfOk result (λ x. HasDigest (Passes x) s)
-    → IfErr result (λ given. (given ≡ fault.Memory) ⊎ HasFault s given) → (f : Fault) → HasFault s f
+    → IfErr result (λ given. (given ≡ fault.Memory) ⊎ HasReadFault s given) → (f : Fault) → HasReadFault s f
     → MatchResult result (λ _. ⊥) (λ given. (given ≡ fault.Memory) ⊎ (given ≡ f))
 exact_as s (Ok x) Passes right wrong f at_f = no_fault s (Passes x) f right at_f
 exact_as s (Err given) Passes right (inl none) f at_f = inl none

@@ -9,7 +9,7 @@ use Rattle.std.proofs.Math.Bool.{or-false}
 use Rattle.std.proofs.lemmas.List.{length-append, take-append-le, take_at, drop_at}
 use Rattle.dob_dbfile.specs.declared.device.FailedAfter.{FailedAfter}
 use Rattle.dob_dbfile.specs.Writing.{StopsBehind}
-use Rattle.dob_dbfile.specs.Sinks.{AddsFlush, IsNotFlushed, IsSame, Puts, State, StopsAfter, Takes, Works, Writes, change}
+use Rattle.dob_dbfile.specs.Sinks.{AddsFlush, IsNotFlushed, IsSame, Puts, State, StopsAfter, TakesPiece, Works, Writes, change}
 
 -- bytes after bytes
 pub Appends-append : (a b c : Option (List ℕ)) (xs ys : List ℕ) → Appends a b xs → Appends b c ys → Appends a c (xs ++ ys)
@@ -66,7 +66,7 @@ pub works_on : (a b c : State) → Works (change a b) → c.has_failed ≡ (b.ha
 works_on a b c works notes = notes ∙ or-false b.has_failed ∙ works
 
 -- a part of the bytes, and then a call that fails
-pub stops_after : (a b c : State) (bytes : List ℕ) (count : ℕ) → count ≤ length bytes → Takes (change a b) (take count bytes) → IsNotFlushed (change a b)
+pub stops_after : (a b c : State) (bytes : List ℕ) (count : ℕ) → count ≤ length bytes → TakesPiece (change a b) (take count bytes) → IsNotFlushed (change a b)
     → IsSame (change a b) → Keeps b.received c.received → Keeps b.flushes c.flushes → c.writer ≡ b.writer → c.has_failed ≡ (b.has_failed || true)
     → StopsAfter (change a c) bytes count
 stops_after a b c bytes count within part unflushed same kept flushes again notes = record {

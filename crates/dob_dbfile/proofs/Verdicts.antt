@@ -13,14 +13,14 @@ use Rattle.dob_dbfile.specs.declared.fault.Fault.TheVariants as fault
 use Rattle.dob_dbfile.specs.Devices.{Stream, after, whole}
 use Rattle.dob_dbfile.specs.Format.{title, set_bytes, count_bytes, records, contents, bytes_of}
 use Rattle.dob_dbfile.specs.Faults.{CountsClasses, HasHeaderFault, header, contents_len, file_len, HasHeader, IsOfSet, IsNoLonger}
-use Rattle.dob_dbfile.specs.Faults.{HasDigest, IsCutShort, HasFault}
+use Rattle.dob_dbfile.specs.Faults.{HasDigest, IsCutShort, HasReadFault}
 use Rattle.dob_dbfile.specs.Reading.{IsCut, EndsWith, HasRestFault}
 use Rattle.dob_dbfile.proofs.CodeBytes.{records-codes}
 use Rattle.dob_dbfile.proofs.FileBytes.{contents-parts}
 
 -- the fault holds, or memory was refused
 abbrev pub IsFault : Stream → Fault → Type 0
-IsFault stream given = (given ≡ fault.Memory) ⊎ HasFault stream given
+IsFault stream given = (given ≡ fault.Memory) ⊎ HasReadFault stream given
 
 -- a header that is cut short
 pub header_cut : (stream : Stream) (given : Fault) → IsCut 20 0 stream given → IsFault stream given

@@ -19,7 +19,7 @@ use Rattle.dob_dbfile.specs.declared.fault.Fault.TheVariants as fault
 use Rattle.dob_dbfile.specs.Devices.{Stream, whole}
 use Rattle.dob_dbfile.specs.Format.{title, set_bytes, count_bytes, header_of, records, contents, bytes_of}
 use Rattle.dob_rank.specs.Limits.{IsSmall}
-use Rattle.dob_dbfile.specs.Faults.{CountsClasses, NamesSet, contents_len, HasDigest, HasFault}
+use Rattle.dob_dbfile.specs.Faults.{CountsClasses, NamesSet, contents_len, HasDigest, HasReadFault}
 use Rattle.dob_dbfile.proofs.Decoded.{same_records, length-records}
 use Rattle.dob_dbfile.proofs.Places.{same_set, no_fault}
 
@@ -108,7 +108,7 @@ same_files a b is_a is_b same =
 pub read_back : (table : ClassTable) (result : Result ClassTable Fault) → IsSmall table.set → IsTable table.set table.values
     → IfOk result (λ found. (whole (bytes_of table) ≡ whole (bytes_of found)) × HasDigest found.set (whole (bytes_of table)))
     → IfOk result (λ found. IsTable found.set found.values)
-    → IfErr result (λ given. (given ≡ fault.Memory) ⊎ HasFault (whole (bytes_of table)) given)
+    → IfErr result (λ given. (given ≡ fault.Memory) ⊎ HasReadFault (whole (bytes_of table)) given)
     → MatchResult result (λ found. found ≡ table) (λ given. given ≡ fault.Memory)
 read_back table (Ok found) few is right good wrong =
     let stream : Stream = whole (bytes_of table) in

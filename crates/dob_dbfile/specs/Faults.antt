@@ -80,14 +80,14 @@ abbrev pub IsCutShort : Stream → Type 0
 IsCutShort stream = (¬ HasHeader stream) ⊎ ((set : PieceSet) × IsOfSet set stream × ¬ IsWhole set stream)
 
 -- The fault of what a source gives: the first test that fails, or the place where the source fails before that.
-abbrev pub HasFault : Stream → Fault → Type 0
-HasFault stream Truncated = IsCutShort stream × (stream.fails ≡ false)
-HasFault stream Magic = HasHeader stream × HasHeaderFault (header stream) Magic
-HasFault stream SetByte = HasHeader stream × HasHeaderFault (header stream) SetByte
-HasFault stream SetTooLarge = HasHeader stream × HasHeaderFault (header stream) SetTooLarge
-HasFault stream ClassCount = HasHeader stream × HasHeaderFault (header stream) ClassCount
-HasFault stream Trailing = (set : PieceSet) × IsWhole set stream × ¬ IsNoLonger set stream
-HasFault stream Digest = (set : PieceSet) × Ends set stream × ¬ HasDigest set stream
-HasFault stream (Io bytes) = (bytes ≡ length stream.bytes) × (stream.fails ≡ true)
+abbrev pub HasReadFault : Stream → Fault → Type 0
+HasReadFault stream Truncated = IsCutShort stream × (stream.fails ≡ false)
+HasReadFault stream Magic = HasHeader stream × HasHeaderFault (header stream) Magic
+HasReadFault stream SetByte = HasHeader stream × HasHeaderFault (header stream) SetByte
+HasReadFault stream SetTooLarge = HasHeader stream × HasHeaderFault (header stream) SetTooLarge
+HasReadFault stream ClassCount = HasHeader stream × HasHeaderFault (header stream) ClassCount
+HasReadFault stream Trailing = (set : PieceSet) × IsWhole set stream × ¬ IsNoLonger set stream
+HasReadFault stream Digest = (set : PieceSet) × Ends set stream × ¬ HasDigest set stream
+HasReadFault stream (Io bytes) = (bytes ≡ length stream.bytes) × (stream.fails ≡ true)
     × (IsCutShort stream ⊎ ((set : PieceSet) × IsNoLonger set stream))
-HasFault stream Memory = ⊥
+HasReadFault stream Memory = ⊥

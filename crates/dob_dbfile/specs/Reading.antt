@@ -9,7 +9,7 @@ use Rattle.dob_dbfile.specs.Devices.{Stream}
 use Rattle.dob_dbfile.specs.Format.{code_bytes}
 
 -- the room holds the next bytes of the stream
-pub record Takes (stream : Stream) (room : List ℕ) : Type 0 where
+pub record TakesBytes (stream : Stream) (room : List ℕ) : Type 0 where
   pub within : length room ≤ length stream.bytes
   pub same : room ≡ take (length room) stream.bytes
 

@@ -34,8 +34,8 @@ abbrev pub Works : Change → Type 0
 Works c = c.after.has_failed ≡ c.before.has_failed
 
 -- just the bytes came in
-abbrev pub Takes : Change → List ℕ → Type 0
-Takes c bytes = Appends c.before.received c.after.received bytes
+abbrev pub TakesPiece : Change → List ℕ → Type 0
+TakesPiece c bytes = Appends c.before.received c.after.received bytes
 
 -- it wasn't flushed
 abbrev pub IsNotFlushed : Change → Type 0
@@ -47,14 +47,14 @@ AddsFlush received old new = (bytes : List ℕ) → received ≡ Some bytes → 
 
 -- all the bytes came in, it wasn't flushed, and no call failed
 pub record Writes (c : Change) (bytes : List ℕ) : Type 0 where
-  pub all : Takes c bytes
+  pub all : TakesPiece c bytes
   pub unflushed : IsNotFlushed c
   pub works : Works c
   pub same : IsSame c
 
 -- all the bytes came in, it was flushed once after them, and no call failed
 pub record Puts (c : Change) (bytes : List ℕ) : Type 0 where
-  pub all : Takes c bytes
+  pub all : TakesPiece c bytes
   pub flushed : AddsFlush (append_known c.before.received bytes) c.before.flushes c.after.flushes
   pub works : Works c
   pub same : IsSame c
@@ -62,7 +62,7 @@ pub record Puts (c : Change) (bytes : List ℕ) : Type 0 where
 -- so many of the first bytes came in, it wasn't flushed, and a call failed
 pub record StopsAfter (c : Change) (bytes : List ℕ) (count : ℕ) : Type 0 where
   pub within : count ≤ length bytes
-  pub part : Takes c (take count bytes)
+  pub part : TakesPiece c (take count bytes)
   pub unflushed : IsNotFlushed c
   pub fails : c.after.has_failed ≡ true
   pub same : IsSame c

@@ -17,7 +17,7 @@ pub struct MemSink {
 }
 
 impl MemSink {
-    /// An empty sink, which fails only for want of memory.
+    /// An empty sink, which fails only for lack of memory.
     pub fn new(alloc: Global) -> MemSink
         ensures bytes { result.bytes.items ≡ [] }
         ensures flushes { result.flushes.items ≡ [] }

@@ -9,8 +9,8 @@ ghost use Rattle.sha2.specs.Hashers.{Holds256};
 ghost use Rattle.dob_dbfile.specs.Devices.{Stream, after, whole};
 ghost use Rattle.dob_dbfile.specs.Format.{bytes_of};
 ghost use Rattle.dob_rank.specs.Limits.{IsSmall};
-ghost use Rattle.dob_dbfile.specs.Faults.{is_io_error, NamesClasses, CountsClasses, HasHeaderFault, HasDigest, HasFault};
-ghost use Rattle.dob_dbfile.specs.Reading.{Takes, IsCut, IsNoEnd, ReadsCodes, HashesNext, EndsWith, IsDigest, HasDigestFault, HasRestFault};
+ghost use Rattle.dob_dbfile.specs.Faults.{is_io_error, NamesClasses, CountsClasses, HasHeaderFault, HasDigest, HasReadFault};
+ghost use Rattle.dob_dbfile.specs.Reading.{TakesBytes, IsCut, IsNoEnd, ReadsCodes, HashesNext, EndsWith, IsDigest, HasDigestFault, HasRestFault};
 
 use crate::device::{Failed, Source};
 use crate::fault::Fault;
@@ -38,9 +38,9 @@ pub fn read_table<R: Source>(alloc: Global, source: &mut R) -> Result<Table, Fau
     ensures read { (stream : Stream) → R.gives source.old stream → IfOk result (λ table. stream ≡ whole (bytes_of table)) }
     // A fault is given only where it is the first that holds.
     ensures fault { (stream : Stream) → R.gives source.old stream
-        → IfErr result (λ given. (given ≡ Fault.Memory) ⊎ HasFault stream given) }
+        → IfErr result (λ given. (given ≡ Fault.Memory) ⊎ HasReadFault stream given) }
     // Where a fault holds it is given, or memory was refused.
-    ensures exact { (stream : Stream) (fault : AnyFault) → R.gives source.old stream → HasFault stream fault
+    ensures exact { (stream : Stream) (fault : AnyFault) → R.gives source.old stream → HasReadFault stream fault
         → MatchResult result (λ _. ⊥) (λ given. (given ≡ Fault.Memory) ⊎ (given ≡ fault)) }
     // The file of a table is read as that table, unless memory is refused.
     ensures whole { (table : ClassTable) → IsSmall table.set → IsTable table.set table.values → R.gives source.old (whole (bytes_of table))
@@ -61,7 +61,7 @@ fn read_file<R: Source>(alloc: Global, source: &mut R) -> Result<Table, Fault>
         → IfOk result (λ table. (stream ≡ whole (bytes_of table)) × HasDigest table.set stream) }
     ensures table { IfOk result (λ table. IsTable table.set table.values) }
     ensures fault { (stream : Stream) → R.gives source.old stream
-        → IfErr result (λ given. (given ≡ Fault.Memory) ⊎ HasFault stream given) }
+        → IfErr result (λ given. (given ≡ Fault.Memory) ⊎ HasReadFault stream given) }
     ensures memory { (stream : Stream) → R.gives source.old stream → IfErr result (λ given. given ≡ Fault.Memory → NamesClasses stream) }
     ensures failed { R.has_failed source.new ≡ is_io_error result }
 {
@@ -85,7 +85,7 @@ pub(crate) fn count_of(classes: &Classes) -> u64
 pub(crate) fn fill<R: Source>(source: &mut R, room: &mut [u8], before: usize) -> Result<(), Fault>
     requires { before + length room.old < 2 ^ 64 }
     ensures taken { (stream : Stream) → R.gives source.old stream
-        → OnOk result (Takes stream room.new × R.gives source.new (after (length room.new) stream)) }
+        → OnOk result (TakesBytes stream room.new × R.gives source.new (after (length room.new) stream)) }
     ensures cut { (stream : Stream) → R.gives source.old stream → IfErr result (IsCut (length room.new) before stream) }
     ensures known { IfErr result (λ given. given ≢ Fault.Memory) }
     ensures shown { (stream : Stream) → R.shows source.old stream → R.shows source.new stream }

@@ -24,11 +24,11 @@ use Rattle.dob_update.specs.Items.{items_from}
 use Rattle.dob_node.specs.Histories.{value_of}
 use Rattle.dob_node.specs.Quiet.{FollowsAtStatus, IsQuiet, AreGathered}
 use Rattle.dob_node.specs.Openings.{IsOpening, AreOpenings}
-use Rattle.dob_node.specs.Lawful.{known_of, IsLawful}
+use Rattle.dob_node.specs.Lawful.{known_of, AreLawfulNodes}
 use Rattle.dob_node.specs.Laws.{LawfulIsRight}
 use Rattle.dob_node.proofs.Rest.{below_owner, quiet_is_right}
 use Rattle.dob_node.proofs.Kept.{last_now-entry}
-use Rattle.dob_node.proofs.Takes.{value_follows}
+use Rattle.dob_node.proofs.ValuesFollow.{value_follows}
 use Rattle.dob_node.proofs.Totals.{some_known}
 
 some_opening : (set : PieceSet) (openings : List Opening) (class : ℕ) → AreOpenings set openings → class < classes_of set →
@@ -43,7 +43,7 @@ some_opening set openings class are below = at openings (subst (λ n. class < n)
         (get_or (o ∷ openings) class o, each class (get_or (o ∷ openings) class o) (slice_get-get_or (o ∷ openings) class o within))
 
 module _ (set : PieceSet) (n : ℕ) (histories : ℕ → List Settlement) (applied : ℕ → ℕ → List Item) (cell : ℕ → Cell) (value : ℕ → Value)
-    (openings : List Opening) (some : 0 < n) (are : AreOpenings set openings) (lawful : IsLawful set n histories applied cell value)
+    (openings : List Opening) (some : 0 < n) (are : AreOpenings set openings) (lawful : AreLawfulNodes set n histories applied cell value)
     (all : (i j : ℕ) → i < n → j < n → applied i j ≡ items_from (predecessors set) n j (histories i)) where
   open_follows : (class : ℕ) → class < classes_of set → (status : Status) → HasStatus (class_setup set class) status →
       FollowsAtStatus status (known_of set n histories applied class) (value_of (histories (owner_of n class)) class)

@@ -16,7 +16,7 @@ use Rattle.dob_share.specs.Shares.{status_at, cell_at, IsValue, HasValueNow, Fit
 use Rattle.dob_share.specs.Values.{Better, NoWorse}
 use Rattle.dob_node.specs.Stores.{HistoryView}
 use Rattle.dob_node.specs.Histories.{value_of}
-use Rattle.dob_node.specs.Takes.{IsTaken, listed}
+use Rattle.dob_node.specs.TakenItems.{IsTaken, listed}
 use Rattle.dob_node.proofs.Settles.{value_of-more}
 use Rattle.dob_node.proofs.Kept.{better_apart}
 use Rattle.dob_node.proofs.Stored.{same_settlement}

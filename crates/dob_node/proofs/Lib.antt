@@ -11,7 +11,7 @@ pub mod Settles  -- one more settlement: what it leaves, and what it makes
 -- Lawful nodes.
 pub mod Rest  -- quiet nodes hold the value table
 pub mod Kept  -- what copies know of the same items, and which values they can know
-pub mod Takes  -- the value of a cell that sums up what is known follows
+pub mod ValuesFollow  -- the value of a cell that sums up what is known follows
 pub mod Beginnings  -- the histories of nodes at their opening
 pub mod Steps  -- the next item fits its cell, and what is lawful stays so
 pub mod Falls  -- falls: how far they go, and what goes before one

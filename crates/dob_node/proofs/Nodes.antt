@@ -1,7 +1,7 @@
 -- What a node has, told by its piece set, its number and how many nodes there are.
 use Rattle.std.proofs.Common.{◌≡◌, ℕ, ap, ◌∙◌, subst}
 use Rattle.dob_pieces.specs.declared.piece_set.PieceSet.{PieceSet}
-use Rattle.dob_node.specs.Takes.{AreKept}
+use Rattle.dob_node.specs.TakenItems.{AreKept}
 use Rattle.dob_node.specs.declared.node.Node.{Node}
 use Rattle.dob_node.specs.Nodes.{IsSound, outbox_to}
 use Rattle.dob_node.specs.Outboxes.{outbox_in}

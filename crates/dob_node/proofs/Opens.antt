@@ -20,7 +20,7 @@ use Rattle.dob_share.specs.Shares.{places_of, IsOwn, cell_at}
 use Rattle.dob_node.specs.Stores.{HistoryView}
 use Rattle.dob_node.specs.OpeningLists.{opening_value, opening_settlement, opening_settlements, status_in}
 use Rattle.dob_node.specs.Openings.{AreOpenings}
-use Rattle.dob_node.specs.Takes.{HasParities, AreKept}
+use Rattle.dob_node.specs.TakenItems.{HasParities, AreKept}
 use Rattle.dob_node.proofs.Parity.{parities_same}
 
 -- ---- the settlements

@@ -12,7 +12,7 @@ use Rattle.dob_share.specs.declared.share.Share.{Share}
 use Rattle.dob_share.specs.Cells.{Cell, SameCell, CellValue, changed, less_at}
 use Rattle.dob_share.specs.Slots.{IsShortCell}
 use Rattle.dob_share.specs.Shares.{IsOwn, status_at, cell_at, IsValue, HasValueNow}
-use Rattle.dob_node.specs.Takes.{HasParities}
+use Rattle.dob_node.specs.TakenItems.{HasParities}
 
 -- cells that say the same
 pub parities_same : (a b : Cell) → SameCell a b → HasParities b → HasParities a

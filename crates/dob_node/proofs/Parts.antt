@@ -11,7 +11,7 @@ use Rattle.dob_share.specs.declared.share.Share.{Share}
 use Rattle.dob_share.specs.Owners.{class_of_place}
 use Rattle.dob_share.specs.Shares.{places_of, IsOwn, HasValueNow}
 use Rattle.dob_node.specs.Stores.{HistoryView}
-use Rattle.dob_node.specs.Takes.{AreKept}
+use Rattle.dob_node.specs.TakenItems.{AreKept}
 
 module _ (set : PieceSet) (n id : ℕ) (share : Share) (history : HistoryView) (kept : AreKept set n id share history) (place : ℕ)
     (low : place < places_of share) where

@@ -128,10 +128,10 @@ module _ (set : PieceSet) (targets : ℕ → List ℕ) (n : ℕ) (histories : �
       successor p a represents q u at.1 (omega arith) (sym is ∙ copy_knows a q row.0 below)
 
   -- and the value of each successor is known to a copy
-  told : (p : Setup) (a : ℕ) → RepresentsIn set p a → HasStatus p Open → (move : Move) (o : Setup) → Goes p move o → (u : Value) → Has o u →
+  emitted : (p : Setup) (a : ℕ) → RepresentsIn set p a → HasStatus p Open → (move : Move) (o : Setup) → Goes p move o → (u : Value) → Has o u →
       Contains (knows a) u
   unfolding all_known
-  told p a represents goes_on move o goes u has =
+  emitted p a represents goes_on move o goes u has =
       let q = has.class in
       let there = value_there q u has.entry in
       let rep = has.number.representative in
@@ -156,20 +156,20 @@ module _ (set : PieceSet) (targets : ℕ → List ℕ) (n : ℕ) (histories : �
     follows.0,
     follows.1,
     heard p a represents (Loss follows.0) follows.2,
-    λ other next. follows.3 other (told p a represents goes_on next.0 next.1 next.2 (Loss other) next.3),
+    λ other next. follows.3 other (emitted p a represents goes_on next.0 next.1 next.2 (Loss other) next.3),
   )
   follows_known p a represents goes_on (Loss plies) follows = (
     follows.0,
     follows.1,
     heard p a represents (Win follows.0) follows.2,
-    λ other next. follows.3 other (told p a represents goes_on next.0 next.1 next.2 (Win other) next.3),
+    λ other next. follows.3 other (emitted p a represents goes_on next.0 next.1 next.2 (Win other) next.3),
     λ move o goes.
         let entry = has_entry set values o classes (moves_keep_the_set set p move o represents.0.0 goes_on goes) in
-        let win = follows.4 entry.0 (told p a represents goes_on move o goes entry.0 entry.1) in
+        let win = follows.4 entry.0 (emitted p a represents goes_on move o goes entry.0 entry.1) in
         (win.0, subst (Has o) win.1 entry.1),
   )
   follows_known p a represents goes_on Draw follows = (
-    λ plies next. follows.0 plies (told p a represents goes_on next.0 next.1 next.2 (Loss plies) next.3),
+    λ plies next. follows.0 plies (emitted p a represents goes_on next.0 next.1 next.2 (Loss plies) next.3),
     λ wins. follows.1 (λ u there.
         let next = heard p a represents u there in
         let win = wins next.0 next.1 next.2 in

@@ -27,13 +27,13 @@ use Rattle.dob_share.proofs.Learning.{counted}
 use Rattle.dob_share.proofs.Sums.{sums_up_after}
 use Rattle.dob_node.specs.Histories.{copies, items_to, last_now, value_of, known, all_known, IsChained}
 use Rattle.dob_node.specs.Quiet.{FollowsFromKnown}
-use Rattle.dob_node.specs.Lawful.{known_of, IsLawful, IsNextItem, CanApply, AreAfter, IsApplied, AreSettled}
+use Rattle.dob_node.specs.Lawful.{known_of, AreLawfulNodes, IsNextItem, CanApply, AreAfter, IsApplied, AreSettled}
 use Rattle.dob_node.specs.OpeningLists.{opening_value, opening_settlement, opening_settlements}
 use Rattle.dob_node.specs.Falls.{IsFirst, RestsOn, IsSettlement, IsFall, IsCellWithin, HaveFalls}
 use Rattle.dob_node.proofs.Runs.{from_each_below, only_one}
 use Rattle.dob_node.proofs.Rest.{below_owner}
 use Rattle.dob_node.proofs.Kept.{better_apart}
-use Rattle.dob_node.proofs.Takes.{is_that_win, value_follows}
+use Rattle.dob_node.proofs.ValuesFollow.{is_that_win, value_follows}
 use Rattle.dob_node.proofs.Totals.{some_known}
 use Rattle.dob_node.proofs.Steps.{better, can_apply, learns_here}
 use Rattle.dob_node.proofs.Falls.{better_settled, low_class, fall_within, goes_before}
@@ -135,7 +135,7 @@ falls_start set n histories cell chained first cells = record {
 -- ---- one item more
 
 module _ (set : PieceSet) (n : ℕ) (histories : ℕ → List Settlement) (applied : ℕ → ℕ → List Item) (cell : ℕ → Cell) (value : ℕ → Value)
-    (some : 0 < n) (lawful : IsLawful set n histories applied cell value) (have : HaveFalls set n histories cell) (i j : ℕ) (low_i : i < n)
+    (some : 0 < n) (lawful : AreLawfulNodes set n histories applied cell value) (have : HaveFalls set n histories cell) (i j : ℕ) (low_i : i < n)
     (low_j : j < n) (item : Item) (is_next : IsNextItem set n histories applied i j item) where
   abbrev classes : ℕ
   classes = classes_of set

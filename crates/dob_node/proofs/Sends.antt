@@ -16,7 +16,7 @@ use Rattle.dob_share.specs.declared.news.Item.{Item}
 use Rattle.dob_share.specs.Owners.{owner_of}
 use Rattle.dob_update.specs.Items.{items_of}
 use Rattle.dob_update.specs.Batches.{BatchView, OutboxView, empty_outbox, added, IsCut}
-use Rattle.dob_node.specs.Takes.{HasEntries}
+use Rattle.dob_node.specs.TakenItems.{HasEntries}
 use Rattle.dob_node.specs.Outboxes.{outbox_in, IsOutboxTo, AreAdded, IsCutFrom}
 use Rattle.dob_node.proofs.Sounds.{entries_of}
 

@@ -79,24 +79,24 @@ still_begun targets n node xs ys applied rest is =
 -- ---- items of the settlements before a place of a history
 
 -- of one settlement more
-pub told_more : (targets : ℕ → List ℕ) (n node : ℕ) (h : List Settlement) (e : ℕ) (s : Settlement) → slice_get h e ≡ Some s →
+pub emitted_more : (targets : ℕ → List ℕ) (n node : ℕ) (h : List Settlement) (e : ℕ) (s : Settlement) → slice_get h e ≡ Some s →
     items_from targets n node (take (e + 1) h) ≡ items_from targets n node (take e h) ++ items_of targets n node s
-told_more targets n node h e s there =
+emitted_more targets n node h e s there =
     ap (λ xs. items_from targets n node xs) (rw add-one (take-suc h e s (slice_get_within h e s there)
     ∙ ap (λ x. take e h ++ x ∷ []) (get_or_from_slice_get h e s s there)))
     ∙ items_from-append targets n node (take e h) (s ∷ [])
     ∙ ap (λ xs. items_from targets n node (take e h) ++ xs) (append-nil (items_of targets n node s))
 
 -- where the history goes on
-pub told_grown : (targets : ℕ → List ℕ) (n node : ℕ) (h more g : List Settlement) (e : ℕ) → e ≤ length h → g ≡ h ++ more →
+pub emitted_grown : (targets : ℕ → List ℕ) (n node : ℕ) (h more g : List Settlement) (e : ℕ) → e ≤ length h → g ≡ h ++ more →
     items_from targets n node (take e g) ≡ items_from targets n node (take e h)
-told_grown targets n node h more g e within is =
+emitted_grown targets n node h more g e within is =
     ap (λ xs. items_from targets n node (take e xs)) is ∙ ap (λ xs. items_from targets n node xs) (take-append-le e h more within)
 
 -- those and the others are all
-pub told_all : (targets : ℕ → List ℕ) (n node : ℕ) (h : List Settlement) (e : ℕ) →
+pub emitted_all : (targets : ℕ → List ℕ) (n node : ℕ) (h : List Settlement) (e : ℕ) →
     items_from targets n node h ≡ items_from targets n node (take e h) ++ items_from targets n node (drop e h)
-told_all targets n node h e =
+emitted_all targets n node h e =
     ap (λ xs. items_from targets n node xs) (sym (take-append-drop e h)) ∙ items_from-append targets n node (take e h) (drop e h)
 
 -- ---- what the copies of an edge know

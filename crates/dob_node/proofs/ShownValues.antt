@@ -15,12 +15,12 @@ use Rattle.dob_share.specs.declared.news.Item.{Item}
 use Rattle.dob_share.specs.Cells.{Cell, CellValue}
 use Rattle.dob_share.specs.Shares.{IsValue}
 use Rattle.dob_node.specs.Histories.{AreValuesBelow}
-use Rattle.dob_node.specs.Lawful.{IsLawful}
+use Rattle.dob_node.specs.Lawful.{AreLawfulNodes}
 use Rattle.dob_node.proofs.ItemChanges.{one_value}
 
 -- where the cell is that of its class, the value of its status and cell is that of the class
 pub value_shown : (set : PieceSet) (n : ℕ) (histories : ℕ → List Settlement) (applied : ℕ → ℕ → List Item) (cell : ℕ → Cell) (value : ℕ → Value) →
-    IsLawful set n histories applied cell value → (class : ℕ) → class < classes_of set → (shown : Cell) → cell class ≡ shown →
+    AreLawfulNodes set n histories applied cell value → (class : ℕ) → class < classes_of set → (shown : Cell) → cell class ≡ shown →
     (s : Status) (v : Value) → HasStatus (class_setup set class) s → IsValue s shown v → v ≡ value class
 value_shown set n histories applied cell value lawful class low shown same Caught v has is = is ∙ sym (lawful.over class Caught low has (λ open_is. cc))
 value_shown set n histories applied cell value lawful class low shown same Tried v has is = is ∙ sym (lawful.over class Tried low has (λ open_is. cc))

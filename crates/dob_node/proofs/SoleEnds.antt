@@ -13,7 +13,7 @@ use Rattle.dob_share.specs.Shares.{IsOwn, status_at, cell_at, HasValueNow}
 use Rattle.dob_update.specs.Items.{items_from}
 use Rattle.dob_node.specs.Histories.{value_of, AreValuesBelow}
 use Rattle.dob_node.specs.Openings.{AreOpenings}
-use Rattle.dob_node.specs.Lawful.{IsLawful}
+use Rattle.dob_node.specs.Lawful.{AreLawfulNodes}
 use Rattle.dob_node.specs.declared.node.Node.{Node}
 use Rattle.dob_node.specs.Sole.{sole_history, sole_applied, sole_items, cells_below, HasCome, HasMade, IsDone, IsUnderWay}
 use Rattle.dob_node.proofs.Kept.{last_now-entry}
@@ -27,7 +27,7 @@ module _ (node : Node) (steps : ℕ) (made : HasMade steps node) (class : ℕ) (
   abbrev pub history : List Settlement
   history = node.history.settlements
 
-  lawful : IsLawful node.set 1 (sole_history history) (sole_applied made.0) (cells_below (classes_of node.set) node.share) (value_of history)
+  lawful : AreLawfulNodes node.set 1 (sole_history history) (sole_applied made.0) (cells_below (classes_of node.set) node.share) (value_of history)
   lawful = made.1.lawful
 
   -- a class shows the value of the history
@@ -73,7 +73,7 @@ sole_right node steps count values made idle listed number =
     begun = openings_of node.set steps node made.3
 
     done : sole_items node.set node.history.settlements ≡ made.0
-    done = ap (λ xs. sole_items node.set xs) (sym (take_all node.expanded node.history.settlements (omega (arith, idle.0)))) ∙ made.1.told
+    done = ap (λ xs. sole_items node.set xs) (sym (take_all node.expanded node.history.settlements (omega (arith, idle.0)))) ∙ made.1.emitted
         ∙ ap (λ xs. made.0 ++ xs) idle.1 ∙ append-nil made.0
 
     all : (i j : ℕ) → i < 1 → j < 1 → sole_applied made.0 i j ≡ items_from (predecessors node.set) 1 j (sole_history node.history.settlements i)

@@ -31,14 +31,14 @@ use Rattle.dob_update.specs.Items.{items_from}
 use Rattle.dob_node.specs.Histories.{value_of, IsChained}
 use Rattle.dob_node.specs.Quiet.{FollowsAtStatus}
 use Rattle.dob_node.specs.Openings.{IsOpening, AreOpenings}
-use Rattle.dob_node.specs.Lawful.{known_of, IsLawful}
+use Rattle.dob_node.specs.Lawful.{known_of, AreLawfulNodes}
 use Rattle.dob_node.specs.Falls.{IsFirst, HaveFalls}
 use Rattle.dob_node.specs.OpeningLists.{opening_value, opening_settlement, opening_settlements, status_in}
 use Rattle.dob_node.specs.declared.node.Node.{Node}
 use Rattle.dob_node.specs.Nodes.{IsSound, IsOpened}
 use Rattle.dob_node.specs.Sole.{sole_history, sole_applied, sole_items, cells_below, IsSole, HasCome, HasMade}
 use Rattle.dob_node.proofs.Settles.{chained_more, chained_none, value_of-more}
-use Rattle.dob_node.proofs.Takes.{SumsUp-same}
+use Rattle.dob_node.proofs.ValuesFollow.{SumsUp-same}
 use Rattle.dob_node.proofs.Totals.{start_sums}
 use Rattle.dob_node.proofs.Soles.{cell_below, one_owner}
 use Rattle.dob_node.proofs.Rises.{opened_first, fresh_within, falls_start}
@@ -219,7 +219,7 @@ module _ (set : PieceSet) (openings : List Opening) (node : Node) (are : AreOpen
       (at_zero (λ i xs. All (λ (s : Settlement). IsFirst s.now) xs) (opened_first status 1 0 classes))
       (λ class low. fresh_within classes (length (moves_of (class_setup set class))) (cells_below classes node.share class) (cell_is class low))
 
-  lawful : IsLawful set 1 (sole_history h) (sole_applied []) (cells_below classes node.share) (value_of h)
+  lawful : AreLawfulNodes set 1 (sole_history h) (sole_applied []) (cells_below classes node.share) (value_of h)
   lawful = record {
     chained = chained;
     entries = at_zero (λ i xs. All (λ (s : Settlement). IsEntry s.now) xs) (opened_entries status classes);
@@ -244,10 +244,10 @@ module _ (set : PieceSet) (openings : List Opening) (node : Node) (are : AreOpen
     alone = (opened.of.2, opened.of.1);
     statuses = λ class low. subst (λ st. HasStatus (class_setup st class) (status_at node.share class)) (sym opened.of.0)
         (at class (subst (λ (st : PieceSet). class < classes_of st) opened.of.0 low));
-    told = ap (λ k. sole_items node.set (take k node.history.settlements)) opened.nothing.0 ∙ sym opened.nothing.1;
-    lawful = subst (λ st. IsLawful st 1 (sole_history node.history.settlements) (sole_applied []) (cells_below (classes_of st) node.share)
+    emitted = ap (λ k. sole_items node.set (take k node.history.settlements)) opened.nothing.0 ∙ sym opened.nothing.1;
+    lawful = subst (λ st. AreLawfulNodes st 1 (sole_history node.history.settlements) (sole_applied []) (cells_below (classes_of st) node.share)
         (value_of node.history.settlements)) (sym opened.of.0)
-        (subst (λ xs. IsLawful set 1 (sole_history xs) (sole_applied []) (cells_below classes node.share) (value_of xs)) (sym history_is) lawful);
+        (subst (λ xs. AreLawfulNodes set 1 (sole_history xs) (sole_applied []) (cells_below classes node.share) (value_of xs)) (sym history_is) lawful);
     falls = subst (λ st. HaveFalls st 1 (sole_history node.history.settlements) (cells_below (classes_of st) node.share)) (sym opened.of.0)
         (subst (λ xs. HaveFalls set 1 (sole_history xs) (cells_below classes node.share)) (sym history_is) falls);
   }

@@ -14,13 +14,13 @@ use Rattle.dob_share.specs.Shares.{status_at}
 use Rattle.dob_update.specs.Items.{items_of}
 use Rattle.dob_node.specs.Stores.{HistoryView}
 use Rattle.dob_node.specs.Histories.{value_of}
-use Rattle.dob_node.specs.Lawful.{IsLawful}
+use Rattle.dob_node.specs.Lawful.{AreLawfulNodes}
 use Rattle.dob_node.specs.Falls.{HaveFalls}
-use Rattle.dob_node.specs.Takes.{AreKept, listed}
+use Rattle.dob_node.specs.TakenItems.{AreKept, listed}
 use Rattle.dob_node.specs.declared.node.Node.{Node}
 use Rattle.dob_node.specs.Nodes.{IsSound, IsExpanded, HasApplied}
 use Rattle.dob_node.specs.Sole.{sole_history, sole_applied, sole_items, cells_below, IsSole, IsSoleStep, HasCome, HasMade}
-use Rattle.dob_node.proofs.Settles.{told_more, told_grown, told_all}
+use Rattle.dob_node.proofs.Settles.{emitted_more, emitted_grown, emitted_all}
 use Rattle.dob_node.proofs.Soles.{still_lawful, still_falls}
 
 -- ---- steps
@@ -30,32 +30,32 @@ one_further old new steps same come step = subst (λ st. HasCome st (steps + 1) 
 
 -- ---- items
 
--- what is applied, what waits, and what comes with the settlements that aren't told yet
+-- what is applied, what waits, and what comes with the settlements that aren't expanded yet
 pub all_items : (set : PieceSet) (h : List Settlement) (expanded : ℕ) (applied own : List Item) →
     sole_items set (take expanded h) ≡ applied ++ own → sole_items set h ≡ applied ++ (own ++ sole_items set (drop expanded h))
-all_items set h expanded applied own told =
-    told_all (predecessors set) 1 0 h expanded
-    ∙ ap (λ xs. xs ++ sole_items set (drop expanded h)) told
+all_items set h expanded applied own emitted =
+    emitted_all (predecessors set) 1 0 h expanded
+    ∙ ap (λ xs. xs ++ sole_items set (drop expanded h)) emitted
     ∙ append_assoc applied own (sole_items set (drop expanded h))
 
 -- one settlement more
 more_items : (set : PieceSet) (h : List Settlement) (expanded : ℕ) (s : Settlement) (applied own new : List Item) →
     slice_get h expanded ≡ Some s → sole_items set (take expanded h) ≡ applied ++ own → new ≡ own ++ items_of (predecessors set) 1 0 s →
     sole_items set (take (expanded + 1) h) ≡ applied ++ new
-more_items set h expanded s applied own new there told is =
-    told_more (predecessors set) 1 0 h expanded s there
-    ∙ ap (λ xs. xs ++ items_of (predecessors set) 1 0 s) told
+more_items set h expanded s applied own new there emitted is =
+    emitted_more (predecessors set) 1 0 h expanded s there
+    ∙ ap (λ xs. xs ++ items_of (predecessors set) 1 0 s) emitted
     ∙ append_assoc applied own (items_of (predecessors set) 1 0 s)
     ∙ ap (λ xs. applied ++ xs) (sym is)
 
 -- ---- an item applied
 
-same_told : (set : PieceSet) (h grown more : List Settlement) (expanded : ℕ) (item : Item) (applied own new : List Item) → expanded ≤ length h →
+same_emitted : (set : PieceSet) (h grown more : List Settlement) (expanded : ℕ) (item : Item) (applied own new : List Item) → expanded ≤ length h →
     grown ≡ h ++ more → own ≡ item ∷ new → sole_items set (take expanded h) ≡ applied ++ own →
     sole_items set (take expanded grown) ≡ (applied ++ item ∷ []) ++ new
-same_told set h grown more expanded item applied own new low is first told =
-    told_grown (predecessors set) 1 0 h more grown expanded low is
-    ∙ told
+same_emitted set h grown more expanded item applied own new low is first emitted =
+    emitted_grown (predecessors set) 1 0 h more grown expanded low is
+    ∙ emitted
     ∙ ap (λ xs. applied ++ xs) first
     ∙ sym (append_assoc applied (item ∷ []) new)
 
@@ -75,7 +75,7 @@ module _ (old new : Node) (applied : List Item) (sole : IsSole old applied) (sou
   later = new.own.items ++ sole_items old.set (drop old.expanded old.history.settlements)
 
   next : sole_items old.set old.history.settlements ≡ applied ++ step.item ∷ later
-  next = all_items old.set old.history.settlements old.expanded applied old.own.items sole.told
+  next = all_items old.set old.history.settlements old.expanded applied old.own.items sole.emitted
       ∙ ap (λ xs. applied ++ (xs ++ sole_items old.set (drop old.expanded old.history.settlements))) step.first
 
   kept : AreKept old.set 1 0 old.share old.history
@@ -85,7 +85,7 @@ module _ (old new : Node) (applied : List Item) (sole : IsSole old applied) (sou
   kept_now = kept_sole old.set new.n new.id new.share new.history (step.same.2 ∙ sole.alone.0) (step.same.1 ∙ sole.alone.1)
       (subst (λ st. AreKept st new.n new.id new.share new.history) set_is sound.kept)
 
-  lawful_there : IsLawful old.set 1 (sole_history new.history.settlements) (sole_applied after) (cells_below (classes_of old.set) new.share)
+  lawful_there : AreLawfulNodes old.set 1 (sole_history new.history.settlements) (sole_applied after) (cells_below (classes_of old.set) new.share)
       (value_of new.history.settlements)
   lawful_there = still_lawful old.set old.share new.share old.history new.history applied step.item later kept kept_now step.taken sole.lawful next
 
@@ -99,11 +99,11 @@ module _ (old new : Node) (applied : List Item) (sole : IsSole old applied) (sou
     statuses = λ class low. subst (λ status. HasStatus (class_setup new.set class) status) (sym (step.taken.statuses class))
         (subst (λ st. HasStatus (class_setup st class) (status_at old.share class)) (sym set_is)
         (sole.statuses class (subst (λ st. class < classes_of st) set_is low)));
-    told = subst (λ st. sole_items st (take new.expanded new.history.settlements) ≡ after ++ new.own.items) (sym set_is)
+    emitted = subst (λ st. sole_items st (take new.expanded new.history.settlements) ≡ after ++ new.own.items) (sym set_is)
         (subst (λ k. sole_items old.set (take k new.history.settlements) ≡ after ++ new.own.items) (sym step.same.3)
-        (same_told old.set old.history.settlements new.history.settlements (listed step.taken.settled.0) old.expanded step.item applied old.own.items new.own.items
-        sole.sound.told (ap (λ (v : HistoryView). v.settlements) step.taken.settled.2) step.first sole.told));
-    lawful = subst (λ st. IsLawful st 1 (sole_history new.history.settlements) (sole_applied after) (cells_below (classes_of st) new.share)
+        (same_emitted old.set old.history.settlements new.history.settlements (listed step.taken.settled.0) old.expanded step.item applied old.own.items new.own.items
+        sole.sound.emitted (ap (λ (v : HistoryView). v.settlements) step.taken.settled.2) step.first sole.emitted));
+    lawful = subst (λ st. AreLawfulNodes st 1 (sole_history new.history.settlements) (sole_applied after) (cells_below (classes_of st) new.share)
         (value_of new.history.settlements)) (sym set_is) lawful_there;
     falls = subst (λ st. HaveFalls st 1 (sole_history new.history.settlements) (cells_below (classes_of st) new.share)) (sym set_is) falls_there;
   }
@@ -135,14 +135,14 @@ module _ (old new : Node) (applied : List Item) (sole : IsSole old applied) (sou
     statuses = λ class low. subst (λ share. HasStatus (class_setup new.set class) (status_at share class)) (sym step.same.3)
         (subst (λ st. HasStatus (class_setup st class) (status_at old.share class)) (sym set_same)
         (sole.statuses class (subst (λ st. class < classes_of st) set_same low)));
-    told = subst (λ st. sole_items st (take new.expanded new.history.settlements) ≡ applied ++ new.own.items) (sym set_same)
+    emitted = subst (λ st. sole_items st (take new.expanded new.history.settlements) ≡ applied ++ new.own.items) (sym set_same)
         (subst (λ k. sole_items old.set (take k new.history.settlements) ≡ applied ++ new.own.items) (sym step.expanded)
         (subst (λ h. sole_items old.set (take (old.expanded + 1) h) ≡ applied ++ new.own.items) (sym history_is)
-        (more_items old.set old.history.settlements old.expanded step.settlement applied old.own.items new.own.items step.first sole.told own_same)));
-    lawful = subst (λ st. IsLawful st 1 (sole_history new.history.settlements) (sole_applied applied) (cells_below (classes_of st) new.share)
+        (more_items old.set old.history.settlements old.expanded step.settlement applied old.own.items new.own.items step.first sole.emitted own_same)));
+    lawful = subst (λ st. AreLawfulNodes st 1 (sole_history new.history.settlements) (sole_applied applied) (cells_below (classes_of st) new.share)
         (value_of new.history.settlements)) (sym set_same)
-        (subst (λ h. IsLawful old.set 1 (sole_history h) (sole_applied applied) (cells_below (classes_of old.set) new.share) (value_of h)) (sym history_is)
-        (subst (λ share. IsLawful old.set 1 (sole_history old.history.settlements) (sole_applied applied) (cells_below (classes_of old.set) share)
+        (subst (λ h. AreLawfulNodes old.set 1 (sole_history h) (sole_applied applied) (cells_below (classes_of old.set) new.share) (value_of h)) (sym history_is)
+        (subst (λ share. AreLawfulNodes old.set 1 (sole_history old.history.settlements) (sole_applied applied) (cells_below (classes_of old.set) share)
         (value_of old.history.settlements)) (sym step.same.3) sole.lawful));
     falls = subst (λ st. HaveFalls st 1 (sole_history new.history.settlements) (cells_below (classes_of st) new.share)) (sym set_same)
         (subst (λ h. HaveFalls old.set 1 (sole_history h) (cells_below (classes_of old.set) new.share)) (sym history_is)

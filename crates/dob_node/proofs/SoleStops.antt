@@ -9,7 +9,7 @@ use Rattle.dob_rank.specs.ClassRows.{class_setup}
 use Rattle.dob_pieces.specs.declared.piece_set.PieceSet.{PieceSet}
 use Rattle.dob_share.specs.declared.news.Settlement.{Settlement}
 use Rattle.dob_share.specs.declared.news.Item.{Item}
-use Rattle.dob_share.specs.Cells.{Takes, changed}
+use Rattle.dob_share.specs.Cells.{CanTake, changed}
 use Rattle.dob_share.specs.Steps.{IsTooDeep}
 use Rattle.dob_share.specs.Shares.{status_at, Fits, GoesTooDeep}
 use Rattle.dob_update.specs.Batches.{OutboxView, empty_outbox}
@@ -22,7 +22,7 @@ use Rattle.dob_node.specs.Causes.{IsFaultOf}
 use Rattle.dob_node.specs.Histories.{value_of}
 use Rattle.dob_node.specs.Lawful.{IsNextItem, CanApply}
 use Rattle.dob_node.specs.Nodes.{outbox_to, HasItemFault, IsIdle}
-use Rattle.dob_node.specs.Sole.{sole_history, sole_applied, sole_items, cells_below, HasMade, IsDone, IsTooDeepWithin, HasStopped}
+use Rattle.dob_node.specs.Sole.{sole_history, sole_applied, sole_items, cells_below, HasMade, IsDone, IsTooDeepWithin, HasStoppedAlone}
 use Rattle.dob_node.proofs.Soles.{cell_below, one_owner}
 use Rattle.dob_node.proofs.SoleSteps.{all_items}
 use Rattle.dob_node.proofs.Steps.{can_apply}
@@ -38,7 +38,7 @@ module _ (node : Node) (steps : ℕ) (made : HasMade steps node) (item : Item) (
   next : IsNextItem node.set 1 (sole_history h) (sole_applied made.0) 0 0 item
   next = (
     behind ++ sole_items node.set (drop node.expanded h),
-    all_items node.set h node.expanded made.0 node.own.items made.1.told
+    all_items node.set h node.expanded made.0 node.own.items made.1.emitted
         ∙ ap (λ xs. made.0 ++ (xs ++ sole_items node.set (drop node.expanded h))) first,
   )
 
@@ -55,7 +55,7 @@ module _ (node : Node) (steps : ℕ) (made : HasMade steps node) (item : Item) (
       can.below,
     ),
     one_status (class_setup node.set item.to) (status_at node.share item.to) Open (made.1.statuses item.to can.below) can.is_open,
-    subst (λ c. Takes item.was item.now c) (cell_below (classes_of node.set) node.share item.to can.below) can.takes,
+    subst (λ c. CanTake item.was item.now c) (cell_below (classes_of node.set) node.share item.to can.below) can.takes,
   )
 
   -- and for few classes it doesn't go too deep
@@ -69,7 +69,7 @@ pub never_too_deep : (set : PieceSet) (limit : ℕ) → classes_of set < 65535 �
 never_too_deep set limit few is = next_not_deep is.node is.steps is.made is.fault.item is.fault.behind is.fault.first
     (subst (λ (st : PieceSet). classes_of st < 65535) (sym is.of) few) is.fault.reason.1
 
-pub stopped_sole : (node : Node) (steps limit : ℕ) (why : Cause) → HasMade steps node → steps < limit → HasItemFault node why → HasStopped node.set limit why
+pub stopped_sole : (node : Node) (steps limit : ℕ) (why : Cause) → HasMade steps node → steps < limit → HasItemFault node why → HasStoppedAlone node.set limit why
 stopped_sole node steps limit cause.TooDeep made low fault =
     record { node = node; of = refl; steps = steps; few = low; made = made; fault = fault }
 stopped_sole node steps limit (cause.Contradiction class) made low fault =
@@ -80,7 +80,7 @@ stopped_sole node steps limit cause.Counts made low fault = fault.reason
 
 -- ---- why there is no table
 
-pub fault_deep : (why : Cause) (given : Fault) (set : PieceSet) (limit : ℕ) → IsFaultOf why given → HasStopped set limit why → given ≡ fault.TooDeep →
+pub fault_deep : (why : Cause) (given : Fault) (set : PieceSet) (limit : ℕ) → IsFaultOf why given → HasStoppedAlone set limit why → given ≡ fault.TooDeep →
     IsTooDeepWithin set limit
 fault_deep cause.TooDeep given set limit is stopped same = stopped
 fault_deep (cause.Contradiction class) given set limit is stopped same = absurd stopped
@@ -88,7 +88,7 @@ fault_deep cause.Memory given set limit is stopped same = absurd cc
 fault_deep cause.Held given set limit is stopped same = absurd stopped
 fault_deep cause.Counts given set limit is stopped same = absurd stopped
 
-pub fault_fits : (why : Cause) (given : Fault) (set : PieceSet) (limit class : ℕ) → IsFaultOf why given → HasStopped set limit why →
+pub fault_fits : (why : Cause) (given : Fault) (set : PieceSet) (limit class : ℕ) → IsFaultOf why given → HasStoppedAlone set limit why →
     given ≡ fault.Contradiction class → ⊥
 fault_fits cause.TooDeep given set limit class is stopped same = cc
 fault_fits (cause.Contradiction other) given set limit class is stopped same = stopped
@@ -96,7 +96,7 @@ fault_fits cause.Memory given set limit class is stopped same = cc
 fault_fits cause.Held given set limit class is stopped same = stopped
 fault_fits cause.Counts given set limit class is stopped same = stopped
 
-pub fault_small : (why : Cause) (given : Fault) (set : PieceSet) (limit : ℕ) → IsFaultOf why given → HasStopped set limit why →
+pub fault_small : (why : Cause) (given : Fault) (set : PieceSet) (limit : ℕ) → IsFaultOf why given → HasStoppedAlone set limit why →
     given ≡ fault.SetTooLarge → ⊥
 fault_small cause.TooDeep given set limit is stopped same = cc
 fault_small (cause.Contradiction other) given set limit is stopped same = stopped

@@ -11,9 +11,9 @@ use Rattle.dob_share.specs.Shares.{IsOwn, cell_at}
 use Rattle.dob_share.proofs.Changing.{short_value}
 use Rattle.dob_node.specs.Stores.{HistoryView}
 use Rattle.dob_node.specs.Histories.{value_of}
-use Rattle.dob_node.specs.Lawful.{IsLawful, IsNextItem, CanApply, AreAfter, IsApplied, AreSettled}
+use Rattle.dob_node.specs.Lawful.{AreLawfulNodes, IsNextItem, CanApply, AreAfter, IsApplied, AreSettled}
 use Rattle.dob_node.specs.Falls.{HaveFalls}
-use Rattle.dob_node.specs.Takes.{AreKept, IsTaken}
+use Rattle.dob_node.specs.TakenItems.{AreKept, IsTaken}
 use Rattle.dob_node.specs.Sole.{sole_history, sole_applied, sole_items, cells_below}
 use Rattle.dob_node.proofs.ItemChanges.{same_by, Change, item_changes}
 use Rattle.dob_node.proofs.Parity.{short_own}
@@ -34,7 +34,7 @@ one_owner class = let less : class % 1 < 1 = omega arith in omega arith
 -- An item applied by the one node, whose cells and history are these.
 module _ (set : PieceSet) (share after : Share) (history grown : HistoryView) (applied : List Item) (item : Item) (rest : List Item)
     (kept : AreKept set 1 0 share history) (kept_after : AreKept set 1 0 after grown) (taken : IsTaken item share after history grown)
-    (lawful : IsLawful set 1 (sole_history history.settlements) (sole_applied applied) (cells_below (classes_of set) share) (value_of history.settlements))
+    (lawful : AreLawfulNodes set 1 (sole_history history.settlements) (sole_applied applied) (cells_below (classes_of set) share) (value_of history.settlements))
     (next : sole_items set history.settlements ≡ applied ++ item ∷ rest) where
   abbrev pub h : List Settlement
   h = history.settlements
@@ -95,7 +95,7 @@ module _ (set : PieceSet) (share after : Share) (history grown : HistoryView) (a
   settled : AreSettled 0 item.to (value_of h item.to) (value_of g item.to) (sole_history h) (sole_history g)
   settled = record { same = changes.same; more = changes.more; others = same_history g }
 
-  pub still_lawful : IsLawful set 1 (sole_history g) (sole_applied (applied ++ item ∷ [])) (cells_below (classes_of set) after) (value_of g)
+  pub still_lawful : AreLawfulNodes set 1 (sole_history g) (sole_applied (applied ++ item ∷ [])) (cells_below (classes_of set) after) (value_of g)
   still_lawful = lawful_after set 1 (sole_history h) (sole_applied applied) (cells_below (classes_of set) share) (value_of h) (lit< tt) lawful 0 0
       (lit< tt) (lit< tt) item is_next (sole_applied (applied ++ item ∷ [])) is_applied (cells_below (classes_of set) after) (value_of g) are_after
       (sole_history g) settled

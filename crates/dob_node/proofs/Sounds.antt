@@ -15,7 +15,7 @@ use Rattle.dob_value.specs.Follows.{IsEntry}
 use Rattle.dob_rank.specs.Marks.{classes_of}
 use Rattle.dob_update.specs.Items.{item_for}
 use Rattle.dob_node.specs.Stores.{HistoryView}
-use Rattle.dob_node.specs.Takes.{HasEntries, AreKept, IsTaken, listed}
+use Rattle.dob_node.specs.TakenItems.{HasEntries, AreKept, IsTaken, listed}
 
 -- by the share's own numbers
 pub kept_own : (set : PieceSet) (n id : ℕ) (share : Share) (history : HistoryView) → AreKept set n id share history →
@@ -28,10 +28,10 @@ pub kept_back : (set : PieceSet) (n id : ℕ) (share after : Share) (history gro
 kept_back set n id share after history grown kept still = subst (λ (m : ℕ). AreKept set m id after grown) kept.share_is.0
     (subst (λ (k : ℕ). AreKept set share.n k after grown) kept.share_is.1 (still set (kept_own set n id share history kept)))
 
--- what is told is less than a longer history
-pub told_still : (item : Item) (share after : Share) (history grown : HistoryView) (expanded : ℕ) → IsTaken item share after history grown →
+-- what is expanded is less than a longer history
+pub emitted_still : (item : Item) (share after : Share) (history grown : HistoryView) (expanded : ℕ) → IsTaken item share after history grown →
     expanded ≤ length history.settlements → expanded ≤ length grown.settlements
-told_still item share after history grown expanded taken told =
+emitted_still item share after history grown expanded taken emitted =
     let given = taken.settled.0 in
     let longer : length (history.settlements ++ listed given) ≡ length history.settlements + length (listed given) = length-append history.settlements (listed given) in
     let is : length grown.settlements ≡ length (history.settlements ++ listed given) = ap (λ (view : HistoryView). length view.settlements) taken.settled.2 in
@@ -39,9 +39,9 @@ told_still item share after history grown expanded taken told =
 
 -- ---- expansions
 
--- one more is told where not all were
-pub next_told : (expanded all count : ℕ) → expanded ≤ all → count ≡ all → (expanded ≡ count → ⊥) → expanded + 1 ≤ all
-next_told expanded all count told is other = elim (cases_order expanded count) [
+-- one more is expanded where not all were
+pub next_emitted : (expanded all count : ℕ) → expanded ≤ all → count ≡ all → (expanded ≡ count → ⊥) → expanded + 1 ≤ all
+next_emitted expanded all count emitted is other = elim (cases_order expanded count) [
   | inl same ↦ absurd (other same)
   | inr order ↦ elim order [
     | inl less ↦ omega arith

@@ -24,7 +24,7 @@ use Rattle.dob_share.specs.Cells.{Cell, CellValue, SumsUp, Changes, changed}
 use Rattle.dob_update.specs.Items.{items_from}
 use Rattle.dob_node.specs.Histories.{copies, value_of, all_known, IsNext, IsChained}
 use Rattle.dob_node.specs.Quiet.{FollowsAtStatus}
-use Rattle.dob_node.specs.Lawful.{known_of, IsLawful, IsNextItem, CanApply, AreAfter, IsApplied, AreSettled}
+use Rattle.dob_node.specs.Lawful.{known_of, AreLawfulNodes, IsNextItem, CanApply, AreAfter, IsApplied, AreSettled}
 use Rattle.dob_node.proofs.Rest.{some_of, below_owner}
 use Rattle.dob_node.proofs.Splits.{IsMade, IsFrom, split, made_from}
 use Rattle.dob_node.proofs.Learns.{has_copy, learnt, nothing_learnt}
@@ -35,7 +35,7 @@ use Rattle.dob_node.proofs.Kept.{all_known-same, known_entries, follows_entry, b
 use Rattle.dob_share.proofs.Learning.{counted, takes_next}
 use Rattle.dob_share.proofs.Sums.{sums_up_after}
 use Rattle.dob_share.proofs.Applied.{CellValue-same}
-use Rattle.dob_node.proofs.Takes.{value_follows, SumsUp-same}
+use Rattle.dob_node.proofs.ValuesFollow.{value_follows, SumsUp-same}
 
 -- ---- a class that has a copy is open
 
@@ -54,7 +54,7 @@ open_class set p q below above =
     (low, (edge.sound move.0 move.1).0)
 
 module _ (set : PieceSet) (n : ℕ) (histories : ℕ → List Settlement) (applied : ℕ → ℕ → List Item) (cell : ℕ → Cell) (value : ℕ → Value)
-    (some : 0 < n) (lawful : IsLawful set n histories applied cell value) (i j : ℕ) (low_i : i < n) (low_j : j < n) (item : Item)
+    (some : 0 < n) (lawful : AreLawfulNodes set n histories applied cell value) (i j : ℕ) (low_i : i < n) (low_j : j < n) (item : Item)
     (is_next : IsNextItem set n histories applied i j item) where
   abbrev targets : ℕ → List ℕ
   targets = predecessors set
@@ -254,7 +254,7 @@ module _ (set : PieceSet) (n : ℕ) (histories : ℕ → List Settlement) (appli
             (owner_of n p) (below_owner n p some)
 
     -- the nodes are lawful again
-    pub lawful_after : IsLawful set n grown after cells worth
+    pub lawful_after : AreLawfulNodes set n grown after cells worth
     lawful_after = record {
       chained = for_each (λ k h. IsChained classes n k h) lawful.chained
           (λ settles. chained_more classes n j (histories j) news (lawful.chained j low_j) (news_next settles.1));

@@ -12,8 +12,8 @@ use Rattle.dob_node.specs.declared.cause.Cause.TheVariants as cause
 use Rattle.dob_node.specs.declared.node.Node.{Node}
 use Rattle.dob_node.specs.Nodes.{IsUnchanged, HasTaken, HasTakenBefore}
 use Rattle.dob_node.specs.Stores.{HistoryView}
-use Rattle.dob_node.proofs.Sounds.{told_still}
-use Rattle.dob_node.specs.Takes.{AreKept, IsTaken, AreTaken, IsHistory, IsReason, StopsAt, AreTakenBefore}
+use Rattle.dob_node.proofs.Sounds.{emitted_still}
+use Rattle.dob_node.specs.TakenItems.{AreKept, IsTaken, AreTaken, IsHistory, IsReason, StopsAt, AreTakenBefore}
 
 -- ---- room doesn't matter
 
@@ -113,13 +113,13 @@ carried Q r why is holds =
     let given = err_from_is_err_and r is in
     subst (λ s. IfErr s Q) (sym given.1) (subst Q (sym given.2) holds)
 
--- what is told is less than the longer history
-pub told_all : (items : List Item) (share after : Share) (history grown : HistoryView) (expanded : ℕ) → AreTaken items share after history grown →
+-- what is expanded is less than the longer history
+pub emitted_all : (items : List Item) (share after : Share) (history grown : HistoryView) (expanded : ℕ) → AreTaken items share after history grown →
     expanded ≤ length history.settlements → expanded ≤ length grown.settlements
-told_all [] share after history grown expanded none told =
-    subst (λ (h : HistoryView). expanded ≤ length h.settlements) (sym none.1) told
-told_all (item ∷ items) share after history grown expanded taken told =
-    told_all items taken.0 after taken.1 grown expanded taken.3 (told_still item share taken.0 history taken.1 expanded taken.2 told)
+emitted_all [] share after history grown expanded none emitted =
+    subst (λ (h : HistoryView). expanded ≤ length h.settlements) (sym none.1) emitted
+emitted_all (item ∷ items) share after history grown expanded taken emitted =
+    emitted_all items taken.0 after taken.1 grown expanded taken.3 (emitted_still item share taken.0 history taken.1 expanded taken.2 emitted)
 
 -- ---- a batch
 

@@ -15,7 +15,7 @@ use Rattle.dob_share.specs.declared.news.Settlement.{Settlement}
 use Rattle.dob_share.specs.declared.news.Item.{Item}
 use Rattle.dob_share.specs.Owners.{owner_of}
 use Rattle.dob_share.specs.Values.{NoWorse}
-use Rattle.dob_share.specs.Cells.{Cell, SameCell, Takes, changed, CellValue, SumsUp}
+use Rattle.dob_share.specs.Cells.{Cell, SameCell, CanTake, changed, CellValue, SumsUp}
 use Rattle.dob_update.specs.Items.{items_from}
 use Rattle.dob_node.specs.Histories.{value_of, all_known, IsChained}
 use Rattle.dob_node.specs.Quiet.{FollowsAtStatus}
@@ -27,7 +27,7 @@ known_of set n histories applied p = all_known (predecessors set) (classes_of se
 -- Each history is chained, and tells of values that a table can have. The items applied are a beginning of those that
 -- the sender's history makes. The cell of each open class sums up what its copies know, and gives the class's value;
 -- any other class has the value of its status; and each value is that of its owner's history.
-pub record IsLawful (set : PieceSet) (n : ℕ) (histories : ℕ → List Settlement) (applied : ℕ → ℕ → List Item) (cell : ℕ → Cell)
+pub record AreLawfulNodes (set : PieceSet) (n : ℕ) (histories : ℕ → List Settlement) (applied : ℕ → ℕ → List Item) (cell : ℕ → Cell)
     (value : ℕ → Value) : Type 0 where
   pub chained : (i : ℕ) → i < n → IsChained (classes_of set) n i (histories i)
   pub entries : (i : ℕ) → i < n → All (λ (s : Settlement). IsEntry s.now) (histories i)
@@ -48,7 +48,7 @@ pub record CanApply (set : PieceSet) (n j : ℕ) (cell : ℕ → Cell) (item : I
   pub below : item.to < classes_of set
   pub own : owner_of n item.to ≡ j
   pub is_open : HasStatus (class_setup set item.to) Open
-  pub takes : Takes item.was item.now (cell item.to)
+  pub takes : CanTake item.was item.now (cell item.to)
 
 -- The cells after an item: that of its class is changed as the item says, and gives a value that is short and no worse;
 -- the others say what they said.

@@ -6,7 +6,7 @@ pub mod Falls
 pub mod Laws
 pub mod Stores
 pub mod Causes
-pub mod Takes
+pub mod TakenItems
 pub mod Outboxes
 pub mod OpeningLists
 pub mod Nodes

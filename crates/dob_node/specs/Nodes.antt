@@ -17,7 +17,7 @@ use Rattle.dob_update.specs.Batches.{BatchView, OutboxView, empty_outbox, added,
 use Rattle.dob_node.specs.declared.cause.Cause.{Cause}
 use Rattle.dob_node.specs.declared.node.Node.{Node}
 use Rattle.dob_node.specs.OpeningLists.{opening_settlements, status_in}
-use Rattle.dob_node.specs.Takes.{HasEntries, AreKept, IsHistory, IsTaken, AreTaken, IsReason}
+use Rattle.dob_node.specs.TakenItems.{HasEntries, AreKept, IsHistory, IsTaken, AreTaken, IsReason}
 use Rattle.dob_node.specs.Outboxes.{outbox_in, IsOutboxTo}
 
 -- what the node has still to send to another
@@ -29,7 +29,7 @@ outbox_to node to = outbox_in node.set node.n node.id node.outboxes.items to
 -- have.
 pub record IsSound (node : Node) : Type 0 where
   pub kept : AreKept node.set node.n node.id node.share node.history
-  pub told : node.expanded ≤ length node.history.settlements
+  pub emitted : node.expanded ≤ length node.history.settlements
   pub entries : All HasEntries node.own.items
   pub receivers : length node.outboxes.items ≡ node.n
   pub addressed : (to : ℕ) → IsOutboxTo node.set node.n node.id to (outbox_to node to)

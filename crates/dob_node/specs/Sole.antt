@@ -14,7 +14,7 @@ use Rattle.dob_share.specs.Shares.{status_at, cell_at}
 use Rattle.dob_update.specs.Items.{items_from}
 use Rattle.dob_node.specs.Histories.{value_of}
 use Rattle.dob_node.specs.Openings.{AreOpenings}
-use Rattle.dob_node.specs.Lawful.{IsLawful}
+use Rattle.dob_node.specs.Lawful.{AreLawfulNodes}
 use Rattle.dob_node.specs.Falls.{HaveFalls}
 use Rattle.dob_node.specs.declared.cause.Cause.{Cause}
 use Rattle.dob_node.specs.declared.cause.Cause.TheVariants.{TooDeep, Contradiction, Memory, Held, Counts}
@@ -46,8 +46,8 @@ pub record IsSole (node : Node) (applied : List Item) : Type 0 where
   pub sound : IsSound node
   pub alone : (node.n ≡ 1) × (node.id ≡ 0)
   pub statuses : (class : ℕ) → class < classes_of node.set → HasStatus (class_setup node.set class) (status_at node.share class)
-  pub told : sole_items node.set (take node.expanded node.history.settlements) ≡ applied ++ node.own.items
-  pub lawful : IsLawful node.set 1 (sole_history node.history.settlements) (sole_applied applied)
+  pub emitted : sole_items node.set (take node.expanded node.history.settlements) ≡ applied ++ node.own.items
+  pub lawful : AreLawfulNodes node.set 1 (sole_history node.history.settlements) (sole_applied applied)
       (cells_below (classes_of node.set) node.share) (value_of node.history.settlements)
   pub falls : HaveFalls node.set 1 (sole_history node.history.settlements) (cells_below (classes_of node.set) node.share)
 
@@ -99,9 +99,9 @@ pub record IsTooDeepWithin (set : PieceSet) (limit : ℕ) : Type 0 where
   pub fault : HasItemFault node TooDeep
 
 -- Why the one node has stopped before that many steps: never that an item doesn't fit.
-abbrev pub HasStopped : PieceSet → ℕ → Cause → Type 0
-HasStopped set limit TooDeep = IsTooDeepWithin set limit
-HasStopped set limit (Contradiction class) = ⊥
-HasStopped set limit Memory = Unit {0}
-HasStopped set limit Held = ⊥
-HasStopped set limit Counts = ⊥
+abbrev pub HasStoppedAlone : PieceSet → ℕ → Cause → Type 0
+HasStoppedAlone set limit TooDeep = IsTooDeepWithin set limit
+HasStoppedAlone set limit (Contradiction class) = ⊥
+HasStoppedAlone set limit Memory = Unit {0}
+HasStoppedAlone set limit Held = ⊥
+HasStoppedAlone set limit Counts = ⊥

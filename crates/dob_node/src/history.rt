@@ -7,7 +7,7 @@ ghost use Rattle.dob_share.specs.Owners.{owner_of};
 ghost use Rattle.dob_share.specs.Shares.{Fits, GoesTooDeep};
 ghost use Rattle.dob_node.specs.declared.cause.Cause.TheVariants as cause;
 ghost use Rattle.dob_node.specs.Stores.{settlements_from};
-ghost use Rattle.dob_node.specs.Takes.{HasEntries, AreKept, IsHistory, IsTaken, IsReason};
+ghost use Rattle.dob_node.specs.TakenItems.{HasEntries, AreKept, IsHistory, IsTaken, IsReason};
 
 use crate::cause::Cause;
 use dob_pieces::Memory;

@@ -7,7 +7,7 @@ ghost use Rattle.dob_value.specs.Follows.{IsValueTable};
 ghost use Rattle.dob_share.specs.Shares.{IsOwn, HasValueNow};
 ghost use Rattle.dob_node.specs.Nodes.{IsSound};
 ghost use Rattle.dob_node.specs.Causes.{IsFaultOf};
-ghost use Rattle.dob_node.specs.Sole.{HasMade, IsDone, IsUnderWay, IsDoneWithin, HasStopped, IsTooDeepWithin};
+ghost use Rattle.dob_node.specs.Sole.{HasMade, IsDone, IsUnderWay, IsDoneWithin, HasStoppedAlone, IsTooDeepWithin};
 
 use crate::cause::{Cause, Fault};
 use crate::node::Node;
@@ -65,7 +65,7 @@ fn finish(mut node: Node, classes: &Classes, limit: u64) -> Result<Option<Node>,
     ensures done { IfOk result (λ given. IfSome given (λ ended. (steps : ℕ) × (steps ≤ limit) × HasMade steps ended × IsDone ended)) }
     ensures left { result ≡ Ok None → IsUnderWay node.set limit }
 {
-    match run(&mut node, classes, limit) {
+    match make_steps(&mut node, classes, limit) {
         Ok(()) => {}
         Err(why) => return Err(fault_of(why)),
     }
@@ -92,7 +92,7 @@ fn table_of(alloc: Global, node: Node, classes: Classes) -> Result<Table, Memory
 
 // Why there is no table where the node has stopped.
 fn fault_of(why: Cause) -> Fault
-    requires { (set : Set) × (limit : ℕ) × HasStopped set limit why }
+    requires { (set : Set) × (limit : ℕ) × HasStoppedAlone set limit why }
     ensures { IsFaultOf why result }
 {
     match why {
@@ -109,7 +109,7 @@ fn step(node: &mut Node, classes: &Classes) -> Result<bool, Cause>
     requires sound { IsSound node.old }
     requires going { node.old.failed ≡ None }
     ensures set { OnOk result (node.new.set ≡ node.old.set) }
-    ensures stopped { IfErr result (λ why. (steps limit : ℕ) → HasMade steps node.old → steps < limit → HasStopped node.old.set limit why) }
+    ensures stopped { IfErr result (λ why. (steps limit : ℕ) → HasMade steps node.old → steps < limit → HasStoppedAlone node.old.set limit why) }
     ensures idle { result ≡ Ok false → IsDone node.new × (node.new ≡ node.old) }
     ensures going { OnOk result (node.new.failed ≡ None) }
     ensures made { result ≡ Ok true → (steps : ℕ) → HasMade steps node.old → HasMade (steps + 1) node.new }
@@ -121,12 +121,12 @@ fn step(node: &mut Node, classes: &Classes) -> Result<bool, Cause>
 }
 
 // Steps of the node, up to that many.
-fn run(node: &mut Node, classes: &Classes, limit: u64) -> Result<(), Cause>
+fn make_steps(node: &mut Node, classes: &Classes, limit: u64) -> Result<(), Cause>
     requires set { classes.now.set ≡ node.old.set }
     requires opened { HasMade 0 node.old }
     requires going { node.old.failed ≡ None }
     ensures set { OnOk result (node.new.set ≡ node.old.set) }
-    ensures stopped { IfErr result (λ why. HasStopped node.old.set limit why) }
+    ensures stopped { IfErr result (λ why. HasStoppedAlone node.old.set limit why) }
     ensures made { OnOk result ((steps : ℕ) × (steps ≤ limit) × HasMade steps node.new × ((steps ≡ limit) ⊎ IsDone node.new)) }
 {
     for _step in 0..limit {

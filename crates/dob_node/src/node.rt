@@ -8,7 +8,7 @@ ghost use Rattle.dob_share.specs.Owners.{owner_of};
 ghost use Rattle.dob_update.specs.Items.{items_of};
 ghost use Rattle.dob_node.specs.declared.cause.Cause.TheVariants as cause;
 ghost use Rattle.dob_node.specs.OpeningLists.{opening_value, opening_settlement, opening_settlements, status_in};
-ghost use Rattle.dob_node.specs.Takes.{HasEntries, StopsAt};
+ghost use Rattle.dob_node.specs.TakenItems.{HasEntries, StopsAt};
 
 use crate::cause::Cause;
 use crate::history::History;

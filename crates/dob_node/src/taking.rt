@@ -3,7 +3,7 @@ ghost use Rattle.std.specs.Prelude.{◌≡◌, ◌<◌, length, Err, IfErr, OnOk
 ghost use Rattle.std.specs.List.{All};
 ghost use Rattle.dob_pieces.specs.declared.piece_set.PieceSet.{PieceSet as Set};
 ghost use Rattle.dob_node.specs.declared.cause.Cause.TheVariants as cause;
-ghost use Rattle.dob_node.specs.Takes.{HasEntries, AreKept, AreTaken, StopsAt, AreTakenBefore};
+ghost use Rattle.dob_node.specs.TakenItems.{HasEntries, AreKept, AreTaken, StopsAt, AreTakenBefore};
 
 use crate::cause::Cause;
 use crate::history::History;

@@ -6,11 +6,11 @@ use Rattle.dob_pieces.specs.declared.setup.Setup.{Setup}
 use Rattle.dob_pieces.specs.Setups.{HasLions, HasFewPieces, HasLionOffFarRow, IsLegal}
 
 -- the test that the fault names fails, and those before it hold; without a fault all hold
-abbrev pub HasFault : Setup → Option PositionFault → Type 0
-HasFault setup None = IsLegal setup
-HasFault setup (Some Lions) = ¬ HasLions setup
-HasFault setup (Some Count) = HasLions setup × ¬ HasFewPieces setup
-HasFault setup (Some FarLion) = HasLions setup × HasFewPieces setup × ¬ HasLionOffFarRow setup
+abbrev pub HasPositionFault : Setup → Option PositionFault → Type 0
+HasPositionFault setup None = IsLegal setup
+HasPositionFault setup (Some Lions) = ¬ HasLions setup
+HasPositionFault setup (Some Count) = HasLions setup × ¬ HasFewPieces setup
+HasPositionFault setup (Some FarLion) = HasLions setup × HasFewPieces setup × ¬ HasLionOffFarRow setup
 
 -- what is printed of it
 abbrev pub fault_text : PositionFault → List ℕ
@@ -18,7 +18,7 @@ fault_text Lions = codes "E4 Lions"
 fault_text Count = codes "E5 Count"
 fault_text FarLion = codes "E6 FarLion"
 
--- of the fault for want of memory
+-- of the fault for lack of memory
 abbrev pub memory_text : List ℕ
 memory_text = codes "E23 Memory"
 

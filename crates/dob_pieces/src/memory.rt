@@ -1,4 +1,4 @@
-// The fault for want of memory.
+// The fault for lack of memory.
 ghost use Rattle.std.specs.Prelude.{Some};
 ghost use Rattle.dob_pieces.specs.Faults.{memory_text};
 

@@ -1,7 +1,7 @@
 // What stands on the board and lies in the hands, a position or not.
 ghost use Rattle.std.specs.Prelude.{◌≡◌, ◌↔◌, IsTrue, count_by};
 ghost use Rattle.std.specs.List.{list_any};
-ghost use Rattle.dob_pieces.specs.Faults.{HasFault};
+ghost use Rattle.dob_pieces.specs.Faults.{HasPositionFault};
 ghost use Rattle.dob_pieces.specs.Profiles.{IsAllowed};
 ghost use Rattle.dob_pieces.specs.Setups.{at, turned_cell, turned, mirrored, holds_lion, holds_kind, total, HasLions, HasFewPieces, HasLionOffFarRow, IsLegal};
 
@@ -68,7 +68,7 @@ impl Setup {
 
     // Why it is no position, the first fault in the order of their numbers. `None` for a position.
     pub(crate) fn fault(&self) -> Option<PositionFault>
-        ensures { HasFault self.now result }
+        ensures { HasPositionFault self.now result }
     {
         if !self.has_lions() {
             Some(PositionFault::Lions)

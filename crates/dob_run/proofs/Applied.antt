@@ -1,4 +1,4 @@
--- What a node has applied from each node, after each step of its worker.
+-- What a node has applied from each node, after each step of its runner.
 use Rattle.std.proofs.Common.{◌≡◌, ◌≢◌, ℕ, zero, suc, ◌-◌, eqb, cond, refl, sym, ap, ◌∙◌, subst, arith, List, [], ◌∷◌, ◌++◌}
 use Rattle.std.proofs.Common.{length, length-append, length-drop, take, drop}
 use Rattle.std.proofs.lemmas.Bool.{eq-eqb, ne_eqb}
@@ -13,7 +13,7 @@ use Rattle.dob_chan.specs.Inboxes.{batches_of}
 use Rattle.dob_chan.proofs.Deliveries.{own_more as batch_more, others_more}
 use Rattle.dob_run.specs.Links.{worked, worked_from}
 use Rattle.dob_run.specs.Knows.{KnowsRight}
-use Rattle.dob_run.specs.Workers.{planned, items_worked, own_applied, applied_from, AreLast}
+use Rattle.dob_run.specs.LawfulRunners.{planned, items_worked, own_applied, applied_from, AreLast}
 
 -- ---- own items
 

@@ -11,27 +11,27 @@ use Rattle.dob_chan.specs.Ends.{sent_by, taken_by}
 use Rattle.dob_node.specs.declared.cause.Cause.{Cause}
 use Rattle.dob_run.specs.declared.fault.Fault.{Fault}
 use Rattle.dob_run.specs.declared.fault.Fault.TheVariants.{SetTooLarge, Nodes, Sizes, Stopped, Memory}
-use Rattle.dob_run.specs.declared.finishing.Built.{Built}
+use Rattle.dob_run.specs.declared.build_end.Built.{Built}
 use Rattle.dob_run.specs.declared.hands.Outlet.{Outlet}
 use Rattle.dob_run.specs.declared.runner.Runner.{Runner}
-use Rattle.dob_run.specs.declared.runs.Turned.{Turned}
-use Rattle.dob_run.specs.declared.turns.Until.{Until}
-use Rattle.dob_run.specs.declared.turns.Until.TheVariants as until
+use Rattle.dob_run.specs.declared.bounded_run.Turned.{Turned}
+use Rattle.dob_run.specs.declared.turn_loop.Until.{Until}
+use Rattle.dob_run.specs.declared.turn_loop.Until.TheVariants as until
 use Rattle.dob_run.specs.Built.{IsBuilt}
-use Rattle.dob_run.specs.Closing.{IsCrew}
+use Rattle.dob_run.specs.CrewClose.{IsCrew}
 use Rattle.dob_run.specs.Hands.{in_hand, worked_of}
 use Rattle.dob_run.specs.declared.hands.Inlet.{Inlet}
 use Rattle.dob_run.specs.Links.{offered, worked}
 use Rattle.dob_run.proofs.Senders.{few_of}
-use Rattle.dob_run.specs.Finishing.{HaveStopped, IsFailureOf}
-use Rattle.dob_run.specs.Manned.{mail_of, IsNewCrew}
-use Rattle.dob_run.specs.Faults.{AreWithin, HasFault}
+use Rattle.dob_run.specs.BuildEnd.{HaveStopped, IsFailureOf}
+use Rattle.dob_run.specs.CrewRunners.{endpoint_of, IsNewCrew}
+use Rattle.dob_run.specs.Faults.{AreWithin, HasBuildFault}
 use Rattle.dob_run.specs.Runners.{KeepsRunner, IsReasonFor}
-use Rattle.dob_run.specs.Turned.{IsTurned, CarriesFew, AreUnfailed, IsFirstFailed, HasLeft, StopsSo, IsUnheld}
-use Rattle.dob_run.specs.Turns.{Ends, EndsBy, AreLetOn, HasRun}
-use Rattle.dob_run.proofs.Leaving.{for_kept, turned_is}
+use Rattle.dob_run.specs.BoundedRun.{IsTurned, CarriesFew, AreUnfailed, IsFirstFailed, HasLeft, StopsSo, IsUnheld}
+use Rattle.dob_run.specs.TurnLoop.{Ends, EndsBy, AreLetOn, HasRun}
+use Rattle.dob_run.proofs.CrewLeaves.{for_kept, turned_is}
 use Rattle.dob_run.proofs.Keeping.{there_is}
-use Rattle.dob_run.proofs.Manned.{zip_at, seat_at, seat_there, are_linked, crew_many, crew_low, outlet_at, crew_kept}
+use Rattle.dob_run.proofs.CrewRunners.{zip_at, seat_at, seat_there, are_linked, crew_many, crew_low, outlet_at, crew_kept}
 use Rattle.dob_run.proofs.RunFaults.{stops_so}
 use Rattle.dob_run.proofs.Threaded.{all_kept}
 
@@ -40,7 +40,7 @@ module _ (No : ℕ → Type 0) (until : Until) (set : PieceSet) (n size capacity
   kept : AllZip KeepsRunner ran.old ended
   kept = all_kept No until ran.old ended ran.ends
 
-  pub still_crew : IsCrew board (map mail_of ended)
+  pub still_crew : IsCrew board (map endpoint_of ended)
   still_crew = crew_kept board ran.old ended ran.opened.crew kept
 
   -- what is made of it is made within the limits
@@ -49,14 +49,14 @@ module _ (No : ℕ → Type 0) (until : Until) (set : PieceSet) (n size capacity
   is_within (Err why) = tt
 
   -- a runner that has failed is one of the crew
-  fault_by : (node : ℕ) (why : Cause) (runner : Runner) → slice_get ended node ≡ Some runner → HasFault set n size capacity (Stopped node why)
+  fault_by : (node : ℕ) (why : Cause) (runner : Runner) → slice_get ended node ≡ Some runner → HasBuildFault set n size capacity (Stopped node why)
   fault_by node why runner at =
       let low : node < n = omega (arith, crew_low board ended still_crew node runner at, ran.opened.nodes) in
       (ran.small, ran.within, low)
 
   -- ---- where it was closed after some turns
 
-  pub first_fault : (fault : Fault) → IsFirstFailed ended fault → HasFault set n size capacity fault
+  pub first_fault : (fault : Fault) → IsFirstFailed ended fault → HasBuildFault set n size capacity fault
   first_fault (Stopped node why) first = fault_by node why first.0 first.1
   first_fault SetTooLarge first = absurd first
   first_fault Nodes first = absurd first
@@ -75,14 +75,14 @@ module _ (No : ℕ → Type 0) (until : Until) (set : PieceSet) (n size capacity
 
 -- of a new crew, whose run went on
 pub are_let_on : (Says : ℕ → Bool → Type 0) (until : Until) (set : PieceSet) (n size capacity : ℕ) (board : Board) (old ended : List Runner) →
-    IsNewCrew set n size capacity board old → AllZip (EndsBy Says until) old ended → IsCrew board (map mail_of ended) → AreLetOn Says until ended
+    IsNewCrew set n size capacity board old → AllZip (EndsBy Says until) old ended → IsCrew board (map endpoint_of ended) → AreLetOn Says until ended
 are_let_on Says (until.Turns count) set n size capacity board old ended opened ends crew = tt
 are_let_on Says until.Stopped set n size capacity board old ended opened ends crew = λ k runner at unfailed.
     let was = zip_at (EndsBy Says until.Stopped) old ended k runner ends at in
     subst (λ (m : ℕ). Says m true) (seat_at board ended crew k runner at).node (was.2.1 (opened.new k was.0 was.1).0.running unfailed)
 
 -- and so each of its nodes, where none has failed
-pub all_let_on : (Says : ℕ → Bool → Type 0) (n : ℕ) (board : Board) (ended : List Runner) → board.nodes ≡ n → IsCrew board (map mail_of ended) →
+pub all_let_on : (Says : ℕ → Bool → Type 0) (n : ℕ) (board : Board) (ended : List Runner) → board.nodes ≡ n → IsCrew board (map endpoint_of ended) →
     AreLetOn Says until.Stopped ended → (result : Result Built Fault) → OnOk result (AreUnfailed ended) → OnOk result ((node : ℕ) → node < n → Says node true)
 all_let_on Says n board ended nodes crew are (Ok built) unfailed = λ node low.
     let runner = some_at ended node (omega (arith, crew_many board ended crew, nodes, low)) in
@@ -93,21 +93,21 @@ all_let_on Says n board ended nodes crew are (Err why) unfailed = tt
 
 module _ (No : ℕ → Type 0) (turns : ℕ) (set : PieceSet) (n size capacity : ℕ) (board : Board) (ended : List Runner)
     (ran : HasRun No (until.Turns turns) set n size capacity board ended) (unfailed : AreUnfailed ended) where
-  few_offered : (i j : ℕ) (runner : Runner) (outlet : Outlet) → slice_get ended i ≡ Some runner → slice_get runner.mail.outlets.items j ≡ Some outlet →
+  few_offered : (i j : ℕ) (runner : Runner) (outlet : Outlet) → slice_get ended i ≡ Some runner → slice_get runner.endpoint.outlets.items j ≡ Some outlet →
       length (offered outlet) ≤ turns
   few_offered i j runner outlet at out =
       let was = zip_at (Ends No (until.Turns turns)) ran.old ended i runner ran.ends at in
       let few = was.2.1 (unfailed i runner at) in
-      let old = there_is runner.mail.outlets.items was.0.mail.outlets.items j outlet
-      (omega (arith, runner.mail.outlets_len, was.0.mail.outlets_len, was.2.0.mail.seat.nodes)) out in
+      let old = there_is runner.endpoint.outlets.items was.0.endpoint.outlets.items j outlet
+      (omega (arith, runner.endpoint.outlets_len, was.0.endpoint.outlets_len, was.2.0.endpoint.seat.nodes)) out in
       let none = (ran.opened.new i was.0 was.1).1.unsent j old.0 old.1 in
       omega (arith, few.out j old.0 outlet old.1 out, ap length none.0)
 
-  few_taken : (j : ℕ) (runner : Runner) → slice_get ended j ≡ Some runner → length (taken_by runner.mail.inlet.end) ≤ turns
+  few_taken : (j : ℕ) (runner : Runner) → slice_get ended j ≡ Some runner → length (taken_by runner.endpoint.inlet.end) ≤ turns
   few_taken j runner at =
       let was = zip_at (Ends No (until.Turns turns)) ran.old ended j runner ran.ends at in
       let few = was.2.1 (unfailed j runner at) in
-      let old : Inlet = was.0.mail.inlet in
+      let old : Inlet = was.0.endpoint.inlet in
       let none = (ran.opened.new j was.0 was.1).1.untaken in
       omega (
         arith,
@@ -128,17 +128,17 @@ module _ (No : ℕ → Type 0) (turns : ℕ) (set : PieceSet) (n size capacity :
             let from = there i low_i in
             let to = there j low_j in
             let outlet = outlet_at board ended crew i j from.0 from.1 low_j in
-            let inlet : Inlet = to.0.mail.inlet in (
+            let inlet : Inlet = to.0.endpoint.inlet in (
               omega (
                 arith,
-                left.words.posted i j from.0.mail.seat (seat_there ended i from.0 from.1) low_j,
-                from.0.mail.posted j outlet.0 outlet.1,
+                left.words.posted i j from.0.endpoint.seat (seat_there ended i from.0 from.1) low_j,
+                from.0.endpoint.posted j outlet.0 outlet.1,
                 few_offered i j from.0 outlet.0 from.1 outlet.1,
               ),
               omega (
                 arith,
-                left.words.taken j i to.0.mail.seat (seat_there ended j to.0 to.1) low_i,
-                to.0.mail.taken i (subst (λ (m : ℕ). i < m) (sym (seat_at board ended crew j to.0 to.1).nodes) low_i),
+                left.words.taken j i to.0.endpoint.seat (seat_there ended j to.0 to.1) low_i,
+                to.0.endpoint.taken i (subst (λ (m : ℕ). i < m) (sym (seat_at board ended crew j to.0 to.1).nodes) low_i),
                 few_of i (worked inlet),
                 few_taken j to.0 to.1,
                 ap length inlet.last,
@@ -149,7 +149,7 @@ module _ (No : ℕ → Type 0) (turns : ℕ) (set : PieceSet) (n size capacity :
             let from = there i low_i in
             let to = there j low_j in
             let outlet = outlet_at board ended crew i j from.0 from.1 low_j in
-            let inlet : Inlet = to.0.mail.inlet in
+            let inlet : Inlet = to.0.endpoint.inlet in
             let link = left.links i j outlet.0 inlet (are_linked ended i j from.0 to.0 outlet.0 inlet from.1 to.1 outlet.1 refl) in (
               link.0,
               link.1,
@@ -174,7 +174,7 @@ unheld : (No : ℕ → Type 0) (set : PieceSet) (n size capacity : ℕ) → ((no
 unheld No set n size capacity never (Stopped node why) stops = λ held.
     let runner = stops.names.runner in
     let was = zip_at (Ends No until.Stopped) stops.ran.old stops.ended node runner stops.ran.ends stops.names.at in
-    never runner.mail.seat.node (subst (IsReasonFor No runner) held (was.2.2 why stops.names.cause))
+    never runner.endpoint.seat.node (subst (IsReasonFor No runner) held (was.2.2 why stops.names.cause))
 unheld No set n size capacity never SetTooLarge stops = tt
 unheld No set n size capacity never Nodes stops = tt
 unheld No set n size capacity never Sizes stops = tt
@@ -201,14 +201,14 @@ module _ (No : ℕ → Type 0) (set : PieceSet) (n size capacity : ℕ) (board :
   is_built (Ok built) is = subst (λ (k : ℕ). IsBuilt set k size built) ran.opened.nodes (is size have_stopped)
   is_built (Err why) is = tt
 
-  fault_for : (fault : Fault) → IsFailureOf ended fault → HasFault set n size capacity fault
+  fault_for : (fault : Fault) → IsFailureOf ended fault → HasBuildFault set n size capacity fault
   fault_for (Stopped node why) failure = fault_by No until.Stopped set n size capacity board ended ran node why failure.runner failure.at
   fault_for Memory failure = (ran.small, ran.within)
   fault_for SetTooLarge failure = absurd failure
   fault_for Nodes failure = absurd failure
   fault_for Sizes failure = absurd failure
 
-  pub has_fault : (result : Result Built Fault) → IfErr result (IsFailureOf ended) → IfErr result (HasFault set n size capacity)
+  pub has_fault : (result : Result Built Fault) → IfErr result (IsFailureOf ended) → IfErr result (HasBuildFault set n size capacity)
   has_fault (Ok built) failure = tt
   has_fault (Err fault) failure = fault_for fault failure
 

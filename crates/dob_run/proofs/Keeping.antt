@@ -1,4 +1,4 @@
--- What links, mails and runners keep, through one step and the next.
+-- What links, endpoints and runners keep, through one step and the next.
 use Rattle.std.proofs.Common.{◌≡◌, ◌≢◌, ℕ, zero, suc, List, [], ◌∷◌, ◌++◌, ◌⊎◌, length, set, Bool, true, false, Option, Some, None}
 use Rattle.std.proofs.Common.{refl, sym, ap, ◌∙◌, subst, inl, inr, arith, append_assoc}
 use Rattle.std.proofs.lemmas.List.{append-nil}
@@ -16,11 +16,11 @@ use Rattle.dob_board.specs.declared.seat.NodeSeat.{NodeSeat}
 use Rattle.dob_board.specs.declared.halt.Halt.{Halt}
 use Rattle.dob_board.specs.declared.halt.Halt.TheVariants.{Running, Ended, Failed}
 use Rattle.dob_board.specs.Words.{halt_word}
-use Rattle.dob_board.specs.Seats.{IsSameSeat, KnewOwn}
+use Rattle.dob_board.specs.Seats.{IsSameSeat, KnewOwnFailure}
 use Rattle.dob_node.specs.declared.cause.Cause.{Cause}
 use Rattle.dob_node.specs.declared.cause.Cause.TheVariants.{TooDeep, Contradiction, Memory, Held, Counts}
 use Rattle.dob_node.specs.declared.node.Node.{Node}
-use Rattle.dob_node.specs.Takes.{IsReason}
+use Rattle.dob_node.specs.TakenItems.{IsReason}
 use Rattle.dob_node.specs.Outboxes.{outbox_in}
 use Rattle.dob_node.specs.Nodes.{outbox_to, HasItemFault, IsUnchanged}
 use Rattle.dob_chan.specs.declared.ends.SendEnd.{SendEnd}
@@ -28,12 +28,12 @@ use Rattle.dob_chan.specs.declared.ends.TakeEnd.{TakeEnd}
 use Rattle.dob_chan.specs.Ends.{sent_by, taken_by, SendsToSame, TakesFromSame}
 use Rattle.dob_run.specs.declared.hands.Outlet.{Outlet}
 use Rattle.dob_run.specs.declared.hands.Inlet.{Inlet}
-use Rattle.dob_run.specs.declared.mail.Mail.{Mail}
+use Rattle.dob_run.specs.declared.endpoint.Endpoint.{Endpoint}
 use Rattle.dob_run.specs.declared.runner.Runner.{Runner}
 use Rattle.dob_run.specs.Links.{KeepsOutlet, KeepsInlet}
-use Rattle.dob_run.specs.Workers.{IsSpared}
-use Rattle.dob_run.specs.Mails.{KeepsEach, AreOut}
-use Rattle.dob_run.specs.Keeps.{KeepsMail, HasSameLinks}
+use Rattle.dob_run.specs.LawfulRunners.{IsSpared}
+use Rattle.dob_run.specs.Endpoints.{KeepsEach, AreOut}
+use Rattle.dob_run.specs.Keeps.{KeepsEndpoint, HasSameLinks}
 use Rattle.dob_run.specs.Runners.{KeepsRunner, GoesOn, HasFailed, HasBroken, HasTurned, HasRefused, HasCutAll, IsReasonFor, IsReasoned, IsAsked, no_gate, StepsBy, Steps}
 use Rattle.dob_run.proofs.Counted.{there_set}
 
@@ -102,7 +102,7 @@ each_trans Keeps trans xs ys zs long one two j before after old new =
     let between = there_is xs ys j before long old in
     trans before between.0 after (one j before between.0 old between.1) (two j between.0 after between.1 new)
 
--- ---- seats and mails
+-- ---- seats and endpoints
 
 pub seat_same : (seat : NodeSeat) → IsSameSeat seat seat
 seat_same seat = record { node = refl; nodes = refl; board = refl }
@@ -110,22 +110,22 @@ seat_same seat = record { node = refl; nodes = refl; board = refl }
 pub seat_trans : (a b c : NodeSeat) → IsSameSeat a b → IsSameSeat b c → IsSameSeat a c
 seat_trans a b c one two = record { node = two.node ∙ one.node; nodes = two.nodes ∙ one.nodes; board = two.board ∙ one.board }
 
-pub mail_same : (mail : Mail) → KeepsMail mail mail
-mail_same mail = record {
-  seat = seat_same mail.seat;
-  outlets = each_same KeepsOutlet outlet_same mail.outlets.items mail.outlets.items refl;
-  inlet = inlet_same mail.inlet;
+pub endpoint_same : (endpoint : Endpoint) → KeepsEndpoint endpoint endpoint
+endpoint_same endpoint = record {
+  seat = seat_same endpoint.seat;
+  outlets = each_same KeepsOutlet outlet_same endpoint.outlets.items endpoint.outlets.items refl;
+  inlet = inlet_same endpoint.inlet;
 }
 
-pub links_kept : (old new : Mail) → HasSameLinks old new → KeepsMail old new
+pub links_kept : (old new : Endpoint) → HasSameLinks old new → KeepsEndpoint old new
 links_kept old new same = record {
   seat = same.seat;
   outlets = each_same KeepsOutlet outlet_same old.outlets.items new.outlets.items (ap (λ v. v.items) same.outlets);
   inlet = inlet_kept old.inlet new.inlet (ap (λ (i : Inlet). i.end) same.inlet);
 }
 
-pub mail_trans : (a b c : Mail) → KeepsMail a b → KeepsMail b c → KeepsMail a c
-mail_trans a b c one two = record {
+pub endpoint_trans : (a b c : Endpoint) → KeepsEndpoint a b → KeepsEndpoint b c → KeepsEndpoint a c
+endpoint_trans a b c one two = record {
   seat = seat_trans a.seat b.seat c.seat one.seat two.seat;
   outlets = each_trans KeepsOutlet outlet_trans a.outlets.items b.outlets.items c.outlets.items
       (omega (arith, a.outlets_len, b.outlets_len, one.seat.nodes)) one.outlets two.outlets;
@@ -141,7 +141,7 @@ ended_before Ended new stays ended = inr refl
 ended_before (Failed node) new stays ended = inr (sym (stays (λ running. absurd (omega (arith, ap halt_word running)))) ∙ ended)
 
 -- a seat that finds its own failure knew it
-pub own_before : (old new : NodeSeat) → KnewOwn old new.halt → new.node ≡ old.node → new.halt ≡ Failed new.node → old.halt ≡ Failed old.node
+pub own_before : (old new : NodeSeat) → KnewOwnFailure old new.halt → new.node ≡ old.node → new.halt ≡ Failed new.node → old.halt ≡ Failed old.node
 own_before old new knew node own = (let found : new.halt ≡ Failed old.node = own ∙ ap Failed node in knew found ∙ found)
 
 -- and it knows it still
@@ -158,7 +158,7 @@ pub failed_first : {L : Type 0} (why : Cause) (halt : Halt) → halt ≢ Ended �
 failed_first why halt unended unspared still =
     elim still [ inl none ↦ absurd (some_cause why none) | inr (inl ended) ↦ absurd (unended ended) | inr (inr spared) ↦ absurd (unspared spared) ]
 
--- no item makes a worker fail for another cause, but for want of memory
+-- no item makes a runner fail for another cause, but for lack of memory
 pub unspared_reason : (item : Item) (share : Share) (why : Cause) → IsReason item share why → (why ≡ Memory → ⊥) → IsSpared (Some why) → ⊥
 unspared_reason item share TooDeep reason other spared = spared
 unspared_reason item share (Contradiction class) reason other spared = spared
@@ -240,10 +240,10 @@ outbox_still old new to same = λ q. outbox_in (same.same.0 q) (same.same.2 q) (
 -- ---- runners
 
 pub runner_same : (r : Runner) → KeepsRunner r r
-runner_same r = record { mail = mail_same r.mail; set = refl; size = refl }
+runner_same r = record { endpoint = endpoint_same r.endpoint; set = refl; size = refl }
 
 pub runner_trans : (a b c : Runner) → KeepsRunner a b → KeepsRunner b c → KeepsRunner a c
-runner_trans a b c one two = record { mail = mail_trans a.mail b.mail c.mail one.mail two.mail; set = two.set ∙ one.set; size = two.size ∙ one.size }
+runner_trans a b c one two = record { endpoint = endpoint_trans a.endpoint b.endpoint c.endpoint one.endpoint two.endpoint; set = two.set ∙ one.set; size = two.size ∙ one.size }
 
 pub goes_trans : (a b c : Runner) → GoesOn a b → GoesOn b c → GoesOn a c
 goes_trans a b c one two = record { keeps = runner_trans a b c one.keeps two.keeps; unfailed = two.unfailed; halt = two.halt ∙ one.halt }
@@ -252,7 +252,7 @@ pub failed_after : (a b c : Runner) (why : Cause) → KeepsRunner a b → HasFai
 failed_after a b c why kept failed = record { keeps = runner_trans a b c kept failed.keeps; cause = failed.cause; stopped = failed.stopped }
 
 -- hands that were empty are
-pub out_still : (old new : Mail) → new.seat.nodes ≡ old.seat.nodes →
+pub out_still : (old new : Endpoint) → new.seat.nodes ≡ old.seat.nodes →
     ((j : ℕ) (before after : Outlet) → slice_get old.outlets.items j ≡ Some before → slice_get new.outlets.items j ≡ Some after → before.hand ≡ None → after.hand ≡ None) →
     AreOut old.outlets.items → AreOut new.outlets.items
 out_still old new nodes each out j after at =

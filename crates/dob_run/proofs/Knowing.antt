@@ -23,14 +23,14 @@ use Rattle.dob_share.proofs.Applied.{CellValue-same}
 use Rattle.dob_update.specs.Items.{items_from}
 use Rattle.dob_node.specs.Histories.{value_of, all_known, IsNext, IsChained}
 use Rattle.dob_node.specs.Stores.{HistoryView}
-use Rattle.dob_node.specs.Takes.{HasEntries, AreKept, IsTaken, AreTaken, listed}
+use Rattle.dob_node.specs.TakenItems.{HasEntries, AreKept, IsTaken, AreTaken, listed}
 use Rattle.dob_node.proofs.Splits.{IsMade, IsFrom, split, made_from}
 use Rattle.dob_node.proofs.Learns.{learnt, nothing_learnt}
 use Rattle.dob_node.proofs.Settles.{chained_more, value_of-more}
 use Rattle.dob_node.proofs.Kept.{all_known-same}
 use Rattle.dob_node.proofs.Kepts.{fits_own, now_is, kept_still}
 use Rattle.dob_node.proofs.ItemChanges.{one_value, fits_open, value_elsewhere}
-use Rattle.dob_node.proofs.Takes.{SumsUp-same}
+use Rattle.dob_node.proofs.ValuesFollow.{SumsUp-same}
 use Rattle.dob_run.specs.Knows.{sum_of, CanHaveMade, AreSummed, KnowsRight}
 use Rattle.dob_run.proofs.Summing.{sums_by, is_sum}
 

@@ -1,4 +1,4 @@
--- Each step of a worker leaves it lawful.
+-- Each step of a runner leaves it lawful.
 use Rattle.std.proofs.Common.{◌≡◌, ◌≢◌, ℕ, ◌-◌, ◌^◌, ◌<◌, ◌≤◌, eqb, cond, refl, sym, ap, ◌∙◌, subst, arith, append_assoc}
 use Rattle.std.proofs.Common.{List, [], ◌∷◌, ◌++◌, length, length-append, take, drop, true, false, Some, inl, inr}
 use Rattle.std.specs.Prelude.{slice_get, slice_set}
@@ -17,42 +17,42 @@ use Rattle.dob_update.specs.Batches.{BatchView, OutboxView, empty_outbox, items_
 use Rattle.dob_update.proofs.BatchItems.{items_in_more}
 use Rattle.dob_node.specs.Stores.{HistoryView}
 use Rattle.dob_node.specs.declared.node.Node.{Node}
-use Rattle.dob_node.specs.Takes.{HasEntries, listed}
+use Rattle.dob_node.specs.TakenItems.{HasEntries, listed}
 use Rattle.dob_node.specs.Nodes.{outbox_to, IsSound, IsIdle, IsExpanded, HasApplied, HasTaken, HasCut, IsUnchanged}
-use Rattle.dob_node.proofs.Settles.{told_more, told_grown}
+use Rattle.dob_node.proofs.Settles.{emitted_more, emitted_grown}
 use Rattle.dob_node.proofs.Nodes.{outbox_same}
 use Rattle.dob_run.specs.declared.hands.Outlet.{Outlet}
 use Rattle.dob_run.specs.declared.hands.Inlet.{Inlet}
-use Rattle.dob_run.specs.declared.mail.Mail.{Mail}
+use Rattle.dob_run.specs.declared.endpoint.Endpoint.{Endpoint}
 use Rattle.dob_run.specs.Knows.{KnowsRight}
 use Rattle.dob_chan.specs.Inboxes.{batches_of}
 use Rattle.dob_run.specs.Links.{offered, KeepsOutlet}
 use Rattle.dob_run.specs.Keeps.{HasSameLinks}
-use Rattle.dob_run.specs.Mails.{HasChangedOne, AreOut}
+use Rattle.dob_run.specs.Endpoints.{HasChangedOne, AreOut}
 use Rattle.dob_run.specs.Runners.{IsNew}
-use Rattle.dob_run.specs.Workers.{planned, items_worked, own_applied, applied_from, AreLast, SendsRight, IsLawful}
+use Rattle.dob_run.specs.LawfulRunners.{planned, items_worked, own_applied, applied_from, AreLast, SendsRight, IsLawfulRunner}
 use Rattle.dob_run.proofs.Applied.{own_less, own_more, own_still, applied_here, applied_else, applied_still, knows_after}
 use Rattle.dob_run.proofs.Knowing.{taken_one, knows_same, taken_all}
-use Rattle.dob_run.proofs.Opened.{knows_opened}
+use Rattle.dob_run.proofs.FirstKnown.{knows_opened}
 use Rattle.dob_run.proofs.Keeping.{each_after, outbox_still}
 use Rattle.dob_run.proofs.Planned.{history_grown, last_more, last_less, each_more}
 
--- ---- the mail alone changed
+-- ---- the endpoint alone changed
 
-worked_still : (node : Node) (old new : Mail) → ((k : ℕ) → items_worked new.inlet k ≡ items_worked old.inlet k) →
+worked_still : (node : Node) (old new : Endpoint) → ((k : ℕ) → items_worked new.inlet k ≡ items_worked old.inlet k) →
     KnowsRight node.set node.n node.id node.share node.history.settlements (applied_from node old.inlet) →
     KnowsRight node.set node.n node.id node.share node.history.settlements (applied_from node new.inlet)
 worked_still node old new same = knows_same node.set node.n node.id node.share node.history.settlements (applied_from node old.inlet)
     (applied_from node new.inlet) (applied_still node node old.inlet new.inlet refl refl same)
 
-pub same_inlet : (old new : Mail) → new.inlet ≡ old.inlet → (k : ℕ) → items_worked new.inlet k ≡ items_worked old.inlet k
+pub same_inlet : (old new : Endpoint) → new.inlet ≡ old.inlet → (k : ℕ) → items_worked new.inlet k ≡ items_worked old.inlet k
 same_inlet old new same k = ap (λ (i : Inlet). items_worked i k) same
 
 -- the same links, and another colour or the same
-pub recoloured : (set : PieceSet) (size : ℕ) (node : Node) (old new : Mail) → IsLawful set size node old → new.seat.node ≡ old.seat.node →
+pub recoloured : (set : PieceSet) (size : ℕ) (node : Node) (old new : Endpoint) → IsLawfulRunner set size node old → new.seat.node ≡ old.seat.node →
     new.seat.nodes ≡ old.seat.nodes → new.outlets.items ≡ old.outlets.items →
     ((k : ℕ) → items_worked new.inlet k ≡ items_worked old.inlet k) →
-    (new.seat.black ≡ false → IsIdle node × AreOut old.outlets.items) → IsLawful set size node new
+    (new.seat.black ≡ false → IsIdle node × AreOut old.outlets.items) → IsLawfulRunner set size node new
 recoloured set size node old new law same_node same_nodes same_outlets same_worked white = record {
   of = (law.of.0, law.of.1 ∙ sym same_node, law.of.2 ∙ sym same_nodes);
   sound = law.sound;
@@ -63,14 +63,14 @@ recoloured set size node old new law same_node same_nodes same_outlets same_work
   white = λ is. (let rest = white is in (rest.0, subst AreOut (sym same_outlets) rest.1));
 }
 
--- a worker that has something to do is black
-pub busy_black : (set : PieceSet) (size : ℕ) (node : Node) (mail : Mail) → IsLawful set size node mail → (IsIdle node → ⊥) → mail.seat.black ≡ true
-busy_black set size node mail law busy = elim (cases_Bool mail.seat.black) [ inl black ↦ black | inr white ↦ absurd (busy (law.white white).0) ]
+-- a runner that has something to do is black
+pub busy_black : (set : PieceSet) (size : ℕ) (node : Node) (endpoint : Endpoint) → IsLawfulRunner set size node endpoint → (IsIdle node → ⊥) → endpoint.seat.black ≡ true
+busy_black set size node endpoint law busy = elim (cases_Bool endpoint.seat.black) [ inl black ↦ black | inr white ↦ absurd (busy (law.white white).0) ]
 
 -- the node is as it was, but for the room of its history
-pub unchanged_node : (set : PieceSet) (size : ℕ) (old new : Node) (mail : Mail) → IsLawful set size old mail → IsUnchanged old new → IsSound new →
-    IsLawful set size new mail
-unchanged_node set size old new mail law same sound =
+pub unchanged_node : (set : PieceSet) (size : ℕ) (old new : Node) (endpoint : Endpoint) → IsLawfulRunner set size old endpoint → IsUnchanged old new → IsSound new →
+    IsLawfulRunner set size new endpoint
+unchanged_node set size old new endpoint law same sound =
     let settled : new.history.settlements ≡ old.history.settlements = ap (λ (h : HistoryView). h.settlements) same.kept.1 in
     let outbox : (to : ℕ) → outbox_to new to ≡ outbox_to old to = λ to. outbox_still old new to same in
     let plan : (to : ℕ) → planned new to ≡ planned old to = λ to q. items_from (predecessors (same.same.0 q)) (same.same.2 q) to (take (same.same.3 q) (settled q)) in
@@ -85,11 +85,11 @@ unchanged_node set size old new mail law same sound =
       });
       unused = law.unused;
       own = subst (λ (p : List Item × List Item). AreLast p.0 p.1) (λ q. ((sym own) q, (sym same.kept.2) q)) law.own;
-      knows = knows_after old new (applied_from new mail.inlet) same.same.0 same.same.1 same.same.2
-          (subst (λ (sh : Share). KnowsRight old.set old.n old.id sh new.history.settlements (applied_from new mail.inlet)) (sym same.kept.0)
-          (subst (λ (l : List Settlement). KnowsRight old.set old.n old.id old.share l (applied_from new mail.inlet)) (sym settled)
-          (knows_same old.set old.n old.id old.share old.history.settlements (applied_from old mail.inlet) (applied_from new mail.inlet)
-          (applied_still old new mail.inlet mail.inlet same.same.1 (own_still old new own same.kept.2) (λ k. refl)) law.knows)));
+      knows = knows_after old new (applied_from new endpoint.inlet) same.same.0 same.same.1 same.same.2
+          (subst (λ (sh : Share). KnowsRight old.set old.n old.id sh new.history.settlements (applied_from new endpoint.inlet)) (sym same.kept.0)
+          (subst (λ (l : List Settlement). KnowsRight old.set old.n old.id old.share l (applied_from new endpoint.inlet)) (sym settled)
+          (knows_same old.set old.n old.id old.share old.history.settlements (applied_from old endpoint.inlet) (applied_from new endpoint.inlet)
+          (applied_still old new endpoint.inlet endpoint.inlet same.same.1 (own_still old new own same.kept.2) (λ k. refl)) law.knows)));
       white = λ is. (let rest = law.white is in (
         record {
           expanded = same.same.3 ∙ rest.0.expanded ∙ ap length (sym settled);
@@ -101,17 +101,17 @@ unchanged_node set size old new mail law same sound =
     }
 
 -- and so it is where its runner says that it failed
-pub unchanged_failed : (set : PieceSet) (size : ℕ) (old new : Node) (mail now : Mail) → IsLawful set size old mail → IsUnchanged old new → IsSound new →
-    HasSameLinks mail now → now.seat.black ≡ mail.seat.black → IsLawful set size new now
-unchanged_failed set size old new mail now law same sound links colour =
-    let still = unchanged_node set size old new mail law same sound in
-    recoloured set size new mail now still links.seat.node links.seat.nodes (ap (λ v. v.items) links.outlets) (same_inlet mail now links.inlet)
+pub unchanged_failed : (set : PieceSet) (size : ℕ) (old new : Node) (endpoint now : Endpoint) → IsLawfulRunner set size old endpoint → IsUnchanged old new → IsSound new →
+    HasSameLinks endpoint now → now.seat.black ≡ endpoint.seat.black → IsLawfulRunner set size new now
+unchanged_failed set size old new endpoint now law same sound links colour =
+    let still = unchanged_node set size old new endpoint law same sound in
+    recoloured set size new endpoint now still links.seat.node links.seat.nodes (ap (λ v. v.items) links.outlets) (same_inlet endpoint now links.inlet)
     (λ is. still.white (sym colour ∙ is))
 
 -- one outlet was offered what it was before
-pub offered_again : (set : PieceSet) (size to : ℕ) (node : Node) (old new : Mail) → IsLawful set size node old → new.seat ≡ old.seat →
+pub offered_again : (set : PieceSet) (size to : ℕ) (node : Node) (old new : Endpoint) → IsLawfulRunner set size node old → new.seat ≡ old.seat →
     HasChangedOne (λ (before after : Outlet). KeepsOutlet before after × (offered after ≡ offered before)) to old.outlets.items new.outlets.items →
-    new.inlet ≡ old.inlet → (AreOut old.outlets.items → AreOut new.outlets.items) → IsLawful set size node new
+    new.inlet ≡ old.inlet → (AreOut old.outlets.items → AreOut new.outlets.items) → IsLawfulRunner set size node new
 offered_again set size to node old new law seat one inlet hands = record {
   of = (law.of.0, law.of.1 ∙ sym (ap (λ s. s.node) seat), law.of.2 ∙ sym (ap (λ s. s.nodes) seat));
   sound = law.sound;
@@ -142,7 +142,7 @@ planned_same old new to set n expanded more grown within =
     ap (λ s. items_from (predecessors s) new.n to (take new.expanded new.history.settlements)) set
     ∙ ap (λ m. items_from (predecessors old.set) m to (take new.expanded new.history.settlements)) n
     ∙ ap (λ e. items_from (predecessors old.set) old.n to (take e new.history.settlements)) expanded
-    ∙ told_grown (predecessors old.set) old.n to old.history.settlements more new.history.settlements old.expanded within grown
+    ∙ emitted_grown (predecessors old.set) old.n to old.history.settlements more new.history.settlements old.expanded within grown
 
 sends_still : (old new : Node) (size to : ℕ) (batches : List BatchView) → planned new to ≡ planned old to → outbox_to new to ≡ outbox_to old to →
     SendsRight old size to batches → SendsRight new size to batches
@@ -153,13 +153,13 @@ sends_still old new size to batches plan outbox sends = record {
 }
 
 -- the own list lost its first item
-pub applied_own : (set : PieceSet) (size : ℕ) (old new : Node) (mail : Mail) → IsLawful set size old mail → HasApplied old new → IsSound new →
-    IsLawful set size new mail
-applied_own set size old new mail law step sound =
+pub applied_own : (set : PieceSet) (size : ℕ) (old new : Node) (endpoint : Endpoint) → IsLawfulRunner set size old endpoint → HasApplied old new → IsSound new →
+    IsLawfulRunner set size new endpoint
+applied_own set size old new endpoint law step sound =
     let more = step.taken.settled in
     let grown : new.history.settlements ≡ old.history.settlements ++ listed more.0 = ap (λ (h : HistoryView). h.settlements) more.2 in
     let plan : (to : ℕ) → planned new to ≡ planned old to =
-    λ to. planned_same old new to step.same.0 step.same.2 step.same.3 (listed more.0) grown law.sound.told in record {
+    λ to. planned_same old new to step.same.0 step.same.2 step.same.3 (listed more.0) grown law.sound.emitted in record {
       of = (step.same.0 ∙ law.of.0, step.same.1 ∙ law.of.1, step.same.2 ∙ law.of.2);
       sound = sound;
       sends = λ to outlet apart at. sends_still old new size to (offered outlet) (plan to)
@@ -167,33 +167,33 @@ applied_own set size old new mail law step sound =
       own = subst (λ w. AreLast w new.own.items) (sym (ap (λ i. planned new i) step.same.1 ∙ plan old.id))
           (last_less (planned old old.id) step.item new.own.items (subst (λ own. AreLast (planned old old.id) own) step.first law.own));
       unused = law.unused;
-      knows = knows_after old new (applied_from new mail.inlet) step.same.0 step.same.1 step.same.2
-          (taken_one old.set old.n old.id old.share new.share old.history new.history (applied_from old mail.inlet) (applied_from new mail.inlet)
+      knows = knows_after old new (applied_from new endpoint.inlet) step.same.0 step.same.1 step.same.2
+          (taken_one old.set old.n old.id old.share new.share old.history new.history (applied_from old endpoint.inlet) (applied_from new endpoint.inlet)
           old.id law.sound.kept.one_of_n step.item
           (one_more (ap (λ i. planned new i) step.same.1 ∙ plan old.id)) (λ k other. elsewhere k other) law.sound.kept
           (All-head HasEntries step.item new.own.items (subst (λ xs. All HasEntries xs) step.first law.sound.entries)) step.taken law.knows);
       white = λ is. absurd (nothing_first old.own.items step.item new.own.items ((law.white is).0.applied) step.first);
     }
   where
-    one_more : planned new new.id ≡ planned old old.id → applied_from new mail.inlet old.id ≡ applied_from old mail.inlet old.id ++ step.item ∷ []
+    one_more : planned new new.id ≡ planned old old.id → applied_from new endpoint.inlet old.id ≡ applied_from old endpoint.inlet old.id ++ step.item ∷ []
     one_more plan =
-        applied_here new mail.inlet old.id (sym step.same.1)
+        applied_here new endpoint.inlet old.id (sym step.same.1)
         ∙ ap (λ (xs : List Item). take (length xs - length new.own.items) xs) plan
         ∙ own_less (planned old old.id) old.own.items step.item new.own.items law.own step.first
-        ∙ ap (λ xs. xs ++ step.item ∷ []) (sym (applied_here old mail.inlet old.id refl))
+        ∙ ap (λ xs. xs ++ step.item ∷ []) (sym (applied_here old endpoint.inlet old.id refl))
 
-    elsewhere : (k : ℕ) → k ≢ old.id → applied_from new mail.inlet k ≡ applied_from old mail.inlet k
-    elsewhere k other = applied_else new mail.inlet k (λ e. other (e ∙ step.same.1)) ∙ sym (applied_else old mail.inlet k other)
+    elsewhere : (k : ℕ) → k ≢ old.id → applied_from new endpoint.inlet k ≡ applied_from old endpoint.inlet k
+    elsewhere k other = applied_else new endpoint.inlet k (λ e. other (e ∙ step.same.1)) ∙ sym (applied_else old endpoint.inlet k other)
 
     nothing_first : (own : List Item) (item : Item) (rest : List Item) → own ≡ [] → own ≡ item ∷ rest → ⊥
     nothing_first own item rest none some = absurd (cc)
 
 -- a batch of another node was counted as worked in, which blackens the seat, and applied
-pub applied_batch : (set : PieceSet) (size from : ℕ) (batch : BatchView) (node after : Node) (old new : Mail) → IsLawful set size node old →
+pub applied_batch : (set : PieceSet) (size from : ℕ) (batch : BatchView) (node after : Node) (old new : Endpoint) → IsLawfulRunner set size node old →
     from < old.seat.nodes → from ≢ old.seat.node → All HasEntries batch.items → HasTaken batch.items node after → IsSound after →
     new.seat.node ≡ old.seat.node → new.seat.nodes ≡ old.seat.nodes → new.seat.black ≡ true → new.outlets.items ≡ old.outlets.items →
     ((k : ℕ) → k ≢ from → items_worked new.inlet k ≡ items_worked old.inlet k) →
-    items_worked new.inlet from ≡ items_worked old.inlet from ++ batch.items → IsLawful set size after new
+    items_worked new.inlet from ≡ items_worked old.inlet from ++ batch.items → IsLawfulRunner set size after new
 applied_batch set size from batch node after old new law low apart entries step sound same_node same_nodes black same_outlets same_worked more_worked = record {
   of = (step.same.0 ∙ law.of.0, step.same.1 ∙ (law.of.1 ∙ sym same_node), step.same.2 ∙ (law.of.2 ∙ sym same_nodes));
   sound = sound;
@@ -210,7 +210,7 @@ applied_batch set size from batch node after old new law low apart entries step 
   where
     plan : (to : ℕ) → planned after to ≡ planned node to
     plan to = (let more = history_grown batch.items node.share after.share node.history after.history step.taken in
-        planned_same node after to step.same.0 step.same.2 step.same.3 more.0 more.1 law.sound.told)
+        planned_same node after to step.same.0 step.same.2 step.same.3 more.0 more.1 law.sound.emitted)
 
     own_plan : planned after after.id ≡ planned node node.id
     own_plan = ap (λ i. planned after i) step.same.1 ∙ plan node.id
@@ -229,28 +229,28 @@ applied_batch set size from batch node after old new law low apart entries step 
         ∙ ap (λ xs. cond (eqb k node.id) (own_applied node) xs) (same_worked k other)
 
 -- a settlement was expanded
-pub expanded_one : (set : PieceSet) (size : ℕ) (old new : Node) (mail : Mail) → IsLawful set size old mail → IsExpanded old new → IsSound new →
-    IsLawful set size new mail
-expanded_one set size old new mail law step sound = record {
+pub expanded_one : (set : PieceSet) (size : ℕ) (old new : Node) (endpoint : Endpoint) → IsLawfulRunner set size old endpoint → IsExpanded old new → IsSound new →
+    IsLawfulRunner set size new endpoint
+expanded_one set size old new endpoint law step sound = record {
   of = (step.same.0 ∙ law.of.0, step.same.1 ∙ law.of.1, step.same.2 ∙ law.of.2);
   sound = sound;
-  sends = λ to outlet apart at. (let within = slice_get_within mail.outlets.items to outlet at in
+  sends = λ to outlet apart at. (let within = slice_get_within endpoint.outlets.items to outlet at in
       sent to (offered outlet) (low to within) (λ e. apart (e ∙ law.of.1)) (law.sends to outlet apart at));
   own = subst (λ w. AreLast w new.own.items) (sym (ap (λ i. planned new i) step.same.1 ∙ plan old.id))
       (subst (λ own. AreLast (planned old old.id ++ items_of (predecessors old.set) old.n old.id step.settlement) own) (sym step.own)
       (last_more (planned old old.id) old.own.items (items_of (predecessors old.set) old.n old.id step.settlement) law.own));
   unused = law.unused;
-  knows = knows_after old new (applied_from new mail.inlet) step.same.0 step.same.1 step.same.2
-      (subst (λ (sh : Share). KnowsRight old.set old.n old.id sh new.history.settlements (applied_from new mail.inlet)) (sym step.same.3)
-      (subst (λ (hv : HistoryView). KnowsRight old.set old.n old.id old.share hv.settlements (applied_from new mail.inlet)) (sym step.same.4)
-      (knows_same old.set old.n old.id old.share old.history.settlements (applied_from old mail.inlet) (applied_from new mail.inlet)
-      (applied_still old new mail.inlet mail.inlet step.same.1 own_same (λ k. refl)) law.knows)));
+  knows = knows_after old new (applied_from new endpoint.inlet) step.same.0 step.same.1 step.same.2
+      (subst (λ (sh : Share). KnowsRight old.set old.n old.id sh new.history.settlements (applied_from new endpoint.inlet)) (sym step.same.3)
+      (subst (λ (hv : HistoryView). KnowsRight old.set old.n old.id old.share hv.settlements (applied_from new endpoint.inlet)) (sym step.same.4)
+      (knows_same old.set old.n old.id old.share old.history.settlements (applied_from old endpoint.inlet) (applied_from new endpoint.inlet)
+      (applied_still old new endpoint.inlet endpoint.inlet step.same.1 own_same (λ k. refl)) law.knows)));
   white = λ is. (let all = (law.white is).0.expanded in
       let some = slice_get_within old.history.settlements old.expanded step.settlement step.first in absurd (omega (arith, all, some)));
 }
   where
-    low : (to : ℕ) → to < length mail.outlets.items → to < old.n
-    low to within = omega (arith, mail.outlets_len, law.of.2, within)
+    low : (to : ℕ) → to < length endpoint.outlets.items → to < old.n
+    low to within = omega (arith, endpoint.outlets_len, law.of.2, within)
 
     plan : (to : ℕ) → planned new to ≡ planned old to ++ items_of (predecessors old.set) old.n to step.settlement
     plan to =
@@ -258,7 +258,7 @@ expanded_one set size old new mail law step sound = record {
         ∙ ap (λ m. items_from (predecessors old.set) m to (take new.expanded new.history.settlements)) step.same.2
         ∙ ap (λ (h : HistoryView). items_from (predecessors old.set) old.n to (take new.expanded h.settlements)) step.same.4
         ∙ ap (λ e. items_from (predecessors old.set) old.n to (take e old.history.settlements)) step.expanded
-        ∙ told_more (predecessors old.set) old.n to old.history.settlements old.expanded step.settlement step.first
+        ∙ emitted_more (predecessors old.set) old.n to old.history.settlements old.expanded step.settlement step.first
 
     own_same : own_applied new ≡ own_applied old
     own_same =
@@ -279,10 +279,10 @@ expanded_one set size old new mail law step sound = record {
 
 -- ---- a batch was cut and put into the hand of an outlet
 
-pub cut_one : (set : PieceSet) (size to : ℕ) (batch : BatchView) (node after : Node) (old new : Mail) → IsLawful set size node old →
+pub cut_one : (set : PieceSet) (size to : ℕ) (batch : BatchView) (node after : Node) (old new : Endpoint) → IsLawfulRunner set size node old →
     to ≢ old.seat.node → HasCut to size batch node after → IsSound after → new.seat.node ≡ old.seat.node → new.seat.nodes ≡ old.seat.nodes → new.seat.black ≡ true →
     HasChangedOne (λ (x y : Outlet). (y.end ≡ x.end) × (offered y ≡ offered x ++ batch ∷ [])) to old.outlets.items new.outlets.items →
-    new.inlet ≡ old.inlet → IsLawful set size after new
+    new.inlet ≡ old.inlet → IsLawfulRunner set size after new
 cut_one set size to batch node after old new law not_own step sound same_node same_nodes black one inlet = record {
   of = (step.same.0 ∙ law.of.0, step.same.1 ∙ (law.of.1 ∙ sym same_node), step.same.2 ∙ (law.of.2 ∙ sym same_nodes));
   sound = sound;
@@ -307,7 +307,7 @@ cut_one set size to batch node after old new law not_own step sound same_node sa
 
     plan : (j : ℕ) → planned after j ≡ planned node j
     plan j = planned_same node after j step.same.0 step.same.2 step.same.3 []
-        (ap (λ (h : HistoryView). h.settlements) step.kept.1 ∙ sym (append-nil node.history.settlements)) law.sound.told
+        (ap (λ (h : HistoryView). h.settlements) step.kept.1 ∙ sym (append-nil node.history.settlements)) law.sound.emitted
 
     here : SendsRight node size to (offered one.0) → SendsRight after size to (offered one.0 ++ batch ∷ [])
     here sends = record {
@@ -330,39 +330,39 @@ cut_one set size to batch node after old new law not_own step sound same_node sa
 -- ---- the start
 
 -- the node was opened, and nothing was offered
-pub begun : (set : PieceSet) (size : ℕ) (node : Node) (mail : Mail) → IsNew set node mail → IsLawful set size node mail
-begun set size node mail is = record {
+pub begun : (set : PieceSet) (size : ℕ) (node : Node) (endpoint : Endpoint) → IsNew set node endpoint → IsLawfulRunner set size node endpoint
+begun set size node endpoint is = record {
   of = is.opened.of;
   sound = is.sound;
   sends = λ to outlet apart at. (let nothing : offered outlet ≡ [] = is.unsent to outlet at in
-      let outbox : outbox_to node to ≡ empty_outbox set mail.seat.nodes mail.seat.node to = is.opened.outboxes to in record {
+      let outbox : outbox_to node to ≡ empty_outbox set endpoint.seat.nodes endpoint.seat.node to = is.opened.outboxes to in record {
         items = planned_none to ∙ ap (λ (o : OutboxView). o.items) (sym outbox) ∙ ap (λ bs. items_of_batches bs ++ (outbox_to node to).items) (sym nothing);
         cut = ap (λ (o : OutboxView). o.next) outbox ∙ ap length (sym nothing);
         small = λ k batch there. absurd (none_there (offered outlet) nothing k batch there);
       });
-  unused = λ outlet at. is.unsent mail.seat.node outlet at;
+  unused = λ outlet at. is.unsent endpoint.seat.node outlet at;
   own = subst (λ own. AreLast (planned node node.id) own) (sym is.opened.nothing.1) (subst (λ w. AreLast w []) (sym (planned_none node.id)) refl);
-  knows = knows_at_start (applied_from node mail.inlet) none_applied;
+  knows = knows_at_start (applied_from node endpoint.inlet) none_applied;
   white = λ colour. absurd (true≢false (sym is.black ∙ colour));
 }
   where
     planned_none : (to : ℕ) → planned node to ≡ []
     planned_none to = ap (λ e. items_from (predecessors node.set) node.n to (take e node.history.settlements)) is.opened.nothing.0
 
-    none_applied : (k : ℕ) → applied_from node mail.inlet k ≡ []
+    none_applied : (k : ℕ) → applied_from node endpoint.inlet k ≡ []
     none_applied k = (let own : own_applied node ≡ [] = ap (λ (xs : List Item). take (length xs - length node.own.items) xs) (planned_none node.id)
         ∙ ap (λ (xs : List Item). take (0 - length xs) []) is.opened.nothing.1 in
         elim (cases_eq k node.id) [
-          | inl here ↦ applied_here node mail.inlet k here ∙ own
-          | inr other ↦ applied_else node mail.inlet k other ∙ ap (λ (bs : List BatchView). items_of_batches (batches_of k bs)) is.untaken
+          | inl here ↦ applied_here node endpoint.inlet k here ∙ own
+          | inr other ↦ applied_else node endpoint.inlet k other ∙ ap (λ (bs : List BatchView). items_of_batches (batches_of k bs)) is.untaken
         ])
 
     knows_at_start : (applied : ℕ → List Item) → ((k : ℕ) → applied k ≡ []) → KnowsRight node.set node.n node.id node.share node.history.settlements applied
     knows_at_start applied none =
         subst (λ (s : PieceSet). KnowsRight s node.n node.id node.share node.history.settlements applied) (sym is.opened.of.0)
         (subst (λ (i : ℕ). KnowsRight set node.n i node.share node.history.settlements applied) (sym is.opened.of.1)
-        (subst (λ (m : ℕ). KnowsRight set m mail.seat.node node.share node.history.settlements applied) (sym is.opened.of.2)
-        (knows_opened set mail.seat.nodes mail.seat.node is.openings node is.are_openings is.opened is.sound applied none)))
+        (subst (λ (m : ℕ). KnowsRight set m endpoint.seat.node node.share node.history.settlements applied) (sym is.opened.of.2)
+        (knows_opened set endpoint.seat.nodes endpoint.seat.node is.openings node is.are_openings is.opened is.sound applied none)))
 
     none_there : (batches : List BatchView) → batches ≡ [] → (k : ℕ) (b : BatchView) → slice_get batches k ≡ Some b → ⊥
     none_there [] none k b there = absurd (cc)

@@ -8,29 +8,29 @@ pub mod Openings  -- each piece set has openings, whether they were listed or no
 -- What a node knows, and what it has for the others.
 pub mod Summing  -- the sum of what is known, as an equation and as a relation
 pub mod Knowing  -- what a node knows stays right, whatever it takes
-pub mod Opened  -- what a node knows when it is opened
+pub mod FirstKnown  -- what a node knows when it is opened
 pub mod Planned  -- what a node planned, after its history went on
 pub mod Needed  -- enough batches were cut for what the classes have to tell
--- The steps of a worker.
+-- The steps of a runner.
 pub mod Applied  -- what a node has applied from each node, after each step
-pub mod Keeping  -- what links, mails and runners keep, through each step
-pub mod Lawfuls  -- each step of a worker leaves it lawful
-pub mod Turning  -- what the parts of a turn do, by what their steps do
+pub mod Keeping  -- what links, endpoints and runners keep, through each step
+pub mod Lawfuls  -- each step of a runner leaves it lawful
+pub mod TurnParts  -- what the parts of a turn do, by what their steps do
 pub mod Taking  -- what taking from an inbox does
 pub mod Sending  -- what sending to one node after another does
 pub mod Pacing  -- how many batches go over each link in so many turns
--- The inboxes and mails of a crew.
-pub mod Rejoining  -- things dealt, rows joined and inboxes ended one by one
-pub mod Laying  -- inboxes laid one by one
-pub mod Seated  -- seats that get their links one by one, and their mails then
-pub mod Parting  -- mails taken apart one by one, and their ends then
+-- The inboxes and endpoints of a crew.
+pub mod InboxesClosed  -- things dealt, rows joined and inboxes ended one by one
+pub mod InboxesOpened  -- inboxes laid one by one
+pub mod Seated  -- seats that get their links one by one, and their endpoints then
+pub mod EndpointParts  -- endpoints taken apart one by one, and their ends then
 -- Crews run by threads.
 pub mod RunFaults  -- from the faults that limits give to those of a crew
-pub mod Manned  -- the runners of a crew's mails, before and after their turns
+pub mod CrewRunners  -- the runners of a crew's endpoints, before and after their turns
 pub mod Threaded  -- runners whose threads are started and ended one by one
-pub mod Leaving  -- what a crew's runners leave when they are closed
+pub mod CrewLeaves  -- what a crew's runners leave when they are closed
 pub mod ByThreads  -- from what the threads promise to what is made of the crew
 -- The end of a crew.
 pub mod Shown  -- the values that the nodes of a crew show
-pub mod Finished  -- a crew that has come to its end holds the value table
-pub mod Stopping  -- what the board's words say of the runners of a stopped crew
+pub mod CrewFinished  -- a crew that has come to its end holds the value table
+pub mod CrewStopped  -- what the board's words say of the runners of a stopped crew

@@ -1,4 +1,4 @@
--- A worker that has nothing left to do cut enough batches for what its classes have to tell another node.
+-- A runner that has nothing left to do cut enough batches for what its classes have to tell another node.
 use Rattle.std.proofs.Common.{◌≡◌, ◌≢◌, ℕ, zero, suc, ◌+◌, ◌*◌, ◌<◌, ◌≤◌, inl, inr, eqb, Bool, true, false, cond, refl, sym, ap}
 use Rattle.std.proofs.Common.{◌∙◌, subst, arith, List, [], ◌∷◌, ◌++◌, length, length-append, get_or, Some}
 use Rattle.std.specs.Prelude.{slice_get}
@@ -24,10 +24,10 @@ use Rattle.dob_node.specs.declared.node.Node.{Node}
 use Rattle.dob_node.specs.Histories.{last_now, value_of}
 use Rattle.dob_node.specs.Nodes.{IsIdle}
 use Rattle.dob_run.specs.declared.hands.Outlet.{Outlet}
-use Rattle.dob_run.specs.declared.mail.Mail.{Mail}
+use Rattle.dob_run.specs.declared.endpoint.Endpoint.{Endpoint}
 use Rattle.dob_run.specs.Links.{offered}
-use Rattle.dob_run.specs.Workers.{SendsRight, IsLawful}
-use Rattle.dob_run.specs.Built.{told_to, needed}
+use Rattle.dob_run.specs.LawfulRunners.{SendsRight, IsLawfulRunner}
+use Rattle.dob_run.specs.Built.{edges_to, needed}
 
 -- ---- sums over numbers that follow one another
 
@@ -110,11 +110,11 @@ of_first f s history class = elim (cases_Bool (eqb s.class class)) [
 ]
 
 -- A sum over the classes of which a history tells is no more than that over its settlements.
-told_once : (f : ℕ → ℕ) (history : List Settlement) (a n : ℕ) →
+listed_once : (f : ℕ → ℕ) (history : List Settlement) (a n : ℕ) →
     sum_by (of_told f history) (range_with_len a n) ≤ sum_by (λ (s : Settlement). f s.class) history
-told_once f [] a n = let none = sum_none a n in omega (arith, none)
-told_once f (s ∷ history) a n =
-    let rest = told_once f history a n in
+listed_once f [] a n = let none = sum_none a n in omega (arith, none)
+listed_once f (s ∷ history) a n =
+    let rest = listed_once f history a n in
     let first = only_once f s.class a n in
     let parts = sum_no_more (of_told f (s ∷ history)) (λ class. only f s.class class + of_told f history class) a n
     (λ class low. of_first f s history class) in
@@ -123,13 +123,13 @@ told_once f (s ∷ history) a n =
     omega (arith, rest, first, parts, both, whole)
 
 -- a class of which it doesn't tell keeps its value
-untold_still : (history : List Settlement) (class : ℕ) (before : Value) → tells history class ≡ false →
+unlisted_still : (history : List Settlement) (class : ℕ) (before : Value) → tells history class ≡ false →
     last_now (λ s. eqb s.class class) before history ≡ before
-untold_still [] class before none = refl
-untold_still (s ∷ history) class before none = elim (cases_Bool (eqb s.class class)) [
+unlisted_still [] class before none = refl
+unlisted_still (s ∷ history) class before none = elim (cases_Bool (eqb s.class class)) [
   | inl is ↦ absurd (true_not_false (sym (ap (λ b. cond b true (tells history class)) is) ∙ none))
   | inr isnt ↦ ap (λ b. last_now (λ r. eqb r.class class) (cond b s.now before) history) isnt
-      ∙ untold_still history class before (sym (ap (λ b. cond b true (tells history class)) isnt) ∙ none)
+      ∙ unlisted_still history class before (sym (ap (λ b. cond b true (tells history class)) isnt) ∙ none)
 ]
   where
     true_not_false : true ≡ false → ⊥
@@ -172,23 +172,23 @@ module _ (set : PieceSet) (n i j : ℕ) (history : List Settlement) (values : Li
     value ≡ value_of history class) where
   -- what a class has to tell, and what it adds
   abbrev has : ℕ → ℕ
-  has class = cond {A = ℕ} (is_draw (get_or values class Draw)) 0 (told_to set n j class)
+  has class = cond {A = ℕ} (is_draw (get_or values class Draw)) 0 (edges_to set n j class)
 
   abbrev adds : ℕ → ℕ
   adds class = cond {A = ℕ} (eqb (owner_of n class) i) (has class) 0
 
-  own_told : (class : ℕ) → class < classes_of set → owner_of n class ≡ i → has class ≤ of_told (told_to set n j) history class
-  own_told class low own = elim (cases_Bool (tells history class)) [
-    | inl told ↦
-        let right : of_told (told_to set n j) history class ≡ told_to set n j class =
-        ap (λ b. cond {A = ℕ} b (told_to set n j class) 0) told in
-        let left = no_more (is_draw (get_or values class Draw)) (told_to set n j class) in
+  own_emitted : (class : ℕ) → class < classes_of set → owner_of n class ≡ i → has class ≤ of_told (edges_to set n j) history class
+  own_emitted class low own = elim (cases_Bool (tells history class)) [
+    | inl emitted ↦
+        let right : of_told (edges_to set n j) history class ≡ edges_to set n j class =
+        ap (λ b. cond {A = ℕ} b (edges_to set n j class) 0) emitted in
+        let left = no_more (is_draw (get_or values class Draw)) (edges_to set n j class) in
         omega (arith, right, left)
-    | inr untold ↦
+    | inr unlisted ↦
         let there = slice_get-get_or values class Draw (subst (λ m. class < m) (sym whole) low) in
         let drawn : get_or values class Draw ≡ Draw =
-        is class (get_or values class Draw) low own there ∙ untold_still history class Draw untold in
-        let left : has class ≡ 0 = ap (λ v. cond {A = ℕ} (is_draw v) 0 (told_to set n j class)) drawn in
+        is class (get_or values class Draw) low own there ∙ unlisted_still history class Draw unlisted in
+        let left : has class ≡ 0 = ap (λ v. cond {A = ℕ} (is_draw v) 0 (edges_to set n j class)) drawn in
         omega (arith, left)
   ]
     where
@@ -196,11 +196,11 @@ module _ (set : PieceSet) (n i j : ℕ) (history : List Settlement) (values : Li
       no_more true m = omega arith
       no_more false m = omega arith
 
-  each_told : (class : ℕ) → class < classes_of set → adds class ≤ of_told (told_to set n j) history class
-  each_told class low = elim (cases_Bool (eqb (owner_of n class) i)) [
+  each_emitted : (class : ℕ) → class < classes_of set → adds class ≤ of_told (edges_to set n j) history class
+  each_emitted class low = elim (cases_Bool (eqb (owner_of n class) i)) [
     | inl own ↦
         let here : adds class ≡ has class = ap (λ b. cond {A = ℕ} b (has class) 0) own in
-        let less = own_told class low (eqb-true (owner_of n class) i own) in
+        let less = own_emitted class low (eqb-true (owner_of n class) i own) in
         omega (arith, here, less)
     | inr other ↦
         let here : adds class ≡ 0 = ap (λ b. cond {A = ℕ} b (has class) 0) other in
@@ -210,19 +210,19 @@ module _ (set : PieceSet) (n i j : ℕ) (history : List Settlement) (values : Li
   -- the items that the history makes are as many at least
   needed_made : needed set n values i j ≤ length (items_from (predecessors set) n j history)
   needed_made =
-      let less = sum_no_more adds (of_told (told_to set n j) history) 0 (classes_of set) (λ class low. each_told class (omega arith)) in
-      let once = told_once (told_to set n j) history 0 (classes_of set) in
+      let less = sum_no_more adds (of_told (edges_to set n j) history) 0 (classes_of set) (λ class low. each_emitted class (omega arith)) in
+      let once = listed_once (edges_to set n j) history 0 (classes_of set) in
       let made = length-items_from (predecessors set) n j history in
       omega (arith, less, once, made)
 
--- A worker's node that has nothing left to expand or to send has offered room for all that its classes have to tell.
-pub needed_fits : (set : PieceSet) (n size i j : ℕ) (node : Node) (mail : Mail) (outlet : Outlet) (values : List Value) →
-    IsLawful set size node mail → IsIdle node → node.id ≡ i → node.n ≡ n → i ≢ j → slice_get mail.outlets.items j ≡ Some outlet →
+-- A runner's node that has nothing left to expand or to send has offered room for all that its classes have to tell.
+pub needed_fits : (set : PieceSet) (n size i j : ℕ) (node : Node) (endpoint : Endpoint) (outlet : Outlet) (values : List Value) →
+    IsLawfulRunner set size node endpoint → IsIdle node → node.id ≡ i → node.n ≡ n → i ≢ j → slice_get endpoint.outlets.items j ≡ Some outlet →
     length values ≡ classes_of set →
     ((class : ℕ) (value : Value) → class < classes_of set → owner_of n class ≡ i → slice_get values class ≡ Some value →
     HasValueNow node.share class value) →
     needed set n values i j ≤ length (offered outlet) * size
-needed_fits set n size i j node mail outlet values law idle id_is n_is apart there whole shown =
+needed_fits set n size i j node endpoint outlet values law idle id_is n_is apart there whole shown =
     let made = needed_made set n i j node.history.settlements values whole values_are in
     let many = ap length all_items in
     let few = few_items size (offered outlet) sends.small in
@@ -241,7 +241,7 @@ needed_fits set n size i j node mail outlet values law idle id_is n_is apart the
         ap (λ (s : PieceSet). items_from (predecessors s) n j node.history.settlements) (sym law.of.0)
         ∙ ap (λ m. items_from (predecessors node.set) m j node.history.settlements) (sym n_is)
         ∙ ap (λ (xs : List Settlement). items_from (predecessors node.set) node.n j xs)
-        (sym (take_all node.expanded node.history.settlements (let told = idle.expanded in omega (arith, told))))
+        (sym (take_all node.expanded node.history.settlements (let emitted = idle.expanded in omega (arith, emitted))))
         ∙ sends.items
         ∙ ap (λ (xs : List Item). items_of_batches (offered outlet) ++ xs) (idle.sent j)
         ∙ append-nil (items_of_batches (offered outlet))

@@ -8,23 +8,23 @@ use Rattle.dob_chan.specs.Ends.{taken_by}
 use Rattle.dob_node.specs.declared.cause.Cause.{Cause}
 use Rattle.dob_run.specs.declared.hands.Outlet.{Outlet}
 use Rattle.dob_run.specs.declared.hands.Inlet.{Inlet}
-use Rattle.dob_run.specs.declared.mail.Mail.{Mail}
+use Rattle.dob_run.specs.declared.endpoint.Endpoint.{Endpoint}
 use Rattle.dob_run.specs.declared.runner.Runner.{Runner}
-use Rattle.dob_run.specs.Keeps.{KeepsMail}
+use Rattle.dob_run.specs.Keeps.{KeepsEndpoint}
 use Rattle.dob_run.specs.Links.{offered}
-use Rattle.dob_run.specs.Rounds.{Takes, SendsAll, AddsFew, Works}
+use Rattle.dob_run.specs.TurnRounds.{TakesBatch, SendsAll, AddsFew, Works}
 use Rattle.dob_run.specs.Runners.{GoesOn, HasFailed, StepsBy}
 use Rattle.dob_run.proofs.Keeping.{there_is}
 
 -- none in no turn
-pub adds_none : (mail : Mail) → AddsFew 0 mail mail
-adds_none mail = record {
+pub adds_none : (endpoint : Endpoint) → AddsFew 0 endpoint endpoint
+adds_none endpoint = record {
   out = λ j before after was is. (let same : before ≡ after = same_Some before after (sym was ∙ is) in omega (arith, ap (λ (o : Outlet). length (offered o)) same));
   into = omega arith;
 }
 
 -- and one more in one turn more
-pub adds_more : (count : ℕ) (a b c : Mail) → KeepsMail a b → AddsFew count a b → AddsFew 1 b c → AddsFew (count + 1) a c
+pub adds_more : (count : ℕ) (a b c : Endpoint) → KeepsEndpoint a b → AddsFew count a b → AddsFew 1 b c → AddsFew (count + 1) a c
 adds_more count a b c kept few one = record {
   out = λ j before after was is.
       let there = there_is a.outlets.items b.outlets.items j before (omega (arith, a.outlets_len, b.outlets_len, kept.seat.nodes)) was in
@@ -33,16 +33,16 @@ adds_more count a b c kept few one = record {
 }
 
 -- one where batches were taken, and then others were sent
-pub adds_one : (a b d e : Runner) (small took sent : Bool) → Takes a b took → d.mail ≡ b.mail → SendsAll small d e sent → AddsFew 1 a.mail e.mail
+pub adds_one : (a b d e : Runner) (small took sent : Bool) → TakesBatch a b took → d.endpoint ≡ b.endpoint → SendsAll small d e sent → AddsFew 1 a.endpoint e.endpoint
 adds_one a b d e small took sent takes same sends = record {
   out = λ j before after was is.
-      let there : slice_get d.mail.outlets.items j ≡ Some before =
-      ap (λ (m : Mail). slice_get m.outlets.items j) same ∙ ap (λ (l : List Outlet). slice_get l j) takes.outlets ∙ was in
-      let low : j < d.mail.seat.nodes = omega (arith, slice_get_within d.mail.outlets.items j before there, d.mail.outlets_len) in
-      elim (cases_eq j d.mail.seat.node) [
+      let there : slice_get d.endpoint.outlets.items j ≡ Some before =
+      ap (λ (m : Endpoint). slice_get m.outlets.items j) same ∙ ap (λ (l : List Outlet). slice_get l j) takes.outlets ∙ was in
+      let low : j < d.endpoint.seat.nodes = omega (arith, slice_get_within d.endpoint.outlets.items j before there, d.endpoint.outlets_len) in
+      elim (cases_eq j d.endpoint.seat.node) [
         | inl itself ↦
-            let still : slice_get e.mail.outlets.items j ≡ slice_get d.mail.outlets.items j =
-            subst (λ (k : ℕ). slice_get e.mail.outlets.items k ≡ slice_get d.mail.outlets.items k) (sym itself) sends.itself in
+            let still : slice_get e.endpoint.outlets.items j ≡ slice_get d.endpoint.outlets.items j =
+            subst (λ (k : ℕ). slice_get e.endpoint.outlets.items k ≡ slice_get d.endpoint.outlets.items k) (sym itself) sends.itself in
             let alike : before ≡ after = same_Some before after (sym there ∙ sym still ∙ is) in
             omega (arith, ap (λ (o : Outlet). length (offered o)) alike)
         | inr other ↦ (sends.sent j low other before after there is).1.few
@@ -50,7 +50,7 @@ adds_one a b d e small took sent takes same sends = record {
   into = omega (
     arith,
     takes.taken.few,
-    ap (λ (m : Mail). length (taken_by m.inlet.end)) same,
+    ap (λ (m : Endpoint). length (taken_by m.inlet.end)) same,
     ap (λ (i : Inlet). length (taken_by i.end)) sends.inlet,
   );
 }
@@ -60,10 +60,10 @@ pub works_go : (a b : Runner) (r : Result Bool Cause) → StepsBy Works a b r �
 works_go a b (Ok did) works = works.goes
 works_go a b (Err why) broken = broken.failed
 
-pub works_few : (a b : Runner) (r : Result Bool Cause) → StepsBy Works a b r → OnOk r (AddsFew 1 a.mail b.mail)
+pub works_few : (a b : Runner) (r : Result Bool Cause) → StepsBy Works a b r → OnOk r (AddsFew 1 a.endpoint b.endpoint)
 works_few a b (Ok did) works = works.few
 works_few a b (Err why) broken = tt
 
 -- where no turn failed
-pub unfailed_few : (count : ℕ) (a b : Runner) (why : Cause) → b.failed ≡ Some why → b.failed ≡ None → AddsFew count a.mail b.mail
+pub unfailed_few : (count : ℕ) (a b : Runner) (why : Cause) → b.failed ≡ Some why → b.failed ≡ None → AddsFew count a.endpoint b.endpoint
 unfailed_few count a b why failed unfailed = absurd (let both = sym failed ∙ unfailed in cc)

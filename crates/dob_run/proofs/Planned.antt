@@ -7,8 +7,8 @@ use Rattle.dob_share.specs.declared.news.Item.{Item}
 use Rattle.dob_share.specs.declared.share.Share.{Share}
 use Rattle.dob_update.specs.Batches.{BatchView}
 use Rattle.dob_node.specs.Stores.{HistoryView}
-use Rattle.dob_node.specs.Takes.{AreTaken, listed}
-use Rattle.dob_run.specs.Workers.{AreLast}
+use Rattle.dob_node.specs.TakenItems.{AreTaken, listed}
+use Rattle.dob_run.specs.LawfulRunners.{AreLast}
 
 -- items that are taken make a history that goes on
 pub history_grown : (items : List Item) (share after : Share) (history grown : HistoryView) → AreTaken items share after history grown →

@@ -6,10 +6,10 @@ use Rattle.dob_board.specs.declared.board.Board.{Board}
 use Rattle.dob_run.specs.declared.fault.Fault.{Fault}
 use Rattle.dob_run.specs.declared.fault.Fault.TheVariants.{SetTooLarge, Nodes, Sizes, Stopped, Memory}
 use Rattle.dob_run.specs.declared.runner.Runner.{Runner}
-use Rattle.dob_run.specs.declared.turns.Until.{Until}
-use Rattle.dob_run.specs.Turns.{HasRun}
-use Rattle.dob_run.specs.Faults.{HasSizeFault, HasCrewFault, HasStartFault, HasFault}
-use Rattle.dob_run.specs.Turned.{StopsSo, IsUnheld}
+use Rattle.dob_run.specs.declared.turn_loop.Until.{Until}
+use Rattle.dob_run.specs.TurnLoop.{HasRun}
+use Rattle.dob_run.specs.Faults.{HasSizeFault, HasCrewFault, HasStartFault, HasBuildFault}
+use Rattle.dob_run.specs.BoundedRun.{StopsSo, IsUnheld}
 
 -- sizes outside their limits
 pub outside_none : (n batch capacity : ℕ) (fault : Fault) → HasSizeFault n batch capacity fault → HasCrewFault n batch capacity fault
@@ -29,7 +29,7 @@ none_begun set n batch capacity (Stopped node cause) small why = absurd why
 none_begun set n batch capacity Memory small why = (small, why)
 
 -- a crew that isn't begun leaves nothing
-pub unbegun_fault : (set : PieceSet) (n batch capacity : ℕ) (fault : Fault) → HasStartFault set n batch capacity fault → HasFault set n batch capacity fault
+pub unbegun_fault : (set : PieceSet) (n batch capacity : ℕ) (fault : Fault) → HasStartFault set n batch capacity fault → HasBuildFault set n batch capacity fault
 unbegun_fault set n batch capacity SetTooLarge why = why
 unbegun_fault set n batch capacity Nodes why = why
 unbegun_fault set n batch capacity Sizes why = why

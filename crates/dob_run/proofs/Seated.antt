@@ -1,4 +1,4 @@
--- Seats that get their rows of outlets and their inlets one by one, and what their mails are then.
+-- Seats that get their rows of outlets and their inlets one by one, and what their endpoints are then.
 use Rattle.std.proofs.Common.{◌≡◌, ℕ, zero, suc, ◌+◌, ◌-◌, ◌<◌, ◌≤◌, List, [], ◌∷◌, ◌++◌, length, map, drop, take}
 use Rattle.std.proofs.Common.{replicate, Some, refl, sym, ap, ◌∙◌, subst, arith, length-append}
 use Rattle.std.specs.Prelude.{slice_get, slice_index}
@@ -18,30 +18,30 @@ use Rattle.dob_chan.specs.Inboxes.{batches_of}
 use Rattle.dob_chan.specs.Ends.{IsEndOf}
 use Rattle.dob_run.specs.declared.hands.Outlet.{Outlet}
 use Rattle.dob_run.specs.declared.hands.Inlet.{Inlet}
-use Rattle.dob_run.specs.declared.mail.Mail.{Mail}
+use Rattle.dob_run.specs.declared.endpoint.Endpoint.{Endpoint}
 use Rattle.dob_run.specs.Hands.{in_hand}
 use Rattle.dob_run.specs.Links.{offered, worked}
 use Rattle.dob_run.specs.Rows.{StandsAt}
-use Rattle.dob_run.specs.Laid.{IsLaid, IsUntaken, AreLaid}
-use Rattle.dob_run.specs.Closing.{AreLinked, seat_in}
-use Rattle.dob_run.specs.Opening.{AreNewMails}
+use Rattle.dob_run.specs.InboxOpen.{IsLaid, IsUntaken, AreLaid}
+use Rattle.dob_run.specs.CrewClose.{AreLinked, seat_in}
+use Rattle.dob_run.specs.CrewOpen.{AreNewEndpoints}
 use Rattle.dob_run.specs.Seating.{CanSeat, CanSeatAll, IsSeated, AreSeated}
 use Rattle.dob_run.proofs.Places.{each_more, none_at, get_map, map_got, next_is, then_left, gone_all}
 
--- So many seats have their mails, and these seats, rows and inlets are left.
+-- So many seats have their endpoints, and these seats, rows and inlets are left.
 pub record IsSeating {Z : Type 0} (seats : List NodeSeat) (rows : List (Vec Outlet Z)) (inlets : List Inlet) (seats_left : List NodeSeat)
-    (rows_left : List (Vec Outlet Z)) (inlets_left : List Inlet) (mails : List Mail) : Type 0 where
+    (rows_left : List (Vec Outlet Z)) (inlets_left : List Inlet) (endpoints : List Endpoint) : Type 0 where
   pub done : ℕ
   pub within : done ≤ length seats
   pub seats_are : seats_left ≡ drop done seats
   pub rows_are : rows_left ≡ drop done rows
   pub inlets_are : inlets_left ≡ drop done inlets
-  pub so_far : AreSeated done seats rows inlets mails
+  pub so_far : AreSeated done seats rows inlets endpoints
 
 module _ {Z : Type 0} (seats : List NodeSeat) (rows : List (Vec Outlet Z)) (inlets : List Inlet) where
-  pub seating_begins : (seats_left : List NodeSeat) (rows_left : List (Vec Outlet Z)) (inlets_left : List Inlet) (mails : List Mail) →
-      seats_left ≡ seats → rows_left ≡ rows → inlets_left ≡ inlets → mails ≡ [] → IsSeating seats rows inlets seats_left rows_left inlets_left mails
-  seating_begins seats_left rows_left inlets_left mails s r c none = record {
+  pub seating_begins : (seats_left : List NodeSeat) (rows_left : List (Vec Outlet Z)) (inlets_left : List Inlet) (endpoints : List Endpoint) →
+      seats_left ≡ seats → rows_left ≡ rows → inlets_left ≡ inlets → endpoints ≡ [] → IsSeating seats rows inlets seats_left rows_left inlets_left endpoints
+  seating_begins seats_left rows_left inlets_left endpoints s r c none = record {
     done = 0;
     within = omega arith;
     seats_are = s;
@@ -49,23 +49,23 @@ module _ {Z : Type 0} (seats : List NodeSeat) (rows : List (Vec Outlet Z)) (inle
     inlets_are = c;
     so_far = record {
       count = ap length none;
-      each = λ k mail e. none_at mails k mail none e;
+      each = λ k endpoint e. none_at endpoints k endpoint none e;
     };
   }
 
   -- the next seat can have the next row and inlet
-  pub next_can : (seats_left after : List NodeSeat) (rows_left more_rows : List (Vec Outlet Z)) (inlets_left more_inlets : List Inlet) (mails : List Mail)
-      (seat : NodeSeat) (row : Vec Outlet Z) (inlet : Inlet) → IsSeating seats rows inlets seats_left rows_left inlets_left mails →
+  pub next_can : (seats_left after : List NodeSeat) (rows_left more_rows : List (Vec Outlet Z)) (inlets_left more_inlets : List Inlet) (endpoints : List Endpoint)
+      (seat : NodeSeat) (row : Vec Outlet Z) (inlet : Inlet) → IsSeating seats rows inlets seats_left rows_left inlets_left endpoints →
       seats_left ≡ seat ∷ after → rows_left ≡ row ∷ more_rows → inlets_left ≡ inlet ∷ more_inlets → CanSeatAll seats rows inlets → CanSeat seat row.items inlet
-  next_can seats_left after rows_left more_rows inlets_left more_inlets mails seat row inlet on s r c can =
+  next_can seats_left after rows_left more_rows inlets_left more_inlets endpoints seat row inlet on s r c can =
       can.each on.done seat row inlet (next_is seats after seat on.done (sym on.seats_are ∙ s)) (next_is rows more_rows row on.done (sym on.rows_are ∙ r))
       (next_is inlets more_inlets inlet on.done (sym on.inlets_are ∙ c))
 
-  pub seating_goes_on : (seats_left after : List NodeSeat) (rows_left more_rows : List (Vec Outlet Z)) (inlets_left more_inlets : List Inlet) (mails more : List Mail)
-      (seat : NodeSeat) (row : Vec Outlet Z) (inlet : Inlet) (mail : Mail) → IsSeating seats rows inlets seats_left rows_left inlets_left mails →
-      seats_left ≡ seat ∷ after → rows_left ≡ row ∷ more_rows → inlets_left ≡ inlet ∷ more_inlets → IsSeated seat row inlet mail → more ≡ mails ++ mail ∷ [] →
+  pub seating_goes_on : (seats_left after : List NodeSeat) (rows_left more_rows : List (Vec Outlet Z)) (inlets_left more_inlets : List Inlet) (endpoints more : List Endpoint)
+      (seat : NodeSeat) (row : Vec Outlet Z) (inlet : Inlet) (endpoint : Endpoint) → IsSeating seats rows inlets seats_left rows_left inlets_left endpoints →
+      seats_left ≡ seat ∷ after → rows_left ≡ row ∷ more_rows → inlets_left ≡ inlet ∷ more_inlets → IsSeated seat row inlet endpoint → more ≡ endpoints ++ endpoint ∷ [] →
       IsSeating seats rows inlets after more_rows more_inlets more
-  seating_goes_on seats_left after rows_left more_rows inlets_left more_inlets mails more seat row inlet mail on s r c is more_is =
+  seating_goes_on seats_left after rows_left more_rows inlets_left more_inlets endpoints more seat row inlet endpoint on s r c is more_is =
       let at = next_is seats after seat on.done (sym on.seats_are ∙ s) in
       let at_row = next_is rows more_rows row on.done (sym on.rows_are ∙ r) in
       let at_inlet = next_is inlets more_inlets inlet on.done (sym on.inlets_are ∙ c) in
@@ -76,15 +76,15 @@ module _ {Z : Type 0} (seats : List NodeSeat) (rows : List (Vec Outlet Z)) (inle
         rows_are = then_left rows more_rows row on.done (sym on.rows_are ∙ r);
         inlets_are = then_left inlets more_inlets inlet on.done (sym on.inlets_are ∙ c);
         so_far = record {
-          count = omega (arith, ap length more_is, length-append mails (mail ∷ []), on.so_far.count);
-          each = each_more _ mails more mail on.done on.so_far.count more_is on.so_far.each (seat, row, inlet, at, at_row, at_inlet, is);
+          count = omega (arith, ap length more_is, length-append endpoints (endpoint ∷ []), on.so_far.count);
+          each = each_more _ endpoints more endpoint on.done on.so_far.count more_is on.so_far.each (seat, row, inlet, at, at_row, at_inlet, is);
         };
       }
 
-  pub all_seated : (seats_left : List NodeSeat) (rows_left : List (Vec Outlet Z)) (inlets_left : List Inlet) (mails : List Mail) →
-      IsSeating seats rows inlets seats_left rows_left inlets_left mails → length seats_left ≡ 0 → AreSeated (length seats) seats rows inlets mails
-  all_seated seats_left rows_left inlets_left mails on none =
-      subst (λ (k : ℕ). AreSeated k seats rows inlets mails) (gone_all seats seats_left on.done on.seats_are none on.within) on.so_far
+  pub all_seated : (seats_left : List NodeSeat) (rows_left : List (Vec Outlet Z)) (inlets_left : List Inlet) (endpoints : List Endpoint) →
+      IsSeating seats rows inlets seats_left rows_left inlets_left endpoints → length seats_left ≡ 0 → AreSeated (length seats) seats rows inlets endpoints
+  all_seated seats_left rows_left inlets_left endpoints on none =
+      subst (λ (k : ℕ). AreSeated k seats rows inlets endpoints) (gone_all seats seats_left on.done on.seats_are none on.within) on.so_far
 
 -- ---- seats and links at the start
 
@@ -142,9 +142,9 @@ module _ {Z : Type 0} (capacity n : ℕ) (rows : List (Vec Outlet Z)) (inlets : 
           };
     }
 
-    pub new_mails : (mails : List Mail) → AreSeated n seats rows inlets mails → AreNewMails capacity mails
-    new_mails mails seated k mail at =
-        let got = seated.each k mail at in
+    pub new_endpoints : (endpoints : List Endpoint) → AreSeated n seats rows inlets endpoints → AreNewEndpoints capacity endpoints
+    new_endpoints endpoints seated k endpoint at =
+        let got = seated.each k endpoint at in
         let is = got.6 in
         let start = is_fresh k got.0 got.3 in
         let bare = are.untaken k got.2 got.5 in
@@ -157,19 +157,19 @@ module _ {Z : Type 0} (capacity n : ℕ) (rows : List (Vec Outlet Z)) (inlets : 
           untaken = (ap worked is.inlet_is ∙ new_in n got.2 bare, ap (λ (i : Inlet). i.hand) is.inlet_is ∙ bare.empty);
         }
 
-    pub new_paired : (mails : List Mail) → AreSeated n seats rows inlets mails →
-        (i j : ℕ) (outlet : Outlet) (inlet : Inlet) → AreLinked mails i j outlet inlet → IsEndOf inlet.end i outlet.end
-    new_paired mails seated i j outlet inlet linked =
+    pub new_paired : (endpoints : List Endpoint) → AreSeated n seats rows inlets endpoints →
+        (i j : ℕ) (outlet : Outlet) (inlet : Inlet) → AreLinked endpoints i j outlet inlet → IsEndOf inlet.end i outlet.end
+    new_paired endpoints seated i j outlet inlet linked =
         let from = seated.each i linked.sender linked.sends in
         let to = seated.each j linked.taker linked.takes in
         (are.laid i j outlet inlet (from.1, from.4, ap (λ (l : List Outlet). slice_get l j) (sym from.6.outlets) ∙ linked.out)
         (to.5 ∙ ap (λ (x : Inlet). Some x) (sym to.6.inlet_is ∙ linked.into))).paired
 
-    pub new_seats : (mails : List Mail) → AreSeated n seats rows inlets mails → AreSeats board.rest.table_id n (map seat_in mails)
-    new_seats mails seated = record {
-      count = length-map mails seat_in ∙ seated.count;
+    pub new_seats : (endpoints : List Endpoint) → AreSeated n seats rows inlets endpoints → AreSeats board.rest.table_id n (map seat_in endpoints)
+    new_seats endpoints seated = record {
+      count = length-map endpoints seat_in ∙ seated.count;
       seats_are = λ k seat at.
-          let got = map_got seat_in mails k seat at in
+          let got = map_got seat_in endpoints k seat at in
           let from = seated.each k got.0 got.1 in
           subst (IsSeatOf board.rest.table_id n k) (sym from.6.seat_is ∙ got.2) (of.seats_are k from.0 from.3);
     }

@@ -13,7 +13,7 @@ use Rattle.dob_chan.proofs.Deliveries.{own_more, others_more}
 use Rattle.dob_run.specs.declared.hands.Inlet.{Inlet}
 use Rattle.dob_run.specs.Hands.{in_hand, held_from}
 use Rattle.dob_run.specs.Links.{worked, worked_from}
-use Rattle.dob_run.specs.Mails.{AreTaken}
+use Rattle.dob_run.specs.Endpoints.{AreTaken}
 
 -- no more than there are of all
 pub few_of : (k : ℕ) (xs : List BatchView) → length (batches_of k xs) ≤ length xs

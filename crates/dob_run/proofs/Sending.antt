@@ -11,15 +11,15 @@ use Rattle.dob_chan.specs.Ends.{sent_by}
 use Rattle.dob_node.specs.declared.cause.Cause.{Cause}
 use Rattle.dob_node.specs.Nodes.{outbox_to, HasCut}
 use Rattle.dob_run.specs.declared.hands.Outlet.{Outlet}
-use Rattle.dob_run.specs.declared.mail.Mail.{Mail}
+use Rattle.dob_run.specs.declared.endpoint.Endpoint.{Endpoint}
 use Rattle.dob_run.specs.declared.runner.Runner.{Runner}
 use Rattle.dob_run.specs.Hands.{in_hand}
-use Rattle.dob_run.specs.Keeps.{KeepsMail}
+use Rattle.dob_run.specs.Keeps.{KeepsEndpoint}
 use Rattle.dob_run.specs.Links.{offered, KeepsOutlet, IsFull}
-use Rattle.dob_run.specs.Mails.{HasChangedOne}
-use Rattle.dob_run.specs.Rounds.{HasToSend, IsToFill, IsMoreOut, CutsFor, CutsLeft, FillsFor, IsSent, HasSentOne, SendsTo, SendsBelow}
+use Rattle.dob_run.specs.Endpoints.{HasChangedOne}
+use Rattle.dob_run.specs.TurnRounds.{HasToSend, IsToFill, IsMoreOut, CutsFor, CutsLeft, FillsFor, IsSent, HasSentOne, SendsTo, SendsBelow}
 use Rattle.dob_run.specs.Runners.{GoesOn, StepsBy}
-use Rattle.dob_run.proofs.Keeping.{mail_same, runner_same, goes_trans}
+use Rattle.dob_run.proofs.Keeping.{endpoint_same, runner_same, goes_trans}
 use Rattle.dob_run.proofs.Taking.{changed_there, changed_at, changed_else}
 
 -- ---- to all nodes
@@ -53,7 +53,7 @@ none_sent small r unfailed = record {
 
 -- to whom one more went
 sent_some : (small : Bool) (k : ℕ) (a b c : Runner) (did one : Bool) → SendsBelow k small a b did → SendsTo k small b c one → (did || one) ≡ true →
-    (to : ℕ) × (to < k + 1) × HasSentOne to a.mail.outlets.items c.mail.outlets.items
+    (to : ℕ) × (to < k + 1) × HasSentOne to a.endpoint.outlets.items c.endpoint.outlets.items
 sent_some small k a b c true one so_far next said =
     let found = so_far.some refl in
     let apart = next.others found.0 (λ same. absurd (omega (arith, same, found.1))) in
@@ -69,11 +69,11 @@ sends_more small k a b c did one so_far next = record {
   goes = goes_trans a b c so_far.goes next.goes;
   sent = λ to low apart before after was is. elim (cases_eq to k) [
     | inl here ↦
-        let there : slice_get b.mail.outlets.items k ≡ Some before =
-        so_far.later k (omega arith) ∙ ap (λ (i : ℕ). slice_get a.mail.outlets.items i) (sym here) ∙ was in (
+        let there : slice_get b.endpoint.outlets.items k ≡ Some before =
+        so_far.later k (omega arith) ∙ ap (λ (i : ℕ). slice_get a.endpoint.outlets.items i) (sym here) ∙ was in (
           one,
-          subst (λ (i : ℕ). IsSent small i c one before after) (sym here) (next.sent (λ same. apart (here ∙ same ∙ so_far.goes.keeps.mail.seat.node)) before after there
-              (ap (λ (i : ℕ). slice_get c.mail.outlets.items i) (sym here) ∙ is)),
+          subst (λ (i : ℕ). IsSent small i c one before after) (sym here) (next.sent (λ same. apart (here ∙ same ∙ so_far.goes.keeps.endpoint.seat.node)) before after there
+              (ap (λ (i : ℕ). slice_get c.endpoint.outlets.items i) (sym here) ∙ is)),
           λ said. last did one said,
         )
     | inr other ↦
@@ -81,9 +81,9 @@ sends_more small k a b c did one so_far next = record {
         (found.0, sent_still small to b c found.0 before after (next.outboxes to other) next.goes.keeps.size found.1, λ said. first did one (found.2 said))
   ];
   some = sent_some small k a b c did one so_far next;
-  itself = elim (cases_eq a.mail.seat.node k) [
-    | inl here ↦ ap (λ (l : List Outlet). slice_get l a.mail.seat.node) (next.itself (sym here ∙ sym so_far.goes.keeps.mail.seat.node)).1 ∙ so_far.itself
-    | inr other ↦ next.others a.mail.seat.node other ∙ so_far.itself
+  itself = elim (cases_eq a.endpoint.seat.node k) [
+    | inl here ↦ ap (λ (l : List Outlet). slice_get l a.endpoint.seat.node) (next.itself (sym here ∙ sym so_far.goes.keeps.endpoint.seat.node)).1 ∙ so_far.itself
+    | inr other ↦ next.others a.endpoint.seat.node other ∙ so_far.itself
   ];
   own = next.own ∙ so_far.own;
   later = λ j high. next.others j (λ same. absurd (omega (arith, same, high))) ∙ so_far.later j (omega (arith, high));
@@ -111,27 +111,27 @@ uncut to r unfailed = record {
 }
 
 -- nor where nothing was left to send
-pub cut_nothing : (to : ℕ) (old new : Runner) → old.failed ≡ None → new.failed ≡ None → new.node ≡ old.node → new.mail ≡ old.mail → new.set ≡ old.set → new.size ≡ old.size →
+pub cut_nothing : (to : ℕ) (old new : Runner) → old.failed ≡ None → new.failed ≡ None → new.node ≡ old.node → new.endpoint ≡ old.endpoint → new.set ≡ old.set → new.size ≡ old.size →
     (outbox_to old.node to).items ≡ [] → CutsLeft to old new false
-cut_nothing to old new going unfailed node mail set size empty = (
+cut_nothing to old new going unfailed node endpoint set size empty = (
   record {
     goes = record {
-      keeps = record { mail = subst (KeepsMail old.mail) (sym mail) (mail_same old.mail); set = set; size = size };
+      keeps = record { endpoint = subst (KeepsEndpoint old.endpoint) (sym endpoint) (endpoint_same old.endpoint); set = set; size = size };
       unfailed = unfailed;
-      halt = ap (λ (m : Mail). m.seat.halt) mail;
+      halt = ap (λ (m : Endpoint). m.seat.halt) endpoint;
     };
     one = λ never. absurd (cc);
-    nothing = λ is. (node, mail);
+    nothing = λ is. (node, endpoint);
     own = ap (λ n. n.own.items) node;
     others = λ j other. ap (λ n. outbox_to n j) node;
-    inlet = ap (λ (m : Mail). m.inlet) mail;
+    inlet = ap (λ (m : Endpoint). m.inlet) endpoint;
   },
   (λ is. empty, λ is. refl),
 )
 
 -- and one is cut
 pub cut_more : (to size : ℕ) (batch : BatchView) (old new : Runner) → GoesOn old new → HasCut to size batch old.node new.node →
-    HasChangedOne (IsMoreOut batch) to old.mail.outlets.items new.mail.outlets.items → new.mail.inlet ≡ old.mail.inlet →
+    HasChangedOne (IsMoreOut batch) to old.endpoint.outlets.items new.endpoint.outlets.items → new.endpoint.inlet ≡ old.endpoint.inlet →
     (outbox_to old.node to).items ≢ [] → CutsLeft to old new true
 cut_more to size batch old new goes cut offer inlet some = (
   record {
@@ -163,7 +163,7 @@ fills_of to small old new (Err why) fill broken = broken
 -- ---- and its way
 
 -- nothing to itself
-pub own_unsent : (small : Bool) (r : Runner) (to : ℕ) → r.failed ≡ None → to ≡ r.mail.seat.node → SendsTo to small r r false
+pub own_unsent : (small : Bool) (r : Runner) (to : ℕ) → r.failed ≡ None → to ≡ r.endpoint.seat.node → SendsTo to small r r false
 own_unsent small r to unfailed is = record {
   goes = record { keeps = runner_same r; unfailed = unfailed; halt = refl };
   itself = λ same. (refl, refl);
@@ -182,27 +182,27 @@ filled_hand : (hand : Option BatchView) → hand ≢ None → (batch : BatchView
 filled_hand None full = absurd (full refl)
 filled_hand (Some batch) full = (batch, refl)
 
-module _ (to : ℕ) (small : Bool) (old mid : Runner) (any : Bool) (apart : to ≢ old.mail.seat.node) (fills : FillsFor to small old mid any) where
+module _ (to : ℕ) (small : Bool) (old mid : Runner) (any : Bool) (apart : to ≢ old.endpoint.seat.node) (fills : FillsFor to small old mid any) where
   -- what was offered, after the hand was filled or not
-  few_filled : (before between : Outlet) → slice_get old.mail.outlets.items to ≡ Some before → slice_get mid.mail.outlets.items to ≡ Some between →
+  few_filled : (before between : Outlet) → slice_get old.endpoint.outlets.items to ≡ Some before → slice_get mid.endpoint.outlets.items to ≡ Some between →
       (between.end ≡ before.end) × (length (offered between) ≤ length (offered before) + 1)
   few_filled before between was is = elim (cases_Bool any) [
     | inl did ↦
         let one = fills.0.one did in
-        let more = changed_at (IsMoreOut one.0) old.mail.outlets.items mid.mail.outlets.items to one.1 before between was is in
+        let more = changed_at (IsMoreOut one.0) old.endpoint.outlets.items mid.endpoint.outlets.items to one.1 before between was is in
         (more.0, omega (arith, ap length more.1, length-append (offered before) (one.0 ∷ [])))
     | inr none ↦
-        let same : before ≡ between = same_Some before between (sym was ∙ ap (λ (m : Mail). slice_get m.outlets.items to) (sym (fills.0.nothing none).1) ∙ is) in
+        let same : before ≡ between = same_Some before between (sym was ∙ ap (λ (m : Endpoint). slice_get m.outlets.items to) (sym (fills.0.nothing none).1) ∙ is) in
         (ap (λ (o : Outlet). o.end) (sym same), omega (arith, ap (λ (o : Outlet). length (offered o)) same))
   ]
 
   -- the hand is empty where it wasn't filled
-  unfilled : (before between : Outlet) → slice_get old.mail.outlets.items to ≡ Some before → slice_get mid.mail.outlets.items to ≡ Some between →
+  unfilled : (before between : Outlet) → slice_get old.endpoint.outlets.items to ≡ Some before → slice_get mid.endpoint.outlets.items to ≡ Some between →
       between.hand ≡ None → any ≡ false
   unfilled before between was is out = elim (cases_Bool any) [
     | inl did ↦
         let one = fills.0.one did in
-        let more = changed_at (IsMoreOut one.0) old.mail.outlets.items mid.mail.outlets.items to one.1 before between was is in
+        let more = changed_at (IsMoreOut one.0) old.endpoint.outlets.items mid.endpoint.outlets.items to one.1 before between was is in
         absurd (omega (
           arith,
           ap length more.1,
@@ -215,14 +215,14 @@ module _ (to : ℕ) (small : Bool) (old mid : Runner) (any : Bool) (apart : to �
     | inr none ↦ none
   ]
 
-  others : (j : ℕ) → j ≢ to → slice_get mid.mail.outlets.items j ≡ slice_get old.mail.outlets.items j
+  others : (j : ℕ) → j ≢ to → slice_get mid.endpoint.outlets.items j ≡ slice_get old.endpoint.outlets.items j
   others j other = elim (cases_Bool any) [
-    | inl did ↦ changed_else (IsMoreOut (fills.0.one did).0) old.mail.outlets.items mid.mail.outlets.items to j (fills.0.one did).1 other
-    | inr none ↦ ap (λ (m : Mail). slice_get m.outlets.items j) (fills.0.nothing none).1
+    | inl did ↦ changed_else (IsMoreOut (fills.0.one did).0) old.endpoint.outlets.items mid.endpoint.outlets.items to j (fills.0.one did).1 other
+    | inr none ↦ ap (λ (m : Endpoint). slice_get m.outlets.items j) (fills.0.nothing none).1
   ]
 
   -- nothing lies in the hand
-  pub sends_none : ((outlet : Outlet) → slice_get mid.mail.outlets.items to ≡ Some outlet → outlet.hand ≡ None) → SendsTo to small old mid false
+  pub sends_none : ((outlet : Outlet) → slice_get mid.endpoint.outlets.items to ≡ Some outlet → outlet.hand ≡ None) → SendsTo to small old mid false
   sends_none out = record {
     goes = fills.0.goes;
     itself = λ is. absurd (apart is);
@@ -235,7 +235,7 @@ module _ (to : ℕ) (small : Bool) (old mid : Runner) (any : Bool) (apart : to �
           none = λ unsent. ap sent_by few.0;
           spent = λ unsent empty has. both_ways any none (fills.1.1 (
             to_send_still small to old mid (ap (λ n. outbox_to n to) (fills.0.nothing none).0) fills.0.goes.keeps.size has,
-            λ outlet at. out outlet (ap (λ (m : Mail). slice_get m.outlets.items to) (fills.0.nothing none).1 ∙ at),
+            λ outlet at. out outlet (ap (λ (m : Endpoint). slice_get m.outlets.items to) (fills.0.nothing none).1 ∙ at),
           ));
           full = λ unsent stuck. absurd (stuck (out after is));
         };
@@ -247,23 +247,23 @@ module _ (to : ℕ) (small : Bool) (old mid : Runner) (any : Bool) (apart : to �
   }
 
   -- one does, and was offered to the inbox
-  module _ (new : Runner) (goes : GoesOn old new) (node : new.node ≡ mid.node) (inlet : new.mail.inlet ≡ mid.mail.inlet)
-      (full : (outlet : Outlet) → slice_get mid.mail.outlets.items to ≡ Some outlet → outlet.hand ≢ None)
-      (offer : HasChangedOne IsSameOut to mid.mail.outlets.items new.mail.outlets.items)
-      (tried : (before after : Outlet) → slice_get mid.mail.outlets.items to ≡ Some before → slice_get new.mail.outlets.items to ≡ Some after →
+  module _ (new : Runner) (goes : GoesOn old new) (node : new.node ≡ mid.node) (inlet : new.endpoint.inlet ≡ mid.endpoint.inlet)
+      (full : (outlet : Outlet) → slice_get mid.endpoint.outlets.items to ≡ Some outlet → outlet.hand ≢ None)
+      (offer : HasChangedOne IsSameOut to mid.endpoint.outlets.items new.endpoint.outlets.items)
+      (tried : (before after : Outlet) → slice_get mid.endpoint.outlets.items to ≡ Some before → slice_get new.endpoint.outlets.items to ≡ Some after →
       (after.hand ≡ before.hand) ⊎ (after.hand ≡ None))
-      (was_full : (after : Outlet) → slice_get new.mail.outlets.items to ≡ Some after → after.hand ≢ None → IsFull after) where
-    same_offer : (after : Outlet) → slice_get new.mail.outlets.items to ≡ Some after → offered after ≡ offered offer.0
-    same_offer after is = (changed_at IsSameOut mid.mail.outlets.items new.mail.outlets.items to offer offer.0 after offer.2 is).1
+      (was_full : (after : Outlet) → slice_get new.endpoint.outlets.items to ≡ Some after → after.hand ≢ None → IsFull after) where
+    same_offer : (after : Outlet) → slice_get new.endpoint.outlets.items to ≡ Some after → offered after ≡ offered offer.0
+    same_offer after is = (changed_at IsSameOut mid.endpoint.outlets.items new.endpoint.outlets.items to offer offer.0 after offer.2 is).1
 
-    few_offered : (before after : Outlet) → slice_get old.mail.outlets.items to ≡ Some before → slice_get new.mail.outlets.items to ≡ Some after →
+    few_offered : (before after : Outlet) → slice_get old.endpoint.outlets.items to ≡ Some before → slice_get new.endpoint.outlets.items to ≡ Some after →
         length (offered after) ≤ length (offered before) + 1
     few_offered before after was is = omega (arith, (few_filled before offer.0 was offer.2).1, ap length (same_offer after is))
 
-    else_where : (j : ℕ) → j ≢ to → slice_get new.mail.outlets.items j ≡ slice_get old.mail.outlets.items j
-    else_where j other = changed_else IsSameOut mid.mail.outlets.items new.mail.outlets.items to j offer other ∙ others j other
+    else_where : (j : ℕ) → j ≢ to → slice_get new.endpoint.outlets.items j ≡ slice_get old.endpoint.outlets.items j
+    else_where j other = changed_else IsSameOut mid.endpoint.outlets.items new.endpoint.outlets.items to j offer other ∙ others j other
 
-    took_it : (before after : Outlet) → slice_get old.mail.outlets.items to ≡ Some before → slice_get new.mail.outlets.items to ≡ Some after → after.hand ≡ None →
+    took_it : (before after : Outlet) → slice_get old.endpoint.outlets.items to ≡ Some before → slice_get new.endpoint.outlets.items to ≡ Some after → after.hand ≡ None →
         (batch : BatchView) × (sent_by after.end ≡ sent_by before.end ++ batch ∷ []) × (after.hand ≡ None)
     took_it before after was is out =
         let held = filled_hand offer.0.hand (full offer.0 offer.2) in (
@@ -274,7 +274,7 @@ module _ (to : ℕ) (small : Bool) (old mid : Runner) (any : Bool) (apart : to �
           out,
         )
 
-    left_it : (before after : Outlet) → slice_get old.mail.outlets.items to ≡ Some before → slice_get new.mail.outlets.items to ≡ Some after → after.hand ≢ None →
+    left_it : (before after : Outlet) → slice_get old.endpoint.outlets.items to ≡ Some before → slice_get new.endpoint.outlets.items to ≡ Some after → after.hand ≢ None →
         sent_by after.end ≡ sent_by before.end
     left_it before after was is unsent = elim (tried offer.0 after offer.2 is) [
       | inl same ↦
@@ -284,20 +284,20 @@ module _ (to : ℕ) (small : Bool) (old mid : Runner) (any : Bool) (apart : to �
       | inr out ↦ absurd (unsent out)
     ]
 
-    was_there : (before : Outlet) × (slice_get old.mail.outlets.items to ≡ Some before)
+    was_there : (before : Outlet) × (slice_get old.endpoint.outlets.items to ≡ Some before)
     was_there = elim (cases_Bool any) [
       | inl did ↦ ((fills.0.one did).1.0, (fills.0.one did).1.2)
-      | inr none ↦ (offer.0, ap (λ (m : Mail). slice_get m.outlets.items to) (sym (fills.0.nothing none).1) ∙ offer.2)
+      | inr none ↦ (offer.0, ap (λ (m : Endpoint). slice_get m.outlets.items to) (sym (fills.0.nothing none).1) ∙ offer.2)
     ]
 
-    one_more : (after : Outlet) → slice_get new.mail.outlets.items to ≡ Some after → after.hand ≡ None → HasSentOne to old.mail.outlets.items new.mail.outlets.items
+    one_more : (after : Outlet) → slice_get new.endpoint.outlets.items to ≡ Some after → after.hand ≡ None → HasSentOne to old.endpoint.outlets.items new.endpoint.outlets.items
     one_more after is out =
         let took = took_it was_there.0 after was_there.1 is out in
         (was_there.0, after, was_there.1, is, omega (arith, ap length took.1, length-append (sent_by was_there.0.end) (took.0 ∷ [])))
 
     -- it still lies there, or not
-    pub sends_offered : (still : Bool) → (still ≡ true → (outlet : Outlet) → slice_get new.mail.outlets.items to ≡ Some outlet → outlet.hand ≢ None) →
-        (still ≡ false → (outlet : Outlet) → slice_get new.mail.outlets.items to ≡ Some outlet → outlet.hand ≡ None) → SendsTo to small old new (not still)
+    pub sends_offered : (still : Bool) → (still ≡ true → (outlet : Outlet) → slice_get new.endpoint.outlets.items to ≡ Some outlet → outlet.hand ≢ None) →
+        (still ≡ false → (outlet : Outlet) → slice_get new.endpoint.outlets.items to ≡ Some outlet → outlet.hand ≡ None) → SendsTo to small old new (not still)
     sends_offered true unsent out = record {
       goes = goes;
       itself = λ is. absurd (apart is);
@@ -324,7 +324,7 @@ module _ (to : ℕ) (small : Bool) (old mid : Runner) (any : Bool) (apart : to �
         spent = λ never. absurd (cc);
         full = λ never. absurd (cc);
       };
-      some = λ sent. (let there = changed_there IsSameOut mid.mail.outlets.items new.mail.outlets.items to offer in one_more offer.1 there (out refl offer.1 there));
+      some = λ sent. (let there = changed_there IsSameOut mid.endpoint.outlets.items new.endpoint.outlets.items to offer in one_more offer.1 there (out refl offer.1 there));
       own = ap (λ n. n.own.items) node ∙ fills.0.own;
       outboxes = λ j other. ap (λ n. outbox_to n j) node ∙ fills.0.others j other;
       others = else_where;

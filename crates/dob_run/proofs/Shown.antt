@@ -11,13 +11,13 @@ use Rattle.dob_share.specs.Owners.{owner_of}
 use Rattle.dob_node.specs.declared.node.Node.{Node}
 use Rattle.dob_node.proofs.Kept.{last_now-entry}
 use Rattle.dob_node.proofs.Rest.{below_owner}
-use Rattle.dob_run.specs.declared.mail.Mail.{Mail}
-use Rattle.dob_run.specs.Workers.{IsLawful}
-use Rattle.dob_run.specs.Finishing.{IsOwner, AreOwners, IsShown}
+use Rattle.dob_run.specs.declared.endpoint.Endpoint.{Endpoint}
+use Rattle.dob_run.specs.LawfulRunners.{IsLawfulRunner}
+use Rattle.dob_run.specs.BuildEnd.{IsOwner, AreOwners, IsShown}
 
--- a lawful worker's node owns its classes
-pub owner_is : (set : PieceSet) (size n k : ℕ) (node : Node) (mail : Mail) → IsLawful set size node mail → node.id ≡ k → node.n ≡ n → IsOwner set n k node
-owner_is set size n k node mail law id_is n_is = record {
+-- a lawful runner's node owns its classes
+pub owner_is : (set : PieceSet) (size n k : ℕ) (node : Node) (endpoint : Endpoint) → IsLawfulRunner set size node endpoint → node.id ≡ k → node.n ≡ n → IsOwner set n k node
+owner_is set size n k node endpoint law id_is n_is = record {
   own = λ class low is. (law.sound.kept.owned class).1 (owner class is, few class low);
   entries = λ class value low is has. subst IsEntry (sym (law.knows.values class value (few class low) (owner class is) has))
       (last_now-entry (λ (s : Settlement). eqb s.class class) Draw node.history.settlements tt law.knows.entries);

@@ -7,11 +7,11 @@ use Rattle.dob_pieces.proofs.Elements.{get_set_other, get_set_same}
 use Rattle.dob_update.specs.Batches.{BatchView}
 use Rattle.dob_chan.specs.declared.ends.TakeEnd.{TakeEnd}
 use Rattle.dob_chan.specs.Ends.{taken_by}
-use Rattle.dob_run.specs.declared.mail.Mail.{Mail}
+use Rattle.dob_run.specs.declared.endpoint.Endpoint.{Endpoint}
 use Rattle.dob_run.specs.declared.runner.Runner.{Runner}
 use Rattle.dob_run.specs.Links.{worked}
-use Rattle.dob_run.specs.Mails.{HasChangedOne}
-use Rattle.dob_run.specs.Rounds.{IsAsked, IsWorkedIn, Takes}
+use Rattle.dob_run.specs.Endpoints.{HasChangedOne}
+use Rattle.dob_run.specs.TurnRounds.{IsAsked, IsWorkedIn, TakesBatch}
 use Rattle.dob_run.specs.Runners.{GoesOn}
 
 -- ---- one of several links
@@ -31,13 +31,13 @@ changed_else {L} R xs ys k j one other = ap (λ (l : List L). slice_get l j) one
 
 -- ---- taking
 
-module _ (old new : Runner) (mid : Mail) (goes : GoesOn old new) (received : worked mid.inlet ≡ worked old.mail.inlet)
-    (asked : IsAsked old.mail.inlet mid.inlet) (outlets : new.mail.outlets.items ≡ old.mail.outlets.items) where
+module _ (old new : Runner) (mid : Endpoint) (goes : GoesOn old new) (received : worked mid.inlet ≡ worked old.endpoint.inlet)
+    (asked : IsAsked old.endpoint.inlet mid.inlet) (outlets : new.endpoint.outlets.items ≡ old.endpoint.outlets.items) where
   -- none came, or it isn't worked in
-  pub takes_none : new.mail.inlet ≡ mid.inlet → Takes old new false
+  pub takes_none : new.endpoint.inlet ≡ mid.inlet → TakesBatch old new false
   takes_none same = record {
     goes = goes;
-    taken = subst (λ i. IsWorkedIn false old.mail.inlet i) (sym same) (record {
+    taken = subst (λ i. IsWorkedIn false old.endpoint.inlet i) (sym same) (record {
       few = asked.few;
       one = λ never. absurd (cc);
       none = λ _. received;
@@ -47,7 +47,7 @@ module _ (old new : Runner) (mid : Mail) (goes : GoesOn old new) (received : wor
   }
 
   -- one is
-  pub takes_one : (batch : BatchView) → new.mail.inlet.end ≡ mid.inlet.end → worked new.mail.inlet ≡ worked mid.inlet ++ batch ∷ [] → Takes old new true
+  pub takes_one : (batch : BatchView) → new.endpoint.inlet.end ≡ mid.inlet.end → worked new.endpoint.inlet ≡ worked mid.inlet ++ batch ∷ [] → TakesBatch old new true
   takes_one batch end more = record {
     goes = goes;
     taken = record {

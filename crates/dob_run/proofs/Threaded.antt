@@ -13,10 +13,10 @@ use Rattle.dob_run.specs.declared.runner.Runner.{Runner}
 use Rattle.dob_run.specs.declared.threads.Started.{Started}
 use Rattle.dob_run.specs.declared.threads.Started.TheVariants.{Runs, GaveUp}
 use Rattle.dob_run.specs.Runners.{KeepsRunner, GoesOn, HasFailed, HasTurned, IsAsked, IsReasonFor, IsReasoned, says_no}
-use Rattle.dob_run.specs.declared.turns.Until.{Until}
-use Rattle.dob_run.specs.declared.turns.Until.TheVariants.{Turns, Stopped}
+use Rattle.dob_run.specs.declared.turn_loop.Until.{Until}
+use Rattle.dob_run.specs.declared.turn_loop.Until.TheVariants.{Turns, Stopped}
 use Rattle.dob_run.specs.Started.{IsStartOf, IsEndOf}
-use Rattle.dob_run.specs.Turns.{IsThrough, Ends, EndsBy, IsLetOn}
+use Rattle.dob_run.specs.TurnLoop.{IsThrough, Ends, EndsBy, IsLetOn}
 use Rattle.dob_run.proofs.Pacing.{unfailed_few}
 use Rattle.dob_run.proofs.Keeping.{reasoned_failed, reasoned_unfailed}
 
@@ -66,14 +66,14 @@ let_failed Says Stopped old new why failed = λ going unfailed. absurd (let both
 
 -- where it makes a turn and doesn't fail the gate lets it on
 pub let_by_turn : (Says : ℕ → Bool → Type 0) (a b : Runner) (r : Result Halt Cause) → MatchResult r (HasTurned a b) (HasFailed a b) →
-    IsAsked Says a.mail.seat.node r → b.failed ≡ None → Says b.mail.seat.node true
+    IsAsked Says a.endpoint.seat.node r → b.failed ≡ None → Says b.endpoint.seat.node true
 let_by_turn Says a b (Ok halt) turned asked unfailed = elim (cases_Bool asked.0) [
-  | inl said ↦ subst (λ (p : ℕ × Bool). Says p.0 p.1) (λ i. (sym turned.keeps.mail.seat.node i, said i)) asked.1
+  | inl said ↦ subst (λ (p : ℕ × Bool). Says p.0 p.1) (λ i. (sym turned.keeps.endpoint.seat.node i, said i)) asked.1
   | inr none ↦ absurd (let held = asked.2.0 none in cc)
 ]
 let_by_turn Says a b (Err why) failed asked unfailed = absurd (let both = sym failed.cause ∙ unfailed in cc)
 
--- one that failed for want of memory has ended
+-- one that failed for lack of memory has ended
 pub ended_without_memory : (Says : ℕ → Bool → Type 0) (until : Until) (old new : Runner) → HasFailed old new Memory → EndsBy Says until old new
 ended_without_memory Says until old new failed = (
   (failed.keeps, through until old new Memory failed, reasoned_failed (says_no Says) new Memory failed.cause tt),

@@ -11,15 +11,15 @@ use Rattle.dob_unmove.specs.Edges.{predecessors}
 use Rattle.dob_share.specs.Owners.{owner_of}
 use Rattle.dob_board.specs.Words.{posted_word, taken_word, word_count}
 use Rattle.dob_chan.specs.declared.ends.Rejoined.{Rejoined}
-use Rattle.dob_run.specs.declared.finishing.Built.{Built}
+use Rattle.dob_run.specs.declared.build_end.Built.{Built}
 
 -- how many items tell node j of the value of a class: one for each move into it from a class of node j
-abbrev pub told_to : PieceSet → ℕ → ℕ → ℕ → ℕ
-told_to set n j class = count_by (λ from. owner_of n from == j) (predecessors set class)
+abbrev pub edges_to : PieceSet → ℕ → ℕ → ℕ → ℕ
+edges_to set n j class = count_by (λ from. owner_of n from == j) (predecessors set class)
 
 -- how many items node i has to tell node j at least: those of its classes that aren't a draw
 abbrev pub needed : PieceSet → ℕ → List Value → ℕ → ℕ → ℕ
-needed set n values i j = sum_by (λ class. cond (owner_of n class == i) (cond (is_draw (slice_index_or values class Draw)) 0 (told_to set n j class)) 0)
+needed set n values i j = sum_by (λ class. cond (owner_of n class == i) (cond (is_draw (slice_index_or values class Draw)) 0 (edges_to set n j class)) 0)
     (range_with_len 0 (classes_of set))
 
 -- The link from node i to node j is done: the batches posted, taken, sent and received are one number, nothing waits, and in

@@ -50,9 +50,9 @@ HasStartFault set n batch capacity (Stopped node why) = ⊥
 HasStartFault set n batch capacity Memory = IsSmall set × HasCrewFault n batch capacity Memory
 
 -- why a crew leaves nothing: none is run, or one of its nodes has stopped
-abbrev pub HasFault : PieceSet → ℕ → ℕ → ℕ → Fault → Type 0
-HasFault set n batch capacity SetTooLarge = HasStartFault set n batch capacity SetTooLarge
-HasFault set n batch capacity Nodes = HasStartFault set n batch capacity Nodes
-HasFault set n batch capacity Sizes = HasStartFault set n batch capacity Sizes
-HasFault set n batch capacity (Stopped node why) = IsSmall set × AreWithin n batch capacity × (node < n)
-HasFault set n batch capacity Memory = HasStartFault set n batch capacity Memory
+abbrev pub HasBuildFault : PieceSet → ℕ → ℕ → ℕ → Fault → Type 0
+HasBuildFault set n batch capacity SetTooLarge = HasStartFault set n batch capacity SetTooLarge
+HasBuildFault set n batch capacity Nodes = HasStartFault set n batch capacity Nodes
+HasBuildFault set n batch capacity Sizes = HasStartFault set n batch capacity Sizes
+HasBuildFault set n batch capacity (Stopped node why) = IsSmall set × AreWithin n batch capacity × (node < n)
+HasBuildFault set n batch capacity Memory = HasStartFault set n batch capacity Memory

@@ -13,29 +13,29 @@ use Rattle.dob_chan.specs.Ends.{sent_by, taken_of}
 use Rattle.dob_run.specs.declared.hands.Outlet.{Outlet}
 use Rattle.dob_run.specs.declared.hands.Inlet.{Inlet}
 use Rattle.dob_run.specs.declared.runner.Runner.{Runner}
-use Rattle.dob_run.specs.Workers.{IsLawful}
+use Rattle.dob_run.specs.LawfulRunners.{IsLawfulRunner}
 
 -- the runner is lawful, and stands at that place of a crew of n for the piece set
 pub record IsRunnerOf (set : PieceSet) (n place : ℕ) (runner : Runner) : Type 0 where
-  pub seat : (runner.mail.seat.node ≡ place) × (runner.mail.seat.nodes ≡ n)
+  pub seat : (runner.endpoint.seat.node ≡ place) × (runner.endpoint.seat.nodes ≡ n)
   pub set_is : runner.set ≡ set
-  pub lawful : IsLawful runner.set runner.size runner.node runner.mail
+  pub lawful : IsLawfulRunner runner.set runner.size runner.node runner.endpoint
 
 -- the outlet of runner i for j and the inlet of j
 pub record AreJoinedBy (runners : List Runner) (i j : ℕ) (sender taker : Runner) (outlet : Outlet) (inlet : Inlet) : Type 0 where
   pub sends : slice_get runners i ≡ Some sender
   pub takes : slice_get runners j ≡ Some taker
-  pub out : slice_get sender.mail.outlets.items j ≡ Some outlet
-  pub into : taker.mail.inlet ≡ inlet
+  pub out : slice_get sender.endpoint.outlets.items j ≡ Some outlet
+  pub into : taker.endpoint.inlet ≡ inlet
 
 -- The crew of n has ended: each runner is lawful and white; on each link as many batches were posted as were taken, and what
 -- came out of the inbox of the first is the beginning of what the second sent.
 pub record AreFinished (set : PieceSet) (n : ℕ) (runners : List Runner) : Type 0 where
   pub count : length runners ≡ n
   pub each : (i : ℕ) (runner : Runner) → slice_get runners i ≡ Some runner → IsRunnerOf set n i runner
-  pub white : (i : ℕ) (runner : Runner) → slice_get runners i ≡ Some runner → runner.mail.seat.black ≡ false
+  pub white : (i : ℕ) (runner : Runner) → slice_get runners i ≡ Some runner → runner.endpoint.seat.black ≡ false
   pub counts : (i j : ℕ) (sender taker : Runner) (outlet : Outlet) (inlet : Inlet) → AreJoinedBy runners i j sender taker outlet inlet →
-      slice_index sender.mail.seat.posted.items j ≡ slice_index taker.mail.seat.taken.items i
+      slice_index sender.endpoint.seat.posted.items j ≡ slice_index taker.endpoint.seat.taken.items i
   pub inboxes : (i j : ℕ) (sender taker : Runner) (outlet : Outlet) (inlet : Inlet) → AreJoinedBy runners i j sender taker outlet inlet →
       (waiting : List BatchView) × (sent_by outlet.end ≡ taken_of inlet.end i ++ waiting)
 

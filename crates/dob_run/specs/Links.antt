@@ -1,4 +1,4 @@
--- The batches of a worker's links, and what a link keeps.
+-- The batches of a runner's links, and what a link keeps.
 use Rattle.std.specs.Prelude.{ℕ, List, ◌++◌}
 use Rattle.dob_pieces.specs.Lists.{IsBeginning}
 use Rattle.dob_update.specs.Batches.{BatchView}

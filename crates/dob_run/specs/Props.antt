@@ -1,4 +1,4 @@
--- That a worker is lawful has one proof at most.
+-- That a runner is lawful has one proof at most.
 use Rattle.std.specs.Prelude.{ℕ, suc, ◌<◌, List, Option}
 use Rattle.std.specs.List.{All}
 use Rattle.std.specs.Coded.{Coded-set, coded_ℕ, coded_list, coded_option, ×_prop, Π_prop, Unit-prop, le_prop}
@@ -23,15 +23,15 @@ use Rattle.dob_update.specs.Batches.{BatchView, OutboxView}
 use Rattle.dob_node.specs.Histories.{IsNext, IsChained}
 use Rattle.dob_node.specs.declared.node.Node.{Node}
 use Rattle.dob_node.specs.Stores.{HistoryView}
-use Rattle.dob_node.specs.Takes.{HasEntries, HasParities, AreKept}
+use Rattle.dob_node.specs.TakenItems.{HasEntries, HasParities, AreKept}
 use Rattle.dob_node.specs.Outboxes.{IsOutboxTo}
 use Rattle.dob_node.specs.Nodes.{outbox_to, IsSound, IsIdle}
 use Rattle.dob_run.specs.declared.hands.Outlet.{Outlet}
-use Rattle.dob_run.specs.declared.mail.Mail.{Mail}
+use Rattle.dob_run.specs.declared.endpoint.Endpoint.{Endpoint}
 use Rattle.dob_run.specs.Links.{offered}
-use Rattle.dob_run.specs.Mails.{AreOut}
+use Rattle.dob_run.specs.Endpoints.{AreOut}
 use Rattle.dob_run.specs.Knows.{AreSummed, KnowsRight}
-use Rattle.dob_run.specs.Workers.{SendsRight, IsLawful, applied_from}
+use Rattle.dob_run.specs.LawfulRunners.{SendsRight, IsLawfulRunner, applied_from}
 
 ℕ-set : IsSet ℕ
 ℕ-set = Coded-set coded_ℕ
@@ -87,7 +87,7 @@ IsOutboxTo-prop set n from to outbox a b = λ i. record {
 pub IsSound-prop : (node : Node) → IsProp (IsSound node)
 IsSound-prop node a b = λ i. record {
   kept = AreKept-prop node.set node.n node.id node.share node.history a.kept b.kept i;
-  told = le_prop a.told b.told i;
+  emitted = le_prop a.emitted b.emitted i;
   entries = All-prop HasEntries HasEntries-prop node.own.items a.entries b.entries i;
   receivers = ℕ-set _ _ a.receivers b.receivers i;
   addressed = Π_prop (λ to. IsOutboxTo-prop node.set node.n node.id to (outbox_to node to)) a.addressed b.addressed i;
@@ -167,13 +167,13 @@ KnowsRight-prop set n id share history applied a b = λ i. record {
   sums = AreSummed-prop set n id share applied a.sums b.sums i;
 }
 
-pub IsLawful-prop : (set : PieceSet) (size : ℕ) (node : Node) (mail : Mail) → IsProp (IsLawful set size node mail)
-IsLawful-prop set size node mail a b = λ i. record {
+pub IsLawfulRunner-prop : (set : PieceSet) (size : ℕ) (node : Node) (endpoint : Endpoint) → IsProp (IsLawfulRunner set size node endpoint)
+IsLawfulRunner-prop set size node endpoint a b = λ i. record {
   of = (set_set _ _ a.of.0 b.of.0 i, ℕ-set _ _ a.of.1 b.of.1 i, ℕ-set _ _ a.of.2 b.of.2 i);
   sound = IsSound-prop node a.sound b.sound i;
   sends = Π_prop (λ to. Π_prop (λ outlet. Π_prop (λ _. Π_prop (λ _. SendsRight-prop node size to (offered outlet))))) a.sends b.sends i;
   unused = Π_prop (λ outlet. Π_prop (λ _. batches_set _ _)) a.unused b.unused i;
   own = items_set _ _ a.own b.own i;
-  knows = KnowsRight-prop node.set node.n node.id node.share node.history.settlements (applied_from node mail.inlet) a.knows b.knows i;
-  white = Π_prop (λ _. ×_prop (IsIdle-prop node) (AreOut-prop mail.outlets.items)) a.white b.white i;
+  knows = KnowsRight-prop node.set node.n node.id node.share node.history.settlements (applied_from node endpoint.inlet) a.knows b.knows i;
+  white = Π_prop (λ _. ×_prop (IsIdle-prop node) (AreOut-prop endpoint.outlets.items)) a.white b.white i;
 }

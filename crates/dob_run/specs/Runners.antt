@@ -5,7 +5,7 @@ use Rattle.dob_share.specs.declared.opening.Opening.{Opening}
 use Rattle.dob_board.specs.declared.halt.Halt.{Halt}
 use Rattle.dob_board.specs.declared.halt.Halt.TheVariants.{Running}
 use Rattle.dob_board.specs.declared.seat.NodeSeat.{NodeSeat}
-use Rattle.dob_board.specs.Seats.{IsSameSeat, HearsHalt}
+use Rattle.dob_board.specs.Seats.{IsSameSeat, ObservesHalt}
 use Rattle.dob_node.specs.declared.cause.Cause.{Cause}
 use Rattle.dob_node.specs.declared.cause.Cause.TheVariants.{TooDeep, Contradiction, Memory, Held, Counts}
 use Rattle.dob_node.specs.declared.node.Node.{Node}
@@ -13,17 +13,17 @@ use Rattle.dob_node.specs.Openings.{AreOpenings}
 use Rattle.dob_node.specs.Nodes.{outbox_to, HasItemFault, HasTakenBefore, IsIdle, IsSound, IsOpened}
 use Rattle.dob_update.specs.Batches.{BatchView}
 use Rattle.dob_run.specs.declared.hands.Outlet.{Outlet}
-use Rattle.dob_run.specs.declared.mail.Mail.{Mail}
+use Rattle.dob_run.specs.declared.endpoint.Endpoint.{Endpoint}
 use Rattle.dob_run.specs.Batches.{IsBatchFor}
 use Rattle.dob_run.specs.Links.{offered, worked}
-use Rattle.dob_run.specs.Workers.{items_worked}
+use Rattle.dob_run.specs.LawfulRunners.{items_worked}
 use Rattle.dob_run.specs.declared.runner.Runner.{Runner}
-use Rattle.dob_run.specs.Mails.{AreOut}
-use Rattle.dob_run.specs.Keeps.{KeepsMail, HasSameLinks}
+use Rattle.dob_run.specs.Endpoints.{AreOut}
+use Rattle.dob_run.specs.Keeps.{KeepsEndpoint, HasSameLinks}
 
 -- The runner keeps its place in its crew, and nothing that went over its links is taken back.
 pub record KeepsRunner (old new : Runner) : Type 0 where
-  pub mail : KeepsMail old.mail new.mail
+  pub endpoint : KeepsEndpoint old.endpoint new.endpoint
   pub set : new.set ≡ old.set
   pub size : new.size ≡ old.size
 
@@ -31,7 +31,7 @@ pub record KeepsRunner (old new : Runner) : Type 0 where
 pub record GoesOn (old new : Runner) : Type 0 where
   pub keeps : KeepsRunner old new
   pub unfailed : new.failed ≡ None
-  pub halt : new.mail.seat.halt ≡ old.mail.seat.halt
+  pub halt : new.endpoint.seat.halt ≡ old.endpoint.seat.halt
 
 -- it goes on, or its seat has found that the run doesn't
 pub record GoesRound (old new : Runner) : Type 0 where
@@ -42,7 +42,7 @@ pub record GoesRound (old new : Runner) : Type 0 where
 pub record HasFailed (old new : Runner) (why : Cause) : Type 0 where
   pub keeps : KeepsRunner old new
   pub cause : new.failed ≡ Some why
-  pub stopped : new.mail.seat.halt ≢ Running
+  pub stopped : new.endpoint.seat.halt ≢ Running
 
 -- An item of the last batch that came from another node can't be applied, for that cause; just those before it were.
 pub record HasRefused (runner : Runner) (why : Cause) : Type 0 where
@@ -50,26 +50,26 @@ pub record HasRefused (runner : Runner) (why : Cause) : Type 0 where
   pub going : was.failed ≡ None
   pub kept : KeepsRunner was runner
   pub from : ℕ
-  pub other : from ≢ was.mail.seat.node
+  pub other : from ≢ was.endpoint.seat.node
   pub batch : BatchView
-  pub fits : IsBatchFor was.set was.mail.seat.nodes from was.mail.seat.node batch
-  pub came : items_worked runner.mail.inlet from ≡ items_worked was.mail.inlet from ++ batch.items
+  pub fits : IsBatchFor was.set was.endpoint.seat.nodes from was.endpoint.seat.node batch
+  pub came : items_worked runner.endpoint.inlet from ≡ items_worked was.endpoint.inlet from ++ batch.items
   pub before : HasTakenBefore batch.items was.node runner.node why
 
 -- the node has something to send to another one, for which it has cut 2^40 batches
 pub record HasCutAll (runner : Runner) : Type 0 where
   pub to : ℕ
-  pub other : to ≢ runner.mail.seat.node
+  pub other : to ≢ runner.endpoint.seat.node
   pub left : (outbox_to runner.node to).items ≢ []
   pub many : 2 ^ 40 ≤ (outbox_to runner.node to).next
 
 -- Why a runner has failed, with a gate that may say no to some nodes: an item can't be applied, the first of its own or one
--- that came; it has cut too many batches; or the gate said no. Of want of memory nothing is said.
+-- that came; it has cut too many batches; or the gate said no. Of lack of memory nothing is said.
 abbrev pub IsReasonFor : (ℕ → Type 0) → Runner → Cause → Type 0
 IsReasonFor No runner TooDeep = HasItemFault runner.node TooDeep ⊎ HasRefused runner TooDeep
 IsReasonFor No runner (Contradiction class) = HasItemFault runner.node (Contradiction class) ⊎ HasRefused runner (Contradiction class)
 IsReasonFor No runner Memory = ⊤
-IsReasonFor No runner Held = No runner.mail.seat.node
+IsReasonFor No runner Held = No runner.endpoint.seat.node
 IsReasonFor No runner Counts = HasCutAll runner
 
 -- one that has failed has a reason
@@ -96,18 +96,18 @@ pub record HasBroken (old new : Runner) (why : Cause) : Type 0 where
 -- it was held back: its node, its links and its colour are as they were
 pub record IsHeldBack (old new : Runner) : Type 0 where
   pub node : new.node ≡ old.node
-  pub links : HasSameLinks old.mail new.mail
-  pub colour : new.mail.seat.black ≡ old.mail.seat.black
+  pub links : HasSameLinks old.endpoint new.endpoint
+  pub colour : new.endpoint.seat.black ≡ old.endpoint.seat.black
 
 -- It has made a turn, and the halt is the one that its seat knows: first it looked at the halt word, and where it found that
 -- the run doesn't go on this is what it found.
 pub record HasTurned (old new : Runner) (halt : Halt) : Type 0 where
   pub keeps : KeepsRunner old new
   pub unfailed : new.failed ≡ None
-  pub halt_is : halt ≡ new.mail.seat.halt
+  pub halt_is : halt ≡ new.endpoint.seat.halt
   pub looked : NodeSeat
-  pub same : IsSameSeat old.mail.seat looked
-  pub heard : HearsHalt old.mail.seat looked looked.halt
+  pub same : IsSameSeat old.endpoint.seat looked
+  pub observed : ObservesHalt old.endpoint.seat looked looked.halt
   pub first : looked.halt ≢ Running → halt ≡ looked.halt
 
 -- a step of a runner: it has done that and answers so, or its node has failed
@@ -121,16 +121,16 @@ Steps {A} old new result = StepsBy (λ (before after : Runner) (answer : A). Goe
 -- The runner has nothing to expand, to apply or to send, and no batch in a hand.
 pub record IsAtRest (runner : Runner) : Type 0 where
   pub idle : IsIdle runner.node
-  pub sent : AreOut runner.mail.outlets.items
-  pub worked : runner.mail.inlet.hand ≡ None
+  pub sent : AreOut runner.endpoint.outlets.items
+  pub worked : runner.endpoint.inlet.hand ≡ None
 
--- The node was opened for the piece set and has made no step, and nothing has gone over the mail of its seat.
-pub record IsNew (set : PieceSet) (node : Node) (mail : Mail) : Type 0 where
+-- The node was opened for the piece set and has made no step, and nothing has gone over the endpoint of its seat.
+pub record IsNew (set : PieceSet) (node : Node) (endpoint : Endpoint) : Type 0 where
   pub openings : List Opening
   pub are_openings : AreOpenings set openings
-  pub opened : IsOpened openings set mail.seat.node mail.seat.nodes node
+  pub opened : IsOpened openings set endpoint.seat.node endpoint.seat.nodes node
   pub sound : IsSound node
-  pub black : mail.seat.black ≡ true
-  pub running : mail.seat.halt ≡ Running
-  pub unsent : (to : ℕ) (outlet : Outlet) → slice_get mail.outlets.items to ≡ Some outlet → offered outlet ≡ []
-  pub untaken : worked mail.inlet ≡ []
+  pub black : endpoint.seat.black ≡ true
+  pub running : endpoint.seat.halt ≡ Running
+  pub unsent : (to : ℕ) (outlet : Outlet) → slice_get endpoint.outlets.items to ≡ Some outlet → offered outlet ≡ []
+  pub untaken : worked endpoint.inlet ≡ []

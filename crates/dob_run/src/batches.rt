@@ -2,7 +2,7 @@
 ghost use Rattle.std.specs.Prelude.{◌≡◌, ◌↔◌, IsTrue};
 ghost use Rattle.std.specs.List.{All};
 ghost use Rattle.dob_value.specs.Follows.{IsEntry};
-ghost use Rattle.dob_node.specs.Takes.{HasEntries};
+ghost use Rattle.dob_node.specs.TakenItems.{HasEntries};
 ghost use Rattle.dob_run.specs.Batches.{IsBatchFor};
 
 use dob_pieces::PieceSet;

@@ -2,17 +2,17 @@
 ghost use Rattle.std.specs.Prelude.{ℕ, ◌<◌, true, false, IfOk, IfErr, OnOk};
 ghost use Rattle.dob_rank.specs.Limits.{IsSmall};
 ghost use Rattle.dob_run.specs.Built.{IsBuilt};
-ghost use Rattle.dob_run.specs.Finishing.{IsFailureOf};
-ghost use Rattle.dob_run.specs.Faults.{AreWithin, HasFault};
+ghost use Rattle.dob_run.specs.BuildEnd.{IsFailureOf};
+ghost use Rattle.dob_run.specs.Faults.{AreWithin, HasBuildFault};
 ghost use Rattle.dob_run.specs.Runners.{says_no};
-ghost use Rattle.dob_run.specs.Turns.{until_stopped};
-ghost use Rattle.dob_run.specs.Turned.{StopsSo, IsUnheld};
+ghost use Rattle.dob_run.specs.TurnLoop.{until_stopped};
+ghost use Rattle.dob_run.specs.BoundedRun.{StopsSo, IsUnheld};
 
+use crate::build_end::{Built, finish};
 use crate::fault::Fault;
-use crate::finishing::{Built, finish};
 use crate::gate::Gate;
 use crate::threads::run_crew;
-use crate::turns::Until;
+use crate::turn_loop::Until;
 use dob_pieces::PieceSet;
 use std::alloc::Global;
 use std::sync::Wait;
@@ -39,7 +39,7 @@ pub fn run_nodes<R: Threads + Wait + Sync, G: Gate + Sync>(
     ensures let_on { OnOk result ((node : ℕ) → node < n → G.says gate.now node true) }
     ensures unheld { ((node : ℕ) → ¬ G.says gate.now node false) → IfErr result IsUnheld }
     ensures within { OnOk result (IsSmall set × AreWithin n batch capacity) }
-    ensures fault { IfErr result (HasFault set n batch capacity) }
+    ensures fault { IfErr result (HasBuildFault set n batch capacity) }
     ensures stopped { IfErr result (StopsSo IsFailureOf (says_no (G.says gate.now)) until_stopped set n batch capacity) }
 {
     let (classes, board, ended) = run_crew(

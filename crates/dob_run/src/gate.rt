@@ -1,13 +1,13 @@
-// Who lets workers go on.
+// Who lets runners go on.
 
-/// Each node's worker asks it at the start of each turn whether it may go on. A worker that may not gives up.
+/// Each node's runner asks it at the start of each turn whether it may go on. A runner that may not fails.
 pub trait Gate {
     ghost use Rattle.std.specs.Prelude.{ℕ, Bool};
 
     // By `says gate node yes` the gate may answer so of that node.
     ghost says: { Self → ℕ → Bool → Type 0 };
 
-    /// Whether the worker of that node may go on.
+    /// Whether the runner of that node may go on.
     fn enter(&self, node: usize) -> bool
         ensures { says self.now node result };
 }

@@ -1,4 +1,4 @@
-// The ends by which a worker sends and takes, each with a hand for one batch between the board and an inbox, or an inbox and
+// The ends by which a runner sends and takes, each with a hand for one batch between the board and an inbox, or an inbox and
 // the node.
 ghost use Rattle.std.specs.Prelude.{◌≡◌, ◌<◌, ◌++◌, Some};
 ghost use Rattle.dob_update.specs.Batches.{BatchView};

@@ -1,4 +1,4 @@
-// What a worker does with its ends: it holds and offers batches, and receives and releases them.
+// What a runner does with its ends: it holds and offers batches, and receives and releases them.
 ghost use Rattle.std.specs.Prelude.{◌≡◌, ◌≢◌, ◌↔◌, ◌≤◌, ◌⊎◌, IsTrue, true, false, None, Some, ◌∷◌, [], ◌++◌, length, MatchOption};
 ghost use Rattle.dob_chan.specs.Inboxes.{most_batches};
 ghost use Rattle.dob_update.specs.Batches.{BatchView};
@@ -60,7 +60,7 @@ impl Outlet {
 }
 
 impl Inlet {
-    ghost use Rattle.dob_run.specs.Rounds.{IsAsked};
+    ghost use Rattle.dob_run.specs.TurnRounds.{IsAsked};
 
     /// An inlet whose hand is empty.
     pub(crate) fn new(end: TakeEnd) -> Inlet

@@ -2,17 +2,17 @@
 ghost use Rattle.std.specs.Prelude.{◌≡◌, IfOk, IfErr};
 ghost use Rattle.std.specs.List.{AllZip};
 ghost use Rattle.dob_run.specs.Faults.{HasStartFault};
-ghost use Rattle.dob_run.specs.Turns.{Suits, AllSuit, EndsBy, AreLetOn, HasRun};
+ghost use Rattle.dob_run.specs.TurnLoop.{Suits, AllSuit, EndsBy, AreLetOn, HasRun};
 ghost use Rattle.dob_run.specs.Runners.{says_no};
 ghost use Rattle.dob_run.specs.Started.{IsStartOf, IsEndOf};
 
-use crate::crews::crew_of;
+use crate::crew_open::crew_of;
 use crate::fault::Fault;
 use crate::gate::Gate;
 use crate::limits::classes_within;
 use crate::runner::Runner;
 use crate::scans::scan;
-use crate::turns::Until;
+use crate::turn_loop::Until;
 use dob_board::Board;
 use dob_node::Cause;
 use dob_pieces::{Memory, PieceSet};
@@ -71,7 +71,7 @@ pub(crate) fn run_crew<R: Threads + Wait + Sync, G: Gate + Sync>(
 }
 
 // Lets each runner make turns for so long, in a thread of its own, and waits for all of them. What became of each, in order.
-// One for which no thread can be made makes no turn and fails for want of memory; the others make theirs.
+// One for which no thread can be made makes no turn and fails for lack of memory; the others make theirs.
 fn run_each<R: Threads + Wait + Sync, G: Gate + Sync>(
     rt: &R,
     alloc: Global,
@@ -133,7 +133,7 @@ fn start<'s, E, R: Threads + Wait + Sync, G: Gate + Sync>(
     requires { Suits classes.now.set runner }
     ensures { IsStartOf G.says gate.now until.now runner result }
 {
-    let node = runner.mail.seat.node;
+    let node = runner.endpoint.seat.node;
     let promise = Kept {
         was: Snapshot::of(&runner),
         until: Snapshot::of(until),
@@ -151,13 +151,13 @@ fn start<'s, E, R: Threads + Wait + Sync, G: Gate + Sync>(
             let None = back.failed else {
                 return Started::GaveUp(back);
             };
-            back.give_up(Cause::Memory);
+            back.abandon(Cause::Memory);
             Started::GaveUp(back)
         }
     }
 }
 
-// Makes the turns, unless it is the runner's node that was noted: then it gives up.
+// Makes the turns, unless it is the runner's node that was noted: then it fails.
 fn go_unless<R: Wait, G: Gate>(
     unstarted: &AtomicUsize,
     rt: &R,
@@ -169,8 +169,8 @@ fn go_unless<R: Wait, G: Gate>(
     requires { Suits classes.now.set runner }
     ensures { EndsBy (G.says gate.now) until.now runner result }
 {
-    if unstarted.load(Ordering::SeqCst) == runner.mail.seat.node {
-        runner.give_up(Cause::Memory);
+    if unstarted.load(Ordering::SeqCst) == runner.endpoint.seat.node {
+        runner.abandon(Cause::Memory);
         return runner;
     }
     runner.go_until(rt, classes, gate, until);

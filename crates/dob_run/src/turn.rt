@@ -2,12 +2,12 @@
 ghost use Rattle.std.specs.Prelude.{◌≡◌, ◌≢◌, ◌↔◌, ◌<◌, ◌≤◌, IsTrue, Err, None, IfErr, MatchResult, length, false};
 ghost use Rattle.dob_board.specs.declared.halt.Halt.TheVariants.{Running};
 ghost use Rattle.dob_node.specs.declared.cause.Cause.TheVariants.{Held};
-ghost use Rattle.dob_board.specs.Seats.{HearsHalt};
+ghost use Rattle.dob_board.specs.Seats.{ObservesHalt};
 ghost use Rattle.dob_run.specs.Runners.{StepsBy, GoesRound, HasFailed, HasTurned, IsHeldBack, IsNew, IsAsked, IsReasonFor, says_no};
-ghost use Rattle.dob_run.specs.Rounds.{Works};
+ghost use Rattle.dob_run.specs.TurnRounds.{Works};
 
+use crate::endpoint::Endpoint;
 use crate::gate::Gate;
-use crate::mail::Mail;
 use crate::runner::Runner;
 use crossbeam_utils::Backoff;
 use dob_board::Halt;
@@ -17,21 +17,21 @@ use dob_rank::Classes;
 use std::sync::Wait;
 
 impl Runner {
-    /// The runner of a node that was opened for the piece set and has made no step, and of the mail of its seat, over which
+    /// The runner of a node that was opened for the piece set and has made no step, and of the endpoint of its seat, over which
     /// nothing has gone. It cuts batches of at most `size` items, 1 to 4096.
-    pub(crate) fn new(node: Node, mail: Mail, set: PieceSet, size: usize) -> Runner
+    pub(crate) fn new(node: Node, endpoint: Endpoint, set: PieceSet, size: usize) -> Runner
         requires some { 0 < size }
         requires at_most { size ≤ 4096 }
-        requires fresh { IsNew set node mail }
+        requires fresh { IsNew set node endpoint }
         ensures node { result.node ≡ node }
-        ensures mail { result.mail ≡ mail }
+        ensures endpoint { result.endpoint ≡ endpoint }
         ensures set { result.set ≡ set }
         ensures size { result.size ≡ size }
         ensures unfailed { result.failed ≡ None }
     {
         Runner {
             node,
-            mail,
+            endpoint,
             set,
             size,
             failed: None,
@@ -41,20 +41,20 @@ impl Runner {
 
     /// Whether the runner's seat has seen that the run ended or failed.
     pub fn stopped(&self) -> bool
-        ensures { IsTrue result ↔ (self.now.mail.seat.halt ≢ Running) }
+        ensures { IsTrue result ↔ (self.now.endpoint.seat.halt ≢ Running) }
     {
-        self.mail.seat.halt != Halt::Running
+        self.endpoint.seat.halt != Halt::Running
     }
 
     /// Gives up for a cause that isn't the node's own: the board is told, and the runner keeps the cause. Its node is as it
     /// was.
-    pub(crate) fn give_up(&mut self, why: Cause)
+    pub(crate) fn abandon(&mut self, why: Cause)
         requires { self.old.failed ≡ None }
         ensures failed { HasFailed self.old self.new why }
         ensures same { IsHeldBack self.old self.new }
     {
         self.failed = Some(why);
-        self.mail.fail();
+        self.endpoint.fail();
     }
 
     /// One turn: a runner that the gate lets pass and whose run goes on does a turn's work for its node, and if there was
@@ -62,22 +62,22 @@ impl Runner {
     ///
     /// Errors, after which the run has failed, if it hadn't ended or failed before: `Held` just where the gate says no, and then
     /// the runner has done nothing: its node and what went over its links are as they were; else the cause of the node: an
-    /// item that can't be applied, too many batches, or want of memory.
+    /// item that can't be applied, too many batches, or lack of memory.
     pub fn turn<R: Wait, G: Gate>(
         &mut self,
         rt: &R,
         classes: &Classes,
         gate: &G,
     ) -> Result<Halt, Cause>
-        requires running { self.old.mail.seat.halt ≡ Running }
+        requires running { self.old.endpoint.seat.halt ≡ Running }
         requires set { classes.now.set ≡ self.old.set }
         ensures turned { MatchResult result (HasTurned self.old self.new) (HasFailed self.old self.new) }
-        ensures asked { IsAsked (G.says gate.now) self.old.mail.seat.node result }
+        ensures asked { IsAsked (G.says gate.now) self.old.endpoint.seat.node result }
         ensures reason { IfErr result (IsReasonFor (says_no (G.says gate.now)) self.new) }
         ensures held { result ≡ Err Held → IsHeldBack self.old self.new }
     {
-        if !gate.enter(self.mail.seat.node) {
-            self.give_up(Cause::Held);
+        if !gate.enter(self.endpoint.seat.node) {
+            self.abandon(Cause::Held);
             return Err(Cause::Held);
         }
         let halt = self.looks();
@@ -86,17 +86,17 @@ impl Runner {
         };
         let did = self.work(rt, classes)?;
         self.ends_turn(did);
-        Ok(self.mail.seat.halt)
+        Ok(self.endpoint.seat.halt)
     }
 
     // Looks whether the run goes on.
     fn looks(&mut self) -> Halt
         requires { self.old.failed ≡ None }
         ensures goes { GoesRound self.old self.new }
-        ensures heard { HearsHalt self.old.mail.seat self.new.mail.seat self.new.mail.seat.halt }
-        ensures halt { result ≡ self.new.mail.seat.halt }
+        ensures observed { ObservesHalt self.old.endpoint.seat self.new.endpoint.seat self.new.endpoint.seat.halt }
+        ensures halt { result ≡ self.new.endpoint.seat.halt }
     {
-        self.mail.halted()
+        self.endpoint.halted()
     }
 
     // What is left of a turn that did something, or nothing.

@@ -10,7 +10,7 @@ use Rattle.dob_safra.specs.declared.token.Token.{Token}
 use Rattle.dob_safra.specs.declared.event.RingEvent.{RingEvent}
 use Rattle.dob_safra.specs.declared.event.RingEvent.TheVariants.{Post, Take, Pass, Announce}
 use Rattle.dob_safra.specs.Tokens.{passed_on, new_probe}
-use Rattle.dob_safra.specs.Rings.{Ring, sum_below, counter, counters_below, in_flight, Reason, counted, positive, black_node, black_token, IsLawful, AllWhite}
+use Rattle.dob_safra.specs.Rings.{Ring, sum_below, counter, counters_below, in_flight, Reason, counted, positive, black_node, black_token, IsLawfulRing, AllWhite}
 use Rattle.dob_safra.specs.Rings.{Raises, CountsStay, ColoursStay, Colours, Posts, Takes, Passes, Announces, Moved}
 use Rattle.dob_safra.specs.Laws.{IsSize, HasFew, IsQuiet, Fits}
 use Rattle.dob_safra.proofs.Counts.{flipped, posted_below, taken_below, counters_are, rows_stay, flipped_stay, rows_before, rows_raised, flipped_raises}
@@ -78,7 +78,7 @@ posts_reason n i j old new token at posts (positive more) =
 posts_reason n i j old new token at posts (black_node k within is_black) = black_node k within (posts.colours k (omega arith) ∙ is_black)
 posts_reason n i j old new token at posts (black_token is_black) = black_token is_black
 
-posts_kept : (n i j : ℕ) (old new : Ring) → IsLawful n old → Posts n old i j new → HasFew n new → IsLawful n new
+posts_kept : (n i j : ℕ) (old new : Ring) → IsLawfulRing n old → Posts n old i j new → HasFew n new → IsLawfulRing n new
 posts_kept n i j old new lawful posts few =
     let running : new.announced ≡ true → ⊥ =
     λ ended. let ends : old.announced ≡ true = sym posts.announced ∙ ended in
@@ -138,7 +138,7 @@ takes_reason n i j old new token at takes in_order reason =
     (λ within. black_node j within takes.colours.colour_is)
     (cases_lt token.at j)
 
-takes_kept : (n i j : ℕ) (old new : Ring) → IsLawful n old → Takes n old i j new → HasFew n new → IsLawful n new
+takes_kept : (n i j : ℕ) (old new : Ring) → IsLawfulRing n old → Takes n old i j new → HasFew n new → IsLawfulRing n new
 takes_kept n i j old new lawful takes few =
     let running : new.announced ≡ true → ⊥ =
     λ ended. let all : old.posted i j ≡ old.taken i j = lawful.all_taken (sym takes.announced ∙ ended) i j takes.from takes.to in
@@ -218,7 +218,7 @@ record IsAtToken (n : ℕ) (ring : Ring) (token : Token) : Type 0 where
 abbrev CountsTakenFew : ℕ → Ring → Type 0
 CountsTakenFew n ring = (i j : ℕ) → i < n → j < n → ring.taken i j ≤ 2 ^ 40
 
-taken_few : (n : ℕ) (ring : Ring) → IsLawful n ring → CountsTakenFew n ring
+taken_few : (n : ℕ) (ring : Ring) → IsLawfulRing n ring → CountsTakenFew n ring
 taken_few n ring lawful k l k_in l_in = omega (arith, lawful.in_order k l k_in l_in, lawful.few k l k_in l_in)
 
 passes_from : (n at : ℕ) (old new : Ring) (black : Bool) (sum : ℤ) → IsSize n → HasFew n old → CountsTakenFew n old →
@@ -252,7 +252,7 @@ white_stays n i old new colours white k within =
       | inr apart ↦ colours.others k within apart ∙ white k within
     ]
 
-passes_kept : (n i : ℕ) (old new : Ring) → IsSize n → IsLawful n old → Passes n old i new → IsLawful n new
+passes_kept : (n i : ℕ) (old new : Ring) → IsSize n → IsLawfulRing n old → Passes n old i new → IsLawfulRing n new
 passes_kept n i old new size lawful passes =
     let here : Colours n old new old.token.at false = subst (λ (k : ℕ). Colours n old new k false) (sym passes.at) passes.colours in
     let token : new.token ≡ passed_on n old.token (counter n old old.token.at) (old.black old.token.at) =
@@ -286,7 +286,7 @@ announced_reason n old new token at posted taken colours (positive more) =
 announced_reason n old new token at posted taken colours (black_node k within is_black) = black_node k within (colours k (omega arith) ∙ is_black)
 announced_reason n old new token at posted taken colours (black_token is_black) = black_token is_black
 
-announces_kept : (n : ℕ) (old new : Ring) → IsSize n → IsLawful n old → Announces n old new → IsLawful n new
+announces_kept : (n : ℕ) (old new : Ring) → IsSize n → IsLawfulRing n old → Announces n old new → IsLawfulRing n new
 announces_kept n old new size lawful announces =
     let end : IsQuiet n old = quiet n old true size lawful announces.announceable in
     record {
@@ -303,7 +303,7 @@ announces_kept n old new size lawful announces =
 
 -- ---- any event
 
-pub moved_kept : (n : ℕ) (old new : Ring) (event : RingEvent) → IsSize n → IsLawful n old → Moved n old event new → HasFew n new → IsLawful n new
+pub moved_kept : (n : ℕ) (old new : Ring) (event : RingEvent) → IsSize n → IsLawfulRing n old → Moved n old event new → HasFew n new → IsLawfulRing n new
 moved_kept n old new (Post from to) size lawful moved few = posts_kept n from to old new lawful moved few
 moved_kept n old new (Take from to) size lawful moved few = takes_kept n from to old new lawful moved few
 moved_kept n old new (Pass node) size lawful moved few = passes_kept n node old new size lawful moved
@@ -318,18 +318,18 @@ announced_stays n old new (Pass node) ended moved = moved.announced ∙ ended
 announced_stays n old new Announce ended moved = moved.announced
 
 -- no event after the end raises a posted count
-few_stay : (n : ℕ) (old new : Ring) (event : RingEvent) → IsLawful n old → old.announced ≡ true → Moved n old event new → HasFew n new
+few_stay : (n : ℕ) (old new : Ring) (event : RingEvent) → IsLawfulRing n old → old.announced ≡ true → Moved n old event new → HasFew n new
 few_stay n old new (Post from to) lawful ended moved i j i_in j_in =
     absurd (let is_white : old.black from ≡ false = lawful.all_white ended from moved.from in let is_black : old.black from ≡ true = moved.is_black in cc)
 few_stay n old new (Take from to) lawful ended moved i j i_in j_in = omega (arith, moved.posted i j i_in j_in, lawful.few i j i_in j_in)
 few_stay n old new (Pass node) lawful ended moved i j i_in j_in = omega (arith, moved.posted i j i_in j_in, lawful.few i j i_in j_in)
 few_stay n old new Announce lawful ended moved i j i_in j_in = omega (arith, moved.posted i j i_in j_in, lawful.few i j i_in j_in)
 
-pub end_stays : (n : ℕ) (old new : Ring) (event : RingEvent) → IsSize n → IsLawful n old → old.announced ≡ true → Moved n old event new →
+pub end_stays : (n : ℕ) (old new : Ring) (event : RingEvent) → IsSize n → IsLawfulRing n old → old.announced ≡ true → Moved n old event new →
     (new.announced ≡ true) × IsQuiet n new
 end_stays n old new event size lawful ended moved =
     let still : new.announced ≡ true = announced_stays n old new event ended moved in
-    let kept : IsLawful n new = moved_kept n old new event size lawful moved (few_stay n old new event lawful ended moved) in (
+    let kept : IsLawfulRing n new = moved_kept n old new event size lawful moved (few_stay n old new event lawful ended moved) in (
       still,
       record {
         all_white = kept.all_white still;
@@ -340,7 +340,7 @@ end_stays n old new event size lawful ended moved =
 
 -- ---- what fits
 
-pub lawful_fits : (n : ℕ) (ring : Ring) → IsSize n → IsLawful n ring → Fits n ring
+pub lawful_fits : (n : ℕ) (ring : Ring) → IsSize n → IsLawfulRing n ring → Fits n ring
 lawful_fits n ring size lawful =
     let at : ℕ = ring.token.at in
     let most : sum_below n (λ j. ring.posted at j) ≤ 2 ^ 44 = posted_bound n ring at size.1 lawful.at lawful.few in

@@ -4,7 +4,7 @@ use Rattle.dob_safra.specs.declared.token.Token.{Token}
 use Rattle.dob_safra.specs.declared.event.RingEvent.{RingEvent}
 use Rattle.dob_safra.specs.declared.event.RingEvent.TheVariants.{Post, Take}
 use Rattle.dob_safra.specs.Tokens.{IsToken, IsPacked}
-use Rattle.dob_safra.specs.Rings.{Ring, counter, IsLawful, IsStart, Moved, IsAnnounceable, AllWhite, AllTaken, in_flight}
+use Rattle.dob_safra.specs.Rings.{Ring, counter, IsLawfulRing, IsStart, Moved, IsAnnounceable, AllWhite, AllTaken, in_flight}
 
 abbrev pub WordHasOneToken : Type 0
 WordHasOneToken = (word : ℕ) (one other : Token) → IsPacked one word → IsPacked other word → one ≡ other
@@ -14,14 +14,14 @@ abbrev pub IsSize : ℕ → Type 0
 IsSize n = (0 < n) × (n ≤ 16)
 
 abbrev pub StartIsLawful : Type 0
-StartIsLawful = (n : ℕ) (ring : Ring) → IsSize n → IsStart n ring → IsLawful n ring
+StartIsLawful = (n : ℕ) (ring : Ring) → IsSize n → IsStart n ring → IsLawfulRing n ring
 
 -- no link has more than 2^40 posted batches
 abbrev pub HasFew : ℕ → Ring → Type 0
 HasFew n ring = (i j : ℕ) → i < n → j < n → ring.posted i j ≤ 2 ^ 40
 
 abbrev pub MovedKeepsLawful : Type 0
-MovedKeepsLawful = (n : ℕ) (old new : Ring) (event : RingEvent) → IsSize n → IsLawful n old → Moved n old event new → HasFew n new → IsLawful n new
+MovedKeepsLawful = (n : ℕ) (old new : Ring) (event : RingEvent) → IsSize n → IsLawfulRing n old → Moved n old event new → HasFew n new → IsLawfulRing n new
 
 -- a lawful ring's token has a word, and the sum that its node hands down does too
 pub record Fits (n : ℕ) (ring : Ring) : Type 0 where
@@ -30,7 +30,7 @@ pub record Fits (n : ℕ) (ring : Ring) : Type 0 where
   pub high : (ring.token.sum +ℤ counter n ring ring.token.at) ≤ℤ pos (2 ^ 48)
 
 abbrev pub LawfulFits : Type 0
-LawfulFits = (n : ℕ) (ring : Ring) → IsSize n → IsLawful n ring → Fits n ring
+LawfulFits = (n : ℕ) (ring : Ring) → IsSize n → IsLawfulRing n ring → Fits n ring
 
 -- each node is white, and each batch posted is taken, so that none is in flight
 pub record IsQuiet (n : ℕ) (ring : Ring) : Type 0 where
@@ -39,12 +39,12 @@ pub record IsQuiet (n : ℕ) (ring : Ring) : Type 0 where
   pub none_in_flight : in_flight n ring ≡ 0
 
 abbrev pub AnnounceableIsQuiet : Type 0
-AnnounceableIsQuiet = (n : ℕ) (ring : Ring) (idle : Bool) → IsSize n → IsLawful n ring → IsAnnounceable n ring idle → IsQuiet n ring
+AnnounceableIsQuiet = (n : ℕ) (ring : Ring) (idle : Bool) → IsSize n → IsLawfulRing n ring → IsAnnounceable n ring idle → IsQuiet n ring
 
 abbrev pub EndStays : Type 0
-EndStays = (n : ℕ) (old new : Ring) (event : RingEvent) → IsSize n → IsLawful n old → old.announced ≡ true → Moved n old event new →
+EndStays = (n : ℕ) (old new : Ring) (event : RingEvent) → IsSize n → IsLawfulRing n old → old.announced ≡ true → Moved n old event new →
     (new.announced ≡ true) × IsQuiet n new
 
 abbrev pub EndIsSilent : Type 0
-EndIsSilent = (n : ℕ) (old new : Ring) (from to : ℕ) → IsLawful n old → old.announced ≡ true →
+EndIsSilent = (n : ℕ) (old new : Ring) (from to : ℕ) → IsLawfulRing n old → old.announced ≡ true →
     (¬ Moved n old (Post from to) new) × (¬ Moved n old (Take from to) new)

@@ -57,7 +57,7 @@ pub data Reason (n : ℕ) (ring : Ring) (token : Token) : Type 0 where
   black_token : token.black ≡ true → Reason n ring token
 
 -- A lawful state of n nodes.
-pub record IsLawful (n : ℕ) (ring : Ring) : Type 0 where
+pub record IsLawfulRing (n : ℕ) (ring : Ring) : Type 0 where
   pub in_order : (i j : ℕ) → i < n → j < n → ring.taken i j ≤ ring.posted i j
   pub few : (i j : ℕ) → i < n → j < n → ring.posted i j ≤ 2 ^ 40
   pub at : ring.token.at < n

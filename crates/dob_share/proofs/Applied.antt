@@ -8,7 +8,7 @@ use Rattle.dob_share.specs.declared.cells.Slot.{Slot}
 use Rattle.dob_share.specs.declared.cells.Count.{Count}
 use Rattle.dob_share.specs.declared.fault.Fault.{Fault}
 use Rattle.dob_share.specs.declared.fault.Fault.TheVariants.{TooDeep, Contradiction}
-use Rattle.dob_share.specs.Cells.{Cell, CellValue, SameCell, Takes, changed}
+use Rattle.dob_share.specs.Cells.{Cell, CellValue, SameCell, CanTake, changed}
 use Rattle.dob_share.specs.Pools.{tally, moves_of, wins_in, ChangesRun}
 use Rattle.dob_share.specs.Slots.{beyond, slot_at, start_at, room_at, least_of, cell_of, cell_in, IsShortCell, ArePooled}
 use Rattle.dob_share.specs.Steps.{IsChange, IsApplied, IsTooDeep}
@@ -71,7 +71,7 @@ refused to was now place slots pool slot fault pooled step = record {
 }
 
 pub unfitting : (to : ℕ) (was now : Value) (place : ℕ) (slots : List Slot) (pool : List Count) →
-    ArePooled slots pool → (Takes was now (cell_in slots pool place) → ⊥) →
+    ArePooled slots pool → (CanTake was now (cell_in slots pool place) → ⊥) →
     IsApplied to was now place slots pool slots pool (Err (Contradiction to))
 unfitting to was now place slots pool pooled not =
     refused to was now place slots pool (slot_at slots (length pool) place) (Contradiction to) pooled
@@ -152,8 +152,8 @@ module _ (slots : List Slot) (pool : List Count) (place start room : ℕ) (slot 
       same_cell = subst (λ c. SameCell c (changed was now (cell_in slots pool place))) cell_after
           (subst (λ c. SameCell (cell_of next (wins_in new_pool start room)) (changed was now c)) cell_same same_after)
 
-      takes_here : Takes was now (cell_in slots pool place)
-      takes_here = subst (λ c. Takes was now c) cell_same (step.fits next refl).0
+      takes_here : CanTake was now (cell_in slots pool place)
+      takes_here = subst (λ c. CanTake was now c) cell_same (step.fits next refl).0
 
       pooled_after : ArePooled (set slots place next) new_pool
       pooled_after =

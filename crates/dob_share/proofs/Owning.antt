@@ -8,7 +8,7 @@ use Rattle.dob_share.specs.declared.fault.Fault.{Fault}
 use Rattle.dob_share.specs.declared.fault.Fault.TheVariants.{TooDeep, Contradiction}
 use Rattle.dob_share.specs.declared.share.Share.{Share}
 use Rattle.dob_share.specs.Values.{Better}
-use Rattle.dob_share.specs.Cells.{Cell, CellValue, SameCell, Takes, changed}
+use Rattle.dob_share.specs.Cells.{Cell, CellValue, SameCell, CanTake, changed}
 use Rattle.dob_share.specs.Slots.{slot_at, cell_in}
 use Rattle.dob_share.specs.Steps.{IsTooDeep}
 use Rattle.dob_share.specs.Shares.{places_of, IsOwn, IsOwnOpen, status_at, cell_at, IsValue, HasValueNow, Fits, GoesTooDeep, SameClasses}
@@ -37,11 +37,11 @@ pub cell_there : (share : Share) (class place : ℕ) → place ≡ class / share
 unfolding cell_at
 cell_there share class place is = ap (λ (k : ℕ). cell_in share.slots share.pool k) is
 
-fits_there : (share : Share) (item : Item) → IsOwnOpen share item.to → Takes item.was item.now (cell_at share item.to) → Fits share item
+fits_there : (share : Share) (item : Item) → IsOwnOpen share item.to → CanTake item.was item.now (cell_at share item.to) → Fits share item
 unfolding IsOwnOpen Fits
 fits_there share item open_here takes = (open_here.0, open_here.1, takes)
 
-takes_there : (share : Share) (item : Item) → Fits share item → Takes item.was item.now (cell_at share item.to)
+takes_there : (share : Share) (item : Item) → Fits share item → CanTake item.was item.now (cell_at share item.to)
 unfolding Fits
 takes_there share item fits = fits.2
 
@@ -76,23 +76,23 @@ unfolding IsOwnOpen IsOwn
 open_id share class own = own.0.0
 
 module _ (old : Share) (item : Item) (place : ℕ) (open_here : IsOwnOpen old item.to) (is : place ≡ item.to / old.n) where
-  pub misfit_here : {A : Type 0} (r : Result A Fault) → ((r ≡ Err (Contradiction item.to)) ↔ (Takes item.was item.now (cell_in old.slots old.pool place) → ⊥)) →
+  pub misfit_here : {A : Type 0} (r : Result A Fault) → ((r ≡ Err (Contradiction item.to)) ↔ (CanTake item.was item.now (cell_in old.slots old.pool place) → ⊥)) →
       ((r ≡ Err (Contradiction item.to)) ↔ (Fits old item → ⊥))
   misfit_here r h = (
-    λ e fits. h.0 e (subst (λ c. Takes item.was item.now c) (sym (cell_there old item.to place is)) (takes_there old item fits)),
-    λ not. h.1 (λ takes. not (fits_there old item open_here (subst (λ c. Takes item.was item.now c) (cell_there old item.to place is) takes))),
+    λ e fits. h.0 e (subst (λ c. CanTake item.was item.now c) (sym (cell_there old item.to place is)) (takes_there old item fits)),
+    λ not. h.1 (λ takes. not (fits_there old item open_here (subst (λ c. CanTake item.was item.now c) (cell_there old item.to place is) takes))),
   )
 
   pub deep_here : {A : Type 0} (r : Result A Fault) →
-      ((r ≡ Err TooDeep) ↔ (Takes item.was item.now (cell_in old.slots old.pool place) × IsTooDeep (changed item.was item.now (cell_in old.slots old.pool place)))) →
+      ((r ≡ Err TooDeep) ↔ (CanTake item.was item.now (cell_in old.slots old.pool place) × IsTooDeep (changed item.was item.now (cell_in old.slots old.pool place)))) →
       ((r ≡ Err TooDeep) ↔ (Fits old item × GoesTooDeep old item))
   deep_here r h = (
     λ e. let both = h.0 e in (
-      fits_there old item open_here (subst (λ c. Takes item.was item.now c) (cell_there old item.to place is) both.0),
+      fits_there old item open_here (subst (λ c. CanTake item.was item.now c) (cell_there old item.to place is) both.0),
       deep_there old item (subst (λ c. IsTooDeep (changed item.was item.now c)) (cell_there old item.to place is) both.1),
     ),
     λ both. h.1 (
-      subst (λ c. Takes item.was item.now c) (sym (cell_there old item.to place is)) (takes_there old item both.0),
+      subst (λ c. CanTake item.was item.now c) (sym (cell_there old item.to place is)) (takes_there old item both.0),
       subst (λ c. IsTooDeep (changed item.was item.now c)) (sym (cell_there old item.to place is)) (deep_back old item both.1),
     ),
   )
@@ -139,7 +139,7 @@ module _ (old : Share) (item : Item) (place : ℕ) (open_here : IsOwnOpen old it
           (subst (λ c. CellValue c value) (cell_there new item.to place place_new) has)
 
 -- a value that has changed is better
-pub improved : (was now : Value) (cell after : Cell) (v w : Value) → Takes was now cell → SameCell after (changed was now cell) →
+pub improved : (was now : Value) (cell after : Cell) (v w : Value) → CanTake was now cell → SameCell after (changed was now cell) →
     CellValue cell v → CellValue after w → (v ≡ w → ⊥) → Better v w
 improved was now cell after v w takes same is then differs =
     elim (no_worse was now cell v w takes is (CellValue-same (changed was now cell) after w (record { left = sym same.left; wins = λ plies. sym (same.wins plies); least = sym same.least }) then)) [

@@ -8,7 +8,7 @@ use Rattle.dob_share.specs.declared.news.Item.{Item}
 use Rattle.dob_share.specs.declared.news.Settlement.{Settlement}
 use Rattle.dob_share.specs.Values.{Better}
 use Rattle.dob_share.specs.declared.share.Share.{Share}
-use Rattle.dob_share.specs.Cells.{Cell, CellValue, Takes, changed}
+use Rattle.dob_share.specs.Cells.{Cell, CellValue, CanTake, changed}
 use Rattle.dob_share.specs.Slots.{slot_at, cell_in}
 use Rattle.dob_share.specs.Steps.{IsTooDeep}
 
@@ -41,7 +41,7 @@ HasValueNow share class value = IsValue (status_at share class) (cell_at share c
 
 -- the item fits: it goes to an open class of the share's own, whose cell takes the change
 unfoldable pub Fits : Share → Item → Type 0
-Fits share item = IsOwn share item.to × (status_at share item.to ≡ Open) × Takes item.was item.now (cell_at share item.to)
+Fits share item = IsOwn share item.to × (status_at share item.to ≡ Open) × CanTake item.was item.now (cell_at share item.to)
 
 -- the item would give the class a value whose distance is above the greatest that is kept
 unfoldable pub GoesTooDeep : Share → Item → Type 0

@@ -32,14 +32,14 @@ HasFaultIn profile text FarLion = (setup : Setup) × Spells text setup × HasLio
 HasFaultIn profile text FarChick = (setup : Setup) × Spells text setup × IsLegal setup × ¬ IsAllowed profile setup
 
 -- by profile A, which allows any chick
-abbrev pub HasFault : List ℕ → TextFault → Type 0
-HasFault = HasFaultIn A
+abbrev pub HasTextFault : List ℕ → TextFault → Type 0
+HasTextFault = HasFaultIn A
 
 -- why the setup that a text spells is no position of the profile
 abbrev pub HasSetupFault : Profile → Setup → TextFault → Type 0
-HasSetupFault profile setup Lions = position.HasFault setup (Some position_fault.Lions)
-HasSetupFault profile setup Count = position.HasFault setup (Some position_fault.Count)
-HasSetupFault profile setup FarLion = position.HasFault setup (Some position_fault.FarLion)
+HasSetupFault profile setup Lions = position.HasPositionFault setup (Some position_fault.Lions)
+HasSetupFault profile setup Count = position.HasPositionFault setup (Some position_fault.Count)
+HasSetupFault profile setup FarLion = position.HasPositionFault setup (Some position_fault.FarLion)
 HasSetupFault profile setup FarChick = IsLegal setup × ¬ IsAllowed profile setup
 HasSetupFault profile setup Shape = ⊥
 HasSetupFault profile setup Letter = ⊥

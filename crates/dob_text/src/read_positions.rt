@@ -5,7 +5,7 @@ ghost use Rattle.dob_pieces.specs.Profiles.{IsAllowed};
 ghost use Rattle.dob_pieces.specs.Setups.{IsLegal};
 ghost use Rattle.dob_text.specs.declared.fault.TextFault.{TextFault};
 ghost use Rattle.dob_text.specs.PositionText.{text_of, Spells};
-ghost use Rattle.dob_text.specs.Faults.{HasFault, HasFaultIn, HasSetupFault};
+ghost use Rattle.dob_text.specs.Faults.{HasTextFault, HasFaultIn, HasSetupFault};
 
 use crate::fault::TextFault;
 use crate::setups::read_setup;
@@ -69,7 +69,7 @@ pub fn read_position(text: &str) -> Result<Position, TextFault>
     ensures read { IfOk result (λ position. text.now ≡ text_of position.setup) }
     ensures whole { (setup : Setup) → IsLegal setup → text.now ≡ text_of setup
         → IsOkAnd result (λ position. position.setup ≡ setup) }
-    ensures fault { (fault : TextFault) → IsErrOf result fault ↔ HasFault text.now fault }
+    ensures fault { (fault : TextFault) → IsErrOf result fault ↔ HasTextFault text.now fault }
 {
     read_position_in(Profile::A, text)
 }

@@ -3,7 +3,7 @@ ghost use Rattle.std.specs.Prelude.{◌≡◌, MatchResult};
 ghost use Rattle.dob_pieces.specs.declared.setup.Setup.{Setup};
 ghost use Rattle.dob_text.specs.PositionText.{Spells};
 ghost use Rattle.dob_text.specs.Readings.{capped_setup};
-ghost use Rattle.dob_text.specs.Faults.{HasFault};
+ghost use Rattle.dob_text.specs.Faults.{HasTextFault};
 
 use crate::boards::board_of;
 use crate::fault::TextFault;
@@ -15,7 +15,7 @@ use dob_pieces::{Hands, Setup, Side};
 pub fn read_setup(text: &[u8]) -> Result<Setup, TextFault>
     ensures { MatchResult result
         (λ setup. (full : Setup) × Spells text.now full × (setup ≡ capped_setup full))
-        (λ fault. HasFault text.now fault) }
+        (λ fault. HasTextFault text.now fault) }
 {
     let Some(parts) = parts_of(text) else {
         return Err(TextFault::Shape);

@@ -8,11 +8,11 @@ use Rattle.dob_share.specs.declared.news.Settlement.{Settlement}
 use Rattle.dob_share.specs.declared.news.Item.{Item}
 use Rattle.dob_update.specs.declared.part.Part.{Part}
 use Rattle.dob_update.specs.Items.{item_for}
-use Rattle.dob_update.specs.Parts.{settlement_of, settlements_of, total, told, AreWhole}
+use Rattle.dob_update.specs.Parts.{settlement_of, settlements_of, total, items_of_parts, AreWhole}
 use Rattle.dob_update.specs.Batches.{OutboxView, items_for, with_items, added, HasOneMore}
 use Rattle.dob_update.specs.Runs.{count_for, AreListed}
 use Rattle.dob_update.proofs.Runs.{items-append, whole_is}
-use Rattle.dob_update.proofs.Told.{told-length, told-push, total-push}
+use Rattle.dob_update.proofs.PartItems.{items_of_parts-length, items_of_parts-push, total-push}
 
 -- ---- the last part
 
@@ -52,7 +52,7 @@ as_many before outbox count more =
 
 module _ (old before : OutboxView) (left : List Part) (part : Part) (classes : List ℕ) (count : ℕ)
     (listed : AreListed old.set old.n old.to (left ++ part ∷ []) old.skip classes) (settlements_are : old.settlements ≡ settlements_of (left ++ part ∷ []))
-    (items_are : old.items ≡ told (left ++ part ∷ []) classes) (some : 0 < count) (more : HasOneMore before count old) where
+    (items_are : old.items ≡ items_of_parts (left ++ part ∷ []) classes) (some : 0 < count) (more : HasOneMore before count old) where
   last_is : (settlements_of left ≡ before.settlements) × (part.settlement ≡ more.settlement)
   last_is = same_from_push (settlements_of left) before.settlements part.settlement more.settlement
       (sym (map-append settlement_of left (part ∷ [])) ∙ sym settlements_are ∙ ap (λ (o : OutboxView). o.settlements) more.outbox_is
@@ -67,7 +67,7 @@ module _ (old before : OutboxView) (left : List Part) (part : Part) (classes : L
   sum_is =
       let parts = left ++ part ∷ [] in
       let counted = listed.counted in
-      let long = told-length parts classes (omega (arith, counted)) in
+      let long = items_of_parts-length parts classes (omega (arith, counted)) in
       let all = ap length items_are in
       let sum = total-push left part in
       let both = as_many before old count more in
@@ -83,8 +83,8 @@ module _ (old before : OutboxView) (left : List Part) (part : Part) (classes : L
   within = omega arith
 
   -- the items of the parts before it
-  told_left : take (length classes - count) old.items ≡ told left (take (length classes - count) classes)
-  told_left =
+  items_left : take (length classes - count) old.items ≡ items_of_parts left (take (length classes - count) classes)
+  items_left =
       let k = length classes - count in
       let front = take k classes in
       let tail = drop k classes in
@@ -92,9 +92,9 @@ module _ (old before : OutboxView) (left : List Part) (part : Part) (classes : L
       let long_tail = length-drop k classes in
       let counted = listed.counted in
       let sum = total-push left part in
-      ap (take k) (items_are ∙ ap (λ (cs : List ℕ). told (left ++ part ∷ []) cs) (sym (take-append-drop k classes))
-      ∙ told-push left part front tail (left_is ∙ sym long_front) (omega (arith, long_tail, left_is, counted, sum)))
-      ∙ take_at (told left front) (map (item_for part.settlement) tail) k (told-length left front (omega (arith, left_is, long_front)) ∙ left_is)
+      ap (take k) (items_are ∙ ap (λ (cs : List ℕ). items_of_parts (left ++ part ∷ []) cs) (sym (take-append-drop k classes))
+      ∙ items_of_parts-push left part front tail (left_is ∙ sym long_front) (omega (arith, long_tail, left_is, counted, sum)))
+      ∙ take_at (items_of_parts left front) (map (item_for part.settlement) tail) k (items_of_parts-length left front (omega (arith, left_is, long_front)) ∙ left_is)
 
   before_is : take (length classes - count) old.items ≡ before.items
   before_is =
@@ -117,22 +117,22 @@ module _ (old before : OutboxView) (left : List Part) (part : Part) (classes : L
         counted = left_is ∙ sym (length-take-le k classes within);
         rest = record {
           parts_fit = whole;
-          rest = sym told_left ∙ ap (take k) (items_are ∙ listed.rest.rest ∙ ap (drop old.skip) apart ∙ drop-append-le old.skip first own (omega (arith, long)))
+          rest = sym items_left ∙ ap (take k) (items_are ∙ listed.rest.rest ∙ ap (drop old.skip) apart ∙ drop-append-le old.skip first own (omega (arith, long)))
               ∙ take_at (drop old.skip first) own k (omega (arith, fewer, long, left_is));
         };
       }
 
-  view_is : (record old { settlements = settlements_of left; items = told left (take (length classes - count) classes) }) ≡ before
+  view_is : (record old { settlements = settlements_of left; items = items_of_parts left (take (length classes - count) classes) }) ≡ before
   view_is =
-      ap (λ (ss : List Settlement). record old { settlements = ss; items = told left (take (length classes - count) classes) }) last_is.0
-      ∙ ap (λ (xs : List Item). record old { settlements = before.settlements; items = xs }) (sym told_left ∙ before_is)
+      ap (λ (ss : List Settlement). record old { settlements = ss; items = items_of_parts left (take (length classes - count) classes) }) last_is.0
+      ∙ ap (λ (xs : List Item). record old { settlements = before.settlements; items = xs }) (sym items_left ∙ before_is)
       ∙ ap (λ (o : OutboxView). record o { settlements = before.settlements; items = before.items }) more.outbox_is
 
 -- the parts but the last, and the classes but those of the last settlement
 pub taken_back : (old before : OutboxView) (parts left : List Part) (classes rest : List ℕ) (count : ℕ) → AreListed old.set old.n old.to parts old.skip classes
-    → old.settlements ≡ settlements_of parts → old.items ≡ told parts classes → 0 < count → HasOneMore before count old
+    → old.settlements ≡ settlements_of parts → old.items ≡ items_of_parts parts classes → 0 < count → HasOneMore before count old
     → left ≡ take (length parts - 1) parts → rest ≡ take (length classes - count) classes
-    → AreListed old.set old.n old.to left old.skip rest × ((record old { settlements = settlements_of left; items = told left rest }) ≡ before)
+    → AreListed old.set old.n old.to left old.skip rest × ((record old { settlements = settlements_of left; items = items_of_parts left rest }) ≡ before)
 taken_back old before parts left classes rest count listed settlements_are items_are some more parts_left classes_left =
     let k = length parts - 1 in
     let none : Part = record { settlement = more.settlement; items = 0 } in
@@ -147,10 +147,10 @@ taken_back old before parts left classes rest count listed settlements_are items
     = sym (take_all (k + 1) parts (omega (arith, as_parts, as_settlements, same))) ∙ take_more parts k none (omega (arith, as_parts, as_settlements, same)) in
     let again = subst (λ (ps : List Part). AreListed old.set old.n old.to ps old.skip classes) apart listed in
     let settlements_again = settlements_are ∙ ap settlements_of apart in
-    let items_again = items_are ∙ ap (λ (ps : List Part). told ps classes) apart in
-    subst (λ (ps : List Part). AreListed old.set old.n old.to ps old.skip rest × ((record old { settlements = settlements_of ps; items = told ps rest }) ≡ before)) (sym parts_left)
+    let items_again = items_are ∙ ap (λ (ps : List Part). items_of_parts ps classes) apart in
+    subst (λ (ps : List Part). AreListed old.set old.n old.to ps old.skip rest × ((record old { settlements = settlements_of ps; items = items_of_parts ps rest }) ≡ before)) (sym parts_left)
     (subst (λ (cs : List ℕ). AreListed old.set old.n old.to (take k parts) old.skip cs
-    × ((record old { settlements = settlements_of (take k parts); items = told (take k parts) cs }) ≡ before)) (sym classes_left) (
+    × ((record old { settlements = settlements_of (take k parts); items = items_of_parts (take k parts) cs }) ≡ before)) (sym classes_left) (
       listed_left old before (take k parts) part classes count again settlements_again items_again some more,
       view_is old before (take k parts) part classes count again settlements_again items_again some more,
     ))

@@ -20,14 +20,14 @@ abbrev pub total : List Part → ℕ
 total [] = 0
 total (part ∷ parts) = part.items + total parts
 
--- the class that an item tells
-abbrev pub class_told : Item → ℕ
-class_told item = item.to
+-- the class that an item is for
+abbrev pub target_of : Item → ℕ
+target_of item = item.to
 
--- the items of the parts, where the classes that they tell are listed one part after the other
-abbrev pub told : List Part → List ℕ → List Item
-told [] classes = []
-told (part ∷ parts) classes = map (item_for part.settlement) (take part.items classes) ++ told parts (drop part.items classes)
+-- the items of the parts, where the classes that they are for are listed one part after the other
+abbrev pub items_of_parts : List Part → List ℕ → List Item
+items_of_parts [] classes = []
+items_of_parts (part ∷ parts) classes = map (item_for part.settlement) (take part.items classes) ++ items_of_parts parts (drop part.items classes)
 
 -- the parts of the first k items
 abbrev pub front : ℕ → List Part → List Part

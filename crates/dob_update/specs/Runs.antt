@@ -6,7 +6,7 @@ use Rattle.dob_share.specs.declared.news.Settlement.{Settlement}
 use Rattle.dob_share.specs.declared.news.Item.{Item}
 use Rattle.dob_update.specs.declared.part.Part.{Part}
 use Rattle.dob_update.specs.Items.{items_of}
-use Rattle.dob_update.specs.Parts.{AreParts, AreWhole, settlements_of, total, told}
+use Rattle.dob_update.specs.Parts.{AreParts, AreWhole, settlements_of, total, items_of_parts}
 use Rattle.dob_update.specs.Batches.{items_for}
 
 -- how many items a settlement has for the node `to`
@@ -28,4 +28,4 @@ pub record IsRest (set : PieceSet) (n to : ℕ) (parts : List Part) (skip : ℕ)
 -- as many classes are listed as the parts have items, and these are all those that the parts' settlements have after some
 pub record AreListed (set : PieceSet) (n to : ℕ) (parts : List Part) (skip : ℕ) (classes : List ℕ) : Type 0 where
   pub counted : total parts ≡ length classes
-  pub rest : IsRest set n to parts skip (told parts classes)
+  pub rest : IsRest set n to parts skip (items_of_parts parts classes)

@@ -5,7 +5,7 @@ ghost use Rattle.std.specs.VecDeque.{deque_len, deque_capacity};
 ghost use Rattle.dob_unmove.specs.Edges.{predecessors};
 ghost use Rattle.dob_share.specs.declared.news.Settlement.{Settlement as Settled};
 ghost use Rattle.dob_update.specs.Items.{item_for, items_of};
-ghost use Rattle.dob_update.specs.Parts.{front, behind, skip_behind, total, told, class_told, AreWhole};
+ghost use Rattle.dob_update.specs.Parts.{front, behind, skip_behind, total, items_of_parts, target_of, AreWhole};
 ghost use Rattle.dob_update.specs.Batches.{OutboxView, IsOutbox, HasOneMore, IsCut, empty_outbox, added};
 
 use crate::batch::Batch;
@@ -28,20 +28,20 @@ pub struct Outbox {
     to: usize,
     parts: VecDeque<Part>,
     skip: usize,
-    // The classes that the parts' items tell, one part after the other.
+    // The classes that the parts' items are for, one part after the other.
     classes: VecDeque<u64>,
     next: u64,
 }
 
 impl Model for Outbox {
     ghost use Rattle.std.specs.Prelude.{◌≡◌};
-    ghost use Rattle.dob_update.specs.Parts.{settlements_of, told};
+    ghost use Rattle.dob_update.specs.Parts.{settlements_of, items_of_parts};
     ghost use Rattle.dob_update.specs.Batches.{OutboxView};
     ghost use Rattle.dob_update.specs.Runs.{AreListed};
 
     ghost Value = { OutboxView };
 
-    ghost view = { λ o. record { set = o.set; n = o.n; from = o.from; to = o.to; settlements = settlements_of o.parts.items; skip = o.skip; items = told o.parts.items o.classes.items; next = o.next } };
+    ghost view = { λ o. record { set = o.set; n = o.n; from = o.from; to = o.to; settlements = settlements_of o.parts.items; skip = o.skip; items = items_of_parts o.parts.items o.classes.items; next = o.next } };
 
     ghost invariant = { λ o. AreListed o.set o.n o.to o.parts.items o.skip o.classes.items };
 }
@@ -150,7 +150,7 @@ impl Outbox {
 // Appends the classes of the items, for which there is room.
 fn push_classes(queue: &mut VecDeque<u64>, items: &[Item])
     requires { deque_len queue.old + length items.now ≤ deque_capacity queue.old }
-    ensures { queue.new.items ≡ queue.old.items ++ map class_told items.now }
+    ensures { queue.new.items ≡ queue.old.items ++ map target_of items.now }
 {
     for item in items {
         queue.push_back_reserved(item.to);
@@ -183,20 +183,20 @@ fn front_items(
     k: usize,
 ) -> Result<Vec<Item>, Memory>
     requires { total parts.now ≤ length classes.now.items }
-    ensures { IfOk result (λ list. list.items ≡ told parts.now classes.now.items) }
+    ensures { IfOk result (λ list. list.items ≡ items_of_parts parts.now classes.now.items) }
 {
     let mut list = Vec::with_capacity(alloc, k)?;
     let mut next = 0;
     for part in parts {
-        push_told(&mut list, part.settlement, classes, next, part.items)?;
+        push_part_items(&mut list, part.settlement, classes, next, part.items)?;
         next += part.items;
     }
     Ok(list)
 }
 
 // Appends the news of the settlement for so many classes, those from that place on.
-#[tactic(auto, using(crate::proofs::Told::told_more))]
-fn push_told(
+#[tactic(auto, using(crate::proofs::PartItems::items_more))]
+fn push_part_items(
     list: &mut Vec<Item>,
     settlement: Settlement,
     classes: &VecDeque<u64>,

@@ -1,4 +1,4 @@
--- Each event leaves every settlement a fall, and for few classes no item goes too deep: a node stops for want of memory.
+-- Each event leaves every settlement a fall, and for few classes no item goes too deep: a node stops for lack of memory.
 use Rattle.std.proofs.Common.{◌≡◌, ◌≢◌, ℕ, ◌<◌, inl, inr, sym, ap, ◌∙◌, subst, append_assoc, List, [], ◌∷◌, ◌++◌, drop}
 use Rattle.dob_rank.specs.Marks.{classes_of}
 use Rattle.dob_unmove.specs.Edges.{predecessors}
@@ -9,7 +9,7 @@ use Rattle.dob_node.proofs.Rises.{falls_stay, not_too_deep}
 use Rattle.dob_world.specs.declared.event.Event.{Event}
 use Rattle.dob_world.specs.declared.event.Event.TheVariants.{Expand, Own, Post, Take, Pass, Announce}
 use Rattle.dob_world.specs.declared.fault.Fault.{Fault}
-use Rattle.dob_world.specs.Worlds.{Setting, Nodes, World, State, value_in, items_in, AreLawful, HaveFallsIn, IsLinked}
+use Rattle.dob_world.specs.Worlds.{Setting, Nodes, WorldView, State, value_in, items_in, AreLawful, HaveFallsIn, IsLinked}
 use Rattle.dob_world.specs.Events.{NodesStay, Applies, AppliesAll, AppliesOwn, TakesBatch, CanHappen, Happens}
 use Rattle.dob_world.specs.Stops.{GoesTooDeep, OwnGoesTooDeep, TakenGoesTooDeep, IsStopBy, IsForMemory}
 use Rattle.dob_world.proofs.Places.{nodes_same}
@@ -43,16 +43,16 @@ module _ (k : Setting) (some : 0 < k.n) (i j : ℕ) (low_i : i < k.n) (low_j : j
 
 -- ---- one event
 
-module _ (k : Setting) (some : 0 < k.n) (old : World) (lawful : AreLawful k old.nodes) (linked : IsLinked k old) (falls : HaveFallsIn k old.nodes) where
+module _ (k : Setting) (some : 0 < k.n) (old : WorldView) (lawful : AreLawful k old.nodes) (linked : IsLinked k old) (falls : HaveFallsIn k old.nodes) where
   -- what a node hasn't expanded yet is for later
   abbrev later : ℕ → ℕ → List Item
   later i j = items_from (predecessors k.set) k.n j (drop (old.expanded i) (old.nodes.history i))
 
-  owned_falls : (i : ℕ) (new : World) → i < k.n → AppliesOwn k i old new → HaveFallsIn k new.nodes
+  owned_falls : (i : ℕ) (new : WorldView) → i < k.n → AppliesOwn k i old new → HaveFallsIn k new.nodes
   owned_falls i new low step = falls_step k some i i low low step.item old.nodes lawful falls (new.own i ++ later i i)
       (next_own k old i (step.item ∷ new.own i) linked low step.first) new.nodes step.applied
 
-  taken_falls : (i j : ℕ) (new : World) → i < k.n → j < k.n → i ≢ j → TakesBatch k i j old new → HaveFallsIn k new.nodes
+  taken_falls : (i j : ℕ) (new : WorldView) → i < k.n → j < k.n → i ≢ j → TakesBatch k i j old new → HaveFallsIn k new.nodes
   taken_falls i j new low_i low_j differs step = all_fall k some i j low_i low_j differs step.batch.items
       (items_of_batches (new.waiting i j) ++ (old.outbox i j ++ later i j)) old.nodes new.nodes lawful falls
       (next_waiting k old i j step.batch (new.waiting i j) linked low_i low_j differs step.first) step.applied
@@ -83,10 +83,10 @@ happening_keeps_falls k old new (Own i) some lawful linked falls can step = owne
 happening_keeps_falls k old new (Post i j) some lawful linked falls can step = bound_stays k old.world.nodes new.world.nodes step.0.nodes falls
 happening_keeps_falls k old new (Take i j) some lawful linked falls can step =
     taken_falls k some old.world lawful linked falls i j new.world can.0 can.1 can.2 step.0
-happening_keeps_falls k old new (Pass i) some lawful linked falls can step = subst (λ (w : World). HaveFallsIn k w.nodes) (sym step.0) falls
-happening_keeps_falls k old new Announce some lawful linked falls can step = subst (λ (w : World). HaveFallsIn k w.nodes) (sym step.0) falls
+happening_keeps_falls k old new (Pass i) some lawful linked falls can step = subst (λ (w : WorldView). HaveFallsIn k w.nodes) (sym step.0) falls
+happening_keeps_falls k old new Announce some lawful linked falls can step = subst (λ (w : WorldView). HaveFallsIn k w.nodes) (sym step.0) falls
 
--- for few classes a node stops for want of memory alone
+-- for few classes a node stops for lack of memory alone
 pub few_stop : (k : Setting) (state : State) (event : Event) (fault : Fault) → 0 < k.n → AreLawful k state.world.nodes → IsLinked k state.world →
     HaveFallsIn k state.world.nodes → classes_of k.set < 65535 → IsStopBy k state event fault → IsForMemory fault
 few_stop k state (Expand i) fault some lawful linked falls few stop = (i, stop.1)

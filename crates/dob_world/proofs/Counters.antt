@@ -10,7 +10,7 @@ use Rattle.std.proofs.lemmas.List.{get_or-replicate, get_or_default}
 use Rattle.std.proofs.lemmas.Nat.{mul-add-lt, same_from_place}
 use Rattle.dob_safra.specs.declared.token.Token.{Token}
 use Rattle.dob_safra.specs.Tokens.{passed_on}
-use Rattle.dob_safra.specs.Rings.{Ring, sum_below, counter, Raises, CountsStay, Posts, Takes, Passes, IsLawful}
+use Rattle.dob_safra.specs.Rings.{Ring, sum_below, counter, Raises, CountsStay, Posts, Takes, Passes, IsLawfulRing}
 use Rattle.dob_safra.proofs.Sums.{sum_same, sum_zeros}
 use Rattle.dob_safra.proofs.Counts.{flipped, row_stays, flipped_stay, row_raised, other_row, flipped_raises, posted_bound, taken_bound}
 
@@ -60,7 +60,7 @@ module _ (n i j : ℕ) (old new : Ring) (low_i : i < n) (low_j : j < n) (posted 
   )
 
 -- a lawful ring's counters are small
-pub small_counter : (n : ℕ) (ring : Ring) (i : ℕ) → n ≤ 16 → i < n → IsLawful n ring →
+pub small_counter : (n : ℕ) (ring : Ring) (i : ℕ) → n ≤ 16 → i < n → IsLawfulRing n ring →
     (neg_ℤ (pos (2 ^ 44)) ≤ℤ counter n ring i) × (counter n ring i ≤ℤ pos (2 ^ 44))
 small_counter n ring i size low lawful =
     let up : sum_below n (λ j. ring.posted i j) ≤ 2 ^ 44 = posted_bound n ring i size low lawful.few in

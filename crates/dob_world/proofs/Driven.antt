@@ -100,7 +100,7 @@ round_made old new upto still way whole quiet busy = record {
   steps = subst (λ (m : ℕ). new.steps ≤ old.steps + m) whole way.most;
   same = λ is. ((way.quiet (quiet is)).0, quiet is);
   still = left;
-  ended = λ is. still_ended (setting_of new) (state_of new) way.standing.setting way.standing.linked way.standing.told
+  ended = λ is. still_ended (setting_of new) (state_of new) way.standing.setting way.standing.linked way.standing.matches
       (subst (λ (s : Setting). IsStill s (state_of new)) (sym way.setting) (left is));
   busy = busy;
   done = λ no. let w = way.done (busy no) in (w.0, subst (λ (m : ℕ). w.0 < m) whole w.1, w.2, w.3, w.4);

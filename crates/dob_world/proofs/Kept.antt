@@ -4,9 +4,9 @@ use Rattle.dob_unmove.specs.Edges.{predecessors}
 use Rattle.dob_share.specs.declared.news.Item.{Item}
 use Rattle.dob_update.specs.Items.{items_from}
 use Rattle.dob_update.specs.Batches.{BatchView, items_of_batches}
-use Rattle.dob_node.proofs.Settles.{told_all}
+use Rattle.dob_node.proofs.Settles.{emitted_all}
 use Rattle.dob_world.specs.declared.event.Event.TheVariants.{Expand, Own, Post, Take, Pass, Announce}
-use Rattle.dob_world.specs.Worlds.{Setting, World, State, items_in, AreLawful, IsLinked}
+use Rattle.dob_world.specs.Worlds.{Setting, WorldView, State, items_in, AreLawful, IsLinked}
 use Rattle.dob_world.specs.Events.{Expands, AppliesOwn, Posts, TakesBatch}
 use Rattle.dob_world.specs.Laws.{HappeningKeepsAll, EventsKeepAll, ListsAreBeginnings, OwnItemFits, TakenItemFits}
 use Rattle.dob_world.proofs.Places.{lawful_stay}
@@ -16,23 +16,23 @@ use Rattle.dob_world.proofs.Linked.{linked_expanded, linked_own, linked_posted, 
 -- ---- what comes next on a node's way to itself and on a link
 
 -- of the own items
-pub next_own : (k : Setting) (world : World) (i : ℕ) (items : List Item) → IsLinked k world → i < k.n → world.own i ≡ items →
+pub next_own : (k : Setting) (world : WorldView) (i : ℕ) (items : List Item) → IsLinked k world → i < k.n → world.own i ≡ items →
     items_in k world.nodes i i ≡ world.nodes.applied i i ++ (items ++ items_from (predecessors k.set) k.n i (drop (world.expanded i) (world.nodes.history i)))
 next_own k world i items linked low is =
     let later = items_from (predecessors k.set) k.n i (drop (world.expanded i) (world.nodes.history i)) in
-    told_all (predecessors k.set) k.n i (world.nodes.history i) (world.expanded i)
+    emitted_all (predecessors k.set) k.n i (world.nodes.history i) (world.expanded i)
     ∙ ap (λ xs. xs ++ later) (linked.own i low)
     ∙ append_assoc (world.nodes.applied i i) (world.own i) later
     ∙ ap (λ xs. world.nodes.applied i i ++ (xs ++ later)) is
 
 -- of the batches that wait
-pub next_waiting : (k : Setting) (world : World) (i j : ℕ) (batch : BatchView) (batches : List BatchView) → IsLinked k world → i < k.n → j < k.n →
+pub next_waiting : (k : Setting) (world : WorldView) (i j : ℕ) (batch : BatchView) (batches : List BatchView) → IsLinked k world → i < k.n → j < k.n →
     i ≢ j → world.waiting i j ≡ batch ∷ batches →
     items_in k world.nodes i j ≡ world.nodes.applied i j ++ (batch.items ++ (items_of_batches batches ++ (world.outbox i j
     ++ items_from (predecessors k.set) k.n j (drop (world.expanded i) (world.nodes.history i)))))
 next_waiting k world i j batch batches linked low_i low_j differs is =
     let later = items_from (predecessors k.set) k.n j (drop (world.expanded i) (world.nodes.history i)) in
-    told_all (predecessors k.set) k.n j (world.nodes.history i) (world.expanded i)
+    emitted_all (predecessors k.set) k.n j (world.nodes.history i) (world.expanded i)
     ∙ ap (λ xs. xs ++ later) (linked.posted i j low_i low_j differs)
     ∙ append_assoc (world.sent i j) (world.outbox i j) later
     ∙ ap (λ xs. xs ++ (world.outbox i j ++ later)) (linked.taken i j low_i low_j differs)
@@ -42,7 +42,7 @@ next_waiting k world i j batch batches linked low_i low_j differs is =
 
 -- ---- one event of nodes and links
 
-module _ (k : Setting) (old new : World) (lawful : AreLawful k old.nodes) (linked : IsLinked k old) where
+module _ (k : Setting) (old new : WorldView) (lawful : AreLawful k old.nodes) (linked : IsLinked k old) where
   pub expanded_keeps : (i : ℕ) → i < k.n → Expands k i old new → AreLawful k new.nodes × IsLinked k new
   expanded_keeps i low step = (lawful_stay k old.nodes new.nodes step.nodes lawful, linked_expanded k i old new low linked step)
 
@@ -71,7 +71,7 @@ module _ (k : Setting) (old new : World) (lawful : AreLawful k old.nodes) (linke
       )
 
   world_keeps : new ≡ old → AreLawful k new.nodes × IsLinked k new
-  world_keeps same = (subst (λ (w : World). AreLawful k w.nodes) (sym same) lawful, subst (λ (w : World). IsLinked k w) (sym same) linked)
+  world_keeps same = (subst (λ (w : WorldView). AreLawful k w.nodes) (sym same) lawful, subst (λ (w : WorldView). IsLinked k w) (sym same) linked)
 
 -- ---- events
 
@@ -106,7 +106,7 @@ lists_are_beginnings k world i j linked low_i low_j differs =
     let later = items_from (predecessors k.set) k.n j (drop (world.expanded i) (world.nodes.history i)) in (
       (
         world.outbox i j ++ later,
-        told_all (predecessors k.set) k.n j (world.nodes.history i) (world.expanded i)
+        emitted_all (predecessors k.set) k.n j (world.nodes.history i) (world.expanded i)
             ∙ ap (λ xs. xs ++ later) (linked.posted i j low_i low_j differs)
             ∙ append_assoc (world.sent i j) (world.outbox i j) later,
       ),

@@ -11,7 +11,7 @@ pub mod Applied  -- items in turn: nodes stay lawful, and histories only grow
 pub mod Linked  -- each event leaves a linked world linked
 pub mod Kept  -- a world stays lawful and linked, and the next item always fits
 pub mod Bounds  -- settlements keep their falls, and for few classes no item goes too deep
-pub mod Told  -- a ring that tells what is so still does after each event
+pub mod Matching  -- a ring that matches its world still does after each event
 pub mod Over  -- what can happen where nothing is left to do
 pub mod Rest  -- a lawful and linked world at rest has the value table
 -- One event in a world that stands.

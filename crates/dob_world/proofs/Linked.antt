@@ -7,26 +7,26 @@ use Rattle.dob_share.specs.declared.news.Item.{Item}
 use Rattle.dob_update.specs.Items.{items_of, items_from}
 use Rattle.dob_update.specs.Batches.{items_of_batches}
 use Rattle.dob_update.proofs.BatchItems.{items_in_more}
-use Rattle.dob_node.proofs.Settles.{told_more, told_grown}
-use Rattle.dob_world.specs.Worlds.{Setting, World, told_in, IsLinked}
+use Rattle.dob_node.proofs.Settles.{emitted_more, emitted_grown}
+use Rattle.dob_world.specs.Worlds.{Setting, WorldView, emitted_in, IsLinked}
 use Rattle.dob_world.specs.Events.{Expands, AppliesOwn, Posts, TakesBatch}
 use Rattle.dob_world.proofs.Places.{at_node, at_link}
 use Rattle.dob_world.proofs.Applied.{Grows}
 
 -- ---- a settlement expanded
 
-module _ (k : Setting) (i : ℕ) (old new : World) (low_i : i < k.n) (linked : IsLinked k old) (step : Expands k i old new) where
+module _ (k : Setting) (i : ℕ) (old new : WorldView) (low_i : i < k.n) (linked : IsLinked k old) (step : Expands k i old new) where
   abbrev targets : ℕ → List ℕ
   targets = predecessors k.set
 
-  told_here : (j : ℕ) → told_in k new i j ≡ told_in k old i j ++ items_of targets k.n j step.settlement
-  told_here j =
+  emitted_here : (j : ℕ) → emitted_in k new i j ≡ emitted_in k old i j ++ items_of targets k.n j step.settlement
+  emitted_here j =
       ap (λ h. items_from targets k.n j (take (new.expanded i) h)) (step.nodes.history i)
       ∙ ap (λ e. items_from targets k.n j (take e (old.nodes.history i))) step.expanded
-      ∙ told_more targets k.n j (old.nodes.history i) (old.expanded i) step.settlement step.is_next
+      ∙ emitted_more targets k.n j (old.nodes.history i) (old.expanded i) step.settlement step.is_next
 
-  told_elsewhere : (m j : ℕ) → m ≢ i → told_in k new m j ≡ told_in k old m j
-  told_elsewhere m j other =
+  emitted_elsewhere : (m j : ℕ) → m ≢ i → emitted_in k new m j ≡ emitted_in k old m j
+  emitted_elsewhere m j other =
       ap (λ h. items_from targets k.n j (take (new.expanded m) h)) (step.nodes.history m)
       ∙ ap (λ e. items_from targets k.n j (take e (old.nodes.history m))) (step.others.0 m other)
 
@@ -37,12 +37,12 @@ module _ (k : Setting) (i : ℕ) (old new : World) (low_i : i < k.n) (linked : I
         let before : old.expanded m ≤ length (old.nodes.history m) = linked.expanded m low in
         let long : length (new.nodes.history m) ≡ length (old.nodes.history m) = ap length (step.nodes.history m) in
         omega arith);
-    own = λ m low. at_node (λ a. told_in k new a a ≡ new.nodes.applied a a ++ new.own a) i m own_here (λ other.
-        told_elsewhere m m other ∙ linked.own m low
+    own = λ m low. at_node (λ a. emitted_in k new a a ≡ new.nodes.applied a a ++ new.own a) i m own_here (λ other.
+        emitted_elsewhere m m other ∙ linked.own m low
         ∙ ap (λ xs. xs ++ old.own m) (sym (step.nodes.applied m m))
         ∙ ap (λ xs. new.nodes.applied m m ++ xs) (sym (step.others.1 m other)));
-    posted = λ m l low_m low_l differs. at_node (λ a. a ≢ l → told_in k new a l ≡ new.sent a l ++ new.outbox a l) i m
-        (λ apart. posted_here l low_l apart) (λ other apart. told_elsewhere m l other ∙ linked.posted m l low_m low_l apart
+    posted = λ m l low_m low_l differs. at_node (λ a. a ≢ l → emitted_in k new a l ≡ new.sent a l ++ new.outbox a l) i m
+        (λ apart. posted_here l low_l apart) (λ other apart. emitted_elsewhere m l other ∙ linked.posted m l low_m low_l apart
         ∙ ap (λ xs. xs ++ old.outbox m l) (sym (step.links.1 m l))
         ∙ ap (λ xs. new.sent m l ++ xs) (ap (λ f. f l) (sym (step.others.2 m other)))) differs;
     taken = λ m l low_m low_l differs. step.links.1 m l ∙ linked.taken m l low_m low_l differs
@@ -58,17 +58,17 @@ module _ (k : Setting) (i : ℕ) (old new : World) (low_i : i < k.n) (linked : I
           let long : length (new.nodes.history i) ≡ length (old.nodes.history i) = ap length (step.nodes.history i) in
           omega arith
 
-      own_here : told_in k new i i ≡ new.nodes.applied i i ++ new.own i
+      own_here : emitted_in k new i i ≡ new.nodes.applied i i ++ new.own i
       own_here =
-          told_here i
+          emitted_here i
           ∙ ap (λ xs. xs ++ items_of targets k.n i step.settlement) (linked.own i low_i)
           ∙ append_assoc (old.nodes.applied i i) (old.own i) (items_of targets k.n i step.settlement)
           ∙ ap (λ xs. old.nodes.applied i i ++ xs) (sym step.own)
           ∙ ap (λ xs. xs ++ new.own i) (sym (step.nodes.applied i i))
 
-      posted_here : (l : ℕ) → l < k.n → i ≢ l → told_in k new i l ≡ new.sent i l ++ new.outbox i l
+      posted_here : (l : ℕ) → l < k.n → i ≢ l → emitted_in k new i l ≡ new.sent i l ++ new.outbox i l
       posted_here l low_l apart =
-          told_here l
+          emitted_here l
           ∙ ap (λ xs. xs ++ items_of targets k.n l step.settlement) (linked.posted i l low_i low_l apart)
           ∙ append_assoc (old.sent i l) (old.outbox i l) (items_of targets k.n l step.settlement)
           ∙ ap (λ xs. old.sent i l ++ xs) (sym (step.outboxes l low_l (λ same. apart (sym same))))
@@ -76,12 +76,12 @@ module _ (k : Setting) (i : ℕ) (old new : World) (low_i : i < k.n) (linked : I
 
 -- ---- histories that grow
 
-module _ (k : Setting) (i j : ℕ) (items : List Item) (old new : World) (linked : IsLinked k old) (grows : Grows i j items old.nodes new.nodes)
+module _ (k : Setting) (i j : ℕ) (items : List Item) (old new : WorldView) (linked : IsLinked k old) (grows : Grows i j items old.nodes new.nodes)
     (same : (m : ℕ) → new.expanded m ≡ old.expanded m) where
-  told_same : (m l : ℕ) → m < k.n → told_in k new m l ≡ told_in k old m l
-  told_same m l low =
+  emitted_same : (m l : ℕ) → m < k.n → emitted_in k new m l ≡ emitted_in k old m l
+  emitted_same m l low =
       ap (λ e. items_from (predecessors k.set) k.n l (take e (new.nodes.history m))) (same m)
-      ∙ told_grown (predecessors k.set) k.n l (old.nodes.history m) (grows.history m).0 (new.nodes.history m) (old.expanded m)
+      ∙ emitted_grown (predecessors k.set) k.n l (old.nodes.history m) (grows.history m).0 (new.nodes.history m) (old.expanded m)
       (linked.expanded m low) (grows.history m).1
 
   within_same : (m : ℕ) → m < k.n → new.expanded m ≤ length (new.nodes.history m)
@@ -95,16 +95,16 @@ module _ (k : Setting) (i j : ℕ) (items : List Item) (old new : World) (linked
 
 -- ---- an own item applied
 
-module _ (k : Setting) (i : ℕ) (old new : World) (low_i : i < k.n) (linked : IsLinked k old) (step : AppliesOwn k i old new)
+module _ (k : Setting) (i : ℕ) (old new : WorldView) (low_i : i < k.n) (linked : IsLinked k old) (step : AppliesOwn k i old new)
     (grows : Grows i i (step.item ∷ []) old.nodes new.nodes) where
   pub linked_own : IsLinked k new
   linked_own = record {
     expanded = within_same k i i (step.item ∷ []) old new linked grows step.same.0;
-    own = λ m low. at_node (λ a. told_in k new a a ≡ new.nodes.applied a a ++ new.own a) i m own_here (λ other.
-        told m m low ∙ linked.own m low
+    own = λ m low. at_node (λ a. emitted_in k new a a ≡ new.nodes.applied a a ++ new.own a) i m own_here (λ other.
+        matches m m low ∙ linked.own m low
         ∙ ap (λ xs. xs ++ old.own m) (sym (grows.others m m (inl other)))
         ∙ ap (λ xs. new.nodes.applied m m ++ xs) (sym (step.others m other)));
-    posted = λ m l low_m low_l differs. told m l low_m ∙ linked.posted m l low_m low_l differs
+    posted = λ m l low_m low_l differs. matches m l low_m ∙ linked.posted m l low_m low_l differs
         ∙ ap (λ xs. xs ++ old.outbox m l) (sym (step.links.1 m l))
         ∙ ap (λ xs. new.sent m l ++ xs) (sym (step.same.1 m l));
     taken = λ m l low_m low_l differs. step.links.1 m l ∙ linked.taken m l low_m low_l differs
@@ -112,11 +112,11 @@ module _ (k : Setting) (i : ℕ) (old new : World) (low_i : i < k.n) (linked : I
         ∙ ap (λ bs. new.nodes.applied m l ++ items_of_batches bs) (sym (step.links.0 m l));
   }
     where
-      told : (m l : ℕ) → m < k.n → told_in k new m l ≡ told_in k old m l
-      told = told_same k i i (step.item ∷ []) old new linked grows step.same.0
+      matches : (m l : ℕ) → m < k.n → emitted_in k new m l ≡ emitted_in k old m l
+      matches = emitted_same k i i (step.item ∷ []) old new linked grows step.same.0
 
-      own_here : told_in k new i i ≡ new.nodes.applied i i ++ new.own i
-      own_here = told i i low_i ∙ linked.own i low_i
+      own_here : emitted_in k new i i ≡ new.nodes.applied i i ++ new.own i
+      own_here = matches i i low_i ∙ linked.own i low_i
           ∙ ap (λ xs. old.nodes.applied i i ++ xs) step.first
           ∙ sym (append_assoc (old.nodes.applied i i) (step.item ∷ []) (new.own i))
           ∙ ap (λ xs. xs ++ new.own i) (sym grows.applied)
@@ -126,10 +126,10 @@ module _ (k : Setting) (i : ℕ) (old new : World) (low_i : i < k.n) (linked : I
 
 -- ---- a batch posted
 
-module _ (k : Setting) (i j : ℕ) (old new : World) (low_i : i < k.n) (low_j : j < k.n) (differs : i ≢ j) (linked : IsLinked k old)
+module _ (k : Setting) (i j : ℕ) (old new : WorldView) (low_i : i < k.n) (low_j : j < k.n) (differs : i ≢ j) (linked : IsLinked k old)
     (step : Posts k i j old new) where
-  told_still : (m l : ℕ) → told_in k new m l ≡ told_in k old m l
-  told_still m l =
+  matches_still : (m l : ℕ) → emitted_in k new m l ≡ emitted_in k old m l
+  matches_still m l =
       ap (λ h. items_from (predecessors k.set) k.n l (take (new.expanded m) h)) (step.nodes.history m)
       ∙ ap (λ e. items_from (predecessors k.set) k.n l (take e (old.nodes.history m))) (step.same.0 m)
 
@@ -140,10 +140,10 @@ module _ (k : Setting) (i j : ℕ) (old new : World) (low_i : i < k.n) (low_j : 
         let before : old.expanded m ≤ length (old.nodes.history m) = linked.expanded m low in
         let long : length (new.nodes.history m) ≡ length (old.nodes.history m) = ap length (step.nodes.history m) in
         omega arith;
-    own = λ m low. told_still m m ∙ linked.own m low
+    own = λ m low. matches_still m m ∙ linked.own m low
         ∙ ap (λ xs. xs ++ old.own m) (sym (step.nodes.applied m m))
         ∙ ap (λ xs. new.nodes.applied m m ++ xs) (sym (step.same.1 m));
-    posted = λ m l low_m low_l apart. told_still m l ∙ linked.posted m l low_m low_l apart ∙ at_link (λ a b.
+    posted = λ m l low_m low_l apart. matches_still m l ∙ linked.posted m l low_m low_l apart ∙ at_link (λ a b.
         old.sent a b ++ old.outbox a b ≡ new.sent a b ++ new.outbox a b) i j m l posted_here (λ other.
         ap (λ xs. xs ++ old.outbox m l) (sym (step.others.2 m l other)) ∙ ap (λ xs. new.sent m l ++ xs) (sym (step.others.0 m l other)));
     taken = λ m l low_m low_l apart. at_link (λ a b. old.sent a b ≡ old.nodes.applied a b ++ items_of_batches (old.waiting a b) →
@@ -173,15 +173,15 @@ module _ (k : Setting) (i j : ℕ) (old new : World) (low_i : i < k.n) (low_j : 
 
 -- ---- a batch taken
 
-module _ (k : Setting) (i j : ℕ) (old new : World) (differs : i ≢ j) (linked : IsLinked k old) (step : TakesBatch k i j old new)
+module _ (k : Setting) (i j : ℕ) (old new : WorldView) (differs : i ≢ j) (linked : IsLinked k old) (step : TakesBatch k i j old new)
     (grows : Grows i j step.batch.items old.nodes new.nodes) where
   pub linked_taken : IsLinked k new
   linked_taken = record {
     expanded = within_same k i j step.batch.items old new linked grows step.same.0;
-    own = λ m low. told m m low ∙ linked.own m low
+    own = λ m low. matches m m low ∙ linked.own m low
         ∙ ap (λ xs. xs ++ old.own m) (sym (grows.others m m (not_both m)))
         ∙ ap (λ xs. new.nodes.applied m m ++ xs) (sym (step.same.1 m));
-    posted = λ m l low_m low_l apart. told m l low_m ∙ linked.posted m l low_m low_l apart
+    posted = λ m l low_m low_l apart. matches m l low_m ∙ linked.posted m l low_m low_l apart
         ∙ ap (λ xs. xs ++ old.outbox m l) (sym (step.same.3 m l))
         ∙ ap (λ xs. new.sent m l ++ xs) (sym (step.same.2 m l));
     taken = λ m l low_m low_l apart. step.same.3 m l ∙ linked.taken m l low_m low_l apart ∙ at_link (λ a b.
@@ -190,8 +190,8 @@ module _ (k : Setting) (i j : ℕ) (old new : World) (differs : i ≢ j) (linked
         ∙ ap (λ bs. new.nodes.applied m l ++ items_of_batches bs) (sym (step.others m l other)));
   }
     where
-      told : (m l : ℕ) → m < k.n → told_in k new m l ≡ told_in k old m l
-      told = told_same k i j step.batch.items old new linked grows step.same.0
+      matches : (m l : ℕ) → m < k.n → emitted_in k new m l ≡ emitted_in k old m l
+      matches = emitted_same k i j step.batch.items old new linked grows step.same.0
 
       not_both : (m : ℕ) → (m ≢ i) ⊎ (m ≢ j)
       not_both m = at_node (λ a. (a ≢ i) ⊎ (a ≢ j)) i m (inr differs) (λ other. inl other)

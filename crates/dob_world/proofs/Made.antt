@@ -17,7 +17,7 @@ use Rattle.dob_update.specs.Items.{items_from}
 use Rattle.dob_update.specs.Batches.{OutboxView, items_of_batches}
 use Rattle.dob_link.specs.Links.{LinkView}
 use Rattle.dob_node.specs.Stores.{HistoryView}
-use Rattle.dob_node.specs.Takes.{AreKept, AreTaken}
+use Rattle.dob_node.specs.TakenItems.{AreKept, AreTaken}
 use Rattle.dob_node.specs.declared.node.Node.{Node}
 use Rattle.dob_node.specs.Nodes.{IsSound, outbox_to}
 use Rattle.dob_node.proofs.Nodes.{outbox_same, kept_sound}

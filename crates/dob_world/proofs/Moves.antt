@@ -11,7 +11,7 @@ use Rattle.dob_share.specs.Owners.{owner_of}
 use Rattle.dob_share.specs.Cells.{Cell, fresh}
 use Rattle.dob_share.specs.Shares.{cell_at}
 use Rattle.dob_node.specs.Stores.{HistoryView}
-use Rattle.dob_node.specs.Takes.{HasEntries, AreKept, IsTaken, AreTaken}
+use Rattle.dob_node.specs.TakenItems.{HasEntries, AreKept, IsTaken, AreTaken}
 use Rattle.dob_node.specs.declared.node.Node.{Node}
 use Rattle.dob_world.specs.declared.lane.Lane.{Lane}
 use Rattle.dob_world.specs.Worlds.{Setting, Nodes, items_in, AreLawful}

@@ -7,7 +7,7 @@ use Rattle.dob_safra.proofs.Quiet.{quiet}
 use Rattle.dob_safra.proofs.Sums.{sum_same}
 use Rattle.dob_world.specs.declared.event.Event.{Event}
 use Rattle.dob_world.specs.declared.event.Event.TheVariants.{Expand, Own, Post, Take, Pass, Announce}
-use Rattle.dob_world.specs.Worlds.{Setting, State, IsTold, IsAtRest, waiting_batches}
+use Rattle.dob_world.specs.Worlds.{Setting, State, Matches, IsAtRest, waiting_batches}
 use Rattle.dob_world.specs.Events.{CanHappen}
 use Rattle.dob_world.specs.Laws.{EndIsRest, RestStays, EndIsSilent}
 
@@ -19,21 +19,21 @@ none_long [] is = refl
 none_long (x ∷ xs) is = absurd (omega (arith, is))
 
 -- where all nodes are white and each batch is taken, nothing is left to do
-pub white_rest : (k : Setting) (state : State) → IsTold k state → AllWhite k.n state.ring → AllTaken k.n state.ring → IsAtRest k state.world
-white_rest k state told white taken = record {
-  expanded = λ i low. (told.idle i low (white i low)).expanded;
-  own = λ i low. (told.idle i low (white i low)).own;
-  outboxes = λ i j low_i low_j differs. (told.idle i low_i (white i low_i)).outboxes j low_j (λ same. differs (sym same));
+pub white_rest : (k : Setting) (state : State) → Matches k state → AllWhite k.n state.ring → AllTaken k.n state.ring → IsAtRest k state.world
+white_rest k state matches white taken = record {
+  expanded = λ i low. (matches.idle i low (white i low)).expanded;
+  own = λ i low. (matches.idle i low (white i low)).own;
+  outboxes = λ i j low_i low_j differs. (matches.idle i low_i (white i low_i)).outboxes j low_j (λ same. differs (sym same));
   links = λ i j low_i low_j differs. none_long (state.world.waiting i j)
-      (let is : state.ring.posted i j ≡ state.ring.taken i j + length (state.world.waiting i j) = told.posted i j low_i low_j in
+      (let is : state.ring.posted i j ≡ state.ring.taken i j + length (state.world.waiting i j) = matches.posted i j low_i low_j in
       let all : state.ring.posted i j ≡ state.ring.taken i j = taken i j low_i low_j in
       omega (arith, is, all));
 }
 
 pub end_is_rest : EndIsRest
-end_is_rest k state size told may =
-    let is : IsQuiet k.n state.ring = quiet k.n state.ring true size told.lawful may.1 in
-    white_rest k state told is.all_white is.all_taken
+end_is_rest k state size matches may =
+    let is : IsQuiet k.n state.ring = quiet k.n state.ring true size matches.lawful may.1 in
+    white_rest k state matches is.all_white is.all_taken
 
 -- ---- what can happen where nothing is left to do
 
@@ -46,13 +46,13 @@ rest_stays k old new (Pass i) rest can step = step.0
 rest_stays k old new Announce rest can step = step.0
 
 pub end_is_silent : EndIsSilent
-end_is_silent k state told ended = record {
+end_is_silent k state matches ended = record {
   rest = rest;
   nothing = none;
 }
   where
     rest : IsAtRest k state.world
-    rest = white_rest k state told (told.lawful.all_white ended) (told.lawful.all_taken ended)
+    rest = white_rest k state matches (matches.lawful.all_white ended) (matches.lawful.all_taken ended)
 
     none : (event : Event) → CanHappen k state event → ⊥
     none (Expand i) can = let e : state.world.expanded i ≡ length (state.world.nodes.history i) = rest.expanded i can.0 in omega (arith, can.1)
@@ -64,8 +64,8 @@ end_is_silent k state told ended = record {
 
 -- ---- batches in flight
 
-pub flight_waits : (k : Setting) (state : State) → IsTold k state → in_flight k.n state.ring ≡ waiting_batches k.n state.world
-flight_waits k state told =
+pub flight_waits : (k : Setting) (state : State) → Matches k state → in_flight k.n state.ring ≡ waiting_batches k.n state.world
+flight_waits k state matches =
     sum_same k.n (λ i. sum_below k.n (λ j. length (state.world.waiting i j))) (λ i. sum_below k.n (λ j. state.ring.posted i j - state.ring.taken i j))
     (λ i low_i. sum_same k.n (λ j. length (state.world.waiting i j)) (λ j. state.ring.posted i j - state.ring.taken i j)
-    (λ j low_j. let is : state.ring.posted i j ≡ state.ring.taken i j + length (state.world.waiting i j) = told.posted i j low_i low_j in omega (arith, is)))
+    (λ j low_j. let is : state.ring.posted i j ≡ state.ring.taken i j + length (state.world.waiting i j) = matches.posted i j low_i low_j in omega (arith, is)))

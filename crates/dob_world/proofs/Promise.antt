@@ -4,25 +4,25 @@ use Rattle.std.proofs.Math.IntN.{pos}
 use Rattle.std.proofs.lemmas.Int.{ints}
 use Rattle.std.proofs.lemmas.Bool.{cases_Bool}
 use Rattle.dob_safra.specs.declared.token.Token.{Token}
-use Rattle.dob_safra.specs.Rings.{Ring, IsLawful, black_token, IsStart as IsStartRing}
+use Rattle.dob_safra.specs.Rings.{Ring, IsLawfulRing, black_token, IsStart as IsStartRing}
 use Rattle.dob_moves.specs.declared.position_status.Status.TheVariants.{Caught, Tried, Stuck, Open}
 use Rattle.dob_share.specs.Owners.{owner_of}
 use Rattle.dob_node.specs.declared.node.Node.{Node}
 use Rattle.dob_node.specs.Lawful.{known_of}
-use Rattle.dob_node.proofs.Takes.{value_follows}
+use Rattle.dob_node.proofs.ValuesFollow.{value_follows}
 use Rattle.dob_node.proofs.Totals.{some_known}
 use Rattle.dob_world.specs.declared.lane.Lane.{Lane}
 use Rattle.dob_world.specs.declared.detector.Detector.{Detector}
 use Rattle.dob_world.specs.declared.event.Event.{Event}
 use Rattle.dob_world.specs.declared.world.World.{World}
-use Rattle.dob_world.specs.Worlds.{Setting, Nodes, World as Shown, State, value_in, AreLawful, IsLinked, IsTold, IsAtRest}
+use Rattle.dob_world.specs.Worlds.{Setting, Nodes, WorldView as Shown, State, value_in, AreLawful, IsLinked, Matches, IsAtRest}
 use Rattle.dob_world.specs.Events.{CanHappen, Happens}
 use Rattle.dob_world.specs.Runs.{IsAfter}
 use Rattle.dob_world.specs.Headline.{HaveKnownValues, HasRightValues, Headline}
 use Rattle.dob_world.specs.Shown.{setting_of, state_of, world_shown, ring_of, IsSetting, HasOpenings, HasAtMost, Stand, IsStanding, IsUnchanged, IsStart}
 use Rattle.dob_world.specs.Laws.{HeadlineHolds}
 use Rattle.dob_world.proofs.Kept.{lists_are_beginnings, happening_keeps_all}
-use Rattle.dob_world.proofs.Told.{happening_keeps_told, posted_most}
+use Rattle.dob_world.proofs.Matching.{happening_keeps_match, posted_most}
 use Rattle.dob_world.proofs.Over.{end_is_rest, end_is_silent, flight_waits}
 use Rattle.dob_world.proofs.Rest.{rest_is_right}
 use Rattle.dob_world.proofs.Starts.{lawful_shown, linked_start, waits_start}
@@ -31,7 +31,7 @@ use Rattle.dob_world.proofs.Starts.{lawful_shown, linked_start, waits_start}
 pub record Keeps (k : Setting) (state : State) (steps : ℕ) : Type 0 where
   pub lawful : AreLawful k state.world.nodes
   pub linked : IsLinked k state.world
-  pub told : IsTold k state
+  pub matches : Matches k state
   pub few : HasAtMost k.n steps state.ring
 
 -- the cells sum up what is known, and give the values
@@ -48,8 +48,8 @@ module _ (k : Setting) (setting : IsSetting k) (openings : HasOpenings k.set) wh
   right_at_rest world lawful linked rest values are =
       rest_is_right k world openings.0 values setting.nodes.0 openings.1 lawful linked rest are.whole are.each
 
-  pub headline_of : (state : State) → AreLawful k state.world.nodes → IsLinked k state.world → IsTold k state → Headline k state
-  headline_of state lawful linked told = record {
+  pub headline_of : (state : State) → AreLawful k state.world.nodes → IsLinked k state.world → Matches k state → Headline k state
+  headline_of state lawful linked matches = record {
     beginnings = record {
       sent = λ i j low_i low_j differs. (lists_are_beginnings k state.world i j linked low_i low_j differs).0;
       applied = λ i j low_i low_j differs. (lists_are_beginnings k state.world i j linked low_i low_j differs).1;
@@ -57,11 +57,11 @@ module _ (k : Setting) (setting : IsSetting k) (openings : HasOpenings k.set) wh
       cells = lawful;
       known = known_values k state.world.nodes lawful;
     };
-    silence = λ ended. end_is_silent k state told ended;
-    gathering = λ ended. right_at_rest state.world lawful linked (end_is_silent k state told ended).rest;
-    told = told;
-    flight = flight_waits k state told;
-    quiet = λ may. end_is_rest k state setting.nodes told may;
+    silence = λ ended. end_is_silent k state matches ended;
+    gathering = λ ended. right_at_rest state.world lawful linked (end_is_silent k state matches ended).rest;
+    matches = matches;
+    flight = flight_waits k state matches;
+    quiet = λ may. end_is_rest k state setting.nodes matches may;
   }
 
   -- ---- events
@@ -74,7 +74,7 @@ module _ (k : Setting) (setting : IsSetting k) (openings : HasOpenings k.set) wh
       record {
         lawful = both.0;
         linked = both.1;
-        told = happening_keeps_told k old new event setting.nodes keeps.told can happens (λ i j low_i low_j. omega (arith, few i j low_i low_j, room));
+        matches = happening_keeps_match k old new event setting.nodes keeps.matches can happens (λ i j low_i low_j. omega (arith, few i j low_i low_j, room));
         few = few;
       }
 
@@ -82,7 +82,7 @@ module _ (k : Setting) (setting : IsSetting k) (openings : HasOpenings k.set) wh
   more_room state steps keeps = record {
     lawful = keeps.lawful;
     linked = keeps.linked;
-    told = keeps.told;
+    matches = keeps.matches;
     few = λ i j low_i low_j. omega (arith, keeps.few i j low_i low_j);
   }
 
@@ -98,7 +98,7 @@ module _ (k : Setting) (setting : IsSetting k) (openings : HasOpenings k.set) wh
 
 -- ---- the start
 
-start_lawful : (n : ℕ) (ring : Ring) → 0 < n → IsStartRing n ring → IsLawful n ring
+start_lawful : (n : ℕ) (ring : Ring) → 0 < n → IsStartRing n ring → IsLawfulRing n ring
 start_lawful n ring some start =
     let at : ring.token.at ≡ 0 = ap (λ (t : Token). t.at) start.token in
     let sum : ring.token.sum ≡ pos 0 = ap (λ (t : Token). t.sum) start.token in
@@ -113,8 +113,8 @@ start_lawful n ring some start =
       reason = black_token (ap (λ (t : Token). t.black) start.token);
     }
 
-pub told_start : (k : Setting) (state : State) → IsSetting k → IsStartRing k.n state.ring → ((i j : ℕ) → state.world.waiting i j ≡ []) → IsTold k state
-told_start k state setting start none = record {
+pub matches_start : (k : Setting) (state : State) → IsSetting k → IsStartRing k.n state.ring → ((i j : ℕ) → state.world.waiting i j ≡ []) → Matches k state
+matches_start k state setting start none = record {
   lawful = start_lawful k.n state.ring setting.nodes.0 start;
   idle = λ i low white. absurd (let e : true ≡ false = sym (start.black i low) ∙ white in cc);
   posted = λ i j low_i low_j.
@@ -133,7 +133,7 @@ kept_start k state setting start = record {
       (lawful_shown k start.openings start.nodes start.lanes setting.nodes.0 start.are_openings start.opened start.empty);
   linked = subst (λ (w : Shown). IsLinked k w) (sym start.world_is)
       (linked_start k start.openings start.nodes start.lanes setting.nodes.0 start.are_openings start.opened start.empty);
-  told = told_start k state setting start.ring (λ i j. ap (λ (w : Shown). w.waiting i j) start.world_is
+  matches = matches_start k state setting start.ring (λ i j. ap (λ (w : Shown). w.waiting i j) start.world_is
       ∙ waits_start k start.openings start.nodes start.lanes setting.nodes.0 start.are_openings start.opened start.empty i j);
   few = few_start k.n state.ring 0 start.ring;
 }
@@ -143,15 +143,15 @@ kept_start k state setting start = record {
 pub headline_holds : HeadlineHolds
 headline_holds k start state events setting is_start room after =
     let keeps = (kept_after k setting (is_start.openings, is_start.are_openings) start state events 0 (omega (arith, room)) after (kept_start k start setting is_start)).1 in
-    headline_of k setting (is_start.openings, is_start.are_openings) state keeps.lawful keeps.linked keeps.told
+    headline_of k setting (is_start.openings, is_start.are_openings) state keeps.lawful keeps.linked keeps.matches
 
 pub standing_headline : (world : World) → IsStanding world → Headline (setting_of world) (state_of world)
-standing_headline world standing = headline_of (setting_of world) standing.setting standing.openings (state_of world) standing.lawful standing.linked standing.told
+standing_headline world standing = headline_of (setting_of world) standing.setting standing.openings (state_of world) standing.lawful standing.linked standing.matches
 
 pub stood_headline : (k : Setting) (nodes : List Node) (lanes : List Lane) (detector : Detector) (steps : ℕ) → Stand k nodes lanes detector steps →
     Headline k (record { world = world_shown k.set k.n nodes lanes; ring = ring_of detector })
 stood_headline k nodes lanes detector steps stand = headline_of k stand.setting stand.openings
-    (record { world = world_shown k.set k.n nodes lanes; ring = ring_of detector }) stand.lawful stand.linked stand.told
+    (record { world = world_shown k.set k.n nodes lanes; ring = ring_of detector }) stand.lawful stand.linked stand.matches
 
 -- a world that is as it was stands as it did
 pub stand_unchanged : (old new : World) → IsUnchanged old new → IsStanding old → IsStanding new

@@ -6,11 +6,11 @@ use Rattle.dob_world.specs.declared.event.Event.{Event}
 use Rattle.dob_world.specs.declared.step.Step.{Step}
 use Rattle.dob_world.specs.declared.step.Step.TheVariants.{Done, Skipped}
 use Rattle.dob_world.specs.declared.world.World.{World}
-use Rattle.dob_world.specs.Worlds.{Setting, World as Shown, State, HaveFallsIn}
+use Rattle.dob_world.specs.Worlds.{Setting, WorldView as Shown, State, HaveFallsIn}
 use Rattle.dob_world.specs.Events.{CanHappen}
 use Rattle.dob_world.specs.Runs.{IsDoneOrSkipped, IsAfter, IsStepOf, IsAfterSteps}
 use Rattle.dob_world.specs.Shown.{setting_of, state_of, world_shown, ring_of, IsSetting, IsStanding, IsUnchanged, IsMade, IsStart}
-use Rattle.dob_world.specs.Results.{HasRun, HasStopped}
+use Rattle.dob_world.specs.Results.{HasRun, HasStoppedAt}
 use Rattle.dob_world.specs.declared.fault.Fault.{Fault}
 use Rattle.dob_world.specs.Stops.{IsStopBy}
 use Rattle.dob_safra.specs.Rings.{Ring}
@@ -127,7 +127,7 @@ ran_more k events place default old new low run step going standing =
 
 -- the event after those of a run stops a node
 pub run_stops : (k : Setting) (events : List Event) (place : ℕ) (default : Event) (world : World) (fault : Fault) → place < length events →
-    HasRun k (take place events) world → IsStopBy (setting_of world) (state_of world) (get_or events place default) fault → HasStopped k events fault
+    HasRun k (take place events) world → IsStopBy (setting_of world) (state_of world) (get_or events place default) fault → HasStoppedAt k events fault
 run_stops k events place default world fault low run stop = record {
   setting = subst IsSetting run.setting run.standing.setting;
   start = run.start;

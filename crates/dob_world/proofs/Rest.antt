@@ -6,23 +6,23 @@ use Rattle.dob_unmove.specs.Edges.{predecessors}
 use Rattle.dob_update.specs.Items.{items_from}
 use Rattle.dob_update.specs.Batches.{items_of_batches}
 use Rattle.dob_node.proofs.Ends.{lawful_is_right}
-use Rattle.dob_world.specs.Worlds.{Setting, World, value_in, items_in, told_in, IsLinked, IsAtRest}
+use Rattle.dob_world.specs.Worlds.{Setting, WorldView, value_in, items_in, emitted_in, IsLinked, IsAtRest}
 use Rattle.dob_world.specs.Laws.{RestIsRight}
 
-module _ (k : Setting) (world : World) (linked : IsLinked k world) (rest : IsAtRest k world) where
+module _ (k : Setting) (world : WorldView) (linked : IsLinked k world) (rest : IsAtRest k world) where
   -- all items of a history are those of the settlements expanded
-  all_told : (i j : ℕ) → i < k.n → told_in k world i j ≡ items_in k world.nodes i j
-  all_told i j low = ap (λ h. items_from (predecessors k.set) k.n j h)
+  all_emitted : (i j : ℕ) → i < k.n → emitted_in k world i j ≡ items_in k world.nodes i j
+  all_emitted i j low = ap (λ h. items_from (predecessors k.set) k.n j h)
       (take_all (world.expanded i) (world.nodes.history i) (let is : world.expanded i ≡ length (world.nodes.history i) = rest.expanded i low in omega arith))
 
   -- and all of them are applied
   pub all_done : (i j : ℕ) → i < k.n → j < k.n → world.nodes.applied i j ≡ items_in k world.nodes i j
   all_done i j low_i low_j = elim (cases_eq i j) [
     | inl same ↦ subst (λ b. world.nodes.applied i b ≡ items_in k world.nodes i b) same
-        (sym (sym (all_told i i low_i) ∙ linked.own i low_i ∙ ap (λ xs. world.nodes.applied i i ++ xs) (rest.own i low_i)
+        (sym (sym (all_emitted i i low_i) ∙ linked.own i low_i ∙ ap (λ xs. world.nodes.applied i i ++ xs) (rest.own i low_i)
         ∙ append-nil (world.nodes.applied i i)))
     | inr differs ↦ sym (
-        sym (all_told i j low_i)
+        sym (all_emitted i j low_i)
         ∙ linked.posted i j low_i low_j differs
         ∙ ap (λ xs. world.sent i j ++ xs) (rest.outboxes i j low_i low_j differs)
         ∙ append-nil (world.sent i j)

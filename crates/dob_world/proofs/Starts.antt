@@ -31,7 +31,7 @@ use Rattle.dob_node.specs.Lawful.{known_of}
 use Rattle.dob_node.specs.Falls.{IsFirst}
 use Rattle.dob_node.specs.declared.node.Node.{Node}
 use Rattle.dob_node.specs.Nodes.{outbox_to}
-use Rattle.dob_node.proofs.Takes.{SumsUp-same}
+use Rattle.dob_node.proofs.ValuesFollow.{SumsUp-same}
 use Rattle.dob_node.proofs.Totals.{start_sums}
 use Rattle.dob_node.proofs.Rest.{below_owner}
 use Rattle.dob_node.proofs.Rises.{opened_first, fresh_within, falls_start}
@@ -173,8 +173,8 @@ module _ (k : Setting) (openings : List Opening) (nodes : List Node) (lanes : Li
   unfolding world_shown
   linked_start = record {
     expanded = λ i low. let e = none_expanded i low in omega arith;
-    own = λ i low. told_none i i low ∙ sym (ap (λ xs. xs ++ part [] (λ (x : Node). x.own.items) (slice_get nodes i)) (none_applied i i) ∙ none_own i);
-    posted = λ i j low_i low_j differs. told_none i j low_i ∙ sym (ap (λ xs. xs ++ part [] (λ (x : Node). (outbox_to x j).items) (slice_get nodes i)) (none_sent i j) ∙ none_out i j);
+    own = λ i low. emitted_none i i low ∙ sym (ap (λ xs. xs ++ part [] (λ (x : Node). x.own.items) (slice_get nodes i)) (none_applied i i) ∙ none_own i);
+    posted = λ i j low_i low_j differs. emitted_none i j low_i ∙ sym (ap (λ xs. xs ++ part [] (λ (x : Node). (outbox_to x j).items) (slice_get nodes i)) (none_sent i j) ∙ none_out i j);
     taken = λ i j low_i low_j differs. none_sent i j
         ∙ sym (ap (λ xs. xs ++ items_of_batches (part [] (λ (x : Lane). x.link.waiting) (lane_at k.n lanes i j))) (none_applied i j)
         ∙ ap items_of_batches (none_waits i j));
@@ -197,6 +197,6 @@ module _ (k : Setting) (openings : List Opening) (nodes : List Node) (lanes : Li
       none_waits i j = part_nil (λ (x : Lane). x.link.waiting) (lane_at k.n lanes i j)
           (λ lane there. ap (λ (l : LinkView). l.waiting) (lane_empty i j lane there).link)
 
-      told_none : (i j : ℕ) → i < k.n →
+      emitted_none : (i j : ℕ) → i < k.n →
           items_from (predecessors k.set) k.n j (take (part 0 (λ (x : Node). x.expanded) (slice_get nodes i)) (shown.history i)) ≡ []
-      told_none i j low = ap (λ e. items_from (predecessors k.set) k.n j (take e (shown.history i))) (none_expanded i low)
+      emitted_none i j low = ap (λ e. items_from (predecessors k.set) k.n j (take e (shown.history i))) (none_expanded i low)

@@ -6,7 +6,7 @@ use Rattle.std.proofs.lemmas.Nat.{div-mul-add, mul-add-lt}
 use Rattle.std.proofs.lemmas.Bool.{cases_Bool, cases_lt, lt-ltb, le-ltb, eq-eqb, ne_eqb}
 use Rattle.dob_world.specs.declared.event.Event.{Event}
 use Rattle.dob_world.specs.declared.event.Event.TheVariants.{Expand, Own, Post, Take, Pass, Announce}
-use Rattle.dob_world.specs.Worlds.{Setting, State, IsLinked, IsIdle, IsTold, IsAtRest}
+use Rattle.dob_world.specs.Worlds.{Setting, State, IsLinked, IsIdle, Matches, IsAtRest}
 use Rattle.dob_world.specs.Events.{CanHappen}
 use Rattle.dob_world.specs.Rounds.{round_length, round_event, IsStill}
 use Rattle.dob_world.specs.Shown.{IsSetting}
@@ -112,7 +112,7 @@ nothing_in : {X : Type 0} (xs : List X) → (0 < length xs → ⊥) → xs ≡ [
 nothing_in [] none = refl
 nothing_in (x ∷ xs) none = absurd (none (omega arith))
 
-module _ (k : Setting) (state : State) (setting : IsSetting k) (linked : IsLinked k state.world) (told : IsTold k state) (still : IsStill k state) where
+module _ (k : Setting) (state : State) (setting : IsSetting k) (linked : IsLinked k state.world) (matches : Matches k state) (still : IsStill k state) where
   not_at : (place : ℕ) (event : Event) → place < round_length k.n → round_event k.n place ≡ event → CanHappen k state event → ⊥
   not_at place event low is = subst (λ (e : Event). CanHappen k state e → ⊥) is (still place low)
 
@@ -160,21 +160,21 @@ module _ (k : Setting) (state : State) (setting : IsSetting k) (linked : IsLinke
 
   holder_idle : IsIdle k state.world state.ring.token.at
   holder_idle = record {
-    expanded = still_rest.expanded state.ring.token.at told.lawful.at;
-    own = still_rest.own state.ring.token.at told.lawful.at;
-    outboxes = λ j low differs. still_rest.outboxes state.ring.token.at j told.lawful.at low (λ same. differs (sym same));
+    expanded = still_rest.expanded state.ring.token.at matches.lawful.at;
+    own = still_rest.own state.ring.token.at matches.lawful.at;
+    outboxes = λ j low differs. still_rest.outboxes state.ring.token.at j matches.lawful.at low (λ same. differs (sym same));
   }
 
   -- if it weren't, the token could be passed or the end announced
   pub still_ended : state.ring.announced ≡ true
   still_ended = elim (cases_Bool state.ring.announced) [
     | inl ended ↦ ended
-    | inr running ↦ absurd (no_pass state.ring.token.at told.lawful.at
-        (told.lawful.at, refl, holder_idle, running, λ first may. no_end (may, running)))
+    | inr running ↦ absurd (no_pass state.ring.token.at matches.lawful.at
+        (matches.lawful.at, refl, holder_idle, running, λ first may. no_end (may, running)))
   ]
 
 pub still_is_ended : StillIsEnded
-still_is_ended k state setting linked told still = (
-  still_ended k state setting linked told still,
-  still_rest k state setting linked told still,
+still_is_ended k state setting linked matches still = (
+  still_ended k state setting linked matches still,
+  still_rest k state setting linked matches still,
 )

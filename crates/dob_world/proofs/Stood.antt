@@ -4,7 +4,7 @@ use Rattle.std.proofs.Common.{subst, arith, List, [], ◌∷◌, length, Some, s
 use Rattle.std.specs.Prelude.{slice_index_or}
 use Rattle.std.proofs.lemmas.Bool.{cases_lt, cases_eq}
 use Rattle.dob_safra.specs.declared.event.RingEvent.{RingEvent}
-use Rattle.dob_safra.specs.Rings.{Ring, IsLawful, Moved, IsAnnounceable}
+use Rattle.dob_safra.specs.Rings.{Ring, IsLawfulRing, Moved, IsAnnounceable}
 use Rattle.dob_update.specs.Batches.{OutboxView, empty_outbox}
 use Rattle.dob_node.specs.declared.node.Node.{Node}
 use Rattle.dob_node.specs.Nodes.{IsIdle as IsIdleNode, outbox_to}
@@ -17,7 +17,7 @@ use Rattle.dob_world.specs.Shown.{nodes_shown, world_shown, ring_of, AreInPlace,
 use Rattle.dob_world.proofs.Slots.{was}
 use Rattle.dob_world.proofs.Kept.{happening_keeps_all}
 use Rattle.dob_world.proofs.Bounds.{happening_keeps_falls}
-use Rattle.dob_world.proofs.Told.{busy_black, happening_keeps_told, posted_most}
+use Rattle.dob_world.proofs.Matching.{busy_black, happening_keeps_match, posted_most}
 
 abbrev pub state_at : Setting → List Node → List Lane → Detector → State
 state_at k nodes lanes detector = record { world = world_shown k.set k.n nodes lanes; ring = ring_of detector }
@@ -43,7 +43,7 @@ module _ (k : Setting) (nodes : List Node) (lanes : List Lane) (detector : Detec
         falls = happening_keeps_falls k (state_at k nodes lanes detector) (state_at k after next new) event stand.setting.nodes.0 stand.lawful stand.linked
             stand.falls can happens;
         linked = both.1;
-        told = happening_keeps_told k (state_at k nodes lanes detector) (state_at k after next new) event stand.setting.nodes stand.told can happens
+        matches = happening_keeps_match k (state_at k nodes lanes detector) (state_at k after next new) event stand.setting.nodes stand.matches can happens
             (λ i j low_i low_j. omega (arith, few i j low_i low_j, room));
         few = few;
         cuts = cuts;
@@ -51,8 +51,8 @@ module _ (k : Setting) (nodes : List Node) (lanes : List Lane) (detector : Detec
 
   -- ---- what the detector may count
 
-  pub ring_lawful : IsLawful detector.n (ring_of detector)
-  ring_lawful = subst (λ (m : ℕ). IsLawful m (ring_of detector)) (sym stand.same_n) stand.told.lawful
+  pub ring_lawful : IsLawfulRing detector.n (ring_of detector)
+  ring_lawful = subst (λ (m : ℕ). IsLawfulRing m (ring_of detector)) (sym stand.same_n) stand.matches.lawful
 
   pub low_ring : (i : ℕ) → i < k.n → i < detector.n
   low_ring i low = omega (arith, low, stand.same_n)
@@ -67,7 +67,7 @@ module _ (k : Setting) (nodes : List Node) (lanes : List Lane) (detector : Detec
   announceable_there may = subst (λ (m : ℕ). IsAnnounceable m (ring_of detector) true) (sym stand.same_n) may
 
   pub sender_black : (i j : ℕ) → i < k.n → j < k.n → i ≢ j → 0 < length ((world_shown k.set k.n nodes lanes).outbox i j) → (ring_of detector).black i ≡ true
-  sender_black i j low_i low_j differs some = busy_black k (state_at k nodes lanes detector) stand.told i low_i
+  sender_black i j low_i low_j differs some = busy_black k (state_at k nodes lanes detector) stand.matches i low_i
       (λ idle. none_some ((world_shown k.set k.n nodes lanes).outbox i j) (idle.outboxes j low_j (λ same. differs (sym same))) some)
 
   pub room_to_post : (i j : ℕ) → i < k.n → j < k.n → steps < 2 ^ 40 → (ring_of detector).posted i j < 2 ^ 40
@@ -77,7 +77,7 @@ module _ (k : Setting) (nodes : List Node) (lanes : List Lane) (detector : Detec
       (ring_of detector).taken i j < (ring_of detector).posted i j
   batch_waits i j low_i low_j some =
       let is : (ring_of detector).posted i j ≡ (ring_of detector).taken i j + length ((world_shown k.set k.n nodes lanes).waiting i j) =
-      stand.told.posted i j low_i low_j in
+      stand.matches.posted i j low_i low_j in
       omega (arith, is, some)
 
 -- ---- idle nodes

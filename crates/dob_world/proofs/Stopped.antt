@@ -10,14 +10,14 @@ use Rattle.dob_update.specs.Items.{items_from}
 use Rattle.dob_update.specs.Batches.{BatchView, items_of_batches}
 use Rattle.dob_share.specs.declared.news.Item.{Item}
 use Rattle.dob_share.specs.declared.share.Share.{Share}
-use Rattle.dob_share.specs.Cells.{Cell, Takes, changed}
+use Rattle.dob_share.specs.Cells.{Cell, CanTake, changed}
 use Rattle.dob_share.specs.Steps.{IsTooDeep}
 use Rattle.dob_share.specs.Shares.{status_at, cell_at, Fits, GoesTooDeep}
 use Rattle.dob_node.specs.Stores.{HistoryView}
 use Rattle.dob_node.specs.Lawful.{CanApply}
 use Rattle.dob_node.specs.declared.cause.Cause.{Cause}
 use Rattle.dob_node.specs.declared.cause.Cause.TheVariants as cause
-use Rattle.dob_node.specs.Takes.{HasEntries, AreKept, IsReason, StopsAt}
+use Rattle.dob_node.specs.TakenItems.{HasEntries, AreKept, IsReason, StopsAt}
 use Rattle.dob_node.specs.declared.node.Node.{Node}
 use Rattle.dob_node.specs.Nodes.{HasItemFault}
 use Rattle.dob_world.specs.declared.lane.Lane.{Lane}
@@ -45,10 +45,10 @@ fits_by k i node share history cell item is kept statuses can same = (
   (kept.owned item.to).1 (can.own, can.below),
   statuses item.to ∙ one_status (class_setup k.set item.to) (status_at node.share item.to) Open
       (is.statuses item.to (((kept_of k i node is).owned item.to).1 (can.own, can.below))) can.is_open,
-  subst (λ c. Takes item.was item.now c) same can.takes,
+  subst (λ c. CanTake item.was item.now c) same can.takes,
 )
 
--- An item that fits stops its node for want of memory, or since it goes too deep.
+-- An item that fits stops its node for lack of memory, or since it goes too deep.
 reason_stop : (item : Item) (share : Share) (why : Cause) → Fits share item → IsReason item share why →
     (why ≡ cause.Memory) ⊎ ((why ≡ cause.TooDeep) × GoesTooDeep share item)
 reason_stop item share cause.TooDeep fits is = inr (refl, is.1)
@@ -77,7 +77,7 @@ module _ (k : Setting) (nodes : List Node) (lanes : List Lane) (some : 0 < k.n) 
             (own_is k i i (nodes_shown k.set k.n nodes lanes) node.share [] [] item.to can.below can.own)),
       )
 
-  -- An own item stops its node for want of memory, or since it goes too deep.
+  -- An own item stops its node for lack of memory, or since it goes too deep.
   pub own_stops : (i : ℕ) (node : Node) (lane : Lane) (why : Cause) → i < k.n → slice_get nodes i ≡ Some node →
       lane_at k.n lanes i i ≡ Some lane → (why ≡ cause.Memory) ⊎ HasItemFault node why → IsCauseOf k (world_shown k.set k.n nodes lanes) (Own i) (Stopped i why)
   unfolding world_shown

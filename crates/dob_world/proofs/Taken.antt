@@ -17,7 +17,7 @@ use Rattle.dob_share.proofs.Changing.{short_value}
 use Rattle.dob_node.specs.Stores.{HistoryView}
 use Rattle.dob_node.specs.Histories.{value_of}
 use Rattle.dob_node.specs.Lawful.{CanApply}
-use Rattle.dob_node.specs.Takes.{HasEntries, AreKept, IsTaken, AreTaken}
+use Rattle.dob_node.specs.TakenItems.{HasEntries, AreKept, IsTaken, AreTaken}
 use Rattle.dob_node.proofs.Stored.{same_settlement}
 use Rattle.dob_node.proofs.Parity.{short_own}
 use Rattle.dob_node.proofs.Kepts.{fits_own, kept_still}

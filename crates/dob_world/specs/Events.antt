@@ -10,7 +10,7 @@ use Rattle.dob_world.specs.declared.event.Event.{Event}
 use Rattle.dob_safra.specs.declared.event.RingEvent.TheVariants as ring
 use Rattle.dob_safra.specs.Rings.{IsAnnounceable, Moved}
 use Rattle.dob_world.specs.declared.event.Event.TheVariants.{Expand, Own, Post, Take, Pass, Announce}
-use Rattle.dob_world.specs.Worlds.{Setting, Nodes, World, State, IsIdle, value_in}
+use Rattle.dob_world.specs.Worlds.{Setting, Nodes, WorldView, State, IsIdle, value_in}
 
 -- ---- when an event can happen
 
@@ -68,7 +68,7 @@ AppliesAll k i j (item ∷ items) old new = (between : Nodes) × Applies k i j i
 
 -- The next settlement of node i becomes items: those for itself are the last of its own, those for another node are the
 -- last of the outbox for it.
-pub record Expands (k : Setting) (i : ℕ) (old new : World) : Type 0 where
+pub record Expands (k : Setting) (i : ℕ) (old new : WorldView) : Type 0 where
   pub settlement : Settlement
   pub is_next : slice_get (old.nodes.history i) (old.expanded i) ≡ Some settlement
   pub expanded : new.expanded i ≡ old.expanded i + 1
@@ -79,7 +79,7 @@ pub record Expands (k : Setting) (i : ℕ) (old new : World) : Type 0 where
   pub links : LinksStay old.waiting new.waiting × LinksStay old.sent new.sent
 
 -- The first own item of node i is applied.
-pub record AppliesOwn (k : Setting) (i : ℕ) (old new : World) : Type 0 where
+pub record AppliesOwn (k : Setting) (i : ℕ) (old new : WorldView) : Type 0 where
   pub item : Item
   pub first : old.own i ≡ item ∷ new.own i
   pub applied : Applies k i i item old.nodes new.nodes
@@ -89,7 +89,7 @@ pub record AppliesOwn (k : Setting) (i : ℕ) (old new : World) : Type 0 where
 
 -- The first items of the outbox of i for j, as many as a batch holds or all where there are fewer, are the last batch
 -- that waits on the link.
-pub record Posts (k : Setting) (i j : ℕ) (old new : World) : Type 0 where
+pub record Posts (k : Setting) (i j : ℕ) (old new : WorldView) : Type 0 where
   pub batch : BatchView
   pub items : batch.items ≡ take k.batch (old.outbox i j)
   pub left : new.outbox i j ≡ drop k.batch (old.outbox i j)
@@ -100,7 +100,7 @@ pub record Posts (k : Setting) (i j : ℕ) (old new : World) : Type 0 where
   pub nodes : NodesStay old.nodes new.nodes
 
 -- Node j takes the first batch that waits on the link from i, and applies its items in their order.
-pub record TakesBatch (k : Setting) (i j : ℕ) (old new : World) : Type 0 where
+pub record TakesBatch (k : Setting) (i j : ℕ) (old new : WorldView) : Type 0 where
   pub batch : BatchView
   pub first : old.waiting i j ≡ batch ∷ new.waiting i j
   pub applied : AppliesAll k i j batch.items old.nodes new.nodes

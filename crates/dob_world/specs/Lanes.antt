@@ -6,7 +6,7 @@ use Rattle.dob_update.specs.Batches.{BatchView}
 use Rattle.dob_link.specs.Links.{link_of}
 use Rattle.dob_node.specs.declared.cause.Cause.{Cause}
 use Rattle.dob_node.specs.declared.node.Node.{Node}
-use Rattle.dob_node.specs.Takes.{HasEntries}
+use Rattle.dob_node.specs.TakenItems.{HasEntries}
 use Rattle.dob_node.specs.Nodes.{HasApplied, HasTaken, HasTakenBefore, HasCut}
 use Rattle.dob_world.specs.declared.lane.Lane.{Lane}
 

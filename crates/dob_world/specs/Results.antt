@@ -36,7 +36,7 @@ pub record HasRun (k : Setting) (events : List Event) (world : World) : Type 0 w
   pub falls : HaveFallsIn k (state_of world).world.nodes
 
 -- The opening world is changed by the events up to one at which a node stops.
-pub record HasStopped (k : Setting) (events : List Event) (fault : Fault) : Type 0 where
+pub record HasStoppedAt (k : Setting) (events : List Event) (fault : Fault) : Type 0 where
   pub setting : IsSetting k
   pub start : State
   pub is_start : IsStart k start

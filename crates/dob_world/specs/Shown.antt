@@ -23,7 +23,7 @@ use Rattle.dob_world.specs.declared.event.Event.{Event}
 use Rattle.dob_world.specs.declared.lane.Lane.{Lane}
 use Rattle.dob_world.specs.declared.world.World.{World}
 use Rattle.dob_world.specs.Lanes.{IsBatchFor}
-use Rattle.dob_world.specs.Worlds.{Setting, Nodes, World as Shown, State, AreLawful, HaveFallsIn, IsLinked, IsTold}
+use Rattle.dob_world.specs.Worlds.{Setting, Nodes, WorldView as Shown, State, AreLawful, HaveFallsIn, IsLinked, Matches}
 use Rattle.dob_world.specs.Events.{CanHappen, Happens}
 use Rattle.dob_world.specs.Stops.{IsStop}
 
@@ -123,7 +123,7 @@ abbrev pub AreCutsPosted : ℕ → List Node → Ring → Type 0
 AreCutsPosted n nodes ring = (i j : ℕ) → i < n → j < n → i ≢ j → cut_by nodes i j ≡ ring.posted i j
 
 -- Nodes, lanes and detector of a world of which no node has stopped, after so many events: what they show is lawful and
--- linked, settlements have falls, and the ring tells what is so.
+-- linked, settlements have falls, and the ring matches the world.
 pub record Stand (k : Setting) (nodes : List Node) (lanes : List Lane) (detector : Detector) (steps : ℕ) : Type 0 where
   pub setting : IsSetting k
   pub openings : HasOpenings k.set
@@ -133,7 +133,7 @@ pub record Stand (k : Setting) (nodes : List Node) (lanes : List Lane) (detector
   pub lawful : AreLawful k (world_shown k.set k.n nodes lanes).nodes
   pub falls : HaveFallsIn k (world_shown k.set k.n nodes lanes).nodes
   pub linked : IsLinked k (world_shown k.set k.n nodes lanes)
-  pub told : IsTold k (record { world = world_shown k.set k.n nodes lanes; ring = ring_of detector })
+  pub matches : Matches k (record { world = world_shown k.set k.n nodes lanes; ring = ring_of detector })
   pub few : HasAtMost k.n steps (ring_of detector)
   pub cuts : AreCutsPosted k.n nodes (ring_of detector)
 

@@ -9,7 +9,7 @@ use Rattle.dob_world.specs.declared.event.Event.{Event}
 use Rattle.dob_world.specs.declared.event.Event.TheVariants.{Expand, Own, Post, Take, Pass, Announce}
 use Rattle.dob_world.specs.declared.fault.Fault.{Fault}
 use Rattle.dob_world.specs.declared.fault.Fault.TheVariants.{Stopped}
-use Rattle.dob_world.specs.Worlds.{Setting, Nodes, World, State}
+use Rattle.dob_world.specs.Worlds.{Setting, Nodes, WorldView, State}
 use Rattle.dob_world.specs.Events.{CanHappen, AppliesAll}
 use Rattle.dob_world.specs.Runs.{IsAfter}
 use Rattle.dob_world.specs.Rounds.{round_length, round_event, round_front, rounds_of}
@@ -19,14 +19,14 @@ abbrev pub GoesTooDeep : Nodes → Item → Type 0
 GoesTooDeep nodes item = IsTooDeep (changed item.was item.now (nodes.cell item.to))
 
 -- The first own item of node i goes too deep.
-pub record OwnGoesTooDeep (world : World) (i : ℕ) : Type 0 where
+pub record OwnGoesTooDeep (world : WorldView) (i : ℕ) : Type 0 where
   pub item : Item
   pub behind : List Item
   pub first : world.own i ≡ item ∷ behind
   pub deep : GoesTooDeep world.nodes item
 
 -- An item of the first batch that waits on the link from i to j goes too deep, once those before it are applied.
-pub record TakenGoesTooDeep (k : Setting) (world : World) (i j : ℕ) : Type 0 where
+pub record TakenGoesTooDeep (k : Setting) (world : WorldView) (i j : ℕ) : Type 0 where
   pub batch : BatchView
   pub batches : List BatchView
   pub first : world.waiting i j ≡ batch ∷ batches
@@ -40,7 +40,7 @@ pub record TakenGoesTooDeep (k : Setting) (world : World) (i j : ℕ) : Type 0 w
 
 -- What stops the node that makes a step at the event: that a growth was refused, or that an item which it applies goes too
 -- deep. No node stops as it passes the token or announces the end.
-abbrev pub IsCauseOf : Setting → World → Event → Fault → Type 0
+abbrev pub IsCauseOf : Setting → WorldView → Event → Fault → Type 0
 IsCauseOf k world (Expand i) fault = fault ≡ Stopped i cause.Memory
 IsCauseOf k world (Own i) fault = (fault ≡ Stopped i cause.Memory) ⊎ ((fault ≡ Stopped i cause.TooDeep) × OwnGoesTooDeep world i)
 IsCauseOf k world (Post i j) fault = fault ≡ Stopped i cause.Memory

@@ -2,7 +2,7 @@
 ghost use Rattle.std.specs.Prelude.{◌≡◌, ◌<◌, ◌^◌, ◌↔◌, true, IfOk, IsTrue};
 ghost use Rattle.dob_safra.specs.declared.event.RingEvent.TheVariants.{Post, Take, Pass, Announce};
 ghost use Rattle.dob_safra.specs.Laws.{IsSize};
-ghost use Rattle.dob_safra.specs.Rings.{IsLawful, IsStart, IsAnnounceable, Moved};
+ghost use Rattle.dob_safra.specs.Rings.{IsLawfulRing, IsStart, IsAnnounceable, Moved};
 ghost use Rattle.dob_world.specs.Shown.{ring_of, IsCounted};
 
 use dob_pieces::Memory;
@@ -51,7 +51,7 @@ impl Detector {
     /// The black node `from` has posted a batch to the node `to`.
     pub(crate) fn count_post(&mut self, from: usize, to: usize)
         requires counted { IsCounted self.old }
-        requires lawful { IsLawful self.old.n (ring_of self.old) }
+        requires lawful { IsLawfulRing self.old.n (ring_of self.old) }
         requires from { from < self.old.n }
         requires to { to < self.old.n }
         requires black { (ring_of self.old).black from ≡ true }
@@ -67,7 +67,7 @@ impl Detector {
     /// The node `to` has taken a batch of the node `from`, and is black now.
     pub(crate) fn count_take(&mut self, from: usize, to: usize)
         requires counted { IsCounted self.old }
-        requires lawful { IsLawful self.old.n (ring_of self.old) }
+        requires lawful { IsLawfulRing self.old.n (ring_of self.old) }
         requires from { from < self.old.n }
         requires to { to < self.old.n }
         requires waiting { (ring_of self.old).taken from to < (ring_of self.old).posted from to }
@@ -83,7 +83,7 @@ impl Detector {
     /// The node that has the token passes it, and is white now.
     pub(crate) fn pass_token(&mut self)
         requires counted { IsCounted self.old }
-        requires lawful { IsLawful self.old.n (ring_of self.old) }
+        requires lawful { IsLawfulRing self.old.n (ring_of self.old) }
         ensures moved { Moved self.old.n (ring_of self.old) (Pass self.old.token.at) (ring_of self.new) }
         ensures counted { IsCounted self.new × (self.new.n ≡ self.old.n) }
     {

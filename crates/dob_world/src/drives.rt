@@ -17,7 +17,7 @@ impl World {
     /// `Announce`. The answer is whether no event of the last round was done; then the end is announced. It is false for no
     /// round.
     ///
-    /// Error: `Stopped`, as at a step; in a set of fewer than 65,535 classes for want of memory alone.
+    /// Error: `Stopped`, as at a step; in a set of fewer than 65,535 classes for lack of memory alone.
     pub fn drive(&mut self, rounds: u64) -> Result<bool, Fault>
         requires few { self.old.steps + rounds * round_length self.old.n ≤ 2 ^ 40 }
         requires standing { IsStanding self.old }

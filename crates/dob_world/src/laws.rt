@@ -1,5 +1,5 @@
 // Laws of worlds, each the contract of a function that does nothing.
-ghost use Rattle.dob_world.specs.Laws.{HappeningKeepsAll, EventsKeepAll, HappeningKeepsTold, ListsAreBeginnings, OwnItemFits, TakenItemFits};
+ghost use Rattle.dob_world.specs.Laws.{HappeningKeepsAll, EventsKeepAll, HappeningKeepsMatch, ListsAreBeginnings, OwnItemFits, TakenItemFits};
 ghost use Rattle.dob_world.specs.Laws.{RestIsRight, EndIsRest, RestStays, EndIsSilent, StillIsEnded, HeadlineHolds};
 
 /// Each event leaves a lawful and linked world lawful and linked.
@@ -12,9 +12,9 @@ pub fn events_keep_all()
     ensures { EventsKeepAll }
 {}
 
-/// Each event leaves a ring that tells what is so telling what is so, while no link has more than 2^40 posted batches.
-pub fn happening_keeps_told()
-    ensures { HappeningKeepsTold }
+/// Each event leaves a ring that matches its world matching it, while no link has more than 2^40 posted batches.
+pub fn happening_keeps_match()
+    ensures { HappeningKeepsMatch }
 {}
 
 /// In a linked world what was sent over a link is a beginning of the sender's items, and what was applied is a beginning

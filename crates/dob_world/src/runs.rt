@@ -1,7 +1,7 @@
 // Events one after another.
 ghost use Rattle.std.specs.Prelude.{◌≡◌, ◌^◌, ◌<◌, ◌≤◌, ◌⊎◌, length, IfOk, IfErr};
 ghost use Rattle.dob_rank.specs.Marks.{classes_of};
-ghost use Rattle.dob_world.specs.Results.{HasSettingFault, HasRun, HasStopped};
+ghost use Rattle.dob_world.specs.Results.{HasSettingFault, HasRun, HasStoppedAt};
 ghost use Rattle.dob_world.specs.Stops.{IsForMemory};
 
 use crate::event::Event;
@@ -14,7 +14,7 @@ use std::alloc::Global;
 /// events in order. Those that can't happen are skipped.
 ///
 /// Errors: those of `World::open`; `Stopped`, where one of the events stops a node, but never because an item contradicts its
-/// cell, and in a set of fewer than 65,535 classes for want of memory alone. In the world each settlement stands first in a
+/// cell, and in a set of fewer than 65,535 classes for lack of memory alone. In the world each settlement stands first in a
 /// list of settlements of different classes whose distances fall by one down to a win in one ply or a loss in none, and no
 /// distance is above the number of classes.
 pub fn run(
@@ -28,7 +28,7 @@ pub fn run(
     requires few { length events.now ≤ 2 ^ 40 }
     ensures run { IfOk result (λ world. HasRun (record { set = set; n = n; batch = batch; capacity = capacity }) events.now world) }
     ensures memory { classes_of set < 65535 → IfErr result (λ fault. HasSettingFault (record { set = set; n = n; batch = batch; capacity = capacity }) fault ⊎ IsForMemory fault) }
-    ensures fault { IfErr result (λ fault. HasSettingFault (record { set = set; n = n; batch = batch; capacity = capacity }) fault ⊎ HasStopped (record { set = set; n = n; batch = batch; capacity = capacity }) events.now fault) }
+    ensures fault { IfErr result (λ fault. HasSettingFault (record { set = set; n = n; batch = batch; capacity = capacity }) fault ⊎ HasStoppedAt (record { set = set; n = n; batch = batch; capacity = capacity }) events.now fault) }
 {
     let mut world = match World::open(alloc, set, n, batch, capacity) {
         Ok(world) => world,

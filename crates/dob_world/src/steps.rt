@@ -4,7 +4,7 @@ ghost use Rattle.std.specs.List.{All};
 ghost use Rattle.dob_update.specs.Batches.{BatchView};
 ghost use Rattle.dob_node.specs.declared.cause.Cause.TheVariants as cause;
 ghost use Rattle.dob_node.specs.Nodes.{outbox_to, IsSound, IsUnchanged, HasItemFault};
-ghost use Rattle.dob_node.specs.Takes.{StopsAt};
+ghost use Rattle.dob_node.specs.TakenItems.{StopsAt};
 ghost use Rattle.dob_world.specs.Lanes.{LaneStays, IsBatchFor, HasListed, HasPosted, HasReceived, HasReceivedFront};
 
 use crate::lane::Lane;

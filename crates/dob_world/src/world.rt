@@ -93,9 +93,9 @@ impl World {
     /// Makes the event happen, or skips it where it can't.
     ///
     /// Error: `Stopped`, where the node that makes a step at the event has stopped; then, and at each further step, the same, which
-    /// changes nothing. A world that has stopped isn't one whose end is announced. After want of memory all lists, counts and the
+    /// changes nothing. A world that has stopped isn't one whose end is announced. After lack of memory all lists, counts and the
     /// token are as before the event.
-    /// In a set of fewer than 65,535 classes it stops for want of memory alone.
+    /// In a set of fewer than 65,535 classes it stops for lack of memory alone.
     pub fn step(&mut self, event: Event) -> Result<Step, Fault>
         requires few { self.old.steps < 2 ^ 40 }
         requires kept { IsKept self.old }

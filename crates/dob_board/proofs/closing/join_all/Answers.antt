@@ -15,7 +15,7 @@ loop-seat-preserved c =
           c.loop-seat.rest.me c.join_last.new.rest.me
           inv.left c.in-Some.ensures.items c.join_last.ensures.rest;
       first = first_less c.args.seats.items c.loop-seat.seats.items c.pop.new.self.items c.in-Some.seat c.loop-seat.rest.me c.join_last.new.rest.me
-          inv.first c.in-Some.ensures.items (ap (λ (me : Seated). me.0.told) c.join_last.ensures.rest);
+          inv.first c.in-Some.ensures.items (ap (λ (me : Seated). me.0.witnessed) c.join_last.ensures.rest);
     }
 
 pub join_last-requires-clause-nodes : goal.join_last-requires-clause-nodes

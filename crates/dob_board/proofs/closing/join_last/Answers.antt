@@ -11,5 +11,5 @@ join_seat-requires c =
       search rules,
       search rules,
       rw (c.deref.ensures, c.requires.board) (omega arith),
-      joins_call _ seat.nodes seat.node _ _ c.args.rest.now.me.0 seat.seat.me (stand_of seat) seat.seat.me.0.told (search rules) c.requires.before seat.view_is,
+      joins_call _ seat.nodes seat.node _ _ c.args.rest.now.me.0 seat.seat.me (stand_of seat) seat.seat.me.0.witnessed (search rules) c.requires.before seat.view_is,
     )

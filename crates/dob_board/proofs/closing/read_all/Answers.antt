@@ -15,7 +15,7 @@ loop-word-init c = record {
   stands = refl;
   no_slot = c.requires.no_slot;
   closed = λ some. absurd (omega (arith, some));
-  told = ([], refl);
+  witnessed = ([], refl);
   long = refl;
   read = λ w lt. absurd (omega (arith, lt));
 }
@@ -32,18 +32,18 @@ load-requires c =
 pub loop-word-preserved : goal.loop-word-preserved
 loop-word-preserved c =
     let inv = c.loop-word.invariant in
-    let told = c.load.ensures.2 in
-    let here = subst (λ (p : ℕ × List Stand). IsWord p.0 p.1 c.load.new.seat.me.0.told c.loop-word.word c.load.result)
-    (λ q. (inv.size q, inv.stands q)) told.3 in
+    let witnessed = c.load.ensures.2 in
+    let here = subst (λ (p : ℕ × List Stand). IsWord p.0 p.1 c.load.new.seat.me.0.witnessed c.loop-word.word c.load.result)
+    (λ q. (inv.size q, inv.stands q)) witnessed.3 in
     record {
       of_board = c.load.ensures.0 ∙ inv.of_board;
-      size = ap (λ (me : Seated). me.0.size) told.0 ∙ inv.size;
-      from = ap (λ (me : Seated). me.0.from) told.0;
-      stands = ap (λ (me : Seated). me.0.stands) told.0 ∙ inv.stands;
-      no_slot = ap (λ (me : Seated). me.1) told.0 ∙ inv.no_slot;
-      closed = λ some. ap (λ (me : Seated). me.0.closed) told.0;
-      told = goes_on c.args.rest.now.me.0.told c.loop-word.rest.me.0.told c.load.new.seat.me.0.told inv.told told.2;
+      size = ap (λ (me : Seated). me.0.size) witnessed.0 ∙ inv.size;
+      from = ap (λ (me : Seated). me.0.from) witnessed.0;
+      stands = ap (λ (me : Seated). me.0.stands) witnessed.0 ∙ inv.stands;
+      no_slot = ap (λ (me : Seated). me.1) witnessed.0 ∙ inv.no_slot;
+      closed = λ some. ap (λ (me : Seated). me.0.closed) witnessed.0;
+      witnessed = goes_on c.args.rest.now.me.0.witnessed c.loop-word.rest.me.0.witnessed c.load.new.seat.me.0.witnessed inv.witnessed witnessed.2;
       long = search rules;
-      read = read_more c.args.nodes c.loop-word.word c.load.result c.args.rest.now.me.0.stands c.loop-word.rest.me.0.told c.load.new.seat.me.0.told
-          c.loop-word.words.items (search rules) (λ some. told.1 (inv.closed some)) inv.read here;
+      read = read_more c.args.nodes c.loop-word.word c.load.result c.args.rest.now.me.0.stands c.loop-word.rest.me.0.witnessed c.load.new.seat.me.0.witnessed
+          c.loop-word.words.items (search rules) (λ some. witnessed.1 (inv.closed some)) inv.read here;
     }

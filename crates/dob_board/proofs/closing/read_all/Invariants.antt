@@ -12,7 +12,7 @@ invariant-loop-word l = record {
   stands : l.rest.me.0.stands ≡ l.fn.rest.me.0.stands;
   no_slot : l.rest.me.1 ≡ [];
   closed : 0 < l.word → l.rest.me.0.closed ≡ true;
-  told : GoesOn l.fn.rest.me.0.told l.rest.me.0.told;
+  witnessed : GoesOn l.fn.rest.me.0.witnessed l.rest.me.0.witnessed;
   long : vec_len l.words ≡ vec_len l.fn.words;
-  read : (w : ℕ) → w < l.word → IsWord l.nodes l.fn.rest.me.0.stands l.rest.me.0.told w (get_or l.words.items w 0);
+  read : (w : ℕ) → w < l.word → IsWord l.nodes l.fn.rest.me.0.stands l.rest.me.0.witnessed w (get_or l.words.items w 0);
 }

@@ -1,4 +1,4 @@
--- A file that the shelf has isn't opened only for want of memory.
+-- A file that the shelf has isn't opened only for lack of memory.
 use Rattle.std.proofs.lemmas.Result.{err_from_is_err_and}
 use Rattle.dob_cli.proofs.TableFaults.{shelf_fault_holds}
 use Rattle.dob_cli.proofs.tables.open.Goals as goal

@@ -7,13 +7,13 @@ use Rattle.dob_node.proofs.lone.finish.Goals as goal
 pub returns-clause-done : goal.returns-clause-done
 returns-clause-done c =
     let made = c.in-Ok.ensures.made in
-    (made.0, made.1, made.2, idle_done c.run.new.node (c.is_idle.ensures.0 c.if-not-is_idle.false))
+    (made.0, made.1, made.2, idle_done c.make_steps.new.node (c.is_idle.ensures.0 c.if-not-is_idle.false))
 
 pub returns-then-not-is_idle-clause-left : goal.returns-then-not-is_idle-clause-left
 returns-then-not-is_idle-clause-left c = λ is.
     let made = c.in-Ok.ensures.made in
-    under_way c.run.new.node c.args.node.set c.args.limit made.0 c.in-Ok.ensures.set made.2 made.3
-    (λ done. let both = sym (c.is_idle.ensures.1 (done_idle c.run.new.node made.0 made.2 done)) ∙ c.if-not-is_idle.true in cc)
+    under_way c.make_steps.new.node c.args.node.set c.args.limit made.0 c.in-Ok.ensures.set made.2 made.3
+    (λ done. let both = sym (c.is_idle.ensures.1 (done_idle c.make_steps.new.node made.0 made.2 done)) ∙ c.if-not-is_idle.true in cc)
 
 pub returns-in-Err-clause-too_large : goal.returns-in-Err-clause-too_large
 returns-in-Err-clause-too_large c = λ same.

@@ -1,7 +1,7 @@
 -- One step more is made.
 use Rattle.std.proofs.Common.{◌≡◌, ℕ, ◌<◌, [], Ok, ap, sym, subst}
 use Rattle.dob_node.specs.declared.node.Node.{Node}
-use Rattle.dob_node.specs.Sole.{HasMade, HasStopped}
+use Rattle.dob_node.specs.Sole.{HasMade, HasStoppedAlone}
 use Rattle.dob_node.proofs.SoleSteps.{made_applied, made_expanded}
 use Rattle.dob_node.proofs.TakenLists.{carried}
 use Rattle.dob_node.proofs.SoleStops.{stopped_sole}
@@ -11,7 +11,7 @@ pub returns-in_err-apply_own-clause-stopped : goal.returns-in_err-apply_own-clau
 returns-in_err-apply_own-clause-stopped c =
     let node = c.args.node.now in
     let why = c.in_err-apply_own.field-0.0 in
-    carried (λ given. (steps limit : ℕ) → HasMade steps node → steps < limit → HasStopped node.set limit given) c.from_residual.result why
+    carried (λ given. (steps limit : ℕ) → HasMade steps node → steps < limit → HasStoppedAlone node.set limit given) c.from_residual.result why
     c.from_residual.ensures.1 (λ steps limit made low. stopped_sole node steps limit why made low c.in_err-apply_own.ensures.stopped)
 
 pub returns-then-branch-clause-made : goal.returns-then-branch-clause-made

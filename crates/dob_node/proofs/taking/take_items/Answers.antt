@@ -1,6 +1,6 @@
 -- One item more is taken.
 use Rattle.std.proofs.Common.{◌≡◌, ◌+◌, ◌≤◌, refl, arith, sym, subst}
-use Rattle.dob_node.specs.Takes.{StopsAt, AreTakenBefore}
+use Rattle.dob_node.specs.TakenItems.{StopsAt, AreTakenBefore}
 use Rattle.dob_node.proofs.Sounds.{kept_own, kept_back}
 use Rattle.dob_node.proofs.TakenLists.{taken_next, stops_there, taken_before, carried}
 use Rattle.dob_node.proofs.taking.take_items.Goals as goal

@@ -1,7 +1,7 @@
 -- The items so far are taken, and counted; as much room is left as for those that aren't.
 use Rattle.std.proofs.Common.{◌≡◌, ◌+◌, ◌≤◌, take}
 use Rattle.dob_pieces.specs.declared.piece_set.PieceSet.{PieceSet}
-use Rattle.dob_node.specs.Takes.{AreKept, AreTaken}
+use Rattle.dob_node.specs.TakenItems.{AreKept, AreTaken}
 use Rattle.dob_node.proofs.taking.take_items.Given as goal
 
 abbrev pub invariant-loop-item : goal.invariant-loop-item

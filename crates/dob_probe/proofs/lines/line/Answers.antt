@@ -1,4 +1,4 @@
--- Where the line breaks off its class is the fault, and a consistent table gives the best line, or want of memory.
+-- Where the line breaks off its class is the fault, and a consistent table gives the best line, or lack of memory.
 use Rattle.std.proofs.Common.{Vec, Global}
 use Rattle.dob_moves.specs.declared.game_move.Move.{Move}
 use Rattle.dob_probe.proofs.Ways.{break_answered}

@@ -1,14 +1,14 @@
 -- The crew that was run has stopped: it leaves a table within the limits, or the fault says why it leaves nothing.
 use Rattle.dob_node.proofs.TakenLists.{carried}
-use Rattle.dob_run.specs.declared.turns.Until.TheVariants.{Stopped}
+use Rattle.dob_run.specs.declared.turn_loop.Until.TheVariants.{Stopped}
 use Rattle.std.proofs.Common.{ℕ, sym, subst}
 use Rattle.std.specs.Prelude.{IfOk}
 use Rattle.dob_pieces.specs.declared.piece_set.PieceSet.{PieceSet}
 use Rattle.dob_run.specs.Built.{IsBuilt}
-use Rattle.dob_run.specs.Finishing.{IsFailureOf, HaveStopped}
-use Rattle.dob_run.specs.Faults.{HasFault}
+use Rattle.dob_run.specs.BuildEnd.{IsFailureOf, HaveStopped}
+use Rattle.dob_run.specs.Faults.{HasBuildFault}
 use Rattle.dob_run.specs.Runners.{says_no}
-use Rattle.dob_run.specs.Turned.{StopsSo, IsUnheld}
+use Rattle.dob_run.specs.BoundedRun.{StopsSo, IsUnheld}
 use Rattle.dob_run.proofs.ByThreads.{still_crew, have_stopped, is_built, is_within, has_fault, is_stopped, all_let_on, if_unheld}
 use Rattle.dob_run.proofs.RunFaults.{unbegun_fault, unbegun_stops, unbegun_unheld}
 use Rattle.dob_run.proofs.build.run_nodes.Goals as goal
@@ -16,7 +16,7 @@ use Rattle.dob_run.proofs.build.run_nodes.Goals as goal
 pub returns-in_err-classes-clause-fault : goal.returns-in_err-classes-clause-fault
 returns-in_err-classes-clause-fault g c =
     let fault = c.in_err-classes.field-0.0 in
-    carried (HasFault c.args.set c.args.n c.args.batch c.args.capacity) c.from_residual.result fault c.from_residual.ensures.1
+    carried (HasBuildFault c.args.set c.args.n c.args.batch c.args.capacity) c.from_residual.result fault c.from_residual.ensures.1
     (unbegun_fault c.args.set c.args.n c.args.batch c.args.capacity fault c.in_err-classes.ensures.fault)
 
 pub returns-in_err-classes-clause-stopped : goal.returns-in_err-classes-clause-stopped

@@ -4,7 +4,7 @@ use Rattle.std.specs.Prelude.{slice_get}
 use Rattle.dob_pieces.proofs.Elements.{read_there}
 use Rattle.dob_run.specs.Rows.{AreDealt}
 use Rattle.dob_run.proofs.Places.{next_is, then_left}
-use Rattle.dob_run.proofs.Rejoining.{dealt_one}
+use Rattle.dob_run.proofs.InboxesClosed.{dealt_one}
 use Rattle.dob_run.proofs.rows.deal.Goals as goal
 
 pub loop-place-preserved : goal.loop-place-preserved

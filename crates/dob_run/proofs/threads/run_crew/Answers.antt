@@ -1,9 +1,9 @@
 -- The runners of a new crew suit the classes of its piece set, so they have run, of sizes within the limits.
 use Rattle.std.proofs.Common.{rules}
-use Rattle.dob_run.specs.Turns.{AllSuit}
+use Rattle.dob_run.specs.TurnLoop.{AllSuit}
 use Rattle.dob_run.specs.Runners.{says_no}
 use Rattle.dob_run.proofs.ByThreads.{are_let_on}
-use Rattle.dob_run.proofs.Manned.{all_suit, crew_kept}
+use Rattle.dob_run.proofs.CrewRunners.{all_suit, crew_kept}
 use Rattle.dob_run.proofs.Threaded.{all_by, all_kept}
 use Rattle.dob_run.proofs.threads.run_crew.Goals as goal
 

@@ -1,9 +1,9 @@
--- A runner for which no thread can be made keeps its place when it is handed back, and has failed, at the latest for want of memory.
+-- A runner for which no thread can be made keeps its place when it is handed back, and has failed, at the latest for lack of memory.
 use Rattle.std.proofs.Common.{◌≡◌, rules, subst}
 use Rattle.dob_node.specs.declared.cause.Cause.TheVariants.{Memory}
 use Rattle.dob_run.specs.declared.runner.Runner.{Runner}
-use Rattle.dob_run.specs.declared.turns.Until.{Until}
-use Rattle.dob_run.specs.Turns.{EndsBy}
+use Rattle.dob_run.specs.declared.turn_loop.Until.{Until}
+use Rattle.dob_run.specs.TurnLoop.{EndsBy}
 use Rattle.dob_run.specs.Runners.{KeepsRunner}
 use Rattle.dob_run.proofs.Keeping.{failed_after}
 use Rattle.dob_run.proofs.Threaded.{ended_without_memory}
@@ -26,6 +26,6 @@ returns-in_default g c =
 pub returns-in-None : goal.returns-in-None
 returns-in-None g c =
     let was : c.in-Err.handed_back.value.2 ≡ c.args.runner = λ i. (c.in-Err.ensures.err i).2 in
-    ended_without_memory (g.G.Gate.says c.args.gate.now) c.args.until.now c.args.runner c.give_up.new.self
-    (failed_after c.args.runner c.run-back.result c.give_up.new.self Memory (subst (λ (r : Runner). KeepsRunner r c.run-back.result) was c.run-back.ensures.0.0)
-    c.give_up.ensures.failed)
+    ended_without_memory (g.G.Gate.says c.args.gate.now) c.args.until.now c.args.runner c.abandon.new.self
+    (failed_after c.args.runner c.run-back.result c.abandon.new.self Memory (subst (λ (r : Runner). KeepsRunner r c.run-back.result) was c.run-back.ensures.0.0)
+    c.abandon.ensures.failed)

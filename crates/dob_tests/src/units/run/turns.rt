@@ -1,7 +1,7 @@
 // Runners that are turned by hand, one after the other, in one thread.
 ghost use Rattle.std.specs.Prelude.{◌≡◌, IfOk, OnOk, None, ◌∷◌, []};
 ghost use Rattle.dob_rank.specs.Limits.{IsSmall};
-ghost use Rattle.dob_run.specs.Manned.{IsNewCrew};
+ghost use Rattle.dob_run.specs.CrewRunners.{IsNewCrew};
 ghost use Rattle.dob_run.specs.Runners.{KeepsRunner};
 
 use super::{is_done, is_table_of_lions, lions};

@@ -2,11 +2,11 @@
 use Rattle.std.proofs.Common.{◌≡◌, ◌+◌, ◌-◌, ◌≤◌, ◌++◌, length, take}
 use Rattle.std.specs.VecDeque.{deque_len, deque_capacity}
 use Rattle.std.specs.Prelude.{map}
-use Rattle.dob_update.specs.Parts.{class_told}
+use Rattle.dob_update.specs.Parts.{target_of}
 use Rattle.dob_update.proofs.outbox.push_classes.Given as goal
 
 abbrev pub invariant-loop-item : goal.invariant-loop-item
 invariant-loop-item l = record {
-  appended : l.queue.items ≡ l.initial.queue.items ++ map class_told (take l.item-index l.items);
+  appended : l.queue.items ≡ l.initial.queue.items ++ map target_of (take l.item-index l.items);
   room : deque_len l.queue + (length l.items - l.item-index) ≤ deque_capacity l.queue;
 }

@@ -11,18 +11,18 @@ compare_exchange-found-requires c =
       search rules,
       rw (c.deref.ensures, seat.words) (omega arith),
       announces_call _ seat.nodes seat.node _ _ _ (stand_from seat.posted.items seat.taken.items seat.seen.items seat.black seat.token seat.halt)
-          seat.seat.me.0.told
+          seat.seat.me.0.witnessed
           (search rules) seat.view_is c.requires,
     )
 
 pub invariant_of-self : goal.invariant_of-self
 invariant_of-self c =
     let seat = c.args.self.now in
-    let told = announces_tell seat.nodes seat.node c.compare_exchange-found.result seat.seat.me c.compare_exchange-found.new.seat.me
-    (stand_from seat.posted.items seat.taken.items seat.seen.items seat.black seat.token seat.halt) seat.seat.me.0.told seat.view_is
+    let witnessed = announces_tell seat.nodes seat.node c.compare_exchange-found.result seat.seat.me c.compare_exchange-found.new.seat.me
+    (stand_from seat.posted.items seat.taken.items seat.seen.items seat.black seat.token seat.halt) seat.seat.me.0.witnessed seat.view_is
     c.compare_exchange-found.ensures.2 in
     let done = found_done seat.nodes seat.node _ seat.posted.items seat.taken.items seat.seen.items seat.black seat.token seat.halt c.halt_of-self.result
-    seat.seat.me.0.told c.compare_exchange-found.new.seat.me told.0 (c.halt_of-self.ensures ∙ c.halt_after.ensures) in
+    seat.seat.me.0.witnessed c.compare_exchange-found.new.seat.me witnessed.0 (c.halt_of-self.ensures ∙ c.halt_after.ensures) in
     record {
       size = seat.size;
       within = seat.within;
@@ -39,10 +39,10 @@ invariant_of-self c =
       white = λ ended. white_announced seat.nodes seat.node
           (stand_from seat.posted.items seat.taken.items seat.seen.items seat.black seat.token seat.halt)
           (stand_from seat.posted.items seat.taken.items seat.seen.items seat.black seat.token c.halt_of-self.result)
-          seat.seat.me.0.told c.compare_exchange-found.new.seat.me.0.told c.halt_of-self.result seat.halt seat.within
+          seat.seat.me.0.witnessed c.compare_exchange-found.new.seat.me.0.witnessed c.halt_of-self.result seat.halt seat.within
           (announced_done seat.nodes seat.node c.compare_exchange-found.result seat.posted.items seat.taken.items seat.seen.items seat.black seat.token
           seat.halt c.halt_of-self.result
-          seat.seat.me.0.told c.compare_exchange-found.new.seat.me.0.told told.2 told.3 (c.halt_of-self.ensures ∙ c.halt_after.ensures))
+          seat.seat.me.0.witnessed c.compare_exchange-found.new.seat.me.0.witnessed witnessed.2 witnessed.3 (c.halt_of-self.ensures ∙ c.halt_after.ensures))
           (ap halt_word ended);
       view_is = done.view_is;
     }
@@ -50,28 +50,28 @@ invariant_of-self c =
 pub returns-clause-found : goal.returns-clause-found
 returns-clause-found c =
     let seat = c.args.self.now in
-    let told = announces_tell seat.nodes seat.node c.compare_exchange-found.result seat.seat.me c.compare_exchange-found.new.seat.me
-    (stand_from seat.posted.items seat.taken.items seat.seen.items seat.black seat.token seat.halt) seat.seat.me.0.told seat.view_is
+    let witnessed = announces_tell seat.nodes seat.node c.compare_exchange-found.result seat.seat.me c.compare_exchange-found.new.seat.me
+    (stand_from seat.posted.items seat.taken.items seat.seen.items seat.black seat.token seat.halt) seat.seat.me.0.witnessed seat.view_is
     c.compare_exchange-found.ensures.2 in
     let done = found_done seat.nodes seat.node _ seat.posted.items seat.taken.items seat.seen.items seat.black seat.token seat.halt c.halt_of-self.result
-    seat.seat.me.0.told c.compare_exchange-found.new.seat.me told.0 (c.halt_of-self.ensures ∙ c.halt_after.ensures) in
+    seat.seat.me.0.witnessed c.compare_exchange-found.new.seat.me witnessed.0 (c.halt_of-self.ensures ∙ c.halt_after.ensures) in
     record { noted = refl; halt_is = refl; within = done.within; stays = done.stays }
 
 pub returns-clause-event : goal.returns-clause-event
 returns-clause-event c =
     let seat = c.args.self.now in
-    let told = announces_tell seat.nodes seat.node c.compare_exchange-found.result seat.seat.me c.compare_exchange-found.new.seat.me
-    (stand_from seat.posted.items seat.taken.items seat.seen.items seat.black seat.token seat.halt) seat.seat.me.0.told seat.view_is
+    let witnessed = announces_tell seat.nodes seat.node c.compare_exchange-found.result seat.seat.me c.compare_exchange-found.new.seat.me
+    (stand_from seat.posted.items seat.taken.items seat.seen.items seat.black seat.token seat.halt) seat.seat.me.0.witnessed seat.view_is
     c.compare_exchange-found.ensures.2 in
     announced_done seat.nodes seat.node c.compare_exchange-found.result seat.posted.items seat.taken.items seat.seen.items seat.black seat.token seat.halt
     c.halt_of-self.result
-    seat.seat.me.0.told c.compare_exchange-found.new.seat.me.0.told told.2 told.3 (c.halt_of-self.ensures ∙ c.halt_after.ensures)
+    seat.seat.me.0.witnessed c.compare_exchange-found.new.seat.me.0.witnessed witnessed.2 witnessed.3 (c.halt_of-self.ensures ∙ c.halt_after.ensures)
 
 pub returns-clause-own : goal.returns-clause-own
 returns-clause-own c =
     let seat = c.args.self.now in
-    let told = announces_tell seat.nodes seat.node c.compare_exchange-found.result seat.seat.me c.compare_exchange-found.new.seat.me
-    (stand_from seat.posted.items seat.taken.items seat.seen.items seat.black seat.token seat.halt) seat.seat.me.0.told seat.view_is
+    let witnessed = announces_tell seat.nodes seat.node c.compare_exchange-found.result seat.seat.me c.compare_exchange-found.new.seat.me
+    (stand_from seat.posted.items seat.taken.items seat.seen.items seat.black seat.token seat.halt) seat.seat.me.0.witnessed seat.view_is
     c.compare_exchange-found.ensures.2 in
     knew_done seat.node _ seat.posted.items seat.taken.items seat.seen.items seat.black seat.token seat.halt c.halt_of-self.result
-    told.1 (c.halt_of-self.ensures ∙ c.halt_after.ensures)
+    witnessed.1 (c.halt_of-self.ensures ∙ c.halt_after.ensures)

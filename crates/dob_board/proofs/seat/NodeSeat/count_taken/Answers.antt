@@ -13,7 +13,7 @@ fetch_add-requires c =
       search rules,
       rw (c.deref.ensures, seat.words, c.taken_index-word.ensures) (taken_within seat.nodes c.args.from seat.node c.requires.node seat.within),
       takes_call _ seat.nodes seat.node c.args.from _ _ _ _
-          (stand_from seat.posted.items seat.taken.items seat.seen.items seat.black seat.token seat.halt) seat.seat.me.0.told
+          (stand_from seat.posted.items seat.taken.items seat.seen.items seat.black seat.token seat.halt) seat.seat.me.0.witnessed
           (search rules) seat.view_is c.taken_index-word.ensures seat.within c.requires.node c.requires.waiting,
     )
 
@@ -32,7 +32,7 @@ invariant_of-self c =
     let seat = c.args.self.now in
     let done =
     takes_done seat.nodes seat.node c.args.from c.taken_index-word.result c.fetch_add.result c.index_mut.result.now seat.seat.me c.fetch_add.new.seat.me
-    seat.posted.items seat.taken.items seat.seen.items seat.black seat.token seat.halt seat.seat.me.0.told
+    seat.posted.items seat.taken.items seat.seen.items seat.black seat.token seat.halt seat.seat.me.0.witnessed
     seat.view_is c.taken_index-word.ensures seat.within c.requires.node (search rules) c.index_mut.ensures.value c.fetch_add.ensures.2 in
     record {
       size = seat.size;
@@ -47,7 +47,7 @@ invariant_of-self c =
       few_taken = done.few.taken;
       in_bounds = seat.in_bounds;
       halt_within = seat.halt_within;
-      white = λ ended. absurd (takes_before seat.nodes seat.node c.args.from _ _ seat.seat.me.0.told _ done.made (ap halt_word ended));
+      white = λ ended. absurd (takes_before seat.nodes seat.node c.args.from _ _ seat.seat.me.0.witnessed _ done.made (ap halt_word ended));
       view_is = done.view_is;
     }
 
@@ -56,6 +56,6 @@ returns-clause-event c =
     let seat = c.args.self.now in
     let done =
     takes_done seat.nodes seat.node c.args.from c.taken_index-word.result c.fetch_add.result c.index_mut.result.now seat.seat.me c.fetch_add.new.seat.me
-    seat.posted.items seat.taken.items seat.seen.items seat.black seat.token seat.halt seat.seat.me.0.told
+    seat.posted.items seat.taken.items seat.seen.items seat.black seat.token seat.halt seat.seat.me.0.witnessed
     seat.view_is c.taken_index-word.ensures seat.within c.requires.node (search rules) c.index_mut.ensures.value c.fetch_add.ensures.2 in
     done.made

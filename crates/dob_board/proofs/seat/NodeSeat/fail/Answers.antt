@@ -12,18 +12,18 @@ compare_exchange-found-requires c =
       search rules,
       rw (c.deref.ensures, seat.words) (omega arith),
       fails_call _ seat.nodes seat.node _ _ _ _ (stand_from seat.posted.items seat.taken.items seat.seen.items seat.black seat.token seat.halt)
-          seat.seat.me.0.told
+          seat.seat.me.0.witnessed
           (search rules) seat.view_is (omega arith),
     )
 
 pub invariant_of-self : goal.invariant_of-self
 invariant_of-self c =
     let seat = c.args.self.now in
-    let told = fails_tell seat.nodes seat.node c.compare_exchange-found.result _ seat.seat.me c.compare_exchange-found.new.seat.me
-    (stand_from seat.posted.items seat.taken.items seat.seen.items seat.black seat.token seat.halt) seat.seat.me.0.told seat.view_is
+    let witnessed = fails_tell seat.nodes seat.node c.compare_exchange-found.result _ seat.seat.me c.compare_exchange-found.new.seat.me
+    (stand_from seat.posted.items seat.taken.items seat.seen.items seat.black seat.token seat.halt) seat.seat.me.0.witnessed seat.view_is
     (omega arith) c.compare_exchange-found.ensures.2 in
     let done = found_done seat.nodes seat.node _ seat.posted.items seat.taken.items seat.seen.items seat.black seat.token seat.halt c.halt_of-self.result
-    seat.seat.me.0.told c.compare_exchange-found.new.seat.me told.0 (c.halt_of-self.ensures ∙ c.halt_after.ensures) in
+    seat.seat.me.0.witnessed c.compare_exchange-found.new.seat.me witnessed.0 (c.halt_of-self.ensures ∙ c.halt_after.ensures) in
     let found = halt_at c.compare_exchange-found.result in
     record {
       size = seat.size;
@@ -40,9 +40,9 @@ invariant_of-self c =
       halt_within = done.within;
       white = λ ended. white_heard seat.nodes seat.node
           (stand_from seat.posted.items seat.taken.items seat.seen.items seat.black seat.token c.halt_of-self.result)
-          seat.seat.me.0.told c.compare_exchange-found.new.seat.me.0.told (HasHalt (halt_word found.0)) seat.within
+          seat.seat.me.0.witnessed c.compare_exchange-found.new.seat.me.0.witnessed (HasHalt (halt_word found.0)) seat.within
           (heard_halt seat.nodes seat.node _ _ seat.posted.items seat.taken.items seat.seen.items seat.black seat.token seat.halt
-          found.0 c.halt_of-self.result seat.seat.me.0.told c.compare_exchange-found.new.seat.me.0.told told.2 found.1
+          found.0 c.halt_of-self.result seat.seat.me.0.witnessed c.compare_exchange-found.new.seat.me.0.witnessed witnessed.2 found.1
           (c.halt_of-self.ensures ∙ c.halt_after.ensures))
           (ap halt_word ended);
       view_is = done.view_is;
@@ -51,26 +51,26 @@ invariant_of-self c =
 pub returns-clause-found : goal.returns-clause-found
 returns-clause-found c =
     let seat = c.args.self.now in
-    let told = fails_tell seat.nodes seat.node c.compare_exchange-found.result _ seat.seat.me c.compare_exchange-found.new.seat.me
-    (stand_from seat.posted.items seat.taken.items seat.seen.items seat.black seat.token seat.halt) seat.seat.me.0.told seat.view_is
+    let witnessed = fails_tell seat.nodes seat.node c.compare_exchange-found.result _ seat.seat.me c.compare_exchange-found.new.seat.me
+    (stand_from seat.posted.items seat.taken.items seat.seen.items seat.black seat.token seat.halt) seat.seat.me.0.witnessed seat.view_is
     (omega arith) c.compare_exchange-found.ensures.2 in
     let done = found_done seat.nodes seat.node _ seat.posted.items seat.taken.items seat.seen.items seat.black seat.token seat.halt c.halt_of-self.result
-    seat.seat.me.0.told c.compare_exchange-found.new.seat.me told.0 (c.halt_of-self.ensures ∙ c.halt_after.ensures) in
+    seat.seat.me.0.witnessed c.compare_exchange-found.new.seat.me witnessed.0 (c.halt_of-self.ensures ∙ c.halt_after.ensures) in
     record { noted = refl; halt_is = refl; within = done.within; stays = done.stays }
 
-pub returns-clause-heard : goal.returns-clause-heard
-returns-clause-heard c =
+pub returns-clause-observed : goal.returns-clause-observed
+returns-clause-observed c =
     let seat = c.args.self.now in
-    let told = fails_tell seat.nodes seat.node c.compare_exchange-found.result _ seat.seat.me c.compare_exchange-found.new.seat.me
-    (stand_from seat.posted.items seat.taken.items seat.seen.items seat.black seat.token seat.halt) seat.seat.me.0.told seat.view_is
+    let witnessed = fails_tell seat.nodes seat.node c.compare_exchange-found.result _ seat.seat.me c.compare_exchange-found.new.seat.me
+    (stand_from seat.posted.items seat.taken.items seat.seen.items seat.black seat.token seat.halt) seat.seat.me.0.witnessed seat.view_is
     (omega arith) c.compare_exchange-found.ensures.2 in
     let found = halt_at c.compare_exchange-found.result in
     let word_is : halt_word c.halt_of-self.result ≡ halt_after c.compare_exchange-found.result (2 + seat.node) =
     c.halt_of-self.ensures ∙ c.halt_after.ensures in
     record {
       found = found.0;
-      heard = heard_halt seat.nodes seat.node _ _ seat.posted.items seat.taken.items seat.seen.items seat.black seat.token seat.halt
-          found.0 c.halt_of-self.result seat.seat.me.0.told c.compare_exchange-found.new.seat.me.0.told told.2 found.1
+      observed = heard_halt seat.nodes seat.node _ _ seat.posted.items seat.taken.items seat.seen.items seat.black seat.token seat.halt
+          found.0 c.halt_of-self.result seat.seat.me.0.witnessed c.compare_exchange-found.new.seat.me.0.witnessed witnessed.2 found.1
           (c.halt_of-self.ensures ∙ c.halt_after.ensures);
       answer = failed_answer seat.node c.compare_exchange-found.result found.0 c.halt_of-self.result found.1 word_is;
     }
@@ -78,23 +78,23 @@ returns-clause-heard c =
 pub returns-clause-unannounced : goal.returns-clause-unannounced
 returns-clause-unannounced c =
     let seat = c.args.self.now in
-    let told = fails_tell seat.nodes seat.node c.compare_exchange-found.result _ seat.seat.me c.compare_exchange-found.new.seat.me
-    (stand_from seat.posted.items seat.taken.items seat.seen.items seat.black seat.token seat.halt) seat.seat.me.0.told seat.view_is
+    let witnessed = fails_tell seat.nodes seat.node c.compare_exchange-found.result _ seat.seat.me c.compare_exchange-found.new.seat.me
+    (stand_from seat.posted.items seat.taken.items seat.seen.items seat.black seat.token seat.halt) seat.seat.me.0.witnessed seat.view_is
     (omega arith) c.compare_exchange-found.ensures.2 in
     knew_end_done seat.node _ seat.posted.items seat.taken.items seat.seen.items seat.black seat.token seat.halt c.halt_of-self.result
-    told.1 (c.halt_of-self.ensures ∙ c.halt_after.ensures)
+    witnessed.1 (c.halt_of-self.ensures ∙ c.halt_after.ensures)
 
 pub returns-clause-black : goal.returns-clause-black
 returns-clause-black c black ended =
     let seat = c.args.self.now in
-    let told = fails_tell seat.nodes seat.node c.compare_exchange-found.result _ seat.seat.me c.compare_exchange-found.new.seat.me
-    (stand_from seat.posted.items seat.taken.items seat.seen.items seat.black seat.token seat.halt) seat.seat.me.0.told seat.view_is
+    let witnessed = fails_tell seat.nodes seat.node c.compare_exchange-found.result _ seat.seat.me c.compare_exchange-found.new.seat.me
+    (stand_from seat.posted.items seat.taken.items seat.seen.items seat.black seat.token seat.halt) seat.seat.me.0.witnessed seat.view_is
     (omega arith) c.compare_exchange-found.ensures.2 in
     let found = halt_at c.compare_exchange-found.result in
     black_hears seat.nodes seat.node
     (stand_from seat.posted.items seat.taken.items seat.seen.items seat.black seat.token c.halt_of-self.result)
-    seat.seat.me.0.told c.compare_exchange-found.new.seat.me.0.told (HasHalt (halt_word found.0)) seat.within
+    seat.seat.me.0.witnessed c.compare_exchange-found.new.seat.me.0.witnessed (HasHalt (halt_word found.0)) seat.within
     (heard_halt seat.nodes seat.node _ _ seat.posted.items seat.taken.items seat.seen.items seat.black seat.token seat.halt
-    found.0 c.halt_of-self.result seat.seat.me.0.told c.compare_exchange-found.new.seat.me.0.told told.2 found.1
+    found.0 c.halt_of-self.result seat.seat.me.0.witnessed c.compare_exchange-found.new.seat.me.0.witnessed witnessed.2 found.1
     (c.halt_of-self.ensures ∙ c.halt_after.ensures))
     black (ap halt_word ended)

@@ -12,19 +12,19 @@ load-word-requires c =
       search rules,
       rw (c.deref.ensures, seat.words) (omega arith),
       halts_call _ seat.nodes seat.node _ _ _ (stand_from seat.posted.items seat.taken.items seat.seen.items seat.black seat.token seat.halt)
-          seat.seat.me.0.told
+          seat.seat.me.0.witnessed
           (search rules) seat.view_is,
     )
 
 pub invariant_of-self : goal.invariant_of-self
 invariant_of-self c =
     let seat = c.args.self.now in
-    let told = halts_tell seat.nodes seat.node c.load-word.result seat.seat.me c.load-word.new.seat.me
-    (stand_from seat.posted.items seat.taken.items seat.seen.items seat.black seat.token seat.halt) seat.seat.me.0.told seat.view_is c.load-word.ensures.2 in
+    let witnessed = halts_tell seat.nodes seat.node c.load-word.result seat.seat.me c.load-word.new.seat.me
+    (stand_from seat.posted.items seat.taken.items seat.seen.items seat.black seat.token seat.halt) seat.seat.me.0.witnessed seat.view_is c.load-word.ensures.2 in
     let done =
     found_done seat.nodes seat.node c.load-word.result seat.posted.items seat.taken.items seat.seen.items seat.black seat.token seat.halt
     c.halt_of-self.result
-    seat.seat.me.0.told c.load-word.new.seat.me told.0 c.halt_of-self.ensures in
+    seat.seat.me.0.witnessed c.load-word.new.seat.me witnessed.0 c.halt_of-self.ensures in
     record {
       size = seat.size;
       within = seat.within;
@@ -40,9 +40,9 @@ invariant_of-self c =
       halt_within = done.within;
       white = λ ended. white_heard seat.nodes seat.node
           (stand_from seat.posted.items seat.taken.items seat.seen.items seat.black seat.token c.halt_of-self.result)
-          seat.seat.me.0.told c.load-word.new.seat.me.0.told (HasHalt (halt_word c.halt_of-self.result)) seat.within
+          seat.seat.me.0.witnessed c.load-word.new.seat.me.0.witnessed (HasHalt (halt_word c.halt_of-self.result)) seat.within
           (heard_halt seat.nodes seat.node _ _ seat.posted.items seat.taken.items seat.seen.items seat.black seat.token seat.halt
-          c.halt_of-self.result c.halt_of-self.result seat.seat.me.0.told c.load-word.new.seat.me.0.told told.3 c.halt_of-self.ensures c.halt_of-self.ensures)
+          c.halt_of-self.result c.halt_of-self.result seat.seat.me.0.witnessed c.load-word.new.seat.me.0.witnessed witnessed.3 c.halt_of-self.ensures c.halt_of-self.ensures)
           (ap halt_word ended);
       view_is = done.view_is;
     }
@@ -50,46 +50,46 @@ invariant_of-self c =
 pub returns-clause-found : goal.returns-clause-found
 returns-clause-found c =
     let seat = c.args.self.now in
-    let told = halts_tell seat.nodes seat.node c.load-word.result seat.seat.me c.load-word.new.seat.me
-    (stand_from seat.posted.items seat.taken.items seat.seen.items seat.black seat.token seat.halt) seat.seat.me.0.told seat.view_is c.load-word.ensures.2 in
+    let witnessed = halts_tell seat.nodes seat.node c.load-word.result seat.seat.me c.load-word.new.seat.me
+    (stand_from seat.posted.items seat.taken.items seat.seen.items seat.black seat.token seat.halt) seat.seat.me.0.witnessed seat.view_is c.load-word.ensures.2 in
     let done =
     found_done seat.nodes seat.node c.load-word.result seat.posted.items seat.taken.items seat.seen.items seat.black seat.token seat.halt
     c.halt_of-self.result
-    seat.seat.me.0.told c.load-word.new.seat.me told.0 c.halt_of-self.ensures in
+    seat.seat.me.0.witnessed c.load-word.new.seat.me witnessed.0 c.halt_of-self.ensures in
     record { noted = refl; halt_is = refl; within = done.within; stays = done.stays }
 
-pub returns-clause-heard : goal.returns-clause-heard
-returns-clause-heard c =
+pub returns-clause-observed : goal.returns-clause-observed
+returns-clause-observed c =
     let seat = c.args.self.now in
-    let told = halts_tell seat.nodes seat.node c.load-word.result seat.seat.me c.load-word.new.seat.me
-    (stand_from seat.posted.items seat.taken.items seat.seen.items seat.black seat.token seat.halt) seat.seat.me.0.told seat.view_is c.load-word.ensures.2 in
+    let witnessed = halts_tell seat.nodes seat.node c.load-word.result seat.seat.me c.load-word.new.seat.me
+    (stand_from seat.posted.items seat.taken.items seat.seen.items seat.black seat.token seat.halt) seat.seat.me.0.witnessed seat.view_is c.load-word.ensures.2 in
     heard_halt seat.nodes seat.node _ _ seat.posted.items seat.taken.items seat.seen.items seat.black seat.token seat.halt
-    c.halt_of-self.result c.halt_of-self.result seat.seat.me.0.told c.load-word.new.seat.me.0.told told.3 c.halt_of-self.ensures c.halt_of-self.ensures
+    c.halt_of-self.result c.halt_of-self.result seat.seat.me.0.witnessed c.load-word.new.seat.me.0.witnessed witnessed.3 c.halt_of-self.ensures c.halt_of-self.ensures
 
 pub returns-clause-own : goal.returns-clause-own
 returns-clause-own c =
     let seat = c.args.self.now in
-    let told = halts_tell seat.nodes seat.node c.load-word.result seat.seat.me c.load-word.new.seat.me
-    (stand_from seat.posted.items seat.taken.items seat.seen.items seat.black seat.token seat.halt) seat.seat.me.0.told seat.view_is c.load-word.ensures.2 in
+    let witnessed = halts_tell seat.nodes seat.node c.load-word.result seat.seat.me c.load-word.new.seat.me
+    (stand_from seat.posted.items seat.taken.items seat.seen.items seat.black seat.token seat.halt) seat.seat.me.0.witnessed seat.view_is c.load-word.ensures.2 in
     knew_done seat.node c.load-word.result seat.posted.items seat.taken.items seat.seen.items seat.black seat.token seat.halt c.halt_of-self.result
-    told.1 c.halt_of-self.ensures
+    witnessed.1 c.halt_of-self.ensures
 
 pub returns-clause-unannounced : goal.returns-clause-unannounced
 returns-clause-unannounced c =
     let seat = c.args.self.now in
-    let told = halts_tell seat.nodes seat.node c.load-word.result seat.seat.me c.load-word.new.seat.me
-    (stand_from seat.posted.items seat.taken.items seat.seen.items seat.black seat.token seat.halt) seat.seat.me.0.told seat.view_is c.load-word.ensures.2 in
+    let witnessed = halts_tell seat.nodes seat.node c.load-word.result seat.seat.me c.load-word.new.seat.me
+    (stand_from seat.posted.items seat.taken.items seat.seen.items seat.black seat.token seat.halt) seat.seat.me.0.witnessed seat.view_is c.load-word.ensures.2 in
     knew_end_done seat.node c.load-word.result seat.posted.items seat.taken.items seat.seen.items seat.black seat.token seat.halt c.halt_of-self.result
-    told.2 c.halt_of-self.ensures
+    witnessed.2 c.halt_of-self.ensures
 
 pub returns-clause-black : goal.returns-clause-black
 returns-clause-black c black ended =
     let seat = c.args.self.now in
-    let told = halts_tell seat.nodes seat.node c.load-word.result seat.seat.me c.load-word.new.seat.me
-    (stand_from seat.posted.items seat.taken.items seat.seen.items seat.black seat.token seat.halt) seat.seat.me.0.told seat.view_is c.load-word.ensures.2 in
+    let witnessed = halts_tell seat.nodes seat.node c.load-word.result seat.seat.me c.load-word.new.seat.me
+    (stand_from seat.posted.items seat.taken.items seat.seen.items seat.black seat.token seat.halt) seat.seat.me.0.witnessed seat.view_is c.load-word.ensures.2 in
     black_hears seat.nodes seat.node
     (stand_from seat.posted.items seat.taken.items seat.seen.items seat.black seat.token c.halt_of-self.result)
-    seat.seat.me.0.told c.load-word.new.seat.me.0.told (HasHalt (halt_word c.halt_of-self.result)) seat.within
+    seat.seat.me.0.witnessed c.load-word.new.seat.me.0.witnessed (HasHalt (halt_word c.halt_of-self.result)) seat.within
     (heard_halt seat.nodes seat.node _ _ seat.posted.items seat.taken.items seat.seen.items seat.black seat.token seat.halt
-    c.halt_of-self.result c.halt_of-self.result seat.seat.me.0.told c.load-word.new.seat.me.0.told told.3 c.halt_of-self.ensures c.halt_of-self.ensures)
+    c.halt_of-self.result c.halt_of-self.result seat.seat.me.0.witnessed c.load-word.new.seat.me.0.witnessed witnessed.3 c.halt_of-self.ensures c.halt_of-self.ensures)
     black (ap halt_word ended)

@@ -11,15 +11,15 @@ load-number-requires c =
       search rules,
       rw (c.deref.ensures, seat.words, c.posted_index-word.ensures) (posted_within seat.nodes c.args.from seat.node c.requires seat.within),
       looks_call _ seat.nodes seat.node c.args.from _ _ _ _
-          (stand_from seat.posted.items seat.taken.items seat.seen.items seat.black seat.token seat.halt) seat.seat.me.0.told
+          (stand_from seat.posted.items seat.taken.items seat.seen.items seat.black seat.token seat.halt) seat.seat.me.0.witnessed
           (search rules) seat.view_is c.posted_index-word.ensures seat.within c.requires,
     )
 
 pub invariant_of-self : goal.invariant_of-self
 invariant_of-self c =
     let seat = c.args.self.now in
-    let told = looks_tell seat.nodes seat.node c.args.from c.posted_index-word.result c.load-number.result seat.seat.me c.load-number.new.seat.me
-    (stand_from seat.posted.items seat.taken.items seat.seen.items seat.black seat.token seat.halt) seat.seat.me.0.told
+    let witnessed = looks_tell seat.nodes seat.node c.args.from c.posted_index-word.result c.load-number.result seat.seat.me c.load-number.new.seat.me
+    (stand_from seat.posted.items seat.taken.items seat.seen.items seat.black seat.token seat.halt) seat.seat.me.0.witnessed
     seat.view_is c.posted_index-word.ensures c.requires c.load-number.ensures.2 in
     record {
       size = seat.size;
@@ -35,32 +35,32 @@ invariant_of-self c =
       in_bounds = seat.in_bounds;
       halt_within = seat.halt_within;
       white = seat.white;
-      view_is = told.0;
+      view_is = witnessed.0;
     }
 
 pub returns-clause-not_less : goal.returns-clause-not_less
 returns-clause-not_less c =
     let seat = c.args.self.now in
-    let told = looks_tell seat.nodes seat.node c.args.from c.posted_index-word.result c.load-number.result seat.seat.me c.load-number.new.seat.me
-    (stand_from seat.posted.items seat.taken.items seat.seen.items seat.black seat.token seat.halt) seat.seat.me.0.told
+    let witnessed = looks_tell seat.nodes seat.node c.args.from c.posted_index-word.result c.load-number.result seat.seat.me c.load-number.new.seat.me
+    (stand_from seat.posted.items seat.taken.items seat.seen.items seat.black seat.token seat.halt) seat.seat.me.0.witnessed
     seat.view_is c.posted_index-word.ensures c.requires c.load-number.ensures.2 in
-    told.1
+    witnessed.1
 
 pub returns-clause-taken_first : goal.returns-clause-taken_first
 returns-clause-taken_first c =
     let seat = c.args.self.now in
-    let told = looks_tell seat.nodes seat.node c.args.from c.posted_index-word.result c.load-number.result seat.seat.me c.load-number.new.seat.me
-    (stand_from seat.posted.items seat.taken.items seat.seen.items seat.black seat.token seat.halt) seat.seat.me.0.told
+    let witnessed = looks_tell seat.nodes seat.node c.args.from c.posted_index-word.result c.load-number.result seat.seat.me c.load-number.new.seat.me
+    (stand_from seat.posted.items seat.taken.items seat.seen.items seat.black seat.token seat.halt) seat.seat.me.0.witnessed
     seat.view_is c.posted_index-word.ensures c.requires c.load-number.ensures.2 in
-    told.2
+    witnessed.2
 
-pub returns-clause-heard : goal.returns-clause-heard
-returns-clause-heard c =
+pub returns-clause-observed : goal.returns-clause-observed
+returns-clause-observed c =
     let seat = c.args.self.now in
-    let told = looks_tell seat.nodes seat.node c.args.from c.posted_index-word.result c.load-number.result seat.seat.me c.load-number.new.seat.me
-    (stand_from seat.posted.items seat.taken.items seat.seen.items seat.black seat.token seat.halt) seat.seat.me.0.told
+    let witnessed = looks_tell seat.nodes seat.node c.args.from c.posted_index-word.result c.load-number.result seat.seat.me c.load-number.new.seat.me
+    (stand_from seat.posted.items seat.taken.items seat.seen.items seat.black seat.token seat.halt) seat.seat.me.0.witnessed
     seat.view_is c.posted_index-word.ensures c.requires c.load-number.ensures.2 in
-    told.3
+    witnessed.3
 
 pub returns-clause-noted : goal.returns-clause-noted
 returns-clause-noted c = search rules fits 100

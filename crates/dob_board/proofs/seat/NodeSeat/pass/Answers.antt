@@ -5,7 +5,7 @@ use Rattle.dob_safra.specs.declared.token.Token.{Token}
 use Rattle.dob_safra.specs.declared.event.RingEvent.TheVariants.{Pass}
 use Rattle.dob_safra.specs.Tokens.{IsToken, IsPacked, passed_on}
 use Rattle.dob_board.specs.Views.{stand_from, counter_of, token_at}
-use Rattle.dob_board.specs.Histories.{Makes}
+use Rattle.dob_board.specs.Histories.{MakesEvent}
 use Rattle.dob_board.specs.Seats.{stand_of}
 use Rattle.dob_board.proofs.Allowed.{seated}
 use Rattle.dob_board.proofs.Passing.{passes_call, passes_tell, passed_fits, passed_bounds}
@@ -46,7 +46,7 @@ store-requires c =
       search rules,
       rw (c.deref.ensures, seat.words) (omega arith),
       passes_call _ seat.nodes seat.node _ _ c.pack.result _
-          (stand_from seat.posted.items seat.taken.items seat.seen.items seat.black seat.token seat.halt) c.in-Some.token seat.seat.me.0.told
+          (stand_from seat.posted.items seat.taken.items seat.seen.items seat.black seat.token seat.halt) c.in-Some.token seat.seat.me.0.witnessed
           (search rules) seat.view_is c.in-Some.is (subst (λ (t : Token). IsPacked t c.pack.result) passed_by_it c.pack.ensures),
     )
 
@@ -58,8 +58,8 @@ invariant_of-self c =
     c.passed-token.ensures ∙ ap (λ (z : ℤ). passed_on seat.nodes c.in-Some.token z seat.black) read in
     let passed_by_it : c.passed-token.result ≡ passed_on seat.nodes c.in-Some.token (counter_of (stand_of seat)) seat.black =
     passed_is ∙ ap (λ (z : ℤ). passed_on seat.nodes c.in-Some.token z seat.black) c.counter.ensures.counter in
-    let told = passes_tell seat.nodes seat.node c.pack.result seat.seat.me c.store.new.seat.me
-    (stand_from seat.posted.items seat.taken.items seat.seen.items seat.black seat.token seat.halt) c.in-Some.token seat.seat.me.0.told
+    let witnessed = passes_tell seat.nodes seat.node c.pack.result seat.seat.me c.store.new.seat.me
+    (stand_from seat.posted.items seat.taken.items seat.seen.items seat.black seat.token seat.halt) c.in-Some.token seat.seat.me.0.witnessed
     seat.view_is c.in-Some.is c.store.ensures.2 in
     let token_is = c.token_at-self.ensures ∙ ap (token_at seat.node) passed_by_it in
     record {
@@ -78,9 +78,9 @@ invariant_of-self c =
       halt_within = seat.halt_within;
       white = λ ended. refl;
       view_is =
-          told.0
+          witnessed.0
           ∙ ap (λ (t : Option Token). seated seat.nodes seat.node
-          (stand_from seat.posted.items seat.taken.items seat.seen.items false t seat.halt) c.store.new.seat.me.0.told) (sym token_is);
+          (stand_from seat.posted.items seat.taken.items seat.seen.items false t seat.halt) c.store.new.seat.me.0.witnessed) (sym token_is);
     }
 
 pub returns-clause-event : goal.returns-clause-event
@@ -91,12 +91,12 @@ returns-clause-event c =
     c.passed-token.ensures ∙ ap (λ (z : ℤ). passed_on seat.nodes c.in-Some.token z seat.black) read in
     let passed_by_it : c.passed-token.result ≡ passed_on seat.nodes c.in-Some.token (counter_of (stand_of seat)) seat.black =
     passed_is ∙ ap (λ (z : ℤ). passed_on seat.nodes c.in-Some.token z seat.black) c.counter.ensures.counter in
-    let told = passes_tell seat.nodes seat.node c.pack.result seat.seat.me c.store.new.seat.me
-    (stand_from seat.posted.items seat.taken.items seat.seen.items seat.black seat.token seat.halt) c.in-Some.token seat.seat.me.0.told
+    let witnessed = passes_tell seat.nodes seat.node c.pack.result seat.seat.me c.store.new.seat.me
+    (stand_from seat.posted.items seat.taken.items seat.seen.items seat.black seat.token seat.halt) c.in-Some.token seat.seat.me.0.witnessed
     seat.view_is c.in-Some.is c.store.ensures.2 in
     let token_is = c.token_at-self.ensures ∙ ap (token_at seat.node) passed_by_it in
-    subst (λ (t : Option Token). Makes seat.nodes seat.node (Pass seat.node) (stand_of seat)
-    (stand_from seat.posted.items seat.taken.items seat.seen.items false t seat.halt) seat.seat.me.0.told c.store.new.seat.me.0.told) (sym token_is) told.1
+    subst (λ (t : Option Token). MakesEvent seat.nodes seat.node (Pass seat.node) (stand_of seat)
+    (stand_from seat.posted.items seat.taken.items seat.seen.items false t seat.halt) seat.seat.me.0.witnessed c.store.new.seat.me.0.witnessed) (sym token_is) witnessed.1
 
 pub returns-clause-passed : goal.returns-clause-passed
 returns-clause-passed c = search rules fits 100

@@ -12,7 +12,7 @@ fetch_add-requires c =
       search rules,
       rw (c.deref.ensures, seat.words, c.posted_index-word.ensures) (posted_within seat.nodes seat.node c.args.to seat.within c.requires.node),
       posts_call _ seat.nodes seat.node c.args.to _ _ _ _
-          (stand_from seat.posted.items seat.taken.items seat.seen.items seat.black seat.token seat.halt) seat.seat.me.0.told
+          (stand_from seat.posted.items seat.taken.items seat.seen.items seat.black seat.token seat.halt) seat.seat.me.0.witnessed
           (search rules) seat.view_is c.posted_index-word.ensures c.requires.node c.requires.other c.requires.black c.requires.few,
     )
 
@@ -21,7 +21,7 @@ invariant_of-self c =
     let seat = c.args.self.now in
     let done =
     posts_done seat.nodes seat.node c.args.to c.posted_index-word.result c.fetch_add.result c.index_mut.result.now seat.seat.me c.fetch_add.new.seat.me
-    seat.posted.items seat.taken.items seat.seen.items seat.black seat.token seat.halt seat.seat.me.0.told
+    seat.posted.items seat.taken.items seat.seen.items seat.black seat.token seat.halt seat.seat.me.0.witnessed
     seat.view_is c.posted_index-word.ensures seat.within c.requires.node (search rules) c.index_mut.ensures.value c.fetch_add.ensures.2 in
     record {
       size = seat.size;
@@ -45,7 +45,7 @@ returns-clause-event c =
     let seat = c.args.self.now in
     let done =
     posts_done seat.nodes seat.node c.args.to c.posted_index-word.result c.fetch_add.result c.index_mut.result.now seat.seat.me c.fetch_add.new.seat.me
-    seat.posted.items seat.taken.items seat.seen.items seat.black seat.token seat.halt seat.seat.me.0.told
+    seat.posted.items seat.taken.items seat.seen.items seat.black seat.token seat.halt seat.seat.me.0.witnessed
     seat.view_is c.posted_index-word.ensures seat.within c.requires.node (search rules) c.index_mut.ensures.value c.fetch_add.ensures.2 in
     done.made
 

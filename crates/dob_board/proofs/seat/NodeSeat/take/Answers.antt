@@ -14,7 +14,7 @@ returns-clause-ok c =
     let read = read_there c.look-seen.new.self.taken.items seat.taken.items c.args.from c.index.result.now (ap (λ (s : Stand). s.taken) look.noted)
     (search rules) c.index.ensures in
     take_one seat c.look-seen.new.self c.count_taken.new.self c.args.from c.look-seen.result look.not_less (omega (arith, read, c.if-seen-index.false))
-    look.noted look.same c.count_taken.ensures.counted look.heard c.count_taken.ensures.event
+    look.noted look.same c.count_taken.ensures.counted look.observed c.count_taken.ensures.event
 
 pub count_taken-requires-clause-waiting : goal.count_taken-requires-clause-waiting
 count_taken-requires-clause-waiting c = grind (arith, common_steps)

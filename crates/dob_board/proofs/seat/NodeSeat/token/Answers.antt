@@ -11,7 +11,7 @@ load-word-requires c =
       search rules,
       rw (c.deref.ensures, seat.words) (omega arith),
       meets_call _ seat.nodes seat.node _ _ _ (stand_from seat.posted.items seat.taken.items seat.seen.items seat.black seat.token seat.halt)
-          seat.seat.me.0.told
+          seat.seat.me.0.witnessed
           (search rules) seat.view_is,
     )
 
@@ -21,5 +21,5 @@ unreachable-requires c = grind (arith, common_steps)
 pub returns-clause-stays : goal.returns-clause-stays
 returns-clause-stays c = grind (arith, common_steps)
 
-pub returns-clause-heard : goal.returns-clause-heard
-returns-clause-heard c = grind (arith, common_steps)
+pub returns-clause-observed : goal.returns-clause-observed
+returns-clause-observed c = grind (arith, common_steps)

@@ -15,7 +15,7 @@ returns-clause-sound c =
     (record { receivers = sound.receivers; addressed = sound.addressed; nothing_to_self = sound.nothing_to_self }) in
     record {
       kept = sound.kept;
-      told = sound.told;
+      emitted = sound.emitted;
       entries = sound.entries;
       receivers = ready.receivers;
       addressed = ready.addressed;

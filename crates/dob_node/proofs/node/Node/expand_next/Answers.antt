@@ -1,12 +1,12 @@
--- One more settlement is told, and its items have its values.
+-- One more settlement is expanded, and its items have its values.
 use Rattle.std.proofs.Common.{◌==◌, ℕ, refl, ap, ◌∙◌, ◌++◌, sym, subst}
 use Rattle.std.specs.List.{All, filter}
 use Rattle.dob_unmove.specs.Edges.{predecessors}
 use Rattle.dob_share.specs.Owners.{owner_of}
 use Rattle.dob_update.specs.Items.{items_of}
-use Rattle.dob_node.specs.Takes.{HasEntries}
+use Rattle.dob_node.specs.TakenItems.{HasEntries}
 use Rattle.dob_node.specs.Outboxes.{IsOutboxTo, outbox_in}
-use Rattle.dob_node.proofs.Sounds.{next_told, entries_more}
+use Rattle.dob_node.proofs.Sounds.{next_emitted, entries_more}
 use Rattle.dob_node.proofs.Sends.{ready_added, ready_same}
 use Rattle.dob_node.proofs.node.Node.expand_next.Goals as goal
 
@@ -33,7 +33,7 @@ returns-clause-sound c =
     (record { receivers = sound.receivers; addressed = sound.addressed; nothing_to_self = sound.nothing_to_self }) in
     record {
       kept = sound.kept;
-      told = next_told node.expanded _ _ sound.told c.len.ensures.count c.if-self-len.false;
+      emitted = next_emitted node.expanded _ _ sound.emitted c.len.ensures.count c.if-self-len.false;
       entries = entries_more s node.own.items c.push_own.new.queue.items (items_of (λ _. targets) node.n node.id s)
           (filter (λ to. owner_of node.n to == node.id) targets) c.get-settlement.ensures.was c.get-settlement.ensures.now
           sound.entries refl (c.push_own.ensures ∙ ap (λ xs. xs ++ items_of (λ _. targets) node.n node.id s) c.reserve.ensures.items);
@@ -50,7 +50,7 @@ returns-in_err-add_for_others-clause-sound c =
     (record { receivers = sound.receivers; addressed = sound.addressed; nothing_to_self = sound.nothing_to_self }) in
     record {
       kept = sound.kept;
-      told = sound.told;
+      emitted = sound.emitted;
       entries = subst (λ xs. All HasEntries xs) (sym c.reserve.ensures.items) sound.entries;
       receivers = ready.receivers;
       addressed = ready.addressed;

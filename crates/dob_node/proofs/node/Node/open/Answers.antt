@@ -5,7 +5,7 @@ use Rattle.std.proofs.lemmas.List.Elements.{All-nil}
 use Rattle.dob_update.specs.Batches.{OutboxView}
 use Rattle.dob_node.specs.Stores.{HistoryView}
 use Rattle.dob_node.specs.OpeningLists.{opening_settlements, status_in}
-use Rattle.dob_node.specs.Takes.{HasEntries}
+use Rattle.dob_node.specs.TakenItems.{HasEntries}
 use Rattle.dob_node.proofs.Opens.{places_are, opened_kept}
 use Rattle.dob_node.proofs.Sends.{addressed_empty}
 use Rattle.dob_node.proofs.node.Node.open.Goals as goal
@@ -39,7 +39,7 @@ returns-clause-sound c =
           (omega (arith, c.if-openings-from.false, c.from.ensures)) out.who out.owned out.cells out.settled
           (subst (λ (k : ℕ). c.in_ok-history.history ≡ record { id = c.args.id; n = c.args.n; settlements = opening_settlements (status_in c.args.openings.now) c.args.n c.args.id k; room = 0 })
           c.places.ensures c.in_ok-history.ensures);
-      told = omega arith;
+      emitted = omega arith;
       entries = subst (λ xs. All HasEntries xs) (sym c.new.ensures.items) (All-nil HasEntries);
       receivers = c.in_ok-outboxes.ensures.whole;
       addressed = addressed_empty c.args.set c.args.n c.args.id c.in_ok-outboxes.outboxes.items c.in_ok-outboxes.ensures.empty;

@@ -1,10 +1,10 @@
 -- What is taken is kept.
 use Rattle.std.proofs.Common.{◌∙◌, refl, sym, subst}
-use Rattle.dob_node.specs.Takes.{AreTaken, StopsAt}
+use Rattle.dob_node.specs.TakenItems.{AreTaken, StopsAt}
 use Rattle.dob_node.specs.Nodes.{HasTakenBefore}
 use Rattle.dob_node.specs.declared.cause.Cause.TheVariants as cause
 use Rattle.dob_node.proofs.Sounds.{kept_own, kept_back}
-use Rattle.dob_node.proofs.TakenLists.{carried, told_all, all_with_room, stops_with_room, kept_with_room, stops_first}
+use Rattle.dob_node.proofs.TakenLists.{carried, emitted_all, all_with_room, stops_with_room, kept_with_room, stops_first}
 use Rattle.dob_node.proofs.node.Node.take_batch.Goals as goal
 
 pub returns-in_err-reserve-clause-stopped : goal.returns-in_err-reserve-clause-stopped
@@ -62,7 +62,7 @@ returns-in_err-take_items-clause-sound c =
     record {
       kept = kept_back node.set node.n node.id node.share c.take_items.new.share c.reserve.new.self c.take_items.new.history
           (kept_with_room node.set node.n node.id node.share node.history c.reserve.new.self c.reserve.ensures.same sound.kept) c.take_items.ensures.kept;
-      told = told_all before.front node.share c.take_items.new.share node.history c.take_items.new.history node.expanded front sound.told;
+      emitted = emitted_all before.front node.share c.take_items.new.share node.history c.take_items.new.history node.expanded front sound.emitted;
       entries = sound.entries;
       receivers = sound.receivers;
       addressed = sound.addressed;
@@ -91,7 +91,7 @@ returns-clause-sound c =
     record {
       kept = kept_back node.set node.n node.id node.share c.take_items.new.share c.reserve.new.self c.take_items.new.history
           (kept_with_room node.set node.n node.id node.share node.history c.reserve.new.self c.reserve.ensures.same sound.kept) out.kept;
-      told = told_all c.items-items.result.now node.share c.take_items.new.share node.history c.take_items.new.history node.expanded all sound.told;
+      emitted = emitted_all c.items-items.result.now node.share c.take_items.new.share node.history c.take_items.new.history node.expanded all sound.emitted;
       entries = sound.entries;
       receivers = sound.receivers;
       addressed = sound.addressed;

@@ -1,9 +1,9 @@
 -- The own items applied so far and the next make one step of the runner, which fails where the next is refused; and after as
 -- many rounds as there were items none is left.
 use Rattle.std.proofs.Common.{length, arith, ◌∙◌}
-use Rattle.dob_run.specs.Rounds.{AppliesAll}
+use Rattle.dob_run.specs.TurnRounds.{AppliesAll}
 use Rattle.dob_run.proofs.Keeping.{goes_trans, broken_on}
-use Rattle.dob_run.proofs.Turning.{one_applied}
+use Rattle.dob_run.proofs.TurnParts.{one_applied}
 use Rattle.dob_run.proofs.runner.Runner.apply_all.Goals as goal
 
 pub returns-in_err-apply_one : goal.returns-in_err-apply_one
@@ -16,5 +16,5 @@ loop-preserved c =
       goes_trans c.args.self.now c.loop.self c.apply_one.new.self c.loop.invariant.0 one.goes,
       one_applied c.loop.self c.apply_one.new.self c.in_ok-apply_one.field-0 c.loop.counter (length c.args.self.now.node.own.items) one c.loop.invariant.1
           (omega (arith, c.loop-test.true, c.left_for_itself-count.ensures)),
-      one.mail ∙ c.loop.invariant.2,
+      one.endpoint ∙ c.loop.invariant.2,
     )

@@ -2,10 +2,10 @@
 use Rattle.std.proofs.Common.{Ok, refl, ap, sym, subst, inl, inr}
 use Rattle.std.proofs.lemmas.Bool.{cases_Bool}
 use Rattle.dob_node.specs.declared.node.Node.{Node}
-use Rattle.dob_run.specs.Workers.{IsLawful}
-use Rattle.dob_run.proofs.Keeping.{mail_same, links_kept, own_reason, fault_still, some_cause, node_goes, agrees_going, agrees_failed}
+use Rattle.dob_run.specs.LawfulRunners.{IsLawfulRunner}
+use Rattle.dob_run.proofs.Keeping.{endpoint_same, links_kept, own_reason, fault_still, some_cause, node_goes, agrees_going, agrees_failed}
 use Rattle.dob_run.proofs.Lawfuls.{applied_own, unchanged_failed}
-use Rattle.dob_run.proofs.Turning.{same_answer}
+use Rattle.dob_run.proofs.TurnParts.{same_answer}
 use Rattle.dob_run.proofs.runner.Runner.apply_one.Goals as goal
 
 pub apply_own-requires-clause-going : goal.apply_own-requires-clause-going
@@ -20,7 +20,7 @@ invariant_of-self-in-Err c =
       going = λ running. absurd (c.fail.ensures.stopped running);
       own = λ _ none. some_cause c.in-Err.why none;
       agrees = agrees_failed c.apply_own.new.self.failed c.in-Err.why c.in-Err.ensures.failed;
-      lawful = λ _. unchanged_failed r.set r.size r.node c.apply_own.new.self r.mail c.fail.new.self (r.lawful (inl c.requires))
+      lawful = λ _. unchanged_failed r.set r.size r.node c.apply_own.new.self r.endpoint c.fail.new.self (r.lawful (inl c.requires))
           c.in-Err.ensures.unchanged c.in-Err.ensures.sound c.fail.ensures.links c.fail.ensures.colour;
     }
 
@@ -34,15 +34,15 @@ invariant_of-self c =
       own = r.own;
       agrees = agrees_going c.apply_own.new.self.failed _ c.in-Ok.ensures.going;
       lawful = λ _. (let law = r.lawful (inl c.requires) in elim (cases_Bool c.in-Ok.applied) [
-        | inl did ↦ applied_own r.set r.size r.node c.apply_own.new.self r.mail law (c.in-Ok.ensures.applied (ap Ok did)) c.in-Ok.ensures.sound
-        | inr none_left ↦ subst (λ (n : Node). IsLawful r.set r.size n r.mail) (sym (c.in-Ok.ensures.nothing (ap Ok none_left))) law
+        | inl did ↦ applied_own r.set r.size r.node c.apply_own.new.self r.endpoint law (c.in-Ok.ensures.applied (ap Ok did)) c.in-Ok.ensures.sound
+        | inr none_left ↦ subst (λ (n : Node). IsLawfulRunner r.set r.size n r.endpoint) (sym (c.in-Ok.ensures.nothing (ap Ok none_left))) law
       ]);
     }
 
 pub returns-in-Err : goal.returns-in-Err
 returns-in-Err c = record {
   failed = record {
-    keeps = record { mail = links_kept c.args.self.now.mail c.fail.new.self c.fail.ensures.links; set = refl; size = refl };
+    keeps = record { endpoint = links_kept c.args.self.now.endpoint c.fail.new.self c.fail.ensures.links; set = refl; size = refl };
     cause = refl;
     stopped = c.fail.ensures.stopped;
   };
@@ -51,8 +51,8 @@ returns-in-Err c = record {
 
 pub returns-in-Ok : goal.returns-in-Ok
 returns-in-Ok c = record {
-  goes = record { keeps = record { mail = mail_same c.args.self.now.mail; set = refl; size = refl }; unfailed = c.requires; halt = refl };
-  mail = refl;
+  goes = record { keeps = record { endpoint = endpoint_same c.args.self.now.endpoint; set = refl; size = refl }; unfailed = c.requires; halt = refl };
+  endpoint = refl;
   done = (λ none. c.in-Ok.ensures.done.0 (ap Ok none), λ none. same_answer _ _ (c.in-Ok.ensures.done.1 none));
   applied = λ did. c.in-Ok.ensures.applied (ap Ok did);
   nothing = λ none. c.in-Ok.ensures.nothing (ap Ok none);

@@ -33,14 +33,14 @@ invariant_of-self c =
       going = λ running. absurd (c.fail.ensures.stopped running);
       own = λ _ none. some_cause c.in-Err.why none;
       agrees = agrees_failed c.cut_for.new.self.failed c.in-Err.why c.in-Err.ensures.failed;
-      lawful = λ _. unchanged_failed r.set r.size r.node c.cut_for.new.self r.mail c.fail.new.self (r.lawful (inl c.requires.unfailed))
+      lawful = λ _. unchanged_failed r.set r.size r.node c.cut_for.new.self r.endpoint c.fail.new.self (r.lawful (inl c.requires.unfailed))
           c.in-Err.ensures.unchanged c.in-Err.ensures.sound c.fail.ensures.links c.fail.ensures.colour;
     }
 
 pub returns-in-Err : goal.returns-in-Err
 returns-in-Err c = record {
   failed = record {
-    keeps = record { mail = links_kept c.args.self.now.mail c.fail.new.self c.fail.ensures.links; set = refl; size = refl };
+    keeps = record { endpoint = links_kept c.args.self.now.endpoint c.fail.new.self c.fail.ensures.links; set = refl; size = refl };
     cause = refl;
     stopped = c.fail.ensures.stopped;
   };
@@ -60,10 +60,10 @@ pub post-requires-clause-few : goal.post-requires-clause-few
 post-requires-clause-few c =
     let r = c.args.self.now in
     let law = r.lawful (inl c.requires.unfailed) in
-    let spot = some_at r.mail.outlets.items c.args.to (omega (arith, r.mail.outlets_len, c.requires.node)) in
+    let spot = some_at r.endpoint.outlets.items c.args.to (omega (arith, r.endpoint.outlets_len, c.requires.node)) in
     let few : (outbox_to r.node c.args.to).next < 2 ^ 40 = few_cut (outbox_to r.node c.args.to).next
     (λ many. cut_counts c.in-Ok.cut _ (c.in-Ok.ensures.counts.1 (λ empty. cut_none c.in-Ok.cut c.in-Some.batch c.in-Some.is (c.in-Ok.ensures.none.1 empty), many))) in
-    omega (arith, few, r.mail.posted c.args.to spot.0 spot.1, (law.sends c.args.to spot.0 c.requires.other spot.1).cut)
+    omega (arith, few, r.endpoint.posted c.args.to spot.0 spot.1, (law.sends c.args.to spot.0 c.requires.other spot.1).cut)
 
 pub post-requires-clause-own : goal.post-requires-clause-own
 post-requires-clause-own c =
@@ -78,7 +78,7 @@ invariant_of-self-2 c =
     let law = r.lawful (inl c.requires.unfailed) in
     let cut : HasCut c.args.to r.size c.in-Some.batch r.node c.cut_for.new.self =
     subst (λ given. IfSome given (λ (b : BatchView). HasCut c.args.to r.size b r.node c.cut_for.new.self)) c.in-Some.is c.in-Ok.ensures.cut in
-    let was_black : r.mail.seat.black ≡ true = elim (cases_Bool r.mail.seat.black) [
+    let was_black : r.endpoint.seat.black ≡ true = elim (cases_Bool r.endpoint.seat.black) [
       | inl black ↦ black
       | inr white ↦ absurd (cut_none c.in-Ok.cut c.in-Some.batch c.in-Some.is (c.in-Ok.ensures.none.1 ((law.white white).0.sent c.args.to)))
     ] in
@@ -86,10 +86,10 @@ invariant_of-self-2 c =
       some = r.some;
       at_most = r.at_most;
       going = λ _. c.requires.unfailed;
-      own = λ found. r.own (own_still r.mail.seat c.post.new.self.seat
-          (same_halt c.post.new.self.seat.halt r.mail.seat.halt (ap (λ (s : Stand). s.halt) c.post.ensures.counted)) c.post.ensures.same.node found);
+      own = λ found. r.own (own_still r.endpoint.seat c.post.new.self.seat
+          (same_halt c.post.new.self.seat.halt r.endpoint.seat.halt (ap (λ (s : Stand). s.halt) c.post.ensures.counted)) c.post.ensures.same.node found);
       agrees = agrees_going c.cut_for.new.self.failed _ c.in-Ok.ensures.going;
-      lawful = λ _. cut_one r.set r.size c.args.to c.in-Some.batch r.node c.cut_for.new.self r.mail c.post.new.self law c.requires.other cut c.in-Ok.ensures.sound
+      lawful = λ _. cut_one r.set r.size c.args.to c.in-Some.batch r.node c.cut_for.new.self r.endpoint c.post.new.self law c.requires.other cut c.in-Ok.ensures.sound
           c.post.ensures.same.node c.post.ensures.same.nodes (ap (λ (s : Stand). s.black) c.post.ensures.counted ∙ was_black) c.post.ensures.offered
           c.post.ensures.inlet;
     }
@@ -105,9 +105,9 @@ returns c =
     subst (λ given. IfSome given (λ (b : BatchView). HasCut c.args.to r.size b r.node c.cut_for.new.self)) c.in-Some.is c.in-Ok.ensures.cut in
     cut_more c.args.to r.size c.in-Some.batch r _
     (record {
-      keeps = record { mail = c.post.ensures.keeps; set = refl; size = refl };
+      keeps = record { endpoint = c.post.ensures.keeps; set = refl; size = refl };
       unfailed = c.requires.unfailed;
-      halt = same_halt c.post.new.self.seat.halt r.mail.seat.halt (ap (λ (s : Stand). s.halt) c.post.ensures.counted);
+      halt = same_halt c.post.new.self.seat.halt r.endpoint.seat.halt (ap (λ (s : Stand). s.halt) c.post.ensures.counted);
     })
     cut c.post.ensures.offered c.post.ensures.inlet
     (λ empty. cut_none c.in-Ok.cut c.in-Some.batch c.in-Some.is (c.in-Ok.ensures.none.1 empty))

@@ -1,8 +1,8 @@
 -- The settlements expanded so far and the next make one step, over classes of the same piece set, or a failed one.
 use Rattle.std.proofs.Common.{◌∙◌}
-use Rattle.dob_run.specs.Rounds.{ExpandsSome}
+use Rattle.dob_run.specs.TurnRounds.{ExpandsSome}
 use Rattle.dob_run.proofs.Keeping.{runner_same, goes_trans, broken_on}
-use Rattle.dob_run.proofs.Turning.{more_expanded, some_expanded}
+use Rattle.dob_run.proofs.TurnParts.{more_expanded, some_expanded}
 use Rattle.dob_run.proofs.runner.Runner.expand_all.Goals as goal
 
 pub returns-in_err-any : goal.returns-in_err-any
@@ -17,7 +17,7 @@ pub returns-then-not-more : goal.returns-then-not-more
 returns-then-not-more c =
     some_expanded c.args.self.now c.expand_one-in-loop.new.self c.is_held_up.result c.in_ok-any.any
     (goes_trans c.args.self.now c.loop.self c.expand_one-in-loop.new.self c.loop.invariant.0 c.in_ok-more.ensures.goes)
-    (c.in_ok-more.ensures.mail ∙ c.loop.invariant.2)
+    (c.in_ok-more.ensures.endpoint ∙ c.loop.invariant.2)
     (more_expanded c.loop.self c.expand_one-in-loop.new.self c.in_ok-more.more c.args.self.now.node.expanded c.in_ok-more.ensures c.loop.invariant.1)
     c.if-is_held_up.false c.is_held_up.ensures.1 c.if-not-any.false c.in_ok-any.ensures.done.1
 
@@ -25,5 +25,5 @@ pub loop-preserved : goal.loop-preserved
 loop-preserved c = (
   goes_trans c.args.self.now c.loop.self c.expand_one-in-loop.new.self c.loop.invariant.0 c.in_ok-more.ensures.goes,
   more_expanded c.loop.self c.expand_one-in-loop.new.self c.in_ok-more.more c.args.self.now.node.expanded c.in_ok-more.ensures c.loop.invariant.1,
-  c.in_ok-more.ensures.mail ∙ c.loop.invariant.2,
+  c.in_ok-more.ensures.endpoint ∙ c.loop.invariant.2,
 )

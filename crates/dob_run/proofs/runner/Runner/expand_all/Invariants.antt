@@ -4,4 +4,4 @@ use Rattle.dob_run.specs.Runners.{GoesOn}
 use Rattle.dob_run.proofs.runner.Runner.expand_all.Given as goal
 
 abbrev pub invariant-loop : goal.invariant-loop
-invariant-loop l = GoesOn l.fn.self l.self × (l.fn.self.node.expanded < l.self.node.expanded) × (l.self.mail ≡ l.fn.self.mail)
+invariant-loop l = GoesOn l.fn.self l.self × (l.fn.self.node.expanded < l.self.node.expanded) × (l.self.endpoint ≡ l.fn.self.endpoint)

@@ -8,7 +8,7 @@ use Rattle.dob_run.proofs.runner.Runner.fill_for.Goals as goal
 pub returns-then-is_full : goal.returns-then-is_full
 returns-then-is_full c =
     let r = c.args.self.now in
-    let spot = some_at r.mail.outlets.items c.args.to (omega (arith, r.mail.outlets_len, c.requires.node)) in (
+    let spot = some_at r.endpoint.outlets.items c.args.to (omega (arith, r.endpoint.outlets_len, c.requires.node)) in (
       uncut c.args.to r c.requires.unfailed,
       (λ never. absurd (cc), λ fill. absurd (c.is_full.ensures.full c.if-is_full.true spot.0 spot.1 (fill.1 spot.0 spot.1))),
     )

@@ -12,7 +12,7 @@ turn_alone-requires-clause-set g c = c.requires.set ∙ sym c.loop.invariant.0.k
 pub loop-preserved : goal.loop-preserved
 loop-preserved g c = (
   goes_trans c.args.self.now c.loop.self c.turn_alone.new.self c.loop.invariant.0 c.in-Ok.ensures.goes,
-  adds_more c.loop.counter c.args.self.now.mail c.loop.self.mail c.turn_alone.new.self.mail c.loop.invariant.0.keeps.mail c.loop.invariant.1 c.in-Ok.ensures.few,
+  adds_more c.loop.counter c.args.self.now.endpoint c.loop.self.endpoint c.turn_alone.new.self.endpoint c.loop.invariant.0.keeps.endpoint c.loop.invariant.1 c.in-Ok.ensures.few,
 )
 
 pub returns-in_default-clause-keeps : goal.returns-in_default-clause-keeps

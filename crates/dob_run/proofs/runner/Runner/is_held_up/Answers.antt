@@ -2,7 +2,7 @@
 use Rattle.std.proofs.Common.{subst, inl, inr, arith}
 use Rattle.std.proofs.lemmas.Bool.{cases_eq, both_ways}
 use Rattle.std.proofs.lemmas.Option.{slice_get_within}
-use Rattle.dob_run.specs.Rounds.{HoldsUp}
+use Rattle.dob_run.specs.TurnRounds.{HoldsUp}
 use Rattle.dob_run.proofs.runner.Runner.is_held_up.Goals as goal
 
 pub loop-to-preserved : goal.loop-to-preserved
@@ -16,5 +16,5 @@ returns c =
     let r = c.args.self.now in (
       λ never. absurd (cc),
       λ held. absurd (c.loop-to.invariant held.0
-          (omega (arith, slice_get_within r.mail.outlets.items held.0 held.1.outlet held.1.at, r.mail.outlets_len, c.loop-to-test.false)) held.1),
+          (omega (arith, slice_get_within r.endpoint.outlets.items held.0 held.1.outlet held.1.at, r.endpoint.outlets_len, c.loop-to-test.false)) held.1),
     )

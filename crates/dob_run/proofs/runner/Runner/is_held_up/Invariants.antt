@@ -1,6 +1,6 @@
 -- None so far holds it up.
 use Rattle.std.proofs.Common.{ℕ, ◌<◌}
-use Rattle.dob_run.specs.Rounds.{HoldsUp}
+use Rattle.dob_run.specs.TurnRounds.{HoldsUp}
 use Rattle.dob_run.proofs.runner.Runner.is_held_up.Given as goal
 
 abbrev pub invariant-loop-to : goal.invariant-loop-to

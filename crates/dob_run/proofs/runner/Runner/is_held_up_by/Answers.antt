@@ -7,7 +7,7 @@ use Rattle.dob_run.proofs.runner.Runner.is_held_up_by.Goals as goal
 pub returns : goal.returns
 returns c =
     let r = c.args.self.now in
-    let spot = some_at r.mail.outlets.items c.args.to (omega (arith, r.mail.outlets_len, c.requires.node)) in (
+    let spot = some_at r.endpoint.outlets.items c.args.to (omega (arith, r.endpoint.outlets_len, c.requires.node)) in (
       λ yes. record {
         outlet = spot.0;
         at = spot.1;

@@ -11,10 +11,10 @@ invariant_of-self c =
       some = r.some;
       at_most = r.at_most;
       going = λ _. c.requires;
-      own = λ found. r.own (own_before r.mail.seat c.halted.new.self.seat c.halted.ensures.own c.halted.ensures.links.seat.node found);
+      own = λ found. r.own (own_before r.endpoint.seat c.halted.new.self.seat c.halted.ensures.own c.halted.ensures.links.seat.node found);
       agrees = r.agrees;
-      lawful = λ _. recoloured r.set r.size r.node r.mail c.halted.new.self (r.lawful (inl c.requires))
+      lawful = λ _. recoloured r.set r.size r.node r.endpoint c.halted.new.self (r.lawful (inl c.requires))
           c.halted.ensures.links.seat.node c.halted.ensures.links.seat.nodes (ap (λ v. v.items) c.halted.ensures.links.outlets)
-          (same_inlet r.mail c.halted.new.self c.halted.ensures.links.inlet)
+          (same_inlet r.endpoint c.halted.new.self c.halted.ensures.links.inlet)
           (λ is. (r.lawful (inl c.requires)).white (sym c.halted.ensures.colour ∙ is));
     }

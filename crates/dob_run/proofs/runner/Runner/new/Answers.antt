@@ -1,4 +1,4 @@
--- A node that was opened and a mail that nothing has gone over make a lawful runner, which hasn't failed.
+-- A node that was opened and an endpoint that nothing has gone over make a lawful runner, which hasn't failed.
 use Rattle.std.proofs.Common.{refl}
 use Rattle.dob_run.proofs.Keeping.{agrees_going}
 use Rattle.dob_run.proofs.Lawfuls.{begun}
@@ -11,5 +11,5 @@ invariant_of-result c = record {
   going = λ _. refl;
   own = λ found. absurd (let was = c.requires.fresh.running in cc);
   agrees = agrees_going c.args.node.failed _ c.requires.fresh.opened.going;
-  lawful = λ _. begun c.args.set c.args.size c.args.node c.args.mail c.requires.fresh;
+  lawful = λ _. begun c.args.set c.args.size c.args.node c.args.endpoint c.requires.fresh;
 }

@@ -1,5 +1,5 @@
 -- The batches sent to the nodes so far and to the next make one step of the runner, which fails where the next fails.
-use Rattle.dob_run.specs.Rounds.{SendsAll}
+use Rattle.dob_run.specs.TurnRounds.{SendsAll}
 use Rattle.dob_run.proofs.Keeping.{broken_on}
 use Rattle.dob_run.proofs.Sending.{none_sent, sends_more}
 use Rattle.dob_run.proofs.runner.Runner.send_all.Goals as goal

@@ -1,5 +1,5 @@
 -- It has sent to each node so far.
-use Rattle.dob_run.specs.Rounds.{SendsBelow}
+use Rattle.dob_run.specs.TurnRounds.{SendsBelow}
 use Rattle.dob_run.proofs.runner.Runner.send_all.Given as goal
 
 abbrev pub invariant-loop-to : goal.invariant-loop-to

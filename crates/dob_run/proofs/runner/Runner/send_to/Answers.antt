@@ -1,8 +1,8 @@
 -- The hand's filling and the offer of its batch make one step, and the offer leaves the runner lawful, sent or not.
 use Rattle.std.proofs.Common.{refl, ap, ◌∙◌, inl}
-use Rattle.dob_run.specs.Rounds.{SendsTo}
+use Rattle.dob_run.specs.TurnRounds.{SendsTo}
 use Rattle.dob_run.specs.Runners.{GoesOn}
-use Rattle.dob_run.proofs.Keeping.{runner_same, broken_on, mail_trans, own_still, out_still}
+use Rattle.dob_run.proofs.Keeping.{runner_same, broken_on, endpoint_trans, own_still, out_still}
 use Rattle.dob_run.proofs.Lawfuls.{offered_again}
 use Rattle.dob_run.proofs.Sending.{own_unsent, sends_none, sends_offered}
 use Rattle.dob_run.proofs.runner.Runner.send_to.Goals as goal
@@ -15,10 +15,10 @@ invariant_of-self g c =
       some = f.some;
       at_most = f.at_most;
       going = λ _. went.unfailed;
-      own = λ found. f.own (own_still f.mail.seat c.offer.new.self.seat (ap (λ s. s.halt) c.offer.ensures.seat) (ap (λ s. s.node) c.offer.ensures.seat) found);
+      own = λ found. f.own (own_still f.endpoint.seat c.offer.new.self.seat (ap (λ s. s.halt) c.offer.ensures.seat) (ap (λ s. s.node) c.offer.ensures.seat) found);
       agrees = f.agrees;
-      lawful = λ _. offered_again f.set f.size c.args.to f.node f.mail c.offer.new.self (f.lawful (inl went.unfailed)) c.offer.ensures.seat c.offer.ensures.offered c.offer.ensures.inlet
-          (out_still f.mail c.offer.new.self (ap (λ s. s.nodes) c.offer.ensures.seat) c.offer.ensures.hands);
+      lawful = λ _. offered_again f.set f.size c.args.to f.node f.endpoint c.offer.new.self (f.lawful (inl went.unfailed)) c.offer.ensures.seat c.offer.ensures.offered c.offer.ensures.inlet
+          (out_still f.endpoint c.offer.new.self (ap (λ s. s.nodes) c.offer.ensures.seat) c.offer.ensures.hands);
     }
 
 pub returns-in_err-fill_for : goal.returns-in_err-fill_for
@@ -41,7 +41,7 @@ returns g c =
     sends_offered c.args.to c.args.small r f c.in_ok-fill_for.field-0 c.if-to-self.false fills _
     (record {
       keeps = record {
-        mail = mail_trans r.mail f.mail c.offer.new.self fills.0.goes.keeps.mail c.offer.ensures.keeps;
+        endpoint = endpoint_trans r.endpoint f.endpoint c.offer.new.self fills.0.goes.keeps.endpoint c.offer.ensures.keeps;
         set = fills.0.goes.keeps.set;
         size = fills.0.goes.keeps.size;
       };

@@ -6,9 +6,9 @@ use Rattle.dob_board.specs.declared.seat.NodeSeat.{NodeSeat}
 use Rattle.dob_node.specs.declared.node.Node.{Node}
 use Rattle.dob_node.specs.Nodes.{IsSound, IsUnchanged}
 use Rattle.dob_run.specs.declared.runner.Runner.{Runner}
-use Rattle.dob_run.specs.Workers.{IsLawful}
+use Rattle.dob_run.specs.LawfulRunners.{IsLawfulRunner}
 use Rattle.dob_run.specs.Batches.{IsBatchFor}
-use Rattle.dob_run.proofs.Keeping.{mail_trans, links_kept, own_still, some_cause, failed_first, refused_reason, node_goes, agrees_going, agrees_failed, unspared_reason, memory_reason}
+use Rattle.dob_run.proofs.Keeping.{endpoint_trans, links_kept, own_still, some_cause, failed_first, refused_reason, node_goes, agrees_going, agrees_failed, unspared_reason, memory_reason}
 use Rattle.dob_node.proofs.TakenLists.{before_since}
 use Rattle.dob_run.proofs.Applied.{worked_again, worked_else, worked_more}
 use Rattle.dob_run.proofs.Lawfuls.{recoloured, same_inlet, applied_batch, unchanged_node, unchanged_failed}
@@ -16,8 +16,8 @@ use Rattle.dob_run.proofs.Taking.{takes_none, takes_one}
 use Rattle.dob_run.proofs.runner.Runner.take_one.Goals as goal
 
 -- the node has made room, and the runner would be lawful with it
-abbrev roomy : (r : Runner) (n : Node) → r.failed ≡ None → IsUnchanged r.node n → IsSound n → IsLawful r.set r.size n r.mail
-roomy r n going same sound = unchanged_node r.set r.size r.node n r.mail (r.lawful (inl going)) same sound
+abbrev roomy : (r : Runner) (n : Node) → r.failed ≡ None → IsUnchanged r.node n → IsSound n → IsLawfulRunner r.set r.size n r.endpoint
+roomy r n going same sound = unchanged_node r.set r.size r.node n r.endpoint (r.lawful (inl going)) same sound
 
 pub reserve-requires-clause-going : goal.reserve-requires-clause-going
 reserve-requires-clause-going g c = (let r = c.args.self.now in node_goes r.node.failed r.failed r.agrees c.requires)
@@ -26,9 +26,9 @@ pub invariant_of-self : goal.invariant_of-self
 invariant_of-self g c =
     let r = c.args.self.now in
     let law = r.lawful (inl c.requires) in
-    let received = recoloured r.set r.size r.node r.mail c.receive.new.self law
+    let received = recoloured r.set r.size r.node r.endpoint c.receive.new.self law
     (ap (λ s. s.node) c.receive.ensures.seat) (ap (λ s. s.nodes) c.receive.ensures.seat) (ap (λ v. v.items) c.receive.ensures.outlets)
-    (worked_again r.mail.inlet c.receive.new.self.inlet c.receive.ensures.worked)
+    (worked_again r.endpoint.inlet c.receive.new.self.inlet c.receive.ensures.worked)
     (λ is. law.white (sym (ap (λ s. s.black) c.receive.ensures.seat) ∙ is)) in
     record {
       some = r.some;
@@ -49,13 +49,13 @@ invariant_of-self-in_default g c =
       some = r.some;
       at_most = r.at_most;
       going = λ _. c.requires;
-      own = λ found. r.own (own_still r.mail.seat c.accept.new.self.seat (c.accept.ensures.halt ∙ ap (λ s. s.halt) c.receive.ensures.seat)
+      own = λ found. r.own (own_still r.endpoint.seat c.accept.new.self.seat (c.accept.ensures.halt ∙ ap (λ s. s.halt) c.receive.ensures.seat)
           (c.accept.ensures.same.node ∙ ap (λ s. s.node) c.receive.ensures.seat) found);
       agrees = agrees_going n.failed _ c.in-Ok.ensures.going;
-      lawful = λ _. recoloured r.set r.size n r.mail c.accept.new.self law
+      lawful = λ _. recoloured r.set r.size n r.endpoint c.accept.new.self law
           (c.accept.ensures.same.node ∙ ap (λ s. s.node) c.receive.ensures.seat) (c.accept.ensures.same.nodes ∙ ap (λ s. s.nodes) c.receive.ensures.seat)
           (ap (λ v. v.items) (c.accept.ensures.outlets ∙ c.receive.ensures.outlets))
-          (λ k. same_inlet c.receive.new.self c.accept.new.self c.in_default.ensures.kept k ∙ worked_again r.mail.inlet c.receive.new.self.inlet c.receive.ensures.worked k)
+          (λ k. same_inlet c.receive.new.self c.accept.new.self c.in_default.ensures.kept k ∙ worked_again r.endpoint.inlet c.receive.new.self.inlet c.receive.ensures.worked k)
           (λ is. law.white (sym (c.in_default.ensures.uncounted.1 ∙ ap (λ s. s.black) c.receive.ensures.seat) ∙ is));
     }
 
@@ -86,13 +86,13 @@ invariant_of-self-in-Ok-apply_batch g c =
       some = r.some;
       at_most = r.at_most;
       going = λ _. c.requires;
-      own = λ found. r.own (own_still r.mail.seat c.accept.new.self.seat (c.accept.ensures.halt ∙ ap (λ s. s.halt) c.receive.ensures.seat)
+      own = λ found. r.own (own_still r.endpoint.seat c.accept.new.self.seat (c.accept.ensures.halt ∙ ap (λ s. s.halt) c.receive.ensures.seat)
           (c.accept.ensures.same.node ∙ ap (λ s. s.node) c.receive.ensures.seat) found);
       agrees = agrees_going c.apply_batch.new.self.failed _ c.in-Ok-apply_batch.ensures.going;
-      lawful = λ _. (let again = worked_again r.mail.inlet c.receive.new.self.inlet c.receive.ensures.worked in
+      lawful = λ _. (let again = worked_again r.endpoint.inlet c.receive.new.self.inlet c.receive.ensures.worked in
           let batch = c.in-Some.batch in
           let more = c.in-Some.ensures.worked.1 in
-          applied_batch r.set r.size batch.from batch n c.apply_batch.new.self r.mail c.accept.new.self law
+          applied_batch r.set r.size batch.from batch n c.apply_batch.new.self r.endpoint c.accept.new.self law
           (subst (λ (s : NodeSeat). batch.from < s.nodes) c.receive.ensures.seat c.in-Some.ensures.other.0)
           (subst (λ (s : NodeSeat). batch.from ≢ s.node) c.receive.ensures.seat c.in-Some.ensures.other.1)
           c.in-Some.ensures.fit.entries c.in-Ok-apply_batch.ensures.taken c.in-Ok-apply_batch.ensures.sound
@@ -107,7 +107,7 @@ returns-in_default g c =
     let r = c.args.self.now in
     takes_none r _ c.receive.new.self
     (record {
-      keeps = record { mail = mail_trans r.mail c.receive.new.self c.accept.new.self c.receive.ensures.keeps c.accept.ensures.keeps; set = refl; size = refl };
+      keeps = record { endpoint = endpoint_trans r.endpoint c.receive.new.self c.accept.new.self c.receive.ensures.keeps c.accept.ensures.keeps; set = refl; size = refl };
       unfailed = c.requires;
       halt = c.accept.ensures.halt ∙ ap (λ s. s.halt) c.receive.ensures.seat;
     })
@@ -119,7 +119,7 @@ returns-in-Ok-apply_batch g c =
     let r = c.args.self.now in
     takes_one r _ c.receive.new.self
     (record {
-      keeps = record { mail = mail_trans r.mail c.receive.new.self c.accept.new.self c.receive.ensures.keeps c.accept.ensures.keeps; set = refl; size = refl };
+      keeps = record { endpoint = endpoint_trans r.endpoint c.receive.new.self c.accept.new.self c.receive.ensures.keeps c.accept.ensures.keeps; set = refl; size = refl };
       unfailed = c.requires;
       halt = c.accept.ensures.halt ∙ ap (λ s. s.halt) c.receive.ensures.seat;
     })
@@ -132,7 +132,7 @@ returns g c =
     record {
       failed = record {
         keeps = record {
-          mail = mail_trans r.mail c.accept.new.self c.fail-in-Err-apply_batch.new.self (mail_trans r.mail c.receive.new.self c.accept.new.self c.receive.ensures.keeps c.accept.ensures.keeps)
+          endpoint = endpoint_trans r.endpoint c.accept.new.self c.fail-in-Err-apply_batch.new.self (endpoint_trans r.endpoint c.receive.new.self c.accept.new.self c.receive.ensures.keeps c.accept.ensures.keeps)
               (links_kept c.accept.new.self c.fail-in-Err-apply_batch.new.self c.fail-in-Err-apply_batch.ensures.links);
           set = refl;
           size = refl;
@@ -144,7 +144,7 @@ returns g c =
         was = r;
         going = c.requires;
         kept = record {
-          mail = mail_trans r.mail c.accept.new.self c.fail-in-Err-apply_batch.new.self (mail_trans r.mail c.receive.new.self c.accept.new.self c.receive.ensures.keeps c.accept.ensures.keeps)
+          endpoint = endpoint_trans r.endpoint c.accept.new.self c.fail-in-Err-apply_batch.new.self (endpoint_trans r.endpoint c.receive.new.self c.accept.new.self c.receive.ensures.keeps c.accept.ensures.keeps)
               (links_kept c.accept.new.self c.fail-in-Err-apply_batch.new.self c.fail-in-Err-apply_batch.ensures.links);
           set = refl;
           size = refl;
@@ -155,7 +155,7 @@ returns g c =
         fits = subst (λ (s : NodeSeat). IsBatchFor r.set s.nodes c.in-Some.batch.from s.node c.in-Some.batch) c.receive.ensures.seat c.in-Some.ensures.fit;
         came = same_inlet c.accept.new.self c.fail-in-Err-apply_batch.new.self c.fail-in-Err-apply_batch.ensures.links.inlet c.in-Some.batch.from
             ∙ worked_more c.receive.new.self.inlet c.accept.new.self.inlet c.in-Some.batch c.in-Some.ensures.worked.1
-            ∙ ap (λ xs. xs ++ c.in-Some.batch.items) (worked_again r.mail.inlet c.receive.new.self.inlet c.receive.ensures.worked c.in-Some.batch.from);
+            ∙ ap (λ xs. xs ++ c.in-Some.batch.items) (worked_again r.endpoint.inlet c.receive.new.self.inlet c.receive.ensures.worked c.in-Some.batch.from);
         before = before_since c.in-Some.batch.items r.node c.reserve.new.self c.apply_batch.new.self c.in-Err-apply_batch.why c.reserve.ensures.unchanged c.in-Err-apply_batch.ensures.before;
       });
     }

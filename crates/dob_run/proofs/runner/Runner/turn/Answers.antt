@@ -27,9 +27,9 @@ returns-clause-turned g c =
           (runner_trans c.args.self.now c.looks-halt.new.self c.work.new.self c.looks-halt.ensures.goes.keeps worked.keeps) ended.keeps;
       unfailed = ended.unfailed;
       halt_is = refl;
-      looked = c.looks-halt.new.self.mail.seat;
-      same = c.looks-halt.ensures.goes.keeps.mail.seat;
-      heard = c.looks-halt.ensures.heard;
+      looked = c.looks-halt.new.self.endpoint.seat;
+      same = c.looks-halt.ensures.goes.keeps.endpoint.seat;
+      observed = c.looks-halt.ensures.observed;
       first = λ stopped. absurd (stopped (sym c.looks-halt.ensures.halt ∙ goes_on));
     }
 
@@ -38,8 +38,8 @@ returns-in_default-clause-turned g c = record {
   keeps = c.looks-halt.ensures.goes.keeps;
   unfailed = c.looks-halt.ensures.goes.unfailed;
   halt_is = c.looks-halt.ensures.halt;
-  looked = c.looks-halt.new.self.mail.seat;
-  same = c.looks-halt.ensures.goes.keeps.mail.seat;
-  heard = c.looks-halt.ensures.heard;
+  looked = c.looks-halt.new.self.endpoint.seat;
+  same = c.looks-halt.ensures.goes.keeps.endpoint.seat;
+  observed = c.looks-halt.ensures.observed;
   first = λ stopped. c.looks-halt.ensures.halt;
 }

@@ -1,6 +1,6 @@
 -- Taking, expanding, applying and sending make one step of the runner, which fails where one of the four fails.
 use Rattle.std.proofs.Common.{refl, sym, ◌∙◌}
-use Rattle.dob_run.specs.Rounds.{Works}
+use Rattle.dob_run.specs.TurnRounds.{Works}
 use Rattle.dob_run.specs.Runners.{GoesOn}
 use Rattle.dob_run.proofs.Keeping.{runner_same, goes_trans, broken_on}
 use Rattle.dob_run.proofs.Pacing.{adds_one}
@@ -47,7 +47,7 @@ returns g c =
       goes = goes_trans c.args.self.now c.apply_all.new.self c.send_all.new.self applied c.in_ok-sent.ensures.goes;
       none = c.in_ok-sent.ensures.own ∙ c.in_ok-applied.ensures.none;
       few = adds_one c.args.self.now c.take_one.new.self c.apply_all.new.self c.send_all.new.self _ _ _ c.in_ok-took.ensures
-          (c.in_ok-applied.ensures.mail ∙ c.in_ok-expanded.ensures.mail) c.in_ok-sent.ensures;
+          (c.in_ok-applied.ensures.endpoint ∙ c.in_ok-expanded.ensures.endpoint) c.in_ok-sent.ensures;
       took = c.in_ok-took.took;
       expanded = c.in_ok-expanded.expanded;
       applied = c.in_ok-applied.applied;

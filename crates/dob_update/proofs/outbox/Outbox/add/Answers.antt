@@ -3,11 +3,11 @@ use Rattle.std.proofs.Common.{◌≡◌, ◌<◌, ◌^◌, List, [], ◌∷◌, 
 use Rattle.std.specs.Prelude.{map}
 use Rattle.std.proofs.lemmas.List.{map-append}
 use Rattle.dob_update.specs.declared.part.Part.{Part}
-use Rattle.dob_update.specs.Parts.{settlement_of, settlements_of, told, class_told}
+use Rattle.dob_update.specs.Parts.{settlement_of, settlements_of, items_of_parts, target_of}
 use Rattle.dob_unmove.specs.Edges.{predecessors}
 use Rattle.dob_update.specs.Items.{items_of}
 use Rattle.dob_update.specs.Batches.{OutboxView, added}
-use Rattle.dob_update.proofs.Told.{listed_more, told_added, added_is}
+use Rattle.dob_update.proofs.PartItems.{listed_more, items_added, added_is}
 use Rattle.dob_update.proofs.outbox.Outbox.add.Goals as goal
 
 pub invariant_of-self-2 : goal.invariant_of-self-2
@@ -29,19 +29,19 @@ returns-clause-ok c =
     let of_settlement : more ≡ items_of (predecessors old.set) old.n old.to s
     = subst (λ (o : OutboxView). more ≡ items_of (predecessors o.set) o.n o.to s) (sym c.self.view_is) c.requires in
     let some : 0 < length more = search rules in
-    let all = told old.parts.items old.classes.items in
+    let all = items_of_parts old.parts.items old.classes.items in
     let part : Part = record { settlement = s; items = length more } in
     let parts = c.push_back_reserved.new.self.items in
     let classes = c.push_classes.new.queue.items in
     let parts_are : parts ≡ old.parts.items ++ part ∷ []
     = c.push_back_reserved.ensures.items ∙ ap (λ (ps : List Part). ps ++ part ∷ []) c.reserve.ensures.items in
-    let classes_are : classes ≡ old.classes.items ++ map class_told more
-    = c.push_classes.ensures ∙ ap (λ xs. xs ++ map class_told more) c.reserve-2.ensures.items in
-    let items_are : told parts classes ≡ all ++ more
-    = ap (λ (ps : List Part). told ps classes) parts_are ∙ ap (λ xs. told (old.parts.items ++ part ∷ []) xs) classes_are
-    ∙ told_added old.set old.n old.to old.parts.items old.classes.items s more c.self.invariant.counted of_settlement in
+    let classes_are : classes ≡ old.classes.items ++ map target_of more
+    = c.push_classes.ensures ∙ ap (λ xs. xs ++ map target_of more) c.reserve-2.ensures.items in
+    let items_are : items_of_parts parts classes ≡ all ++ more
+    = ap (λ (ps : List Part). items_of_parts ps classes) parts_are ∙ ap (λ xs. items_of_parts (old.parts.items ++ part ∷ []) xs) classes_are
+    ∙ items_added old.set old.n old.to old.parts.items old.classes.items s more c.self.invariant.counted of_settlement in
     let listed : settlements_of parts ≡ settlements_of old.parts.items ++ s ∷ []
     = ap settlements_of parts_are ∙ map-append settlement_of old.parts.items (part ∷ []) in
     let view : OutboxView = record { set = old.set; n = old.n; from = old.from; to = old.to; settlements = settlements_of old.parts.items; skip = old.skip; items = all; next = old.next } in
-    subst (λ (o : OutboxView). (record view { settlements = settlements_of parts; items = told parts classes }) ≡ added o s more) c.self.view_is
-    (added_is view (settlements_of parts) (told parts classes) more s some listed items_are)
+    subst (λ (o : OutboxView). (record view { settlements = settlements_of parts; items = items_of_parts parts classes }) ≡ added o s more) c.self.view_is
+    (added_is view (settlements_of parts) (items_of_parts parts classes) more s some listed items_are)

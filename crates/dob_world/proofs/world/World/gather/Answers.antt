@@ -35,4 +35,4 @@ returns-clause-right c = λ rest.
 
 pub returns-clause-announced : goal.returns-clause-announced
 returns-clause-announced c = λ ended.
-    returns-clause-right c (end_is_silent (setting_of c.args.self.now) (state_of c.args.self.now) c.requires.standing.told ended).rest
+    returns-clause-right c (end_is_silent (setting_of c.args.self.now) (state_of c.args.self.now) c.requires.standing.matches ended).rest

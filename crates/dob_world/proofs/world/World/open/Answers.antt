@@ -7,7 +7,7 @@ use Rattle.dob_world.specs.Shown.{world_shown, ring_of, AreOpenedNodes, IsSettin
 use Rattle.dob_rank.specs.Limits.{IsSmall}
 use Rattle.dob_world.proofs.Starts.{places_start, falls_shown, lawful_shown, linked_start, waits_start}
 use Rattle.dob_world.proofs.Cuts.{cuts_start}
-use Rattle.dob_world.proofs.Promise.{told_start, few_start}
+use Rattle.dob_world.proofs.Promise.{matches_start, few_start}
 use Rattle.dob_world.proofs.world.World.open.Goals as goal
 
 pub returns-clause-standing : goal.returns-clause-standing
@@ -36,7 +36,7 @@ returns-clause-standing c =
         lawful = lawful_shown k openings nodes lanes some c.in_ok-openings.ensures opened c.in_ok-lanes.ensures;
         falls = falls_shown k openings nodes lanes some c.in_ok-openings.ensures opened c.in_ok-lanes.ensures;
         linked = linked_start k openings nodes lanes some c.in_ok-openings.ensures opened c.in_ok-lanes.ensures;
-        told = told_start k (record { world = world_shown k.set k.n nodes lanes; ring = ring_of detector }) setting c.in_ok-detector.ensures.start
+        matches = matches_start k (record { world = world_shown k.set k.n nodes lanes; ring = ring_of detector }) setting c.in_ok-detector.ensures.start
             (waits_start k openings nodes lanes some c.in_ok-openings.ensures opened c.in_ok-lanes.ensures);
         few = few_start c.args.n (ring_of detector) 0 c.in_ok-detector.ensures.start;
         cuts = cuts_start openings k.set k.n nodes (ring_of detector) opened c.in_ok-detector.ensures.start;

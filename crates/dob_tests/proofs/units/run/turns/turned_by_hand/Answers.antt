@@ -6,9 +6,9 @@ use Rattle.dob_rank.specs.Limits.{IsSmall}
 use Rattle.dob_board.specs.declared.board.Board.{Board}
 use Rattle.dob_board.specs.declared.halt.Halt.TheVariants.{Running}
 use Rattle.dob_run.specs.declared.runner.Runner.{Runner}
-use Rattle.dob_run.specs.Manned.{IsNewCrew}
+use Rattle.dob_run.specs.CrewRunners.{IsNewCrew}
 use Rattle.dob_run.specs.Runners.{KeepsRunner, IsReasoned, no_gate}
-use Rattle.dob_run.specs.Turns.{Ends, HasRun, until_stopped}
+use Rattle.dob_run.specs.TurnLoop.{Ends, HasRun, until_stopped}
 use Rattle.dob_run.proofs.ByThreads.{still_crew, have_stopped}
 use Rattle.dob_run.proofs.Keeping.{runner_trans}
 use Rattle.dob_tests.proofs.units.run.turns.turned_by_hand.Goals as goal
@@ -19,7 +19,7 @@ reasoned : (runner : Runner) → runner.failed ≡ None → IsReasoned no_gate r
 reasoned runner none why is = let never : Some why ≡ None = sym is ∙ none in absurd (cc)
 
 two_ran : (set : PieceSet) (board : Board) (one other first second : Runner) (ended : List Runner) → IsSmall set → IsNewCrew set 2 1 1 board (one ∷ other ∷ []) →
-    KeepsRunner one first → KeepsRunner other second → first.mail.seat.halt ≢ Running → second.mail.seat.halt ≢ Running → first.failed ≡ None → second.failed ≡ None →
+    KeepsRunner one first → KeepsRunner other second → first.endpoint.seat.halt ≢ Running → second.endpoint.seat.halt ≢ Running → first.failed ≡ None → second.failed ≡ None →
     ended ≡ first ∷ second ∷ [] → HasRun no_gate until_stopped set 2 1 1 board ended
 two_ran set board one other first second ended small opened keeps_one keeps_other stopped_one stopped_other going_one going_other is = record {
   small = small;

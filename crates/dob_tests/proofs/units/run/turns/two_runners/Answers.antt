@@ -11,7 +11,7 @@ use Rattle.dob_rank.specs.declared.fault.Fault.{Fault as RankFault}
 use Rattle.dob_rank.specs.declared.fault.Fault.TheVariants as rank
 use Rattle.dob_board.specs.declared.board.Board.{Board}
 use Rattle.dob_run.specs.declared.runner.Runner.{Runner}
-use Rattle.dob_run.specs.Manned.{IsNewCrew}
+use Rattle.dob_run.specs.CrewRunners.{IsNewCrew}
 use Rattle.dob_tests.proofs.units.run.turns.two_runners.Goals as goal
 
 opened_small : (set : PieceSet) (result : Result Classes RankFault) (classes : Classes) → result ≡ Ok classes → IfOk result (λ c. c.set ≡ set) →

@@ -1,0 +1,247 @@
+-- What a crew's runners leave when they are closed, put together from their parts.
+use Rattle.std.proofs.Common.{◌≡◌, ◌≢◌, ℕ, ◌+◌, ◌-◌, ◌*◌, ◌<◌, ◌≤◌, inl, inr, List, [], ◌∷◌, ◌++◌, Option, Some, None}
+use Rattle.std.proofs.Common.{length, map, take, drop, refl, sym, ap, ◌∙◌, subst, arith, length-append}
+use Rattle.std.proofs.Common.{Global}
+use Rattle.std.specs.Prelude.{slice_get}
+use Rattle.std.proofs.lemmas.List.{length-map, take-append-drop}
+use Rattle.std.specs.declared.vec.Vec.{Vec}
+use Rattle.std.specs.List.{AllZip}
+use Rattle.std.proofs.lemmas.Option.{slice_get_within, same_Some}
+use Rattle.std.proofs.lemmas.Bool.{cases_eq}
+use Rattle.dob_pieces.specs.declared.piece_set.PieceSet.{PieceSet}
+use Rattle.dob_share.specs.declared.news.Item.{Item}
+use Rattle.dob_update.specs.Batches.{BatchView, items_of_batches}
+use Rattle.dob_board.specs.declared.board.Board.{Board}
+use Rattle.dob_board.specs.declared.board.Closed.{Closed}
+use Rattle.dob_board.specs.Seats.{AreWords}
+use Rattle.dob_chan.specs.declared.ends.Rejoined.{Rejoined}
+use Rattle.dob_chan.specs.Ends.{sent_by, taken_of}
+use Rattle.dob_node.specs.declared.node.Node.{Node}
+use Rattle.dob_node.specs.Nodes.{outbox_to}
+use Rattle.dob_run.specs.declared.hands.Outlet.{Outlet}
+use Rattle.dob_run.specs.declared.hands.Inlet.{Inlet}
+use Rattle.dob_run.specs.declared.endpoint.Endpoint.{Endpoint}
+use Rattle.dob_run.specs.declared.runner.Runner.{Runner}
+use Rattle.dob_run.specs.declared.crew_close.Ended.{Ended}
+use Rattle.dob_run.specs.declared.bounded_run.Worker.{Worker}
+use Rattle.dob_run.specs.declared.bounded_run.Turned.{Turned}
+use Rattle.dob_run.specs.CrewClose.{AreLinked, seat_in, IsCrew, row_of, hands_out, hands_in, HasEnded}
+use Rattle.dob_run.specs.InboxClose.{outlet_hand, IsJoined}
+use Rattle.dob_run.specs.Hands.{in_hand, held_from}
+use Rattle.dob_run.specs.Knows.{KnowsRight}
+use Rattle.dob_run.specs.Links.{offered, worked_from}
+use Rattle.dob_run.specs.CrewRunners.{endpoint_of, node_of, AreRunnersFor}
+use Rattle.dob_run.specs.Runners.{KeepsRunner}
+use Rattle.dob_run.specs.BoundedRun.{IsWorker, IsLink, IsTurned, AreUnfailed, AreWorkers, HasLeft}
+use Rattle.dob_run.specs.LawfulRunners.{planned, applied_from, AreLast, SendsRight, IsLawfulRunner}
+use Rattle.dob_run.proofs.Senders.{parts, front}
+use Rattle.dob_run.proofs.Applied.{applied_here, applied_else}
+use Rattle.dob_run.proofs.CrewRunners.{zip_at, seat_there, are_linked, seat_at, crew_many, crew_low, outlet_at}
+use Rattle.dob_run.proofs.Places.{at_row, each_more, none_at, get_map, map_got, next_is, then_left, gone_all}
+
+-- ---- workers, one by one
+
+-- So many nodes have their hands, and these nodes and rows of hands are left.
+pub record IsJoining {Y Z : Type 0} (nodes : List Node) (sending : List (Vec (Option BatchView) Y)) (taking : List (Vec (Option BatchView) Z)) (nodes_left : List Node)
+    (sending_left : List (Vec (Option BatchView) Y)) (taking_left : List (Vec (Option BatchView) Z)) (workers : List Worker) : Type 0 where
+  pub done : ℕ
+  pub within : done ≤ length nodes
+  pub nodes_are : nodes_left ≡ drop done nodes
+  pub sending_are : sending_left ≡ drop done sending
+  pub taking_are : taking_left ≡ drop done taking
+  pub so_far : AreWorkers done nodes (map row_of sending) (map row_of taking) workers
+
+module _ {Y Z : Type 0} (nodes : List Node) (sending : List (Vec (Option BatchView) Y)) (taking : List (Vec (Option BatchView) Z)) where
+  pub joining_begins : (nodes_left : List Node) (sending_left : List (Vec (Option BatchView) Y)) (taking_left : List (Vec (Option BatchView) Z)) (workers : List Worker) →
+      nodes_left ≡ nodes → sending_left ≡ sending → taking_left ≡ taking → workers ≡ [] → IsJoining nodes sending taking nodes_left sending_left taking_left workers
+  joining_begins nodes_left sending_left taking_left workers n s t none = record {
+    done = 0;
+    within = omega arith;
+    nodes_are = n;
+    sending_are = s;
+    taking_are = t;
+    so_far = record {
+      count = ap length none;
+      each = λ k worker e. none_at workers k worker none e;
+    };
+  }
+
+module _ {A : Type 0} (nodes : List Node) (sending taking : List (Vec (Option BatchView) A)) where
+  pub joining_goes_on : (nodes_left after : List Node) (sending_left sending_after taking_left taking_after : List (Vec (Option BatchView) A)) (workers more : List Worker)
+      (node : Node) (out into : Vec (Option BatchView) A) (worker : Worker) → IsJoining nodes sending taking nodes_left sending_left taking_left workers →
+      nodes_left ≡ node ∷ after → sending_left ≡ out ∷ sending_after → taking_left ≡ into ∷ taking_after →
+      worker.node ≡ node → worker.sending.items ≡ out.items → worker.taking.items ≡ into.items → more ≡ workers ++ worker ∷ [] →
+      IsJoining nodes sending taking after sending_after taking_after more
+  joining_goes_on nodes_left after sending_left sending_after taking_left taking_after workers more node out into worker on n s t node_is out_is into_is more_is =
+      let at = next_is nodes after node on.done (sym on.nodes_are ∙ n) in
+      let at_out = get_map row_of sending on.done out (next_is sending sending_after out on.done (sym on.sending_are ∙ s)) in
+      let at_into = get_map row_of taking on.done into (next_is taking taking_after into on.done (sym on.taking_are ∙ t)) in
+      record {
+        done = on.done + 1;
+        within = omega (arith, slice_get_within nodes on.done node at);
+        nodes_are = then_left nodes after node on.done (sym on.nodes_are ∙ n);
+        sending_are = then_left sending sending_after out on.done (sym on.sending_are ∙ s);
+        taking_are = then_left taking taking_after into on.done (sym on.taking_are ∙ t);
+        so_far = record {
+          count = omega (arith, ap length more_is, length-append workers (worker ∷ []), on.so_far.count);
+          each = each_more _ workers more worker on.done on.so_far.count more_is on.so_far.each
+              (at ∙ ap Some (sym node_is), at_out ∙ ap Some (sym out_is), at_into ∙ ap Some (sym into_is));
+        };
+      }
+
+  pub all_joined : (nodes_left : List Node) (sending_left taking_left : List (Vec (Option BatchView) A)) (workers : List Worker) →
+      IsJoining nodes sending taking nodes_left sending_left taking_left workers → length nodes_left ≡ 0 → AreWorkers (length nodes) nodes (map row_of sending) (map row_of taking) workers
+  all_joined nodes_left sending_left taking_left workers on none =
+      subst (λ (k : ℕ). AreWorkers k nodes (map row_of sending) (map row_of taking) workers) (gone_all nodes nodes_left on.done on.nodes_are none on.within) on.so_far
+
+-- ---- what the runners leave
+
+pub left_by : (n : ℕ) (runners : List Runner) (nodes : List Node) (endpoints : List Endpoint) (ended : Ended) (turned : Turned) → nodes ≡ map node_of runners →
+    endpoints ≡ map endpoint_of runners → HasEnded n endpoints ended → AreWorkers (length nodes) nodes (map row_of ended.sending.items) (map row_of ended.taking.items) turned.workers.items →
+    turned.closed ≡ ended.closed → turned.links ≡ ended.links → HasLeft n runners turned
+left_by n runners nodes endpoints ended turned nodes_is endpoints_is ended_is workers closed links = record {
+  count = workers.count ∙ ap length nodes_is ∙ length-map runners node_of;
+  workers = λ k worker at.
+      let got = workers.each k worker at in
+      let runner = map_got node_of runners k worker.node (ap (λ (l : List Node). slice_get l k) (sym nodes_is) ∙ got.0) in
+      let endpoint_at : slice_get endpoints k ≡ Some runner.0.endpoint = ap (λ (l : List Endpoint). slice_get l k) endpoints_is ∙ get_map endpoint_of runners k runner.0 runner.1 in
+      let out : slice_get (map row_of ended.sending.items) k ≡ Some (hands_out runner.0.endpoint) =
+      ap (λ (l : List (List (Option BatchView))). slice_get l k) ended_is.sending ∙ get_map hands_out endpoints k runner.0.endpoint endpoint_at in
+      let into : slice_get (map row_of ended.taking.items) k ≡ Some (hands_in runner.0.endpoint) =
+      ap (λ (l : List (List (Option BatchView))). slice_get l k) ended_is.taking ∙ get_map hands_in endpoints k runner.0.endpoint endpoint_at in (
+        runner.0,
+        runner.1,
+        sym runner.2,
+        same_Some worker.sending.items (hands_out runner.0.endpoint) (sym got.1 ∙ out),
+        same_Some worker.taking.items (hands_in runner.0.endpoint) (sym got.2 ∙ into),
+      );
+  words = subst (λ (p : List Endpoint × Closed). AreWords n (map seat_in p.0) p.1.words.items) (λ q. (endpoints_is q, (sym closed) q)) ended_is.words;
+  links_count = ap (λ (v : Vec Rejoined Global). length v.items) links ∙ ended_is.count;
+  links = λ i j outlet inlet linked.
+      let found = ended_is.links i j outlet inlet (subst (λ (l : List Endpoint). AreLinked l i j outlet inlet) (sym endpoints_is) linked) in
+      (found.0, ap (λ (v : Vec Rejoined Global). slice_get v.items (i * n + j)) links ∙ found.1, found.2);
+}
+
+-- as many rows as nodes
+pub rows_long : {X Z : Type 0} (f : Endpoint → List X) (rows : List (Vec X Z)) (endpoints : List Endpoint) (nodes : List Node) (runners : List Runner) → map row_of rows ≡ map f endpoints →
+    endpoints ≡ map endpoint_of runners → nodes ≡ map node_of runners → length rows ≡ length nodes
+rows_long f rows endpoints nodes runners same endpoints_is nodes_is =
+    omega (arith, length-map rows row_of, ap length same, length-map endpoints f, ap length endpoints_is, length-map runners endpoint_of, length-map runners node_of, ap length nodes_is)
+
+-- the runners before that one, and that one
+pub unfailed_more : (runners : List Runner) (node : ℕ) → ((k : ℕ) (runner : Runner) → k < node → slice_get runners k ≡ Some runner → runner.failed ≡ None) →
+    ((runner : Runner) → slice_get runners node ≡ Some runner → None ≡ runner.failed) →
+    (k : ℕ) (runner : Runner) → k < node + 1 → slice_get runners k ≡ Some runner → runner.failed ≡ None
+unfailed_more runners node before last k runner low at = elim (cases_eq k node) [
+  | inl same ↦ sym (last runner (subst (λ (m : ℕ). slice_get runners m ≡ Some runner) same at))
+  | inr other ↦ before k runner (omega (arith, low, other)) at
+]
+
+-- the runners are still for that piece set and that size
+pub for_kept : (set : PieceSet) (size : ℕ) (old new : List Runner) → AreRunnersFor set size old → AllZip KeepsRunner old new → AreUnfailed new → AreRunnersFor set size new
+for_kept set size old new are kept unfailed k runner at =
+    let was = zip_at KeepsRunner old new k runner kept at in
+    let is = are k was.0 was.1 in
+    record { set_is = was.2.set ∙ is.set_is; size_is = was.2.size ∙ is.size_is; unfailed = unfailed k runner at }
+
+-- what isn't left, and what is
+own_split : (whole own : List Item) → AreLast whole own → take (length whole - length own) whole ++ own ≡ whole
+own_split whole own last =
+    ap (λ (items : List Item). take (length whole - length own) whole ++ items) (sym last) ∙ take-append-drop (length whole - length own) whole
+
+-- the items of a node that a runner has applied
+abbrev applied_by : Option Runner → ℕ → List Item
+applied_by None from = []
+applied_by (Some runner) from = applied_from runner.node runner.endpoint.inlet from
+
+module _ (board : Board) (set : PieceSet) (size : ℕ) (runners : List Runner) (turned : Turned) (crew : IsCrew board (map endpoint_of runners)) (left : HasLeft board.nodes runners turned)
+    (are : AreRunnersFor set size runners) where
+  lawful_at : (k : ℕ) (runner : Runner) → slice_get runners k ≡ Some runner → IsLawfulRunner set size runner.node runner.endpoint
+  lawful_at k runner at =
+      let is = are k runner at in
+      subst (λ (p : PieceSet × ℕ). IsLawfulRunner p.0 p.1 runner.node runner.endpoint) (λ q. (is.set_is q, is.size_is q)) (runner.lawful (inl is.unfailed))
+
+  sends_at : (i j : ℕ) (from : Runner) (outlet : Outlet) → slice_get runners i ≡ Some from → slice_get from.endpoint.outlets.items j ≡ Some outlet → i ≢ j →
+      SendsRight from.node size j (offered outlet)
+  sends_at i j from outlet at out apart =
+      (lawful_at i from at).sends j outlet (λ same. apart (sym (same ∙ (seat_at board runners crew i from at).node))) out
+
+  worker_is : (i : ℕ) (worker : Worker) (runner : Runner) → slice_get runners i ≡ Some runner → worker.node ≡ runner.node →
+      IsWorker set board.nodes i (λ from. applied_by (slice_get runners i) from) worker
+  worker_is i worker runner at node_is =
+      let law = lawful_at i runner at in
+      let id : runner.node.id ≡ i = law.of.1 ∙ (seat_at board runners crew i runner at).node in
+      let many_nodes : runner.node.n ≡ board.nodes = law.of.2 ∙ (seat_at board runners crew i runner at).nodes in
+      let own : planned runner.node i ≡ applied_by (Some runner) i ++ runner.node.own.items =
+      ap (λ (k : ℕ). planned runner.node k) (sym id) ∙ sym (own_split (planned runner.node runner.node.id) runner.node.own.items law.own)
+      ∙ ap (λ (items : List Item). items ++ runner.node.own.items) (sym (applied_here runner.node runner.endpoint.inlet i (sym id))) in
+      let knows : KnowsRight set board.nodes i runner.node.share runner.node.history.settlements (λ from. applied_by (Some runner) from) =
+      subst (λ (p : PieceSet × ℕ × ℕ). KnowsRight p.0 p.1 p.2 runner.node.share runner.node.history.settlements (λ from. applied_by (Some runner) from))
+      (λ q. (law.of.0 q, many_nodes q, id q)) law.knows in
+      let here : IsWorker set board.nodes i (λ from. applied_by (Some runner) from) worker = record {
+        of = (ap (λ (n : Node). n.set) node_is ∙ law.of.0, ap (λ (n : Node). n.id) node_is ∙ id, ap (λ (n : Node). n.n) node_is ∙ many_nodes);
+        own = subst (λ (node : Node). planned node i ≡ applied_by (Some runner) i ++ node.own.items) (sym node_is) own;
+        knows = subst (λ (node : Node). KnowsRight set board.nodes i node.share node.history.settlements (λ from. applied_by (Some runner) from)) (sym node_is) knows;
+      } in
+      subst (λ (o : Option Runner). IsWorker set board.nodes i (λ from. applied_by o from) worker) (sym at) here
+
+  applied_of : (i j : ℕ) (to : Runner) → slice_get runners j ≡ Some to → i ≢ j →
+      applied_by (slice_get runners j) i ≡ items_of_batches (worked_from to.endpoint.inlet i)
+  applied_of i j to at apart =
+      ap (λ (o : Option Runner). applied_by o i) at
+      ∙ applied_else to.node to.endpoint.inlet i (λ same. apart (same ∙ (lawful_at j to at).of.1 ∙ (seat_at board runners crew j to at).node))
+
+  link_is : (i j : ℕ) (sender taker : Worker) (from to : Runner) (outlet : Outlet) (link : Rejoined) → slice_get runners i ≡ Some from →
+      slice_get runners j ≡ Some to → sender.node ≡ from.node → sender.sending.items ≡ hands_out from.endpoint → taker.taking.items ≡ hands_in to.endpoint →
+      slice_get from.endpoint.outlets.items j ≡ Some outlet → IsJoined i outlet.end to.endpoint.inlet.end link →
+      IsLink board.nodes size turned.closed.words.items i j sender taker (applied_by (slice_get runners j) i) link
+  link_is i j sender taker from to outlet link at_i at_j node_is out_is into_is out joined =
+      let low_i = crew_low board runners crew i from at_i in
+      let low_j = crew_low board runners crew j to at_j in
+      let low : i < to.endpoint.seat.nodes = subst (λ (m : ℕ). i < m) (sym (seat_at board runners crew j to at_j).nodes) low_i in
+      let inlet : Inlet = to.endpoint.inlet in
+      record {
+        sent = sent_by outlet.end;
+        received = taken_of inlet.end i;
+        sending = outlet.hand;
+        taking = held_from inlet.hand i;
+        sending_is = ap (λ (l : List (Option BatchView)). slice_get l j) out_is ∙ get_map outlet_hand from.endpoint.outlets.items j outlet out;
+        taking_is = ap (λ (l : List (Option BatchView)). slice_get l i) into_is ∙ at_row to.endpoint.seat.nodes i inlet.hand low;
+        sent_count = joined.sent;
+        received_count = joined.received;
+        lawful = joined.lawful;
+        posted = omega (
+          arith,
+          left.words.posted i j from.endpoint.seat (seat_there runners i from at_i) low_j,
+          from.endpoint.posted j outlet out,
+          length-append (sent_by outlet.end) (in_hand outlet.hand),
+          joined.sent,
+        );
+        taken = omega (
+          arith,
+          left.words.taken j i to.endpoint.seat (seat_there runners j to at_j) low_i,
+          to.endpoint.taken i low,
+          ap length (parts inlet i),
+          length-append (worked_from inlet i) (in_hand (held_from inlet.hand i)),
+          joined.received,
+        );
+        planned_is = λ apart. subst (λ (node : Node). planned node j ≡ items_of_batches (sent_by outlet.end ++ in_hand outlet.hand) ++ (outbox_to node j).items) (sym node_is)
+            (sends_at i j from outlet at_i out apart).items;
+        small = λ apart k batch at. (sends_at i j from outlet at_i out apart).small k batch at;
+        applied_is = λ apart. applied_of i j to at_j apart ∙ ap (λ (bs : List BatchView). items_of_batches bs) (sym (front inlet i));
+      }
+
+  pub turned_is : IsTurned set board.nodes size turned
+  turned_is = record {
+    count = left.count ∙ crew_many board runners crew;
+    words = left.words.count;
+    links_count = left.links_count;
+    applied = λ i j. applied_by (slice_get runners j) i;
+    nodes = λ i worker at. let got = left.workers i worker at in worker_is i worker got.0 got.1 got.2;
+    links = λ i j sender taker at_i at_j.
+        let from = left.workers i sender at_i in
+        let to = left.workers j taker at_j in
+        let outlet = outlet_at board runners crew i j from.0 from.1 (crew_low board runners crew j to.0 to.1) in
+        let link = left.links i j outlet.0 to.0.endpoint.inlet (are_linked runners i j from.0 to.0 outlet.0 to.0.endpoint.inlet from.1 to.1 outlet.1 refl) in
+        (link.0, link.1, link_is i j sender taker from.0 to.0 outlet.0 link.0 from.1 to.1 from.2 from.3 to.4 outlet.1 link.2);
+  }

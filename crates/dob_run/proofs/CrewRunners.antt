@@ -1,0 +1,127 @@
+-- The runners of a crew's endpoints, before and after their turns.
+use Rattle.std.proofs.Common.{◌≡◌, ℕ, zero, suc, ◌<◌, List, [], ◌∷◌, length, map, Some, refl, sym, ap, ◌∙◌, subst, arith}
+use Rattle.std.specs.Prelude.{slice_get}
+use Rattle.std.proofs.lemmas.List.{length-map}
+use Rattle.std.specs.List.{AllZip}
+use Rattle.std.proofs.lemmas.Option.{slice_get_within, same_Some}
+use Rattle.dob_pieces.specs.declared.piece_set.PieceSet.{PieceSet}
+use Rattle.dob_pieces.proofs.Elements.{some_at}
+use Rattle.dob_board.specs.declared.board.Board.{Board}
+use Rattle.dob_board.specs.Seats.{IsSeatOf}
+use Rattle.dob_chan.specs.Ends.{IsEndOf}
+use Rattle.dob_run.specs.declared.hands.Outlet.{Outlet}
+use Rattle.dob_run.specs.declared.hands.Inlet.{Inlet}
+use Rattle.dob_run.specs.declared.endpoint.Endpoint.{Endpoint}
+use Rattle.dob_run.specs.declared.runner.Runner.{Runner}
+use Rattle.dob_run.specs.Links.{KeepsInlet}
+use Rattle.dob_run.specs.CrewClose.{AreLinked, seat_in, IsCrew}
+use Rattle.dob_run.specs.CrewOpen.{IsNewEndpoint, AreNewEndpoints}
+use Rattle.dob_run.specs.Runners.{KeepsRunner, IsNew}
+use Rattle.dob_run.specs.TurnLoop.{AllSuit}
+use Rattle.dob_run.specs.CrewRunners.{endpoint_of, AreRunnersFor, IsRunnerOf}
+use Rattle.dob_run.proofs.Places.{get_map, map_got}
+use Rattle.dob_run.proofs.EndpointParts.{count_is}
+
+-- what stands at a place has its other at that place
+pub zip_at : {X Y : Type 0} → (R : X → Y → Type 0) (xs : List X) (ys : List Y) (k : ℕ) (y : Y) → AllZip R xs ys → slice_get ys k ≡ Some y →
+    (x : X) × (slice_get xs k ≡ Some x) × R x y
+zip_at R [] [] k y are at = absurd (cc)
+zip_at R [] (b ∷ ys) k y are at = absurd are
+zip_at R (a ∷ xs) [] k y are at = absurd are
+zip_at R (a ∷ xs) (b ∷ ys) zero y are at = (a, refl, subst (R a) (same_Some b y at) are.0)
+zip_at R (a ∷ xs) (b ∷ ys) (suc k) y are at = zip_at R xs ys k y are.1 at
+
+pub zip_long : {X Y : Type 0} → (R : X → Y → Type 0) (xs : List X) (ys : List Y) → AllZip R xs ys → length ys ≡ length xs
+zip_long R [] [] are = refl
+zip_long R [] (b ∷ ys) are = absurd are
+zip_long R (a ∷ xs) [] are = absurd are
+zip_long R (a ∷ xs) (b ∷ ys) are = let h = zip_long R xs ys are.1 in omega (arith, h)
+
+pub endpoints_are : (set : PieceSet) (size : ℕ) (endpoints : List Endpoint) (runners : List Runner) → AllZip (IsRunnerOf set size) endpoints runners → map endpoint_of runners ≡ endpoints
+endpoints_are set size [] [] are = refl
+endpoints_are set size [] (r ∷ runners) are = absurd are
+endpoints_are set size (m ∷ endpoints) [] are = absurd are
+endpoints_are set size (m ∷ endpoints) (r ∷ runners) are = λ i. are.0.0 i ∷ endpoints_are set size endpoints runners are.1 i
+
+pub runners_are : (set : PieceSet) (size : ℕ) (endpoints : List Endpoint) (runners : List Runner) → AllZip (IsRunnerOf set size) endpoints runners → AreRunnersFor set size runners
+runners_are set size endpoints runners are k runner at = (zip_at (IsRunnerOf set size) endpoints runners k runner are at).2.1
+
+pub runners_new : (set : PieceSet) (size capacity : ℕ) (endpoints : List Endpoint) (runners : List Runner) → AllZip (IsRunnerOf set size) endpoints runners → AreNewEndpoints capacity endpoints →
+    (k : ℕ) (runner : Runner) → slice_get runners k ≡ Some runner → IsNew set runner.node runner.endpoint × IsNewEndpoint capacity runner.endpoint
+runners_new set size capacity endpoints runners are new k runner at =
+    let of = zip_at (IsRunnerOf set size) endpoints runners k runner are at in
+    (of.2.2, subst (λ (m : Endpoint). IsNewEndpoint capacity m) (sym of.2.0) (new k of.0 of.1))
+
+pub all_suit : (set : PieceSet) (size : ℕ) (runners : List Runner) → AreRunnersFor set size runners → AllSuit set runners
+all_suit set size runners are k runner at = let is = are k runner at in record { set_is = sym is.set_is; unfailed = is.unfailed }
+
+-- ---- a crew's runners
+
+pub seat_there : (runners : List Runner) (k : ℕ) (runner : Runner) → slice_get runners k ≡ Some runner →
+    slice_get (map seat_in (map endpoint_of runners)) k ≡ Some runner.endpoint.seat
+seat_there runners k runner at = get_map seat_in (map endpoint_of runners) k runner.endpoint (get_map endpoint_of runners k runner at)
+
+pub are_linked : (runners : List Runner) (i j : ℕ) (from to : Runner) (outlet : Outlet) (inlet : Inlet) → slice_get runners i ≡ Some from →
+    slice_get runners j ≡ Some to → slice_get from.endpoint.outlets.items j ≡ Some outlet → to.endpoint.inlet ≡ inlet →
+    AreLinked (map endpoint_of runners) i j outlet inlet
+are_linked runners i j from to outlet inlet sends takes out into = record {
+  sender = from.endpoint;
+  taker = to.endpoint;
+  sends = get_map endpoint_of runners i from sends;
+  takes = get_map endpoint_of runners j to takes;
+  out = out;
+  into = into;
+}
+
+-- each has the seat of its place and a link for each node, and there are as many as the board has nodes
+module _ (board : Board) (runners : List Runner) (crew : IsCrew board (map endpoint_of runners)) where
+  pub seat_at : (k : ℕ) (runner : Runner) → slice_get runners k ≡ Some runner → IsSeatOf board.rest.table_id board.nodes k runner.endpoint.seat
+  seat_at k runner at = crew.seats.seats_are k runner.endpoint.seat (seat_there runners k runner at)
+
+  pub crew_many : length runners ≡ board.nodes
+  crew_many = sym (length-map runners endpoint_of) ∙ count_is board (map endpoint_of runners) crew
+
+  pub crew_low : (k : ℕ) (runner : Runner) → slice_get runners k ≡ Some runner → k < board.nodes
+  crew_low k runner at = omega (arith, slice_get_within runners k runner at, crew_many)
+
+  pub outlet_at : (i j : ℕ) (from : Runner) → slice_get runners i ≡ Some from → j < board.nodes →
+      (outlet : Outlet) × (slice_get from.endpoint.outlets.items j ≡ Some outlet)
+  outlet_at i j from at low = some_at from.endpoint.outlets.items j (omega (arith, from.endpoint.outlets_len, (seat_at i from at).nodes, low))
+
+-- a runner of which it is known where it was before its turns
+was_at : (old new : List Runner) (k : ℕ) (endpoint : Endpoint) → AllZip KeepsRunner old new → slice_get (map endpoint_of new) k ≡ Some endpoint →
+    (before : Runner) × (after : Runner) × (slice_get old k ≡ Some before) × KeepsRunner before after × (after.endpoint ≡ endpoint)
+was_at old new k endpoint kept at =
+    let after = map_got endpoint_of new k endpoint at in
+    let before = zip_at KeepsRunner old new k after.0 kept after.1 in
+    (before.0, after.0, before.1, before.2, after.2)
+
+-- the runners of a crew are one after their turns
+pub crew_kept : (board : Board) (old new : List Runner) → IsCrew board (map endpoint_of old) → AllZip KeepsRunner old new → IsCrew board (map endpoint_of new)
+crew_kept board old new crew kept = record {
+  seats = record {
+    count = length-map (map endpoint_of new) seat_in ∙ length-map new endpoint_of ∙ zip_long KeepsRunner old new kept ∙ crew_many board old crew;
+    seats_are = λ k seat at.
+        let endpoint = map_got seat_in (map endpoint_of new) k seat at in
+        let was = was_at old new k endpoint.0 kept endpoint.1 in
+        let before = seat_at board old crew k was.0 was.2 in
+        let same = was.3.endpoint.seat in
+        subst (IsSeatOf board.rest.table_id board.nodes k) (ap (λ (m : Endpoint). m.seat) was.4 ∙ endpoint.2) (record {
+          node = same.node ∙ before.node;
+          nodes = same.nodes ∙ before.nodes;
+          board_is = same.board ∙ before.board_is;
+        });
+  };
+  paired = λ i j outlet inlet linked.
+      let from = was_at old new i linked.sender kept linked.sends in
+      let to = was_at old new j linked.taker kept linked.takes in
+      let out : slice_get from.1.endpoint.outlets.items j ≡ Some outlet = ap (λ (m : Endpoint). slice_get m.outlets.items j) from.4 ∙ linked.out in
+      let into : to.1.endpoint.inlet ≡ inlet = ap (λ (m : Endpoint). m.inlet) to.4 ∙ linked.into in
+      let outlet_before = some_at from.0.endpoint.outlets.items j
+      (omega (arith, slice_get_within from.1.endpoint.outlets.items j outlet out, from.1.endpoint.outlets_len, from.0.endpoint.outlets_len, from.3.endpoint.seat.nodes)) in
+      let sends = from.3.endpoint.outlets j outlet_before.0 outlet outlet_before.1 out in
+      let takes = subst (λ (i : Inlet). KeepsInlet to.0.endpoint.inlet i) into to.3.endpoint.inlet in
+      let were : IsEndOf to.0.endpoint.inlet.end i outlet_before.0.end = crew.paired i j outlet_before.0 to.0.endpoint.inlet
+      (are_linked old i j from.0 to.0 outlet_before.0 to.0.endpoint.inlet from.2 to.2 outlet_before.1 refl) in
+      (sends.0.0 ∙ were.0 ∙ sym takes.0.0, sends.0.1 ∙ were.1);
+}

@@ -1,0 +1,254 @@
+-- A crew that has stopped: what its board's words say of its runners, and that its end leaves what it should.
+use Rattle.std.proofs.Common.{◌≡◌, ◌≢◌, ℕ, ◌+◌, ◌*◌, ◌<◌, ◌≤◌, inl, inr, List, ◌++◌, Option, Some, None}
+use Rattle.std.proofs.Common.{length, length-append, map, false, refl, sym, ap, ◌∙◌, subst, arith}
+use Rattle.std.proofs.Common.{Global}
+use Rattle.std.specs.Prelude.{slice_get, slice_index}
+use Rattle.std.specs.declared.vec.Vec.{Vec}
+use Rattle.std.proofs.lemmas.List.{length-map, append-nil}
+use Rattle.dob_pieces.specs.declared.piece_set.PieceSet.{PieceSet}
+use Rattle.dob_pieces.proofs.Elements.{some_at}
+use Rattle.dob_rank.specs.Marks.{classes_of}
+use Rattle.dob_value.specs.declared.value.Value.{Value}
+use Rattle.dob_share.specs.Owners.{owner_of}
+use Rattle.dob_update.specs.Batches.{BatchView}
+use Rattle.dob_board.specs.declared.board.Board.{Board}
+use Rattle.dob_board.specs.declared.board.Closed.{Closed}
+use Rattle.dob_board.specs.declared.halt.Halt.TheVariants.{Running, Ended, Failed}
+use Rattle.dob_board.specs.Words.{posted_word, halt_word}
+use Rattle.dob_board.specs.Seats.{AreWords}
+use Rattle.dob_board.proofs.Halting.{same_halt}
+use Rattle.dob_chan.specs.declared.ends.Rejoined.{Rejoined}
+use Rattle.dob_chan.specs.Ends.{sent_by, taken_of}
+use Rattle.dob_node.specs.declared.cause.Cause.{Cause}
+use Rattle.dob_node.specs.declared.node.Node.{Node}
+use Rattle.dob_node.specs.Nodes.{IsIdle}
+use Rattle.dob_run.specs.declared.fault.Fault.{Fault}
+use Rattle.dob_run.specs.declared.fault.Fault.TheVariants.{SetTooLarge, Nodes, Sizes, Stopped, Memory}
+use Rattle.dob_run.specs.declared.hands.Outlet.{Outlet}
+use Rattle.dob_run.specs.declared.hands.Inlet.{Inlet}
+use Rattle.dob_run.specs.declared.runner.Runner.{Runner}
+use Rattle.dob_run.specs.declared.crew_close.Ended.{Ended as Left}
+use Rattle.dob_run.specs.declared.build_end.Built.{Built}
+use Rattle.dob_run.specs.Hands.{in_hand, held_from}
+use Rattle.dob_run.specs.Links.{offered, worked_from}
+use Rattle.dob_run.proofs.Senders.{parts}
+use Rattle.dob_run.specs.Endpoints.{AreOut}
+use Rattle.dob_run.specs.CrewClose.{seat_in, IsCrew, HasEnded}
+use Rattle.dob_run.specs.InboxClose.{IsJoined}
+use Rattle.dob_run.specs.CrewRunners.{endpoint_of, node_of}
+use Rattle.dob_run.specs.BoundedRun.{IsFirstFailed}
+use Rattle.dob_run.specs.LawfulRunners.{IsLawfulRunner}
+use Rattle.dob_run.specs.Built.{needed, IsDone, IsBuilt}
+use Rattle.dob_run.specs.Finished.{AreJoinedBy, AreFinished, AreShown}
+use Rattle.dob_run.specs.BuildEnd.{HaveStopped, IsFailure, IsFailureOf, failed_of, IsOwner, AreOwners, AreShownBelow}
+use Rattle.dob_run.proofs.CrewFinished.{nothing_of, finished_right}
+use Rattle.dob_run.proofs.CrewRunners.{seat_there, are_linked, seat_at, crew_many, crew_low, outlet_at}
+use Rattle.dob_run.proofs.Needed.{needed_fits}
+use Rattle.dob_run.proofs.Openings.{some_openings}
+use Rattle.dob_run.proofs.Places.{get_map, map_got}
+use Rattle.dob_run.proofs.Shown.{owner_is}
+
+-- ---- the words
+
+module _ (board : Board) (set : PieceSet) (size : ℕ) (runners : List Runner) (words : List ℕ) (crew : IsCrew board (map endpoint_of runners))
+    (stopped : HaveStopped set size runners) (are : AreWords board.nodes (map seat_in (map endpoint_of runners)) words) where
+  there : (k : ℕ) → k < board.nodes → (runner : Runner) × (slice_get runners k ≡ Some runner)
+  there k within = some_at runners k (omega (arith, within, crew_many board runners crew))
+
+  -- the piece set of the first of them is that of all
+  pub set_same : (s : PieceSet) → ((runner : Runner) → slice_get runners 0 ≡ Some runner → s ≡ runner.set) → s ≡ set
+  set_same s is = let runner = there 0 board.some in is runner.0 runner.1 ∙ (stopped.each 0 runner.0 runner.1).set_is
+
+  -- each seat knows the halt that the words say
+  halt_is : (k : ℕ) (runner : Runner) → slice_get runners k ≡ Some runner → halt_word runner.endpoint.seat.halt ≡ slice_index words 2
+  halt_is k runner at = sym (are.halt_seen k runner.endpoint.seat (seat_there runners k runner at) (stopped.each k runner at).halted)
+
+  -- which isn't that the run goes on
+  pub not_running : slice_index words 2 ≢ 0
+  not_running none =
+      let runner = there 0 board.some in
+      (stopped.each 0 runner.0 runner.1).halted (same_halt runner.0.endpoint.seat.halt Running (halt_is 0 runner.0 runner.1 ∙ none))
+
+  -- ---- a run that failed
+
+  some_of : (o : Option Cause) → o ≢ None → (why : Cause) × (o ≡ Some why)
+  some_of None some = absurd (some refl)
+  some_of (Some why) some = (why, refl)
+
+  module _ (causes : List (Option Cause)) (causes_are : causes ≡ map failed_of runners) (node : ℕ) (failed : slice_index words 2 ≡ 2 + node) where
+    culprit : (runner : Runner) × (slice_get runners node ≡ Some runner)
+    culprit = there node (let within = are.halt_within in omega (arith, within, failed))
+
+    -- the node that the words name has failed
+    pub some_cause : (why : Cause) × (slice_get causes node ≡ Some (Some why))
+    some_cause =
+        let runner : Runner = culprit.0 in
+        let halt : runner.endpoint.seat.halt ≡ Failed node = are.failed node runner.endpoint.seat (seat_there runners node runner culprit.1) failed in
+        let why = some_of runner.failed (runner.own (halt ∙ ap Failed (sym (seat_at board runners crew node runner culprit.1).node))) in
+        (why.0, ap (λ (l : List (Option Cause)). slice_get l node) causes_are ∙ get_map failed_of runners node runner culprit.1 ∙ ap Some why.1)
+
+    pub is_failure : (why : Cause) → slice_get causes node ≡ Some (Some why) → IsFailure runners node why
+    is_failure why at =
+        let got = map_got failed_of runners node (Some why) (ap (λ (l : List (Option Cause)). slice_get l node) (sym causes_are) ∙ at) in
+        record {
+          runner = got.0;
+          at = got.1;
+          cause = got.2;
+          known = inl (λ k other stands. same_halt other.endpoint.seat.halt (Failed node) (halt_is k other stands ∙ failed));
+        }
+
+  -- ---- a run that ended
+
+  module _ (ended : slice_index words 2 ≡ 1) where
+    -- a runner that failed all the same
+    pub late_failure : (fault : Fault) → IsFirstFailed runners fault → IsFailureOf runners fault
+    late_failure (Stopped node why) first = record {
+      runner = first.0;
+      at = first.1;
+      cause = first.2;
+      known = inr (λ k runner at. same_halt runner.endpoint.seat.halt Ended (halt_is k runner at ∙ ended), λ k runner low_k at. first.3 k runner low_k at);
+    }
+    late_failure SetTooLarge first = absurd first
+    late_failure Nodes first = absurd first
+    late_failure Sizes first = absurd first
+    late_failure Memory first = absurd first
+
+    -- where each runner is lawful, whether it gave up afterwards or not
+    law_own : (k : ℕ) (runner : Runner) → slice_get runners k ≡ Some runner → IsLawfulRunner runner.set runner.size runner.node runner.endpoint
+    law_own k runner at = runner.lawful (inr (inl (same_halt runner.endpoint.seat.halt Ended (halt_is k runner at ∙ ended))))
+
+    law : (k : ℕ) (runner : Runner) → slice_get runners k ≡ Some runner → IsLawfulRunner set size runner.node runner.endpoint
+    law k runner at =
+        let is = stopped.each k runner at in
+        subst (λ (p : PieceSet × ℕ). IsLawfulRunner p.0 p.1 runner.node runner.endpoint) (λ q. (is.set_is q, is.size_is q)) (law_own k runner at)
+
+    white : (k : ℕ) (runner : Runner) → slice_get runners k ≡ Some runner → runner.endpoint.seat.black ≡ false
+    white k runner at = are.all_white ended k runner.endpoint.seat (seat_there runners k runner at)
+
+    rest : (k : ℕ) (runner : Runner) → slice_get runners k ≡ Some runner → IsIdle runner.node × AreOut runner.endpoint.outlets.items
+    rest k runner at = (law k runner at).white (white k runner at)
+
+    id_is : (k : ℕ) (runner : Runner) → slice_get runners k ≡ Some runner → runner.node.id ≡ k
+    id_is k runner at = (law k runner at).of.1 ∙ (seat_at board runners crew k runner at).node
+
+    n_is : (k : ℕ) (runner : Runner) → slice_get runners k ≡ Some runner → runner.node.n ≡ board.nodes
+    n_is k runner at = (law k runner at).of.2 ∙ (seat_at board runners crew k runner at).nodes
+
+    -- the nodes own their classes
+    pub owners_are : (nodes : List Node) → nodes ≡ map node_of runners → AreOwners set (length nodes) nodes
+    owners_are nodes is k node at =
+        let got = map_got node_of runners k node (ap (λ (l : List Node). slice_get l k) (sym is) ∙ at) in
+        let count : board.nodes ≡ length nodes = sym (ap length is ∙ length-map runners node_of ∙ crew_many board runners crew) in
+        let owner = owner_is set size board.nodes k got.0.node got.0.endpoint (law k got.0 got.1) (id_is k got.0 got.1) (n_is k got.0 got.1) in
+        subst (λ (m : ℕ). IsOwner set m k node) count (subst (λ (x : Node). IsOwner set board.nodes k x) got.2 owner)
+
+    -- what the nodes show is what the runners show
+    shown_by : (nodes : List Node) (values : List Value) → nodes ≡ map node_of runners →
+        AreShownBelow (length nodes) (classes_of set) nodes values → AreShown set board.nodes runners values
+    shown_by nodes values is shown =
+        let count : length nodes ≡ board.nodes = ap length is ∙ length-map runners node_of ∙ crew_many board runners crew in
+        let by_nodes : AreShownBelow board.nodes (classes_of set) (map node_of runners) values =
+        subst (λ (p : ℕ × List Node). AreShownBelow p.0 (classes_of set) p.1 values) (λ q. (count q, is q)) shown in
+        record {
+          whole = by_nodes.whole;
+          each = λ class value runner at owns. by_nodes.each class value at runner.node (get_map node_of runners (owner_of board.nodes class) runner owns);
+        }
+
+    -- as many batches were posted as were taken
+    counts : (i j : ℕ) (sender taker : Runner) → slice_get runners i ≡ Some sender → slice_get runners j ≡ Some taker →
+        slice_index sender.endpoint.seat.posted.items j ≡ slice_index taker.endpoint.seat.taken.items i
+    counts i j sender taker at_i at_j =
+        sym (are.posted i j sender.endpoint.seat (seat_there runners i sender at_i) (crew_low board runners crew j taker at_j))
+        ∙ are.all_taken ended i j (crew_low board runners crew i sender at_i) (crew_low board runners crew j taker at_j)
+        ∙ are.taken j i taker.endpoint.seat (seat_there runners j taker at_j) (crew_low board runners crew i sender at_i)
+
+    module _ (left : Left) (words_are : words ≡ left.closed.words.items) (has : HasEnded board.nodes (map endpoint_of runners) left) where
+      pub finished : AreFinished set board.nodes runners
+      finished = record {
+        count = crew_many board runners crew;
+        each = λ k runner at. record {
+          seat = ((seat_at board runners crew k runner at).node, (seat_at board runners crew k runner at).nodes);
+          set_is = (stopped.each k runner at).set_is;
+          lawful = law_own k runner at;
+        };
+        white = white;
+        counts = λ i j sender taker outlet inlet joined. counts i j sender taker joined.sends joined.takes;
+        inboxes = λ i j sender taker outlet inlet joined.
+            let links = are_linked runners i j sender taker outlet inlet joined.sends joined.takes joined.out joined.into in
+            let link = has.links i j outlet inlet links in (link.0.waiting.items, link.2.lawful);
+      }
+
+      link_is : (values : List Value) → AreShown set board.nodes runners values →
+          (i j : ℕ) (sender taker : Runner) (outlet : Outlet) (inlet : Inlet) (link : Rejoined) → AreJoinedBy runners i j sender taker outlet inlet →
+          IsJoined i outlet.end inlet.end link → IsDone set board.nodes size words values i j link
+      link_is values shown i j sender taker outlet inlet link joined is = record {
+        posted = posted;
+        taken = sym (are.all_taken ended i j low_i low_j) ∙ posted;
+        received = omega (arith, is.sent, is.received, sent, same, took);
+        waiting = nothing_of link.waiting.items (omega (arith, sent, same, took));
+        enough = λ apart. subst (λ (m : ℕ). needed set board.nodes values i j ≤ m * size) (sym is_sent)
+            (needed_fits set board.nodes size i j sender.node sender.endpoint outlet values (law i sender joined.sends) (rest i sender joined.sends).0
+            (id_is i sender joined.sends) (n_is i sender joined.sends) apart joined.out shown.whole
+            (λ class value low owns at. shown.each class value sender at (ap (λ (m : ℕ). slice_get runners m) owns ∙ joined.sends)));
+      }
+        where
+          low_i : i < board.nodes
+          low_i = crew_low board runners crew i sender joined.sends
+
+          low_j : j < board.nodes
+          low_j = crew_low board runners crew j taker joined.takes
+
+          -- nothing lies in the sending hand
+          empty : outlet.hand ≡ None
+          empty = (rest i sender joined.sends).1 j outlet joined.out
+
+          offered_is : offered outlet ≡ sent_by outlet.end
+          offered_is = ap (λ (hand : Option BatchView). sent_by outlet.end ++ in_hand hand) empty ∙ append-nil (sent_by outlet.end)
+
+          is_sent : link.sent ≡ length (offered outlet)
+          is_sent = is.sent ∙ ap length (sym offered_is)
+
+          posted : slice_index words (posted_word board.nodes i j) ≡ link.sent
+          posted = are.posted i j sender.endpoint.seat (seat_there runners i sender joined.sends) low_j ∙ sender.endpoint.posted j outlet joined.out ∙ sym is_sent
+
+          taken_is : slice_index taker.endpoint.seat.taken.items i ≡ length (worked_from inlet i)
+          taken_is = taker.endpoint.taken i (subst (λ (m : ℕ). i < m) (sym (seat_at board runners crew j taker joined.takes).nodes) low_i)
+              ∙ ap (λ (l : Inlet). length (worked_from l i)) joined.into
+
+          same : length (worked_from inlet i) ≡ length (sent_by outlet.end)
+          same = sym taken_is ∙ sym (counts i j sender taker joined.sends joined.takes) ∙ sender.endpoint.posted j outlet joined.out ∙ ap length offered_is
+
+          sent : length (sent_by outlet.end) ≡ length (taken_of inlet.end i) + length link.waiting.items
+          sent = ap length is.lawful ∙ length-append (taken_of inlet.end i) link.waiting.items
+
+          took : length (worked_from inlet i) ≤ length (taken_of inlet.end i)
+          took = omega (arith, ap length (parts inlet i), length-append (worked_from inlet i) (in_hand (held_from inlet.hand i)))
+
+      pub built_is : (nodes : List Node) (built : Built) → nodes ≡ map node_of runners → built.table.set ≡ set →
+          AreShownBelow (length nodes) (classes_of set) nodes built.table.values → built.closed ≡ left.closed → built.links ≡ left.links →
+          IsBuilt set board.nodes size built
+      built_is nodes built nodes_is set_is shown closed links =
+          let values : List Value = built.table.values in
+          let by_runners : AreShown set board.nodes runners values = shown_by nodes values nodes_is shown in
+          let openings = some_openings set in
+          let items : words ≡ built.closed.words.items = words_are ∙ ap (λ (c : Closed). c.words.items) (sym closed) in
+          record {
+            set_is = set_is;
+            values = finished_right set board.nodes board.some runners finished openings.0 values openings.1 by_runners;
+            words = ap length (sym items) ∙ are.count;
+            ended = ap (λ (l : List ℕ). slice_index l 2) (sym items) ∙ ended;
+            count = ap (λ (v : Vec Rejoined Global). length v.items) links ∙ has.count;
+            links = λ i j low_i low_j.
+                let from = there i low_i in
+                let to = there j low_j in
+                let outlet = outlet_at board runners crew i j from.0 from.1 low_j in
+                let inlet : Inlet = to.0.endpoint.inlet in
+                let joined : AreJoinedBy runners i j from.0 to.0 outlet.0 inlet =
+                record { sends = from.1; takes = to.1; out = outlet.1; into = refl } in
+                let link = has.links i j outlet.0 inlet (are_linked runners i j from.0 to.0 outlet.0 inlet from.1 to.1 outlet.1 refl) in (
+                  link.0,
+                  ap (λ (v : Vec Rejoined Global). slice_get v.items (i * board.nodes + j)) links ∙ link.1,
+                  subst (λ (l : List ℕ). IsDone set board.nodes size l values i j link.0) items
+                      (link_is values by_runners i j from.0 to.0 outlet.0 inlet link.0 joined link.2),
+                );
+          }

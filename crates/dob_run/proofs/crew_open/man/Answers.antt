@@ -1,0 +1,31 @@
+-- The runner has the endpoint and a node just opened, which has made no step, and nothing has gone over its links.
+use Rattle.std.proofs.Common.{sym, subst}
+use Rattle.dob_node.specs.declared.node.Node.{Node}
+use Rattle.dob_run.specs.declared.endpoint.Endpoint.{Endpoint}
+use Rattle.dob_run.specs.Runners.{IsNew}
+use Rattle.dob_run.proofs.crew_open.man.Goals as goal
+use Rattle.dob_run.proofs.crew_open.man.Goals.{In_ok-node}
+
+is_new : (c : In_ok-node) → IsNew c.args.set c.in_ok-node.node c.args.endpoint
+is_new c =
+    let new = c.requires.new.1 in record {
+      openings = c.args.openings.now;
+      are_openings = c.requires.openings;
+      opened = c.in_ok-node.ensures.opened;
+      sound = c.in_ok-node.ensures.sound;
+      black = new.black;
+      running = new.running;
+      unsent = λ to outlet at. (new.unsent to outlet at).0;
+      untaken = new.untaken.0;
+    }
+
+pub new-requires-clause-fresh : goal.new-requires-clause-fresh
+new-requires-clause-fresh c = is_new (goal.at.new-requires-clause-fresh c).In_ok-node
+
+pub returns : goal.returns
+returns c =
+    let made = c.new.ensures in (
+      made.endpoint,
+      record { set_is = made.set; size_is = made.size; unfailed = made.unfailed },
+      subst (λ (p : Node × Endpoint). IsNew c.args.set p.0 p.1) (λ i. ((sym made.node) i, (sym made.endpoint) i)) (is_new (goal.at.returns c).In_ok-node),
+    )

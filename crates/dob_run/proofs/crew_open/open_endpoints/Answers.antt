@@ -1,0 +1,34 @@
+-- The seats and the inboxes that were laid make a crew of n new endpoints, whose outlets send to the inlets.
+use Rattle.std.proofs.Common.{◌≡◌, ℕ, arith, sym, subst, vec_len, map}
+use Rattle.dob_board.specs.Seats.{AreSeats}
+use Rattle.dob_run.specs.Seating.{AreSeated}
+use Rattle.dob_run.specs.CrewClose.{seat_in}
+use Rattle.dob_run.proofs.Seated.{can_seat, new_endpoints, new_paired, new_seats}
+use Rattle.dob_run.proofs.crew_open.open_endpoints.Goals as goal
+use Rattle.dob_run.proofs.crew_open.open_endpoints.Goals.{In_ok-endpoints}
+
+pub seat_all-requires : goal.seat_all-requires
+seat_all-requires c =
+    can_seat c.args.capacity c.args.n c.in_ok-rows.rows.items c.in_ok-rows.inlets.items c.in-Ok.board c.in-Ok.seats.items c.in_ok-rows.ensures c.in-Ok.ensures.seats c.in-Ok.ensures.fresh
+
+-- the endpoints are those of all n seats
+all : (c : In_ok-endpoints) → AreSeated c.args.n c.in-Ok.seats.items c.in_ok-rows.rows.items c.in_ok-rows.inlets.items c.in_ok-endpoints.endpoints.items
+all c =
+    let count = c.in-Ok.ensures.seats.count in
+    let many : vec_len c.in-Ok.seats ≡ c.args.n = omega (arith, count) in
+    subst (λ (k : ℕ). AreSeated k c.in-Ok.seats.items c.in_ok-rows.rows.items c.in_ok-rows.inlets.items c.in_ok-endpoints.endpoints.items) many c.in_ok-endpoints.ensures
+
+pub returns-clause-crew : goal.returns-clause-crew
+returns-clause-crew c =
+    let here = (goal.at.returns-clause-crew c).In_ok-endpoints in
+    let endpoints = c.in_ok-endpoints.endpoints.items in
+    record {
+      seats = subst (λ (k : ℕ). AreSeats c.in-Ok.board.rest.table_id k (map seat_in endpoints)) (sym c.in-Ok.ensures.nodes)
+          (new_seats c.args.capacity c.args.n c.in_ok-rows.rows.items c.in_ok-rows.inlets.items c.in-Ok.board c.in-Ok.seats.items c.in_ok-rows.ensures c.in-Ok.ensures.seats c.in-Ok.ensures.fresh endpoints (all here));
+      paired = new_paired c.args.capacity c.args.n c.in_ok-rows.rows.items c.in_ok-rows.inlets.items c.in-Ok.board c.in-Ok.seats.items c.in_ok-rows.ensures c.in-Ok.ensures.seats c.in-Ok.ensures.fresh endpoints (all here);
+    }
+
+pub returns-clause-new : goal.returns-clause-new
+returns-clause-new c =
+    let here = (goal.at.returns-clause-new c).In_ok-endpoints in
+    new_endpoints c.args.capacity c.args.n c.in_ok-rows.rows.items c.in_ok-rows.inlets.items c.in-Ok.board c.in-Ok.seats.items c.in_ok-rows.ensures c.in-Ok.ensures.seats c.in-Ok.ensures.fresh c.in_ok-endpoints.endpoints.items (all here)

@@ -1,0 +1,72 @@
+-- A crew whose runners have all stopped, and what is made of it.
+use Rattle.std.specs.Prelude.{◌≡◌, ◌≢◌, ⊤, ℕ, ◌<◌, ◌⊎◌, List, Option, None, Some, length, slice_get}
+use Rattle.dob_pieces.specs.declared.piece_set.PieceSet.{PieceSet}
+use Rattle.dob_rank.specs.Limits.{IsSmall}
+use Rattle.dob_rank.specs.Marks.{classes_of}
+use Rattle.dob_value.specs.declared.value.Value.{Value}
+use Rattle.dob_value.specs.Follows.{IsEntry, AreGiven}
+use Rattle.dob_share.specs.Owners.{owner_of}
+use Rattle.dob_share.specs.Shares.{IsOwn, HasValueNow}
+use Rattle.dob_board.specs.declared.halt.Halt.{Halt}
+use Rattle.dob_board.specs.declared.halt.Halt.TheVariants.{Running, Ended, Failed}
+use Rattle.dob_node.specs.declared.cause.Cause.{Cause}
+use Rattle.dob_node.specs.declared.node.Node.{Node}
+use Rattle.dob_run.specs.declared.fault.Fault.{Fault}
+use Rattle.dob_run.specs.declared.fault.Fault.TheVariants.{SetTooLarge, Nodes, Sizes, Stopped, Memory}
+use Rattle.dob_run.specs.declared.runner.Runner.{Runner}
+
+-- The runner works for that piece set with batches of at most that size, and its seat knows that the run ended or failed.
+pub record IsStoppedRunner (set : PieceSet) (size : ℕ) (runner : Runner) : Type 0 where
+  pub set_is : runner.set ≡ set
+  pub size_is : runner.size ≡ size
+  pub halted : runner.endpoint.seat.halt ≢ Running
+
+-- so has each of them, and the piece set is one that has classes
+pub record HaveStopped (set : PieceSet) (size : ℕ) (runners : List Runner) : Type 0 where
+  pub small : IsSmall set
+  pub each : (k : ℕ) (runner : Runner) → slice_get runners k ≡ Some runner → IsStoppedRunner set size runner
+
+abbrev pub failed_of : Runner → Option Cause
+failed_of runner = runner.failed
+
+-- each seat knows of that halt
+abbrev pub AllKnow : Halt → List Runner → Type 0
+AllKnow halt runners = (k : ℕ) (runner : Runner) → slice_get runners k ≡ Some runner → runner.endpoint.seat.halt ≡ halt
+
+-- no runner before that one has failed
+abbrev pub IsLeastFailed : List Runner → ℕ → Type 0
+IsLeastFailed runners node = (k : ℕ) (runner : Runner) → k < node → slice_get runners k ≡ Some runner → runner.failed ≡ None
+
+-- The runner of the node has failed, for that cause: either each seat knows that this node failed the run; or each knows that
+-- the run ended, and of the runners that failed all the same it is the least.
+pub record IsFailure (runners : List Runner) (node : ℕ) (why : Cause) : Type 0 where
+  pub runner : Runner
+  pub at : slice_get runners node ≡ Some runner
+  pub cause : runner.failed ≡ Some why
+  pub known : AllKnow (Failed node) runners ⊎ (AllKnow Ended runners × IsLeastFailed runners node)
+
+-- why a crew that has stopped leaves no table: a node's failure, or memory is refused
+abbrev pub IsFailureOf : List Runner → Fault → Type 0
+IsFailureOf runners (Stopped node why) = IsFailure runners node why
+IsFailureOf runners Memory = ⊤
+IsFailureOf runners SetTooLarge = ⊥
+IsFailureOf runners Nodes = ⊥
+IsFailureOf runners Sizes = ⊥
+
+-- Node k, one of n, has each class of the piece set that is its own, and shows for it such a value as a table can have.
+pub record IsOwner (set : PieceSet) (n k : ℕ) (node : Node) : Type 0 where
+  pub own : (class : ℕ) → class < classes_of set → owner_of n class ≡ k → IsOwn node.share class
+  pub entries : (class : ℕ) (value : Value) → class < classes_of set → owner_of n class ≡ k → HasValueNow node.share class value →
+      IsEntry value
+
+-- so do they all
+abbrev pub AreOwners : PieceSet → ℕ → List Node → Type 0
+AreOwners set n nodes = (k : ℕ) (node : Node) → slice_get nodes k ≡ Some node → IsOwner set n k node
+
+-- the value is one that the class's owner, of n nodes, shows for it
+abbrev pub IsShown : ℕ → List Node → ℕ → Value → Type 0
+IsShown n nodes class value = (node : Node) → slice_get nodes (owner_of n class) ≡ Some node → HasValueNow node.share class value
+
+-- the values of the classes below a number are those that their owners show
+abbrev pub AreShownBelow : ℕ → ℕ → List Node → List Value → Type 0
+AreShownBelow n upto nodes values = AreGiven (IsShown n nodes) upto values

@@ -1,0 +1,176 @@
+// A crew whose runners make a number of turns each, and what they leave.
+ghost use Rattle.std.specs.Prelude.{◌≡◌, ◌<◌, ◌≤◌, IfOk, IfErr, OnOk, map, length, Some, slice_get};
+ghost use Rattle.dob_rank.specs.Limits.{IsSmall};
+ghost use Rattle.dob_run.specs.CrewClose.{IsCrew, row_of};
+ghost use Rattle.dob_run.specs.CrewRunners.{endpoint_of, node_of};
+ghost use Rattle.dob_run.specs.Faults.{AreWithin, HasBuildFault};
+ghost use Rattle.dob_run.specs.Runners.{says_no};
+ghost use Rattle.dob_run.specs.TurnLoop.{until_turns};
+ghost use Rattle.dob_run.specs.BoundedRun.{IsTurned, CarriesFew, AreUnfailed, IsFirstFailed, StopsSo, AreWorkers, HasLeft};
+
+use crate::crew_close::{Ended, close_endpoints};
+use crate::endpoint::Endpoint;
+use crate::fault::Fault;
+use crate::gate::Gate;
+use crate::runner::Runner;
+use crate::threads::run_crew;
+use crate::turn_loop::Until;
+use dob_board::{Board, Closed};
+use dob_chan::Rejoined;
+use dob_node::{Cause, Node};
+use dob_pieces::{Memory, PieceSet};
+use dob_update::Batch;
+use std::alloc::Global;
+use std::sync::Wait;
+use std::thread::Threads;
+
+/// What a node's worker leaves: the node, and what lies in its hands, one place a node.
+#[derive(Drop)]
+pub struct Worker {
+    pub node: Node,
+    pub sending: Vec<Option<Batch>>,
+    pub taking: Vec<Option<Batch>>,
+}
+
+/// What a crew leaves: the worker of each node, the words of the board, and what went over each link, by sender and then by
+/// receiver.
+#[derive(Drop)]
+pub struct Turned {
+    pub workers: Vec<Worker>,
+    pub closed: Closed,
+    pub links: Vec<Rejoined>,
+}
+
+/// Lets each of `n` nodes of the piece set make `turns` turns, in a thread of its own, with batches of at most `batch` items
+/// and inboxes that hold at most `capacity` batches, and without the halt word and the token: each asks the gate at the
+/// start of each turn. At most one batch a turn goes over each link. One that fails ends, and the others make their turns. Its
+/// promises hold if it returns.
+///
+/// Errors: those of `run_nodes`, but `Stopped` with the least node that failed and its cause.
+pub fn run_turns<R: Threads + Wait + Sync, G: Gate + Sync>(
+    rt: &R,
+    alloc: Global,
+    set: PieceSet,
+    n: usize,
+    batch: usize,
+    capacity: usize,
+    turns: u64,
+    gate: &G,
+) -> Result<Turned, Fault>
+    ensures turned { IfOk result (IsTurned set n batch) }
+    ensures few { IfOk result (CarriesFew n turns) }
+    ensures within { OnOk result (IsSmall set × AreWithin n batch capacity) }
+    ensures fault { IfErr result (HasBuildFault set n batch capacity) }
+    ensures stopped { IfErr result (StopsSo IsFirstFailed (says_no (G.says gate.now)) (until_turns turns) set n batch capacity) }
+{
+    let until = Until::Turns(turns);
+    let (_, board, ended) = run_crew(rt, alloc, set, n, batch, capacity, gate, &until)?;
+    find_failed(&ended)?;
+    let turned = close_crew(rt, alloc, board, ended)?;
+    Ok(turned)
+}
+
+/// Refuses runners of which one has failed, with the least of them.
+pub(crate) fn find_failed(runners: &[Runner]) -> Result<(), Fault>
+    ensures going { OnOk result (AreUnfailed runners.now) }
+    ensures first { IfErr result (IsFirstFailed runners.now) }
+{
+    for node in 0..runners.len() {
+        if let Some(cause) = failure_at(runners, node) {
+            return Err(Fault::Stopped { node, cause });
+        }
+    }
+    Ok(())
+}
+
+// Why the runner at that place has failed, if it has.
+fn failure_at(runners: &[Runner], place: usize) -> Option<Cause>
+    requires { place < length runners.now }
+    ensures { (runner : Runner) → slice_get runners.now place ≡ Some runner → result ≡ runner.failed }
+{
+    runners[place].failure()
+}
+
+// Closes the crew of these runners.
+fn close_crew<R: Wait>(
+    rt: &R,
+    alloc: Global,
+    board: Board,
+    runners: Vec<Runner>,
+) -> Result<Turned, Memory>
+    requires { IsCrew board (map endpoint_of runners.items) }
+    ensures { IfOk result (HasLeft board.nodes runners.items) }
+{
+    let (nodes, endpoints) = part_runners(alloc, runners)?;
+    let Ended {
+        closed,
+        links,
+        sending,
+        taking,
+    } = close_endpoints(rt, alloc, board, endpoints)?;
+    let workers = workers_of(alloc, nodes, sending, taking)?;
+    Ok(Turned {
+        workers,
+        closed,
+        links,
+    })
+}
+
+/// The node and the endpoint of each runner.
+///
+/// Error: `Memory`, which gives the runners up.
+pub(crate) fn part_runners(
+    alloc: Global,
+    runners: Vec<Runner>,
+) -> Result<(Vec<Node>, Vec<Endpoint>), Memory>
+    ensures nodes { IfOk result (λ parts. parts.0.items ≡ map node_of runners.items) }
+    ensures endpoints { IfOk result (λ parts. parts.1.items ≡ map endpoint_of runners.items) }
+{
+    let mut nodes = Vec::with_capacity(alloc, runners.len())?;
+    let mut endpoints = Vec::with_capacity(alloc, runners.len())?;
+    for runner in runners {
+        let Runner { node, endpoint, .. } = runner;
+        nodes.push(node)?;
+        endpoints.push(endpoint)?;
+    }
+    Ok((nodes, endpoints))
+}
+
+// Each node with its hands.
+fn workers_of(
+    alloc: Global,
+    nodes: Vec<Node>,
+    sending: Vec<Vec<Option<Batch>>>,
+    taking: Vec<Vec<Option<Batch>>>,
+) -> Result<Vec<Worker>, Memory>
+    requires sending { length sending.items ≡ length nodes.items }
+    requires taking { length taking.items ≡ length nodes.items }
+    ensures { IfOk result (λ workers. AreWorkers (length nodes.items) nodes.items (map row_of sending.items) (map row_of taking.items) workers.items) }
+{
+    let mut workers = Vec::with_capacity(alloc, nodes.len())?;
+    let mut sending_left = sending.into_iter();
+    let mut taking_left = taking.into_iter();
+    for node in nodes {
+        let Some(out) = sending_left.next() else {
+            unreachable!()
+        };
+        let Some(into) = taking_left.next() else {
+            unreachable!()
+        };
+        workers.push(Worker {
+            node,
+            sending: out,
+            taking: into,
+        })?;
+    }
+    Ok(workers)
+}
+
+impl Runner {
+    // Why the runner has failed, if it has.
+    fn failure(&self) -> Option<Cause>
+        ensures { result ≡ self.now.failed }
+    {
+        self.failed
+    }
+}

@@ -1,0 +1,152 @@
+// What a build by threads leaves, when its crew has come to its end.
+ghost use Rattle.std.specs.Prelude.{◌≡◌, ◌≢◌, ◌+◌, ◌<◌, ℕ, Some, IfOk, IfErr, OnOk, MatchOption, map, length, slice_get, slice_index};
+ghost use Rattle.dob_pieces.specs.declared.piece_set.PieceSet.{PieceSet};
+ghost use Rattle.dob_rank.specs.Limits.{IsSmall};
+ghost use Rattle.dob_rank.specs.Marks.{classes_of};
+ghost use Rattle.dob_share.specs.Owners.{owner_of};
+ghost use Rattle.dob_share.specs.Shares.{IsOwn};
+ghost use Rattle.dob_node.specs.declared.cause.Cause.{Cause};
+ghost use Rattle.dob_node.specs.declared.node.Node.{Node as Shower};
+ghost use Rattle.dob_run.specs.declared.runner.Runner.{Runner};
+ghost use Rattle.dob_run.specs.CrewRunners.{endpoint_of, node_of};
+ghost use Rattle.dob_run.specs.CrewClose.{IsCrew, HasEnded};
+ghost use Rattle.dob_run.specs.Built.{IsBuilt};
+ghost use Rattle.dob_run.specs.BoundedRun.{AreUnfailed};
+ghost use Rattle.dob_run.specs.BuildEnd.{HaveStopped, IsFailureOf, AreOwners, IsShown, AreShownBelow, failed_of};
+
+use crate::bounded_run::{find_failed, part_runners};
+use crate::crew_close::{Ended, close_endpoints};
+use crate::fault::Fault;
+use crate::runner::Runner;
+use dob_board::{Board, Closed, Halt};
+use dob_chan::Rejoined;
+use dob_node::{Cause, Node};
+use dob_pieces::{Memory, PieceSet};
+use dob_rank::Classes;
+use dob_share::owner;
+use dob_value::{Table, Value};
+use std::alloc::Global;
+use std::sync::Wait;
+
+/// What a build by threads leaves: the table of the values, the words of its board, and what went over each link, by sender
+/// and then by receiver.
+#[derive(Drop)]
+pub struct Built {
+    pub table: Table,
+    pub closed: Closed,
+    pub links: Vec<Rejoined>,
+}
+
+/// Closes a whole crew of which each runner has stopped: where the end was announced, the table of the values that its
+/// nodes show, which is the value table, with the words of the board and what went over the links. Its promises hold if it
+/// returns.
+///
+/// Errors: `Stopped` where the run failed, with the node that failed it and that node's cause, and where a runner failed only
+/// after the end was announced, with the least such node and its cause; `Memory`, which gives the crew up.
+pub fn finish<R: Wait>(
+    rt: &R,
+    alloc: Global,
+    classes: Classes,
+    board: Board,
+    runners: Vec<Runner>,
+) -> Result<Built, Fault>
+    requires crew { IsCrew board (map endpoint_of runners.items) }
+    requires stopped { (size : ℕ) × HaveStopped classes.set size runners.items }
+    ensures built { IfOk result (λ built. (size : ℕ) → HaveStopped classes.set size runners.items →
+        IsBuilt classes.set board.nodes size built) }
+    ensures unfailed { OnOk result (AreUnfailed runners.items) }
+    ensures failed { IfErr result (IsFailureOf runners.items) }
+{
+    let causes = causes_of(alloc, &runners)?;
+    let late = find_failed(&runners);
+    let (nodes, ended) = close_all(rt, alloc, board, runners)?;
+    if let Some(node) = failed_in(&ended.closed) {
+        let cause = cause_at(&causes, node);
+        return Err(Fault::Stopped { node, cause });
+    }
+    if let Err(fault) = late {
+        return Err(fault);
+    }
+    let table = table_of(alloc, classes, &nodes)?;
+    let Ended { closed, links, .. } = ended;
+    Ok(Built {
+        table,
+        closed,
+        links,
+    })
+}
+
+// Why each runner has failed, if it has.
+fn causes_of(alloc: Global, runners: &[Runner]) -> Result<Vec<Option<Cause>>, Memory>
+    ensures { IfOk result (λ causes. causes.items ≡ map failed_of runners.now) }
+{
+    let mut causes = Vec::with_capacity(alloc, runners.len())?;
+    for runner in runners {
+        causes.push(runner.failed)?;
+    }
+    Ok(causes)
+}
+
+// Closes the crew of these runners: their nodes, and what their endpoints leave.
+fn close_all<R: Wait>(
+    rt: &R,
+    alloc: Global,
+    board: Board,
+    runners: Vec<Runner>,
+) -> Result<(Vec<Node>, Ended), Memory>
+    requires { IsCrew board (map endpoint_of runners.items) }
+    ensures nodes { IfOk result (λ closed. closed.0.items ≡ map node_of runners.items) }
+    ensures ended { IfOk result (λ closed. HasEnded board.nodes (map endpoint_of runners.items) closed.1) }
+{
+    let (nodes, endpoints) = part_runners(alloc, runners)?;
+    let ended = close_endpoints(rt, alloc, board, endpoints)?;
+    Ok((nodes, ended))
+}
+
+// The node that failed the run, as the words of the board say; none where the end was announced.
+fn failed_in(closed: &Closed) -> Option<usize>
+    requires { slice_index closed.now.words.items 2 ≢ 0 }
+    ensures { MatchOption result (slice_index closed.now.words.items 2 ≡ 1) (λ node. slice_index closed.now.words.items 2 ≡ 2 + node) }
+{
+    match closed.halt() {
+        Halt::Failed(node) => Some(node),
+        Halt::Ended => None,
+        Halt::Running => unreachable!(),
+    }
+}
+
+// The cause that stands at that place.
+fn cause_at(causes: &[Option<Cause>], place: usize) -> Cause
+    requires { (why : Cause) × (slice_get causes.now place ≡ Some (Some why)) }
+    ensures { slice_get causes.now place ≡ Some (Some result) }
+{
+    let Some(cause) = causes[place] else {
+        unreachable!()
+    };
+    cause
+}
+
+// The table of the values that the nodes show.
+fn table_of(alloc: Global, classes: Classes, nodes: &[Node]) -> Result<Table, Memory>
+    requires some { 0 < length nodes.now }
+    requires owners { AreOwners classes.set (length nodes.now) nodes.now }
+    ensures set { IfOk result (λ table. table.set ≡ classes.set) }
+    ensures values { IfOk result (λ table. AreShownBelow (length nodes.now) (classes_of classes.set) nodes.now table.values) }
+{
+    let value_at = |class: u64| -> Value
+        requires some { 0 < length nodes.now }
+        requires own { (node : Shower) → slice_get nodes.now (owner_of (length nodes.now) class) ≡ Some node → IsOwn node.share class }
+        ensures { IsShown (length nodes.entry.now) nodes.entry.now class result }
+    { value_of(nodes, class) };
+    Table::from_fn(alloc, classes, value_at)
+}
+
+// The value that the class's owner shows.
+fn value_of(nodes: &[Node], class: u64) -> Value
+    requires some { 0 < length nodes.now }
+    requires own { (node : Shower) → slice_get nodes.now (owner_of (length nodes.now) class) ≡ Some node → IsOwn node.share class }
+    ensures { IsShown (length nodes.now) nodes.now class result }
+{
+    let node = owner(class, nodes.len());
+    nodes[node].value(class)
+}

@@ -1,0 +1,112 @@
+// How the endpoints of a crew are closed: the seats go back to the board, and the ends of each inbox come together again.
+ghost use Rattle.std.specs.Prelude.{◌≡◌, ℕ, Some, IfOk, OnOk, slice_get, vec_len, length, []};
+ghost use Rattle.dob_run.specs.CrewClose.{IsCrew, HasAdded, ArePartsOf, HasEnded};
+
+use crate::endpoint::Endpoint;
+use crate::hands::Inlet;
+use crate::inbox_close::{part_outlets, rejoin_all, spread_hand};
+use crate::rows::{deal, empty_rows};
+use dob_board::{Board, Closed, NodeSeat};
+use dob_chan::{Rejoined, SendEnd, TakeEnd};
+use dob_pieces::Memory;
+use dob_update::Batch;
+use std::alloc::Global;
+use std::sync::Wait;
+
+/// What the endpoints of a crew leave: the words of its board, what went over each link, by sender and then by receiver, and what
+/// lies in the hands of each node, one place a node.
+#[derive(Drop)]
+pub(crate) struct Ended {
+    pub(crate) closed: Closed,
+    pub(crate) links: Vec<Rejoined>,
+    pub(crate) sending: Vec<Vec<Option<Batch>>>,
+    pub(crate) taking: Vec<Vec<Option<Batch>>>,
+}
+
+// The endpoints of some nodes of a crew, taken apart. The sending ends stand in the rows of the nodes to which they send.
+#[derive(Drop)]
+struct Parts {
+    seats: Vec<NodeSeat>,
+    sends: Vec<Vec<SendEnd>>,
+    takes: Vec<TakeEnd>,
+    sending: Vec<Vec<Option<Batch>>>,
+    taking: Vec<Vec<Option<Batch>>>,
+}
+
+/// Closes a crew's endpoints with its board. Its promises hold if it returns.
+///
+/// Error: `Memory`, which gives the crew up.
+pub(crate) fn close_endpoints<R: Wait>(
+    rt: &R,
+    alloc: Global,
+    board: Board,
+    endpoints: Vec<Endpoint>,
+) -> Result<Ended, Memory>
+    requires { IsCrew board endpoints.items }
+    ensures { IfOk result (HasEnded board.nodes endpoints.items) }
+{
+    let Parts {
+        seats,
+        sends,
+        takes,
+        sending,
+        taking,
+    } = part_endpoints(alloc, endpoints)?;
+    let closed = board.close(seats);
+    let links = rejoin_all(rt, alloc, sends, takes)?;
+    Ok(Ended {
+        closed,
+        links,
+        sending,
+        taking,
+    })
+}
+
+// The endpoints, taken apart.
+fn part_endpoints(alloc: Global, endpoints: Vec<Endpoint>) -> Result<Parts, Memory>
+    requires { (k : ℕ) (endpoint : _) → slice_get endpoints.items k ≡ Some endpoint → endpoint.seat.nodes ≡ vec_len endpoints }
+    ensures { IfOk result (ArePartsOf (vec_len endpoints) endpoints.items) }
+{
+    let mut parts = no_parts(alloc, endpoints.len())?;
+    for endpoint in endpoints {
+        parts.add(alloc, endpoint)?;
+    }
+    Ok(parts)
+}
+
+// The parts of no endpoints of a crew of so many.
+fn no_parts(alloc: Global, count: usize) -> Result<Parts, Memory>
+    ensures { IfOk result (ArePartsOf count []) }
+{
+    let sends = empty_rows(alloc, count)?;
+    Ok(Parts {
+        seats: Vec::with_capacity(alloc, count)?,
+        sends,
+        takes: Vec::with_capacity(alloc, count)?,
+        sending: Vec::with_capacity(alloc, count)?,
+        taking: Vec::with_capacity(alloc, count)?,
+    })
+}
+
+impl Parts {
+    // Takes one endpoint more apart.
+    fn add(&mut self, alloc: Global, endpoint: Endpoint) -> Result<(), Memory>
+        requires { endpoint.seat.nodes ≡ vec_len self.old.sends }
+        ensures { OnOk result (HasAdded self.old endpoint self.new) }
+    {
+        let Endpoint {
+            seat,
+            outlets,
+            inlet,
+        } = endpoint;
+        let Inlet { end: take, hand } = inlet;
+        let taking = spread_hand(alloc, hand, seat.nodes)?;
+        self.seats.push(seat)?;
+        let (sends, sending) = part_outlets(alloc, outlets)?;
+        deal(sends, &mut self.sends)?;
+        self.sending.push(sending)?;
+        self.takes.push(take)?;
+        self.taking.push(taking)?;
+        Ok(())
+    }
+}

@@ -1,0 +1,179 @@
+// How a crew begins: with a board, and for each of its nodes a seat, its ends of the inboxes, and a runner.
+ghost use Rattle.std.specs.Prelude.{◌≡◌, ◌<◌, ◌≤◌, ℕ, IfOk, IfErr, OnOk, vec_len, map, replicate, length};
+ghost use Rattle.std.specs.List.{AllZip};
+ghost use Rattle.dob_safra.specs.Laws.{IsSize};
+ghost use Rattle.dob_board.specs.Rule.{fresh};
+ghost use Rattle.dob_board.specs.Seats.{AreSeats, stand_of};
+ghost use Rattle.dob_run.specs.InboxOpen.{AreLaid};
+ghost use Rattle.dob_run.specs.CrewClose.{IsCrew};
+ghost use Rattle.dob_node.specs.Openings.{AreOpenings};
+ghost use Rattle.dob_run.specs.CrewOpen.{IsNewEndpoint, AreNewEndpoints};
+ghost use Rattle.dob_run.specs.CrewRunners.{IsRunnerOf, IsNewCrew};
+ghost use Rattle.dob_run.specs.Faults.{AreWithin, HasCrewFault};
+ghost use Rattle.dob_run.specs.Seating.{AreSeated, CanSeat, CanSeatAll};
+
+use crate::endpoint::Endpoint;
+use crate::fault::Fault;
+use crate::hands::{Inlet, Outlet};
+use crate::inbox_open::lay;
+use crate::limits::size_passed;
+use crate::runner::Runner;
+use dob_board::{Board, NodeSeat};
+use dob_node::{Node, Opening, opening};
+use dob_pieces::{Memory, PieceSet};
+use dob_rank::Classes;
+use std::alloc::Global;
+
+/// A board, and the runner of each of `n` nodes that own the classes, in order, before their first turn. They cut batches of
+/// at most `batch` items, and each one's inbox holds at most `capacity` batches.
+///
+/// Errors, tested in this order: `Nodes` where `n` isn't 1 to 16; `Sizes` where `batch` isn't 1 to 4096 or `capacity` not 1
+/// to 1024; `Memory`.
+pub fn crew(
+    alloc: Global,
+    classes: &Classes,
+    n: usize,
+    batch: usize,
+    capacity: usize,
+) -> Result<(Board, Vec<Runner>), Fault>
+    ensures opened { IfOk result (λ opened. IsNewCrew classes.now.set n batch capacity opened.0 opened.1.items) }
+    ensures within { OnOk result (AreWithin n batch capacity) }
+    ensures fault { IfErr result (HasCrewFault n batch capacity) }
+{
+    if let Some(fault) = size_passed(n, batch, capacity) {
+        return Err(fault);
+    }
+    match open_crew(alloc, classes, n, batch, capacity) {
+        Ok(opened) => Ok(opened),
+        Err(_) => Err(Fault::Memory),
+    }
+}
+
+// A crew as above, of sizes within their limits.
+fn open_crew(
+    alloc: Global,
+    classes: &Classes,
+    n: usize,
+    batch: usize,
+    capacity: usize,
+) -> Result<(Board, Vec<Runner>), Memory>
+    requires { AreWithin n batch capacity }
+    ensures { IfOk result (λ opened. IsNewCrew classes.now.set n batch capacity opened.0 opened.1.items) }
+{
+    let openings = opening(alloc, classes)?;
+    crew_of(alloc, classes.set, openings, n, batch, capacity)
+}
+
+/// A crew as above, by what was found of each class of the piece set, which is given up.
+///
+/// Error: `Memory`.
+pub(crate) fn crew_of(
+    alloc: Global,
+    set: PieceSet,
+    openings: Vec<Opening>,
+    n: usize,
+    batch: usize,
+    capacity: usize,
+) -> Result<(Board, Vec<Runner>), Memory>
+    requires openings { AreOpenings set openings.items }
+    requires within { AreWithin n batch capacity }
+    ensures { IfOk result (λ opened. IsNewCrew set n batch capacity opened.0 opened.1.items) }
+{
+    let (board, endpoints) = open_endpoints(alloc, n, capacity)?;
+    let runners = runners_of(alloc, set, &openings, endpoints, batch)?;
+    Ok((board, runners))
+}
+
+// The runner of each endpoint.
+fn runners_of(
+    alloc: Global,
+    set: PieceSet,
+    openings: &[Opening],
+    endpoints: Vec<Endpoint>,
+    size: usize,
+) -> Result<Vec<Runner>, Memory>
+    requires openings { AreOpenings set openings.now }
+    requires some { 0 < size }
+    requires at_most { size ≤ 4096 }
+    requires new { (capacity : ℕ) × AreNewEndpoints capacity endpoints.items }
+    ensures { IfOk result (λ runners. AllZip (IsRunnerOf set size) endpoints.items runners.items) }
+{
+    let mut runners = Vec::with_capacity(alloc, endpoints.len())?;
+    for endpoint in endpoints {
+        let runner = man(alloc, set, openings, endpoint, size)?;
+        runners.push(runner)?;
+    }
+    Ok(runners)
+}
+
+// The runner of an endpoint, with a node that is opened for its seat.
+fn man(
+    alloc: Global,
+    set: PieceSet,
+    openings: &[Opening],
+    endpoint: Endpoint,
+    size: usize,
+) -> Result<Runner, Memory>
+    requires openings { AreOpenings set openings.now }
+    requires some { 0 < size }
+    requires at_most { size ≤ 4096 }
+    requires new { (capacity : ℕ) × IsNewEndpoint capacity endpoint }
+    ensures { IfOk result (IsRunnerOf set size endpoint) }
+{
+    let node = Node::open(
+        alloc,
+        openings,
+        set,
+        endpoint.seat.node,
+        endpoint.seat.nodes,
+    )?;
+    Ok(Runner::new(node, endpoint, set, size))
+}
+
+/// A board of `n` nodes, 1 to 16, and the endpoint of each of them, in order, with inboxes that hold at most `capacity`
+/// batches. Nothing is posted or sent yet.
+///
+/// Error: `Memory`.
+pub(crate) fn open_endpoints(
+    alloc: Global,
+    n: usize,
+    capacity: usize,
+) -> Result<(Board, Vec<Endpoint>), Memory>
+    requires size { IsSize n }
+    requires some { 0 < capacity }
+    ensures nodes { IfOk result (λ opened. opened.0.nodes ≡ n) }
+    ensures crew { IfOk result (λ opened. IsCrew opened.0 opened.1.items) }
+    ensures new { IfOk result (λ opened. AreNewEndpoints capacity opened.1.items) }
+{
+    let Ok((board, seats)) = Board::open(alloc, n) else {
+        return Err(Memory);
+    };
+    let (rows, inlets) = lay(alloc, n, capacity)?;
+    let endpoints = seat_all(alloc, seats, rows, inlets)?;
+    Ok((board, endpoints))
+}
+
+// The endpoint of each seat, with its row of outlets and its inlet.
+fn seat_all(
+    alloc: Global,
+    seats: Vec<NodeSeat>,
+    rows: Vec<Vec<Outlet>>,
+    inlets: Vec<Inlet>,
+) -> Result<Vec<Endpoint>, Memory>
+    requires { CanSeatAll seats.items rows.items inlets.items }
+    ensures { IfOk result (λ endpoints. AreSeated (vec_len seats) seats.items rows.items inlets.items endpoints.items) }
+{
+    let mut endpoints = Vec::with_capacity(alloc, seats.len())?;
+    let mut rows_left = rows.into_iter();
+    let mut inlets_left = inlets.into_iter();
+    for seat in seats {
+        let Some(outlets) = rows_left.next() else {
+            unreachable!()
+        };
+        let Some(inlet) = inlets_left.next() else {
+            unreachable!()
+        };
+        endpoints.push(Endpoint::new(seat, outlets, inlet))?;
+    }
+    Ok(endpoints)
+}

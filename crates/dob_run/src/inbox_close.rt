@@ -1,0 +1,109 @@
+// How the inboxes of a crew are ended: the ends of each come together again.
+ghost use Rattle.std.specs.Prelude.{◌≡◌, ◌≢◌, ◌<◌, ℕ, IfOk, Some, map, vec_len};
+ghost use Rattle.dob_update.specs.Batches.{BatchView};
+ghost use Rattle.dob_chan.specs.Ends.{taken_by, AreEndsOf, AreRejoined};
+ghost use Rattle.dob_run.specs.Hands.{held_from, hand_row};
+ghost use Rattle.dob_run.specs.InboxClose.{outlet_end, outlet_hand, AreEnds, AreJoined};
+
+use crate::hands::Outlet;
+use crate::rows::{deal, empty_rows, join};
+use dob_chan::{Rejoined, SendEnd, TakeEnd, rejoin_inbox};
+use dob_pieces::Memory;
+use dob_update::Batch;
+use std::alloc::Global;
+use std::sync::Wait;
+
+/// The ends of a node's outlets, and what is in their hands.
+///
+/// Error: `Memory`.
+pub(crate) fn part_outlets(
+    alloc: Global,
+    outlets: Vec<Outlet>,
+) -> Result<(Vec<SendEnd>, Vec<Option<Batch>>), Memory>
+    ensures ends { IfOk result (λ parts. parts.0.items ≡ map outlet_end outlets.items) }
+    ensures hands { IfOk result (λ parts. parts.1.items ≡ map outlet_hand outlets.items) }
+{
+    let mut ends = Vec::with_capacity(alloc, outlets.len())?;
+    let mut hands = Vec::with_capacity(alloc, outlets.len())?;
+    for outlet in outlets {
+        let Outlet { end, hand } = outlet;
+        ends.push(end)?;
+        hands.push(hand)?;
+    }
+    Ok((ends, hands))
+}
+
+/// What is in a node's taking hand, at the place of its sender among all `n` nodes.
+///
+/// Error: `Memory`.
+pub(crate) fn spread_hand(
+    alloc: Global,
+    hand: Option<Batch>,
+    n: usize,
+) -> Result<Vec<Option<Batch>>, Memory>
+    ensures { IfOk result (λ hands. hands.items ≡ hand_row n hand) }
+{
+    let mut left = hand;
+    let mut hands = Vec::with_capacity(alloc, n)?;
+    for from in 0..n {
+        hands.push(take_of(&mut left, from))?;
+    }
+    Ok(hands)
+}
+
+// What is in the hand, if it is of that sender.
+fn take_of(hand: &mut Option<Batch>, from: usize) -> Option<Batch>
+    ensures taken { result ≡ held_from hand.old from }
+    ensures others { (k : ℕ) → k ≢ from → held_from hand.new k ≡ held_from hand.old k }
+{
+    let is_of = match hand {
+        Some(batch) => batch.from() == from,
+        None => false,
+    };
+    if !is_of {
+        return None;
+    }
+    hand.take()
+}
+
+/// Ends the inboxes: the ends that send to each stand in the row of its place, and its taking end at that place. What went
+/// through each, by sender and then by receiver. Its promises hold if it returns.
+///
+/// Error: `Memory`, which gives the inboxes up.
+pub(crate) fn rejoin_all<R: Wait>(
+    rt: &R,
+    alloc: Global,
+    sends: Vec<Vec<SendEnd>>,
+    takes: Vec<TakeEnd>,
+) -> Result<Vec<Rejoined>, Memory>
+    requires { AreEnds (vec_len takes) sends.items takes.items }
+    ensures { IfOk result (λ links. AreJoined (vec_len takes) sends.items takes.items links.items) }
+{
+    let n = takes.len();
+    let mut rows = empty_rows(alloc, n)?;
+    let mut left = takes.into_iter();
+    for row in sends {
+        let Some(take) = left.next() else {
+            unreachable!()
+        };
+        let links = rejoin_one(rt, alloc, row, take)?;
+        deal(links, &mut rows)?;
+    }
+    join(alloc, rows, n)
+}
+
+// Ends an inbox.
+fn rejoin_one<R: Wait>(
+    rt: &R,
+    alloc: Global,
+    sends: Vec<SendEnd>,
+    take: TakeEnd,
+) -> Result<Vec<Rejoined>, Memory>
+    requires { AreEndsOf take sends.items }
+    ensures { IfOk result (λ links. AreRejoined sends.items (taken_by take) links.items) }
+{
+    match rejoin_inbox(rt, alloc, sends, take) {
+        Ok(links) => Ok(links),
+        Err(_) => Err(Memory),
+    }
+}

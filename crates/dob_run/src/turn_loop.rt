@@ -1,0 +1,97 @@
+// Turns of a runner, one after another.
+ghost use Rattle.std.specs.Prelude.{◌≡◌, ◌≢◌, true, None, IfErr, OnOk, MatchResult};
+ghost use Rattle.dob_board.specs.declared.halt.Halt.TheVariants.{Running};
+ghost use Rattle.dob_run.specs.Runners.{GoesOn, HasFailed, KeepsRunner, IsAsked, IsReasonFor, IsReasoned, says_no};
+ghost use Rattle.dob_run.specs.TurnRounds.{AddsFew};
+
+use crate::gate::Gate;
+use crate::runner::Runner;
+use dob_node::Cause;
+use dob_rank::Classes;
+use std::sync::Wait;
+
+/// How long a runner makes turns: so many, without the halt word and the token, or until its seat has seen that the run ended
+/// or failed.
+#[derive(Drop)]
+pub(crate) enum Until {
+    Turns(u64),
+    Stopped,
+}
+
+impl Runner {
+    ghost use Rattle.dob_run.specs.TurnLoop.{Suits, EndsBy};
+
+    /// Makes turns for so long, or ends at the first that fails. Its promises hold if it returns.
+    pub(crate) fn go_until<R: Wait, G: Gate>(
+        &mut self,
+        rt: &R,
+        classes: &Classes,
+        gate: &G,
+        until: &Until,
+    )
+        requires { Suits classes.now.set self.old }
+        ensures { EndsBy (G.says gate.now) until.now self.old self.new }
+    {
+        match until {
+            Until::Turns(turns) => self.go(rt, classes, gate, *turns),
+            Until::Stopped => self.make_turns(rt, classes, gate),
+        }
+    }
+
+    // Makes whole turns until its seat has seen that the run ended or failed: the gate let it go on at least once, where the run
+    // went on and it didn't fail. Its promises hold if it returns.
+    fn make_turns<R: Wait, G: Gate>(&mut self, rt: &R, classes: &Classes, gate: &G)
+        requires unfailed { self.old.failed ≡ None }
+        requires set { classes.now.set ≡ self.old.set }
+        ensures keeps { KeepsRunner self.old self.new }
+        ensures stopped { self.new.endpoint.seat.halt ≢ Running }
+        ensures let_on { self.old.endpoint.seat.halt ≡ Running → self.new.failed ≡ None → G.says gate.now self.new.endpoint.seat.node true }
+        ensures reasoned { IsReasoned (says_no (G.says gate.now)) self.new }
+    {
+        for _ in rt.forever() {
+            if self.stopped() {
+                return;
+            }
+            let _ = self.turn(rt, classes, gate);
+        }
+        unreachable!()
+    }
+
+    // Makes so many turns of work for its node, or ends at the first that fails. If none did, at most one batch a turn went over
+    // each link. Its promises hold if it returns.
+    fn go<R: Wait, G: Gate>(&mut self, rt: &R, classes: &Classes, gate: &G, turns: u64)
+        requires unfailed { self.old.failed ≡ None }
+        requires set { classes.now.set ≡ self.old.set }
+        ensures keeps { KeepsRunner self.old self.new }
+        ensures few { self.new.failed ≡ None → AddsFew turns self.old.endpoint self.new.endpoint }
+        ensures reasoned { IsReasoned (says_no (G.says gate.now)) self.new }
+    {
+        for _ in 0..turns {
+            let Ok(_) = self.turn_alone(rt, classes, gate) else {
+                return;
+            };
+        }
+    }
+
+    // One turn, without the halt word and the token: a runner that the gate lets pass does a turn's work for its node.
+    // Whether there was any.
+    fn turn_alone<R: Wait, G: Gate>(
+        &mut self,
+        rt: &R,
+        classes: &Classes,
+        gate: &G,
+    ) -> Result<bool, Cause>
+        requires unfailed { self.old.failed ≡ None }
+        requires set { classes.now.set ≡ self.old.set }
+        ensures goes { MatchResult result (λ _. GoesOn self.old self.new) (HasFailed self.old self.new) }
+        ensures few { OnOk result (AddsFew 1 self.old.endpoint self.new.endpoint) }
+        ensures asked { IsAsked (G.says gate.now) self.old.endpoint.seat.node result }
+        ensures reason { IfErr result (IsReasonFor (says_no (G.says gate.now)) self.new) }
+    {
+        if !gate.enter(self.endpoint.seat.node) {
+            self.abandon(Cause::Held);
+            return Err(Cause::Held);
+        }
+        self.work(rt, classes)
+    }
+}

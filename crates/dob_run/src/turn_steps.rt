@@ -1,0 +1,146 @@
+// What a runner does for its node: it takes batches, expands settlements, applies items and sends batches.
+ghost use Rattle.std.specs.Prelude.{◌≡◌, ◌≢◌, ◌↔◌, ◌<◌, IsTrue, Some, None, slice_get};
+ghost use Rattle.dob_run.specs.Runners.{StepsBy};
+ghost use Rattle.dob_run.specs.TurnRounds.{TakesBatch, ExpandsOne, AppliesOne, HasToSend, CutsLeft, FillsFor, SendsTo};
+
+use crate::hands::Outlet;
+use crate::runner::Runner;
+use dob_node::Cause;
+use dob_rank::Classes;
+use std::sync::Wait;
+
+impl Runner {
+    /// Takes the batch in the taking hand, else the next of the inbox, if it is one of another node that the board knows of, and
+    /// applies its items. False where there is none. Its node makes room for the items before the batch is counted.
+    pub(crate) fn take_one<R: Wait>(&mut self, rt: &R) -> Result<bool, Cause>
+        requires { self.old.failed ≡ None }
+        ensures { StepsBy TakesBatch self.old self.new result }
+    {
+        self.endpoint.receive(rt);
+        match self.node.reserve(self.endpoint.held_items()) {
+            Ok(()) => {}
+            Err(refused) => {
+                self.failed = Some(refused);
+                self.endpoint.fail();
+                return Err(refused);
+            }
+        }
+        let Some(batch) = self.endpoint.accept(self.set) else {
+            return Ok(false);
+        };
+        match self.node.apply_batch(&batch) {
+            Ok(()) => Ok(true),
+            Err(why) => {
+                self.failed = Some(why);
+                self.endpoint.fail();
+                Err(why)
+            }
+        }
+    }
+
+    /// Expands the next settlement of the node's history. False where there is none.
+    pub(crate) fn expand_one(&mut self, classes: &Classes) -> Result<bool, Cause>
+        requires unfailed { self.old.failed ≡ None }
+        requires set { classes.now.set ≡ self.old.set }
+        ensures { StepsBy ExpandsOne self.old self.new result }
+    {
+        match self.node.expand(classes) {
+            Ok(expanded) => Ok(expanded),
+            Err(why) => {
+                self.failed = Some(why);
+                self.endpoint.fail();
+                Err(why)
+            }
+        }
+    }
+
+    /// Applies the first of the node's own items. False where there is none.
+    pub(crate) fn apply_one(&mut self) -> Result<bool, Cause>
+        requires { self.old.failed ≡ None }
+        ensures { StepsBy AppliesOne self.old self.new result }
+    {
+        match self.node.apply_own() {
+            Ok(applied) => Ok(applied),
+            Err(why) => {
+                self.failed = Some(why);
+                self.endpoint.fail();
+                Err(why)
+            }
+        }
+    }
+
+    /// Cuts a batch for the node `to`, another one for which no batch lies in the hand, counts it on the board and puts it
+    /// into the hand. False where nothing is left to send to that node.
+    fn cut_for(&mut self, to: usize) -> Result<bool, Cause>
+        requires unfailed { self.old.failed ≡ None }
+        requires node { to < self.old.endpoint.seat.nodes }
+        requires other { to ≢ self.old.endpoint.seat.node }
+        requires empty { (outlet : Outlet) → slice_get self.old.endpoint.outlets.items to ≡ Some outlet → outlet.hand ≡ None }
+        ensures { StepsBy (CutsLeft to) self.old self.new result }
+    {
+        let cut = match self.node.cut_for(to, self.size) {
+            Ok(cut) => cut,
+            Err(why) => {
+                self.failed = Some(why);
+                self.endpoint.fail();
+                return Err(why);
+            }
+        };
+        let Some(batch) = cut else {
+            return Ok(false);
+        };
+        self.endpoint.post(to, batch);
+        Ok(true)
+    }
+
+    // Whether a whole batch is left to send to the node `to`, or anything where small ones are asked for.
+    fn has_to_send(&self, to: usize, small: bool) -> bool
+        requires unfailed { self.now.failed ≡ None }
+        requires node { to < self.now.endpoint.seat.nodes }
+        ensures { IsTrue result ↔ HasToSend self.now to small }
+    {
+        let left = self.node.left_for(to);
+        if left == 0 {
+            return false;
+        }
+        if small {
+            return true;
+        }
+        left >= self.size
+    }
+
+    /// Cuts a batch for the node `to`, another one, as above, if none lies in the hand and a whole one is left to send, or
+    /// anything where small ones are asked for.
+    fn fill_for(&mut self, to: usize, small: bool) -> Result<bool, Cause>
+        requires unfailed { self.old.failed ≡ None }
+        requires node { to < self.old.endpoint.seat.nodes }
+        requires other { to ≢ self.old.endpoint.seat.node }
+        ensures { StepsBy (FillsFor to small) self.old self.new result }
+    {
+        if self.endpoint.is_full(to) {
+            return Ok(false);
+        }
+        if !self.has_to_send(to, small) {
+            return Ok(false);
+        }
+        self.cut_for(to)
+    }
+
+    /// Offers a batch for the node `to`, if that is another one, to its inbox: the one in the hand or a new one. Whether it
+    /// was sent.
+    pub(crate) fn send_to<R: Wait>(&mut self, rt: &R, to: usize, small: bool) -> Result<bool, Cause>
+        requires unfailed { self.old.failed ≡ None }
+        requires node { to < self.old.endpoint.seat.nodes }
+        ensures { StepsBy (SendsTo to small) self.old self.new result }
+    {
+        if to == self.endpoint.seat.node {
+            return Ok(false);
+        }
+        self.fill_for(to, small)?;
+        if !self.endpoint.is_full(to) {
+            return Ok(false);
+        }
+        self.endpoint.offer(rt, to);
+        Ok(!self.endpoint.is_full(to))
+    }
+}

@@ -1,0 +1,99 @@
+// What a runner does with the words of the board besides its counts: the token and the halt.
+ghost use Rattle.std.specs.Prelude.{◌≡◌, ◌≢◌, ◌↔◌, ℕ, IsTrue, Some, None, true, false};
+ghost use Rattle.dob_board.specs.declared.halt.Halt.TheVariants.{Running, Ended};
+ghost use Rattle.dob_board.specs.Seats.{stand_of, MayEnd, KnewOwnFailure, ObservesHalt, HasAnnounced};
+ghost use Rattle.dob_run.specs.Endpoints.{AreOut};
+ghost use Rattle.dob_run.specs.Keeps.{HasSameLinks};
+ghost use Rattle.dob_run.specs.TurnToken.{HasLooked, HasPassed};
+
+use crate::endpoint::Endpoint;
+use crate::hands::Outlet;
+use dob_board::Halt;
+
+impl Endpoint {
+    /// Whether the board's token is at the node, which knows it from then on until it passes it.
+    pub(crate) fn finds_token(&mut self) -> bool
+        ensures found { IsTrue result ↔ (self.new.seat.token ≢ None) }
+        ensures looked { HasLooked self.old.seat self.new.seat }
+        ensures links { HasSameLinks self.old self.new }
+        ensures colour { self.new.seat.black ≡ self.old.seat.black }
+        ensures halt { self.new.seat.halt ≡ self.old.seat.halt }
+    {
+        let token = self.seat.token();
+        token.at == self.seat.node
+    }
+
+    /// Passes the token, which the node knows; the node is white afterwards.
+    pub(crate) fn pass(&mut self)
+        requires { self.old.seat.token ≢ None }
+        ensures passed { HasPassed self.old.seat self.new.seat }
+        ensures links { HasSameLinks self.old self.new }
+        ensures colour { self.new.seat.black ≡ false }
+        ensures halt { self.new.seat.halt ≡ self.old.seat.halt }
+    {
+        self.seat.pass();
+    }
+
+    /// Whether the node may announce the end if it is idle.
+    pub(crate) fn may_announce(&self) -> bool
+        ensures { IsTrue result ↔ MayEnd (stand_of self.now.seat) }
+    {
+        self.seat.may_announce()
+    }
+
+    /// Announces the end, which the node may do. The halt that its seat finds isn't `Running`, and the node's own failure only
+    /// where the seat knew that.
+    pub(crate) fn announce(&mut self)
+        requires { MayEnd (stand_of self.old.seat) }
+        ensures announced { HasAnnounced self.old.seat self.new.seat self.new.seat.halt }
+        ensures links { HasSameLinks self.old self.new }
+        ensures colour { self.new.seat.black ≡ self.old.seat.black }
+        ensures stopped { self.new.seat.halt ≢ Running }
+        ensures own { KnewOwnFailure self.old.seat self.new.seat.halt }
+    {
+        let _ = self.seat.announce();
+    }
+
+    /// Says that the node failed the run. The halt that its seat finds isn't `Running`; it is the one that it knew, if it knew
+    /// one; and `Ended` only where the node is white.
+    pub(crate) fn fail(&mut self)
+        ensures links { HasSameLinks self.old self.new }
+        ensures colour { self.new.seat.black ≡ self.old.seat.black }
+        ensures stopped { self.new.seat.halt ≢ Running }
+        ensures stays { self.old.seat.halt ≢ Running → self.new.seat.halt ≡ self.old.seat.halt }
+        ensures black { self.old.seat.black ≡ true → self.new.seat.halt ≢ Ended }
+    {
+        let _ = self.seat.fail();
+    }
+
+    /// Whether the run goes on, as the board says now. It says that the node itself failed only where the seat knew that.
+    pub(crate) fn halted(&mut self) -> Halt
+        ensures halt { result ≡ self.new.seat.halt }
+        ensures links { HasSameLinks self.old self.new }
+        ensures colour { self.new.seat.black ≡ self.old.seat.black }
+        ensures stays { self.old.seat.halt ≢ Running → self.new.seat.halt ≡ self.old.seat.halt }
+        ensures own { KnewOwnFailure self.old.seat self.new.seat.halt }
+        ensures observed { ObservesHalt self.old.seat self.new.seat self.new.seat.halt }
+    {
+        self.seat.halted()
+    }
+
+    /// Whether no batch lies in a hand.
+    pub(crate) fn is_out_of_hand(&self) -> bool
+        ensures { IsTrue result ↔ (AreOut self.now.outlets.items × (self.now.inlet.hand ≡ None)) }
+    {
+        are_out(&self.outlets) && !self.inlet.is_full()
+    }
+}
+
+// Whether each sending hand is empty.
+fn are_out(outlets: &[Outlet]) -> bool
+    ensures { IsTrue result ↔ AreOut outlets.now }
+{
+    for outlet in outlets {
+        if outlet.is_full() {
+            return false;
+        }
+    }
+    true
+}

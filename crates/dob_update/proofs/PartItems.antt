@@ -1,0 +1,262 @@
+-- The items of parts, of which only the classes are listed that they are for.
+use Rattle.std.proofs.Common.{◌≡◌, ℕ, ◌+◌, ◌-◌, ◌<◌, ◌≤◌, min, List, [], ◌∷◌, ◌++◌, length, take, drop, get_or, refl, sym, ap}
+use Rattle.std.proofs.Common.{◌∙◌, subst, inl, inr, arith, length-append, length-drop, length-take-le}
+use Rattle.std.specs.Prelude.{◌==◌, ◌^◌, map}
+use Rattle.std.specs.List.{filter}
+use Rattle.std.proofs.lemmas.Bool.{cases_lt, cases_eq}
+use Rattle.std.proofs.lemmas.List.{append_assoc, append-nil, length-map, map-append, take-append-le, drop-append-le, take_all, take-take, take-append-drop}
+use Rattle.std.proofs.lemmas.List.{drop-take, drop-drop, take_at, drop_at, drop_all, drop_more, map_more, get_or-drop, nil_from_length}
+use Rattle.dob_share.specs.declared.news.Settlement.{Settlement}
+use Rattle.dob_share.specs.declared.news.Item.{Item}
+use Rattle.dob_value.specs.declared.value.Value.TheVariants.{Win}
+use Rattle.dob_update.specs.declared.part.Part.{Part}
+use Rattle.dob_pieces.specs.declared.piece_set.PieceSet.{PieceSet}
+use Rattle.dob_share.specs.Owners.{owner_of}
+use Rattle.dob_unmove.specs.Edges.{predecessors}
+use Rattle.dob_update.specs.Items.{item_for, items_of}
+use Rattle.dob_update.specs.Parts.{total, front, behind, skip_behind, items_of_parts, target_of}
+use Rattle.dob_update.specs.Batches.{OutboxView, added}
+use Rattle.dob_update.specs.Runs.{IsRest, AreListed}
+use Rattle.dob_update.proofs.PartLists.{front-zero, front-cons, behind-within, behind-past}
+use Rattle.dob_update.proofs.Runs.{total-front, rest_many, rest_added, rest_cut}
+
+-- there are as many as the parts say
+pub items_of_parts-length : (parts : List Part) (classes : List ℕ) → total parts ≤ length classes → length (items_of_parts parts classes) ≡ total parts
+items_of_parts-length [] classes within = refl
+items_of_parts-length (part ∷ parts) classes within =
+    let own = map (item_for part.settlement) (take part.items classes) in
+    let taken : length own ≡ part.items =
+    length-map (take part.items classes) (item_for part.settlement) ∙ length-take-le part.items classes (omega (arith, within)) in
+    let left = length-drop part.items classes in
+    let later = items_of_parts-length parts (drop part.items classes) (omega (arith, within, left)) in
+    let both = length-append own (items_of_parts parts (drop part.items classes)) in
+    omega (arith, taken, later, both)
+
+-- one part more, with its classes
+pub items_of_parts-push : (parts : List Part) (part : Part) (classes more : List ℕ) → total parts ≡ length classes → part.items ≡ length more
+    → items_of_parts (parts ++ part ∷ []) (classes ++ more) ≡ items_of_parts parts classes ++ map (item_for part.settlement) more
+items_of_parts-push [] part [] more all m =
+    append-nil (map (item_for part.settlement) (take part.items more)) ∙ ap (λ (xs : List ℕ). map (item_for part.settlement) xs) (take_all part.items more (omega (arith, m)))
+items_of_parts-push [] part (class ∷ classes) more all m = absurd (omega (arith, all))
+items_of_parts-push (first ∷ parts) part classes more all m =
+    let within : first.items ≤ length classes = omega (arith, all) in
+    let left = length-drop first.items classes in
+    let own = map (item_for first.settlement) (take first.items classes) in
+    ap (λ (xs : List ℕ). map (item_for first.settlement) xs ++ items_of_parts (parts ++ part ∷ []) (drop first.items (classes ++ more))) (take-append-le first.items classes more within)
+    ∙ ap (λ (xs : List ℕ). own ++ items_of_parts (parts ++ part ∷ []) xs) (drop-append-le first.items classes more within)
+    ∙ ap (λ (xs : List Item). own ++ xs) (items_of_parts-push parts part (drop first.items classes) more (omega (arith, all, left)) m)
+    ∙ sym (append_assoc own (items_of_parts parts (drop first.items classes)) (map (item_for part.settlement) more))
+
+-- ---- the items in front, and those behind them
+
+front_within : (k : ℕ) (part : Part) (parts : List Part) (classes : List ℕ) → k ≤ part.items →
+    items_of_parts (front k (part ∷ parts)) classes ≡ map (item_for part.settlement) (take k classes)
+front_within k part parts classes within = elim (cases_eq k 0) [
+  | inl none ↦
+      ap (λ m. items_of_parts (front m (part ∷ parts)) classes) none ∙ sym (ap (λ m. map (item_for part.settlement) (take m classes)) none)
+  | inr some ↦
+      let least : min k part.items ≡ k = omega (arith, within) in
+      let over : k - part.items ≡ 0 = omega (arith, within) in
+      ap (λ (ps : List Part). items_of_parts ps classes) (front-cons k part parts (omega (arith, some)))
+      ∙ ap (λ m. map (item_for part.settlement) (take m classes) ++ items_of_parts (front (k - part.items) parts) (drop m classes)) least
+      ∙ ap (λ (ps : List Part). map (item_for part.settlement) (take k classes) ++ items_of_parts ps (drop k classes)) (ap (λ m. front m parts) over ∙ front-zero parts)
+      ∙ append-nil (map (item_for part.settlement) (take k classes))
+]
+
+front_past : (k : ℕ) (part : Part) (parts : List Part) (classes : List ℕ) → part.items ≤ k →
+    items_of_parts (front k (part ∷ parts)) classes ≡ map (item_for part.settlement) (take part.items classes) ++ items_of_parts (front (k - part.items) parts) (drop part.items classes)
+front_past k part parts classes past = elim (cases_eq k 0) [
+  | inl none ↦
+      let empty : part.items ≡ 0 = omega (arith, none, past) in
+      let over : k - part.items ≡ 0 = omega (arith, none) in
+      ap (λ m. items_of_parts (front m (part ∷ parts)) classes) none
+      ∙ sym (ap (λ m. map (item_for part.settlement) (take m classes) ++ items_of_parts (front (k - part.items) parts) (drop m classes)) empty
+      ∙ ap (λ (ps : List Part). items_of_parts ps classes) (ap (λ m. front m parts) over ∙ front-zero parts))
+  | inr some ↦
+      let least : min k part.items ≡ part.items = omega (arith, past) in
+      ap (λ (ps : List Part). items_of_parts ps classes) (front-cons k part parts (omega (arith, some)))
+      ∙ ap (λ m. map (item_for part.settlement) (take m classes) ++ items_of_parts (front (k - part.items) parts) (drop m classes)) least
+]
+
+-- the classes of a part, in two pieces
+two_pieces : (k m : ℕ) (classes : List ℕ) → k ≤ m → take k classes ++ take (m - k) (drop k classes) ≡ take m classes
+two_pieces k m classes within =
+    let whole : k + (m - k) ≡ m = omega (arith, within) in
+    sym (ap (λ (xs : List ℕ). xs ++ take (m - k) (drop k classes)) (take-take k m classes within))
+    ∙ ap (λ (xs : List ℕ). take k (take m classes) ++ xs) (sym (drop-take k (m - k) classes) ∙ ap (λ j. drop k (take j classes)) whole)
+    ∙ take-append-drop k (take m classes)
+
+items_of_parts-split : (k : ℕ) (parts : List Part) (classes : List ℕ) → items_of_parts (front k parts) classes ++ items_of_parts (behind k parts) (drop k classes) ≡ items_of_parts parts classes
+items_of_parts-split k [] classes = refl
+items_of_parts-split k (part ∷ parts) classes = elim (cases_lt k part.items) [
+  | inl lt ↦
+      let f = item_for part.settlement in
+      let within : k ≤ part.items = omega (arith, lt) in
+      let tail = items_of_parts parts (drop part.items classes) in
+      let whole : k + (part.items - k) ≡ part.items = omega (arith, lt) in
+      ap (λ (xs : List Item). xs ++ items_of_parts (behind k (part ∷ parts)) (drop k classes)) (front_within k part parts classes within)
+      ∙ ap (λ (ps : List Part). map f (take k classes) ++ items_of_parts ps (drop k classes)) (behind-within k part parts lt)
+      ∙ ap (λ (xs : List ℕ). map f (take k classes) ++ (map f (take (part.items - k) (drop k classes)) ++ items_of_parts parts xs))
+      (drop-drop (part.items - k) k classes ∙ ap (λ m. drop m classes) whole)
+      ∙ sym (append_assoc (map f (take k classes)) (map f (take (part.items - k) (drop k classes))) tail)
+      ∙ ap (λ (xs : List Item). xs ++ tail) (sym (map-append f (take k classes) (take (part.items - k) (drop k classes)))
+      ∙ ap (λ (xs : List ℕ). map f xs) (two_pieces k part.items classes within))
+  | inr le ↦
+      let own = map (item_for part.settlement) (take part.items classes) in
+      let before = items_of_parts (front (k - part.items) parts) (drop part.items classes) in
+      let whole : part.items + (k - part.items) ≡ k = omega (arith, le) in
+      ap (λ (xs : List Item). xs ++ items_of_parts (behind k (part ∷ parts)) (drop k classes)) (front_past k part parts classes le)
+      ∙ ap (λ (ps : List Part). (own ++ before) ++ items_of_parts ps (drop k classes)) (behind-past k part parts le)
+      ∙ ap (λ (xs : List ℕ). (own ++ before) ++ items_of_parts (behind (k - part.items) parts) xs)
+      (sym (drop-drop (k - part.items) part.items classes ∙ ap (λ m. drop m classes) whole))
+      ∙ append_assoc own before (items_of_parts (behind (k - part.items) parts) (drop (k - part.items) (drop part.items classes)))
+      ∙ ap (λ (xs : List Item). own ++ xs) (items_of_parts-split (k - part.items) parts (drop part.items classes))
+]
+
+long : (k : ℕ) (parts : List Part) (classes : List ℕ) → total parts ≤ length classes → k ≤ total parts → length (items_of_parts (front k parts) classes) ≡ k
+long k parts classes enough within =
+    let many = total-front parts k within in
+    items_of_parts-length (front k parts) classes (omega (arith, many, enough, within)) ∙ many
+
+pub items_of_parts-front : (k : ℕ) (parts : List Part) (classes : List ℕ) → total parts ≤ length classes → k ≤ total parts → items_of_parts (front k parts) classes ≡ take k (items_of_parts parts classes)
+items_of_parts-front k parts classes enough within =
+    sym (take_at (items_of_parts (front k parts) classes) (items_of_parts (behind k parts) (drop k classes)) k (long k parts classes enough within))
+    ∙ ap (λ (xs : List Item). take k xs) (items_of_parts-split k parts classes)
+
+pub items_of_parts-behind : (k : ℕ) (parts : List Part) (classes : List ℕ) → total parts ≤ length classes → k ≤ total parts
+    → items_of_parts (behind k parts) (drop k classes) ≡ drop k (items_of_parts parts classes)
+items_of_parts-behind k parts classes enough within =
+    sym (drop_at (items_of_parts (front k parts) classes) (items_of_parts (behind k parts) (drop k classes)) k (long k parts classes enough within))
+    ∙ ap (λ (xs : List Item). drop k xs) (items_of_parts-split k parts classes)
+
+-- ---- the classes of items
+
+targets_of_items : (s : Settlement) (classes : List ℕ) → map target_of (map (item_for s) classes) ≡ classes
+targets_of_items s [] = refl
+targets_of_items s (class ∷ classes) = ap (λ (xs : List ℕ). class ∷ xs) (targets_of_items s classes)
+
+-- items of one settlement, from the classes that they are for
+pub items_again : (s : Settlement) (items : List Item) (classes : List ℕ) → items ≡ map (item_for s) classes → map (item_for s) (map target_of items) ≡ items
+items_again s items classes is =
+    ap (λ (xs : List Item). map (item_for s) (map target_of xs)) is ∙ ap (λ (xs : List ℕ). map (item_for s) xs) (targets_of_items s classes) ∙ sym is
+
+-- ---- telling
+
+-- the items of a settlement so far
+pub items_more : (s : Settlement) (before items : List Item) (classes : List ℕ) (start index class : ℕ) → start + index < length classes → class ≡ get_or classes (start + index) class
+    → items ≡ before ++ map (item_for s) (take index (drop start classes)) → items ++ item_for s class ∷ [] ≡ before ++ map (item_for s) (take (index + 1) (drop start classes))
+items_more s before items classes start index class within read so_far =
+    let left = length-drop start classes in
+    let own = map (item_for s) (take index (drop start classes)) in
+    ap (λ (xs : List Item). xs ++ item_for s class ∷ []) so_far ∙ append_assoc before own (item_for s class ∷ [])
+    ∙ ap (λ (xs : List Item). before ++ xs)
+    (ap (λ (c : ℕ). own ++ item_for s c ∷ []) (read ∙ sym (get_or-drop start classes index class))
+    ∙ sym (map_more (item_for s) (drop start classes) index class (omega (arith, within, left))))
+
+-- the items of the parts so far, and what is left to make
+pub record IsMaking (parts : List Part) (classes : List ℕ) (index next : ℕ) (list : List Item) : Type 0 where
+  pub so_far : list ++ items_of_parts (drop index parts) (drop next classes) ≡ items_of_parts parts classes
+  pub within : next + total (drop index parts) ≤ length classes
+
+pub making_none : (parts : List Part) (classes : List ℕ) (list : List Item) → total parts ≤ length classes → list ≡ [] → IsMaking parts classes 0 0 list
+making_none parts classes list within none = record { so_far = ap (λ (xs : List Item). xs ++ items_of_parts parts classes) none; within = omega (arith, within) }
+
+next_part : (parts : List Part) (index : ℕ) (part : Part) → index < length parts → part ≡ get_or parts index part → drop index parts ≡ part ∷ drop (index + 1) parts
+next_part parts index part there read = drop_more parts index part there ∙ ap (λ (p : Part). p ∷ drop (index + 1) parts) (sym read)
+
+-- a part's place beyond the end
+abbrev pub no_part : Part
+no_part = record { settlement = record { number = 0; class = 0; was = Win 0; now = Win 0 }; items = 0 }
+
+-- the next part's classes are there
+pub making_within : (parts : List Part) (classes : List ℕ) (index next : ℕ) (list : List Item) (part : Part) → index < length parts → part ≡ get_or parts index part
+    → IsMaking parts classes index next list → next + part.items ≤ length classes
+making_within parts classes index next list part there read l =
+    let many : total (drop index parts) ≡ part.items + total (drop (index + 1) parts) = ap total (next_part parts index part there read) in
+    let within = l.within in
+    omega (arith, many, within)
+
+pub making_more : (parts : List Part) (classes : List ℕ) (index next : ℕ) (list more : List Item) (part : Part) → index < length parts → part ≡ get_or parts index part
+    → IsMaking parts classes index next list → more ≡ list ++ map (item_for part.settlement) (take part.items (drop next classes))
+    → IsMaking parts classes (index + 1) (next + part.items) more
+making_more parts classes index next list more part there read l is = record {
+  so_far =
+      let own = map (item_for part.settlement) (take part.items (drop next classes)) in
+      let left = items_of_parts (drop (index + 1) parts) (drop part.items (drop next classes)) in
+      ap (λ (xs : List Item). xs ++ items_of_parts (drop (index + 1) parts) (drop (next + part.items) classes)) is
+      ∙ ap (λ (xs : List ℕ). (list ++ own) ++ items_of_parts (drop (index + 1) parts) xs) (sym (drop-drop part.items next classes))
+      ∙ append_assoc list own left
+      ∙ ap (λ (ps : List Part). list ++ items_of_parts ps (drop next classes)) (sym (next_part parts index part there read)) ∙ l.so_far;
+  within =
+      let many : total (drop index parts) ≡ part.items + total (drop (index + 1) parts) = ap total (next_part parts index part there read) in
+      let within = l.within in
+      omega (arith, many, within);
+}
+
+pub making_done : (parts : List Part) (classes : List ℕ) (index next : ℕ) (list : List Item) → length parts ≤ index → IsMaking parts classes index next list
+    → list ≡ items_of_parts parts classes
+making_done parts classes index next list past l =
+    sym (append-nil list) ∙ ap (λ (xs : List Item). list ++ xs) (sym (ap (λ (ps : List Part). items_of_parts ps (drop next classes)) (drop_all index parts past))) ∙ l.so_far
+
+-- there is no item just where there is no class
+pub no_items_of_parts : (parts : List Part) (classes : List ℕ) → total parts ≡ length classes → (items_of_parts parts classes ≡ [] → length classes ≡ 0) × (length classes ≡ 0 → items_of_parts parts classes ≡ [])
+no_items_of_parts parts classes all =
+    let many = items_of_parts-length parts classes (omega (arith, all)) in (
+      (λ none. let empty : length (items_of_parts parts classes) ≡ 0 = ap length none in omega (arith, empty, many, all)),
+      (λ none. nil_from_length (items_of_parts parts classes) (omega (arith, none, many, all))),
+    )
+
+-- ---- what an outbox lists
+
+pub total-push : (parts : List Part) (part : Part) → total (parts ++ part ∷ []) ≡ total parts + part.items
+total-push [] part = omega arith
+total-push (first ∷ parts) part = let later = total-push parts part in omega (arith, later)
+
+-- one settlement more adds its items after the others
+pub items_added : (set : PieceSet) (n to : ℕ) (parts : List Part) (classes : List ℕ) (s : Settlement) (more : List Item) → total parts ≡ length classes
+    → more ≡ items_of (predecessors set) n to s
+    → items_of_parts (parts ++ (record { settlement = s; items = length more }) ∷ []) (classes ++ map target_of more) ≡ items_of_parts parts classes ++ more
+items_added set n to parts classes s more all is =
+    items_of_parts-push parts (record { settlement = s; items = length more }) classes (map target_of more) all (sym (length-map more target_of))
+    ∙ ap (λ (xs : List Item). items_of_parts parts classes ++ xs) (items_again s more (filter (λ class. owner_of n class == to) (predecessors set s.class)) is)
+
+pub listed_more : (set : PieceSet) (n to : ℕ) (parts : List Part) (skip : ℕ) (classes : List ℕ) (s : Settlement) (more : List Item)
+    → AreListed set n to parts skip classes → 0 < length more → length more < 2 ^ 64 → more ≡ items_of (predecessors set) n to s
+    → AreListed set n to (parts ++ (record { settlement = s; items = length more }) ∷ []) skip (classes ++ map target_of more)
+listed_more set n to parts skip classes s more r some low is =
+    let part : Part = record { settlement = s; items = length more } in
+    let before = r.counted in
+    let sum = total-push parts part in
+    let both = length-append classes (map target_of more) in
+    let own = length-map more target_of in
+    record {
+      counted = omega (arith, before, sum, both, own);
+      rest = subst (λ (xs : List Item). IsRest set n to (parts ++ part ∷ []) skip xs) (sym (items_added set n to parts classes s more r.counted is))
+          (rest_added set n to parts skip (items_of_parts parts classes) more s r.rest some low is);
+    }
+
+-- what is left without the first k
+pub listed_behind : (set : PieceSet) (n to : ℕ) (parts : List Part) (skip k : ℕ) (classes : List ℕ) → AreListed set n to parts skip classes → k ≤ length classes
+    → AreListed set n to (behind k parts) (skip_behind skip k parts) (drop k classes)
+listed_behind set n to parts skip k classes r within =
+    let before = r.counted in
+    let all = items_of_parts parts classes in
+    let long = items_of_parts-length parts classes (omega (arith, before)) in
+    let rest = rest_cut set n to parts skip k all r.rest (omega (arith, before, long, within)) in
+    let many = rest_many set n to (behind k parts) (skip_behind skip k parts) (drop k all) rest in
+    let fewer = length-drop k all in
+    let left = length-drop k classes in
+    record {
+      counted = omega (arith, before, long, many, fewer, left);
+      rest = subst (λ (xs : List Item). IsRest set n to (behind k parts) (skip_behind skip k parts) xs)
+          (sym (items_of_parts-behind k parts classes (omega (arith, before)) (omega (arith, before, within)))) rest;
+    }
+
+-- an outbox with a settlement more, which has items
+pub added_is : (view : OutboxView) (settlements : List Settlement) (items more : List Item) (s : Settlement) → 0 < length more
+    → settlements ≡ view.settlements ++ s ∷ [] → items ≡ view.items ++ more
+    → (record view { settlements = settlements; items = items }) ≡ added view s more
+added_is view settlements items [] s some ss is = absurd (omega (arith, some))
+added_is view settlements items (item ∷ more) s some ss is =
+    subst (λ (xs : List Item). (record view { settlements = settlements; items = xs }) ≡ added view s (item ∷ more)) (sym is)
+    (subst (λ (ts : List Settlement). (record view { settlements = ts; items = view.items ++ item ∷ more }) ≡ added view s (item ∷ more)) (sym ss) refl)
