@@ -1,15 +1,20 @@
 -- What taking from an inbox does, and what changed of several links.
 use Rattle.std.proofs.Common.{◌≡◌, ◌≢◌, ℕ, ◌∷◌, [], ◌++◌, length, true, false, List, Some}
-use Rattle.std.proofs.Common.{sym, ap, ◌∙◌, subst, arith}
+use Rattle.std.proofs.Common.{refl, sym, ap, ◌∙◌, subst, arith}
 use Rattle.std.specs.Prelude.{slice_get}
 use Rattle.std.proofs.lemmas.Option.{same_Some, slice_get_within}
 use Rattle.dob_pieces.proofs.Elements.{get_set_other, get_set_same}
+use Rattle.dob_pieces.specs.declared.piece_set.PieceSet.{PieceSet}
 use Rattle.dob_update.specs.Batches.{BatchView}
+use Rattle.dob_node.specs.declared.node.Node.{Node}
+use Rattle.dob_node.specs.Nodes.{IsUnchanged}
+use Rattle.dob_run.specs.declared.hands.Inlet.{Inlet}
 use Rattle.dob_chan.specs.declared.ends.TakeEnd.{TakeEnd}
 use Rattle.dob_chan.specs.Ends.{taken_by}
 use Rattle.dob_run.specs.declared.endpoint.Endpoint.{Endpoint}
 use Rattle.dob_run.specs.declared.runner.Runner.{Runner}
-use Rattle.dob_run.specs.Links.{worked}
+use Rattle.dob_run.specs.Batches.{IsBatchFor}
+use Rattle.dob_run.specs.Links.{worked, HoldsFor}
 use Rattle.dob_run.specs.Endpoints.{HasChangedOne}
 use Rattle.dob_run.specs.TurnRounds.{IsAsked, IsWorkedIn, TakesBatch}
 use Rattle.dob_run.specs.Runners.{GoesOn}
@@ -29,13 +34,32 @@ changed_at {L} R xs ys k one before after was is =
 pub changed_else : {L : Type 0} (R : L → L → Type 0) (xs ys : List L) (k j : ℕ) → HasChangedOne R k xs ys → j ≢ k → slice_get ys j ≡ slice_get xs j
 changed_else {L} R xs ys k j one other = ap (λ (l : List L). slice_get l j) one.4 ∙ get_set_other xs k j one.1 other
 
+-- ---- the batch in the hand
+
+-- the batch that is handed out is the one that was tested
+module _ (set : PieceSet) (n from to : ℕ) (inlet : Inlet) (batch : BatchView) (tested : HoldsFor set n from to inlet) (held : inlet.hand ≡ Some batch) where
+  same_batch : tested.batch ≡ batch
+  same_batch = same_Some tested.batch batch (sym tested.held ∙ held)
+
+  pub of_sender : batch.from ≡ from
+  of_sender = ap (λ (b : BatchView). b.from) (sym same_batch) ∙ tested.sender
+
+  pub of_other : batch.from ≢ to
+  of_other same = tested.other (sym of_sender ∙ same)
+
+  pub fits_node : IsBatchFor set n batch.from to batch
+  fits_node = subst (λ (k : ℕ). IsBatchFor set n k to batch) (sym of_sender) (subst (IsBatchFor set n from to) same_batch tested.fits)
+
+pub unchanged_same : (node : Node) → IsUnchanged node node
+unchanged_same node = record { same = (refl, refl, refl, refl); kept = (refl, refl, refl); outboxes = refl }
+
 -- ---- taking
 
 module _ (old new : Runner) (mid : Endpoint) (goes : GoesOn old new) (received : worked mid.inlet ≡ worked old.endpoint.inlet)
     (asked : IsAsked old.endpoint.inlet mid.inlet) (outlets : new.endpoint.outlets.items ≡ old.endpoint.outlets.items) where
   -- none came, or it isn't worked in
-  pub takes_none : new.endpoint.inlet ≡ mid.inlet → TakesBatch old new false
-  takes_none same = record {
+  pub takes_none : new.endpoint.inlet ≡ mid.inlet → IsUnchanged old.node new.node → TakesBatch old new false
+  takes_none same unchanged = record {
     goes = goes;
     taken = subst (λ i. IsWorkedIn false old.endpoint.inlet i) (sym same) (record {
       few = asked.few;
@@ -44,6 +68,7 @@ module _ (old new : Runner) (mid : Endpoint) (goes : GoesOn old new) (received :
       empty = λ _. asked.empty;
     });
     outlets = outlets;
+    nothing = λ _. unchanged;
   }
 
   -- one is
@@ -57,4 +82,5 @@ module _ (old new : Runner) (mid : Endpoint) (goes : GoesOn old new) (received :
       empty = λ never. absurd (cc);
     };
     outlets = outlets;
+    nothing = λ never. absurd (cc);
   }

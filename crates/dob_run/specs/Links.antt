@@ -1,11 +1,13 @@
 -- The batches of a runner's links, and what a link keeps.
-use Rattle.std.specs.Prelude.{ℕ, List, ◌++◌}
+use Rattle.std.specs.Prelude.{◌≡◌, ◌≢◌, ℕ, List, ◌++◌, Some}
+use Rattle.dob_pieces.specs.declared.piece_set.PieceSet.{PieceSet}
 use Rattle.dob_pieces.specs.Lists.{IsBeginning}
 use Rattle.dob_update.specs.Batches.{BatchView}
 use Rattle.dob_chan.specs.Inboxes.{batches_of}
 use Rattle.dob_chan.specs.Ends.{sent_by, taken_by, place_of, senders_beside, capacity_of, send_told, WasFull, SendsToSame, TakesFromSame}
 use Rattle.dob_run.specs.declared.hands.Outlet.{Outlet}
 use Rattle.dob_run.specs.declared.hands.Inlet.{Inlet}
+use Rattle.dob_run.specs.Batches.{IsBatchFor}
 use Rattle.dob_run.specs.Hands.{in_hand, worked_of}
 
 -- the batches that the inbox took, and then the one in the hand
@@ -18,6 +20,14 @@ worked inlet = worked_of inlet.end inlet.hand
 
 abbrev pub worked_from : Inlet → ℕ → List BatchView
 worked_from inlet from = batches_of from (worked inlet)
+
+-- In the hand lies a batch of the node `from`, which is for the node `to`, another one, of that piece set and one of n.
+pub record HoldsFor (set : PieceSet) (n from to : ℕ) (inlet : Inlet) : Type 0 where
+  pub batch : BatchView
+  pub held : inlet.hand ≡ Some batch
+  pub sender : batch.from ≡ from
+  pub other : from ≢ to
+  pub fits : IsBatchFor set n from to batch
 
 -- the outlet's inbox was full at some moment after the end was told of it
 abbrev pub IsFull : Outlet → Type 0

@@ -2,12 +2,12 @@
 use Rattle.std.specs.Prelude.{◌≡◌, ◌≢◌, ◌↔◌, ◌⊎◌, ℕ, ◌+◌, ◌<◌, ◌≤◌, List, [], ◌∷◌, ◌++◌, Bool, IsTrue, ◌||◌, true, false, None, Some, length, slice_get}
 use Rattle.dob_update.specs.Batches.{BatchView}
 use Rattle.dob_chan.specs.Ends.{sent_by, taken_by, take_told, WasEmpty}
-use Rattle.dob_node.specs.Nodes.{outbox_to, IsExpanded, HasApplied}
+use Rattle.dob_node.specs.Nodes.{outbox_to, IsExpanded, HasApplied, IsUnchanged}
 use Rattle.dob_run.specs.declared.hands.Outlet.{Outlet}
 use Rattle.dob_run.specs.declared.hands.Inlet.{Inlet}
 use Rattle.dob_run.specs.declared.endpoint.Endpoint.{Endpoint}
 use Rattle.dob_run.specs.declared.runner.Runner.{Runner}
-use Rattle.dob_run.specs.Links.{offered, worked, IsFull}
+use Rattle.dob_run.specs.Links.{offered, worked, HoldsFor, IsFull}
 use Rattle.dob_run.specs.Endpoints.{HasChangedOne}
 use Rattle.dob_run.specs.Runners.{GoesOn}
 
@@ -67,11 +67,21 @@ pub record IsWorkedIn (did : Bool) (before after : Inlet) : Type 0 where
   pub none : did ≡ false → worked after ≡ worked before
   pub empty : did ≡ false → after.hand ≡ None → WasEmpty (taken_by after.end) (take_told after.end)
 
--- It has taken from its inbox, and nothing has changed of what it sends.
+-- It has taken from its inbox, and nothing has changed of what it sends; where nothing was worked in its node is as it was.
 pub record TakesBatch (old new : Runner) (did : Bool) : Type 0 where
   pub goes : GoesOn old new
   pub taken : IsWorkedIn did old.endpoint.inlet new.endpoint.inlet
   pub outlets : new.endpoint.outlets.items ≡ old.endpoint.outlets.items
+  pub nothing : did ≡ false → IsUnchanged old.node new.node
+
+-- No memory was found for a batch that is for the node: it lies in the taking hand, nothing was worked in, nothing has changed of
+-- what it sends, and its node is as it was.
+pub record LeavesBatch (old new : Runner) : Type 0 where
+  pub from : ℕ
+  pub holds : HoldsFor old.set old.endpoint.seat.nodes from old.endpoint.seat.node new.endpoint.inlet
+  pub uncounted : worked new.endpoint.inlet ≡ worked old.endpoint.inlet
+  pub outlets : new.endpoint.outlets.items ≡ old.endpoint.outlets.items
+  pub node : IsUnchanged old.node new.node
 
 -- ---- sending
 

@@ -1,14 +1,13 @@
 // What a runner has besides its node: its seat on the board and its ends of the inboxes.
 ghost use Rattle.std.specs.Prelude.{◌≡◌, ◌≢◌, ◌⊎◌, ℕ, ◌^◌, ◌<◌, true, false, Some, None, ◌∷◌, [], ◌++◌, slice_get};
-ghost use Rattle.std.specs.Prelude.{slice_index, length, vec_len, slice_set, IfSome, IfNone};
+ghost use Rattle.std.specs.Prelude.{slice_index, length, vec_len, slice_set, IfSome, IfNone, MatchOption};
 ghost use Rattle.dob_safra.specs.declared.event.RingEvent.TheVariants.{Post};
 ghost use Rattle.dob_board.specs.Views.{posts_more};
 ghost use Rattle.dob_board.specs.Histories.{MakesEvent};
 ghost use Rattle.dob_board.specs.Seats.{IsSameSeat, TakesOne, stand_of, witnessed_by};
 ghost use Rattle.dob_chan.specs.Ends.{senders_of};
 ghost use Rattle.dob_update.specs.Batches.{BatchView};
-ghost use Rattle.dob_run.specs.Batches.{IsBatchFor};
-ghost use Rattle.dob_run.specs.Links.{offered, worked, IsFull, KeepsOutlet, KeepsInlet};
+ghost use Rattle.dob_run.specs.Links.{offered, worked, HoldsFor, IsFull, KeepsOutlet, KeepsInlet};
 ghost use Rattle.dob_run.specs.Endpoints.{AreCounts, AreTaken, AreOwn, HasChangedOne};
 
 use crate::hands::{Inlet, Outlet};
@@ -119,13 +118,24 @@ impl Endpoint {
         self.inlet.held_items()
     }
 
-    /// The batch in the taking hand, if it is one of the piece set from another node to this one, and the board says that it was
-    /// posted: it is counted on the board, which blackens the node, and now it is the node's to work in. Otherwise it stays in
-    /// the hand, uncounted.
-    pub(crate) fn accept(&mut self, set: PieceSet) -> Option<Batch>
+    /// The sender of the batch in the taking hand, if that is one of the piece set from another node to this one. Any other
+    /// batch is none of the node's.
+    pub(crate) fn sender(&self, set: PieceSet) -> Option<usize>
+        ensures { MatchOption result ((from : ℕ) → ¬ HoldsFor set self.now.seat.nodes from self.now.seat.node self.now.inlet)
+            (λ from. HoldsFor set self.now.seat.nodes from self.now.seat.node self.now.inlet) }
+    {
+        self.inlet
+            .sender_for(set, self.seat.nodes, self.seat.node)
+    }
+
+    /// The batch in the taking hand, which is one of the node `from`, another one, if the board says that it was posted: it is
+    /// counted on the board, which blackens the node, and now it is the node's to work in. Otherwise it stays in the hand,
+    /// uncounted.
+    pub(crate) fn accept(&mut self, from: usize) -> Option<Batch>
+        requires other { from ≢ self.old.seat.node }
+        requires held { (batch : BatchView) × (self.old.inlet.hand ≡ Some batch) × (batch.from ≡ from) }
         ensures held { IfSome result (λ batch. self.old.inlet.hand ≡ Some batch) }
-        ensures other { IfSome result (λ batch. (batch.from < self.old.seat.nodes) × (batch.from ≢ self.old.seat.node)) }
-        ensures fit { IfSome result (λ batch. IsBatchFor set self.old.seat.nodes batch.from self.old.seat.node batch) }
+        ensures within { IfSome result (λ batch. batch.from < self.old.seat.nodes) }
         ensures same { IsSameSeat self.old.seat self.new.seat }
         ensures outlets { self.new.outlets ≡ self.old.outlets }
         ensures taken { IfSome result (λ batch. TakesOne self.old.seat self.new.seat batch.from) }
@@ -135,9 +145,6 @@ impl Endpoint {
         ensures halt { self.new.seat.halt ≡ self.old.seat.halt }
         ensures keeps { KeepsEndpoint self.old self.new }
     {
-        let Some(from) = self.inlet.sender_for(set, self.seat.nodes, self.seat.node) else {
-            return None;
-        };
         if self.seat.take(from).is_err() {
             return None;
         }

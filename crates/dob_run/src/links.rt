@@ -1,11 +1,10 @@
 // What a runner does with its ends: it holds and offers batches, and receives and releases them.
-ghost use Rattle.std.specs.Prelude.{◌≡◌, ◌≢◌, ◌↔◌, ◌≤◌, ◌⊎◌, IsTrue, true, false, None, Some, ◌∷◌, [], ◌++◌, length, MatchOption};
+ghost use Rattle.std.specs.Prelude.{◌≡◌, ◌≢◌, ◌≤◌, ◌⊎◌, ℕ, true, false, None, Some, ◌∷◌, [], ◌++◌, length, MatchOption};
 ghost use Rattle.dob_chan.specs.Inboxes.{most_batches};
 ghost use Rattle.dob_update.specs.Batches.{BatchView};
 ghost use Rattle.dob_chan.specs.Ends.{place_of};
-ghost use Rattle.dob_run.specs.Batches.{IsBatchFor};
 ghost use Rattle.dob_run.specs.Hands.{in_hand};
-ghost use Rattle.dob_run.specs.Links.{offered, worked, IsFull, KeepsOutlet, KeepsInlet};
+ghost use Rattle.dob_run.specs.Links.{offered, worked, HoldsFor, IsFull, KeepsOutlet, KeepsInlet};
 
 use crate::batches::is_for;
 use crate::hands::{Inlet, Outlet};
@@ -91,9 +90,7 @@ impl Inlet {
     /// The sender of the batch in the hand, if that is one that another node cut for the node `to` of that piece set, one of `n`,
     /// with items that such a node can work in. Any other batch is none of the node's.
     pub(crate) fn sender_for(&self, set: PieceSet, n: usize, to: usize) -> Option<usize>
-        ensures { MatchOption result
-            ((batch : BatchView) → self.now.hand ≡ Some batch → batch.from ≢ to → ¬ IsBatchFor set n batch.from to batch)
-            (λ from. (batch : BatchView) × (self.now.hand ≡ Some batch) × (batch.from ≡ from) × (from ≢ to) × IsBatchFor set n from to batch) }
+        ensures { MatchOption result ((from : ℕ) → ¬ HoldsFor set n from to self.now) (λ from. HoldsFor set n from to self.now) }
     {
         let Some(batch) = &self.hand else {
             return None;

@@ -1,7 +1,8 @@
 // What a runner does for its node: it takes batches, expands settlements, applies items and sends batches.
-ghost use Rattle.std.specs.Prelude.{◌≡◌, ◌≢◌, ◌↔◌, ◌<◌, IsTrue, Some, None, slice_get};
+ghost use Rattle.std.specs.Prelude.{◌≡◌, ◌≢◌, ◌↔◌, ◌<◌, IsTrue, Err, Some, None, slice_get};
+ghost use Rattle.dob_node.specs.declared.cause.Cause.TheVariants.{Memory};
 ghost use Rattle.dob_run.specs.Runners.{StepsBy};
-ghost use Rattle.dob_run.specs.TurnRounds.{TakesBatch, ExpandsOne, AppliesOne, HasToSend, CutsLeft, FillsFor, SendsTo};
+ghost use Rattle.dob_run.specs.TurnRounds.{TakesBatch, LeavesBatch, ExpandsOne, AppliesOne, HasToSend, CutsLeft, FillsFor, SendsTo};
 
 use crate::hands::Outlet;
 use crate::runner::Runner;
@@ -10,13 +11,21 @@ use dob_rank::Classes;
 use std::sync::Wait;
 
 impl Runner {
-    /// Takes the batch in the taking hand, else the next of the inbox, if it is one of another node that the board knows of, and
-    /// applies its items. False where there is none. Its node makes room for the items before the batch is counted.
+    /// Takes the batch in the taking hand, else the next of the inbox, if it is one for the node that the board knows of, and
+    /// applies its items. False where there is none. A batch that isn't for the node stays in the hand; for any other one the
+    /// node makes room before it is counted.
+    ///
+    /// Errors: `Memory` for that room, which leaves the batch in the hand, uncounted, and the node as it was; else the cause of
+    /// an item that can't be applied.
     pub(crate) fn take_one<R: Wait>(&mut self, rt: &R) -> Result<bool, Cause>
         requires { self.old.failed ≡ None }
-        ensures { StepsBy TakesBatch self.old self.new result }
+        ensures step { StepsBy TakesBatch self.old self.new result }
+        ensures refused { result ≡ Err Memory → LeavesBatch self.old self.new }
     {
         self.endpoint.receive(rt);
+        let Some(from) = self.endpoint.sender(self.set) else {
+            return Ok(false);
+        };
         match self.node.reserve(self.endpoint.held_items()) {
             Ok(()) => {}
             Err(refused) => {
@@ -25,7 +34,7 @@ impl Runner {
                 return Err(refused);
             }
         }
-        let Some(batch) = self.endpoint.accept(self.set) else {
+        let Some(batch) = self.endpoint.accept(from) else {
             return Ok(false);
         };
         match self.node.apply_batch(&batch) {

@@ -7,7 +7,6 @@ use Rattle.dob_board.specs.Seats.{TakesOne}
 use Rattle.dob_run.specs.declared.hands.Inlet.{Inlet}
 use Rattle.dob_chan.specs.Ends.{senders_of}
 use Rattle.dob_run.specs.Hands.{in_hand}
-use Rattle.dob_run.specs.Batches.{IsBatchFor}
 use Rattle.dob_run.specs.Links.{offered, worked, KeepsOutlet}
 use Rattle.dob_run.specs.Endpoints.{AreCounts, AreTaken, AreOwn}
 use Rattle.dob_run.proofs.Senders.{taken_rises}
@@ -24,12 +23,12 @@ one_more old new batch held more = more ∙ ap (λ (h : Option BatchView). worke
 pub invariant_of-self-2 : goal.invariant_of-self-2
 invariant_of-self-2 c =
     let endpoint = c.args.self.now in
-    let held = c.in-Some.ensures in
-    let one : TakesOne endpoint.seat c.take.new.self c.in-Some.from = search rules in
+    let held = c.requires.held in
+    let one : TakesOne endpoint.seat c.take.new.self c.args.from = search rules in
     let taken_is = ap (λ (s : Stand). s.taken) one.counted in
     let posted_is = ap (λ (s : Stand). s.posted) one.counted in
-    let within : c.in-Some.from < endpoint.seat.nodes = subst (λ (k : ℕ). c.in-Some.from < k) endpoint.senders (subst (λ (k : ℕ). k < senders_of endpoint.inlet.end) held.2 (endpoint.inlet.within held.0 held.1)) in
-    let counted = taken_rises endpoint.seat.nodes endpoint.seat.taken.items endpoint.inlet c.release.new.self c.in-Some.from held.0 endpoint.taken
+    let within : c.args.from < endpoint.seat.nodes = subst (λ (k : ℕ). c.args.from < k) endpoint.senders (subst (λ (k : ℕ). k < senders_of endpoint.inlet.end) held.2 (endpoint.inlet.within held.0 held.1)) in
+    let counted = taken_rises endpoint.seat.nodes endpoint.seat.taken.items endpoint.inlet c.release.new.self c.args.from held.0 endpoint.taken
     (omega (arith, endpoint.seat.taken_len, within)) held.2 (one_more endpoint.inlet c.release.new.self held.0 held.1 c.release.ensures.worked) in
     record {
       outlets_len = endpoint.outlets_len ∙ sym c.take.ensures.same.nodes;
@@ -42,36 +41,28 @@ invariant_of-self-2 c =
 pub returns-clause-held : goal.returns-clause-held
 returns-clause-held c =
     let endpoint = c.args.self.now in
-    let held = c.in-Some.ensures in
+    let held = c.requires.held in
     of_held (λ b. endpoint.inlet.hand ≡ Some b) c.release.result endpoint.inlet.hand held.0 c.release.ensures.batch held.1 held.1
 
-pub returns-clause-other : goal.returns-clause-other
-returns-clause-other c =
+pub returns-clause-within : goal.returns-clause-within
+returns-clause-within c =
     let endpoint = c.args.self.now in
-    let held = c.in-Some.ensures in
+    let held = c.requires.held in
     let within : held.0.from < endpoint.seat.nodes = subst (λ (k : ℕ). held.0.from < k) endpoint.senders (endpoint.inlet.within held.0 held.1) in
-    of_held (λ b. (b.from < endpoint.seat.nodes) × (b.from ≢ endpoint.seat.node)) c.release.result endpoint.inlet.hand held.0 c.release.ensures.batch held.1
-    (within, λ same. held.3 (sym held.2 ∙ same))
-
-pub returns-clause-fit : goal.returns-clause-fit
-returns-clause-fit c =
-    let endpoint = c.args.self.now in
-    let held = c.in-Some.ensures in
-    of_held (λ b. IsBatchFor c.args.set endpoint.seat.nodes b.from endpoint.seat.node b) c.release.result endpoint.inlet.hand held.0 c.release.ensures.batch held.1
-    (subst (λ (k : ℕ). IsBatchFor c.args.set endpoint.seat.nodes k endpoint.seat.node held.0) (sym held.2) held.4)
+    of_held (λ b. b.from < endpoint.seat.nodes) c.release.result endpoint.inlet.hand held.0 c.release.ensures.batch held.1 within
 
 pub returns-clause-taken : goal.returns-clause-taken
 returns-clause-taken c =
     let endpoint = c.args.self.now in
-    let held = c.in-Some.ensures in
-    let one : TakesOne endpoint.seat c.take.new.self c.in-Some.from = search rules in
+    let held = c.requires.held in
+    let one : TakesOne endpoint.seat c.take.new.self c.args.from = search rules in
     of_held (λ b. TakesOne endpoint.seat c.take.new.self b.from) c.release.result endpoint.inlet.hand held.0 c.release.ensures.batch held.1
     (subst (λ (k : ℕ). TakesOne endpoint.seat c.take.new.self k) (sym held.2) one)
 
 pub returns-clause-worked : goal.returns-clause-worked
 returns-clause-worked c =
     let endpoint = c.args.self.now in
-    let held = c.in-Some.ensures in
+    let held = c.requires.held in
     of_held (λ b. (c.release.new.self.end ≡ endpoint.inlet.end) × (worked c.release.new.self ≡ worked endpoint.inlet ++ b ∷ [])) c.release.result endpoint.inlet.hand held.0
     c.release.ensures.batch held.1 (c.release.ensures.end, one_more endpoint.inlet c.release.new.self held.0 held.1 c.release.ensures.worked)
 
