@@ -14,7 +14,6 @@ use Rattle.dob_safra.specs.declared.event.RingEvent.TheVariants.{Announce}
 use Rattle.dob_safra.specs.Tokens.{IsPacked, MayAnnounce}
 use Rattle.dob_safra.specs.Rings.{Ring, counter, IsLawfulRing, Announces}
 use Rattle.dob_safra.specs.Laws.{HasFew}
-use Rattle.dob_safra.proofs.Kept.{moved_kept}
 use Rattle.dob_board.specs.declared.halt.Halt.{Halt}
 use Rattle.dob_board.specs.declared.halt.Halt.TheVariants.{Running, Ended, Failed}
 use Rattle.dob_board.specs.declared.view.Stand.{Stand}
@@ -25,8 +24,7 @@ use Rattle.dob_board.specs.Histories.{Runs, MakesEvent, Observes, HasHalt}
 use Rattle.dob_board.specs.Rule.{IsHeld}
 use Rattle.dob_board.specs.Seats.{MayEnd, failed_after}
 use Rattle.dob_board.specs.Plays.{Found, Halted, FailedRun, Announced}
-use Rattle.dob_board.proofs.Kept.{Leaves, own_node, kept}
-use Rattle.dob_board.proofs.Steps.{known}
+use Rattle.dob_board.proofs.Kept.{Leaves, own_node, kept, happened, known}
 use Rattle.dob_board.proofs.Allowed.{Seated, Held, seated, same_stand, set_same}
 use Rattle.dob_board.proofs.Done.{white_shown}
 use Rattle.dob_board.proofs.Passing.{posted_apart, taken_apart, counter_is}
@@ -106,21 +104,14 @@ pub looks_at_halt : (n i id : ℕ) (words : List ℕ) (views : List View) (stand
 looks_at_halt n i id words views stand witnessed held at =
     let ring : Ring = ring_of n words held.black held.token in
     let mine = own_node n i id words views stand witnessed held at in
-    let now : IsStand n ring (slice_index words 2) i (finds stand (slice_index words 2)) =
-    finds_stand n i (slice_index words 2) ring stand refl mine.is_stand in
+    let made = known n i id words views stand (finds stand (slice_index words 2)) witnessed (HasHalt (slice_index words 2)) held at
+    (finds_stand n i (slice_index words 2) ring stand refl mine.is_stand) refl in
     record {
-      held = known n i id words views stand (finds stand (slice_index words 2)) witnessed held at now;
+      held = made.0;
       within = held.halt_within;
       stays = mine.is_stand.halt_seen;
       announced = mine.is_stand.announced;
-      observed = record {
-        went_on = (held.views_are id (one n i stand witnessed) at).was_witnessed;
-        ring = ring;
-        runs = held.runs;
-        is_lawful = held.lawful;
-        shows = now.shows;
-        is_so = refl;
-      };
+      observed = made.1;
     }
 
 -- ---- fail
@@ -278,37 +269,18 @@ announces n i id words views stand witnessed held at may running =
     subst (λ (k : ℕ). MayAnnounce held.token (counter n old k) (held.black k) true) first may_i in
     let moved : Announces n old new = announces_moved n words held.black held.token wide may_first in
     let few : HasFew n new = λ k l k_in l_in. omega (arith, moved.posted k l k_in l_in, held.lawful.few k l k_in l_in) in
-    let lawful : IsLawfulRing n new = moved_kept n old new Announce held.size held.lawful moved few in
     let there : get_or after 2 0 ≡ 1 = get_or-set_same words 2 1 0 wide in
     let now : IsStand n new (slice_index after 2) i (finds stand 1) =
     subst (λ (h : ℕ). IsStand n new h i (finds stand 1)) (sym there) (announces_stand n i old new stand mine.within moved is) in
     let leaves : Leaves n i old new (slice_index words 2) (slice_index after 2) =
-    subst (λ (p : ℕ × ℕ). Leaves n i old new p.0 p.1) (λ q. (sym running q, sym there q)) (announces_leaves n i old new first moved) in (
-      kept n i id words after views stand (finds stand 1) witnessed (Announce ∷ []) held.black held.token held at
-          (length-set words 2 1)
-          (get_or-set_other words 2 0 1 0 (λ e. omega (arith, e)))
-          (subst (IsPacked held.token) (sym (get_or-set_other words 2 1 1 0 (λ e. omega (arith, e)))) held.packed)
-          (omega (arith, there))
-          lawful
-          (old, held.runs, moved)
-          leaves
-          now,
-      (λ ne. absurd (ne (sym (is.halt_seen ne)))),
-      record {
-        log = held.log;
-        went_on = (held.views_are id (one n i stand witnessed) at).was_witnessed;
-        is_next = refl;
-        old = old;
-        new = new;
-        runs = held.runs;
-        in_time = ap (λ (h : ℕ). eqb h 1) running;
-        moved = moved;
-        was_lawful = held.lawful;
-        is_lawful = lawful;
-        shows_before = is.shows;
-        shows_after = now.shows;
-      },
-    )
+    subst (λ (p : ℕ × ℕ). Leaves n i old new p.0 p.1) (λ q. (sym running q, sym there q)) (announces_leaves n i old new first moved) in
+    let made = happened n i id Announce words after views stand (finds stand 1) witnessed held.black held.token held at
+    (length-set words 2 1)
+    (get_or-set_other words 2 0 1 0 (λ e. omega (arith, e)))
+    (subst (IsPacked held.token) (sym (get_or-set_other words 2 1 1 0 (λ e. omega (arith, e)))) held.packed)
+    (omega (arith, there))
+    (ap (λ (h : ℕ). eqb h 1) running) moved few leaves now in
+    (made.0, (λ ne. absurd (ne (sym (is.halt_seen ne)))), made.1)
 
 -- ---- what the calls ask and are told
 

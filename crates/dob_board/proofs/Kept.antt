@@ -1,4 +1,4 @@
--- A step of one node's seat keeps the rule, where it leaves to the other nodes what they know.
+-- A step of one node's seat keeps the rule, where it leaves to the other nodes what they know; and what it makes or observes.
 use Rattle.std.proofs.Common.{◌≡◌, ◌≢◌, ℕ, zero, suc, ◌+◌, ◌<◌, ◌≤◌, List, [], ◌∷◌, ◌++◌, length, Bool, true, refl, sym, ap, ◌∙◌, subst, ⊎_elim, arith}
 use Rattle.std.proofs.Common.{append_assoc}
 use Rattle.std.specs.Prelude.{slice_index, slice_set}
@@ -8,12 +8,14 @@ use Rattle.atomic_table.proofs.Lists.{at_set}
 use Rattle.dob_safra.specs.declared.token.Token.{Token}
 use Rattle.dob_safra.specs.declared.event.RingEvent.{RingEvent}
 use Rattle.dob_safra.specs.Tokens.{IsPacked}
-use Rattle.dob_safra.specs.Rings.{Ring, IsLawfulRing}
+use Rattle.dob_safra.specs.Rings.{Ring, IsLawfulRing, Moved}
+use Rattle.dob_safra.specs.Laws.{HasFew}
+use Rattle.dob_safra.proofs.Kept.{moved_kept}
 use Rattle.dob_board.specs.declared.view.Stand.{Stand}
 use Rattle.dob_board.specs.declared.view.View.{View}
 use Rattle.dob_board.specs.Words.{ring_of}
 use Rattle.dob_board.specs.Views.{one, IsStand}
-use Rattle.dob_board.specs.Histories.{Runs, GoesOn}
+use Rattle.dob_board.specs.Histories.{Runs, GoesOn, IsInTime, MakesEvent, Observes}
 use Rattle.dob_board.specs.Rule.{IsNode, IsView, IsHeld}
 
 -- what a step of node i, from one ring and halt to another, leaves to the others
@@ -137,3 +139,64 @@ kept n i id words after views stand new witnessed more black token held at long 
           held.log more view mine.within mine.owned x.0 leaves (held.views_are port view x.1))
           (at_set views id port (one n i new (more ++ held.log)) view e);
     }
+
+-- a step that is an event keeps the rule, and makes the event
+pub happened : (n i id : ℕ) (event : RingEvent) (words after : List ℕ) (views : List View) (stand new : Stand) (witnessed : List RingEvent) (black : ℕ → Bool)
+    (token : Token) (held : IsHeld n words views) → get_elem? views id ≡ some (one n i stand witnessed) →
+    length after ≡ length words → slice_index after 0 ≡ slice_index words 0 → IsPacked token (slice_index after 1) → slice_index after 2 < 2 + n →
+    IsInTime event (ring_of n words held.black held.token) → Moved n (ring_of n words held.black held.token) event (ring_of n after black token) →
+    HasFew n (ring_of n after black token) →
+    Leaves n i (ring_of n words held.black held.token) (ring_of n after black token) (slice_index words 2) (slice_index after 2) →
+    IsStand n (ring_of n after black token) (slice_index after 2) i new →
+    IsHeld n after (slice_set views id (one n i new (event ∷ held.log))) × MakesEvent n i event stand new witnessed (event ∷ held.log)
+happened n i id event words after views stand new witnessed black token held at long nodes packed within in_time moved few leaves is =
+    let before : Ring = ring_of n words held.black held.token in
+    let now : Ring = ring_of n after black token in
+    let lawful : IsLawfulRing n now = moved_kept n before now event held.size held.lawful moved few in (
+      kept n i id words after views stand new witnessed (event ∷ []) black token held at long nodes packed within lawful (before, held.runs, moved) leaves is,
+      record {
+        log = held.log;
+        went_on = (held.views_are id (one n i stand witnessed) at).was_witnessed;
+        is_next = refl;
+        old = before;
+        new = now;
+        runs = held.runs;
+        in_time = in_time;
+        moved = moved;
+        was_lawful = held.lawful;
+        is_lawful = lawful;
+        shows_before = (own_node n i id words views stand witnessed held at).is_stand.shows;
+        shows_after = is.shows;
+      },
+    )
+
+stays : (n i : ℕ) (ring : Ring) (halt : ℕ) → Leaves n i ring ring halt halt
+stays n i ring halt = record {
+  posted = λ k j k_in j_in apart. refl;
+  grows = λ j k j_in k_in. omega arith;
+  taken = λ j k j_in k_in apart. refl;
+  colour = λ k k_in apart. refl;
+  token = λ k apart e. refl;
+  halt_seen = λ word ne e. e;
+  failed = λ k apart e. e;
+  ended = λ k apart first e. e;
+  announced = λ e. e;
+}
+
+-- a step that changes no word, but what the node knows, keeps the rule, and observes what is so of the ring
+pub known : (n i id : ℕ) (words : List ℕ) (views : List View) (stand new : Stand) (witnessed : List RingEvent) (IsSo : Ring → Type 0) (held : IsHeld n words views) →
+    get_elem? views id ≡ some (one n i stand witnessed) →
+    IsStand n (ring_of n words held.black held.token) (slice_index words 2) i new → IsSo (ring_of n words held.black held.token) →
+    IsHeld n words (slice_set views id (one n i new held.log)) × Observes n i new witnessed held.log IsSo
+known n i id words views stand new witnessed IsSo held at is so = (
+  kept n i id words words views stand new witnessed [] held.black held.token held at refl refl held.packed held.halt_within held.lawful held.runs
+      (stays n i (ring_of n words held.black held.token) (slice_index words 2)) is,
+  record {
+    went_on = (held.views_are id (one n i stand witnessed) at).was_witnessed;
+    ring = ring_of n words held.black held.token;
+    runs = held.runs;
+    is_lawful = held.lawful;
+    shows = is.shows;
+    is_so = so;
+  },
+)

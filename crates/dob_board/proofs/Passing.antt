@@ -16,7 +16,6 @@ use Rattle.dob_safra.specs.Tokens.{IsToken, IsPacked, passed_on}
 use Rattle.dob_safra.specs.Rings.{Ring, counter, sum_below, IsLawfulRing, Passes}
 use Rattle.dob_safra.specs.Laws.{HasFew}
 use Rattle.dob_safra.proofs.Sums.{sum_same}
-use Rattle.dob_safra.proofs.Kept.{moved_kept}
 use Rattle.dob_board.specs.declared.view.Stand.{Stand}
 use Rattle.dob_board.specs.declared.view.View.{View}
 use Rattle.dob_board.specs.Words.{posted_word, taken_word, ring_of}
@@ -25,8 +24,8 @@ use Rattle.dob_board.specs.Histories.{MakesEvent, Observes, HasToken}
 use Rattle.dob_board.specs.Rule.{IsHeld}
 use Rattle.dob_board.specs.Plays.{Met, Passed}
 use Rattle.dob_board.proofs.Places.{posted_in, taken_in}
-use Rattle.dob_board.proofs.Kept.{Leaves, own_node, kept}
-use Rattle.dob_board.proofs.Steps.{known, painted, painted_colours}
+use Rattle.dob_board.proofs.Kept.{Leaves, own_node, happened, known}
+use Rattle.dob_board.proofs.Steps.{painted, painted_colours}
 use Rattle.dob_board.proofs.Allowed.{Seated, Held, seated, same_stand, set_same}
 
 -- ---- the word of a token
@@ -116,27 +115,19 @@ meets_allows n i id slots stand witnessed s held len at small =
     let is = mine.is_stand in
     let log = held.log in
     let after : View = one n i (meets i stand held.token) log in
-    let now : IsStand n ring (slice_index s.words 2) i (meets i stand held.token) = meets_stand n i (slice_index s.words 2) ring stand is in
-    let holds : IsHeld n s.words (slice_set s.views id after) = known n i id s.words s.views stand (meets i stand held.token) witnessed held at now in
-    let observed : Observes n i (meets i stand held.token) witnessed log (HasToken held.token) = record {
-      went_on = (held.views_are id (one n i stand witnessed) at).was_witnessed;
-      ring = ring;
-      runs = held.runs;
-      is_lawful = held.lawful;
-      shows = now.shows;
-      is_so = refl;
-    } in (
+    let made = known n i id s.words s.views stand (meets i stand held.token) witnessed (HasToken held.token) held at
+    (meets_stand n i (slice_index s.words 2) ring stand is) refl in (
       after,
       keeps,
       tt,
-      subst (λ (ws : List ℕ). IsHeld n ws (slice_set s.views id after)) (sym (set_same s.words 1)) holds,
+      subst (λ (ws : List ℕ). IsHeld n ws (slice_set s.views id after)) (sym (set_same s.words 1)) made.0,
       λ stand' place stands.
           let stand_is : stand ≡ stand' = same_stand stand stand' stands in
           subst (λ (p : Stand). (token : Token) × IsPacked token (slice_index s.words 1)
           × (seated n i (meets i stand held.token) log ≡ seated n i (meets i p token) log)
           × ((seen : Token) → p.token ≡ Some seen → token ≡ seen)
           × Observes n i (meets i p token) witnessed log (HasToken token))
-          stand_is (held.token, held.packed, refl, (λ seen e. sym (is.shows.token seen e).0), observed),
+          stand_is (held.token, held.packed, refl, (λ seen e. sym (is.shows.token seen e).0), made.1),
     )
 
 pub meets_call : (key n i id slots : ℕ) (me : Seated) (stand : Stand) (witnessed : List RingEvent) → key ≡ n → me ≡ seated n i stand witnessed →
@@ -226,34 +217,15 @@ passes_held n i id word words views stand token witnessed held at has packed =
     let next_is : next ≡ passed_on n held.token (counter n old i) (held.black i) = λ q. passed_on n (there.0 q) (sym sums q) (is.shows.colour q) in
     let moved : Passes n old i new = passes_moved n i word words held.black held.token next here next_is in
     let few : HasFew n new = λ k l k_in l_in. omega (arith, moved.posted k l k_in l_in, held.lawful.few k l k_in l_in) in
-    let lawful : IsLawfulRing n new = moved_kept n old new (Pass i) held.size held.lawful moved few in
     let halt : slice_index after 2 ≡ slice_index words 2 = get_or-set_other words 1 2 word 0 (λ e. omega (arith, e)) in
-    let now : IsStand n new (slice_index after 2) i (passes n i stand token) =
-    passes_stand n i old new (slice_index words 2) (slice_index after 2) stand token mine.within moved halt refl is in (
-      kept n i id words after views stand (passes n i stand token) witnessed (Pass i ∷ []) black next held at
-          (length-set words 1 word)
-          (get_or-set_other words 1 0 word 0 (λ e. omega (arith, e)))
-          (subst (IsPacked next) (sym (get_or-set_same words 1 word 0 (omega (arith, held.wide)))) packed)
-          (omega (arith, halt, held.halt_within))
-          lawful
-          (old, held.runs, moved)
-          (passes_leaves n i old new (slice_index words 2) (slice_index after 2) moved halt)
-          now,
-      record {
-        log = held.log;
-        went_on = (held.views_are id (one n i stand witnessed) at).was_witnessed;
-        is_next = refl;
-        old = old;
-        new = new;
-        runs = held.runs;
-        in_time = tt;
-        moved = moved;
-        was_lawful = held.lawful;
-        is_lawful = lawful;
-        shows_before = is.shows;
-        shows_after = now.shows;
-      },
-    )
+    happened n i id (Pass i) words after views stand (passes n i stand token) witnessed black next held at
+    (length-set words 1 word)
+    (get_or-set_other words 1 0 word 0 (λ e. omega (arith, e)))
+    (subst (IsPacked next) (sym (get_or-set_same words 1 word 0 (omega (arith, held.wide)))) packed)
+    (omega (arith, halt, held.halt_within))
+    tt moved few
+    (passes_leaves n i old new (slice_index words 2) (slice_index after 2) moved halt)
+    (passes_stand n i old new (slice_index words 2) (slice_index after 2) stand token mine.within moved halt refl is)
 
 same_token : (first other : Token) → Some first ≡ Some other → first ≡ other
 same_token first other e = cc

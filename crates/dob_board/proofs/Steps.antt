@@ -11,7 +11,7 @@ use Rattle.dob_safra.specs.declared.event.RingEvent.TheVariants.{Post, Take}
 use Rattle.dob_safra.specs.Tokens.{IsPacked}
 use Rattle.dob_safra.specs.Rings.{Ring, IsLawfulRing, Colours, Posts, Takes}
 use Rattle.dob_safra.specs.Laws.{HasFew}
-use Rattle.dob_safra.proofs.Kept.{moved_kept, raised_at_least, raised_at_most}
+use Rattle.dob_safra.proofs.Kept.{raised_at_least, raised_at_most}
 use Rattle.dob_board.specs.declared.view.Stand.{Stand}
 use Rattle.dob_board.specs.declared.view.View.{View}
 use Rattle.dob_board.specs.Words.{posted_word, taken_word, word_count, ring_of}
@@ -19,7 +19,7 @@ use Rattle.dob_board.specs.Views.{one, posts_more, takes_more, sees, IsStand}
 use Rattle.dob_board.specs.Histories.{MakesEvent, Observes, HasPosted}
 use Rattle.dob_board.specs.Rule.{IsHeld}
 use Rattle.dob_board.proofs.Places.{posted_in, taken_in, posted_raised, taken_raised, taken_stays, posted_stays, head_stays}
-use Rattle.dob_board.proofs.Kept.{Leaves, own_node, kept}
+use Rattle.dob_board.proofs.Kept.{Leaves, own_node, happened, known}
 
 -- a list with one number changed
 changed : (xs : List ℕ) (j k v : ℕ) → j < length xs → (k ≡ j → get_or (set xs j v) k 0 ≡ v) × (k ≢ j → get_or (set xs j v) k 0 ≡ get_or xs k 0)
@@ -109,59 +109,18 @@ posts n i j id words views stand witnessed held at j_in other is_black room =
     let painted_black : old.black i ≡ true = sym is.shows.colour ∙ is_black in
     let moved : Posts n old i j new = posts_moved n i j words held.black held.token held.wide mine.within j_in painted_black in
     let few : HasFew n new = posts_few n i j old new held.lawful moved (omega (arith, is.shows.posted j j_in, room)) in
-    let lawful : IsLawfulRing n new = moved_kept n old new (Post i j) held.size held.lawful moved few in
     let halt : slice_index (posted_after n i j words) 2 ≡ slice_index words 2 =
     head_stays words (posted_word n i j) (suc (posted_in n words i j)) 2 (omega arith) (omega arith) in
-    let after : IsStand n new (slice_index (posted_after n i j words) 2) i (posts_more stand j) =
-    posts_stand n i j old new (slice_index words 2) (slice_index (posted_after n i j words) 2) stand other moved halt is in (
-      kept n i id words (posted_after n i j words) views stand (posts_more stand j) witnessed (Post i j ∷ []) held.black held.token held at
-          (length-set words (posted_word n i j) (suc (posted_in n words i j)))
-          (head_stays words (posted_word n i j) (suc (posted_in n words i j)) 0 (omega arith) (omega arith))
-          (subst (IsPacked held.token) (sym (head_stays words (posted_word n i j) (suc (posted_in n words i j)) 1 (omega arith) (omega arith))) held.packed)
-          (omega (arith, halt, held.halt_within))
-          lawful
-          (old, held.runs, moved)
-          (posts_leaves n i j old new (slice_index words 2) (slice_index (posted_after n i j words) 2) moved halt)
-          after,
-      record {
-        log = held.log;
-        went_on = (held.views_are id (one n i stand witnessed) at).was_witnessed;
-        is_next = refl;
-        old = old;
-        new = new;
-        runs = held.runs;
-        in_time = not_announced n i old held.lawful mine.within painted_black;
-        moved = moved;
-        was_lawful = held.lawful;
-        is_lawful = lawful;
-        shows_before = is.shows;
-        shows_after = after.shows;
-      },
-    )
+    happened n i id (Post i j) words (posted_after n i j words) views stand (posts_more stand j) witnessed held.black held.token held at
+    (length-set words (posted_word n i j) (suc (posted_in n words i j)))
+    (head_stays words (posted_word n i j) (suc (posted_in n words i j)) 0 (omega arith) (omega arith))
+    (subst (IsPacked held.token) (sym (head_stays words (posted_word n i j) (suc (posted_in n words i j)) 1 (omega arith) (omega arith))) held.packed)
+    (omega (arith, halt, held.halt_within))
+    (not_announced n i old held.lawful mine.within painted_black) moved few
+    (posts_leaves n i j old new (slice_index words 2) (slice_index (posted_after n i j words) 2) moved halt)
+    (posts_stand n i j old new (slice_index words 2) (slice_index (posted_after n i j words) 2) stand other moved halt is)
 
 -- ---- look
-
-stays : (n i : ℕ) (ring : Ring) (halt : ℕ) → Leaves n i ring ring halt halt
-stays n i ring halt = record {
-  posted = λ k j k_in j_in apart. refl;
-  grows = λ j k j_in k_in. omega arith;
-  taken = λ j k j_in k_in apart. refl;
-  colour = λ k k_in apart. refl;
-  token = λ k apart e. refl;
-  halt_seen = λ word ne e. e;
-  failed = λ k apart e. e;
-  ended = λ k apart first e. e;
-  announced = λ e. e;
-}
-
--- a step that changes no word, but what the node knows
-pub known : (n i id : ℕ) (words : List ℕ) (views : List View) (stand new : Stand) (witnessed : List RingEvent) (held : IsHeld n words views) →
-    get_elem? views id ≡ some (one n i stand witnessed) →
-    IsStand n (ring_of n words held.black held.token) (slice_index words 2) i new →
-    IsHeld n words (slice_set views id (one n i new held.log))
-known n i id words views stand new witnessed held at is =
-    kept n i id words words views stand new witnessed [] held.black held.token held at refl refl held.packed held.halt_within held.lawful held.runs
-    (stays n i (ring_of n words held.black held.token) (slice_index words 2)) is
 
 sees_stand : (n i j halt : ℕ) (ring : Ring) (stand : Stand) → i < n → j < n → IsStand n ring halt i stand
     → IsStand n ring halt i (sees stand j (ring.posted j i))
@@ -192,21 +151,14 @@ looks n i j id words views stand witnessed held at j_in =
     let ring : Ring = ring_of n words held.black held.token in
     let mine = own_node n i id words views stand witnessed held at in
     let is = mine.is_stand in
-    let after : IsStand n ring (slice_index words 2) i (sees stand j (ring.posted j i)) =
-    sees_stand n i j (slice_index words 2) ring stand mine.within j_in is in (
+    let made = known n i id words views stand (sees stand j (ring.posted j i)) witnessed (HasPosted j i (ring.posted j i)) held at
+    (sees_stand n i j (slice_index words 2) ring stand mine.within j_in is) refl in (
       ring.posted j i,
       refl,
-      known n i id words views stand (sees stand j (ring.posted j i)) witnessed held at after,
+      made.0,
       is.seen j j_in,
       omega (arith, is.shows.taken j j_in, held.lawful.in_order j i j_in mine.within),
-      record {
-        went_on = (held.views_are id (one n i stand witnessed) at).was_witnessed;
-        ring = ring;
-        runs = held.runs;
-        is_lawful = held.lawful;
-        shows = after.shows;
-        is_so = refl;
-      },
+      made.1,
     )
 
 -- ---- take
@@ -303,32 +255,13 @@ takes n i j id words views stand witnessed held at j_in waiting =
     let in_flight : old.taken j i < old.posted j i = omega (arith, is.shows.taken j j_in, is.seen j j_in, waiting) in
     let moved : Takes n old j i new = takes_moved n i j words held.black held.token held.wide mine.within j_in in_flight in
     let few : HasFew n new = λ k l k_in l_in. omega (arith, moved.posted k l k_in l_in, held.lawful.few k l k_in l_in) in
-    let lawful : IsLawfulRing n new = moved_kept n old new (Take j i) held.size held.lawful moved few in
     let write : ℕ = suc (taken_in n words j i) in
     let halt : slice_index (taken_after n j i words) 2 ≡ slice_index words 2 = head_stays words (taken_word n j i) write 2 (omega arith) (omega arith) in
-    let after : IsStand n new (slice_index (taken_after n j i words) 2) i (takes_more stand j) =
-    takes_stand n i j old new (slice_index words 2) (slice_index (taken_after n j i words) 2) stand moved halt is in (
-      kept n i id words (taken_after n j i words) views stand (takes_more stand j) witnessed (Take j i ∷ []) black held.token held at
-          (length-set words (taken_word n j i) write)
-          (head_stays words (taken_word n j i) write 0 (omega arith) (omega arith))
-          (subst (IsPacked held.token) (sym (head_stays words (taken_word n j i) write 1 (omega arith) (omega arith))) held.packed)
-          (omega (arith, halt, held.halt_within))
-          lawful
-          (old, held.runs, moved)
-          (takes_leaves n i j old new (slice_index words 2) (slice_index (taken_after n j i words) 2) moved halt)
-          after,
-      record {
-        log = held.log;
-        went_on = (held.views_are id (one n i stand witnessed) at).was_witnessed;
-        is_next = refl;
-        old = old;
-        new = new;
-        runs = held.runs;
-        in_time = not_announced_yet n j i old held.lawful j_in mine.within in_flight;
-        moved = moved;
-        was_lawful = held.lawful;
-        is_lawful = lawful;
-        shows_before = is.shows;
-        shows_after = after.shows;
-      },
-    )
+    happened n i id (Take j i) words (taken_after n j i words) views stand (takes_more stand j) witnessed black held.token held at
+    (length-set words (taken_word n j i) write)
+    (head_stays words (taken_word n j i) write 0 (omega arith) (omega arith))
+    (subst (IsPacked held.token) (sym (head_stays words (taken_word n j i) write 1 (omega arith) (omega arith))) held.packed)
+    (omega (arith, halt, held.halt_within))
+    (not_announced_yet n j i old held.lawful j_in mine.within in_flight) moved few
+    (takes_leaves n i j old new (slice_index words 2) (slice_index (taken_after n j i words) 2) moved halt)
+    (takes_stand n i j old new (slice_index words 2) (slice_index (taken_after n j i words) 2) stand moved halt is)
