@@ -447,11 +447,11 @@ knew_done i word posted taken seen black token old new knew new_is own =
     let mark : halt_word new ≡ 2 + i = ap halt_word own in
     same_halt old new (knew (sym new_is ∙ mark) ∙ sym mark)
 
--- what was heard with the words was heard with their halts
-pub heard_halt : (n i was word : ℕ) (posted taken seen : List ℕ) (black : Bool) (token : Option Token) (old found new : Halt) (witnessed now : List RingEvent) →
+-- what was observed with the words was observed with their halts
+pub observed_halt : (n i was word : ℕ) (posted taken seen : List ℕ) (black : Bool) (token : Option Token) (old found new : Halt) (witnessed now : List RingEvent) →
     Observes n i (finds (stand_from posted taken seen black token old) word) witnessed now (HasHalt was) → halt_word found ≡ was → halt_word new ≡ word →
     Observes n i (stand_from posted taken seen black token new) witnessed now (HasHalt (halt_word found))
-heard_halt n i was word posted taken seen black token old found new witnessed now observed found_is new_is =
+observed_halt n i was word posted taken seen black token old found new witnessed now observed found_is new_is =
     subst (λ (p : ℕ × ℕ). Observes n i (finds (stand_from posted taken seen black token old) p.0) witnessed now (HasHalt p.1))
     (λ q. (sym new_is q, sym found_is q)) observed
 
@@ -462,15 +462,15 @@ knew_end_done i word posted taken seen black token old new knew new_is first end
     same_halt old Ended (knew first (sym new_is ∙ ap halt_word ended))
 
 -- a node that has witnessed all events and knows the end is white
-pub white_heard : (n i : ℕ) (stand : Stand) (witnessed now : List RingEvent) (IsSo : Ring → Type 0) → i < n → Observes n i stand witnessed now IsSo →
+pub white_observed : (n i : ℕ) (stand : Stand) (witnessed now : List RingEvent) (IsSo : Ring → Type 0) → i < n → Observes n i stand witnessed now IsSo →
     stand.halt ≡ 1 → stand.black ≡ false
-white_heard n i stand witnessed now IsSo within observed ended = white_shown n i observed.ring stand within observed.is_lawful observed.shows ended
+white_observed n i stand witnessed now IsSo within observed ended = white_shown n i observed.ring stand within observed.is_lawful observed.shows ended
 
 -- so a black one doesn't know it
-pub black_hears : (n i : ℕ) (stand : Stand) (witnessed now : List RingEvent) (IsSo : Ring → Type 0) → i < n → Observes n i stand witnessed now IsSo →
+pub black_observes : (n i : ℕ) (stand : Stand) (witnessed now : List RingEvent) (IsSo : Ring → Type 0) → i < n → Observes n i stand witnessed now IsSo →
     stand.black ≡ true → stand.halt ≢ 1
-black_hears n i stand witnessed now IsSo within observed black ended =
-    let white : stand.black ≡ false = white_heard n i stand witnessed now IsSo within observed ended in cc
+black_observes n i stand witnessed now IsSo within observed black ended =
+    let white : stand.black ≡ false = white_observed n i stand witnessed now IsSo within observed ended in cc
 
 -- a node that announced the end, or has witnessed that it came, is white
 pub white_announced : (n i : ℕ) (before stand : Stand) (witnessed now : List RingEvent) (halt old : Halt) → i < n →
@@ -479,7 +479,7 @@ pub white_announced : (n i : ℕ) (before stand : Stand) (witnessed now : List R
 white_announced n i before stand witnessed now halt old within done ended =
     elim done [
       | inl made ↦ white_shown n i made.1.new stand within made.1.is_lawful made.1.shows_after ended
-      | inr observed ↦ white_heard n i stand witnessed now (HasHalt (halt_word halt)) within observed.1 ended
+      | inr observed ↦ white_observed n i stand witnessed now (HasHalt (halt_word halt)) within observed.1 ended
     ]
 
 -- the halt of each word
@@ -498,7 +498,7 @@ failed_answer i word found new found_is new_is =
     answered Ended = refl
     answered (Failed node) = halt_found (2 + node) (2 + i) (λ e. omega (arith, e))
 
--- an announcement, or what was heard in its place
+-- an announcement, or what was observed in its place
 pub announced_done : (n i found : ℕ) (posted taken seen : List ℕ) (black : Bool) (token : Option Token) (old new : Halt) (witnessed now : List RingEvent) →
     (found ≡ 0 → MakesEvent n i Announce (stand_from posted taken seen black token old) (finds (stand_from posted taken seen black token old) 1) witnessed now) →
     (found ≢ 0 → (found ≡ 1 → (stand_from posted taken seen black token old).halt ≡ 1)
@@ -514,6 +514,6 @@ announced_done n i found posted taken seen black token old new witnessed now mad
           let known = observed stopped in
           inr (
             (λ ended. same_halt old Ended (known.0 (sym word_is ∙ ap halt_word ended))),
-            heard_halt n i found found posted taken seen black token old new new witnessed now known.1 word_is word_is,
+            observed_halt n i found found posted taken seen black token old new new witnessed now known.1 word_is word_is,
           )
     ]

@@ -265,9 +265,9 @@ passes_tell n i word me after stand token witnessed me_is has tells =
 -- ---- bounds
 
 -- a lawful ring's token at node i is in the bounds that stand for i
-pub heard_bounds : (n i : ℕ) (stand : Stand) (witnessed now : List RingEvent) (token : Token) → Observes n i stand witnessed now (HasToken token) → token.at ≡ i
+pub observed_bounds : (n i : ℕ) (stand : Stand) (witnessed now : List RingEvent) (token : Token) → Observes n i stand witnessed now (HasToken token) → token.at ≡ i
     → IsInBounds n i token
-heard_bounds n i stand witnessed now token observed here = (
+observed_bounds n i stand witnessed now token observed here = (
   here,
   subst (λ (p : ℕ × Token). neg_ℤ (pos ((n - 1 - p.0) * 2 ^ 44)) ≤ℤ p.1.sum)
       (λ q. ((ap (λ (t : Token). t.at) observed.is_so ∙ here) q, observed.is_so q)) observed.is_lawful.low,
@@ -279,7 +279,7 @@ pub seen_bounds : (n i : ℕ) (stand : Stand) (witnessed now : List RingEvent) (
     token_at i token ≡ Some known → IsInBounds n i known
 seen_bounds n i stand witnessed now token known observed e =
     let there = seen_there i token known e in
-    subst (IsInBounds n i) (sym there.0) (heard_bounds n i stand witnessed now token observed (ap (λ (t : Token). t.at) (sym there.0) ∙ there.1))
+    subst (IsInBounds n i) (sym there.0) (observed_bounds n i stand witnessed now token observed (ap (λ (t : Token). t.at) (sym there.0) ∙ there.1))
 
 -- the token that is passed has a word
 pub passed_fits : (n i : ℕ) (token : Token) (count : ℤ) (black : Bool) → n ≤ 16 → i < n → IsInBounds n i token →

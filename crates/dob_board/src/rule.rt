@@ -3,7 +3,7 @@ use crate::view::View;
 use atomic_table::{Join, Play, Split, TableRule};
 
 // The rule; the key is the number of nodes.
-pub struct Order;
+pub(crate) struct Order;
 
 impl TableRule<(), View, usize> for Order {
     ghost use Rattle.dob_board.specs.Rule.{IsHeld, whole};
@@ -14,7 +14,7 @@ impl TableRule<(), View, usize> for Order {
 }
 
 // One batch more is posted.
-pub struct Posts;
+pub(crate) struct Posts;
 
 impl Play<(), View> for Posts {
     ghost use Rattle.dob_board.specs.Plays.{Posted};
@@ -23,7 +23,7 @@ impl Play<(), View> for Posts {
 }
 
 // A look at how many batches another node posted.
-pub struct Looks;
+pub(crate) struct Looks;
 
 impl Play<(), View> for Looks {
     ghost use Rattle.dob_board.specs.Plays.{Looked};
@@ -32,7 +32,7 @@ impl Play<(), View> for Looks {
 }
 
 // One batch more is taken.
-pub struct Takes;
+pub(crate) struct Takes;
 
 impl Play<(), View> for Takes {
     ghost use Rattle.dob_board.specs.Plays.{Took};
@@ -41,7 +41,7 @@ impl Play<(), View> for Takes {
 }
 
 // A look for the token.
-pub struct Meets;
+pub(crate) struct Meets;
 
 impl Play<(), View> for Meets {
     ghost use Rattle.dob_board.specs.Plays.{Met};
@@ -50,7 +50,7 @@ impl Play<(), View> for Meets {
 }
 
 // The token is passed.
-pub struct Passes;
+pub(crate) struct Passes;
 
 impl Play<(), View> for Passes {
     ghost use Rattle.dob_board.specs.Plays.{Passed};
@@ -59,7 +59,7 @@ impl Play<(), View> for Passes {
 }
 
 // A look at the halt word.
-pub struct Halts;
+pub(crate) struct Halts;
 
 impl Play<(), View> for Halts {
     ghost use Rattle.dob_board.specs.Plays.{Halted};
@@ -68,7 +68,7 @@ impl Play<(), View> for Halts {
 }
 
 // The run fails, if it goes on.
-pub struct Fails;
+pub(crate) struct Fails;
 
 impl Play<(), View> for Fails {
     ghost use Rattle.dob_board.specs.Plays.{FailedRun};
@@ -77,7 +77,7 @@ impl Play<(), View> for Fails {
 }
 
 // The end is announced, if the run goes on.
-pub struct Announces;
+pub(crate) struct Announces;
 
 impl Play<(), View> for Announces {
     ghost use Rattle.dob_board.specs.Plays.{Announced};
@@ -86,7 +86,7 @@ impl Play<(), View> for Announces {
 }
 
 // The first node gets a seat of its own.
-pub struct FirstNode;
+pub(crate) struct FirstNode;
 
 impl Split<View> for FirstNode {
     ghost use Rattle.dob_board.specs.Plays.{others_of, first_of};
@@ -97,7 +97,7 @@ impl Split<View> for FirstNode {
 }
 
 // A seat comes back, before the nodes that came back already.
-pub struct Back;
+pub(crate) struct Back;
 
 impl Join<View> for Back {
     ghost use Rattle.dob_board.specs.Boards.{joined, nobody};
@@ -108,7 +108,7 @@ impl Join<View> for Back {
 }
 
 // A look at any word, once the board is closed.
-pub struct Reads;
+pub(crate) struct Reads;
 
 impl Play<(), View> for Reads {
     ghost use Rattle.dob_board.specs.Boards.{Read};

@@ -3,7 +3,7 @@ use Rattle.std.proofs.Common.{◌≡◌, ◌+◌, rules, refl, arith, ◌∙◌,
 use Rattle.dob_board.specs.Words.{halt_word, halt_after}
 use Rattle.dob_board.specs.Views.{stand_from}
 use Rattle.dob_board.specs.Histories.{HasHalt}
-use Rattle.dob_board.proofs.Halting.{fails_call, fails_tell, found_done, knew_end_done, white_heard, black_hears, heard_halt, halt_at, failed_answer}
+use Rattle.dob_board.proofs.Halting.{fails_call, fails_tell, found_done, knew_end_done, white_observed, black_observes, observed_halt, halt_at, failed_answer}
 use Rattle.dob_board.proofs.seat.NodeSeat.fail.Goals as goal
 
 pub compare_exchange-found-requires : goal.compare_exchange-found-requires
@@ -38,10 +38,10 @@ invariant_of-self c =
       few_taken = seat.few_taken;
       in_bounds = seat.in_bounds;
       halt_within = done.within;
-      white = λ ended. white_heard seat.nodes seat.node
+      white = λ ended. white_observed seat.nodes seat.node
           (stand_from seat.posted.items seat.taken.items seat.seen.items seat.black seat.token c.halt_of-self.result)
           seat.seat.me.0.witnessed c.compare_exchange-found.new.seat.me.0.witnessed (HasHalt (halt_word found.0)) seat.within
-          (heard_halt seat.nodes seat.node _ _ seat.posted.items seat.taken.items seat.seen.items seat.black seat.token seat.halt
+          (observed_halt seat.nodes seat.node _ _ seat.posted.items seat.taken.items seat.seen.items seat.black seat.token seat.halt
           found.0 c.halt_of-self.result seat.seat.me.0.witnessed c.compare_exchange-found.new.seat.me.0.witnessed witnessed.2 found.1
           (c.halt_of-self.ensures ∙ c.halt_after.ensures))
           (ap halt_word ended);
@@ -69,7 +69,7 @@ returns-clause-observed c =
     c.halt_of-self.ensures ∙ c.halt_after.ensures in
     record {
       found = found.0;
-      observed = heard_halt seat.nodes seat.node _ _ seat.posted.items seat.taken.items seat.seen.items seat.black seat.token seat.halt
+      observed = observed_halt seat.nodes seat.node _ _ seat.posted.items seat.taken.items seat.seen.items seat.black seat.token seat.halt
           found.0 c.halt_of-self.result seat.seat.me.0.witnessed c.compare_exchange-found.new.seat.me.0.witnessed witnessed.2 found.1
           (c.halt_of-self.ensures ∙ c.halt_after.ensures);
       answer = failed_answer seat.node c.compare_exchange-found.result found.0 c.halt_of-self.result found.1 word_is;
@@ -91,10 +91,10 @@ returns-clause-black c black ended =
     (stand_from seat.posted.items seat.taken.items seat.seen.items seat.black seat.token seat.halt) seat.seat.me.0.witnessed seat.view_is
     (omega arith) c.compare_exchange-found.ensures.2 in
     let found = halt_at c.compare_exchange-found.result in
-    black_hears seat.nodes seat.node
+    black_observes seat.nodes seat.node
     (stand_from seat.posted.items seat.taken.items seat.seen.items seat.black seat.token c.halt_of-self.result)
     seat.seat.me.0.witnessed c.compare_exchange-found.new.seat.me.0.witnessed (HasHalt (halt_word found.0)) seat.within
-    (heard_halt seat.nodes seat.node _ _ seat.posted.items seat.taken.items seat.seen.items seat.black seat.token seat.halt
+    (observed_halt seat.nodes seat.node _ _ seat.posted.items seat.taken.items seat.seen.items seat.black seat.token seat.halt
     found.0 c.halt_of-self.result seat.seat.me.0.witnessed c.compare_exchange-found.new.seat.me.0.witnessed witnessed.2 found.1
     (c.halt_of-self.ensures ∙ c.halt_after.ensures))
     black (ap halt_word ended)

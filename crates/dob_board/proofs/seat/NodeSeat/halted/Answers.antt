@@ -3,7 +3,7 @@ use Rattle.std.proofs.Common.{rules, refl, arith, ap}
 use Rattle.dob_board.specs.Words.{halt_word}
 use Rattle.dob_board.specs.Views.{stand_from}
 use Rattle.dob_board.specs.Histories.{HasHalt}
-use Rattle.dob_board.proofs.Halting.{halts_call, halts_tell, found_done, knew_done, knew_end_done, white_heard, black_hears, heard_halt}
+use Rattle.dob_board.proofs.Halting.{halts_call, halts_tell, found_done, knew_done, knew_end_done, white_observed, black_observes, observed_halt}
 use Rattle.dob_board.proofs.seat.NodeSeat.halted.Goals as goal
 
 pub load-word-requires : goal.load-word-requires
@@ -38,10 +38,10 @@ invariant_of-self c =
       few_taken = seat.few_taken;
       in_bounds = seat.in_bounds;
       halt_within = done.within;
-      white = λ ended. white_heard seat.nodes seat.node
+      white = λ ended. white_observed seat.nodes seat.node
           (stand_from seat.posted.items seat.taken.items seat.seen.items seat.black seat.token c.halt_of-self.result)
           seat.seat.me.0.witnessed c.load-word.new.seat.me.0.witnessed (HasHalt (halt_word c.halt_of-self.result)) seat.within
-          (heard_halt seat.nodes seat.node _ _ seat.posted.items seat.taken.items seat.seen.items seat.black seat.token seat.halt
+          (observed_halt seat.nodes seat.node _ _ seat.posted.items seat.taken.items seat.seen.items seat.black seat.token seat.halt
           c.halt_of-self.result c.halt_of-self.result seat.seat.me.0.witnessed c.load-word.new.seat.me.0.witnessed witnessed.3 c.halt_of-self.ensures c.halt_of-self.ensures)
           (ap halt_word ended);
       view_is = done.view_is;
@@ -63,7 +63,7 @@ returns-clause-observed c =
     let seat = c.args.self.now in
     let witnessed = halts_tell seat.nodes seat.node c.load-word.result seat.seat.me c.load-word.new.seat.me
     (stand_from seat.posted.items seat.taken.items seat.seen.items seat.black seat.token seat.halt) seat.seat.me.0.witnessed seat.view_is c.load-word.ensures.2 in
-    heard_halt seat.nodes seat.node _ _ seat.posted.items seat.taken.items seat.seen.items seat.black seat.token seat.halt
+    observed_halt seat.nodes seat.node _ _ seat.posted.items seat.taken.items seat.seen.items seat.black seat.token seat.halt
     c.halt_of-self.result c.halt_of-self.result seat.seat.me.0.witnessed c.load-word.new.seat.me.0.witnessed witnessed.3 c.halt_of-self.ensures c.halt_of-self.ensures
 
 pub returns-clause-own : goal.returns-clause-own
@@ -87,9 +87,9 @@ returns-clause-black c black ended =
     let seat = c.args.self.now in
     let witnessed = halts_tell seat.nodes seat.node c.load-word.result seat.seat.me c.load-word.new.seat.me
     (stand_from seat.posted.items seat.taken.items seat.seen.items seat.black seat.token seat.halt) seat.seat.me.0.witnessed seat.view_is c.load-word.ensures.2 in
-    black_hears seat.nodes seat.node
+    black_observes seat.nodes seat.node
     (stand_from seat.posted.items seat.taken.items seat.seen.items seat.black seat.token c.halt_of-self.result)
     seat.seat.me.0.witnessed c.load-word.new.seat.me.0.witnessed (HasHalt (halt_word c.halt_of-self.result)) seat.within
-    (heard_halt seat.nodes seat.node _ _ seat.posted.items seat.taken.items seat.seen.items seat.black seat.token seat.halt
+    (observed_halt seat.nodes seat.node _ _ seat.posted.items seat.taken.items seat.seen.items seat.black seat.token seat.halt
     c.halt_of-self.result c.halt_of-self.result seat.seat.me.0.witnessed c.load-word.new.seat.me.0.witnessed witnessed.3 c.halt_of-self.ensures c.halt_of-self.ensures)
     black (ap halt_word ended)
