@@ -77,13 +77,13 @@ module _ (No : ℕ → Type 0) (until : Until) (set : PieceSet) (n size capacity
 pub are_let_on : (Says : ℕ → Bool → Type 0) (until : Until) (set : PieceSet) (n size capacity : ℕ) (board : Board) (old ended : List Runner) →
     IsNewCrew set n size capacity board old → AllZip (EndsBy Says until) old ended → IsCrew board (map endpoint_of ended) → AreLetOn Says until ended
 are_let_on Says (until.Turns count) set n size capacity board old ended opened ends crew = tt
-are_let_on Says until.Stopped set n size capacity board old ended opened ends crew = λ k runner at unfailed.
-    let was = zip_at (EndsBy Says until.Stopped) old ended k runner ends at in
+are_let_on Says until.Halted set n size capacity board old ended opened ends crew = λ k runner at unfailed.
+    let was = zip_at (EndsBy Says until.Halted) old ended k runner ends at in
     subst (λ (m : ℕ). Says m true) (seat_at board ended crew k runner at).node (was.2.1 (opened.new k was.0 was.1).0.running unfailed)
 
 -- and so each of its nodes, where none has failed
 pub all_let_on : (Says : ℕ → Bool → Type 0) (n : ℕ) (board : Board) (ended : List Runner) → board.nodes ≡ n → IsCrew board (map endpoint_of ended) →
-    AreLetOn Says until.Stopped ended → (result : Result Built Fault) → OnOk result (AreUnfailed ended) → OnOk result ((node : ℕ) → node < n → Says node true)
+    AreLetOn Says until.Halted ended → (result : Result Built Fault) → OnOk result (AreUnfailed ended) → OnOk result ((node : ℕ) → node < n → Says node true)
 all_let_on Says n board ended nodes crew are (Ok built) unfailed = λ node low.
     let runner = some_at ended node (omega (arith, crew_many board ended crew, nodes, low)) in
     are node runner.0 runner.1 (unfailed node runner.0 runner.1)
@@ -170,10 +170,10 @@ module _ (No : ℕ → Type 0) (turns : ℕ) (set : PieceSet) (n size capacity :
 
 -- no node was held back where the gate never says no
 unheld : (No : ℕ → Type 0) (set : PieceSet) (n size capacity : ℕ) → ((node : ℕ) → ¬ No node) → (fault : Fault) →
-    StopsSo IsFailureOf No until.Stopped set n size capacity fault → IsUnheld fault
+    StopsSo IsFailureOf No until.Halted set n size capacity fault → IsUnheld fault
 unheld No set n size capacity never (Stopped node why) stops = λ held.
     let runner = stops.names.runner in
-    let was = zip_at (Ends No until.Stopped) stops.ran.old stops.ended node runner stops.ran.ends stops.names.at in
+    let was = zip_at (Ends No until.Halted) stops.ran.old stops.ended node runner stops.ran.ends stops.names.at in
     never runner.endpoint.seat.node (subst (IsReasonFor No runner) held (was.2.2 why stops.names.cause))
 unheld No set n size capacity never SetTooLarge stops = tt
 unheld No set n size capacity never Nodes stops = tt
@@ -181,17 +181,17 @@ unheld No set n size capacity never Sizes stops = tt
 unheld No set n size capacity never Memory stops = tt
 
 pub if_unheld : (No : ℕ → Type 0) (set : PieceSet) (n size capacity : ℕ) (result : Result Built Fault) →
-    IfErr result (StopsSo IsFailureOf No until.Stopped set n size capacity) → ((node : ℕ) → ¬ No node) → IfErr result IsUnheld
+    IfErr result (StopsSo IsFailureOf No until.Halted set n size capacity) → ((node : ℕ) → ¬ No node) → IfErr result IsUnheld
 if_unheld No set n size capacity (Ok built) stops never = tt
 if_unheld No set n size capacity (Err fault) stops never = unheld No set n size capacity never fault stops
 
 module _ (No : ℕ → Type 0) (set : PieceSet) (n size capacity : ℕ) (board : Board) (ended : List Runner)
-    (ran : HasRun No until.Stopped set n size capacity board ended) where
+    (ran : HasRun No until.Halted set n size capacity board ended) where
   pub have_stopped : HaveStopped set size ended
   have_stopped = record {
     small = ran.small;
     each = λ k runner at.
-        let was = zip_at (Ends No until.Stopped) ran.old ended k runner ran.ends at in
+        let was = zip_at (Ends No until.Halted) ran.old ended k runner ran.ends at in
         let is = ran.opened.each k was.0 was.1 in
         record { set_is = was.2.0.set ∙ is.set_is; size_is = was.2.0.size ∙ is.size_is; halted = was.2.1 };
   }
@@ -202,7 +202,7 @@ module _ (No : ℕ → Type 0) (set : PieceSet) (n size capacity : ℕ) (board :
   is_built (Err why) is = tt
 
   fault_for : (fault : Fault) → IsFailureOf ended fault → HasBuildFault set n size capacity fault
-  fault_for (Stopped node why) failure = fault_by No until.Stopped set n size capacity board ended ran node why failure.runner failure.at
+  fault_for (Stopped node why) failure = fault_by No until.Halted set n size capacity board ended ran node why failure.runner failure.at
   fault_for Memory failure = (ran.small, ran.within)
   fault_for SetTooLarge failure = absurd failure
   fault_for Nodes failure = absurd failure
@@ -212,7 +212,7 @@ module _ (No : ℕ → Type 0) (set : PieceSet) (n size capacity : ℕ) (board :
   has_fault (Ok built) failure = tt
   has_fault (Err fault) failure = fault_for fault failure
 
-  pub is_stopped : (result : Result Built Fault) → IfErr result (IsFailureOf ended) → IfErr result (StopsSo IsFailureOf No until.Stopped set n size capacity)
+  pub is_stopped : (result : Result Built Fault) → IfErr result (IsFailureOf ended) → IfErr result (StopsSo IsFailureOf No until.Halted set n size capacity)
   is_stopped (Ok built) failure = tt
   is_stopped (Err fault) failure =
-      stops_so IsFailureOf No until.Stopped set n size capacity board ended fault ran failure
+      stops_so IsFailureOf No until.Halted set n size capacity board ended fault ran failure

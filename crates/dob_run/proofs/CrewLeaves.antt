@@ -22,10 +22,10 @@ use Rattle.dob_run.specs.declared.hands.Outlet.{Outlet}
 use Rattle.dob_run.specs.declared.hands.Inlet.{Inlet}
 use Rattle.dob_run.specs.declared.endpoint.Endpoint.{Endpoint}
 use Rattle.dob_run.specs.declared.runner.Runner.{Runner}
-use Rattle.dob_run.specs.declared.crew_close.Ended.{Ended}
+use Rattle.dob_run.specs.declared.crew_close.ClosedCrew.{ClosedCrew}
 use Rattle.dob_run.specs.declared.bounded_run.Worker.{Worker}
 use Rattle.dob_run.specs.declared.bounded_run.Turned.{Turned}
-use Rattle.dob_run.specs.CrewClose.{AreLinked, seat_in, IsCrew, row_of, hands_out, hands_in, HasEnded}
+use Rattle.dob_run.specs.CrewClose.{AreLinked, seat_in, IsCrew, row_of, hands_out, hands_in, AreClosed}
 use Rattle.dob_run.specs.InboxClose.{outlet_hand, IsJoined}
 use Rattle.dob_run.specs.Hands.{in_hand, held_from}
 use Rattle.dob_run.specs.Knows.{KnowsRight}
@@ -96,8 +96,8 @@ module _ {A : Type 0} (nodes : List Node) (sending taking : List (Vec (Option Ba
 
 -- ---- what the runners leave
 
-pub left_by : (n : ℕ) (runners : List Runner) (nodes : List Node) (endpoints : List Endpoint) (ended : Ended) (turned : Turned) → nodes ≡ map node_of runners →
-    endpoints ≡ map endpoint_of runners → HasEnded n endpoints ended → AreWorkers (length nodes) nodes (map row_of ended.sending.items) (map row_of ended.taking.items) turned.workers.items →
+pub left_by : (n : ℕ) (runners : List Runner) (nodes : List Node) (endpoints : List Endpoint) (ended : ClosedCrew) (turned : Turned) → nodes ≡ map node_of runners →
+    endpoints ≡ map endpoint_of runners → AreClosed n endpoints ended → AreWorkers (length nodes) nodes (map row_of ended.sending.items) (map row_of ended.taking.items) turned.workers.items →
     turned.closed ≡ ended.closed → turned.links ≡ ended.links → HasLeft n runners turned
 left_by n runners nodes endpoints ended turned nodes_is endpoints_is ended_is workers closed links = record {
   count = workers.count ∙ ap length nodes_is ∙ length-map runners node_of;

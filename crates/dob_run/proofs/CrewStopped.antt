@@ -27,13 +27,13 @@ use Rattle.dob_run.specs.declared.fault.Fault.TheVariants.{SetTooLarge, Nodes, S
 use Rattle.dob_run.specs.declared.hands.Outlet.{Outlet}
 use Rattle.dob_run.specs.declared.hands.Inlet.{Inlet}
 use Rattle.dob_run.specs.declared.runner.Runner.{Runner}
-use Rattle.dob_run.specs.declared.crew_close.Ended.{Ended as Left}
+use Rattle.dob_run.specs.declared.crew_close.ClosedCrew.{ClosedCrew as Left}
 use Rattle.dob_run.specs.declared.build_end.Built.{Built}
 use Rattle.dob_run.specs.Hands.{in_hand, held_from}
 use Rattle.dob_run.specs.Links.{offered, worked_from}
 use Rattle.dob_run.proofs.Senders.{parts}
 use Rattle.dob_run.specs.Endpoints.{AreOut}
-use Rattle.dob_run.specs.CrewClose.{seat_in, IsCrew, HasEnded}
+use Rattle.dob_run.specs.CrewClose.{seat_in, IsCrew, AreClosed}
 use Rattle.dob_run.specs.InboxClose.{IsJoined}
 use Rattle.dob_run.specs.CrewRunners.{endpoint_of, node_of}
 use Rattle.dob_run.specs.BoundedRun.{IsFirstFailed}
@@ -162,7 +162,7 @@ module _ (board : Board) (set : PieceSet) (size : ℕ) (runners : List Runner) (
         ∙ are.all_taken ended i j (crew_low board runners crew i sender at_i) (crew_low board runners crew j taker at_j)
         ∙ are.taken j i taker.endpoint.seat (seat_there runners j taker at_j) (crew_low board runners crew i sender at_i)
 
-    module _ (left : Left) (words_are : words ≡ left.closed.words.items) (has : HasEnded board.nodes (map endpoint_of runners) left) where
+    module _ (left : Left) (words_are : words ≡ left.closed.words.items) (has : AreClosed board.nodes (map endpoint_of runners) left) where
       pub finished : AreFinished set board.nodes runners
       finished = record {
         count = crew_many board runners crew;

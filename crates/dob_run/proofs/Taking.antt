@@ -16,7 +16,7 @@ use Rattle.dob_run.specs.declared.runner.Runner.{Runner}
 use Rattle.dob_run.specs.Batches.{IsBatchFor}
 use Rattle.dob_run.specs.Links.{worked, HoldsFor}
 use Rattle.dob_run.specs.Endpoints.{HasChangedOne}
-use Rattle.dob_run.specs.TurnRounds.{IsAsked, IsWorkedIn, TakesBatch}
+use Rattle.dob_run.specs.TurnRounds.{IsReceived, IsWorkedIn, TakesBatch}
 use Rattle.dob_run.specs.Runners.{GoesOn}
 
 -- ---- one of several links
@@ -56,7 +56,7 @@ unchanged_same node = record { same = (refl, refl, refl, refl); kept = (refl, re
 -- ---- taking
 
 module _ (old new : Runner) (mid : Endpoint) (goes : GoesOn old new) (received : worked mid.inlet ≡ worked old.endpoint.inlet)
-    (asked : IsAsked old.endpoint.inlet mid.inlet) (outlets : new.endpoint.outlets.items ≡ old.endpoint.outlets.items) where
+    (asked : IsReceived old.endpoint.inlet mid.inlet) (outlets : new.endpoint.outlets.items ≡ old.endpoint.outlets.items) where
   -- none came, or it isn't worked in
   pub takes_none : new.endpoint.inlet ≡ mid.inlet → IsUnchanged old.node new.node → TakesBatch old new false
   takes_none same unchanged = record {

@@ -14,7 +14,7 @@ use Rattle.dob_run.specs.declared.threads.Started.{Started}
 use Rattle.dob_run.specs.declared.threads.Started.TheVariants.{Runs, GaveUp}
 use Rattle.dob_run.specs.Runners.{KeepsRunner, GoesOn, HasFailed, HasTurned, IsAsked, IsReasonFor, IsReasoned, says_no}
 use Rattle.dob_run.specs.declared.turn_loop.Until.{Until}
-use Rattle.dob_run.specs.declared.turn_loop.Until.TheVariants.{Turns, Stopped}
+use Rattle.dob_run.specs.declared.turn_loop.Until.TheVariants.{Turns, Halted}
 use Rattle.dob_run.specs.Started.{IsStartOf, IsEndOf}
 use Rattle.dob_run.specs.TurnLoop.{IsThrough, Ends, EndsBy, IsLetOn}
 use Rattle.dob_run.proofs.Pacing.{unfailed_few}
@@ -57,12 +57,12 @@ module _ {X Y : Type 0} (R : X → Y → Type 0) where
 -- a runner that has failed is through with its turns, whatever they were
 pub through : (until : Until) (old new : Runner) (why : Cause) → HasFailed old new why → IsThrough until old new
 through (Turns count) old new why failed = λ unfailed. unfailed_few count old new why failed.cause unfailed
-through Stopped old new why failed = failed.stopped
+through Halted old new why failed = failed.stopped
 
 -- and need not have been let on
 let_failed : (Says : ℕ → Bool → Type 0) (until : Until) (old new : Runner) (why : Cause) → HasFailed old new why → IsLetOn Says until old new
 let_failed Says (Turns count) old new why failed = tt
-let_failed Says Stopped old new why failed = λ going unfailed. absurd (let both = sym failed.cause ∙ unfailed in cc)
+let_failed Says Halted old new why failed = λ going unfailed. absurd (let both = sym failed.cause ∙ unfailed in cc)
 
 -- where it makes a turn and doesn't fail the gate lets it on
 pub let_by_turn : (Says : ℕ → Bool → Type 0) (a b : Runner) (r : Result Halt Cause) → MatchResult r (HasTurned a b) (HasFailed a b) →

@@ -12,7 +12,7 @@ use Rattle.dob_chan.specs.Ends.{IsEndOf}
 use Rattle.dob_run.specs.declared.hands.Outlet.{Outlet}
 use Rattle.dob_run.specs.declared.hands.Inlet.{Inlet}
 use Rattle.dob_run.specs.declared.endpoint.Endpoint.{Endpoint}
-use Rattle.dob_run.specs.declared.crew_close.Ended.{Ended}
+use Rattle.dob_run.specs.declared.crew_close.ClosedCrew.{ClosedCrew}
 use Rattle.dob_run.specs.declared.crew_close.Parts.{Parts}
 use Rattle.dob_run.specs.Rows.{StandsAt, AreRows, AreDealt}
 use Rattle.dob_run.specs.Hands.{hand_row}
@@ -76,7 +76,7 @@ pub record ArePartsOf (n : ℕ) (endpoints : List Endpoint) (parts : Parts) : Ty
 
 -- The endpoints of n nodes are closed: the words are what their seats counted; what went over each link stands in the row
 -- of its sender at the place of its taker; and what lay in their hands is there.
-pub record HasEnded (n : ℕ) (endpoints : List Endpoint) (ended : Ended) : Type 0 where
+pub record AreClosed (n : ℕ) (endpoints : List Endpoint) (ended : ClosedCrew) : Type 0 where
   pub words : AreWords n (map seat_in endpoints) ended.closed.words.items
   pub count : length ended.links.items ≡ n * n
   pub links : (i j : ℕ) (outlet : Outlet) (inlet : Inlet) → AreLinked endpoints i j outlet inlet →

@@ -7,7 +7,7 @@ use Rattle.dob_board.specs.declared.board.Board.{Board}
 use Rattle.dob_board.specs.declared.halt.Halt.TheVariants.{Running}
 use Rattle.dob_run.specs.declared.runner.Runner.{Runner}
 use Rattle.dob_run.specs.declared.turn_loop.Until.{Until}
-use Rattle.dob_run.specs.declared.turn_loop.Until.TheVariants.{Turns, Stopped}
+use Rattle.dob_run.specs.declared.turn_loop.Until.TheVariants.{Turns, Halted}
 use Rattle.dob_run.specs.CrewRunners.{IsNewCrew}
 use Rattle.dob_run.specs.Faults.{AreWithin}
 use Rattle.dob_run.specs.TurnRounds.{AddsFew}
@@ -22,9 +22,9 @@ pub record Suits (set : PieceSet) (runner : Runner) : Type 0 where
 abbrev pub AllSuit : PieceSet → List Runner → Type 0
 AllSuit set runners = (k : ℕ) (runner : Runner) → slice_get runners k ≡ Some runner → Suits set runner
 
--- until each runner has stopped
-abbrev pub until_stopped : Until
-until_stopped = Stopped
+-- until each seat knows that the run ended or failed
+abbrev pub until_halted : Until
+until_halted = Halted
 
 -- until each has made so many turns
 abbrev pub until_turns : ℕ → Until
@@ -33,7 +33,7 @@ until_turns count = Turns count
 -- the runner was to make turns for so long, and has: with so many turns over each link went at most so many batches, if none failed
 abbrev pub IsThrough : Until → Runner → Runner → Type 0
 IsThrough (Turns count) old new = new.failed ≡ None → AddsFew count old.endpoint new.endpoint
-IsThrough Stopped old new = new.endpoint.seat.halt ≢ Running
+IsThrough Halted old new = new.endpoint.seat.halt ≢ Running
 
 -- it keeps its place in its crew, and has; where it failed it has a reason, with a gate that may say no to some nodes
 abbrev pub Ends : (ℕ → Type 0) → Until → Runner → Runner → Type 0
@@ -42,7 +42,7 @@ Ends No until old new = KeepsRunner old new × IsThrough until old new × IsReas
 -- a gate that may answer so let its node go on, where its run went on and it hasn't failed
 abbrev pub IsLetOn : (ℕ → Bool → Type 0) → Until → Runner → Runner → Type 0
 IsLetOn Says (Turns count) old new = ⊤
-IsLetOn Says Stopped old new = old.endpoint.seat.halt ≡ Running → new.failed ≡ None → Says new.endpoint.seat.node true
+IsLetOn Says Halted old new = old.endpoint.seat.halt ≡ Running → new.failed ≡ None → Says new.endpoint.seat.node true
 
 -- it has made its turns by such a gate
 abbrev pub EndsBy : (ℕ → Bool → Type 0) → Until → Runner → Runner → Type 0
@@ -51,7 +51,7 @@ EndsBy Says until old new = Ends (says_no Says) until old new × IsLetOn Says un
 -- such a gate let each node go on that hasn't failed
 abbrev pub AreLetOn : (ℕ → Bool → Type 0) → Until → List Runner → Type 0
 AreLetOn Says (Turns count) ended = ⊤
-AreLetOn Says Stopped ended = (k : ℕ) (runner : Runner) → slice_get ended k ≡ Some runner → runner.failed ≡ None → Says k true
+AreLetOn Says Halted ended = (k : ℕ) (runner : Runner) → slice_get ended k ≡ Some runner → runner.failed ≡ None → Says k true
 
 -- The runners of a new crew of the piece set, of sizes within their limits, were to make turns for so long, and have, with a
 -- gate that may say no to some nodes.

@@ -56,7 +56,7 @@ pub record AppliesAll (old new : Runner) (did : Bool) : Type 0 where
 -- ---- taking
 
 -- The inbox gave at most one batch, and the hand is empty only where the inbox was.
-pub record IsAsked (before after : Inlet) : Type 0 where
+pub record IsReceived (before after : Inlet) : Type 0 where
   pub few : length (taken_by after.end) ≤ length (taken_by before.end) + 1
   pub empty : after.hand ≡ None → WasEmpty (taken_by after.end) (take_told after.end)
 

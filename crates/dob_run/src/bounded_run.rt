@@ -8,7 +8,7 @@ ghost use Rattle.dob_run.specs.Runners.{says_no};
 ghost use Rattle.dob_run.specs.TurnLoop.{until_turns};
 ghost use Rattle.dob_run.specs.BoundedRun.{IsTurned, CarriesFew, AreUnfailed, IsFirstFailed, StopsSo, AreWorkers, HasLeft};
 
-use crate::crew_close::{Ended, close_endpoints};
+use crate::crew_close::{ClosedCrew, close_endpoints};
 use crate::endpoint::Endpoint;
 use crate::fault::Fault;
 use crate::gate::Gate;
@@ -102,7 +102,7 @@ fn close_crew<R: Wait>(
     ensures { IfOk result (HasLeft board.nodes runners.items) }
 {
     let (nodes, endpoints) = part_runners(alloc, runners)?;
-    let Ended {
+    let ClosedCrew {
         closed,
         links,
         sending,

@@ -5,7 +5,7 @@ ghost use Rattle.dob_run.specs.Built.{IsBuilt};
 ghost use Rattle.dob_run.specs.BuildEnd.{IsFailureOf};
 ghost use Rattle.dob_run.specs.Faults.{AreWithin, HasBuildFault};
 ghost use Rattle.dob_run.specs.Runners.{says_no};
-ghost use Rattle.dob_run.specs.TurnLoop.{until_stopped};
+ghost use Rattle.dob_run.specs.TurnLoop.{until_halted};
 ghost use Rattle.dob_run.specs.BoundedRun.{StopsSo, IsUnheld};
 
 use crate::build_end::{Built, finish};
@@ -40,7 +40,7 @@ pub fn run_nodes<R: Threads + Wait + Sync, G: Gate + Sync>(
     ensures unheld { ((node : ℕ) → ¬ G.says gate.now node false) → IfErr result IsUnheld }
     ensures within { OnOk result (IsSmall set × AreWithin n batch capacity) }
     ensures fault { IfErr result (HasBuildFault set n batch capacity) }
-    ensures stopped { IfErr result (StopsSo IsFailureOf (says_no (G.says gate.now)) until_stopped set n batch capacity) }
+    ensures stopped { IfErr result (StopsSo IsFailureOf (says_no (G.says gate.now)) until_halted set n batch capacity) }
 {
     let (classes, board, ended) = run_crew(
         rt,
@@ -50,7 +50,7 @@ pub fn run_nodes<R: Threads + Wait + Sync, G: Gate + Sync>(
         batch,
         capacity,
         gate,
-        &Until::Stopped,
+        &Until::Halted,
     )?;
     finish(rt, alloc, classes, board, ended)
 }

@@ -9,13 +9,13 @@ ghost use Rattle.dob_node.specs.declared.cause.Cause.{Cause};
 ghost use Rattle.dob_node.specs.declared.node.Node.{Node as Shower};
 ghost use Rattle.dob_run.specs.declared.runner.Runner.{Runner};
 ghost use Rattle.dob_run.specs.CrewRunners.{endpoint_of, node_of};
-ghost use Rattle.dob_run.specs.CrewClose.{IsCrew, HasEnded};
+ghost use Rattle.dob_run.specs.CrewClose.{IsCrew, AreClosed};
 ghost use Rattle.dob_run.specs.Built.{IsBuilt};
 ghost use Rattle.dob_run.specs.BoundedRun.{AreUnfailed};
 ghost use Rattle.dob_run.specs.BuildEnd.{HaveStopped, IsFailureOf, AreOwners, IsShown, AreShownBelow, failed_of};
 
 use crate::bounded_run::{find_failed, part_runners};
-use crate::crew_close::{Ended, close_endpoints};
+use crate::crew_close::{ClosedCrew, close_endpoints};
 use crate::fault::Fault;
 use crate::runner::Runner;
 use dob_board::{Board, Closed, Halt};
@@ -68,7 +68,7 @@ pub fn finish<R: Wait>(
         return Err(fault);
     }
     let table = table_of(alloc, classes, &nodes)?;
-    let Ended { closed, links, .. } = ended;
+    let ClosedCrew { closed, links, .. } = ended;
     Ok(Built {
         table,
         closed,
@@ -93,10 +93,10 @@ fn close_all<R: Wait>(
     alloc: Global,
     board: Board,
     runners: Vec<Runner>,
-) -> Result<(Vec<Node>, Ended), Memory>
+) -> Result<(Vec<Node>, ClosedCrew), Memory>
     requires { IsCrew board (map endpoint_of runners.items) }
     ensures nodes { IfOk result (λ closed. closed.0.items ≡ map node_of runners.items) }
-    ensures ended { IfOk result (λ closed. HasEnded board.nodes (map endpoint_of runners.items) closed.1) }
+    ensures ended { IfOk result (λ closed. AreClosed board.nodes (map endpoint_of runners.items) closed.1) }
 {
     let (nodes, endpoints) = part_runners(alloc, runners)?;
     let ended = close_endpoints(rt, alloc, board, endpoints)?;

@@ -1,6 +1,6 @@
 // How the endpoints of a crew are closed: the seats go back to the board, and the ends of each inbox come together again.
 ghost use Rattle.std.specs.Prelude.{◌≡◌, ℕ, Some, IfOk, OnOk, slice_get, vec_len, length, []};
-ghost use Rattle.dob_run.specs.CrewClose.{IsCrew, HasAdded, ArePartsOf, HasEnded};
+ghost use Rattle.dob_run.specs.CrewClose.{IsCrew, HasAdded, ArePartsOf, AreClosed};
 
 use crate::endpoint::Endpoint;
 use crate::hands::Inlet;
@@ -16,7 +16,7 @@ use std::sync::Wait;
 /// What the endpoints of a crew leave: the words of its board, what went over each link, by sender and then by receiver, and what
 /// lies in the hands of each node, one place a node.
 #[derive(Drop)]
-pub(crate) struct Ended {
+pub(crate) struct ClosedCrew {
     pub(crate) closed: Closed,
     pub(crate) links: Vec<Rejoined>,
     pub(crate) sending: Vec<Vec<Option<Batch>>>,
@@ -41,9 +41,9 @@ pub(crate) fn close_endpoints<R: Wait>(
     alloc: Global,
     board: Board,
     endpoints: Vec<Endpoint>,
-) -> Result<Ended, Memory>
+) -> Result<ClosedCrew, Memory>
     requires { IsCrew board endpoints.items }
-    ensures { IfOk result (HasEnded board.nodes endpoints.items) }
+    ensures { IfOk result (AreClosed board.nodes endpoints.items) }
 {
     let Parts {
         seats,
@@ -54,7 +54,7 @@ pub(crate) fn close_endpoints<R: Wait>(
     } = part_endpoints(alloc, endpoints)?;
     let closed = board.close(seats);
     let links = rejoin_all(rt, alloc, sends, takes)?;
-    Ok(Ended {
+    Ok(ClosedCrew {
         closed,
         links,
         sending,

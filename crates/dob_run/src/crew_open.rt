@@ -100,14 +100,14 @@ fn runners_of(
 {
     let mut runners = Vec::with_capacity(alloc, endpoints.len())?;
     for endpoint in endpoints {
-        let runner = man(alloc, set, openings, endpoint, size)?;
+        let runner = open_runner(alloc, set, openings, endpoint, size)?;
         runners.push(runner)?;
     }
     Ok(runners)
 }
 
 // The runner of an endpoint, with a node that is opened for its seat.
-fn man(
+fn open_runner(
     alloc: Global,
     set: PieceSet,
     openings: &[Opening],

@@ -32,7 +32,7 @@ pub(crate) struct Endpoint {
 
 impl Endpoint {
     ghost use Rattle.dob_run.specs.Keeps.{KeepsEndpoint};
-    ghost use Rattle.dob_run.specs.TurnRounds.{IsAsked};
+    ghost use Rattle.dob_run.specs.TurnRounds.{IsReceived};
 
     /// The endpoint of that seat, with its outlet to each node's inbox and the inlet of its own, of which the seat has counted the
     /// batches.
@@ -104,7 +104,7 @@ impl Endpoint {
     pub(crate) fn receive<R: Wait>(&mut self, rt: &R)
         ensures seat { self.new.seat ≡ self.old.seat }
         ensures worked { worked self.new.inlet ≡ worked self.old.inlet }
-        ensures asked { IsAsked self.old.inlet self.new.inlet }
+        ensures asked { IsReceived self.old.inlet self.new.inlet }
         ensures outlets { self.new.outlets ≡ self.old.outlets }
         ensures keeps { KeepsEndpoint self.old self.new }
     {

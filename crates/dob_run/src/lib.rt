@@ -1,4 +1,11 @@
-// Workers: what a thread that drives a node of a build has, and what its steps keep.
+// Builds by threads, from a piece set to its table. A crew is a board of words with a runner for each node: the node beside
+// its endpoint, which is its seat on the board, its outlets to the inboxes of all nodes and the inlet of its own. A thread
+// turns each runner, until the board says that the run has ended or that a node failed it; then the crew is closed, and
+// what its nodes show is the table.
+//
+// The files: `crew_*` open and close a crew and `inbox_*` its inboxes; `endpoint`, `hands` and `hand_steps` are what a runner
+// sends and takes by; `turn*` are its turns; `threads` has a thread for each; `build*` is a whole build and `bounded_run` a run
+// of so many turns.
 #![tactic(auto)]
 
 mod batches;
@@ -10,12 +17,12 @@ mod crew_open;
 mod endpoint;
 mod fault;
 mod gate;
+mod hand_steps;
 mod hands;
 mod inbox_close;
 mod inbox_open;
 mod laws;
 mod limits;
-mod links;
 mod rows;
 mod runner;
 mod scans;

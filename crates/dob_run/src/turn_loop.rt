@@ -15,7 +15,7 @@ use std::sync::Wait;
 #[derive(Drop)]
 pub(crate) enum Until {
     Turns(u64),
-    Stopped,
+    Halted,
 }
 
 impl Runner {
@@ -34,7 +34,7 @@ impl Runner {
     {
         match until {
             Until::Turns(turns) => self.go(rt, classes, gate, *turns),
-            Until::Stopped => self.make_turns(rt, classes, gate),
+            Until::Halted => self.make_turns(rt, classes, gate),
         }
     }
 

@@ -1,6 +1,6 @@
 -- The crew that was run has stopped: it leaves a table within the limits, or the fault says why it leaves nothing.
 use Rattle.dob_node.proofs.TakenLists.{carried}
-use Rattle.dob_run.specs.declared.turn_loop.Until.TheVariants.{Stopped}
+use Rattle.dob_run.specs.declared.turn_loop.Until.TheVariants.{Halted}
 use Rattle.std.proofs.Common.{ℕ, sym, subst}
 use Rattle.std.specs.Prelude.{IfOk}
 use Rattle.dob_pieces.specs.declared.piece_set.PieceSet.{PieceSet}
@@ -22,12 +22,12 @@ returns-in_err-classes-clause-fault g c =
 pub returns-in_err-classes-clause-stopped : goal.returns-in_err-classes-clause-stopped
 returns-in_err-classes-clause-stopped g c =
     let fault = c.in_err-classes.field-0.0 in
-    carried (StopsSo IsFailureOf (says_no (g.G.Gate.says c.args.gate.now)) Stopped c.args.set c.args.n c.args.batch c.args.capacity) c.from_residual.result fault c.from_residual.ensures.1
-    (unbegun_stops IsFailureOf (says_no (g.G.Gate.says c.args.gate.now)) Stopped c.args.set c.args.n c.args.batch c.args.capacity fault c.in_err-classes.ensures.fault)
+    carried (StopsSo IsFailureOf (says_no (g.G.Gate.says c.args.gate.now)) Halted c.args.set c.args.n c.args.batch c.args.capacity) c.from_residual.result fault c.from_residual.ensures.1
+    (unbegun_stops IsFailureOf (says_no (g.G.Gate.says c.args.gate.now)) Halted c.args.set c.args.n c.args.batch c.args.capacity fault c.in_err-classes.ensures.fault)
 
 pub finish-requires-clause-crew : goal.finish-requires-clause-crew
 finish-requires-clause-crew g c =
-    still_crew (says_no (g.G.Gate.says c.args.gate.now)) Stopped c.args.set c.args.n c.args.batch c.args.capacity c.in_ok-classes.board c.in_ok-classes.ended.items c.in_ok-classes.ensures.ran
+    still_crew (says_no (g.G.Gate.says c.args.gate.now)) Halted c.args.set c.args.n c.args.batch c.args.capacity c.in_ok-classes.board c.in_ok-classes.ended.items c.in_ok-classes.ensures.ran
 
 pub finish-requires-clause-stopped : goal.finish-requires-clause-stopped
 finish-requires-clause-stopped g c = (
@@ -44,7 +44,7 @@ returns-clause-built g c =
 
 pub returns-clause-within : goal.returns-clause-within
 returns-clause-within g c =
-    is_within (says_no (g.G.Gate.says c.args.gate.now)) Stopped c.args.set c.args.n c.args.batch c.args.capacity c.in_ok-classes.board c.in_ok-classes.ended.items c.in_ok-classes.ensures.ran c.finish.result
+    is_within (says_no (g.G.Gate.says c.args.gate.now)) Halted c.args.set c.args.n c.args.batch c.args.capacity c.in_ok-classes.board c.in_ok-classes.ended.items c.in_ok-classes.ensures.ran c.finish.result
 
 pub returns-clause-fault : goal.returns-clause-fault
 returns-clause-fault g c =
@@ -65,7 +65,7 @@ pub returns-clause-let_on : goal.returns-clause-let_on
 returns-clause-let_on g c =
     let ran = c.in_ok-classes.ensures.ran in
     all_let_on (g.G.Gate.says c.args.gate.now) c.args.n c.in_ok-classes.board c.in_ok-classes.ended.items ran.opened.nodes
-    (still_crew (says_no (g.G.Gate.says c.args.gate.now)) Stopped c.args.set c.args.n c.args.batch c.args.capacity c.in_ok-classes.board c.in_ok-classes.ended.items ran)
+    (still_crew (says_no (g.G.Gate.says c.args.gate.now)) Halted c.args.set c.args.n c.args.batch c.args.capacity c.in_ok-classes.board c.in_ok-classes.ended.items ran)
     c.in_ok-classes.ensures.let_on c.finish.result c.finish.ensures.unfailed
 
 pub returns-clause-unheld : goal.returns-clause-unheld

@@ -7,8 +7,8 @@ use Rattle.dob_run.proofs.crew_open.runners_of.Goals as goal
 pub loop-endpoint-init : goal.loop-endpoint-init
 loop-endpoint-init c = going_begins (IsRunnerOf c.args.set c.args.size) c.args.endpoints.items _ _ c.into_iter-endpoint-iterator.ensures.into_iter_gives.0 (search rules)
 
-pub man-requires-clause-new : goal.man-requires-clause-new
-man-requires-clause-new c =
+pub open_runner-requires-clause-new : goal.open_runner-requires-clause-new
+open_runner-requires-clause-new c =
     let at = next_one (IsRunnerOf c.args.set c.args.size) c.args.endpoints.items _ _ _ c.in-Some.endpoint c.loop-endpoint.invariant c.in-Some.ensures.steps.0 in
     (c.requires.new.0, c.requires.new.1 at.0 c.in-Some.endpoint at.1)
 

@@ -8,7 +8,7 @@ use Rattle.dob_board.specs.declared.halt.Halt.TheVariants.{Running}
 use Rattle.dob_run.specs.declared.runner.Runner.{Runner}
 use Rattle.dob_run.specs.CrewRunners.{IsNewCrew}
 use Rattle.dob_run.specs.Runners.{KeepsRunner, IsReasoned, no_gate}
-use Rattle.dob_run.specs.TurnLoop.{Ends, HasRun, until_stopped}
+use Rattle.dob_run.specs.TurnLoop.{Ends, HasRun, until_halted}
 use Rattle.dob_run.proofs.ByThreads.{still_crew, have_stopped}
 use Rattle.dob_run.proofs.Keeping.{runner_trans}
 use Rattle.dob_tests.proofs.units.run.turns.turned_by_hand.Goals as goal
@@ -20,17 +20,17 @@ reasoned runner none why is = let never : Some why ≡ None = sym is ∙ none in
 
 two_ran : (set : PieceSet) (board : Board) (one other first second : Runner) (ended : List Runner) → IsSmall set → IsNewCrew set 2 1 1 board (one ∷ other ∷ []) →
     KeepsRunner one first → KeepsRunner other second → first.endpoint.seat.halt ≢ Running → second.endpoint.seat.halt ≢ Running → first.failed ≡ None → second.failed ≡ None →
-    ended ≡ first ∷ second ∷ [] → HasRun no_gate until_stopped set 2 1 1 board ended
+    ended ≡ first ∷ second ∷ [] → HasRun no_gate until_halted set 2 1 1 board ended
 two_ran set board one other first second ended small opened keeps_one keeps_other stopped_one stopped_other going_one going_other is = record {
   small = small;
   within = ((omega arith, omega arith), (omega arith, omega arith, omega arith, omega arith));
   old = one ∷ other ∷ [];
   opened = opened;
-  ends = subst (λ (l : List Runner). AllZip (Ends no_gate until_stopped) (one ∷ other ∷ []) l) (sym is)
+  ends = subst (λ (l : List Runner). AllZip (Ends no_gate until_halted) (one ∷ other ∷ []) l) (sym is)
       ((keeps_one, stopped_one, reasoned first going_one), ((keeps_other, stopped_other, reasoned second going_other), tt));
 }
 
-ran : (g : _) (c : In_ok-runners g) → HasRun no_gate until_stopped c.two_runners-classes.result.0.set 2 1 1 c.two_runners-classes.result.1 c.in_ok-runners.runners.items
+ran : (g : _) (c : In_ok-runners g) → HasRun no_gate until_halted c.two_runners-classes.result.0.set 2 1 1 c.two_runners-classes.result.1 c.in_ok-runners.runners.items
 ran g c =
     let made = c.two_runners-classes in
     let first : Runner = c.turn_to_the_end.new.first in
@@ -42,7 +42,7 @@ ran g c =
 pub finish-requires-clause-crew : goal.finish-requires-clause-crew
 finish-requires-clause-crew g c =
     let made = c.two_runners-classes.result in
-    still_crew no_gate until_stopped made.0.set 2 1 1 made.1 c.in_ok-runners.runners.items (ran g (goal.at.finish-requires-clause-crew g c).In_ok-runners)
+    still_crew no_gate until_halted made.0.set 2 1 1 made.1 c.in_ok-runners.runners.items (ran g (goal.at.finish-requires-clause-crew g c).In_ok-runners)
 
 pub finish-requires-clause-stopped : goal.finish-requires-clause-stopped
 finish-requires-clause-stopped g c =

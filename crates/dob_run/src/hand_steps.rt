@@ -1,4 +1,4 @@
-// What a runner does with its ends: it holds and offers batches, and receives and releases them.
+// What a runner does with its hands: it holds and offers batches, and receives and releases them.
 ghost use Rattle.std.specs.Prelude.{◌≡◌, ◌≢◌, ◌≤◌, ◌⊎◌, ℕ, true, false, None, Some, ◌∷◌, [], ◌++◌, length, MatchOption};
 ghost use Rattle.dob_chan.specs.Inboxes.{most_batches};
 ghost use Rattle.dob_update.specs.Batches.{BatchView};
@@ -59,7 +59,7 @@ impl Outlet {
 }
 
 impl Inlet {
-    ghost use Rattle.dob_run.specs.TurnRounds.{IsAsked};
+    ghost use Rattle.dob_run.specs.TurnRounds.{IsReceived};
 
     /// An inlet whose hand is empty.
     pub(crate) fn new(end: TakeEnd) -> Inlet
@@ -111,7 +111,7 @@ impl Inlet {
         ensures worked { worked self.new ≡ worked self.old }
         ensures keeps { KeepsInlet self.old self.new }
         ensures held { self.old.hand ≢ None → self.new.hand ≡ self.old.hand }
-        ensures asked { IsAsked self.old self.new }
+        ensures asked { IsReceived self.old self.new }
     {
         if self.hand.is_some() {
             return;

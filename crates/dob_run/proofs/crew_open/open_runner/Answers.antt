@@ -3,8 +3,8 @@ use Rattle.std.proofs.Common.{sym, subst}
 use Rattle.dob_node.specs.declared.node.Node.{Node}
 use Rattle.dob_run.specs.declared.endpoint.Endpoint.{Endpoint}
 use Rattle.dob_run.specs.Runners.{IsNew}
-use Rattle.dob_run.proofs.crew_open.man.Goals as goal
-use Rattle.dob_run.proofs.crew_open.man.Goals.{In_ok-node}
+use Rattle.dob_run.proofs.crew_open.open_runner.Goals as goal
+use Rattle.dob_run.proofs.crew_open.open_runner.Goals.{In_ok-node}
 
 is_new : (c : In_ok-node) → IsNew c.args.set c.in_ok-node.node c.args.endpoint
 is_new c =
