@@ -90,10 +90,5 @@ impl Endpoint {
 fn are_out(outlets: &[Outlet]) -> bool
     ensures { IsTrue result ↔ AreOut outlets.now }
 {
-    for outlet in outlets {
-        if outlet.is_full() {
-            return false;
-        }
-    }
-    true
+    outlets.iter().all(|outlet| !outlet.is_full())
 }

@@ -187,15 +187,10 @@ fn is_empty_handed(worker: &Worker) -> bool {
 fn are_first_words(words: &[u64], n: usize) -> bool
     requires { IsSize n }
 {
-    if words.len() != 3 + 2 * n * n {
-        return false;
-    }
-    for place in 2..words.len() {
-        if words[place] != 0 {
-            return false;
-        }
-    }
-    words[0] == n as u64 && words[1] == 1_407_374_883_553_280
+    words.len() == 3 + 2 * n * n
+        && words[0] == n as u64
+        && words[1] == 1_407_374_883_553_280
+        && words[2..].iter().all(|word| *word == 0)
 }
 
 // Whether nothing is left of `n` nodes that made no turn: their hands are empty, no link was used, and all words but those of
