@@ -4,6 +4,7 @@ use Rattle.std.proofs.Common.{append_assoc, length-append, arith}
 use Rattle.std.specs.Prelude.{All}
 use Rattle.std.proofs.lemmas.Bool.{cond-true, cond-false, eq-eqb, cases_lt}
 use Rattle.std.proofs.lemmas.Bool.Decides.{eqb_tells}
+use Rattle.std.proofs.lemmas.List.{append-nil}
 use Rattle.std.proofs.lemmas.List.Elements.{filter-append, All-append}
 use mathlib.Core.Option.{Option, some, none, some-ne-none, some-injective}
 use lib.ListN.{get_elem?}
@@ -56,10 +57,7 @@ own_more from all x own = filter-append (λ (b : BatchView). nat_eq b.from from)
 pub others_more : (from : ℕ) (all : List BatchView) (x : BatchView) → x.from ≢ from → batches_of from (all ++ x ∷ []) ≡ batches_of from all
 others_more from all x apart = ⊎_elim (λ same. absurd (apart same.1))
     (λ other. filter-append (λ (b : BatchView). nat_eq b.from from) all (x ∷ [])
-    ∙ ap (λ l. batches_of from all ++ l) (cond-false (nat_eq x.from from) (x ∷ []) [] other.0) ∙ nothing_more (batches_of from all)) (eqb_tells x.from from) where
-      nothing_more : (l : List BatchView) → l ++ [] ≡ l
-      nothing_more [] = refl
-      nothing_more (y ∷ ys) = ap (λ l. y ∷ l) (nothing_more ys)
+    ∙ ap (λ l. batches_of from all ++ l) (cond-false (nat_eq x.from from) (x ∷ []) [] other.0) ∙ append-nil (batches_of from all)) (eqb_tells x.from from)
 
 few_more : (all : List BatchView) (x : BatchView) (limit : ℕ) → length (batches_of x.from all) < limit
     → ((from : ℕ) → length (batches_of from all) ≤ limit) → (from : ℕ) → length (batches_of from (all ++ x ∷ [])) ≤ limit
@@ -86,12 +84,8 @@ passes_apart : (seat : ℕ → Option ℕ) (a b p q : ℕ) → seat a ≡ some p
 passes_apart seat a b p q at bt apart same = apart (some-injective q p (sym bt ∙ ap seat (sym same) ∙ at))
 
 -- what begins a list begins it with one thing more
-nothing_left : {X : Type 0} → (l : List X) → l ++ [] ≡ l
-nothing_left [] = refl
-nothing_left (y ∷ ys) = ap (λ l. y ∷ l) (nothing_left ys)
-
 begins_it : {X : Type 0} → (l : List X) → IsBeginning l l
-begins_it l = ([], sym (nothing_left l))
+begins_it l = ([], sym (append-nil l))
 
 begins_more : {X : Type 0} → (front whole : List X) (x : X) → IsBeginning front whole → IsBeginning front (whole ++ x ∷ [])
 begins_more front whole x is = (is.0 ++ x ∷ [], ap (λ l. l ++ x ∷ []) is.1 ∙ append_assoc front is.0 (x ∷ []))

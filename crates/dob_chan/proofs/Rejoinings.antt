@@ -3,7 +3,7 @@ use Rattle.std.proofs.Common.{◌≡◌, ◌≢◌, ◌≤◌, ◌<◌, ◌+◌,
 use Rattle.std.proofs.Common.{append_assoc, length-append, arith}
 use Rattle.std.specs.Prelude.{slice_get}
 use Rattle.std.proofs.lemmas.Bool.Decides.{eqb_tells}
-use Rattle.std.proofs.lemmas.List.{map-append}
+use Rattle.std.proofs.lemmas.List.{append-nil, map-append}
 use Rattle.std.proofs.lemmas.Option.{slice_get_within, same_Some}
 use Rattle.crossbeam_queue.specs.Fifo.{Held}
 use Rattle.crossbeam_queue.specs.Passes.{Pass, view, IsSamePass}
@@ -17,10 +17,6 @@ use Rattle.dob_chan.specs.Inboxes.{batches_of, taking, sent_by_ended, AreLeft, I
 use Rattle.dob_chan.specs.Ends.{sent_by, place_of, taken_by, AreEndsOf, AreRejoined}
 use Rattle.dob_chan.specs.Rooms.{HasRoom, AreRooms, AreRoomy, AreFilled, HasOneMoreWaiting}
 use Rattle.dob_chan.proofs.Deliveries.{own_more, others_more}
-
-nothing_more : {X : Type 0} → (xs : List X) → xs ++ [] ≡ xs
-nothing_more [] = refl
-nothing_more (x ∷ xs) = ap (λ l. x ∷ l) (nothing_more xs)
 
 one_thing : {X : Type 0} → (xs : List X) (k : ℕ) (a b : X) → slice_get xs k ≡ Some a → slice_get xs k ≡ Some b → a ≡ b
 one_thing xs k a b here there = same_Some a b (sym here ∙ there)
@@ -69,7 +65,7 @@ ending_goes_on all left after send old now new inv is same role = record {
 pub all_ended : (all left : List SendEnd) (old new : Pass BatchView Note) (inv : IsEnding all left old new) → left ≡ []
     → view new ≡ taking (view old).senders (view old).opened (view old).taken (map sent_by all) (view old).told
 all_ended all left old new inv is = inv.ended ∙ ap (λ l. taking (view old).senders (view old).opened (view old).taken (map sent_by l) (view old).told)
-    (sym (inv.split ∙ ap (λ l. inv.done ++ l) is ∙ nothing_more inv.done))
+    (sym (inv.split ∙ ap (λ l. inv.done ++ l) is ∙ append-nil inv.done))
 
 -- one room more
 pub one_room : (sends : List SendEnd) (taken : List ℕ) (rooms : List Rejoined) (room : Rejoined) (send : SendEnd) → slice_get sends (length rooms) ≡ Some send
@@ -95,7 +91,7 @@ filling_begins first olds role roomy = record {
   each = λ k old new here there. subst (λ (r : Rejoined). (r.sent ≡ old.sent) × (r.received ≡ old.received)
       × (batches_of k first.taken ≡ batches_of k first.taken ++ r.waiting.items) × (vec_capacity old.waiting ≤ vec_capacity r.waiting))
       (one_thing olds k old new here there)
-      (refl, refl, sym (ap (λ l. batches_of k first.taken ++ l) (roomy k old here).0 ∙ nothing_more (batches_of k first.taken)), omega arith);
+      (refl, refl, sym (ap (λ l. batches_of k first.taken ++ l) (roomy k old here).0 ∙ append-nil (batches_of k first.taken)), omega arith);
 }
 
 -- what is taken next has room
@@ -161,7 +157,7 @@ all_filled first now olds news inv many held = (
         so.0,
         so.1,
         ap (λ l. sent_by_ended l k) (sym ended_is) ∙ left ∙ ap (λ l. batches_of k now.taken ++ batches_of k l) (none_left held.0 held.1)
-            ∙ nothing_more (batches_of k now.taken) ∙ so.2,
+            ∙ append-nil (batches_of k now.taken) ∙ so.2,
       ),
 ) where
   none_left : {X : Type 0} → (xs : List X) → length xs ≡ 0 → xs ≡ []

@@ -5,14 +5,14 @@ use std::collections::LinkedList;
 
 /// What was told of an inbox: the batches that had been sent, by all senders, and those that had been taken. No value of it is
 /// made.
-pub struct Told {
+pub(crate) struct Told {
     pub sent: LinkedList<Batch>,
     pub taken: LinkedList<Batch>,
 }
 
 /// What a pass of an inbox may do, send as one of the senders or take, what it has sent and taken, and what it was told. The
 /// taking pass also knows how many senders' passes were made, and what those sent that have ended. No value of it is made.
-pub struct Note {
+pub(crate) struct Note {
     pub senders: usize,
     pub sends: bool,
     pub from: usize,
@@ -25,7 +25,7 @@ pub struct Note {
 }
 
 /// The rule: the batches of each sender come out in the order in which they went in, each once.
-pub struct InOrder;
+pub(crate) struct InOrder;
 
 impl Protocol<Batch, Note> for InOrder {
     ghost use Rattle.std.specs.Prelude.{[]};
@@ -37,7 +37,7 @@ impl Protocol<Batch, Note> for InOrder {
 }
 
 /// The inbox is for one sender more. The new pass may do nothing.
-pub struct Counts;
+pub(crate) struct Counts;
 
 impl Split<Note> for Counts {
     ghost use Rattle.std.specs.Prelude.{suc};
@@ -49,7 +49,7 @@ impl Split<Note> for Counts {
 }
 
 /// The new pass is that of the next sender.
-pub struct Opens;
+pub(crate) struct Opens;
 
 impl Split<Note> for Opens {
     ghost use Rattle.std.specs.Prelude.{suc, []};
@@ -61,7 +61,7 @@ impl Split<Note> for Opens {
 }
 
 /// The next sender has ended, and the taking pass knows what it sent.
-pub struct Ends;
+pub(crate) struct Ends;
 
 impl Join<Note> for Ends {
     ghost use Rattle.std.specs.Prelude.{◌++◌, ◌∷◌, []};
@@ -74,7 +74,7 @@ impl Join<Note> for Ends {
 
 /// What a send tells: the batch is the last that was sent, and all that happened before; and what it learns where the inbox is
 /// full.
-pub struct Sends;
+pub(crate) struct Sends;
 
 impl Outcome<Batch, Note> for Sends {
     ghost use Rattle.std.specs.Prelude.{◌≡◌, [], ◌∷◌, ◌++◌};
@@ -91,7 +91,7 @@ impl Lesson<Batch, Note> for Sends {
 
 /// What a receipt tells: the batch is the last that was taken, and of one of the senders, and all that happened before; and
 /// what it learns where the inbox is empty.
-pub struct Takes;
+pub(crate) struct Takes;
 
 impl Outcome<Batch, Note> for Takes {
     ghost use Rattle.std.specs.Prelude.{◌≡◌, [], ◌∷◌, ◌++◌, length, ◌<◌, ◌≤◌};
@@ -109,7 +109,7 @@ impl Lesson<Batch, Note> for Takes {
 
 /// What a receipt tells where senders have ended: no more is taken of them than they sent; and where the inbox is empty,
 /// what was taken of them is what they sent.
-pub struct Left;
+pub(crate) struct Left;
 
 impl Outcome<Batch, Note> for Left {
     ghost use Rattle.std.specs.Prelude.{◌≡◌, [], ◌∷◌, ◌++◌, length, ◌<◌, ◌≤◌};
