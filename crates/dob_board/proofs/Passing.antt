@@ -13,7 +13,7 @@ use Rattle.dob_safra.specs.declared.token.Token.{Token}
 use Rattle.dob_safra.specs.declared.event.RingEvent.{RingEvent}
 use Rattle.dob_safra.specs.declared.event.RingEvent.TheVariants.{Pass}
 use Rattle.dob_safra.specs.Tokens.{IsToken, IsPacked, passed_on}
-use Rattle.dob_safra.specs.Rings.{Ring, counter, sum_below, IsLawfulRing, Passes}
+use Rattle.dob_safra.specs.Rings.{Ring, counter, sum_below, Passes}
 use Rattle.dob_safra.specs.Laws.{HasFew}
 use Rattle.dob_safra.proofs.Sums.{sum_same}
 use Rattle.dob_board.specs.declared.view.Stand.{Stand}

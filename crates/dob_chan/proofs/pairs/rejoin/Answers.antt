@@ -1,5 +1,5 @@
 -- the rejoining of the one end is the only one
-use Rattle.std.proofs.Common.{◌≡◌, ◌∷◌, [], ◌∙◌, rules, ap}
+use Rattle.std.proofs.Common.{◌≡◌, ◌∷◌, [], rules, ap}
 use Rattle.std.specs.Prelude.{slice_get, Some}
 use Rattle.dob_chan.proofs.pairs.rejoin.Goals as goal
 
