@@ -77,7 +77,7 @@ start_is set block upto few =
 
 -- ---- how large they are: the entries of all rows
 
-few_in : ℕ → ℕ → Bool
+abbrev few_in : ℕ → ℕ → Bool
 few_in row block = nat_lt (start_in row block) (2 ^ 31)
 
 few_all : all_below (λ row. all_below (few_in row) 28) 27 ≡ true
