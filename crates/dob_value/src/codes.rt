@@ -6,6 +6,7 @@ ghost use Rattle.dob_value.specs.Follows.{IsEntry};
 
 use crate::value::Value;
 use dob_pieces::Memory;
+use dob_rank::{SegmentLength, Segments};
 use std::alloc::Global;
 
 /// The value that the code stands for.
@@ -39,12 +40,12 @@ pub fn code_of_value(value: Value) -> u16
 /// The codes of the values.
 ///
 /// Error: `Memory`.
-pub(crate) fn codes_of_values(alloc: Global, values: &[Value]) -> Result<Vec<u16>, Memory>
+pub(crate) fn codes_of_values(alloc: Global, values: &[Value]) -> Result<Segments<u16>, Memory>
     requires { All IsEntry values.now }
-    ensures values { IfOk result (λ codes. values_of_codes codes.items ≡ values.now) }
-    ensures codes { IfOk result (λ codes. All (λ code. code < 65536) codes.items) }
+    ensures values { IfOk result (λ codes. values_of_codes codes ≡ values.now) }
+    ensures codes { IfOk result (λ codes. All (λ code. code < 65536) codes) }
 {
-    let mut codes = Vec::with_capacity(alloc, values.len())?;
+    let mut codes = Segments::new(alloc, SegmentLength::longest());
     for value in values {
         codes.push(code_of_value(*value))?;
     }
