@@ -2,14 +2,16 @@
 ghost use Rattle.std.specs.Prelude.{◌<◌, ◌≤◌};
 
 use dob_moves::Status;
+use dob_pieces::Memory;
+use dob_rank::{SegmentLength, Segments};
 use dob_share::{Fault, Item, Opening, Share, owner};
 use dob_value::Value;
-use std::alloc::{AllocError, Global};
+use std::alloc::Global;
 use std::process::Abort;
 
 // 54 classes: class 0 is caught, class 1 is stuck, all others are open with five moves.
-fn openings(alloc: Global) -> Result<Vec<Opening>, AllocError> {
-    let mut list = Vec::new(alloc);
+fn openings(alloc: Global) -> Result<Segments<Opening>, Memory> {
+    let mut list = Segments::new(alloc, SegmentLength::longest());
     for class in 0..54 {
         let (status, moves) = match class {
             0 => (Status::Caught, 0),
