@@ -4,6 +4,7 @@ ghost use Rattle.dob_node.specs.Nodes.{IsSound};
 
 mod segments;
 
+use crate::openings::listed;
 use crate::sets::{classes_of, is_same_table, set_of};
 use dob_moves::{Status, status_and_count};
 use dob_node::{Node, Opening, alone, opening};
@@ -79,7 +80,7 @@ fn is_lost_at_once<A: Abort>(rt: &A, alloc: Global, position: &Position) {
     let (status, moves) = status_and_count(position);
     assert!(rt; status == Status::Stuck);
     assert!(rt; moves == 0);
-    let list: [Opening; 1] = [Opening { status, moves }];
+    let list = listed(rt, alloc, &[Opening { status, moves }]);
     let mut share = Share::open(alloc, &list, 0, 1).expect(rt, "a share");
     assert!(rt; share.settled() == 1);
     assert!(rt; share.value(0) == Value::Loss(0));

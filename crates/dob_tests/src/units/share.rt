@@ -1,6 +1,7 @@
 // Shares of made-up classes: cell 17 has five moves, as the class of that number of lions alone; class 0 is caught.
 ghost use Rattle.std.specs.Prelude.{◌<◌, ◌≤◌};
 
+use crate::openings::listed;
 use dob_moves::Status;
 use dob_pieces::Memory;
 use dob_rank::{SegmentLength, Segments};
@@ -228,7 +229,8 @@ fn values_of_classes(rt: HostRuntime) {
         status: Status::Open,
         moves: 5,
     };
-    let mut share = Share::open(rt.alloc(), &[caught, stuck, open], 0, 1).expect(&rt, "a share");
+    let list = listed(&rt, rt.alloc(), &[caught, stuck, open]);
+    let mut share = Share::open(rt.alloc(), &list, 0, 1).expect(&rt, "a share");
     assert!(rt; share.value(0) == Value::Win(1));
     assert!(rt; share.value(1) == Value::Loss(0));
     assert!(rt; share.value(2) == Value::Draw);

@@ -13,12 +13,7 @@ use std::alloc::Global;
 use std::process::Abort;
 
 // The openings of the classes in segments of so many items.
-fn openings_of<A: Abort>(
-    rt: &A,
-    alloc: Global,
-    classes: &Classes,
-    items: u32,
-) -> Segments<Opening>
+fn openings_of<A: Abort>(rt: &A, alloc: Global, classes: &Classes, items: u32) -> Segments<Opening>
     ensures { AreOpenings classes.now.set result }
 {
     let length = SegmentLength::of(items).expect(rt, "a length");
@@ -69,7 +64,13 @@ fn segments_of_any_length(rt: HostRuntime) {
     assert!(rt; evens.values.len() == 558 && odds.values.len() == 558);
     for items in [1, 7] {
         let (first, second) = parts_of(&rt, rt.alloc(), &classes, items);
-        assert!(rt; first.values.as_slice() == evens.values.as_slice(), "{items}");
-        assert!(rt; second.values.as_slice() == odds.values.as_slice(), "{items}");
+        assert!(rt;
+            first.values.as_slice() == evens.values.as_slice(),
+            "{items}"
+        );
+        assert!(rt;
+            second.values.as_slice() == odds.values.as_slice(),
+            "{items}"
+        );
     }
 }
