@@ -7,9 +7,9 @@ ghost use Rattle.dob_rank.specs.Marks.{classes_of};
 
 use crate::opened::Opened;
 use crate::value_names::{Named, read_value};
-use dob_moves::{count_moves, status};
-use dob_pieces::PieceSet;
-use dob_rank::Classes;
+use dob_node::opening_in;
+use dob_pieces::{Memory, PieceSet};
+use dob_rank::{Classes, SegmentLength, Segments};
 use dob_share::{Item, Opening, Share, owner};
 use dob_value::{Fault, Value};
 use std::alloc::{AllocError, Global};
@@ -40,15 +40,12 @@ pub(crate) fn about_cell(
 }
 
 /// The statuses and numbers of moves of that many first classes.
-fn openings_of(alloc: Global, classes: &Classes, count: u64) -> Result<Vec<Opening>, AllocError>
+fn openings_of(alloc: Global, classes: &Classes, count: u64) -> Result<Segments<Opening>, Memory>
     requires { count ≤ classes_of classes.now.set }
 {
-    let mut openings = Vec::new(alloc);
+    let mut openings = Segments::new(alloc, SegmentLength::longest());
     for class in 0..count {
-        let position = classes.class_at(class);
-        let status = status(&position);
-        let moves = count_moves(&position);
-        openings.push(Opening { status, moves })?;
+        openings.push(opening_in(classes, class))?;
     }
     Ok(openings)
 }

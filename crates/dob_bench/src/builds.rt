@@ -6,7 +6,7 @@ use crate::timer::Timer;
 use anyhow::{Result, bail};
 use dob_node::{alone, opening};
 use dob_pieces::Memory;
-use dob_rank::Classes;
+use dob_rank::{Classes, SegmentLength};
 use dob_share::{Item, Share};
 use dob_unmove::back_into;
 use dob_value::{Table, Value};
@@ -35,7 +35,7 @@ fn list_openings<R: Print + Clock + AllocGlobal>(
     timed: bool,
 ) -> Result<()> {
     let timer = Timer::start(rt, timed)?;
-    let count = opening(rt.alloc(), classes)?.len() as u64;
+    let count = opening(rt.alloc(), classes, SegmentLength::longest())?.len();
     timer.tell(
         rt,
         format_args!("listed {count} openings"),
@@ -102,7 +102,7 @@ fn apply_items<R: Print + Clock + AllocGlobal>(
 
 // The cells of one owner of all classes, of which nothing is known but the openings.
 fn open_share(alloc: Global, classes: &Classes) -> Result<Share> {
-    let openings = opening(alloc, classes)?;
+    let openings = opening(alloc, classes, SegmentLength::longest())?;
     let share = Share::open(alloc, &openings, 0, 1)?;
     Ok(share)
 }

@@ -9,7 +9,7 @@ use crate::timer::{Timer, tell_seconds};
 use crate::watch::Watch;
 use anyhow::Result;
 use dob_pieces::{Memory, PieceSet};
-use dob_rank::Classes;
+use dob_rank::{Classes, SegmentLength};
 use dob_run::{BATCH, Built, run_nodes, scan};
 use dob_unmove::back_into;
 use dob_value::{Table, Value};
@@ -120,7 +120,7 @@ fn list_openings<R: Print + Clock + AllocGlobal + Threads + Sync>(
     classes: &Classes,
 ) -> Result<()> {
     let timer = Timer::start(rt, true)?;
-    let count = scan(rt, rt.alloc(), classes)?.len() as u64;
+    let count = scan(rt, rt.alloc(), classes, SegmentLength::longest())?.len();
     timer.tell(
         rt,
         format_args!("listed {count} openings by threads"),

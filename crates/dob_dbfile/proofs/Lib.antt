@@ -1,6 +1,5 @@
 -- The lemmas, in the order in which they are read.
 -- What the bytes of a file are.
-mod Counts  -- how many classes a set has at most
 mod CodeBytes  -- codes as records
 mod Decoded  -- records as values
 mod FileBytes  -- a file, part after part

@@ -1,8 +1,7 @@
 // Reading a table from a file.
-ghost use Rattle.std.specs.Prelude.{◌≡◌, ◌≢◌, ◌⊎◌, ◌↔◌, ℕ, List, ◌+◌, ◌*◌, ◌%◌, ◌^◌, ◌<◌, ◌≤◌, ◌||◌, [], false, length, vec_len, All, IfOk};
+ghost use Rattle.std.specs.Prelude.{◌≡◌, ◌≢◌, ◌⊎◌, ◌↔◌, ℕ, List, ◌+◌, ◌*◌, ◌%◌, ◌^◌, ◌<◌, ◌≤◌, ◌||◌, [], false, length, All, IfOk};
 ghost use Rattle.std.specs.Prelude.{IfErr, IsTrue, OnOk, MatchResult};
 ghost use Rattle.dob_pieces.specs.declared.piece_set.PieceSet.{PieceSet as AnySet};
-ghost use Rattle.dob_rank.specs.Marks.{classes_of};
 ghost use Rattle.dob_value.specs.Follows.{ClassTable, IsTable};
 ghost use Rattle.dob_dbfile.specs.declared.fault.Fault.{Fault as AnyFault};
 ghost use Rattle.sha2.specs.Hashers.{Holds256};
@@ -15,10 +14,10 @@ ghost use Rattle.dob_dbfile.specs.Reading.{TakesBytes, IsCut, IsNoEnd, ReadsCode
 use crate::device::{Failed, Source};
 use crate::fault::Fault;
 use crate::header::{HEADER_LEN, is_count, is_title, set_named};
-use crate::records::{PIECE_LEN, RECORD_LEN, push_codes};
+use crate::records::{PIECE_LEN, PIECE_RECORDS, RECORD_LEN, push_codes};
 use crate::transfer::read_full;
 use dob_pieces::{Memory, PieceSet};
-use dob_rank::{Classes, count_classes, size};
+use dob_rank::{Classes, SegmentLength, Segments, count_classes};
 use dob_value::Table;
 use sha2::{Digest, Sha256};
 use std::alloc::Global;
@@ -68,17 +67,8 @@ fn read_file<R: Source>(alloc: Global, source: &mut R) -> Result<Table, Fault>
     let mut header = [0; HEADER_LEN];
     fill(source, &mut header, 0)?;
     let classes = classes_named(alloc, &header)?;
-    let codes = read_codes(alloc, source, &header, count_of(&classes))?;
+    let codes = read_codes(alloc, source, &header, classes.class_count())?;
     Ok(Table::new(classes, codes))
-}
-
-/// How many classes there are, which are no more than the positions of the set.
-pub(crate) fn count_of(classes: &Classes) -> u64
-    ensures count { result ≡ classes_of classes.now.set }
-    ensures bound { result < 2 ^ 42 }
-{
-    let _positions = size(classes.set);
-    classes.class_count()
 }
 
 /// Fills the room, before which so many bytes of the file have come.
@@ -134,18 +124,18 @@ fn read_codes<R: Source>(
     source: &mut R,
     header: &[u8],
     count: u64,
-) -> Result<Vec<u16>, Fault>
-    requires { count < 2 ^ 42 }
-    ensures counted { IfOk result (λ codes. vec_len codes ≡ count) }
-    ensures fit { IfOk result (λ codes. All (λ code. code < 65536) codes.items) }
-    ensures read { (stream : Stream) → R.gives source.old stream → IfOk result (λ codes. EndsWith header.now codes.items stream) }
+) -> Result<Segments<u16>, Fault>
+    requires { count < 2 ^ 31 }
+    ensures counted { IfOk result (λ codes. length codes ≡ count) }
+    ensures fit { IfOk result (λ codes. All (λ code. code < 65536) codes) }
+    ensures read { (stream : Stream) → R.gives source.old stream → IfOk result (λ codes. EndsWith header.now codes stream) }
     ensures fault { (stream : Stream) → R.gives source.old stream → IfErr result (HasRestFault header.now count stream) }
     ensures failed { R.has_failed source.new ≡ (R.has_failed source.old || is_io_error result) }
 {
     let mut hasher = Sha256::new();
     hasher.update(header);
-    let codes = read_records(alloc, source, &mut hasher, count as usize)?;
-    expect_digest(source, hasher, HEADER_LEN + RECORD_LEN * codes.len())?;
+    let codes = read_records(alloc, source, &mut hasher, count)?;
+    expect_digest(source, hasher, HEADER_LEN + RECORD_LEN * count as usize)?;
     Ok(codes)
 }
 
@@ -174,72 +164,56 @@ fn are_same(left: &[u8], right: &[u8]) -> bool
     left == right
 }
 
-// The codes of the next records.
+// The codes of the next records. Memory is taken as they come.
 fn read_records<R: Source>(
     alloc: Global,
     source: &mut R,
     hasher: &mut Sha256,
-    count: usize,
-) -> Result<Vec<u16>, Fault>
-    requires { count < 2 ^ 42 }
-    ensures counted { IfOk result (λ codes. vec_len codes ≡ count) }
-    ensures fit { IfOk result (λ codes. All (λ code. code < 65536) codes.items) }
+    count: u64,
+) -> Result<Segments<u16>, Fault>
+    requires { count < 2 ^ 31 }
+    ensures counted { IfOk result (λ codes. length codes ≡ count) }
+    ensures fit { IfOk result (λ codes. All (λ code. code < 65536) codes) }
     ensures codes { (stream : Stream) → R.gives source.old stream
-        → IfOk result (λ codes. ReadsCodes stream (2 * count) [] codes.items × R.gives source.new (after (2 * count) stream)) }
+        → IfOk result (λ codes. ReadsCodes stream (2 * count) [] codes × R.gives source.new (after (2 * count) stream)) }
     ensures hashed { (stream : Stream) → R.gives source.old stream → OnOk result (HashesNext stream (2 * count) hasher.old hasher.new) }
     ensures cut { (stream : Stream) → R.gives source.old stream → IfErr result (IsCut (2 * count) 20 stream) }
     ensures failed { R.has_failed source.new ≡ (R.has_failed source.old || is_io_error result) }
 {
-    let mut codes = Vec::new(alloc);
+    let mut codes = Segments::new(alloc, SegmentLength::longest());
     let mut buffer = vec![in alloc; 0u8; PIECE_LEN]?;
     let room = buffer.as_mut_slice();
     'records: while codes.len() < count {
-        let records = (count - codes.len()).min(PIECE_LEN / RECORD_LEN);
+        let records = (count - codes.len()).min(PIECE_RECORDS) as usize;
         read_piece(
             source,
             hasher,
             &mut room[..RECORD_LEN * records],
             &mut codes,
-            count,
         )?;
     }
     Ok(codes)
 }
 
-// Where there is no room for one more, makes room for as many codes again, but for no more than so many in all: memory is taken
-// as bytes come.
-fn make_room(codes: &mut Vec<u16>, count: usize) -> Result<(), Memory>
-    ensures items { codes.new.items ≡ codes.old.items }
-    ensures len { vec_len codes.new ≡ vec_len codes.old }
-{
-    if codes.len() == codes.capacity() {
-        let left = count.saturating_sub(codes.len());
-        codes.reserve_exact(left.min(codes.len().max(PIECE_LEN / RECORD_LEN)))?;
-    }
-    Ok(())
-}
-
-// Reads as many records as there is room for, of so many in all.
+// Reads as many records as there is room for.
 fn read_piece<R: Source>(
     source: &mut R,
     hasher: &mut Sha256,
     room: &mut [u8],
-    codes: &mut Vec<u16>,
-    count: usize,
+    codes: &mut Segments<u16>,
 ) -> Result<(), Fault>
     requires pairs { length room.old % 2 ≡ 0 }
-    requires few { 2 * vec_len codes.old + length room.old < 2 ^ 43 }
-    ensures counted { OnOk result (2 * vec_len codes.new ≡ 2 * vec_len codes.old + length room.old) }
-    ensures fit { All (λ code. code < 65536) codes.old.items → OnOk result (All (λ code. code < 65536) codes.new.items) }
+    requires few { 2 * length codes.old + length room.old < 2 ^ 32 }
+    ensures counted { OnOk result (2 * length codes.new ≡ 2 * length codes.old + length room.old) }
+    ensures fit { All (λ code. code < 65536) codes.old → OnOk result (All (λ code. code < 65536) codes.new) }
     ensures codes { (stream : Stream) → R.gives source.old stream
-        → OnOk result (ReadsCodes stream (length room.old) codes.old.items codes.new.items × R.gives source.new (after (length room.old) stream)) }
+        → OnOk result (ReadsCodes stream (length room.old) codes.old codes.new × R.gives source.new (after (length room.old) stream)) }
     ensures hashed { (stream : Stream) → R.gives source.old stream → OnOk result (HashesNext stream (length room.old) hasher.old hasher.new) }
-    ensures cut { (stream : Stream) → R.gives source.old stream → IfErr result (IsCut (length room.old) (20 + 2 * vec_len codes.old) stream) }
+    ensures cut { (stream : Stream) → R.gives source.old stream → IfErr result (IsCut (length room.old) (20 + 2 * length codes.old) stream) }
     ensures failed { R.has_failed source.new ≡ (R.has_failed source.old || is_io_error result) }
 {
-    fill(source, room, HEADER_LEN + RECORD_LEN * codes.len())?;
+    fill(source, room, HEADER_LEN + RECORD_LEN * codes.len() as usize)?;
     hasher.update(&*room);
-    make_room(codes, count)?;
     push_codes(codes, room)?;
     Ok(())
 }

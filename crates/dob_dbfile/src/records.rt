@@ -7,6 +7,7 @@ ghost use Rattle.dob_dbfile.specs.Format.{code_bytes, records};
 
 use byteorder::{ByteOrder, LittleEndian};
 use dob_pieces::Memory;
+use dob_rank::Segments;
 use dob_value::{Table, Value, code_of_value, value_of_code};
 
 /// How many bytes a record has.
@@ -14,6 +15,9 @@ pub(crate) const RECORD_LEN: usize = 2;
 
 /// How many bytes of records are read or written at a time.
 pub(crate) const PIECE_LEN: usize = 4096;
+
+/// How many records those are.
+pub(crate) const PIECE_RECORDS: u64 = 2048;
 
 /// Appends a record; `Memory` only where there is no room for it.
 fn push_record(bytes: &mut Vec<u8>, code: u16) -> Result<(), Memory>
@@ -55,11 +59,11 @@ pub(crate) fn value_in(bytes: &[u8]) -> Value
 }
 
 /// Appends the codes that the records are.
-pub(crate) fn push_codes(codes: &mut Vec<u16>, records: &[u8]) -> Result<(), Memory>
+pub(crate) fn push_codes(codes: &mut Segments<u16>, records: &[u8]) -> Result<(), Memory>
     requires { length records.now % 2 ≡ 0 }
-    ensures codes { OnOk result ((more : List ℕ) × (codes.new.items ≡ codes.old.items ++ more)
+    ensures codes { OnOk result ((more : List ℕ) × (codes.new ≡ codes.old ++ more)
         × (code_bytes more ≡ records.now) × (2 * length more ≡ length records.now)) }
-    ensures fit { All (λ code. code < 65536) codes.old.items → OnOk result (All (λ code. code < 65536) codes.new.items) }
+    ensures fit { All (λ code. code < 65536) codes.old → OnOk result (All (λ code. code < 65536) codes.new) }
 {
     for index in 0..records.len() / RECORD_LEN {
         codes.push(LittleEndian::read_u16(&records[RECORD_LEN * index..]))?;

@@ -11,15 +11,11 @@ ghost use Rattle.dob_dbfile.specs.Writing.{Hashes, StopsAt, StopsBehind};
 use crate::device::{FailedAfter, Sink};
 use crate::fault::Fault;
 use crate::header::{HEADER_LEN, push_header};
-use crate::read::count_of;
-use crate::records::{PIECE_LEN, RECORD_LEN, put_records};
+use crate::records::{PIECE_LEN, PIECE_RECORDS, RECORD_LEN, put_records};
 use crate::transfer::{put_all, write_all};
 use dob_value::Table;
 use sha2::{Digest, Sha256};
 use std::alloc::Global;
-
-/// How many records a piece has.
-const PIECE_RECORDS: u64 = 2048;
 
 /// Writes the table as a file, in pieces of a few kilobytes, and flushes the sink once at the end.
 ///
@@ -47,7 +43,7 @@ fn put_file<W: Sink>(table: &Table, sink: &mut W, piece: &mut Vec<u8>) -> Result
     ensures part { IfErr result (StopsBehind (change (W.state sink.old) (W.state sink.new)) 0 (bytes_of table.now)) }
 {
     let mut hasher = Sha256::new();
-    let count = count_of(table.classes());
+    let count = table.classes().class_count();
     write_hashed(sink, &mut hasher, piece, 0)?;
     write_records(table, count, sink, &mut hasher, piece)?;
     put_digest(sink, hasher, HEADER_LEN + RECORD_LEN * count as usize)
@@ -63,7 +59,7 @@ fn write_records<W: Sink>(
 ) -> Result<(), FailedAfter>
     requires table { IsTable table.now.set table.now.values }
     requires counted { count ≡ length table.now.values }
-    requires few { count < 2 ^ 42 }
+    requires few { count < 2 ^ 31 }
     requires room { 4096 ≤ vec_capacity piece.old }
     ensures done { OnOk result (Writes (change (W.state sink.old) (W.state sink.new)) (records table.now.values)) }
     ensures hashed { OnOk result (Hashes hasher.old (records table.now.values) hasher.new) }

@@ -9,6 +9,7 @@ use Rattle.dob_pieces.specs.declared.piece_set.PieceSet.{PieceSet}
 use Rattle.dob_moves.specs.declared.position_status.Status.{Status}
 use Rattle.dob_moves.specs.declared.position_status.Status.TheVariants.{Caught, Tried, Stuck, Open}
 use Rattle.dob_rank.specs.Marks.{classes_of}
+use Rattle.dob_rank.proofs.ClassBounds.{classes_of-few}
 use Rattle.dob_value.specs.declared.value.Value.{Value}
 use Rattle.dob_share.specs.declared.news.Settlement.{Settlement}
 use Rattle.dob_share.specs.declared.opening.Opening.{Opening}
@@ -97,6 +98,10 @@ places_are share openings n id who less owned place = (
   λ low. ((owned (place * n + id)).0 (place_own share n id place who.1 who.0 less low)).1,
   λ low. own_place share n id place who.1 less ((owned (place * n + id)).1 (mod-mul-add place n id less, low)),
 )
+
+-- no set has more classes than a place of four bytes can tell apart
+pub few_listed : (set : PieceSet) (openings : List Opening) → AreOpenings set openings → length openings ≤ 2 ^ 32
+few_listed set openings are = omega (arith, are.whole, classes_of-few set)
 
 -- ---- what is kept
 

@@ -11,14 +11,11 @@ ghost use Rattle.dob_node.specs.TakenItems.{HasEntries, AreKept, IsHistory, IsTa
 
 use crate::cause::Cause;
 use dob_pieces::Memory;
-use dob_rank::Segments;
+use dob_rank::{SegmentLength, Segments};
 use dob_share::{Item, Settlement, Share};
 use dob_value::{code_of_value, value_of_code};
 use std::alloc::Global;
 use std::marker::Model;
-
-/// How many settlements a segment holds, as a power of two.
-const SHIFT: u32 = 16;
 
 /// A settlement of the class at a place, with its values as a table keeps them; its number is its place in the history.
 #[derive(Clone, Copy)]
@@ -51,8 +48,13 @@ impl Model for History {
 }
 
 impl History {
-    /// An empty history of owner `id` among `n`.
-    pub(crate) fn new(alloc: Global, id: usize, n: usize) -> History
+    /// An empty history of owner `id` among `n`, in segments of that length.
+    pub(crate) fn new(
+        alloc: Global,
+        id: usize,
+        n: usize,
+        segment_length: SegmentLength,
+    ) -> History
         requires one_of_n { id < n }
         requires few { n ≤ 16 }
         ensures { result ≡ record { id = id; n = n; settlements = []; room = 0 } }
@@ -62,7 +64,7 @@ impl History {
             n,
             count: 0,
             room: 0,
-            stored: Segments::new(alloc, SHIFT),
+            stored: Segments::new(alloc, segment_length),
         }
     }
 

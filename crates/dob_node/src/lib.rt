@@ -16,4 +16,4 @@ pub use dob_share::Opening;
 pub use entries::have_entries;
 pub use lone::alone;
 pub use node::{MAX_BATCHES, Node, Part};
-pub use openings::{opening, opening_at};
+pub use openings::{opening, opening_in};

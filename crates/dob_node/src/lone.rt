@@ -13,7 +13,7 @@ use crate::cause::{Cause, Fault};
 use crate::node::Node;
 use crate::openings::opening;
 use dob_pieces::{Memory, PieceSet};
-use dob_rank::Classes;
+use dob_rank::{Classes, SegmentLength};
 use dob_value::{Table, Value};
 use std::alloc::Global;
 
@@ -49,7 +49,7 @@ fn begin(alloc: Global, classes: &Classes, set: PieceSet) -> Result<Node, Memory
     ensures made { IfOk result (λ node. HasMade 0 node) }
     ensures going { IfOk result (λ node. node.failed ≡ None) }
 {
-    let openings = opening(alloc, classes)?;
+    let openings = opening(alloc, classes, SegmentLength::longest())?;
     Node::open(alloc, &openings, set, 0, 1)
 }
 

@@ -3,7 +3,6 @@ ghost use Rattle.std.specs.Prelude.{◌≡◌, ◌≢◌, ◌⊎◌, ℕ, ◌+�
 ghost use Rattle.std.specs.Prelude.{true, false, None, Some, Ok, Err, IsTrue, IfOk, IfErr, IfSome, OnOk, OnErr};
 ghost use Rattle.std.specs.List.{All};
 ghost use Rattle.std.specs.VecDeque.{deque_len, deque_capacity};
-ghost use Rattle.dob_share.specs.Openings.{opening_of};
 ghost use Rattle.dob_share.specs.Owners.{owner_of};
 ghost use Rattle.dob_update.specs.Items.{items_of};
 ghost use Rattle.dob_node.specs.declared.cause.Cause.TheVariants as cause;
@@ -16,8 +15,8 @@ use crate::outboxes::{add_for_others, are_empty, cut_at, empty_outboxes};
 use crate::taking::take_items;
 use dob_moves::Status;
 use dob_pieces::{Memory, PieceSet};
-use dob_rank::Classes;
-use dob_share::{Item, Opening, Settlement, Share, owner};
+use dob_rank::{Classes, Segments};
+use dob_share::{Item, Opening, Settlement, Share, opening_at, owner};
 use dob_unmove::back_into;
 use dob_update::{Batch, Outbox, item_for};
 use dob_value::Value;
@@ -63,12 +62,12 @@ impl Node {
     ghost use Rattle.dob_share.specs.Shares.{IsOwn, HasValueNow};
 
     /// The node of owner `id`, one of `n`, at most 16, before its first step. Its history has a settlement for each own
-    /// class that is caught, tried or stuck, in the order of the classes.
+    /// class that is caught, tried or stuck, in the order of the classes. Its lists have segments as long as those of the openings.
     ///
-    /// Error: `Memory`, also where the set has 2 to the power of 32 classes or more.
+    /// Error: `Memory`.
     pub fn open(
         alloc: Global,
-        openings: &[Opening],
+        openings: &Segments<Opening>,
         set: PieceSet,
         id: usize,
         n: usize,
@@ -79,9 +78,6 @@ impl Node {
         ensures opened { IfOk result (λ node. IsOpened openings.now set id n node) }
         ensures sound { IfOk result (λ node. IsSound node) }
     {
-        if openings.len() as u64 > u64::from(u32::MAX) {
-            return Err(Memory);
-        }
         let share = Share::open(alloc, openings, id, n)?;
         let history = opening_history(alloc, openings, share.places(), id, n)?;
         let outboxes = empty_outboxes(alloc, set, n, id)?;
@@ -458,14 +454,6 @@ fn push_own(
     }
 }
 
-// What is listed of the class.
-fn opening_at(openings: &[Opening], class: usize) -> Opening
-    requires { class < length openings.now }
-    ensures { result ≡ opening_of openings.now class }
-{
-    openings[class]
-}
-
 // The value at which a class is settled when its node opens, by its status.
 fn opening_value(status: Status) -> Option<Value>
     ensures { result ≡ opening_value status }
@@ -499,7 +487,7 @@ fn push_opening(history: &mut History, class: u64, status: Status) -> Result<(),
 // The history of owner `id`, one of `n`, when its node opens.
 fn opening_history(
     alloc: Global,
-    openings: &[Opening],
+    openings: &Segments<Opening>,
     places: u64,
     id: usize,
     n: usize,
@@ -510,10 +498,10 @@ fn opening_history(
     requires places { (place : ℕ) → place < places → place * n + id < length openings.now }
     ensures { IfOk result (λ history. history ≡ record { id = id; n = n; settlements = opening_settlements (status_in openings.now) n id places; room = 0 }) }
 {
-    let mut history = History::new(alloc, id, n);
+    let mut history = History::new(alloc, id, n, openings.segment_length());
     for place in 0..places {
         let class = place * n as u64 + id as u64;
-        let status = opening_at(openings, class as usize).status;
+        let status = opening_at(openings, class).status;
         push_opening(&mut history, class, status)?;
     }
     Ok(history)

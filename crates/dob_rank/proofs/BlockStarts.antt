@@ -1,7 +1,7 @@
 -- The table of the blocks' starts is the sum of the blocks before: computed for each set and each block.
 use Rattle.std.proofs.Common.{◌≡◌, ℕ, zero, suc, ◌+◌, ◌-◌, ◌*◌, ◌^◌, ◌<◌, ◌≤◌, ◌||◌, nat_eq, nat_lt, Bool, true, false, List, [], ◌∷◌}
-use Rattle.std.proofs.Common.{slice_index, slice_index_or, refl, sym, ◌∙◌, inl, inr, arith}
-use Rattle.std.proofs.lemmas.Bool.{le-ltb, cases_eq, ne_eqb}
+use Rattle.std.proofs.Common.{slice_index, slice_index_or, refl, sym, subst, ◌∙◌, inl, inr, arith}
+use Rattle.std.proofs.lemmas.Bool.{le-ltb, ltb-true, cases_eq, ne_eqb}
 use Rattle.dob_pieces.specs.declared.piece_set.PieceSet.{PieceSet}
 use Rattle.dob_pieces.proofs.Boards.{all_below, all_below-at}
 use Rattle.dob_rank.specs.declared.starts.TheConstants.{STARTS}
@@ -74,3 +74,22 @@ start_is set block upto few =
     tells set.chicks set.elephants set.giraffes block (small_set _ set.few_chicks) (small_set _ set.few_elephants)
     (small_set _ set.few_giraffes) upto (omega arith)
     ∙ sym (sum_below-same (block_size set) (size_by set.chicks set.elephants set.giraffes) (λ n. block_size-product set n) block)
+
+-- ---- how large they are: the entries of all rows
+
+abbrev few_in : ℕ → ℕ → Bool
+few_in row block = nat_lt (start_in row block) (2 ^ 31)
+
+few_all : all_below (λ row. all_below (few_in row) 28) 27 ≡ true
+few_all = refl
+
+row_within : (set : PieceSet) → 9 * set.chicks + 3 * set.elephants + set.giraffes < 27
+row_within set = omega (arith, set.few_chicks, set.few_elephants, set.few_giraffes)
+
+pub start_few : (set : PieceSet) (block : ℕ) → block ≤ product (block_bases set) → product (block_bases set) ≤ 27 →
+    sum_below (block_size set) block < 2 ^ 31
+start_few set block upto few =
+    let row = 9 * set.chicks + 3 * set.elephants + set.giraffes in
+    let each = all_below-at (λ r. all_below (few_in r) 28) 27 row few_all (row_within set) in
+    let here = all_below-at (few_in row) 28 block each (omega arith) in
+    subst (λ (n : ℕ). n < 2 ^ 31) (start_is set block upto few) (ltb-true (start_in row block) (2 ^ 31) here)

@@ -78,13 +78,13 @@ block_upto set s block p is = at_most block (block_of set s) (product (block_bas
     at_most : (a b c : ℕ) → a ≡ b → b < c → a ≤ c
     at_most a b c h k = omega arith
 
-pub rank_small : (set : PieceSet) (s : Setup) (start place : ℕ) → IsPositionOf set s → start ≤ 27 * 2 ^ 36 → place ≡ place_of set s →
+pub rank_small : (set : PieceSet) (s : Setup) (start place : ℕ) → IsPositionOf set s → start < 2 ^ 31 → place ≡ place_of set s →
     start + place < 2 ^ 64
 rank_small set s start place p h is =
     sum_small start place (place_of set s) (block_size set (block_of set s)) h is (place_of-below set s p)
     (block_size-small set (block_of set s) (block_of-below set s p))
   where
-    sum_small : (start place n p : ℕ) → start ≤ 27 * 2 ^ 36 → place ≡ n → n < p → p ≤ 2 ^ 36 → start + place < 2 ^ 64
+    sum_small : (start place n p : ℕ) → start < 2 ^ 31 → place ≡ n → n < p → p ≤ 2 ^ 36 → start + place < 2 ^ 64
     sum_small start place n p h e k l = omega arith
 
 pub ranked : (set : PieceSet) (s : Setup) (block place start : ℕ) → block ≡ block_of set s → place ≡ place_of set s →

@@ -63,5 +63,6 @@ pub mod FarSpots  -- the place of a run before which it has so many positions of
 pub mod FamilyClasses  -- the representatives of a family where the lions say which positions are earlier
 pub mod FarUnranks  -- the position of a rank of profile B
 pub mod FamilyNumbers  -- a position of a family is in the class of its class number
+pub mod ClassBounds  -- how many positions and classes a set has at most
 -- Long lists.
 pub mod Segmentation  -- lists in segments

@@ -1,5 +1,5 @@
 -- A list in segments: vectors of one length, of which only the last may be shorter.
-use Rattle.std.specs.Prelude.{◌≡◌, ℕ, ◌<◌, ◌≤◌, List, [], ◌∷◌, ◌++◌, length}
+use Rattle.std.specs.Prelude.{◌≡◌, ℕ, ◌^◌, ◌<◌, ◌≤◌, List, [], ◌∷◌, ◌++◌, length}
 use Rattle.std.specs.declared.vec.Vec.{Vec}
 
 -- the items of the segments, one segment after the other
@@ -12,3 +12,7 @@ abbrev pub AreSegments : {X Z : Type 0} → ℕ → List (Vec X Z) → Type 0
 AreSegments n [] = Unit {0}
 AreSegments n (segment ∷ segments) =
     (length segment.items ≤ n) × (0 < length segments → length segment.items ≡ n) × AreSegments n segments
+
+-- to divide by n is to shift by so many bits
+abbrev pub IsShift : ℕ → ℕ → Type 0
+IsShift n shift = (shift < 32) × (n ≡ 2 ^ shift)

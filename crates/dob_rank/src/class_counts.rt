@@ -16,7 +16,7 @@ use dob_pieces::PieceSet;
 pub fn count_classes(set: PieceSet) -> u64
     ensures count { HasClasses set result }
     ensures number { result ≡ classes_of set }
-    ensures bound { result < 2 ^ 42 }
+    ensures bound { result < 2 ^ 31 }
 {
     let mut count = 0;
     for block in 0..block::blocks(set) {

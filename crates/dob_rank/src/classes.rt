@@ -1,5 +1,5 @@
 // The classes of a piece set, block by block.
-ghost use Rattle.std.specs.Prelude.{◌≡◌, ◌↔◌, ◌<◌, ◌≤◌, ◌+◌, IfOk, IsErrOf, IfSome, MatchOption, vec_len};
+ghost use Rattle.std.specs.Prelude.{◌≡◌, ◌↔◌, ◌<◌, ◌≤◌, ◌+◌, ◌^◌, IfOk, IsErrOf, IfSome, MatchOption, vec_len};
 ghost use Rattle.dob_rank.specs.Limits.{IsTooLarge};
 ghost use Rattle.dob_rank.specs.Order.{IsPositionOf, IsFirstOfTwo, IsRepresentative, HasClasses, HasClass, IsInClass};
 ghost use Rattle.dob_rank.specs.Numbers.{product, block_bases, start_of, rank_of};
@@ -52,6 +52,7 @@ impl Classes {
     pub fn class_count(&self) -> u64
         ensures count { HasClasses self.now.set result }
         ensures number { result ≡ classes_of self.now.set }
+        ensures bound { result < 2 ^ 31 }
     {
         self.count
     }

@@ -19,7 +19,7 @@ use dob_pieces::{Hand, HandKind, Hands, PieceSet, Position, Setup};
 pub fn size(set: PieceSet) -> u64
     ensures count { HasSize set result }
     ensures number { result ≡ size_of set }
-    ensures bound { result < 2 ^ 42 }
+    ensures bound { result < 2 ^ 31 }
 {
     starts::block_start(set, block::blocks(set))
 }

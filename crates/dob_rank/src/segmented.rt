@@ -1,10 +1,11 @@
-// Lists in segments: a list that grows without moving what it has, in vectors of 2 to the power of `shift` items, of
-// which only the last may be shorter.
+// Lists in segments: a list that grows without moving what it has, in vectors of one length, of which only the last may be
+// shorter.
 ghost use Rattle.std.specs.Prelude.{◌≡◌, ◌≢◌, ℕ, take, ◌+◌, ◌*◌, ◌/◌, ◌%◌, ◌^◌, ◌<◌, ◌≤◌, ◌==◌, List, [], ◌∷◌, ◌++◌, length, replicate, Some, IfOk};
 ghost use Rattle.std.specs.Prelude.{OnOk, OnErr, vec_len, slice_set, slice_get, slice_index_or};
 ghost use Rattle.dob_rank.specs.Segmented.{joined, AreSegments};
 ghost use Rattle.dob_rank.specs.SegmentsLeft.{rest_of};
 
+use crate::segment_length::SegmentLength;
 use dob_pieces::Memory;
 use std::alloc::Global;
 use std::marker::Model;
@@ -13,11 +14,11 @@ use std::ops::{Index, IndexMut};
 /// The greatest number of items: more than any memory holds, so that numbers of items always fit.
 pub const MAX_ITEMS: u64 = 1 << 56;
 
-/// A list of items in segments of 2 to the power of `shift` items each.
+/// A list of items in segments, each of which but the last has as many.
 #[derive(Drop)]
 pub struct Segments<T> {
     segments: Vec<Vec<T>>,
-    shift: u32,
+    segment_length: SegmentLength,
     count: u64,
     alloc: Global,
 }
@@ -33,19 +34,18 @@ impl<T> Model for Segments<T> {
 
     ghost view = { λ list. joined list.segments.items };
 
-    ghost invariant = { λ list. (list.shift ≤ 20) × (list.count ≤ 2 ^ 56) × (list.count ≡ length (joined list.segments.items))
-        × AreSegments (2 ^ list.shift) list.segments.items };
+    ghost invariant = { λ list. (list.count ≤ 2 ^ 56) × (list.count ≡ length (joined list.segments.items))
+        × AreSegments list.segment_length.items list.segments.items };
 }
 
 impl<T> Segments<T> {
-    /// An empty list in segments of 2 to the power of `shift` items, at most 20. It takes no memory.
-    pub fn new(alloc: Global, shift: u32) -> Segments<T>
-        requires { shift ≤ 20 }
+    /// An empty list in segments of that length. It takes no memory.
+    pub fn new(alloc: Global, segment_length: SegmentLength) -> Segments<T>
         ensures { result ≡ [] }
     {
         Segments {
             segments: Vec::new(alloc),
-            shift,
+            segment_length,
             count: 0,
             alloc,
         }
@@ -60,11 +60,8 @@ impl<T> Segments<T> {
     }
 
     /// How many items each segment but the last has.
-    pub fn segment_length(&self) -> u64
-        ensures low { 0 < result }
-        ensures high { result ≤ 2 ^ 20 }
-    {
-        1 << self.shift
+    pub fn segment_length(&self) -> SegmentLength {
+        self.segment_length
     }
 
     /// Whether it has no item.
@@ -76,18 +73,32 @@ impl<T> Segments<T> {
 }
 
 impl<T: Copy> Segments<T> {
-    /// A list of that many items, each the given one, in segments of 2 to the power of `shift` items, at most 20.
+    /// A list of that many items, each the given one, in segments of that length, which are filled as a whole.
     ///
     /// Error: `Memory`.
-    pub fn filled(alloc: Global, shift: u32, count: u64, item: T) -> Result<Segments<T>, Memory>
-        requires { shift ≤ 20 }
+    pub fn filled(
+        alloc: Global,
+        segment_length: SegmentLength,
+        count: u64,
+        item: T,
+    ) -> Result<Segments<T>, Memory>
         ensures { IfOk result (λ list. list ≡ replicate count item) }
     {
-        let mut list = Segments::new(alloc, shift);
-        for _done in 0..count {
-            list.push(item)?;
+        if count > MAX_ITEMS {
+            return Err(Memory);
         }
-        Ok(list)
+        let (whole, rest) = segment_length.split(count);
+        let mut segments = Vec::new(alloc);
+        for _number in 0..whole {
+            segments.push(copies(alloc, segment_length.items() as usize, item)?)?;
+        }
+        segments.push(copies(alloc, rest, item)?)?;
+        Ok(Segments {
+            segments,
+            segment_length,
+            count,
+            alloc,
+        })
     }
 
     /// The item at that place.
@@ -96,7 +107,7 @@ impl<T: Copy> Segments<T> {
         ensures get { slice_get self.now place ≡ Some result }
         ensures index { result ≡ slice_index_or self.now place result }
     {
-        let (number, within) = split(place, self.shift);
+        let (number, within) = self.segment_length.split(place);
         self.segments[number][within]
     }
 
@@ -123,8 +134,8 @@ impl<T: Copy> Segments<T> {
         if self.count == MAX_ITEMS {
             return Err(Memory);
         }
-        let number = split(self.count, self.shift).0;
-        open_segment(self.alloc, &mut self.segments, self.shift, number)?;
+        let number = self.segment_length.split(self.count).0;
+        open_segment(self.alloc, &mut self.segments, self.segment_length, number)?;
         let segment = &mut self.segments[number];
         segment.push(item)?;
         self.count += 1;
@@ -143,7 +154,7 @@ impl<T> Index<usize> for Segments<T> {
         requires { index < length self.now }
         ensures { result.now ≡ slice_index_or self.now index result.now }
     {
-        let (number, within) = split(index as u64, self.shift);
+        let (number, within) = self.segment_length.split(index as u64);
         &self.segments[number][within]
     }
 }
@@ -157,20 +168,19 @@ impl<T> IndexMut<usize> for Segments<T> {
         ensures* writes_back { sem 𝓛 (Lends (the_row T.row) T.row self.entry result (slice_set self.old index)) }
         ensures value { result.now ≡ slice_index_or self.old index result.now }
     {
-        let (number, within) = split(index as u64, self.shift);
+        let (number, within) = self.segment_length.split(index as u64);
         let segment = &mut self.segments[number];
         &mut segment[within]
     }
 }
 
-// Where an item stands: the number of its segment, and its place there.
-fn split(place: u64, shift: u32) -> (usize, usize)
-    requires { shift ≤ 20 }
-    ensures number { result.0 ≡ place / 2 ^ shift }
-    ensures within { result.1 ≡ place % 2 ^ shift }
+// So many copies of the item.
+fn copies<T: Copy>(alloc: Global, count: usize, item: T) -> Result<Vec<T>, Memory>
+    ensures { IfOk result (λ segment. segment.items ≡ replicate count item) }
 {
-    let mask = (1 << shift) - 1;
-    ((place >> shift) as usize, (place & mask) as usize)
+    let mut segment = Vec::new(alloc);
+    segment.resize(count, item)?;
+    Ok(segment)
 }
 
 // Opens the segment of that number where the last one is full. The first grows with its items; each further one is
@@ -178,18 +188,21 @@ fn split(place: u64, shift: u32) -> (usize, usize)
 fn open_segment<T: Copy>(
     alloc: Global,
     segments: &mut Vec<Vec<T>>,
-    shift: u32,
+    segment_length: SegmentLength,
     number: usize,
 ) -> Result<(), Memory>
-    requires small { shift ≤ 20 }
-    requires whole { AreSegments (2 ^ shift) segments.old.items }
-    requires end { number ≡ length (joined segments.old.items) / 2 ^ shift }
+    requires whole { AreSegments segment_length.items segments.old.items }
+    requires end { number ≡ length (joined segments.old.items) / segment_length.items }
     ensures same { joined segments.new.items ≡ joined segments.old.items }
-    ensures whole { AreSegments (2 ^ shift) segments.new.items }
+    ensures whole { AreSegments segment_length.items segments.new.items }
     ensures opened { OnOk result (number < vec_len segments.new) }
 {
     if number == segments.len() {
-        let reserved = if number == 0 { 0 } else { 1 << shift };
+        let reserved = if number == 0 {
+            0
+        } else {
+            segment_length.items() as usize
+        };
         segments.push(Vec::with_capacity(alloc, reserved)?)?;
     }
     Ok(())

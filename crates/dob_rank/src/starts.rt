@@ -1,6 +1,6 @@
 // Where the blocks of each piece set begin, in a table: a sum over the blocks before would cost a rank most of its
 // time.
-ghost use Rattle.std.specs.Prelude.{◌≡◌, ◌≤◌, ◌*◌, ◌^◌};
+ghost use Rattle.std.specs.Prelude.{◌≡◌, ◌<◌, ◌≤◌, ◌^◌};
 ghost use Rattle.dob_rank.specs.Numbers.{product, sum_below, block_bases, block_size};
 
 use dob_pieces::PieceSet;
@@ -150,7 +150,7 @@ const STARTS: [[u64; ROW]; SETS] = [
 pub(crate) fn block_start(set: PieceSet, block: u64) -> u64
     requires { block ≤ product (block_bases set) }
     ensures value { result ≡ sum_below (block_size set) block }
-    ensures bound { result ≤ 27 * 2 ^ 36 }
+    ensures bound { result < 2 ^ 31 }
 {
     let row = 9 * set.chicks + 3 * set.elephants + set.giraffes;
     STARTS[row as usize][block as usize]

@@ -1,11 +1,13 @@
 -- What was found of each class, in the order of the classes.
-use Rattle.std.proofs.Common.{◌≡◌, ℕ, zero, suc, ◌+◌, List, [], ◌∷◌, length, Some, refl, subst, arith}
+use Rattle.std.proofs.Common.{◌≡◌, ℕ, zero, suc, ◌+◌, ◌-◌, ◌≤◌, List, [], ◌∷◌, ◌++◌, length, Some, refl, ap, ◌∙◌, ◌⊎◌, ⊎_elim, inl, inr, subst, arith}
 use Rattle.std.specs.Prelude.{slice_get}
+use Rattle.std.proofs.lemmas.List.{length-append}
 use Rattle.std.specs.List.{AllZip, range_with_len}
 use Rattle.dob_pieces.specs.declared.piece_set.PieceSet.{PieceSet}
 use Rattle.dob_rank.specs.ClassRows.{class_setup}
 use Rattle.dob_share.specs.declared.opening.Opening.{Opening}
 use Rattle.dob_node.specs.Openings.{IsOpening, AreOpeningsBelow}
+use Rattle.dob_run.specs.Scans.{AreOpeningsFrom}
 
 as_many : {X : Type 0} → (R : ℕ → X → Type 0) (from n : ℕ) (xs : List X) → AllZip R (range_with_len from n) xs → length xs ≡ n
 as_many R from zero [] are = refl
@@ -25,11 +27,32 @@ each_is R from (suc n) (y ∷ xs) are (suc k) x e =
     let further : from + 1 + k ≡ from + suc k = omega arith in
     subst (λ (m : ℕ). R m x) further (each_is R (from + 1) n xs are.1 k x e)
 
-pub openings_are : (set : PieceSet) (count : ℕ) (openings : List Opening) →
-    AllZip (λ (class : ℕ) (given : Opening). IsOpening (class_setup set class) given) (range_with_len 0 count) openings → AreOpeningsBelow set count openings
-openings_are set count openings are = record {
-  whole = as_many (λ (class : ℕ) (given : Opening). IsOpening (class_setup set class) given) 0 count openings are;
-  each = λ class given e.
-      let place : 0 + class ≡ class = omega arith in
-      subst (λ (c : ℕ). IsOpening (class_setup set c) given) place (each_is (λ (c : ℕ) (o : Opening). IsOpening (class_setup set c) o) 0 count openings are class given e);
+-- what stands in two lists joined stands in one of them
+at_either : {A : Type 0} → (xs ys : List A) (k : ℕ) (x : A) → slice_get (xs ++ ys) k ≡ Some x →
+    (slice_get xs k ≡ Some x) ⊎ ((j : ℕ) × (k ≡ length xs + j) × (slice_get ys j ≡ Some x))
+at_either [] ys k x e = inr (k, (omega arith, e))
+at_either (y ∷ xs) ys zero x e = inl e
+at_either (y ∷ xs) ys (suc k) x e =
+    ⊎_elim (λ l. inl l) (λ r. let place = r.1.0 in inr (r.0, (omega arith, r.1.1))) (at_either xs ys k x e)
+
+pub openings_are : (set : PieceSet) (first upto : ℕ) (openings : List Opening) → first ≤ upto →
+    AllZip (λ (class : ℕ) (given : Opening). IsOpening (class_setup set class) given) (range_with_len first (upto - first)) openings →
+    AreOpeningsFrom set first upto openings
+openings_are set first upto openings order are =
+    let many = as_many (λ (class : ℕ) (given : Opening). IsOpening (class_setup set class) given) first (upto - first) openings are in record {
+      whole = omega arith;
+      each = each_is (λ (c : ℕ) (o : Opening). IsOpening (class_setup set c) o) first (upto - first) openings are;
+    }
+
+-- the openings below a number, and those from there on
+pub openings_joined : (set : PieceSet) (first upto : ℕ) (before more : List Opening) → AreOpeningsBelow set first before →
+    AreOpeningsFrom set first upto more → AreOpeningsBelow set upto (before ++ more)
+openings_joined set first upto before more are next = record {
+  whole = length-append before more ∙ ap (λ (n : ℕ). n + length more) are.whole ∙ next.whole;
+  each = λ class given there. elim (at_either before more class given there) [
+    | inl earlier ↦ are.each class given earlier
+    | inr later ↦ (
+      let place : first + later.0 ≡ class = omega (arith, are.whole, later.1.0) in
+      subst (λ (c : ℕ). IsOpening (class_setup set c) given) place (next.each later.0 given later.1.1))
+  ];
 }

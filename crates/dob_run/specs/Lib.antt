@@ -16,6 +16,7 @@ pub mod CrewOpen
 pub mod Props
 pub mod TurnRounds
 pub mod Rows
+pub mod Scans
 pub mod Runners
 pub mod Seating
 pub mod Started

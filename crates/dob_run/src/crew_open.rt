@@ -21,7 +21,7 @@ use crate::runner::Runner;
 use dob_board::{Board, NodeSeat};
 use dob_node::{Node, Opening, opening};
 use dob_pieces::{Memory, PieceSet};
-use dob_rank::Classes;
+use dob_rank::{Classes, SegmentLength, Segments};
 use std::alloc::Global;
 
 /// A board, and the runner of each of `n` nodes that own the classes, in order, before their first turn. They cut batches of
@@ -60,7 +60,7 @@ fn open_crew(
     requires { AreWithin n batch capacity }
     ensures { IfOk result (λ opened. IsNewCrew classes.now.set n batch capacity opened.0 opened.1.items) }
 {
-    let openings = opening(alloc, classes)?;
+    let openings = opening(alloc, classes, SegmentLength::longest())?;
     crew_of(alloc, classes.set, openings, n, batch, capacity)
 }
 
@@ -70,12 +70,12 @@ fn open_crew(
 pub(crate) fn crew_of(
     alloc: Global,
     set: PieceSet,
-    openings: Vec<Opening>,
+    openings: Segments<Opening>,
     n: usize,
     batch: usize,
     capacity: usize,
 ) -> Result<(Board, Vec<Runner>), Memory>
-    requires openings { AreOpenings set openings.items }
+    requires openings { AreOpenings set openings }
     requires within { AreWithin n batch capacity }
     ensures { IfOk result (λ opened. IsNewCrew set n batch capacity opened.0 opened.1.items) }
 {
@@ -88,7 +88,7 @@ pub(crate) fn crew_of(
 fn runners_of(
     alloc: Global,
     set: PieceSet,
-    openings: &[Opening],
+    openings: &Segments<Opening>,
     endpoints: Vec<Endpoint>,
     size: usize,
 ) -> Result<Vec<Runner>, Memory>
@@ -110,7 +110,7 @@ fn runners_of(
 fn open_runner(
     alloc: Global,
     set: PieceSet,
-    openings: &[Opening],
+    openings: &Segments<Opening>,
     endpoint: Endpoint,
     size: usize,
 ) -> Result<Runner, Memory>

@@ -1,15 +1,20 @@
 // What is known of each class before anything is settled, by several threads.
-ghost use Rattle.std.specs.Prelude.{◌<◌, IfOk};
+ghost use Rattle.std.specs.Prelude.{◌<◌, ◌≤◌, IfOk};
 ghost use Rattle.dob_rank.specs.Marks.{classes_of};
 ghost use Rattle.dob_rank.specs.ClassRows.{class_setup};
 ghost use Rattle.dob_node.specs.Openings.{IsOpening, AreOpenings};
+ghost use Rattle.dob_run.specs.Scans.{AreOpeningsFrom};
 
-use dob_node::{Opening, opening_at};
+use dob_node::{Opening, opening_in};
 use dob_pieces::Memory;
-use dob_rank::Classes;
+use dob_rank::{Classes, SegmentLength, Segments};
 use rayon::prelude::*;
 use std::alloc::Global;
 use std::thread::Threads;
+
+// How many classes are gone over before their openings join the list: enough that the threads have work, and so few that what
+// stands beside the list is small.
+const AT_A_TIME: u64 = 1 << 20;
 
 /// The status and the number of moves of each class, in the order of the classes: the list that `opening` gives, made by as
 /// many threads as there are processors.
@@ -19,16 +24,41 @@ pub fn scan(
     rt: &(impl Threads + Sync),
     alloc: Global,
     classes: &Classes,
-) -> Result<Vec<Opening>, Memory>
-    ensures { IfOk result (λ openings. AreOpenings classes.now.set openings.items) }
+    segment_length: SegmentLength,
+) -> Result<Segments<Opening>, Memory>
+    ensures { IfOk result (λ openings. AreOpenings classes.now.set openings) }
 {
-    let openings = (0..classes.class_count())
+    let count = classes.class_count();
+    let mut openings = Segments::new(alloc, segment_length);
+    let mut class = 0;
+    'parts: while class < count {
+        let end = count.min(class + AT_A_TIME);
+        let part = scan_part(rt, alloc, classes, class, end)?;
+        openings.append(&part)?;
+        class = end;
+    }
+    Ok(openings)
+}
+
+// The same of the classes from `first` on, before `end`.
+fn scan_part(
+    rt: &(impl Threads + Sync),
+    alloc: Global,
+    classes: &Classes,
+    first: u64,
+    end: u64,
+) -> Result<Vec<Opening>, Memory>
+    requires order { first ≤ end }
+    requires within { end ≤ classes_of classes.now.set }
+    ensures { IfOk result (λ openings. AreOpeningsFrom classes.now.set first end openings.items) }
+{
+    let openings = (first..end)
         .into_par_iter()
         .map(
             |class: u64| -> Opening
                 requires { class < classes_of classes.now.set }
                 ensures { IsOpening (class_setup classes.entry.now.set class) result }
-            { opening_at(classes, class) },
+            { opening_in(classes, class) },
         )
         .collect::<Vec<_>>(rt, alloc)?;
     Ok(openings)

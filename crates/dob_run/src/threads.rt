@@ -16,7 +16,7 @@ use crate::turn_loop::Until;
 use dob_board::Board;
 use dob_node::Cause;
 use dob_pieces::{Memory, PieceSet};
-use dob_rank::Classes;
+use dob_rank::{Classes, SegmentLength};
 use std::alloc::Global;
 use std::snapshot::Snapshot;
 use std::sync::Wait;
@@ -64,7 +64,7 @@ pub(crate) fn run_crew<R: Threads + Wait + Sync, G: Gate + Sync>(
     ensures fault { IfErr result (HasStartFault set n batch capacity) }
 {
     let classes = classes_within(alloc, set, n, batch, capacity)?;
-    let openings = scan(rt, alloc, &classes)?;
+    let openings = scan(rt, alloc, &classes, SegmentLength::longest())?;
     let (board, runners) = crew_of(alloc, set, openings, n, batch, capacity)?;
     let ended = run_each(rt, alloc, runners, &classes, gate, until)?;
     Ok((classes, board, ended))

@@ -12,6 +12,6 @@ mod steps;
 
 pub use fault::Fault;
 pub use news::{Item, Settlement};
-pub use opening::Opening;
+pub use opening::{Opening, opening_at};
 pub use owners::owner;
 pub use share::Share;

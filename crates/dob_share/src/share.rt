@@ -11,16 +11,13 @@ ghost use Rattle.dob_share.specs.Openings.{opening_of, settles, settled_among, n
 use crate::cells::{Count, Slot, run_at};
 use crate::fault::Fault;
 use crate::news::{Item, Settlement};
-use crate::opening::Opening;
+use crate::opening::{Opening, opening_at};
 use crate::steps::{apply_at, value_in};
 use dob_moves::Status;
 use dob_pieces::Memory;
 use dob_rank::Segments;
 use dob_value::Value;
 use std::alloc::Global;
-
-// The shift of a share's segments: 2 to the power of 20 cells, or counts, in each.
-const SHIFT: u32 = 20;
 
 // An entry of the pool that counts nothing.
 const FREE: Count = Count {
@@ -45,10 +42,15 @@ impl Share {
     ghost use Rattle.dob_share.specs.Shares.{places_of, IsOwn, status_at, cell_at, HasValueNow, Fits, GoesTooDeep, SameClasses, IsOwnOpen, HasSettled};
 
     /// The share of owner `id` among `n`, at most 16, of the classes that are listed, with what each is at the start. It
-    /// makes all the room that `apply` will need.
+    /// makes all the room that `apply` will need, in segments as long as those of the list.
     ///
     /// Error: `Memory`, also where its classes have 2 to the power of 32 moves or more.
-    pub fn open(alloc: Global, openings: &[Opening], id: usize, n: usize) -> Result<Share, Memory>
+    pub fn open(
+        alloc: Global,
+        openings: &Segments<Opening>,
+        id: usize,
+        n: usize,
+    ) -> Result<Share, Memory>
         requires owner { id < n }
         requires owners { n ≤ 16 }
         ensures who { IfOk result (λ share. (share.id ≡ id) × (share.n ≡ n)) }
@@ -57,17 +59,18 @@ impl Share {
         ensures cells { IfOk result (λ share. (class : ℕ) → IsOwn share class → SameCell (cell_at share class) (fresh (opening_of openings.now class).moves)) }
         ensures settled { IfOk result (λ share. share.settled ≡ settled_among (λ place. (opening_of openings.now (class_of_place n id place)).status) (places_of share)) }
     {
-        let places = places_among(openings.len() as u64, id as u64, n as u64);
-        let mut slots = Segments::new(alloc, SHIFT);
+        let places = places_among(openings.len(), id as u64, n as u64);
+        let segment_length = openings.segment_length();
+        let mut slots = Segments::new(alloc, segment_length);
         let mut moves = 0;
         let mut settled = 0;
         for place in 0..places {
-            let opening = opening_at(openings, place as usize * n + id);
+            let opening = opening_at(openings, place * n as u64 + id as u64);
             push_slot(&mut slots, moves, opening)?;
             moves += opening.moves as u64;
             settled += settlements_of(opening.status);
         }
-        let pool = Segments::filled(alloc, SHIFT, moves, FREE)?;
+        let pool = Segments::filled(alloc, segment_length, moves, FREE)?;
         Ok(Share {
             id,
             n,
@@ -207,12 +210,4 @@ fn push_slot(slots: &mut Segments<Slot>, start: u64, opening: Opening) -> Result
         left: opening.moves,
         status: opening.status,
     })
-}
-
-// What is listed of the class.
-fn opening_at(openings: &[Opening], class: usize) -> Opening
-    requires { class < length openings.now }
-    ensures { result ≡ opening_of openings.now class }
-{
-    openings[class]
 }

@@ -7,6 +7,8 @@ mod builds;
 #[cfg(test)]
 mod moves;
 #[cfg(test)]
+mod openings;
+#[cfg(test)]
 mod positions;
 #[cfg(test)]
 mod program;

@@ -1,8 +1,9 @@
 -- Tables in the order of the row of classes.
-use Rattle.std.proofs.Common.{ℕ, ◌<◌, sym, subst, ◌∙◌, List, length}
+use Rattle.std.proofs.Common.{◌≡◌, ℕ, ◌<◌, sym, subst, ◌∙◌, List, length, Some, get_or}
+use Rattle.std.specs.Prelude.{slice_get}
 use Rattle.std.specs.List.{All}
 use Rattle.std.proofs.lemmas.List.{length-map}
-use Rattle.std.proofs.lemmas.Option.{slice_get_within, get_or_from_slice_get}
+use Rattle.std.proofs.lemmas.Option.{slice_get_within, slice_get-get_or, get_or_from_slice_get}
 use Rattle.dob_pieces.specs.declared.piece_set.PieceSet.{PieceSet}
 use Rattle.dob_pieces.specs.declared.setup.Setup.{Setup}
 use Rattle.dob_rank.specs.Order.{IsPositionOf, IsRepresentative, RepresentativeOf, HasClass, HasClasses}
@@ -17,7 +18,7 @@ use Rattle.dob_value.specs.Values.{HasValue}
 use Rattle.dob_value.specs.Depths.{SameOutlook}
 use Rattle.dob_value.specs.Graphs.{AreValues}
 use Rattle.dob_value.specs.Codes.{value_of_code, values_of_codes}
-use Rattle.dob_value.specs.Follows.{IsEntry, IsValueTable}
+use Rattle.dob_value.specs.Follows.{AreGiven, IsEntry, IsValueTable}
 use Rattle.dob_value.proofs.Tables.{value_same}
 use Rattle.dob_value.proofs.ClassNumbers.{representative_is, representative_outlook, has_entry}
 
@@ -55,3 +56,19 @@ swept_is_table set values are entries =
           (class_outlook set p has.number.representative has.class (length values) classes within is has.number.stands has.number.before)
           here;
     }
+
+-- and so is one that was given what stands there
+pub given_is_table : (set : PieceSet) (values given : List Value) → AreValues set values → All IsEntry values →
+    AreGiven (λ class value. slice_get values class ≡ Some value) (classes_of set) given → IsValueTable set given
+given_is_table set values given are entries is = swept_is_table set given
+    (record {
+      same_length = is.whole;
+      fits = λ class low. subst (HasValue (class_setup set class)) (same class Draw (subst (λ n. class < n) (sym is.whole) low)) (are.fits class low);
+    })
+    (λ k d low. subst IsEntry (same k d low) (entries k d (slice_get_within values k (get_or given k d) (there k d low))))
+  where
+    there : (k : ℕ) (d : Value) → k < length given → slice_get values k ≡ Some (get_or given k d)
+    there k d low = is.each k (get_or given k d) (slice_get-get_or given k d low)
+
+    same : (k : ℕ) (d : Value) → k < length given → get_or values k d ≡ get_or given k d
+    same k d low = get_or_from_slice_get values k (get_or given k d) d (there k d low)

@@ -1,12 +1,10 @@
 // Entries of a table as numbers of 16 bits: 0 is a draw, and a number above 0 is one more than the distance. Wins have
 // odd and losses even distances, so the distance says which it is.
-ghost use Rattle.std.specs.Prelude.{◌≡◌, ◌<◌, All, IfOk};
-ghost use Rattle.dob_value.specs.Codes.{value_of_code, code_of_value, values_of_codes};
+ghost use Rattle.std.specs.Prelude.{◌≡◌};
+ghost use Rattle.dob_value.specs.Codes.{value_of_code, code_of_value};
 ghost use Rattle.dob_value.specs.Follows.{IsEntry};
 
 use crate::value::Value;
-use dob_pieces::Memory;
-use std::alloc::Global;
 
 /// The value that the code stands for.
 pub fn value_of_code(code: u16) -> Value
@@ -34,19 +32,4 @@ pub fn code_of_value(value: Value) -> u16
         Value::Win(plies) | Value::Loss(plies) => plies + 1,
         Value::Draw => 0,
     }
-}
-
-/// The codes of the values.
-///
-/// Error: `Memory`.
-pub(crate) fn codes_of_values(alloc: Global, values: &[Value]) -> Result<Vec<u16>, Memory>
-    requires { All IsEntry values.now }
-    ensures values { IfOk result (λ codes. values_of_codes codes.items ≡ values.now) }
-    ensures codes { IfOk result (λ codes. All (λ code. code < 65536) codes.items) }
-{
-    let mut codes = Vec::with_capacity(alloc, values.len())?;
-    for value in values {
-        codes.push(code_of_value(*value))?;
-    }
-    Ok(codes)
 }

@@ -1,19 +1,19 @@
 // The values of a whole piece set, and the value of one position.
-ghost use Rattle.std.specs.Prelude.{◌≡◌, ◌<◌, ◌↔◌, IfOk, IsErrOf};
+ghost use Rattle.std.specs.Prelude.{◌≡◌, ◌<◌, ◌↔◌, All, Some, IfOk, IsErrOf, length, slice_get};
 ghost use Rattle.dob_rank.specs.Marks.{classes_of};
 ghost use Rattle.dob_rank.specs.Limits.{IsTooLarge, HasManyPieces};
 ghost use Rattle.dob_rank.specs.Order.{IsPositionOf};
 ghost use Rattle.dob_value.specs.Values.{HasValue};
 ghost use Rattle.dob_value.specs.Rosters.{SomeTooDeep, HasSamePieces};
-ghost use Rattle.dob_value.specs.Follows.{IsValueTable};
+ghost use Rattle.dob_value.specs.Follows.{IsEntry, IsValueTable};
+ghost use Rattle.dob_value.specs.Graphs.{AreValues};
 ghost use Rattle.dob_value.specs.Bounds.{HasManyClasses};
 
-use crate::codes::codes_of_values;
 use crate::fault::Fault;
 use crate::sweep::{MAX_DISTANCE, sweep};
 use crate::table::Table;
 use crate::value::Value;
-use dob_pieces::{PieceSet, Position};
+use dob_pieces::{Memory, PieceSet, Position};
 use dob_rank::Classes;
 use std::alloc::Global;
 
@@ -30,8 +30,21 @@ pub fn sweep_table(alloc: Global, set: PieceSet) -> Result<Table, Fault>
 {
     let classes = Classes::open(alloc, set)?;
     let values = sweep(alloc, &classes)?;
-    let codes = codes_of_values(alloc, &values)?;
-    Ok(Table::new(classes, codes))
+    Ok(table_of(alloc, classes, &values)?)
+}
+
+// The table of the values of the classes.
+fn table_of(alloc: Global, classes: Classes, values: &[Value]) -> Result<Table, Memory>
+    requires values { AreValues classes.set values.now }
+    requires entries { All IsEntry values.now }
+    ensures set { IfOk result (λ table. table.set ≡ classes.set) }
+    ensures values { IfOk result (λ table. IsValueTable classes.set table.values) }
+{
+    let value_at = |class: u64| -> Value
+        requires { class < length values.now }
+        ensures { slice_get values.entry.now class ≡ Some result }
+    { values[class as usize] };
+    Table::from_fn(alloc, classes, value_at)
 }
 
 /// The value of the position, by sweeps over all positions with the same pieces. `sweep_table` gives the values of them

@@ -1,5 +1,5 @@
 // Tables of a piece set: a value for each of its classes.
-ghost use Rattle.std.specs.Prelude.{◌≡◌, ◌<◌, ℕ, All, Some, IfOk, length, vec_len, slice_get};
+ghost use Rattle.std.specs.Prelude.{◌≡◌, ◌<◌, ℕ, All, Some, IfOk, length, slice_get};
 ghost use Rattle.dob_value.specs.declared.value.Value.{Value};
 ghost use Rattle.dob_rank.specs.Order.{IsPositionOf, HasClasses};
 ghost use Rattle.dob_rank.specs.Marks.{classes_of};
@@ -9,32 +9,32 @@ ghost use Rattle.dob_value.specs.Follows.{ClassTable, HasInTable, IsTable, IsEnt
 use crate::codes::{code_of_value, value_of_code};
 use crate::value::Value;
 use dob_pieces::{Memory, PieceSet, Position};
-use dob_rank::Classes;
+use dob_rank::{Classes, SegmentLength, Segments};
 use std::alloc::Global;
 use std::marker::Model;
 
 /// A piece set with one value for each of its classes: wins have odd and losses even distances, at most
-/// `MAX_DISTANCE`. It keeps 2 bytes a class beside the set's `Classes`.
+/// `MAX_DISTANCE`. It keeps 2 bytes a class beside the set's `Classes`, in segments.
 #[derive(Drop)]
 pub struct Table {
     classes: Classes,
-    codes: Vec<u16>,
+    codes: Segments<u16>,
 }
 
 impl Model for Table {
     ghost Value = { ClassTable };
 
-    ghost view = { λ table. class_table table.classes.set (values_of_codes table.codes.items) };
+    ghost view = { λ table. class_table table.classes.set (values_of_codes table.codes) };
 
-    ghost invariant = { λ table. IsTable table.classes.set (values_of_codes table.codes.items) };
+    ghost invariant = { λ table. IsTable table.classes.set (values_of_codes table.codes) };
 }
 
 impl Table {
     /// The table of those classes with those codes, one for each class in the order of their numbers.
-    pub fn new(classes: Classes, codes: Vec<u16>) -> Table
-        requires whole { vec_len codes ≡ classes_of classes.set }
-        requires codes { All (λ code. code < 65536) codes.items }
-        ensures { result ≡ class_table classes.set (values_of_codes codes.items) }
+    pub fn new(classes: Classes, codes: Segments<u16>) -> Table
+        requires whole { length codes ≡ classes_of classes.set }
+        requires codes { All (λ code. code < 65536) codes }
+        ensures { result ≡ class_table classes.set (values_of_codes codes) }
     {
         Table { classes, codes }
     }
@@ -53,9 +53,8 @@ impl Table {
         ensures set { IfOk result (λ table. table.set ≡ classes.set) }
         ensures given { IfOk result (λ table. AreGiven (F.post value_at) (classes_of classes.set) table.values) }
     {
-        let count = classes.class_count();
-        let mut codes = Vec::with_capacity(alloc, count as usize)?;
-        for class in 0..count {
+        let mut codes = Segments::new(alloc, SegmentLength::longest());
+        for class in 0..classes.class_count() {
             codes.push(code_of_value(value_at(class)))?;
         }
         Ok(Table { classes, codes })
@@ -91,7 +90,7 @@ impl Table {
         requires { class < length self.now.values }
         ensures { slice_get self.now.values class ≡ Some result }
     {
-        value_of_code(self.codes[class as usize])
+        value_of_code(self.codes.get(class))
     }
 
     /// The value of the position's class.
@@ -100,6 +99,6 @@ impl Table {
         ensures { HasInTable self.now.set self.now.values position.now.setup result }
     {
         let number = self.classes.class_of(position);
-        value_of_code(self.codes[number as usize])
+        value_of_code(self.codes.get(number))
     }
 }

@@ -13,7 +13,7 @@ use crate::step::Step;
 use crate::steps::{apply_own, post, receive};
 use dob_node::{Node, Opening, opening};
 use dob_pieces::{Memory, PieceSet};
-use dob_rank::{Classes, is_too_large};
+use dob_rank::{Classes, SegmentLength, Segments, is_too_large};
 use dob_safra::is_size;
 use dob_update::are_sizes;
 use std::alloc::Global;
@@ -72,7 +72,7 @@ impl World {
             return Err(Fault::Sizes);
         }
         let classes = Classes::open(alloc, set)?;
-        let openings = opening(alloc, &classes)?;
+        let openings = opening(alloc, &classes, SegmentLength::longest())?;
         let nodes = open_nodes(alloc, &openings, set, n)?;
         let lanes = open_lanes(alloc, n * n, capacity)?;
         let detector = Detector::open(alloc, n)?;
@@ -283,7 +283,7 @@ impl World {
 // The nodes of all owners, as they are opened.
 fn open_nodes(
     alloc: Global,
-    openings: &[Opening],
+    openings: &Segments<Opening>,
     set: PieceSet,
     n: usize,
 ) -> Result<Vec<Node>, Memory>

@@ -2,11 +2,14 @@
 ghost use Rattle.std.specs.Prelude.{◌≡◌, ◌<◌, ◌≤◌, None};
 ghost use Rattle.dob_node.specs.Nodes.{IsSound};
 
+mod segments;
+
+use crate::openings::listed;
 use crate::sets::{classes_of, is_same_table, set_of};
 use dob_moves::{Status, status_and_count};
 use dob_node::{Node, Opening, alone, opening};
 use dob_pieces::{Hand, Hands, Kind, Piece, PieceSet, Position, Side};
-use dob_rank::Classes;
+use dob_rank::{Classes, SegmentLength};
 use dob_share::{Fault, Item, Share};
 use dob_update::Batch;
 use dob_value::{Value, sweep_table};
@@ -16,14 +19,14 @@ use std::process::Abort;
 #[test]
 fn lions_alone_open(rt: HostRuntime) {
     let classes = classes_of(&rt, rt.alloc(), "000");
-    let openings = opening(rt.alloc(), &classes).expect(&rt, "openings");
+    let openings = opening(rt.alloc(), &classes, SegmentLength::longest()).expect(&rt, "openings");
     assert!(rt; openings.len() == 54);
     let closed = openings
         .iter()
         .filter(|given| given.status != Status::Open)
         .count();
     assert!(rt; closed == 33);
-    let open = openings[17];
+    let open = openings.get(17);
     assert!(rt; open.status == Status::Open);
     assert!(rt; open.moves == 5);
 }
@@ -77,7 +80,7 @@ fn is_lost_at_once<A: Abort>(rt: &A, alloc: Global, position: &Position) {
     let (status, moves) = status_and_count(position);
     assert!(rt; status == Status::Stuck);
     assert!(rt; moves == 0);
-    let list: [Opening; 1] = [Opening { status, moves }];
+    let list = listed(rt, alloc, &[Opening { status, moves }]);
     let mut share = Share::open(alloc, &list, 0, 1).expect(rt, "a share");
     assert!(rt; share.settled() == 1);
     assert!(rt; share.value(0) == Value::Loss(0));
@@ -133,7 +136,7 @@ fn stuck_cells(rt: HostRuntime) {
     is_lost_at_once(&rt, rt.alloc(), &position_of(&rt, near));
 }
 
-// One of two nodes, at its opening.
+// One of two nodes, at its opening, with lists in segments of the greatest length.
 fn one_of_two<A: Abort>(rt: &A, alloc: Global, classes: &Classes, id: usize) -> Node
     requires { id < 2 }
     ensures sound { IsSound result }
@@ -142,7 +145,7 @@ fn one_of_two<A: Abort>(rt: &A, alloc: Global, classes: &Classes, id: usize) -> 
     ensures id { result.id ≡ id }
     ensures n { result.n ≡ 2 }
 {
-    let openings = opening(alloc, classes).expect(rt, "openings");
+    let openings = opening(alloc, classes, SegmentLength::longest()).expect(rt, "openings");
     Node::open(alloc, &openings, classes.set, id, 2).expect(rt, "a node")
 }
 

@@ -8,6 +8,7 @@ use crate::sets::classes_of;
 use dob_chan::Rejoined;
 use dob_node::{Cause, Opening, opening};
 use dob_pieces::PieceSet;
+use dob_rank::{SegmentLength, Segments};
 use dob_run::{Built, Fault, Gate, Turned, Worker, run_turns, scan};
 use dob_value::{Table, Value};
 use std::alloc::Global;
@@ -138,18 +139,19 @@ impl Gate for HoldsBackOne {
 #[test]
 fn many_threads_find_what_one_does(rt: HostRuntime) {
     let classes = classes_of(&rt, rt.alloc(), "001");
-    let scanned = scan(&rt, rt.alloc(), &classes).expect(&rt, "openings");
-    let listed = opening(rt.alloc(), &classes).expect(&rt, "openings");
+    let length = SegmentLength::longest();
+    let scanned = scan(&rt, rt.alloc(), &classes, length).expect(&rt, "openings");
+    let listed = opening(rt.alloc(), &classes, length).expect(&rt, "openings");
     assert!(rt; scanned.len() == 1116 && are_same(&scanned, &listed));
 }
 
 // Whether the lists have the same openings.
-fn are_same(scanned: &[Opening], listed: &[Opening]) -> bool {
+fn are_same(scanned: &Segments<Opening>, listed: &Segments<Opening>) -> bool {
     if scanned.len() != listed.len() {
         return false;
     }
     for place in 0..scanned.len() {
-        let (one, other) = (scanned[place], listed[place]);
+        let (one, other) = (scanned.get(place), listed.get(place));
         if one.status != other.status || one.moves != other.moves {
             return false;
         }

@@ -1,15 +1,18 @@
 // Shares of made-up classes: cell 17 has five moves, as the class of that number of lions alone; class 0 is caught.
 ghost use Rattle.std.specs.Prelude.{◌<◌, ◌≤◌};
 
+use crate::openings::listed;
 use dob_moves::Status;
+use dob_pieces::Memory;
+use dob_rank::{SegmentLength, Segments};
 use dob_share::{Fault, Item, Opening, Share, owner};
 use dob_value::Value;
-use std::alloc::{AllocError, Global};
+use std::alloc::Global;
 use std::process::Abort;
 
 // 54 classes: class 0 is caught, class 1 is stuck, all others are open with five moves.
-fn openings(alloc: Global) -> Result<Vec<Opening>, AllocError> {
-    let mut list = Vec::new(alloc);
+fn openings(alloc: Global) -> Result<Segments<Opening>, Memory> {
+    let mut list = Segments::new(alloc, SegmentLength::longest());
     for class in 0..54 {
         let (status, moves) = match class {
             0 => (Status::Caught, 0),
@@ -226,7 +229,8 @@ fn values_of_classes(rt: HostRuntime) {
         status: Status::Open,
         moves: 5,
     };
-    let mut share = Share::open(rt.alloc(), &[caught, stuck, open], 0, 1).expect(&rt, "a share");
+    let list = listed(&rt, rt.alloc(), &[caught, stuck, open]);
+    let mut share = Share::open(rt.alloc(), &list, 0, 1).expect(&rt, "a share");
     assert!(rt; share.value(0) == Value::Win(1));
     assert!(rt; share.value(1) == Value::Loss(0));
     assert!(rt; share.value(2) == Value::Draw);

@@ -8,4 +8,4 @@ returns-clause-read g c = λ stream gives.
     let read = c.in_ok-codes.ensures.codes stream gives in
     let holds = c.in_ok-codes.ensures.hashed stream gives _ (c.update.ensures [] c.new-hasher.ensures) in
     let digest = c.in_ok-expect_digest.ensures.is _ _ read.1 holds in
-    ends_with stream c.args.header.now c.in_ok-codes.codes.items c.args.count (sym c.in_ok-codes.codes.ok.0 ∙ c.in_ok-codes.ensures.counted) read.0 digest
+    ends_with stream c.args.header.now c.in_ok-codes.codes c.args.count (c.in_ok-codes.ensures.counted) read.0 digest

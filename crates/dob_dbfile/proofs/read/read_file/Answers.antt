@@ -34,8 +34,8 @@ returns-in_err-codes-clause-fault g c = λ stream gives.
     let counts = subst (CountsClasses set) front c.in_ok-classes.ensures.named in
     let later = subst (λ (n : ℕ). g.R.Source.gives c.fill.new.source (after n stream)) len taken.1 in
     let given = c.in_err-codes.field-0.0 in
-    let wrong = subst (λ (n : ℕ). HasRestFault (header stream) n (after 20 stream) given) c.count_of.ensures.count
-    (subst (λ (h : List ℕ). HasRestFault h c.count_of.result (after 20 stream) given) front (c.in_err-codes.ensures.fault (after 20 stream) later)) in
+    let wrong = subst (λ (n : ℕ). HasRestFault (header stream) n (after 20 stream) given) c.class_count.ensures.number
+    (subst (λ (h : List ℕ). HasRestFault h c.class_count.result (after 20 stream) given) front (c.in_err-codes.ensures.fault (after 20 stream) later)) in
     rw (p.1, p.2) (rest_fault stream set given (there, counts) wrong)
 
 pub returns-clause-read : goal.returns-clause-read
@@ -48,16 +48,16 @@ returns-clause-read g c = λ stream gives.
     let codes = c.in_ok-codes.codes in
     let counts = subst (CountsClasses set) front c.in_ok-classes.ensures.named in
     let later = subst (λ (n : ℕ). g.R.Source.gives c.fill.new.source (after n stream)) len taken.1 in
-    let ends = subst (λ (h : List ℕ). EndsWith h codes.items (after 20 stream)) front (c.in_ok-codes.ensures.read (after 20 stream) later) in
-    let counted = sym codes.ok.0 ∙ c.in_ok-codes.ensures.counted ∙ c.count_of.ensures.count in
+    let ends = subst (λ (h : List ℕ). EndsWith h codes (after 20 stream)) front (c.in_ok-codes.ensures.read (after 20 stream) later) in
+    let counted = c.in_ok-codes.ensures.counted ∙ c.class_count.ensures.number in
     subst (λ (t : ClassTable). (stream ≡ whole (bytes_of t)) × HasDigest t.set stream) (sym c.new.ensures)
-    (right_file stream set codes.items there counts counted ends, right_digest stream set codes.items there counts counted ends)
+    (right_file stream set codes there counts counted ends, right_digest stream set codes there counts counted ends)
 
 pub returns-clause-table : goal.returns-clause-table
 returns-clause-table g c =
     let codes = c.in_ok-codes.codes in
     subst (λ (t : ClassTable). IsTable t.set t.values) (sym c.new.ensures)
-    (table_of_codes c.in_ok-classes.classes.set codes.items (sym codes.ok.0 ∙ c.in_ok-codes.ensures.counted ∙ c.count_of.ensures.count)
+    (table_of_codes c.in_ok-classes.classes.set codes (c.in_ok-codes.ensures.counted ∙ c.class_count.ensures.number)
     c.in_ok-codes.ensures.fit)
 
 pub returns-in_err-classes-clause-memory : goal.returns-in_err-classes-clause-memory

@@ -1,5 +1,5 @@
 -- Piece after piece the codes and the digest grow by the bytes that were read.
-use Rattle.std.proofs.Common.{◌≡◌, ◌∙◌, ◌*◌, ℕ, [], arith, rules, sym, refl, subst, vec_len}
+use Rattle.std.proofs.Common.{◌≡◌, ◌∙◌, ◌*◌, ℕ, [], ap, arith, rules, sym, refl, subst, length}
 use Rattle.std.proofs.Math.Bool.{or-false}
 use Rattle.std.proofs.lemmas.Result.{err_from_is_err_and}
 use Rattle.dob_dbfile.specs.Devices.{after}
@@ -10,18 +10,18 @@ use Rattle.dob_dbfile.proofs.read.read_records.Goals as goal
 
 pub records-init : goal.records-init
 records-init g c =
-    let none = c.new-codes.ensures.len in (
+    let none : length c.new-codes.result ≡ 0 = ap length c.new-codes.ensures in (
       omega (arith, none),
       search rules,
       search rules,
       refl,
-      λ stream gives. rw (none, c.new-codes.ensures.items) (reads_none stream [], gives, hashes_none stream c.args.hasher.now),
+      λ stream gives. rw c.new-codes.ensures (reads_none stream [], gives, hashes_none stream c.args.hasher.now),
     )
 
 pub records-preserved : goal.records-preserved
 records-preserved g c =
     let counted = c.in_ok-read_piece.ensures.counted in
-    let few = few_more c.args.count (vec_len c.records.codes) c.min-records.result 2048 c.records.room c.records.invariant.0 (search rules) in (
+    let few = few_more c.args.count (length c.records.codes) c.min-records.result 2048 c.records.room c.records.invariant.0 (search rules) in (
       omega (arith, counted, few),
       search rules,
       c.in_ok-read_piece.ensures.fit c.records.invariant.2,
@@ -30,8 +30,8 @@ records-preserved g c =
           let before = c.records.invariant.4 stream gives in
           let read = c.in_ok-read_piece.ensures.codes _ before.1 in
           let hashed = c.in_ok-read_piece.ensures.hashed _ before.1 in (
-            subst (λ (n : ℕ). ReadsCodes stream n [] c.read_piece.new.codes.items) (sym counted)
-                (reads_more stream _ _ [] c.records.codes.items c.read_piece.new.codes.items before.0 read.0),
+            subst (λ (n : ℕ). ReadsCodes stream n [] c.read_piece.new.codes) (sym counted)
+                (reads_more stream _ _ [] c.records.codes c.read_piece.new.codes before.0 read.0),
             subst (λ (n : ℕ). g.R.Source.gives c.read_piece.new.source (after n stream)) (sym counted)
                 (subst (g.R.Source.gives c.read_piece.new.source) (after-after stream _ _) read.1),
             subst (λ (n : ℕ). HashesNext stream n c.args.hasher.now c.read_piece.new.hasher) (sym counted)
@@ -43,21 +43,21 @@ pub returns-in_err-read_piece-clause-cut : goal.returns-in_err-read_piece-clause
 returns-in_err-read_piece-clause-cut g c = λ stream gives.
     let p = err_from_is_err_and c.from_residual-in_err-read_piece.result c.from_residual-in_err-read_piece.ensures.1 in
     let before = c.records.invariant.4 stream gives in
-    let few = few_more c.args.count (vec_len c.records.codes) c.min-records.result 2048 c.records.room c.records.invariant.0 (search rules) in
+    let few = few_more c.args.count (length c.records.codes) c.min-records.result 2048 c.records.room c.records.invariant.0 (search rules) in
     let cut = c.in_err-read_piece.ensures.cut _ before.1 in
-    rw (p.1, p.2) (cut_later stream (2 * vec_len c.records.codes) (2 * c.args.count) _ 20 _ before.0.within few cut)
+    rw (p.1, p.2) (cut_later stream (2 * length c.records.codes) (2 * c.args.count) _ 20 _ before.0.within few cut)
 
 pub returns-clause-codes : goal.returns-clause-codes
 returns-clause-codes g c = λ stream gives.
-    let all : vec_len c.records.codes ≡ c.args.count = omega (arith, c.records.invariant.0, c.records-test.false) in
+    let all : length c.records.codes ≡ c.args.count = omega (arith, c.records.invariant.0, c.records-test.false) in
     let done = c.records.invariant.4 stream gives in (
-      subst (λ (n : ℕ). ReadsCodes stream (2 * n) [] c.records.codes.items) all done.0,
+      subst (λ (n : ℕ). ReadsCodes stream (2 * n) [] c.records.codes) all done.0,
       subst (λ (n : ℕ). g.R.Source.gives c.records.source (after (2 * n) stream)) all done.1,
     )
 
 pub returns-clause-hashed : goal.returns-clause-hashed
 returns-clause-hashed g c = λ stream gives.
-    let all : vec_len c.records.codes ≡ c.args.count = omega (arith, c.records.invariant.0, c.records-test.false) in
+    let all : length c.records.codes ≡ c.args.count = omega (arith, c.records.invariant.0, c.records-test.false) in
     subst (λ (n : ℕ). HashesNext stream (2 * n) c.args.hasher.now c.records.hasher) all (c.records.invariant.4 stream gives).2
 
 pub returns-clause-failed : goal.returns-clause-failed

@@ -1,5 +1,5 @@
 -- The codes and the digest are of the bytes read so far.
-use Rattle.std.proofs.Common.{◌≡◌, ◌*◌, ◌-◌, ◌<◌, ◌≤◌, [], vec_len, length}
+use Rattle.std.proofs.Common.{◌≡◌, ◌*◌, ◌-◌, ◌<◌, ◌≤◌, [], length}
 use Rattle.std.specs.List.{All}
 use Rattle.dob_dbfile.specs.Devices.{Stream, after}
 use Rattle.dob_dbfile.specs.Reading.{ReadsCodes, HashesNext}
@@ -8,14 +8,14 @@ use Rattle.dob_dbfile.proofs.read.read_records.Given as goal
 -- so many records were read, and the hasher has had their bytes
 abbrev pub invariant-records : goal.invariant-records
 invariant-records g l =
-    (vec_len l.codes ≤ l.count)
+    (length l.codes ≤ l.count)
     × (length l.room ≡ 4096)
-    × All (λ code. code < 65536) l.codes.items
+    × All (λ code. code < 65536) l.codes
     × (g.R.Source.has_failed l.source ≡ g.R.Source.has_failed l.initial.source)
     × ((stream : Stream) → g.R.Source.gives l.initial.source stream →
-    ReadsCodes stream (2 * vec_len l.codes) [] l.codes.items
-    × g.R.Source.gives l.source (after (2 * vec_len l.codes) stream)
-    × HashesNext stream (2 * vec_len l.codes) l.initial.hasher l.hasher)
+    ReadsCodes stream (2 * length l.codes) [] l.codes
+    × g.R.Source.gives l.source (after (2 * length l.codes) stream)
+    × HashesNext stream (2 * length l.codes) l.initial.hasher l.hasher)
 
 abbrev pub decreases-records : goal.decreases-records
-decreases-records g l = l.count - vec_len l.codes
+decreases-records g l = l.count - length l.codes

@@ -1,12 +1,11 @@
 -- No step is made yet.
-use Rattle.std.proofs.Common.{IfOk, subst}
+use Rattle.std.proofs.Common.{subst}
 use Rattle.dob_node.specs.Openings.{AreOpenings}
-use Rattle.dob_node.specs.Nodes.{IsOpened}
 use Rattle.dob_node.proofs.SoleOpens.{made_none_ok}
 use Rattle.dob_node.proofs.lone.begin.Goals as goal
 
 pub returns-clause-made : goal.returns-clause-made
 returns-clause-made c =
-    made_none_ok c.args.set c.in_ok-openings.openings.items c.open.result
-    (subst (λ set. AreOpenings set c.in_ok-openings.openings.items) c.requires c.in_ok-openings.ensures)
-    (subst (λ xs. IfOk c.open.result (λ node. IsOpened xs c.args.set 0 1 node)) c.deref.ensures.value c.open.ensures.opened) c.open.ensures.sound
+    made_none_ok c.args.set c.in_ok-openings.openings c.open.result
+    (subst (λ set. AreOpenings set c.in_ok-openings.openings) c.requires c.in_ok-openings.ensures)
+    c.open.ensures.opened c.open.ensures.sound

@@ -1,9 +1,10 @@
 -- Each block adds its own classes, and all of them are the set's.
-use Rattle.std.proofs.Common.{◌≡◌, ◌+◌, arith, sym, ap, ◌∙◌, subst}
+use Rattle.std.proofs.Common.{◌≡◌, ℕ, ◌+◌, ◌^◌, ◌<◌, arith, sym, ap, ◌∙◌, subst}
 use Rattle.dob_rank.specs.Order.{HasClasses}
 use Rattle.dob_rank.specs.Numbers.{product, block_bases}
 use Rattle.dob_rank.proofs.Marks.{HasClasses-classes_of}
 use Rattle.dob_rank.proofs.BlockTables.{classes_all, no_classes_yet}
+use Rattle.dob_rank.proofs.ClassBounds.{classes_of-few}
 use Rattle.dob_rank.proofs.RunSums.{classes_few}
 use Rattle.dob_rank.proofs.class_counts.count_classes.Goals as goal
 
@@ -31,6 +32,4 @@ returns-clause-number c =
     classes_all c.args.set c.loop-block.block c.loop-block.count number c.loop-block.invariant
 
 pub returns-clause-bound : goal.returns-clause-bound
-returns-clause-bound c =
-    let few = classes_few c.args.set c.loop-block.block (omega (arith, c.blocks-block-end.ensures.value, c.loop-block.auto.block-end)) in
-    omega (arith, few, c.loop-block.invariant)
+returns-clause-bound c = subst (λ (n : ℕ). n < 2 ^ 31) (sym (returns-clause-number c)) (classes_of-few c.args.set)

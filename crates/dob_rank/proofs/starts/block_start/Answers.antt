@@ -1,8 +1,7 @@
 -- The table's entry is the sum, computed for each set and each block.
-use Rattle.std.proofs.Common.{ℕ, ◌≤◌, ◌*◌, ◌^◌, subst, sym}
-use Rattle.dob_rank.proofs.BlockStarts.{start_is}
+use Rattle.std.proofs.Common.{ℕ, ◌<◌, ◌^◌, subst, sym}
+use Rattle.dob_rank.proofs.BlockStarts.{start_is, start_few}
 use Rattle.dob_rank.proofs.Blocks.{blocks_small}
-use Rattle.dob_rank.proofs.RunMarks.{start_small}
 use Rattle.dob_rank.proofs.starts.block_start.Goals as goal
 
 pub returns-clause-value : goal.returns-clause-value
@@ -10,5 +9,5 @@ returns-clause-value c = start_is c.args.set c.args.block c.requires (blocks_sma
 
 pub returns-clause-bound : goal.returns-clause-bound
 returns-clause-bound c =
-    subst (λ (n : ℕ). n ≤ 27 * 2 ^ 36) (sym (start_is c.args.set c.args.block c.requires (blocks_small c.args.set)))
-    (start_small c.args.set c.args.block c.requires)
+    subst (λ (n : ℕ). n < 2 ^ 31) (sym (start_is c.args.set c.args.block c.requires (blocks_small c.args.set)))
+    (start_few c.args.set c.args.block c.requires (blocks_small c.args.set))

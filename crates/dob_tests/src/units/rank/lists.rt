@@ -1,9 +1,14 @@
 // Lists in short segments, and a refused growth of one, which leaves it as it was.
 ghost use Rattle.std.specs.Prelude.{◌≡◌, ◌≤◌, length};
 
-use dob_rank::Segments;
+use dob_rank::{SegmentLength, Segments};
 use std::alloc::Global;
 use std::process::Abort;
+
+// Segments of so many items.
+fn length_of(rt: &impl Abort, items: u32) -> SegmentLength {
+    SegmentLength::of(items).expect(rt, "a length")
+}
 
 // Appends one number, and again where memory was refused: the list then has it once.
 fn append<A: Abort>(rt: &A, list: &mut Segments<u64>, number: u64) {
@@ -15,13 +20,12 @@ fn append<A: Abort>(rt: &A, list: &mut Segments<u64>, number: u64) {
     assert!(rt; list.len() == before + 1);
 }
 
-// A list of 0, 10, 20, .. in segments of that shift.
-fn tens<A: Abort>(rt: &A, alloc: Global, shift: u32, count: u64) -> Segments<u64>
-    requires short { shift ≤ 20 }
-    requires few { count ≤ 100 }
+// A list of 0, 10, 20, .. in segments of so many items.
+fn tens<A: Abort>(rt: &A, alloc: Global, items: u32, count: u64) -> Segments<u64>
+    requires { count ≤ 100 }
     ensures { length result ≡ count }
 {
-    let mut list = Segments::new(alloc, shift);
+    let mut list = Segments::new(alloc, length_of(rt, items));
     for number in 0..count {
         append(rt, &mut list, 10 * number);
     }
@@ -53,8 +57,8 @@ fn has_changed_tens<A: Abort>(rt: &A, list: &Segments<u64>)
 
 #[test]
 fn lists_in_short_segments(rt: HostRuntime) {
-    for shift in [0, 1, 3] {
-        let mut list = tens(&rt, rt.alloc(), shift, 20);
+    for items in [1, 2, 3, 7, 8] {
+        let mut list = tens(&rt, rt.alloc(), items, 20);
         has_tens(&rt, &list);
         list[7] = 1;
         list[19] = 2;
@@ -84,13 +88,25 @@ fn has_fives<A: Abort>(rt: &A, list: &Segments<u64>, count: u64) {
 
 #[test]
 fn lists_of_one_item(rt: HostRuntime) {
-    for shift in [0, 1, 3] {
+    for items in [1, 2, 3, 7, 8] {
+        let length = length_of(&rt, items);
         for count in [0, 1, 7, 8, 9] {
-            let mut found = Segments::filled(rt.alloc(), shift, count, 5);
+            let mut found = Segments::filled(rt.alloc(), length, count, 5);
             if found.is_err() {
-                found = Segments::filled(rt.alloc(), shift, count, 5);
+                found = Segments::filled(rt.alloc(), length, count, 5);
             }
             has_fives(&rt, &found.expect(&rt, "a list"), count);
         }
     }
+}
+
+#[test]
+fn lengths_of_segments(rt: HostRuntime) {
+    assert!(rt; SegmentLength::of(0).is_none());
+    assert!(rt; SegmentLength::of((1 << 20) + 1).is_none());
+    for items in [1, 7, 1 << 20] {
+        let length = length_of(&rt, items);
+        assert!(rt; length.items() == items);
+    }
+    assert!(rt; SegmentLength::longest().items() == 1 << 20);
 }

@@ -6,9 +6,12 @@ use Rattle.dob_update.specs.Batches.{OutboxView}
 use Rattle.dob_node.specs.Stores.{HistoryView}
 use Rattle.dob_node.specs.OpeningLists.{opening_settlements, status_in}
 use Rattle.dob_node.specs.TakenItems.{HasEntries}
-use Rattle.dob_node.proofs.Opens.{places_are, opened_kept}
+use Rattle.dob_node.proofs.Opens.{places_are, opened_kept, few_listed}
 use Rattle.dob_node.proofs.Sends.{addressed_empty}
 use Rattle.dob_node.proofs.node.Node.open.Goals as goal
+
+pub opening_history-requires-clause-few : goal.opening_history-requires-clause-few
+opening_history-requires-clause-few c = few_listed c.args.set c.args.openings.now c.requires.openings
 
 pub opening_history-requires-clause-places : goal.opening_history-requires-clause-places
 opening_history-requires-clause-places c = λ place low.
@@ -36,7 +39,7 @@ returns-clause-sound c =
     let out = c.in_ok-share.ensures in
     record {
       kept = opened_kept c.args.set c.args.openings.now c.args.n c.args.id c.in_ok-share.share c.in_ok-history.history c.requires.openings c.requires.owner
-          (omega (arith, c.if-openings-from.false, c.from.ensures)) out.who out.owned out.cells out.settled
+          (few_listed c.args.set c.args.openings.now c.requires.openings) out.who out.owned out.cells out.settled
           (subst (λ (k : ℕ). c.in_ok-history.history ≡ record { id = c.args.id; n = c.args.n; settlements = opening_settlements (status_in c.args.openings.now) c.args.n c.args.id k; room = 0 })
           c.places.ensures c.in_ok-history.ensures);
       emitted = omega arith;

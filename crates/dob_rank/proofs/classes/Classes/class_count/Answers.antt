@@ -1,6 +1,7 @@
 -- The marks of all ranks are as many as the classes.
-use Rattle.std.proofs.Common.{rules, sym, subst}
+use Rattle.std.proofs.Common.{rules, ℕ, ◌<◌, ◌^◌, sym, subst}
 use Rattle.dob_rank.specs.Order.{HasClasses}
+use Rattle.dob_rank.proofs.ClassBounds.{classes_of-few}
 use Rattle.dob_rank.proofs.Marks.{HasClasses-classes_of}
 use Rattle.dob_rank.proofs.classes.Classes.class_count.Goals as goal
 
@@ -9,3 +10,6 @@ returns-clause-count c = subst (HasClasses c.args.self.now.set) (sym c.args.self
 
 pub returns-clause-number : goal.returns-clause-number
 returns-clause-number c = search rules fits 100
+
+pub returns-clause-bound : goal.returns-clause-bound
+returns-clause-bound c = subst (λ (n : ℕ). n < 2 ^ 31) (sym c.args.self.now.counted) (classes_of-few c.args.self.now.set)

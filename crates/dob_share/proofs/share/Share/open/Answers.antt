@@ -47,8 +47,10 @@ returns-clause-owned c =
     owned_here _ c.args.openings.now
     (subst (λ xs. AreOpened c.args.openings.now c.args.n c.args.id c.loop-place.slots xs) (sym c.in_ok-pool.ensures) c.loop-place.invariant.opened)
     (λ place. (
-      λ inside. (c.places_among-places.ensures place).0 (subst (λ (k : ℕ). place < k) whole inside),
-      λ below. subst (λ (k : ℕ). place < k) (sym whole) ((c.places_among-places.ensures place).1 below),
+      λ inside. subst (λ (k : ℕ). place * c.args.n + c.args.id < k) c.len.ensures.count
+          ((c.places_among-places.ensures place).0 (subst (λ (k : ℕ). place < k) whole inside)),
+      λ below. subst (λ (k : ℕ). place < k) (sym whole)
+          ((c.places_among-places.ensures place).1 (subst (λ (k : ℕ). place * c.args.n + c.args.id < k) (sym c.len.ensures.count) below)),
     ))
 
 pub returns-clause-statuses : goal.returns-clause-statuses

@@ -13,5 +13,5 @@ returns-clause-count c =
     let inside = c.self.inside in
     let set = inside.classes.set in
     subst (λ (t : ClassTable). classes_of t.set ≡ length t.values) c.self.view_is
-    (one_count (IsRepresentative set) (classes_of set) (length (values_of_codes inside.codes.items)) (HasClasses-classes_of set)
+    (one_count (IsRepresentative set) (classes_of set) (length (values_of_codes inside.codes)) (HasClasses-classes_of set)
     c.self.invariant.classes)

@@ -7,6 +7,6 @@ use Rattle.dob_value.proofs.table.Table.from_fn.Given as goal
 
 abbrev pub invariant-loop-class : goal.invariant-loop-class
 invariant-loop-class g l = record {
-  codes : All (λ code. code < 65536) l.codes.items;
-  given : AreGiven (goal.F-post g l.value_at) l.class (values_of_codes l.codes.items);
+  codes : All (λ code. code < 65536) l.codes;
+  given : AreGiven (goal.F-post g l.value_at) l.class (values_of_codes l.codes);
 }

@@ -9,7 +9,7 @@ use Rattle.dob_value.proofs.table.Table.new.Goals as goal
 
 pub invariant_of-result : goal.invariant_of-result
 invariant_of-result c = record {
-  classes = subst (HasClasses c.args.classes.set) (sym (length-map c.args.codes.items value_of_code ∙ sym (c.args.codes.ok.0) ∙ c.requires.whole))
+  classes = subst (HasClasses c.args.classes.set) (sym (length-map c.args.codes value_of_code ∙ c.requires.whole))
       (HasClasses-classes_of c.args.classes.set);
-  entries = entries_of_codes c.args.codes.items c.requires.codes;
+  entries = entries_of_codes c.args.codes c.requires.codes;
 }

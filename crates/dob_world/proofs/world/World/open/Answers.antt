@@ -13,14 +13,14 @@ use Rattle.dob_world.proofs.world.World.open.Goals as goal
 pub returns-clause-standing : goal.returns-clause-standing
 returns-clause-standing c =
     let k : Setting = record { set = c.in_ok-classes.classes.set; n = c.args.n; batch = c.args.batch; capacity = c.args.capacity } in
-    let openings = c.in_ok-openings.openings.items in
+    let openings = c.in_ok-openings.openings in
     let nodes = c.in_ok-nodes.nodes.items in
     let lanes = c.in_ok-lanes.lanes.items in
     let size = c.is_size.ensures.0 c.if-not-is_size.false in
     let some : 0 < c.args.n = size.0 in
     let opened : AreOpenedNodes openings k.set k.n k.n nodes =
     subst (λ st. AreOpenedNodes openings st c.args.n c.args.n nodes) (sym c.in_ok-classes.ensures.set)
-    (subst (λ xs. AreOpenedNodes xs c.args.set c.args.n c.args.n nodes) c.deref.ensures.value c.in_ok-nodes.ensures) in
+    c.in_ok-nodes.ensures in
     let setting : IsSetting k = record {
       small = subst (λ (st : PieceSet). IsSmall st) (sym c.in_ok-classes.ensures.set) (c.is_too_large.ensures.small c.if-is_too_large.false);
       nodes = size;

@@ -4,7 +4,7 @@ use Rattle.dob_rank.specs.Marks.{classes_of}
 use Rattle.dob_rank.proofs.Marks.{HasClasses-classes_of}
 use Rattle.dob_rank.proofs.Representatives.{class_setup_only}
 use Rattle.dob_node.specs.Openings.{IsOpening}
-use Rattle.dob_node.proofs.openings.opening_at.Goals as goal
+use Rattle.dob_node.proofs.openings.opening_in.Goals as goal
 
 pub returns : goal.returns
 returns c =

@@ -1,0 +1,77 @@
+// How many items the segments of a list have.
+ghost use Rattle.std.specs.Prelude.{◌≡◌, ◌⊎◌, ◌^◌, ◌<◌, ◌≤◌, ◌/◌, ◌%◌, MatchOption};
+ghost use Rattle.std.specs.Option.{ForSome};
+ghost use Rattle.dob_rank.specs.Segmented.{IsShift};
+
+use crate::radix;
+
+/// The most items that a segment has.
+const MOST: u32 = 1 << 20;
+
+/// How many items each segment of a list but the last has: from 1 to 2^20. A place is split by a shift where that is a
+/// power of 2, which takes half the time of a division.
+#[derive(Clone, Copy)]
+pub struct SegmentLength {
+    items: u32,
+    shift: Option<u32>,
+    ghost size: { (0 < items) × (items ≤ 2 ^ 20) },
+    ghost power: { ForSome shift (IsShift items) },
+}
+
+impl SegmentLength {
+    /// The length of so many items; none where they aren't 1 to 2^20.
+    pub fn of(items: u32) -> Option<SegmentLength>
+        ensures { MatchOption result ((items ≡ 0) ⊎ (2 ^ 20 < items)) (λ length. length.items ≡ items) }
+    {
+        if items == 0 || items > MOST {
+            return None;
+        }
+        Some(SegmentLength {
+            items,
+            shift: shift_of(items),
+        })
+    }
+
+    /// The greatest length.
+    pub fn longest() -> SegmentLength
+        ensures { result.items ≡ 2 ^ 20 }
+    {
+        SegmentLength {
+            items: MOST,
+            shift: Some(20),
+        }
+    }
+
+    /// How many items a segment of that length has.
+    pub fn items(self) -> u32
+        ensures items { result ≡ self.items }
+        ensures low { 0 < result }
+        ensures high { result ≤ 2 ^ 20 }
+    {
+        self.items
+    }
+
+    /// Where an item stands: the number of its segment, and its place there.
+    pub(crate) fn split(self, place: u64) -> (usize, usize)
+        ensures number { result.0 ≡ place / self.items }
+        ensures within { result.1 ≡ place % self.items }
+    {
+        let (number, within) = match self.shift {
+            Some(shift) => radix::split_by_power(place, u64::from(shift)),
+            None => (place / u64::from(self.items), place % u64::from(self.items)),
+        };
+        (number as usize, within as usize)
+    }
+}
+
+// The shift that divides by so many items, where that is a power of 2.
+fn shift_of(items: u32) -> Option<u32>
+    ensures { ForSome result (IsShift items) }
+{
+    let shift = items.trailing_zeros();
+    if shift < u32::BITS && items == 1 << shift {
+        Some(shift)
+    } else {
+        None
+    }
+}

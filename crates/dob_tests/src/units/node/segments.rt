@@ -1,0 +1,76 @@
+// Nodes whose lists have short segments: the same calls leave them the parts of nodes with long ones. `rt try --test --fail-alloc N --
+// segments_of_any_length` refuses the growth of that number; one of the openings or of a node's opening is then asked for again.
+ghost use Rattle.std.specs.Prelude.{◌≡◌, ◌<◌, None};
+ghost use Rattle.dob_node.specs.Nodes.{IsSound};
+ghost use Rattle.dob_node.specs.Openings.{AreOpenings};
+
+use super::{Log, run};
+use crate::sets::classes_of;
+use dob_node::{Node, Opening, Part, opening};
+use dob_pieces::PieceSet;
+use dob_rank::{Classes, SegmentLength, Segments};
+use std::alloc::Global;
+use std::process::Abort;
+
+// The openings of the classes in segments of so many items.
+fn openings_of<A: Abort>(rt: &A, alloc: Global, classes: &Classes, items: u32) -> Segments<Opening>
+    ensures { AreOpenings classes.now.set result }
+{
+    let length = SegmentLength::of(items).expect(rt, "a length");
+    if let Ok(openings) = opening(alloc, classes, length) {
+        return openings;
+    }
+    opening(alloc, classes, length).expect(rt, "openings")
+}
+
+// One of two nodes, at its opening.
+fn open_node<A: Abort>(
+    rt: &A,
+    alloc: Global,
+    openings: &Segments<Opening>,
+    set: PieceSet,
+    id: usize,
+) -> Node
+    requires openings { AreOpenings set openings.now }
+    requires id { id < 2 }
+    ensures sound { IsSound result }
+    ensures going { result.failed ≡ None }
+    ensures set { result.set ≡ set }
+    ensures id { result.id ≡ id }
+    ensures n { result.n ≡ 2 }
+{
+    if let Ok(node) = Node::open(alloc, openings, set, id, 2) {
+        return node;
+    }
+    Node::open(alloc, openings, set, id, 2).expect(rt, "a node")
+}
+
+// The parts of two nodes that went on until they had nothing to do, with lists in segments of so many items.
+fn parts_of<A: Abort>(rt: &A, alloc: Global, classes: &Classes, items: u32) -> (Part, Part) {
+    let openings = openings_of(rt, alloc, classes, items);
+    let mut first = open_node(rt, alloc, &openings, classes.set, 0);
+    let mut second = open_node(rt, alloc, &openings, classes.set, 1);
+    let mut log = Log::new(alloc, 0);
+    run(rt, classes, &mut first, &mut second, 3, false, &mut log);
+    let evens = first.into_part().expect(rt, "a part");
+    let odds = second.into_part().expect(rt, "a part");
+    (evens, odds)
+}
+
+#[test]
+fn segments_of_any_length(rt: HostRuntime) {
+    let classes = classes_of(&rt, rt.alloc(), "001");
+    let (evens, odds) = parts_of(&rt, rt.alloc(), &classes, 1 << 20);
+    assert!(rt; evens.values.len() == 558 && odds.values.len() == 558);
+    for items in [1, 7] {
+        let (first, second) = parts_of(&rt, rt.alloc(), &classes, items);
+        assert!(rt;
+            first.values.as_slice() == evens.values.as_slice(),
+            "{items}"
+        );
+        assert!(rt;
+            second.values.as_slice() == odds.values.as_slice(),
+            "{items}"
+        );
+    }
+}
