@@ -62,6 +62,7 @@ pub mod FarPlaces  -- a position of profile B by what the code finds of it
 pub mod FarSpots  -- the place of a run before which it has so many positions of profile B
 pub mod FamilyClasses  -- the representatives of a family where the lions say which positions are earlier
 pub mod FarUnranks  -- the position of a rank of profile B
-pub mod FamilyNumbers  -- a position of a family is in the class of its class number
+pub mod FamilyNumbers  -- class numbers of a family are marks below
+pub mod FamilyRepresentatives  -- one representative and one number a class of a family
 -- Long lists.
 pub mod Segmentation  -- lists in segments
