@@ -1,7 +1,7 @@
 -- How many positions of profile B a run has up to a place, and before a position: by its choice of the chicks' squares, the others' squares and forms.
-use Rattle.std.proofs.Common.{◌≡◌, ℕ, ◌+◌, ◌-◌, ◌*◌, ◌/◌, ◌%◌, ◌^◌, ◌<◌, ◌≤◌, Bool, true, false, List, slice_index, refl, sym, ap, ◌∙◌, subst, arith}
+use Rattle.std.proofs.Common.{◌≡◌, ℕ, ◌+◌, ◌-◌, ◌*◌, ◌/◌, ◌%◌, ◌^◌, ◌<◌, ◌≤◌, Bool, true, false, List, [], get_or, slice_index, refl, sym, ap, ◌∙◌, subst, arith}
 use Rattle.std.proofs.lemmas.Nat.{div-mul-add, div_below, mod_below, div-add-mod'}
-use Rattle.std.proofs.Math.Nat.{mul_assoc, add-mul, mul-pos, mul-le-mul_right}
+use Rattle.std.proofs.Math.Nat.{mul_assoc, add-mul, mul-pos, mul-le-mul, mul-le-mul_right}
 use Rattle.dob_pieces.specs.declared.piece_set.PieceSet.{PieceSet}
 use Rattle.dob_pieces.specs.declared.profile.Family.{Family}
 use Rattle.dob_pieces.specs.declared.profile.Profile.TheVariants.{A, B}
@@ -9,12 +9,12 @@ use Rattle.dob_pieces.specs.declared.setup.Setup.{Setup}
 use Rattle.dob_rank.specs.declared.layers.Layer.TheVariants.{Chicks}
 use Rattle.dob_rank.specs.Numbers.{product, digits_of, sum_below, choose, settle, order, block_bases, block_of, free_squares, on_board, digits, forms_number}
 use Rattle.dob_rank.specs.Marks.{one_if, marks_below}
-use Rattle.dob_rank.specs.Runs.{AreFewOnBoard, runs_in, run_size, run_start, run_of, local_of, lions_of, lion_pairs}
+use Rattle.dob_rank.specs.Runs.{AreFewOnBoard, square_bases, runs_in, run_size, run_start, run_of, local_of, lions_of, lion_pairs}
 use Rattle.dob_rank.specs.Families.{family_of, IsPositionIn, is_present}
-use Rattle.dob_rank.specs.FamilyRuns.{is_there}
+use Rattle.dob_rank.specs.FamilyRuns.{is_there, local_in}
 use Rattle.dob_rank.specs.Weights.{weight, forms_on, may_have, are_allowed, forms_stand, lions_in, choice_weight, forms_before, allowed_number}
-use Rattle.dob_rank.specs.Weights.{others_squares, others_forms, squares_by, others_by, local_in}
-use Rattle.dob_rank.proofs.Blocks.{choose_ten, four_small, few_in_block}
+use Rattle.dob_rank.specs.Weights.{others_squares, others_forms, squares_by, others_by}
+use Rattle.dob_rank.proofs.Blocks.{four_small, few_in_block, HasDigits-numbers}
 use Rattle.dob_rank.proofs.DigitParts.{AreFewOnBoard-digits}
 use Rattle.dob_rank.proofs.Lions.{lions_layers, lions_of-below}
 use Rattle.dob_rank.proofs.LionBoards.{chicks_settled}
@@ -26,6 +26,7 @@ use Rattle.dob_rank.proofs.RunMarks.{marks_agree, marks_from}
 use Rattle.dob_rank.proofs.RunCounts.{IsSpotIn, is_form, present_before}
 use Rattle.dob_rank.proofs.FamilyRuns.{ob_of, factor_out, others_forms-some, others_squares-some, run_size-parts}
 use Rattle.dob_rank.proofs.FamilyRanks.{before_place, present_at, own_place, local_parts, squares_number, others_number}
+use Rattle.dob_rank.proofs.PlaceParts.{others_squares_are, others_forms_are}
 use Rattle.dob_rank.proofs.FarSpots.{forms_small}
 use Rattle.dob_rank.proofs.FamilyMarks.{all_marked}
 use Rattle.dob_rank.proofs.Present.{there}
@@ -106,6 +107,64 @@ parts_of set block last n r a ob within ob_is below n_is r_is few a_is =
   where
     four_some : 0 < 4
     four_some = omega arith
+
+-- the same of the numbers that the code finds
+pub record AreUptoParts (ob : List ℕ) (last n r a : ℕ) : Type 0 where
+  pub squares_are : n ≡ others_squares ob
+  pub few_squares : n ≤ 2025
+  pub forms_are : r ≡ others_forms ob
+  pub few_others : r ≤ 16
+  pub some_others : 0 < r
+  pub all_are : a ≡ 4 ^ slice_index ob 0 * r
+  pub few : AreFewOnBoard ob
+  pub parts : ArePartsOf ob last n a
+
+pub upto_parts : (set : PieceSet) (block last : ℕ) (ob choices : List ℕ) (elephants giraffes chicks : ℕ) → block < product (block_bases set)
+    → ob ≡ digits_of (block_bases set) block → last < run_size set block → choices ≡ square_bases ob → elephants ≡ 2 ^ slice_index ob 1
+    → giraffes ≡ 2 ^ slice_index ob 2 → chicks ≡ 4 ^ slice_index ob 0
+    → AreUptoParts ob last (get_or choices 1 0 * get_or choices 2 0) (elephants * giraffes) (chicks * (elephants * giraffes))
+upto_parts set block last ob choices elephants giraffes chicks within ob_is below choices_are e g h =
+    let few = AreFewOnBoard-digits set ob (HasDigits-numbers set block ob within ob_is) in
+    let of_squares = others_squares_are ob [] choices few choices_are in
+    let of_forms = others_forms_are ob [] elephants giraffes few e g in
+    let few_others : elephants * giraffes ≤ 16 = subst (λ (x : ℕ). x ≤ 16) (sym of_forms.count_is) of_forms.count_few in
+    let all : chicks * (elephants * giraffes) ≡ 4 ^ slice_index ob 0 * (elephants * giraffes) = ap (λ (x : ℕ). x * (elephants * giraffes)) h in
+    record {
+      squares_are = of_squares.count_is;
+      few_squares = subst (λ (x : ℕ). x ≤ 2025) (sym of_squares.count_is) of_squares.count_few;
+      forms_are = of_forms.count_is;
+      few_others = few_others;
+      some_others = subst (λ (x : ℕ). 0 < x) (sym of_forms.count_is) (others_forms-some ob);
+      all_are = all;
+      few = few;
+      parts = parts_of set block last (get_or choices 1 0 * get_or choices 2 0) (elephants * giraffes) (chicks * (elephants * giraffes)) ob within ob_is below
+          of_squares.count_is of_forms.count_is few_others all;
+    }
+
+-- and what it makes of them is small
+pub record AreUptoSmall (n q r s w : ℕ) : Type 0 where
+  pub before : s * n ≤ 582 * 2025
+  pub own : q * w ≤ 2025 * 582
+  pub all : (s * n + q * w) * r ≤ 2 ^ 27
+
+pub upto_small : (n q r s w : ℕ) → n ≤ 2025 → q < n → r ≤ 16 → s ≤ 582 → w ≤ 582 → AreUptoSmall n q r s w
+upto_small n q r s w n_few low r_few s_few w_few =
+    let before : s * n ≤ 582 * 2025 = mul-le-mul s_few n_few in
+    let own : q * w ≤ 2025 * 582 = mul-le-mul (less q n n_few low) w_few in
+    let all : (s * n + q * w) * r ≤ (582 * 2025 + 2025 * 582) * 16 = mul-le-mul (both (s * n) (q * w) before own) r_few in
+    record { before = before; own = own; all = omega (arith, all) }
+  where
+    less : (q n : ℕ) → n ≤ 2025 → q < n → q ≤ 2025
+    less q n h k = omega (arith, h, k)
+
+    both : (a b : ℕ) → a ≤ 582 * 2025 → b ≤ 2025 * 582 → a + b ≤ 582 * 2025 + 2025 * 582
+    both a b h k = omega (arith, h, k)
+
+pub sums : (s n q w x y : ℕ) → s ≡ x → w ≡ y → s * n + q * w ≡ x * n + q * y
+sums s n q w x y e f = ap (λ (z : ℕ). z * n + q * w) e ∙ ap (λ (z : ℕ). x * n + q * z) f
+
+pub at_most : (a b : ℕ) → a < b → a ≤ b
+at_most a b h = omega (arith, h)
 
 -- ---- the count up to a place
 

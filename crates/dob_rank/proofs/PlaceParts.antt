@@ -4,7 +4,8 @@ use Rattle.std.proofs.Math.Nat.{mul-le-mul}
 use Rattle.dob_pieces.specs.declared.profile.Profile.TheVariants.{B}
 use Rattle.dob_rank.specs.Numbers.{product, number_of, choose, free_squares}
 use Rattle.dob_rank.specs.Runs.{AreFewOnBoard, square_bases}
-use Rattle.dob_rank.specs.Weights.{others_squares, others_forms, squares_by, others_by, hand_size, lions_before, forms_before, choice_weight, place_in, local_in}
+use Rattle.dob_rank.specs.Weights.{others_squares, others_forms, squares_by, others_by, hand_size, lions_before, forms_before, choice_weight, place_in}
+use Rattle.dob_rank.specs.FamilyRuns.{local_in}
 use Rattle.dob_rank.proofs.Blocks.{product-at_most, choose-small, two_small, most_choices}
 
 two_digits : (b c x y : ℕ) → x * c + y ≡ number_of (b ∷ c ∷ []) (x ∷ y ∷ [])

@@ -1,12 +1,14 @@
 -- The positions of a family in a run of its set, numbered among themselves.
-use Rattle.std.specs.Prelude.{◌≡◌, ℕ, ◌+◌, ◌<◌, Bool, true}
+use Rattle.std.specs.Prelude.{◌≡◌, ℕ, ◌+◌, ◌*◌, ◌<◌, Bool, true, List, slice_index}
 use Rattle.dob_pieces.specs.declared.profile.Family.{Family}
+use Rattle.dob_pieces.specs.declared.profile.Profile.{Profile}
 use Rattle.dob_rank.specs.Numbers.{product, block_bases}
 use Rattle.dob_rank.specs.Marks.{marks_below}
 use Rattle.dob_rank.specs.ClassRows.{marked_place}
 use Rattle.dob_rank.specs.Families.{is_present, is_marked}
 use Rattle.dob_rank.specs.Runs.{runs_in, run_size, run_start, IsInRun}
 use Rattle.dob_rank.specs.Stretches.{local_marks}
+use Rattle.dob_rank.specs.Weights.{choice_weight, forms_before, others_squares, others_forms, squares_by, others_by}
 
 -- a position of the family stands at that place of the run
 abbrev pub is_there : Family → ℕ → ℕ → ℕ → Bool
@@ -40,3 +42,10 @@ pub record IsNumbered (family : Family) (block run number place : ℕ) : Type 0 
   pub in_run : IsInRun family.set block run place
   pub there : is_there family block run place ≡ true
   pub number_is : marks_below (is_there family block run) place ≡ number
+
+-- how many positions of a run of those lions stand before the one of those digits and of so many allowed forms of the chicks before
+unfoldable pub local_in : Profile → List ℕ → List ℕ → ℕ → ℕ → ℕ
+local_in profile ob ds lions forms =
+    let i = slice_index ob 0 in
+    let c = slice_index ds 5 in
+    (forms_before profile lions i c * others_squares ob + (squares_by ob ds * choice_weight profile lions i c + forms)) * others_forms ob + others_by ob ds

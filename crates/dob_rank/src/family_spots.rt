@@ -6,11 +6,11 @@ ghost use Rattle.dob_pieces.specs.declared.profile.Profile.TheVariants.{B};
 ghost use Rattle.dob_rank.specs.BoardMasks.{AreMasks};
 ghost use Rattle.dob_rank.specs.Order.{IsPositionOf};
 ghost use Rattle.dob_rank.specs.Families.{family_of, IsPositionIn};
-ghost use Rattle.dob_rank.specs.FamilyRuns.{is_there};
+ghost use Rattle.dob_rank.specs.FamilyRuns.{is_there, local_in};
 ghost use Rattle.dob_rank.specs.Marks.{marks_below};
 ghost use Rattle.dob_rank.specs.Numbers.{product, block_bases, block_of, choose, free_squares};
 ghost use Rattle.dob_rank.specs.Runs.{AreFewOnBoard, runs_in, run_size, run_of, local_of};
-ghost use Rattle.dob_rank.specs.Weights.{squares_by, others_by, others_squares, others_forms, local_in};
+ghost use Rattle.dob_rank.specs.Weights.{squares_by, others_by, others_squares, others_forms};
 
 use crate::block::{self, DIGITS, EachKind};
 use crate::family_ranks::{add_product, allowed_forms, weight_of};
