@@ -17,10 +17,10 @@ use Rattle.dob_rank.specs.Stretches.{local_marks}
 use Rattle.dob_rank.specs.Weights.{may_have, are_allowed}
 use Rattle.dob_rank.specs.FamilyRuns.{is_there, run_size_in, place_of_number, local_marks_in, classes_before, IsInRunOf, IsNumbered}
 use Rattle.dob_rank.proofs.Marks.{marked-first_of}
-use Rattle.dob_rank.proofs.Words.{marks_below_more, marks_below_none}
+use Rattle.dob_rank.proofs.Words.{marks_below_more, marks_below_none, marks_below-le, marks_below-up}
 use Rattle.dob_rank.proofs.ClassNumbers.{marks_below-rises, marks_below-same}
 use Rattle.dob_rank.proofs.Representatives.{IsPlaceOf, place_found}
-use Rattle.dob_rank.proofs.RunPlaces.{marked_first, marked_later, spot_there, run_start-is, place_in_run}
+use Rattle.dob_rank.proofs.RunPlaces.{marked_first, marked_later, spot_there, run_start-is, place_in_run, run_size-small}
 use Rattle.dob_rank.proofs.MixedRuns.{marks_by_lions}
 use Rattle.dob_rank.proofs.RunMarks.{marks_agree, marks_from, lions_run, run_start_next}
 use Rattle.dob_rank.proofs.BlockTables.{place_below_size}
@@ -241,3 +241,61 @@ number_of_position family s p =
       there = ap (is_present family) spot.rank_is ∙ present family s p;
       number_is = refl;
     }
+
+-- ---- stretches
+
+pub run_size_in-small : (family : Family) (block run : ℕ) → block < product (block_bases family.set) → run_size_in family block run ≤ 2 ^ 36
+run_size_in-small family block run within =
+    let few = marks_below-le (is_there family block run) (run_size family.set block) in
+    let small = run_size-small family.set block within in
+    omega (arith, few, small)
+
+-- marks below a place are no more than those below a later one
+pub marks_below-upto : (mark : ℕ → Bool) (m n : ℕ) → m ≤ n → marks_below mark m ≤ marks_below mark n
+marks_below-upto mark m n upto =
+    let up = marks_below-up mark m (n - m) in
+    let end : marks_below mark (m + (n - m)) ≡ marks_below mark n = ap (marks_below mark) (let e : m + (n - m) ≡ n = omega (arith, upto) in e) in
+    omega (arith, up, end)
+
+-- the positions of the family on the places from one on up to another
+pub record IsStretchIn (family : Family) (block run start next : ℕ) (on : Bool) : Type 0 where
+  pub further : start ≤ next
+  pub within : next ≤ run_size_in family block run
+  pub same : (number : ℕ) → start ≤ number → number < next → local_marks_in family block run number ≡ on
+
+pub stretch_in : (family : Family) (block run place end start next : ℕ) (on : Bool) → block < product (block_bases family.set)
+    → run < runs_in family.set block → end ≤ run_size family.set block → start ≡ marks_below (is_there family block run) place
+    → next ≡ marks_below (is_there family block run) end → place < end
+    → ((k : ℕ) → place ≤ k → k < end → local_marks family.set block run k ≡ on) → IsStretchIn family block run start next on
+stretch_in family block run place end start next on within below upto start_is next_is some same = record {
+  further = (let rise = marks_below-upto (is_there family block run) place end (omega (arith, some)) in omega (arith, rise, start_is, next_is));
+  within = last;
+  same = λ number low high.
+      (let at = numbered family block run number (record { block_below = within; run_below = below; number_below = omega (arith, high, last) }) in
+      same (place_of_number family block run number) (from number low at) (before number high at));
+}
+  where
+    last : next ≤ run_size_in family block run
+    last = (let rise = marks_below-upto (is_there family block run) end (run_size family.set block) upto in omega (arith, rise, next_is))
+
+    from : (number : ℕ) → start ≤ number → IsNumbered family block run number (place_of_number family block run number)
+        → place ≤ place_of_number family block run number
+    from number low at = elim (cases_lt (place_of_number family block run number) place) [
+      | inl earlier ↦ absurd (let rise = marks_below-rises (is_there family block run) (place_of_number family block run number) place at.there earlier in
+          let number_is = at.number_is in omega (arith, rise, number_is, low, start_is))
+      | inr late ↦ late
+    ]
+
+    before : (number : ℕ) → number < next → IsNumbered family block run number (place_of_number family block run number)
+        → place_of_number family block run number < end
+    before number high at = elim (cases_lt (place_of_number family block run number) end) [
+      | inl early ↦ early
+      | inr late ↦ absurd (let rise = marks_below-upto (is_there family block run) end (place_of_number family block run number) late in
+          let number_is = at.number_is in omega (arith, rise, number_is, high, next_is))
+    ]
+
+-- up to the end of the run
+pub all_places : (family : Family) (block run place start size : ℕ) → start ≡ marks_below (is_there family block run) place → size ≡ run_size family.set block
+    → place ≤ size → size ≤ place → start ≡ run_size_in family block run
+all_places family block run place start size start_is size_is upto end =
+    start_is ∙ ap (marks_below (is_there family block run)) (let e : place ≡ run_size family.set block = omega (arith, size_is, upto, end) in e)

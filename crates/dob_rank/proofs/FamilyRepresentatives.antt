@@ -15,8 +15,8 @@ use Rattle.dob_rank.proofs.Counted.{fewer, one_count}
 use Rattle.dob_rank.proofs.Marks.{numbering}
 use Rattle.dob_rank.proofs.Representatives.{not_before_itself, has_representative, one_of_either, same_representative, IsPlaceOf, place_found}
 use Rattle.dob_rank.proofs.Present.{present, HasRankIn-rank_in, HasClassesIn-classes_in, HasClassIn-marked, represents}
-use Rattle.dob_rank.proofs.Words.{marks_below-up}
 use Rattle.dob_rank.proofs.ClassNumbers.{marks_below-rises}
+use Rattle.dob_rank.proofs.FamilyMarks.{marks_below-upto}
 use Rattle.dob_rank.proofs.FamilyNumbers.{representative_allowed, IsPositionIn-mirrored}
 
 -- ---- a position and its mirror image
@@ -82,13 +82,6 @@ one_of_class_in family p q class is_p is_q at_p at_q = elim (cases_order (rank_o
 pub one_number_in : (family : Family) (p q : Setup) (a b : ℕ) → HasClassIn family p a → HasClassIn family q b → q ≡ p → a ≡ b
 one_number_in family p q a b at_p at_q same =
     one_count (λ s. IsRepresentativeIn family s × Before s p) a b at_p (subst (λ s. HasClassIn family s b) same at_q)
-
--- marks below a place are no more than those below a later one
-marks_below-upto : (mark : ℕ → Bool) (m n : ℕ) → m ≤ n → marks_below mark m ≤ marks_below mark n
-marks_below-upto mark m n upto =
-    let up = marks_below-up mark m (n - m) in
-    let end : marks_below mark (m + (n - m)) ≡ marks_below mark n = ap (marks_below mark) (let e : m + (n - m) ≡ n = omega (arith, upto) in e) in
-    omega (arith, up, end)
 
 -- ---- laws
 

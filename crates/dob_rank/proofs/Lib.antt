@@ -65,5 +65,8 @@ pub mod FarCounts  -- how many positions of profile B a run has up to a place
 pub mod FarUnranks  -- the position of a rank of profile B
 pub mod FamilyNumbers  -- class numbers of a family are marks below
 pub mod FamilyRepresentatives  -- one representative and one number a class of a family
+pub mod FamilyTables  -- the tables of runs of a family grow and are read
+pub mod FamilyBlocks  -- the blocks of a family
+pub mod FamilySums  -- the classes of a block of a family as a sum over runs
 -- Long lists.
 pub mod Segmentation  -- lists in segments

@@ -110,12 +110,7 @@ impl FamilyBlock {
         ensures class { marks_below (is_marked self.now.family) (run_start self.now.family.set self.now.number result.run + result.local) ≡ class }
     {
         let run = self.run_at(class);
-        let left = class - self.before_run(run);
-        let number = match self.kind_of(run) {
-            RunKind::First => left,
-            RunKind::Mixed => self.mixed_at(run, left),
-            RunKind::Later => unreachable!("such a run has no representative"),
-        };
+        let number = self.number_at(run, class - self.before_run(run));
         Spot {
             run,
             local: self.place_at(run, number),
@@ -159,17 +154,20 @@ impl FamilyBlock {
         self.runs[run as usize].kind
     }
 
-    /// The number of the representative before which there are so many in its run, whose lions both stand on column b.
-    fn mixed_at(&self, run: u64, left: u64) -> u64
+    /// The number of the representative before which there are so many in its run.
+    fn number_at(&self, run: u64, left: u64) -> u64
         requires run { run < runs_in self.now.family.set self.now.number }
-        requires kind { run_kind (run % LIONS) ≡ Mixed }
         requires left { marks_below (is_marked self.now.family) (run_start self.now.family.set self.now.number run) + left
             < marks_below (is_marked self.now.family) (run_start self.now.family.set self.now.number (run + 1)) }
         ensures number { result < run_size_in self.now.family self.now.number run }
         ensures mark { local_marks_in self.now.family self.now.number run result ≡ true }
         ensures left { marks_below (local_marks_in self.now.family self.now.number run) result ≡ left }
     {
-        self.mixed[self.runs[run as usize].table].number_at(left)
+        match self.kind_of(run) {
+            RunKind::First => left,
+            RunKind::Mixed => self.mixed[self.runs[run as usize].table].number_at(left),
+            RunKind::Later => unreachable!("such a run has no representative"),
+        }
     }
 
     /// The place in its run of the position of that number.

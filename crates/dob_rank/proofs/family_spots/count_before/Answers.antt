@@ -11,12 +11,12 @@ use Rattle.dob_rank.proofs.family_spots.count_before.Goals as goal
 pub returns-in-A : goal.returns-in-A
 returns-in-A c = sym (all_there c.args.family c.args.block c.args.run c.args.place c.in-A.is)
 
-pub returns-in-B-then-place-0 : goal.returns-in-B-then-place-0
-returns-in-B-then-place-0 c =
-    sym (ap (marks_below (is_there c.args.family c.args.block c.args.run)) c.if-place-0.true ∙ marks_below_none (is_there c.args.family c.args.block c.args.run))
+pub returns-then-place-eq0 : goal.returns-then-place-eq0
+returns-then-place-eq0 c =
+    sym (ap (marks_below (is_there c.args.family c.args.block c.args.run)) c.if-place-eq0.true ∙ marks_below_none (is_there c.args.family c.args.block c.args.run))
 
-pub returns-in-B-else-place-0 : goal.returns-in-B-else-place-0
-returns-in-B-else-place-0 c =
+pub returns-else-place-eq0 : goal.returns-else-place-eq0
+returns-else-place-eq0 c =
     c.count_upto.ensures
-    ∙ ap (λ (n : ℕ). marks_below (is_there (family_of c.args.family.set _) c.args.block c.args.run) n) (one_before c.args.place c.if-place-0.false)
+    ∙ ap (λ (n : ℕ). marks_below (is_there (family_of c.args.family.set _) c.args.block c.args.run) n) (one_before c.args.place c.if-place-eq0.false)
     ∙ ap (λ (p : Profile). marks_below (is_there (family_of c.args.family.set p) c.args.block c.args.run) c.args.place) (sym c.in-B.is)
