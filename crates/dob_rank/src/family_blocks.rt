@@ -165,7 +165,10 @@ impl FamilyBlock {
     {
         match self.kind_of(run) {
             RunKind::First => left,
-            RunKind::Mixed => self.mixed[self.runs[run as usize].table].number_at(left),
+            RunKind::Mixed => {
+                let entry = self.runs[run as usize];
+                self.mixed[entry.table].number_at(left)
+            }
             RunKind::Later => unreachable!("such a run has no representative"),
         }
     }

@@ -14,27 +14,27 @@ unreachable-requires c =
     let block = c.args.self.now in
     none_left block.family block.number c.args.run c.args.left block.within c.requires.run (sym c.kind_of.ensures ∙ c.in-Later.is) c.requires.left
 
-pub index-requires : goal.index-requires
-index-requires c = (let block = c.args.self.now in omega (arith, c.requires.run, block.whole))
+pub index-entry-requires : goal.index-entry-requires
+index-entry-requires c = (let block = c.args.self.now in omega (arith, c.requires.run, block.whole))
 
-pub index-2-requires : goal.index-2-requires
-index-2-requires c =
+pub index-requires : goal.index-requires
+index-requires c =
     let block = c.args.self.now in
-    let is = entry_in block c.args.run c.index.result.now c.requires.run c.index.ensures in
+    let is = entry_in block c.args.run c.index-entry.result.now c.requires.run c.index-entry.ensures in
     let inside = (is.table_is (sym c.kind_of.ensures ∙ c.in-Mixed.is)).0 in
     omega (arith, inside, block.mixed.ok)
 
 pub number_at-requires : goal.number_at-requires
 number_at-requires c =
     let block = c.args.self.now in
-    let is = entry_in block c.args.run c.index.result.now c.requires.run c.index.ensures in
-    table_left block.family block.number c.args.run c.args.left c.index.result.now.table block.mixed.items c.index-2.result.now block.within c.requires.run is.table_is
-    (sym c.kind_of.ensures ∙ c.in-Mixed.is) c.index-2.ensures c.requires.left
+    let is = entry_in block c.args.run c.index-entry.result.now c.requires.run c.index-entry.ensures in
+    table_left block.family block.number c.args.run c.args.left c.index-entry.result.now.table block.mixed.items c.index.result.now block.within c.requires.run is.table_is
+    (sym c.kind_of.ensures ∙ c.in-Mixed.is) c.index.ensures c.requires.left
 
 pub returns-in-Mixed : goal.returns-in-Mixed
 returns-in-Mixed c =
     let block = c.args.self.now in
-    let is = entry_in block c.args.run c.index.result.now c.requires.run c.index.ensures in
-    let found = mixed_left_in block.family block.number c.args.run c.args.left c.number_at.result c.index.result.now.table block.mixed.items c.index-2.result.now
-    block.within c.requires.run is.table_is (sym c.kind_of.ensures ∙ c.in-Mixed.is) c.index-2.ensures c.number_at.ensures.number c.number_at.ensures.mark c.number_at.ensures.marks in
+    let is = entry_in block c.args.run c.index-entry.result.now c.requires.run c.index-entry.ensures in
+    let found = mixed_left_in block.family block.number c.args.run c.args.left c.number_at.result c.index-entry.result.now.table block.mixed.items c.index.result.now
+    block.within c.requires.run is.table_is (sym c.kind_of.ensures ∙ c.in-Mixed.is) c.index.ensures c.number_at.ensures.number c.number_at.ensures.mark c.number_at.ensures.marks in
     record { number = found.number_below; mark = found.mark_is; left = found.left_is }
