@@ -1,6 +1,5 @@
 -- The law, from the one representative of a position.
 use Rattle.dob_rank.proofs.FamilyRepresentatives.{one_class_in as law}
-use Rattle.dob_rank.proofs.FamilyMarks.{number_of_position}
 use Rattle.dob_rank.proofs.laws.one_class_in.Goals as goal
 
 pub returns : goal.returns
