@@ -1,16 +1,15 @@
 -- The blocks of a family: what a block of the list says of the family's positions and classes.
-use Rattle.std.proofs.Common.{◌≡◌, ℕ, ◌+◌, ◌-◌, ◌*◌, ◌%◌, ◌^◌, ◌<◌, ◌≤◌, Bool, List, length, slice_index, slice_index_or, true, [], ◌∷◌, ◌++◌, refl, sym, ap, ◌∙◌}
+use Rattle.std.proofs.Common.{◌≡◌, ℕ, ◌+◌, ◌-◌, ◌*◌, ◌%◌, ◌^◌, ◌<◌, ◌≤◌, List, length, slice_index, slice_index_or, true, [], ◌∷◌, ◌++◌, refl, sym, ap, ◌∙◌}
 use Rattle.std.proofs.Common.{subst, inl, inr, arith}
 use Rattle.std.proofs.lemmas.Bool.{cases_lt}
 use Rattle.std.proofs.lemmas.List.{length_push, get_or_append_left, get_or_push}
-use Rattle.dob_pieces.specs.declared.piece_set.PieceSet.{PieceSet}
 use Rattle.dob_pieces.specs.declared.profile.Family.{Family}
 use Rattle.dob_pieces.specs.declared.profile.Profile.{Profile}
 use Rattle.dob_pieces.specs.declared.profile.Profile.TheVariants.{A, B}
 use Rattle.dob_pieces.specs.declared.setup.Setup.{Setup}
 use Rattle.dob_rank.specs.declared.family_blocks.FamilyBlock.{FamilyBlock}
 use Rattle.dob_rank.specs.Numbers.{product, number_of, digits_of, HasDigits, block_bases, block_of, block_size, start_of, rank_of, size_of}
-use Rattle.dob_rank.specs.Runs.{AreFewOnBoard, run_bases, local_bases, runs_in, run_size, run_start, run_of, local_of, lion_pairs, IsInRun}
+use Rattle.dob_rank.specs.Runs.{AreFewOnBoard, run_bases, local_bases, runs_in, run_size, run_start, run_of, local_of, lion_pairs}
 use Rattle.dob_rank.specs.Marks.{marks_below}
 use Rattle.dob_rank.specs.Families.{family_of, IsPositionIn, is_present, is_marked, classes_in}
 use Rattle.dob_rank.specs.FamilyRuns.{is_there, run_size_in, local_marks_in, classes_before, IsInRunOf, IsNumbered}
@@ -22,11 +21,11 @@ use Rattle.dob_rank.proofs.DigitParts.{AreFewOnBoard-digits}
 use Rattle.dob_rank.proofs.Words.{marks_below_none, marks_below-le}
 use Rattle.dob_rank.proofs.Numbering.{HasBlock, rank_of-block}
 use Rattle.dob_rank.proofs.Found.{made_in_block, run_in_bases, local_in_bases}
-use Rattle.dob_rank.proofs.RunPlaces.{place_in_run, run_start-is, spot_there}
+use Rattle.dob_rank.proofs.RunPlaces.{run_start-is, spot_there}
 use Rattle.dob_rank.proofs.RunMarks.{marks_from, run_start_next, start_small}
 use Rattle.dob_rank.proofs.FamilyRuns.{ob_of, run_present, lions_alike}
 use Rattle.dob_rank.proofs.FamilyNumbers.{IsAtClassIn, at_class_in}
-use Rattle.dob_rank.proofs.FamilyMarks.{numbered, mark_of_number, number_of_position}
+use Rattle.dob_rank.proofs.FamilyMarks.{mark_of_number, number_of_position}
 use Rattle.dob_rank.proofs.FarCounts.{all_there}
 use Rattle.dob_rank.proofs.Present.{represents, there}
 

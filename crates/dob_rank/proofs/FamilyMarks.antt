@@ -5,11 +5,10 @@ use Rattle.std.proofs.lemmas.Bool.{cases_Bool, cases_lt}
 use Rattle.dob_pieces.specs.declared.piece_set.PieceSet.{PieceSet}
 use Rattle.dob_pieces.specs.declared.profile.Family.{Family}
 use Rattle.dob_pieces.specs.declared.setup.Setup.{Setup}
-use Rattle.dob_rank.specs.declared.runs.RunKind.{RunKind}
 use Rattle.dob_rank.specs.declared.runs.RunKind.TheVariants.{First, Later, Mixed}
 use Rattle.dob_rank.specs.declared.layers.Layer.TheVariants.{OwnLion, EnemyLion, Chicks}
 use Rattle.dob_rank.specs.Numbers.{product, digits_of, block_bases, block_of, choose, settle, order, empty_layers, enemy_squares, free_squares, size_of}
-use Rattle.dob_rank.specs.Marks.{one_if, marks_below, marked, is_first}
+use Rattle.dob_rank.specs.Marks.{one_if, marks_below}
 use Rattle.dob_rank.specs.ClassRows.{marked_place}
 use Rattle.dob_rank.specs.Families.{IsPositionIn, is_present, is_marked}
 use Rattle.dob_rank.specs.Runs.{runs_in, run_size, run_start, run_kind, run_of, local_of, lion_pairs, form_bases, IsInRun}
@@ -19,7 +18,7 @@ use Rattle.dob_rank.specs.FamilyRuns.{is_there, run_size_in, place_of_number, lo
 use Rattle.dob_rank.proofs.Marks.{marked-first_of}
 use Rattle.dob_rank.proofs.Words.{marks_below_more, marks_below_none, marks_below-le, marks_below-up}
 use Rattle.dob_rank.proofs.ClassNumbers.{marks_below-rises, marks_below-same}
-use Rattle.dob_rank.proofs.Representatives.{IsPlaceOf, place_found}
+use Rattle.dob_rank.proofs.Representatives.{place_found}
 use Rattle.dob_rank.proofs.RunPlaces.{marked_first, marked_later, spot_there, run_start-is, place_in_run, run_size-small}
 use Rattle.dob_rank.proofs.MixedRuns.{marks_by_lions}
 use Rattle.dob_rank.proofs.RunMarks.{marks_agree, marks_from, lions_run, run_start_next}

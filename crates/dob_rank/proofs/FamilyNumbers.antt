@@ -1,5 +1,5 @@
 -- Class numbers of a family: a position is in the class of its class number, and classes and their numbers answer each other.
-use Rattle.std.proofs.Common.{◌≡◌, ℕ, zero, suc, ◌+◌, ◌<◌, ◌≤◌, ◌⊎◌, min, Bool, ◌&&◌, true, false, refl, ap, sym, ◌∙◌, subst, inl, inr, arith}
+use Rattle.std.proofs.Common.{◌≡◌, ℕ, zero, suc, ◌<◌, ◌≤◌, ◌⊎◌, min, Bool, ◌&&◌, true, false, refl, ap, sym, ◌∙◌, subst, inl, inr, arith}
 use Rattle.std.proofs.lemmas.Bool.{cases_lt, both_ways}
 use Rattle.std.proofs.Math.Nat.{min-eq_left, min-eq_right, min_comm}
 use Rattle.dob_pieces.specs.declared.profile.Family.{Family}

@@ -1,6 +1,6 @@
 -- Each position of a family has one representative and one class number, and numbers stand in the order of the representatives: as those of a set
 -- (proofs/Representatives).
-use Rattle.std.proofs.Common.{◌≡◌, ℕ, ◌+◌, ◌-◌, ◌<◌, ◌≤◌, ◌↔◌, Bool, inl, inr, refl, sym, ap, ◌∙◌, subst, arith}
+use Rattle.std.proofs.Common.{◌≡◌, ℕ, ◌<◌, ◌↔◌, inl, inr, refl, sym, ap, ◌∙◌, subst, arith}
 use Rattle.std.proofs.lemmas.Bool.{cases_lt, cases_order}
 use Rattle.dob_pieces.specs.declared.profile.Family.{Family}
 use Rattle.dob_pieces.specs.declared.setup.Setup.{Setup}
@@ -17,7 +17,7 @@ use Rattle.dob_rank.proofs.Representatives.{not_before_itself, has_representativ
 use Rattle.dob_rank.proofs.Present.{present, HasRankIn-rank_in, HasClassesIn-classes_in, HasClassIn-marked, represents}
 use Rattle.dob_rank.proofs.ClassNumbers.{marks_below-rises}
 use Rattle.dob_rank.proofs.FamilyMarks.{marks_below-upto}
-use Rattle.dob_rank.proofs.FamilyNumbers.{representative_allowed, IsPositionIn-mirrored}
+use Rattle.dob_rank.proofs.FamilyNumbers.{IsPositionIn-mirrored}
 
 -- ---- a position and its mirror image
 
@@ -101,7 +101,7 @@ ranks_keep_order_in family p q a b is_p is_q at_p at_q =
     let same_p : a ≡ rank_in family p = one_count (λ s. IsPositionIn family s × Before s p) a (rank_in family p) at_p (HasRankIn-rank_in family p is_p) in
     let same_q : b ≡ rank_in family q = one_count (λ s. IsPositionIn family s × Before s q) b (rank_in family q) at_q (HasRankIn-rank_in family q is_q) in (
       λ before. (let rises = marks_below-rises (is_present family) (rank_of family.set p) (rank_of family.set q) (present family p is_p)
-      (rank_of-rises family.set p q is_p.of_set is_q.of_set before) in omega (arith, same_p, same_q, rises)),
+          (rank_of-rises family.set p q is_p.of_set is_q.of_set before) in omega (arith, same_p, same_q, rises)),
       λ below. elim (cases_lt (rank_of family.set p) (rank_of family.set q)) [
         | inl earlier ↦ Before-from_rank family.set p q is_p.of_set is_q.of_set earlier
         | inr upto ↦ absurd (let less = marks_below-upto (is_present family) (rank_of family.set q) (rank_of family.set p) upto in

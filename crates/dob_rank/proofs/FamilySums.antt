@@ -1,5 +1,5 @@
 -- The classes of a block of a family as a sum over the runs of one hand.
-use Rattle.std.proofs.Common.{◌≡◌, ℕ, zero, suc, ◌+◌, ◌*◌, ◌/◌, ◌%◌, ◌^◌, ◌<◌, ◌≤◌, refl, sym, ap, ◌∙◌, subst, arith}
+use Rattle.std.proofs.Common.{◌≡◌, ℕ, zero, suc, ◌+◌, ◌*◌, ◌/◌, ◌%◌, ◌<◌, ◌≤◌, refl, sym, ap, ◌∙◌, subst, arith}
 use Rattle.std.proofs.lemmas.Nat.{mod-mul-add}
 use Rattle.dob_pieces.specs.declared.profile.Family.{Family}
 use Rattle.dob_rank.specs.declared.runs.RunKind.{RunKind}
@@ -7,7 +7,7 @@ use Rattle.dob_rank.specs.declared.runs.RunKind.TheVariants.{First, Later, Mixed
 use Rattle.dob_rank.specs.Numbers.{product, sum_below, block_bases, block_size, start_of}
 use Rattle.dob_rank.specs.Marks.{marks_below}
 use Rattle.dob_rank.specs.Families.{is_marked}
-use Rattle.dob_rank.specs.Runs.{runs_in, run_size, run_start, run_kind, lion_pairs, IsInRun}
+use Rattle.dob_rank.specs.Runs.{runs_in, run_size, run_start, run_kind, lion_pairs}
 use Rattle.dob_rank.specs.FamilyRuns.{is_there, run_size_in, local_marks_in}
 use Rattle.dob_rank.proofs.Sums.{sum_same, sum_blocks, sum_alike}
 use Rattle.dob_rank.proofs.MixedRadix.{digit_below}

@@ -1,5 +1,5 @@
 -- How many positions of profile B a run has up to a place, and before a position: by its choice of the chicks' squares, the others' squares and forms.
-use Rattle.std.proofs.Common.{◌≡◌, ℕ, ◌+◌, ◌-◌, ◌*◌, ◌/◌, ◌%◌, ◌^◌, ◌<◌, ◌≤◌, Bool, true, false, List, [], get_or, slice_index, refl, sym, ap, ◌∙◌, subst, arith}
+use Rattle.std.proofs.Common.{◌≡◌, ℕ, ◌+◌, ◌-◌, ◌*◌, ◌/◌, ◌%◌, ◌^◌, ◌<◌, ◌≤◌, Bool, true, false, List, [], get_or, slice_index, sym, ap, ◌∙◌, subst, arith}
 use Rattle.std.proofs.lemmas.Nat.{div-mul-add, div_below, mod_below, div-add-mod'}
 use Rattle.std.proofs.Math.Nat.{mul_assoc, add-mul, mul-pos, mul-le-mul, mul-le-mul_right}
 use Rattle.dob_pieces.specs.declared.piece_set.PieceSet.{PieceSet}
@@ -9,22 +9,21 @@ use Rattle.dob_pieces.specs.declared.setup.Setup.{Setup}
 use Rattle.dob_rank.specs.declared.layers.Layer.TheVariants.{Chicks}
 use Rattle.dob_rank.specs.Numbers.{product, digits_of, sum_below, choose, settle, order, block_bases, block_of, free_squares, on_board, digits, forms_number}
 use Rattle.dob_rank.specs.Marks.{one_if, marks_below}
-use Rattle.dob_rank.specs.Runs.{AreFewOnBoard, square_bases, runs_in, run_size, run_start, run_of, local_of, lions_of, lion_pairs}
+use Rattle.dob_rank.specs.Runs.{AreFewOnBoard, square_bases, runs_in, run_size, run_start, run_of, local_of, lion_pairs}
 use Rattle.dob_rank.specs.Families.{family_of, IsPositionIn, is_present}
 use Rattle.dob_rank.specs.FamilyRuns.{is_there, local_in}
 use Rattle.dob_rank.specs.Weights.{weight, forms_on, may_have, are_allowed, forms_stand, lions_in, choice_weight, forms_before, allowed_number}
-use Rattle.dob_rank.specs.Weights.{others_squares, others_forms, squares_by, others_by}
+use Rattle.dob_rank.specs.Weights.{others_squares, others_forms}
 use Rattle.dob_rank.proofs.Blocks.{four_small, few_in_block, HasDigits-numbers}
 use Rattle.dob_rank.proofs.DigitParts.{AreFewOnBoard-digits}
-use Rattle.dob_rank.proofs.Lions.{lions_layers, lions_of-below}
+use Rattle.dob_rank.proofs.Lions.{lions_layers}
 use Rattle.dob_rank.proofs.LionBoards.{chicks_settled}
 use Rattle.dob_rank.proofs.FormDigits.{power_positive}
 use Rattle.dob_rank.proofs.Numbering.{on_board-block}
 use Rattle.dob_rank.proofs.RunWeights.{low_alike}
-use Rattle.dob_rank.proofs.RunPlaces.{run_of-lions, hand_of}
 use Rattle.dob_rank.proofs.RunMarks.{marks_agree, marks_from}
 use Rattle.dob_rank.proofs.RunCounts.{IsSpotIn, is_form, present_before}
-use Rattle.dob_rank.proofs.FamilyRuns.{ob_of, factor_out, others_forms-some, others_squares-some, run_size-parts}
+use Rattle.dob_rank.proofs.FamilyRuns.{factor_out, others_forms-some, others_squares-some, run_size-parts}
 use Rattle.dob_rank.proofs.FamilyRanks.{before_place, present_at, own_place, local_parts, squares_number, others_number}
 use Rattle.dob_rank.proofs.PlaceParts.{others_squares_are, others_forms_are}
 use Rattle.dob_rank.proofs.FarSpots.{forms_small}

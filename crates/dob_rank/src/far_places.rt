@@ -177,8 +177,8 @@ pub(crate) fn count_upto(set: PieceSet, block: u64, run: u64, last: u64) -> u64
     let all_forms = block::power(4, chicks) * forms;
     let choice = last / all_forms / others;
     let squares = last / all_forms % others;
-    let before =
-        before_choice(chicks, lions, choice) * others + squares * weight_of(chicks, lions, choice);
+    let before = before_choice(chicks, lions, choice) * others
+        + squares * weight_of(chicks, lions, choice);
     let chosen = chick_squares(chicks, lions, choice);
     before * forms + count_forms_upto(chicks, chosen, forms, last % all_forms)
 }

@@ -1,7 +1,7 @@
 -- Each stretch adds its positions where they are marked.
-use Rattle.std.proofs.Common.{◌≡◌, ◌≤◌, sym, ap, ◌∙◌, arith}
+use Rattle.std.proofs.Common.{sym, ap, ◌∙◌, arith}
 use Rattle.dob_rank.specs.Marks.{marks_below}
-use Rattle.dob_rank.specs.FamilyRuns.{is_there, run_size_in, local_marks_in}
+use Rattle.dob_rank.specs.FamilyRuns.{is_there, local_marks_in}
 use Rattle.dob_rank.proofs.Words.{marks_below-le, marks_below_none}
 use Rattle.dob_rank.proofs.StretchLists.{counted_on, counted_off}
 use Rattle.dob_rank.proofs.FamilyMarks.{run_size_in-small, stretch_in, all_places}

@@ -2,7 +2,7 @@
 use Rattle.std.proofs.Common.{sym, ap, ◌∙◌, arith}
 use Rattle.dob_rank.specs.Runs.{run_kind}
 use Rattle.dob_rank.specs.Marks.{marks_below}
-use Rattle.dob_rank.specs.FamilyRuns.{is_there, run_size_in}
+use Rattle.dob_rank.specs.FamilyRuns.{is_there}
 use Rattle.dob_rank.proofs.RunSums.{lions_there, lions_same}
 use Rattle.dob_rank.proofs.FamilySums.{first_run_in, later_run_in}
 use Rattle.dob_rank.proofs.FamilyMarks.{run_size_in-small}

@@ -1,5 +1,5 @@
 -- The parts are found one by one, and each of them is small.
-use Rattle.std.proofs.Common.{◌≤◌, ◌∙◌, arith}
+use Rattle.std.proofs.Common.{◌∙◌, arith}
 use Rattle.dob_rank.proofs.PlaceParts.{others_squares_are, others_forms_are, few_squares, product_within, local_found}
 use Rattle.dob_rank.proofs.family_spots.far_local.Goals as goal
 

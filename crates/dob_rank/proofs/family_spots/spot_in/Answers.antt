@@ -1,5 +1,5 @@
 -- In profile A a position's number in its run is its place there.
-use Rattle.std.proofs.Common.{◌≡◌, ℕ, sym, ap, ◌∙◌, subst}
+use Rattle.std.proofs.Common.{sym, ap, ◌∙◌, subst}
 use Rattle.dob_pieces.specs.declared.profile.Profile.{Profile}
 use Rattle.dob_pieces.specs.Profiles.{IsAllowed}
 use Rattle.dob_rank.specs.Marks.{marks_below}

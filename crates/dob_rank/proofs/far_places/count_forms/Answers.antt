@@ -1,7 +1,6 @@
 -- One more number is of forms that the chicks may have, or none.
-use Rattle.std.proofs.Common.{sym, ◌∙◌, subst, arith}
+use Rattle.std.proofs.Common.{sym, ◌∙◌, arith}
 use Rattle.dob_rank.specs.Weights.{forms_stand}
-use Rattle.dob_rank.specs.Marks.{marks_below}
 use Rattle.dob_rank.proofs.Words.{marks_below_none}
 use Rattle.dob_rank.proofs.FarSpots.{one_counted, none_counted}
 use Rattle.dob_rank.proofs.far_places.count_forms.Goals as goal

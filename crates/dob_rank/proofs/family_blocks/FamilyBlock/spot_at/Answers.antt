@@ -1,5 +1,4 @@
 -- The representative of that number in its run.
-use Rattle.std.proofs.Common.{◌+◌, sym, ◌∙◌, arith}
 use Rattle.dob_rank.proofs.FamilyBlocks.{representative_at, left_in_run}
 use Rattle.dob_rank.proofs.family_blocks.FamilyBlock.spot_at.Goals as goal
 

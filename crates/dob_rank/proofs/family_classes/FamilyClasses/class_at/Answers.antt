@@ -1,5 +1,5 @@
 -- The position at the class's spot is its representative.
-use Rattle.std.proofs.Common.{sym, subst, arith}
+use Rattle.std.proofs.Common.{arith}
 use Rattle.dob_rank.proofs.FamilyBlocks.{classes_read_in, spot_in_block, at_spot_in}
 use Rattle.dob_rank.proofs.FamilyNumbers.{IsAtClassIn}
 use Rattle.dob_rank.proofs.family_classes.FamilyClasses.class_at.Goals as goal

@@ -1,5 +1,5 @@
 -- Each stretch is appended or goes on with the last one.
-use Rattle.std.proofs.Common.{◌≡◌, ◌≤◌, sym, ap, ◌∙◌, subst, arith}
+use Rattle.std.proofs.Common.{◌≡◌, sym, ap, ◌∙◌, subst, arith}
 use Rattle.dob_rank.specs.Marks.{marks_below}
 use Rattle.dob_rank.specs.Stretches.{AreStretches}
 use Rattle.dob_rank.specs.FamilyRuns.{is_there, run_size_in, local_marks_in}
