@@ -1,17 +1,29 @@
--- The class number of a position of a family is that of its class.
-use Rattle.std.proofs.Common.{ap, sym, subst, inl, inr}
+-- Class numbers of a family: a position is in the class of its class number, and classes and their numbers answer each other.
+use Rattle.std.proofs.Common.{◌≡◌, ℕ, zero, suc, ◌<◌, ◌≤◌, ◌⊎◌, min, Bool, ◌&&◌, true, false, refl, ap, sym, ◌∙◌, subst, inl, inr, arith}
+use Rattle.std.proofs.lemmas.Bool.{cases_lt, both_ways}
+use Rattle.std.proofs.Math.Nat.{min-eq_left, min-eq_right, min_comm}
 use Rattle.dob_pieces.specs.declared.profile.Family.{Family}
+use Rattle.dob_pieces.specs.declared.profile.Profile.TheVariants.{A}
 use Rattle.dob_pieces.specs.declared.setup.Setup.{Setup}
 use Rattle.dob_pieces.specs.Profiles.{IsAllowed}
+use Rattle.dob_pieces.specs.Setups.{mirrored}
 use Rattle.dob_pieces.proofs.Allowed.{IsAllowed-mirrored}
-use Rattle.dob_rank.specs.Order.{IsEither}
-use Rattle.dob_rank.specs.Marks.{marks_below}
-use Rattle.dob_rank.specs.Families.{IsPositionIn, HasClassIn, IsInClassIn, is_marked, class_number_in}
-use Rattle.dob_rank.proofs.Present.{HasClassIn-marked}
-use Rattle.dob_rank.proofs.ClassNumbers.{earlier}
+use Rattle.dob_pieces.proofs.Symmetries.{mirrored-mirrored}
+use Rattle.dob_rank.specs.Order.{IsEither, IsFirstOfTwo, RepresentativeOf}
+use Rattle.dob_rank.specs.Numbers.{size_of, rank_of}
+use Rattle.dob_rank.specs.Marks.{one_if, marks_below, is_first, classes_of}
+use Rattle.dob_rank.specs.Families.{IsPositionIn, IsRepresentativeIn, HasClassIn, IsInClassIn, is_present, is_marked, size_in, classes_in, class_number_in}
+use Rattle.dob_rank.proofs.Numbering.{rank_of-below, rank_of-same}
+use Rattle.dob_rank.proofs.Found.{IsPositionOf-mirrored}
+use Rattle.dob_rank.proofs.Present.{HasClassIn-marked, marked, represents, there}
+use Rattle.dob_rank.proofs.Marks.{marks_below-marked}
+use Rattle.dob_rank.proofs.Words.{marks_below_more, marks_below_none}
+use Rattle.dob_rank.proofs.RunMarks.{marks_agree}
+use Rattle.dob_rank.proofs.ClassNumbers.{earlier, marks_below-rises, marks_below-same}
+use Rattle.dob_rank.proofs.Representatives.{first_by_rank, rank_of_first}
 
 -- the mirror image is allowed as the position is
-representative_allowed : (family : Family) (s other : Setup) → IsPositionIn family s → IsEither s other → IsAllowed family.profile other
+pub representative_allowed : (family : Family) (s other : Setup) → IsPositionIn family s → IsEither s other → IsAllowed family.profile other
 representative_allowed family s other p (inl same) = subst (IsAllowed family.profile) (sym same) p.allowed
 representative_allowed family s other p (inr same) =
     subst (IsAllowed family.profile) (sym same) (IsAllowed-mirrored family.profile s p.of_set.legal.squares p.allowed)
@@ -27,3 +39,158 @@ IsInClassIn-class_number_in family s p =
       before = subst (HasClassIn family e.0) (sym (ap (marks_below (is_marked family)) e.1.rank_is))
           (HasClassIn-marked family e.0 (record { of_set = e.1.position; allowed = representative_allowed family s e.0 p e.1.stands.0 }));
     }
+
+-- ---- as those of a set (proofs/ClassNumbers), by the marks of the family
+
+-- the position of the lower rank
+pub record IsEarlierIn (family : Family) (s representative : Setup) : Type 0 where
+  pub stands : RepresentativeOf s representative
+  pub position : IsPositionIn family representative
+  pub number_is : class_number_in family s ≡ marks_below (is_marked family) (rank_of family.set representative)
+
+-- the position is the representative of the class of that number
+pub record IsAtClassIn (family : Family) (s : Setup) (class : ℕ) : Type 0 where
+  pub representative : IsRepresentativeIn family s
+  pub before : HasClassIn family s class
+  pub number_is : class_number_in family s ≡ class
+
+pub IsPositionIn-mirrored : (family : Family) (s : Setup) → IsPositionIn family s → IsPositionIn family (mirrored s)
+IsPositionIn-mirrored family s p = record {
+  of_set = IsPositionOf-mirrored family.set s p.of_set;
+  allowed = IsAllowed-mirrored family.profile s p.of_set.legal.squares p.allowed;
+}
+
+pub class_number_in-is : (family : Family) (s : Setup)
+    → class_number_in family s ≡ marks_below (is_marked family) (min (rank_of family.set s) (rank_of family.set (mirrored s)))
+unfolding class_number_in
+class_number_in-is family s = refl
+
+-- the earlier of a position of the family and its mirror image
+pub earlier_in : (family : Family) (s : Setup) → IsPositionIn family s → (representative : Setup) × IsEarlierIn family s representative
+earlier_in family s p =
+    let e = earlier family.set s p.of_set in (
+      e.0,
+      record {
+        stands = e.1.stands;
+        position = record { of_set = e.1.position; allowed = representative_allowed family s e.0 p e.1.stands.0 };
+        number_is = class_number_in-is family s ∙ ap (marks_below (is_marked family)) e.1.rank_is;
+      },
+    )
+
+pub class_number_in-below : (family : Family) (s : Setup) → IsPositionIn family s → class_number_in family s < classes_in family
+unfolding classes_in
+class_number_in-below family s p =
+    let e = earlier_in family s p in
+    subst (λ (x : ℕ). x < marks_below (is_marked family) (size_of family.set)) (sym e.1.number_is)
+    (marks_below-rises (is_marked family) (rank_of family.set e.0) (size_of family.set) (marked family e.0 (e.1.position, e.1.stands.1))
+    (rank_of-below family.set e.0 e.1.position.of_set))
+
+-- one number: one position, or a position and its mirror image
+pub class_once_in : (family : Family) (s t : Setup) → IsPositionIn family s → IsPositionIn family t → class_number_in family s ≡ class_number_in family t
+    → (s ≡ t) ⊎ (s ≡ mirrored t)
+class_once_in family s t p q e =
+    let a = earlier_in family s p in
+    let b = earlier_in family t q in
+    let ranks : rank_of family.set a.0 ≡ rank_of family.set b.0
+    = marks_below-same (is_marked family) (rank_of family.set a.0) (rank_of family.set b.0) (marked family a.0 (a.1.position, a.1.stands.1))
+    (marked family b.0 (b.1.position, b.1.stands.1)) (sym a.1.number_is ∙ e ∙ b.1.number_is) in
+    let same : a.0 ≡ b.0 = rank_of-same family.set a.0 b.0 a.1.position.of_set b.1.position.of_set ranks in
+    let back_s : mirrored (mirrored s) ≡ s = mirrored-mirrored s p.of_set.legal.squares in
+    let back_t : mirrored (mirrored t) ≡ t = mirrored-mirrored t q.of_set.legal.squares in
+    elim a.1.stands.0 [
+      | inl x ↦ elim b.1.stands.0 [
+        | inl y ↦ inl (sym x ∙ same ∙ y)
+        | inr y ↦ inr (sym x ∙ same ∙ y)
+      ]
+      | inr x ↦ elim b.1.stands.0 [
+        | inl y ↦ inr (sym back_s ∙ ap mirrored (sym x ∙ same ∙ y))
+        | inr y ↦ inl (sym back_s ∙ ap mirrored (sym x ∙ same ∙ y) ∙ back_t)
+      ]
+    ]
+
+-- the mirror image is in the same class
+pub class_number_in-mirrored : (family : Family) (s : Setup) → IsPositionIn family s → class_number_in family (mirrored s) ≡ class_number_in family s
+class_number_in-mirrored family s p =
+    let back : mirrored (mirrored s) ≡ s = mirrored-mirrored s p.of_set.legal.squares in
+    class_number_in-is family (mirrored s)
+    ∙ ap (marks_below (is_marked family)) (ap (λ (x : Setup). min (rank_of family.set (mirrored s)) (rank_of family.set x)) back
+    ∙ min_comm (rank_of family.set (mirrored s)) (rank_of family.set s))
+    ∙ sym (class_number_in-is family s)
+
+-- a representative's class number is the number of marks below its rank
+pub class_number_in-representative : (family : Family) (s : Setup) → IsPositionIn family s → IsFirstOfTwo s
+    → class_number_in family s ≡ marks_below (is_marked family) (rank_of family.set s)
+class_number_in-representative family s p first =
+    class_number_in-is family s ∙ ap (marks_below (is_marked family)) (min-eq_left (rank_of_first family.set s p.of_set first))
+
+-- the position of a marked rank is the representative of its class
+pub at_class_in : (family : Family) (s : Setup) (class : ℕ) → IsPositionIn family s → is_marked family (rank_of family.set s) ≡ true
+    → marks_below (is_marked family) (rank_of family.set s) ≡ class → IsAtClassIn family s class
+at_class_in family s class p on is =
+    let first : IsFirstOfTwo s = (represents family s p.of_set on).1 in
+    record {
+      representative = (p, first);
+      before = subst (HasClassIn family s) is (HasClassIn-marked family s p);
+      number_is = class_number_in-representative family s p first ∙ is;
+    }
+
+-- a position without a mark is later than its mirror image
+pub later_unmarked_in : (family : Family) (s : Setup) → IsPositionIn family s → is_marked family (rank_of family.set s) ≡ false → ¬ IsFirstOfTwo s
+later_unmarked_in family s p off first =
+    let on : is_marked family (rank_of family.set s) ≡ true = marked family s (p, first) in
+    both_ways (is_marked family (rank_of family.set s)) off on
+
+-- ---- the class of a position by the mark of its rank
+
+pub class_of_marked_in : (family : Family) (s : Setup) (class : ℕ) → IsPositionIn family s → is_marked family (rank_of family.set s) ≡ true
+    → class ≡ marks_below (is_marked family) (rank_of family.set s) → class ≡ class_number_in family s
+class_of_marked_in family s class p on is = sym (at_class_in family s class p on (sym is)).number_is
+
+pub class_of_unmarked_in : (family : Family) (s t : Setup) (class : ℕ) → IsPositionIn family s → is_marked family (rank_of family.set s) ≡ false
+    → t ≡ mirrored s → class ≡ marks_below (is_marked family) (rank_of family.set t) → class ≡ class_number_in family s
+class_of_unmarked_in family s t class p off image is =
+    is ∙ ap (λ q. marks_below (is_marked family) (rank_of family.set q)) image
+    ∙ ap (marks_below (is_marked family)) (sym (lower (rank_of family.set s) (rank_of family.set (mirrored s))
+    (elim (cases_lt (rank_of family.set (mirrored s)) (rank_of family.set s)) [
+      | inl lt ↦ lt
+      | inr ge ↦ absurd (later_unmarked_in family s p off (first_by_rank family.set s p.of_set ge))
+    ])))
+    ∙ sym (class_number_in-is family s)
+  where
+    lower : (own image : ℕ) → image < own → min own image ≡ image
+    lower own image lt = min-eq_right (let le : image ≤ own = omega arith in le)
+
+-- ---- in profile A the classes are those of the set
+
+marked_there : (family : Family) (k : ℕ) → family.profile ≡ A → is_marked family k ≡ is_first family.set k
+unfolding is_marked
+marked_there family k a = ap (λ (b : Bool). b && is_first family.set k) (there family k a)
+
+pub classes_in-whole : (family : Family) → family.profile ≡ A → classes_in family ≡ classes_of family.set
+unfolding classes_in classes_of
+classes_in-whole family a =
+    marks_agree (is_marked family) (is_first family.set) (size_of family.set) (λ k low. marked_there family k a)
+    ∙ sym (marks_below-marked family.set (size_of family.set) (at_most (size_of family.set)))
+  where
+    at_most : (n : ℕ) → n ≤ n
+    at_most n = omega arith
+
+-- ---- a family has no more classes than positions
+
+fewer_marked : (on mark : ℕ → Bool) (n : ℕ) → marks_below (λ k. on k && mark k) n ≤ marks_below on n
+fewer_marked on mark zero = (let none = marks_below_none (λ k. on k && mark k) in omega (arith, none))
+fewer_marked on mark (suc n) =
+    let rest = fewer_marked on mark n in
+    let more = marks_below_more (λ k. on k && mark k) n in
+    let all = marks_below_more on n in
+    let one = no_more (on n) (mark n) in
+    omega (arith, rest, more, all, one)
+  where
+    no_more : (a b : Bool) → one_if (a && b) ≤ one_if a
+    no_more true true = omega arith
+    no_more true false = omega arith
+    no_more false b = omega arith
+
+pub classes_in-few : (family : Family) → classes_in family ≤ size_in family
+unfolding classes_in size_in is_marked
+classes_in-few family = fewer_marked (is_present family) (is_first family.set) (size_of family.set)

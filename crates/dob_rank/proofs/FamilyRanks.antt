@@ -153,7 +153,7 @@ squares_number s =
 abbrev pub others_number : Setup → ℕ
 others_number s = number_of ((2 ^ slice_index (on_board s) 1) ∷ (2 ^ slice_index (on_board s) 2) ∷ []) (slice_index (digits s) 9 ∷ slice_index (digits s) 10 ∷ [])
 
-local_parts : (s : Setup) → local_of s
+pub local_parts : (s : Setup) → local_of s
     ≡ (slice_index (digits s) 5 * others_squares (on_board s) + squares_number s) * (4 ^ slice_index (on_board s) 0 * others_forms (on_board s))
     + (forms_number (order Chicks) s.board * others_forms (on_board s) + others_number s)
 unfolding local_of
@@ -163,7 +163,7 @@ local_parts s =
     (slice_index (digits s) 8 ∷ slice_index (digits s) 9 ∷ slice_index (digits s) 10 ∷ []) refl
 
 -- the position's place in its run
-own_place : (family : Family) (s : Setup) → IsPositionIn family s
+pub own_place : (family : Family) (s : Setup) → IsPositionIn family s
     → IsPlaceIn family (block_of family.set s) (run_of family.set s) (slice_index (digits s) 5) (squares_number s) (forms_number (order Chicks) s.board)
     (allowed_number (may_have family.profile) 4 (order Chicks) 0 s.board) (others_number s)
 own_place family s p =

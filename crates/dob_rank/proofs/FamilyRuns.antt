@@ -186,7 +186,7 @@ runs_present family block (suc run) within upto =
         omega (arith, more)
 
 -- the lions alone say how many a run has
-lions_alike : (profile : Profile) (chicks a b : ℕ) → a % lion_pairs ≡ b % lion_pairs → forms_in profile chicks a ≡ forms_in profile chicks b
+pub lions_alike : (profile : Profile) (chicks a b : ℕ) → a % lion_pairs ≡ b % lion_pairs → forms_in profile chicks a ≡ forms_in profile chicks b
 lions_alike profile chicks a b e =
     ap (λ (m : ℕ). sum_below (λ c. weight (forms_on profile) (order Chicks) 0 (settle (order Chicks) chicks c (lions_layers m))) (choose free_squares chicks)) e
 

@@ -26,7 +26,7 @@ use Rattle.dob_rank.proofs.Present.{size_in-end, size_in-whole, rank_in-whole, H
 use Rattle.dob_rank.proofs.FamilyOrder.{ranked_at}
 use Rattle.dob_rank.proofs.FamilyRuns.{present_before_run, block_present}
 use Rattle.dob_rank.proofs.FarSpots.{in_choice, hand_size_is}
-use Rattle.dob_rank.proofs.FamilyClasses.{in_set}
+use Rattle.dob_rank.proofs.FamilyMarks.{in_set}
 
 -- ---- the block
 

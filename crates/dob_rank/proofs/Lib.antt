@@ -63,9 +63,14 @@ pub mod FarStarts  -- the table of the starts of blocks in profile B
 pub mod PlaceParts  -- the parts of a place in profile B as the code finds them
 pub mod FarPlaces  -- a position of profile B by what the code finds of it
 pub mod FarSpots  -- the place of a run before which it has so many positions of profile B
-pub mod FamilyClasses  -- the representatives of a family where the lions say which positions are earlier
+pub mod FamilyMarks  -- the marks of a run's positions of a family
+pub mod FarCounts  -- how many positions of profile B a run has up to a place
 pub mod FarUnranks  -- the position of a rank of profile B
-pub mod FamilyNumbers  -- a position of a family is in the class of its class number
+pub mod FamilyNumbers  -- class numbers of a family are marks below
+pub mod FamilyRepresentatives  -- one representative and one number a class of a family
+pub mod FamilyTables  -- the tables of runs of a family grow and are read
+pub mod FamilyBlocks  -- the blocks of a family
+pub mod FamilySums  -- the classes of a block of a family as a sum over runs
 pub mod ClassBounds  -- how many positions and classes a set has at most
 -- Long lists.
 pub mod Segmentation  -- lists in segments

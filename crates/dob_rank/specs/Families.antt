@@ -39,6 +39,10 @@ HasClassesIn family number = HasCount (IsRepresentativeIn family) number
 abbrev pub HasClassIn : Family → Setup → ℕ → Type 0
 HasClassIn family setup number = HasCount (λ (p : Setup). IsRepresentativeIn family p × Before p setup) number
 
+-- the setup is the representative of the class of the family with that number
+abbrev pub RepresentsClassIn : Family → Setup → ℕ → Type 0
+RepresentsClassIn family setup number = IsRepresentativeIn family setup × HasClassIn family setup number
+
 -- ---- the same by the ranks of the set
 
 -- the setup of that rank is a position of the family

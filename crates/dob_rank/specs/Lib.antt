@@ -19,3 +19,6 @@ pub mod Faults
 pub mod Segmented
 pub mod SegmentsLeft
 pub mod Stretches
+pub mod FamilyRuns
+pub mod FamilyTables
+pub mod FamilyBlocks

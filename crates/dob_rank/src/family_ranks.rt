@@ -176,7 +176,7 @@ fn place_by(on_board: &EachKind, digits: &[u64; DIGITS], run: u64, forms: u64) -
 }
 
 /// A product of numbers that are small enough, and a third.
-fn add_product(a: u64, b: u64, c: u64) -> u64
+pub(crate) fn add_product(a: u64, b: u64, c: u64) -> u64
     requires a { a ≤ 2 ^ 34 }
     requires b { b ≤ 2 ^ 11 }
     requires c { c ≤ 2 ^ 32 }
@@ -209,7 +209,7 @@ pub(crate) fn weight_of(chicks: u64, lions: u64, choice: u64) -> u64
 }
 
 /// How many numbers of allowed forms of the chicks, at most two on those squares, stand before theirs.
-fn allowed_forms(board: &[Option<Piece>; Square::COUNT], mask: u64, pieces: u64) -> u64
+pub(crate) fn allowed_forms(board: &[Option<Piece>; Square::COUNT], mask: u64, pieces: u64) -> u64
     requires few { pieces ≤ 2 }
     requires mask { mask ≡ layer_mask (order Layer.Chicks) (map layer board.now) }
     requires pieces { pieces ≡ count (order Layer.Chicks) (map layer board.now) }

@@ -127,7 +127,7 @@ impl Stretches {
 /// Appends the entry of the places from one on, before which there are so many marks, unless the last entry's marks go on.
 ///
 /// Error: `Memory`.
-fn push_stretch(
+pub(crate) fn push_stretch(
     list: &mut Vec<Stretch>,
     start: u64,
     before: u64,

@@ -3,6 +3,7 @@
 ghost use Rattle.std.specs.Prelude.{◌<◌};
 
 mod families;
+mod family_classes;
 mod key;
 mod lists;
 mod plain;

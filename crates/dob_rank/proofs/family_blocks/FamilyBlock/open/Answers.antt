@@ -1,0 +1,60 @@
+-- Each run's entry and its words go to the ends of the tables.
+use Rattle.std.proofs.Common.{◌≡◌, ◌+◌, vec_len, arith, sym, ap, subst, ◌∙◌}
+use Rattle.dob_rank.specs.Marks.{marks_below}
+use Rattle.dob_rank.specs.Families.{is_marked}
+use Rattle.dob_rank.specs.Runs.{runs_in, run_start}
+use Rattle.dob_rank.specs.FamilyTables.{AreRunsIn}
+use Rattle.dob_rank.proofs.RunMarks.{run_start_first, run_start_end}
+use Rattle.dob_rank.proofs.FamilyTables.{AreRunsIn-none, AreRunsIn-push, marks_small_in}
+use Rattle.dob_rank.proofs.Blocks.{HasDigits-numbers}
+use Rattle.dob_rank.proofs.DigitParts.{AreFewOnBoard-digits}
+use Rattle.dob_rank.proofs.family_blocks.FamilyBlock.open.Goals as goal
+
+pub choices_in-choices-requires : goal.choices_in-choices-requires
+choices_in-choices-requires c =
+    AreFewOnBoard-digits c.args.family.set _ (HasDigits-numbers c.args.family.set c.args.number _ c.requires.within c.numbers_in-on_board.ensures)
+
+pub loop-run-init : goal.loop-run-init
+loop-run-init c = record {
+  runs_are = AreRunsIn-none c.args.family c.args.number c.new-runs.result.items c.new-mixed.result.items c.new-runs.ensures.items;
+  count_is = c.requires.before ∙ ap (marks_below (is_marked c.args.family)) (sym (run_start_first c.args.family.set c.args.number));
+}
+
+pub count_marks-count-requires-clause-table : goal.count_marks-count-requires-clause-table
+count_marks-count-requires-clause-table c =
+    c.in_ok-table.ensures.table
+
+pub overflow_add-count : goal.overflow_add-count
+overflow_add-count c =
+    let within = c.count_runs-run-end.ensures.value in
+    let few = marks_small_in c.args.family c.args.number (c.loop-run.run + 1) c.requires.within (omega (arith, within, c.loop-run-test.true)) in
+    let sum = c.count_marks-count.ensures in
+    let before = c.loop-run.invariant.count_is in
+    omega (arith, few, sum, before)
+
+pub loop-run-preserved : goal.loop-run-preserved
+loop-run-preserved c =
+    let sum = c.count_marks-count.ensures in
+    let before = c.loop-run.invariant.count_is in
+    record {
+      runs_are = AreRunsIn-push c.args.family c.args.number c.loop-run.run c.loop-run.count c.in_ok-table.table c.kind_of.result c.loop-run.runs.items _ _
+          c.in_ok-table.ensures.runs before c.kind_of.ensures c.in_ok-table.ensures.table c.in_ok-push.ensures.items;
+      count_is = ap (λ n. n + c.count_marks-count.result) before ∙ sum;
+    }
+
+pub invariant_of-result : goal.invariant_of-result
+invariant_of-result c =
+    let whole : c.loop-run.run ≡ runs_in c.args.family.set c.args.number =
+    omega (arith, c.count_runs-run-end.ensures.value, c.loop-run.auto.run-end, c.loop-run-test.false) in
+    let long : vec_len c.loop-run.runs ≡ c.loop-run.run = c.loop-run.runs.ok.0 ∙ c.loop-run.invariant.runs_are.long in
+    record {
+      within = c.requires.within;
+      starts = c.requires.before;
+      ends = c.loop-run.invariant.count_is
+          ∙ ap (λ n. marks_below (is_marked c.args.family) (run_start c.args.family.set c.args.number n)) whole
+          ∙ ap (marks_below (is_marked c.args.family)) (run_start_end c.args.family.set c.args.number);
+      numbers = c.numbers_in-on_board.ensures;
+      chosen = c.choices_in-choices.ensures;
+      whole = long ∙ whole;
+      table = subst (λ n. AreRunsIn c.args.family c.args.number n c.loop-run.runs.items c.loop-run.mixed.items) (sym long) c.loop-run.invariant.runs_are;
+    }

@@ -1,0 +1,20 @@
+-- A marked position's class is the number of marks before it, another one's that of the marks before its mirror image.
+use Rattle.std.proofs.Common.{sym, ◌∙◌, subst}
+use Rattle.dob_rank.specs.Families.{IsPositionIn}
+use Rattle.dob_rank.proofs.FamilyNumbers.{IsPositionIn-mirrored, class_of_marked_in, class_of_unmarked_in}
+use Rattle.dob_rank.proofs.family_classes.FamilyClasses.class_by.Goals as goal
+
+pub look_up-requires : goal.look_up-requires
+look_up-requires c = subst (IsPositionIn c.args.self.now.family) (sym c.mirrored.ensures)
+    (IsPositionIn-mirrored c.args.self.now.family c.args.position.now.setup c.requires.position)
+
+pub returns-then-is_representative : goal.returns-then-is_representative
+returns-then-is_representative c =
+    class_of_marked_in c.args.self.now.family c.args.position.now.setup _ c.requires.position
+    (sym c.look_up_by-is_representative.ensures.mark ∙ c.if-is_representative.true)
+    c.look_up_by-is_representative.ensures.before
+
+pub returns-else-is_representative : goal.returns-else-is_representative
+returns-else-is_representative c =
+    class_of_unmarked_in c.args.self.now.family c.args.position.now.setup c.mirrored.result.setup _ c.requires.position
+    (sym c.look_up_by-is_representative.ensures.mark ∙ c.if-is_representative.false) c.mirrored.ensures c.look_up.ensures.before

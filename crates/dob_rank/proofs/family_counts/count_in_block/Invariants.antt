@@ -1,0 +1,11 @@
+-- The count is of the marks of the first runs.
+use Rattle.std.proofs.Common.{◌≡◌, ◌≤◌, ◌*◌, ◌^◌}
+use Rattle.dob_rank.specs.Numbers.{sum_below}
+use Rattle.dob_rank.proofs.FamilySums.{run_marks_in}
+use Rattle.dob_rank.proofs.family_counts.count_in_block.Given as goal
+
+abbrev pub invariant-loop-lions : goal.invariant-loop-lions
+invariant-loop-lions l = record {
+  counted : l.count ≡ sum_below (run_marks_in l.family l.block) l.lions;
+  few : l.count ≤ l.lions * 2 ^ 36;
+}

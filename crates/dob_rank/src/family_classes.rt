@@ -1,0 +1,153 @@
+// The classes of a family, block by block.
+ghost use Rattle.std.specs.Prelude.{◌≡◌, ◌<◌, ◌≤◌, ◌+◌, IfOk, IfSome, MatchOption, vec_len};
+ghost use Rattle.dob_rank.specs.Order.{IsFirstOfTwo};
+ghost use Rattle.dob_rank.specs.Families.{IsPositionIn, IsRepresentativeIn, HasClassesIn, HasClassIn, IsInClassIn, is_marked, classes_in, class_number_in};
+ghost use Rattle.dob_rank.specs.Numbers.{product, block_bases, start_of, rank_of};
+ghost use Rattle.dob_rank.specs.Marks.{marks_below};
+ghost use Rattle.dob_rank.specs.FamilyBlocks.{AreBlocksIn};
+ghost use Rattle.dob_rank.specs.BoardMasks.{AreMasks};
+
+use crate::block;
+use crate::family_blocks::FamilyBlock;
+use crate::family_spots::spot_in;
+use crate::masks::{Masks, masks_of};
+use crate::ranks::position_by;
+use dob_pieces::{Family, Memory, Position};
+use std::alloc::Global;
+
+/// The classes of a family, each with its number.
+#[derive(Debug, Drop)]
+pub struct FamilyClasses {
+    /// The family whose classes these are.
+    pub family: Family,
+    blocks: Vec<FamilyBlock>,
+    count: u64,
+    ghost whole: { vec_len blocks ≡ product (block_bases family.set) },
+    ghost table: { AreBlocksIn family blocks.items },
+    ghost counted: { count ≡ classes_in family },
+}
+
+impl FamilyClasses {
+    /// Opens the classes of a family.
+    ///
+    /// Error: `Memory`.
+    pub fn open(alloc: Global, family: Family) -> Result<FamilyClasses, Memory>
+        ensures family { IfOk result (λ classes. classes.family ≡ family) }
+    {
+        let mut blocks = Vec::new(alloc);
+        let mut count = 0;
+        for number in 0..block::blocks(family.set) {
+            let block = FamilyBlock::open(alloc, family, number, count)?;
+            count = block.after;
+            blocks.push(block)?;
+        }
+        Ok(FamilyClasses {
+            family,
+            blocks,
+            count,
+        })
+    }
+
+    /// How many classes the family has.
+    pub fn class_count(&self) -> u64
+        ensures count { HasClassesIn self.now.family result }
+        ensures number { result ≡ classes_in self.now.family }
+    {
+        self.count
+    }
+
+    /// The number of the class of a position of the family: how many representatives stand before the earlier of it
+    /// and its mirror image.
+    pub fn class_of(&self, position: &Position) -> u64
+        requires { IsPositionIn self.now.family position.now.setup }
+        ensures class { IsInClassIn self.now.family position.now.setup result }
+        ensures number { result ≡ class_number_in self.now.family position.now.setup }
+        ensures bound { result < classes_in self.now.family }
+    {
+        let masks = masks_of(&position.setup.board);
+        if masks.stand_later() {
+            let image = position.mirrored();
+            self.class_by(&image, masks_of(&image.setup.board))
+        } else {
+            self.class_by(position, masks)
+        }
+    }
+
+    /// The same by the position's masks. It takes longer where the mirror image is the earlier one.
+    fn class_by(&self, position: &Position, masks: Masks) -> u64
+        requires position { IsPositionIn self.now.family position.now.setup }
+        requires masks { AreMasks position.now.setup.board masks }
+        ensures { result ≡ class_number_in self.now.family position.now.setup }
+    {
+        let (is_representative, class) = self.look_up_by(position, masks);
+        if is_representative {
+            class
+        } else {
+            self.look_up(&position.mirrored()).1
+        }
+    }
+
+    /// The number of the class whose representative the position of the family is; `None` where its mirror image is
+    /// earlier.
+    pub fn class_of_representative(&self, position: &Position) -> Option<u64>
+        requires { IsPositionIn self.now.family position.now.setup }
+        ensures class { MatchOption result (¬ IsFirstOfTwo position.now.setup)
+            (λ class. IsFirstOfTwo position.now.setup × HasClassIn self.now.family position.now.setup class) }
+        ensures number { IfSome result (λ class. class ≡ class_number_in self.now.family position.now.setup) }
+        ensures bound { IfSome result (λ class. class < classes_in self.now.family) }
+    {
+        let (is_representative, class) = self.look_up(position);
+        if is_representative { Some(class) } else { None }
+    }
+
+    /// The representative of the class of that number, which is below the number of classes.
+    pub fn class_at(&self, class: u64) -> Position
+        requires { class < classes_in self.now.family }
+        ensures representative { IsRepresentativeIn self.now.family result.setup }
+        ensures class { HasClassIn self.now.family result.setup class }
+        ensures number { class_number_in self.now.family result.setup ≡ class }
+    {
+        let block = &self.blocks[self.block_at(class)];
+        position_by(
+            self.family.set,
+            &block.on_board,
+            &block.choices,
+            block.spot_at(class),
+        )
+    }
+
+    /// The block in which the representative of that class stands: the last one with no more classes before it.
+    fn block_at(&self, class: u64) -> usize
+        requires { class < classes_in self.now.family }
+        ensures block { result < product (block_bases self.now.family.set) }
+        ensures low { marks_below (is_marked self.now.family) (start_of self.now.family.set result) ≤ class }
+        ensures high { class < marks_below (is_marked self.now.family) (start_of self.now.family.set (result + 1)) }
+    {
+        for block in (0..self.blocks.len()).rev() {
+            if self.blocks[block].before <= class {
+                return block;
+            }
+        }
+        0
+    }
+
+    /// Whether a position of the family is a representative, and how many stand before it.
+    fn look_up(&self, position: &Position) -> (bool, u64)
+        requires { IsPositionIn self.now.family position.now.setup }
+        ensures mark { result.0 ≡ is_marked self.now.family (rank_of self.now.family.set position.now.setup) }
+        ensures before { result.1 ≡ marks_below (is_marked self.now.family) (rank_of self.now.family.set position.now.setup) }
+    {
+        self.look_up_by(position, masks_of(&position.setup.board))
+    }
+
+    /// The same by the position's masks.
+    fn look_up_by(&self, position: &Position, masks: Masks) -> (bool, u64)
+        requires position { IsPositionIn self.now.family position.now.setup }
+        requires masks { AreMasks position.now.setup.board masks }
+        ensures mark { result.0 ≡ is_marked self.now.family (rank_of self.now.family.set position.now.setup) }
+        ensures before { result.1 ≡ marks_below (is_marked self.now.family) (rank_of self.now.family.set position.now.setup) }
+    {
+        let (block, spot) = spot_in(self.family, position, masks);
+        self.blocks[block as usize].look_up(spot)
+    }
+}
