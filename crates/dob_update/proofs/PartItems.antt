@@ -131,7 +131,7 @@ items_of_parts-behind k parts classes enough within =
 
 -- ---- the classes of items
 
-targets_of_items : (s : Settlement) (classes : List ℕ) → map target_of (map (item_for s) classes) ≡ classes
+pub targets_of_items : (s : Settlement) (classes : List ℕ) → map target_of (map (item_for s) classes) ≡ classes
 targets_of_items s [] = refl
 targets_of_items s (class ∷ classes) = ap (λ (xs : List ℕ). class ∷ xs) (targets_of_items s classes)
 
@@ -260,3 +260,10 @@ added_is view settlements items [] s some ss is = absurd (omega (arith, some))
 added_is view settlements items (item ∷ more) s some ss is =
     subst (λ (xs : List Item). (record view { settlements = settlements; items = xs }) ≡ added view s (item ∷ more)) (sym is)
     (subst (λ (ts : List Settlement). (record view { settlements = ts; items = view.items ++ item ∷ more }) ≡ added view s (item ∷ more)) (sym ss) refl)
+
+-- without items nothing is added
+pub added_nothing : (view : OutboxView) (s : Settlement) (more : List Item) → length more ≡ 0 → view ≡ added view s more
+added_nothing view s [] none =
+    subst (λ (xs : List Item). view ≡ record view { settlements = view.settlements ++ []; items = xs }) (sym (append-nil view.items))
+    (subst (λ (ts : List Settlement). view ≡ record view { settlements = ts; items = view.items }) (sym (append-nil view.settlements)) refl)
+added_nothing view s (item ∷ more) none = absurd (omega (arith, none))
