@@ -1,20 +1,17 @@
 -- One node that owns all classes, as it is opened: it is lawful.
-use Rattle.std.proofs.Common.{◌≡◌, ◌≢◌, ℕ, zero, suc, ◌+◌, ◌*◌, ◌%◌, ◌<◌, ◌≤◌, inl, inr, eqb, Bool, true, false, cond, refl, sym, ap, ◌∙◌, subst}
-use Rattle.std.proofs.Common.{arith, List, [], ◌++◌, length, take, get_or, Option, None, Some, Result, Ok, Err, IfOk, lit≤}
+use Rattle.std.proofs.Common.{◌≡◌, ℕ, zero, suc, ◌+◌, ◌*◌, ◌%◌, ◌<◌, inl, inr, refl, sym, ap, ◌∙◌, subst}
+use Rattle.std.proofs.Common.{arith, List, [], ◌++◌, length, take, get_or, Result, Ok, Err, IfOk}
 use Rattle.std.specs.List.{All}
-use Rattle.std.proofs.lemmas.Bool.{cases_order, eq-eqb, ne_eqb}
-use Rattle.std.proofs.lemmas.List.{append-nil}
-use Rattle.std.proofs.lemmas.List.Elements.{All-append, All-nil, All-cons}
+use Rattle.std.proofs.lemmas.Bool.{cases_order}
 use Rattle.std.proofs.lemmas.Option.{slice_get-get_or}
 use Rattle.dob_pieces.specs.declared.piece_set.PieceSet.{PieceSet}
 use Rattle.dob_moves.specs.declared.position_status.Status.{Status}
-use Rattle.dob_moves.specs.declared.position_status.Status.TheVariants.{Caught, Tried, Stuck, Open}
+use Rattle.dob_moves.specs.declared.position_status.Status.TheVariants.{Stuck, Open}
 use Rattle.dob_moves.specs.MoveLists.{moves_of}
 use Rattle.dob_moves.specs.Statuses.{HasStatus}
 use Rattle.dob_moves.proofs.Cases.{one_status}
 use Rattle.dob_rank.specs.Marks.{classes_of}
 use Rattle.dob_rank.specs.ClassRows.{class_setup}
-use Rattle.dob_value.specs.declared.value.Value.{Value}
 use Rattle.dob_value.specs.declared.value.Value.TheVariants.{Draw}
 use Rattle.dob_value.specs.Follows.{IsEntry}
 use Rattle.dob_unmove.specs.Edges.{predecessors}
@@ -25,7 +22,6 @@ use Rattle.dob_share.specs.Owners.{owner_of}
 use Rattle.dob_share.specs.Cells.{SameCell, CellValue, fresh}
 use Rattle.dob_share.specs.Openings.{opening_of}
 use Rattle.dob_share.specs.Shares.{places_of, IsOwn, status_at, cell_at}
-use Rattle.dob_share.specs.Values.{Better}
 use Rattle.dob_share.proofs.Applied.{CellValue-same}
 use Rattle.dob_update.specs.Items.{items_from}
 use Rattle.dob_node.specs.Histories.{value_of, IsChained}
@@ -33,7 +29,7 @@ use Rattle.dob_node.specs.Quiet.{FollowsAtStatus}
 use Rattle.dob_node.specs.Openings.{IsOpening, AreOpenings}
 use Rattle.dob_node.specs.Lawful.{known_of, AreLawfulNodes}
 use Rattle.dob_node.specs.Falls.{IsFirst, HaveFalls}
-use Rattle.dob_node.specs.OpeningLists.{opening_value, opening_settlement, opening_settlements, status_in}
+use Rattle.dob_node.specs.OpeningLists.{opening_value, opening_settlements, status_in}
 use Rattle.dob_node.specs.declared.node.Node.{Node}
 use Rattle.dob_node.specs.Nodes.{IsSound, IsOpened}
 use Rattle.dob_node.specs.Sole.{sole_history, sole_applied, sole_items, cells_below, IsSole, HasCome, HasMade}
