@@ -18,9 +18,7 @@ fn is_grid(grid: &[u8]) -> bool
     requires { length grid.now ≡ 15 }
     ensures { IsTrue result ↔ IsGrid grid.now }
 {
-    grid.iter()
-        .enumerate()
-        .all(|(i, byte)| *byte != b' ' && (*byte == b'/') == (i % 4 == 3))
+    grid.iter().enumerate().all(|(i, byte)| *byte != b' ' && (*byte == b'/') == (i % 4 == 3))
 }
 
 /// Whether there are bytes, and none is a space.

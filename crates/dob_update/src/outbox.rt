@@ -125,8 +125,7 @@ impl Outbox {
         if items == 0 {
             return Ok(());
         }
-        self.parts
-            .push_back_reserved(Part { settlement, items });
+        self.parts.push_back_reserved(Part { settlement, items });
         Ok(())
     }
 

@@ -25,7 +25,7 @@ add_to-requires-clause-of c =
     let count : n ≡ length old.items = c.len-n.ensures ∙ old.ok.0 in
     let same : vec_len mid ≡ n = mid.ok.0 ∙ c.loop-to.invariant.whole ∙ sym count in
     subst (λ (m : ℕ). (default : OutboxView) → ((get_or mid.items to default).n ≡ m) × ((get_or mid.items to default).to ≡ to)
-        × (targets ≡ predecessors (get_or mid.items to default).set settlement.class)) (sym same)
+    × (targets ≡ predecessors (get_or mid.items to default).set settlement.class)) (sym same)
     (addressed_still targets settlement n from to old.items mid.items c.loop-to.invariant
     (subst (λ (m : ℕ). (st : PieceSet) × (targets ≡ predecessors st settlement.class) × ((to : ℕ) → IsOutboxTo st m from to (outbox_in st m from old.items to)))
     (sym count) c.requires.addressed)

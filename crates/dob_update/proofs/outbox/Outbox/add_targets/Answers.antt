@@ -66,9 +66,17 @@ returns-clause-ok c =
     let fits : c.len.result < 2 ^ 64 = search rules in
     let parts = c.push_back_reserved.new.self.items in
     let classes = c.push_owned.new.queue.items in
-    let view : OutboxView = record { set = old.set; n = old.n; from = old.from; to = old.to; settlements = settlements_of old.parts.items; skip = old.skip;
-        items = items_of_parts old.parts.items old.classes.items; next = old.next } in
+    let view : OutboxView = record {
+      set = old.set;
+      n = old.n;
+      from = old.from;
+      to = old.to;
+      settlements = settlements_of old.parts.items;
+      skip = old.skip;
+      items = items_of_parts old.parts.items old.classes.items;
+      next = old.next;
+    } in
     subst (λ (o : OutboxView). (record view { settlements = settlements_of parts; items = items_of_parts parts classes })
-        ≡ added o s (items_of (λ _. c.args.targets.now) o.n o.to s)) c.self.view_is
+    ≡ added o s (items_of (λ _. c.args.targets.now) o.n o.to s)) c.self.view_is
     (view_grown old.set old.n old.to old.skip old.parts.items parts old.classes.items classes s (more w) c.self.invariant
     (omega (arith, count, c.if-items-eq0.false)) (omega (arith, count, fits)) (of_settlement w) (parts_are w) (classes_are w) view refl refl)
