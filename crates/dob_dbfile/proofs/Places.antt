@@ -2,32 +2,17 @@
 use Rattle.std.proofs.Common.{◌≡◌, ℕ, zero, suc, ◌≤◌, ◌⊎◌, Bool, cond, false, true, List, length, arith, inl, inr, refl, sym, subst, ap, ◌∙◌, Result, Ok, Err}
 use Rattle.std.specs.Result.{IfOk, IfErr, MatchResult}
 use Rattle.std.proofs.lemmas.Bool.{cases_lt, cases_order}
-use Rattle.std.proofs.Math.Bridge.{le_prop}
 use Rattle.dob_pieces.specs.declared.piece_set.PieceSet.{PieceSet}
 use Rattle.dob_dbfile.specs.declared.fault.Fault.{Fault}
 use Rattle.dob_dbfile.specs.declared.fault.Fault.TheVariants as fault
 use Rattle.dob_dbfile.specs.Devices.{Stream}
 use Rattle.dob_dbfile.specs.Format.{set_bytes}
 use Rattle.dob_rank.specs.Limits.{IsSmall}
+use Rattle.dob_rank.proofs.Sets.{same_numbers}
 use Rattle.dob_dbfile.specs.Faults.{HasTitle, NamesSet, NamesSmallSet, CountsClasses, header, HasHeader, IsOfSet, IsWhole, IsNoLonger, Ends}
 use Rattle.dob_dbfile.specs.Faults.{HasDigest, HasReadFault}
 
 -- ---- one set
-
-abbrev set_of : (c e g : ℕ) → c ≤ 2 → e ≤ 2 → g ≤ 2 → PieceSet
-set_of c e g few_c few_e few_g = record { chicks = c; elephants = e; giraffes = g; few_chicks = few_c; few_elephants = few_e; few_giraffes = few_g }
-
--- sets with the same numbers are the same
-same_numbers : (p q : PieceSet) → p.chicks ≡ q.chicks → p.elephants ≡ q.elephants → p.giraffes ≡ q.giraffes → p ≡ q
-same_numbers p q c e g =
-    subst (λ (x : ℕ). (f : x ≤ 2) → p ≡ set_of x p.elephants p.giraffes f p.few_elephants p.few_giraffes) c
-    (λ f. ap (λ (h : p.chicks ≤ 2). set_of p.chicks p.elephants p.giraffes h p.few_elephants p.few_giraffes) (le_prop p.few_chicks f)) q.few_chicks
-    ∙ subst (λ (x : ℕ). (f : x ≤ 2) → set_of q.chicks p.elephants p.giraffes q.few_chicks p.few_elephants p.few_giraffes
-    ≡ set_of q.chicks x p.giraffes q.few_chicks f p.few_giraffes) e
-    (λ f. ap (λ (h : p.elephants ≤ 2). set_of q.chicks p.elephants p.giraffes q.few_chicks h p.few_giraffes) (le_prop p.few_elephants f)) q.few_elephants
-    ∙ subst (λ (x : ℕ). (f : x ≤ 2) → set_of q.chicks q.elephants p.giraffes q.few_chicks q.few_elephants p.few_giraffes
-    ≡ set_of q.chicks q.elephants x q.few_chicks q.few_elephants f) g
-    (λ f. ap (λ (h : p.giraffes ≤ 2). set_of q.chicks q.elephants p.giraffes q.few_chicks q.few_elephants h) (le_prop p.few_giraffes f)) q.few_giraffes
 
 -- a header names one set
 pub same_set : (p q : PieceSet) (front : List ℕ) → NamesSet p front → NamesSet q front → p ≡ q

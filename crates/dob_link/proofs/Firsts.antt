@@ -1,5 +1,5 @@
 -- The first batch that waits.
-use Rattle.std.proofs.Common.{◌≡◌, refl, sym, ap, ◌∙◌, List, [], ◌∷◌, Some, None, slice_get}
+use Rattle.std.proofs.Common.{◌≡◌, refl, List, [], ◌∷◌, Some, None, slice_get}
 use Rattle.dob_update.specs.Batches.{BatchView}
 
 pub none_waits : (xs : List BatchView) → slice_get xs 0 ≡ None → xs ≡ []

@@ -90,15 +90,15 @@ asked_of targets settlement n from k set o items is same are =
     (subst (λ (j : ℕ). items ≡ items_of (predecessors set) n j settlement) (sym is.of.3)
     (subst (λ (ts : List ℕ). items ≡ items_of (λ _. ts) n k settlement) same are)))
 
--- the same for an outbox that has nothing of the settlement yet
-pub items_asked : (targets : List ℕ) (settlement : Settlement) (n from k : ℕ) (old mid : List OutboxView) (items : List Item) →
+-- an outbox that has nothing of the settlement yet is of n nodes, and for the node of its number
+pub addressed_still : (targets : List ℕ) (settlement : Settlement) (n from k : ℕ) (old mid : List OutboxView) →
     AreAdded targets settlement n from k old mid →
     (set : PieceSet) × (targets ≡ predecessors set settlement.class) × ((to : ℕ) → IsOutboxTo set n from to (outbox_in set n from old to)) →
-    k < length old → items ≡ items_of (λ _. targets) n k settlement → (default : OutboxView) →
-    items ≡ items_of (predecessors (get_or mid k default).set) (get_or mid k default).n (get_or mid k default).to settlement
-items_asked targets settlement n from k old mid items so_far of low are default =
-    subst (λ (o : OutboxView). items ≡ items_of (predecessors o.set) o.n o.to settlement) (sym at_last)
-    (asked_of targets settlement n from k of.0 (outbox_in of.0 n from old k) items (of.2 k) of.1 are)
+    k < length old → (default : OutboxView) →
+    ((get_or mid k default).n ≡ n) × ((get_or mid k default).to ≡ k) × (targets ≡ predecessors (get_or mid k default).set settlement.class)
+addressed_still targets settlement n from k old mid so_far of low default =
+    subst (λ (o : OutboxView). (o.n ≡ n) × (o.to ≡ k) × (targets ≡ predecessors o.set settlement.class)) (sym at_last)
+    ((of.2 k).of.1, (of.2 k).of.3, subst (λ (st : PieceSet). targets ≡ predecessors st settlement.class) (sym (of.2 k).of.0) of.1)
   where
     at_last : get_or mid k default ≡ outbox_in of.0 n from old k
     at_last = so_far.later k default (omega arith) ∙ get_or_default old k default (empty_outbox of.0 n from k) low

@@ -1,20 +1,17 @@
 -- One node that owns all classes, as it is opened: it is lawful.
-use Rattle.std.proofs.Common.{◌≡◌, ◌≢◌, ℕ, zero, suc, ◌+◌, ◌*◌, ◌%◌, ◌<◌, ◌≤◌, inl, inr, eqb, Bool, true, false, cond, refl, sym, ap, ◌∙◌, subst}
-use Rattle.std.proofs.Common.{arith, List, [], ◌++◌, length, take, get_or, Option, None, Some, Result, Ok, Err, IfOk, lit≤}
+use Rattle.std.proofs.Common.{◌≡◌, ℕ, zero, suc, ◌+◌, ◌*◌, ◌%◌, ◌<◌, inl, inr, refl, sym, ap, ◌∙◌, subst}
+use Rattle.std.proofs.Common.{arith, List, [], ◌++◌, length, take, get_or, Result, Ok, Err, IfOk}
 use Rattle.std.specs.List.{All}
-use Rattle.std.proofs.lemmas.Bool.{cases_order, eq-eqb, ne_eqb}
-use Rattle.std.proofs.lemmas.List.{append-nil}
-use Rattle.std.proofs.lemmas.List.Elements.{All-append, All-nil, All-cons}
+use Rattle.std.proofs.lemmas.Bool.{cases_order}
 use Rattle.std.proofs.lemmas.Option.{slice_get-get_or}
 use Rattle.dob_pieces.specs.declared.piece_set.PieceSet.{PieceSet}
 use Rattle.dob_moves.specs.declared.position_status.Status.{Status}
-use Rattle.dob_moves.specs.declared.position_status.Status.TheVariants.{Caught, Tried, Stuck, Open}
+use Rattle.dob_moves.specs.declared.position_status.Status.TheVariants.{Stuck, Open}
 use Rattle.dob_moves.specs.MoveLists.{moves_of}
 use Rattle.dob_moves.specs.Statuses.{HasStatus}
 use Rattle.dob_moves.proofs.Cases.{one_status}
 use Rattle.dob_rank.specs.Marks.{classes_of}
 use Rattle.dob_rank.specs.ClassRows.{class_setup}
-use Rattle.dob_value.specs.declared.value.Value.{Value}
 use Rattle.dob_value.specs.declared.value.Value.TheVariants.{Draw}
 use Rattle.dob_value.specs.Follows.{IsEntry}
 use Rattle.dob_unmove.specs.Edges.{predecessors}
@@ -25,7 +22,6 @@ use Rattle.dob_share.specs.Owners.{owner_of}
 use Rattle.dob_share.specs.Cells.{SameCell, CellValue, fresh}
 use Rattle.dob_share.specs.Openings.{opening_of}
 use Rattle.dob_share.specs.Shares.{places_of, IsOwn, status_at, cell_at}
-use Rattle.dob_share.specs.Values.{Better}
 use Rattle.dob_share.proofs.Applied.{CellValue-same}
 use Rattle.dob_update.specs.Items.{items_from}
 use Rattle.dob_node.specs.Histories.{value_of, IsChained}
@@ -33,11 +29,11 @@ use Rattle.dob_node.specs.Quiet.{FollowsAtStatus}
 use Rattle.dob_node.specs.Openings.{IsOpening, AreOpenings}
 use Rattle.dob_node.specs.Lawful.{known_of, AreLawfulNodes}
 use Rattle.dob_node.specs.Falls.{IsFirst, HaveFalls}
-use Rattle.dob_node.specs.OpeningLists.{opening_value, opening_settlement, opening_settlements, status_in}
+use Rattle.dob_node.specs.OpeningLists.{opening_value, opening_settlements, status_in}
 use Rattle.dob_node.specs.declared.node.Node.{Node}
 use Rattle.dob_node.specs.Nodes.{IsSound, IsOpened}
 use Rattle.dob_node.specs.Sole.{sole_history, sole_applied, sole_items, cells_below, IsSole, HasCome, HasMade}
-use Rattle.dob_node.proofs.Settles.{chained_more, chained_none, value_of-more}
+use Rattle.dob_node.proofs.Beginnings.{or_else, closed_follows, opened_value, opened_chained, opened_entries}
 use Rattle.dob_node.proofs.ValuesFollow.{SumsUp-same}
 use Rattle.dob_node.proofs.Totals.{start_sums}
 use Rattle.dob_node.proofs.Soles.{cell_below, one_owner}
@@ -51,109 +47,20 @@ listed_opening set openings class are low =
     let none : Opening = record { status = Stuck; moves = 0 } in
     are.each class (get_or openings class none) (slice_get-get_or openings class none (subst (λ (n : ℕ). class < n) (sym are.whole) low))
 
--- ---- the values of the settlements of the opening
-
--- the value, where there is one, or else another
-abbrev pub or_else : Option Value → Value → Value
-or_else None v = v
-or_else (Some now) v = now
-
-either_same : (b : Bool) (v : Value) → v ≡ cond b v v
-either_same true v = refl
-either_same false v = refl
-
-one_more : (xs : List Settlement) (number class p : ℕ) (o : Option Value) →
-    value_of (xs ++ opening_settlement number class o) p ≡ cond (eqb class p) (or_else o (value_of xs p)) (value_of xs p)
-one_more xs number class p None = ap (λ ys. value_of ys p) (append-nil xs) ∙ either_same (eqb class p) (value_of xs p)
-one_more xs number class p (Some now) = value_of-more xs (record { number = number; class = class; was = Draw; now = now }) p
+-- ---- the settlements of the opening are those of a node that is the only one
 
 sole_place : (k : ℕ) → k * 1 + 0 ≡ k
 sole_place k = omega arith
 
--- of the classes at later places nothing is said
-pub later_draw : (status : ℕ → Status) (k p : ℕ) → k ≤ p → value_of (opening_settlements status 1 0 k) p ≡ Draw
-later_draw status zero p later = refl
-later_draw status (suc k) p later =
-    let before = opening_settlements status 1 0 k in
-    one_more before (length before) (k * 1 + 0) p (opening_value (status (k * 1 + 0)))
-    ∙ ap (λ b. cond b (or_else (opening_value (status (k * 1 + 0))) (value_of before p)) (value_of before p))
-    (ne_eqb (k * 1 + 0) p (λ same. let is : k * 1 + 0 ≡ k = sole_place k in omega arith))
-    ∙ later_draw status k p (omega arith)
-
--- the value of a class after the settlement of one more, by whether it is that one
-abbrev pub chosen : (ℕ → Status) → ℕ → ℕ → Bool → Value
-chosen status k p b = let before = value_of (opening_settlements status 1 0 k) p in
-    cond b (or_else (opening_value (status (k * 1 + 0))) before) before
-
--- the classes at the places have the values of their statuses
-pub opened_value : (status : ℕ → Status) (k p : ℕ) → p < k → value_of (opening_settlements status 1 0 k) p ≡ or_else (opening_value (status p)) Draw
-opened_value status zero p low = absurd (omega arith)
-opened_value status (suc k) p low =
-    one_more (opening_settlements status 1 0 k) (length (opening_settlements status 1 0 k)) (k * 1 + 0) p (opening_value (status (k * 1 + 0)))
-    ∙ at (λ less. opened_value status k p less)
-  where
-    at : (p < k → value_of (opening_settlements status 1 0 k) p ≡ or_else (opening_value (status p)) Draw) →
-        chosen status k p (eqb (k * 1 + 0) p) ≡ or_else (opening_value (status p)) Draw
-    at earlier = elim (cases_order p k) [
-      | inl same ↦ ap (λ b. chosen status k p b) (eq-eqb (k * 1 + 0) p (sole_place k ∙ sym same))
-          ∙ ap (λ q. or_else (opening_value (status q)) (value_of (opening_settlements status 1 0 k) p)) (sole_place k ∙ sym same)
-          ∙ ap (λ v. or_else (opening_value (status p)) v) (later_draw status k p (omega arith))
-      | inr order ↦ elim order [
-        | inl less ↦ ap (λ b. chosen status k p b) (ne_eqb (k * 1 + 0) p (λ same. let is : k * 1 + 0 ≡ k = sole_place k in omega arith)) ∙ earlier less
-        | inr more ↦ absurd (omega arith)
-      ]
-    ]
-
--- ---- the history
-
-better_draw : (status : Status) (now : Value) → opening_value status ≡ Some now → Better Draw now
-better_draw Caught now is = subst (λ (o : Option Value). Better Draw (or_else o Draw)) is tt
-better_draw Tried now is = subst (λ (o : Option Value). Better Draw (or_else o Draw)) is tt
-better_draw Stuck now is = subst (λ (o : Option Value). Better Draw (or_else o Draw)) is tt
-better_draw Open now is = absurd cc
-
-entry_opened : (status : Status) → IsEntry (or_else (opening_value status) Draw)
-entry_opened Caught = (refl, lit≤ tt)
-entry_opened Tried = (refl, lit≤ tt)
-entry_opened Stuck = (refl, lit≤ tt)
-entry_opened Open = tt
-
-pub opened_chained : (classes : ℕ) (status : ℕ → Status) (k : ℕ) → k ≤ classes → IsChained classes 1 0 (opening_settlements status 1 0 k)
-opened_chained classes status zero low = chained_none classes 1 0
-opened_chained classes status (suc k) low = more (opened_chained classes status k (omega arith)) (opening_value (status (k * 1 + 0))) refl
-  where
-    more : IsChained classes 1 0 (opening_settlements status 1 0 k) → (o : Option Value) → opening_value (status (k * 1 + 0)) ≡ o →
-        IsChained classes 1 0 (opening_settlements status 1 0 k ++ opening_settlement (length (opening_settlements status 1 0 k)) (k * 1 + 0) o)
-    more chained None is = subst (λ xs. IsChained classes 1 0 xs) (sym (append-nil (opening_settlements status 1 0 k))) chained
-    more chained (Some now) is = chained_more classes 1 0 (opening_settlements status 1 0 k) _ chained (record {
-      number = refl;
-      below = let same : k * 1 + 0 ≡ k = sole_place k in omega arith;
-      own = one_owner (k * 1 + 0);
-      was = sym (later_draw status k (k * 1 + 0) (let same : k * 1 + 0 ≡ k = sole_place k in omega arith));
-      better = better_draw (status (k * 1 + 0)) now is;
-    })
-
-one_entry : (number class : ℕ) (o : Option Value) → IsEntry (or_else o Draw) → All (λ (s : Settlement). IsEntry s.now) (opening_settlement number class o)
-one_entry number class None entry = All-nil (λ (s : Settlement). IsEntry s.now)
-one_entry number class (Some now) entry = All-cons (λ (s : Settlement). IsEntry s.now) _ [] entry (All-nil (λ (s : Settlement). IsEntry s.now))
-
-pub opened_entries : (status : ℕ → Status) (k : ℕ) → All (λ (s : Settlement). IsEntry s.now) (opening_settlements status 1 0 k)
-opened_entries status zero = All-nil (λ (s : Settlement). IsEntry s.now)
-opened_entries status (suc k) =
-    let before = opening_settlements status 1 0 k in
-    All-append (λ (s : Settlement). IsEntry s.now) before _ (opened_entries status k)
-    (one_entry (length before) (k * 1 + 0) (opening_value (status (k * 1 + 0))) (entry_opened (status (k * 1 + 0))))
+value_opened : (status : ℕ → Status) (k p : ℕ) → p < k → value_of (opening_settlements status 1 0 k) p ≡ or_else (opening_value (status p)) Draw
+value_opened status k p low =
+    subst (λ (q : ℕ). value_of (opening_settlements status 1 0 k) q ≡ or_else (opening_value (status q)) Draw) (sole_place p)
+    (opened_value 1 0 (omega arith) status k p low)
 
 -- ---- the node
 
 fresh_draw : (moves : ℕ) → CellValue (fresh moves) Draw
 fresh_draw moves = (refl, inr (λ plies. refl))
-
-closed_follows : (status : Status) → status ≢ Open → FollowsAtStatus status [] (or_else (opening_value status) Draw)
-closed_follows Caught closed = refl
-closed_follows Tried closed = refl
-closed_follows Stuck closed = refl
-closed_follows Open closed = absurd (closed refl)
 
 module _ (set : PieceSet) (openings : List Opening) (node : Node) (are : AreOpenings set openings) (opened : IsOpened openings set 0 1 node)
     (sound : IsSound node) where
@@ -200,7 +107,7 @@ module _ (set : PieceSet) (openings : List Opening) (node : Node) (are : AreOpen
       (subst (λ m. SameCell (cell_at node.share p) (fresh m)) (is_opening p low).moves (opened.cells p (own p low)))
 
   value_is : (p : ℕ) (s : Status) → p < classes → HasStatus (class_setup set p) s → value_of h p ≡ or_else (opening_value s) Draw
-  value_is p s low is = opened_value status classes p low
+  value_is p s low is = value_opened status classes p low
       ∙ ap (λ st. or_else (opening_value st) Draw) (one_status (class_setup set p) (status p) s (is_opening p low).status is)
 
   none_applied : (i : ℕ) → sole_applied [] i 0 ≡ []
@@ -212,7 +119,8 @@ module _ (set : PieceSet) (openings : List Opening) (node : Node) (are : AreOpen
   at_zero P base (suc i) low = absurd (omega arith)
 
   chained : (i : ℕ) → i < 1 → IsChained classes 1 i (sole_history h i)
-  chained = at_zero (λ i xs. IsChained classes 1 i xs) (opened_chained classes status classes (omega arith))
+  chained = at_zero (λ i xs. IsChained classes 1 i xs)
+      (opened_chained 1 0 (omega arith) status classes classes (λ q less. let same : q * 1 + 0 ≡ q = sole_place q in omega arith))
 
   falls : HaveFalls set 1 (sole_history h) (cells_below classes node.share)
   falls = falls_start set 1 (sole_history h) (cells_below classes node.share) chained
@@ -222,7 +130,7 @@ module _ (set : PieceSet) (openings : List Opening) (node : Node) (are : AreOpen
   lawful : AreLawfulNodes set 1 (sole_history h) (sole_applied []) (cells_below classes node.share) (value_of h)
   lawful = record {
     chained = chained;
-    entries = at_zero (λ i xs. All (λ (s : Settlement). IsEntry s.now) xs) (opened_entries status classes);
+    entries = at_zero (λ i xs. All (λ (s : Settlement). IsEntry s.now) xs) (opened_entries 1 0 (omega arith) status classes);
     begun = begun;
     sums = λ p low is. SumsUp-same (known_of set 1 (sole_history h) (sole_applied []) p) (cells_below classes node.share p)
         (fresh (length (moves_of (class_setup set p)))) (cell_is p low)

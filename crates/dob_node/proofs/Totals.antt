@@ -23,6 +23,7 @@ use Rattle.dob_rank.specs.Order.{RepresentsIn}
 use Rattle.dob_rank.specs.Numbers.{sum_below}
 use Rattle.dob_rank.specs.Marks.{classes_of, class_number}
 use Rattle.dob_rank.specs.ClassRows.{class_setup}
+use Rattle.dob_rank.proofs.Sums.{sum_same}
 use Rattle.dob_rank.proofs.Marks.{HasClasses-classes_of}
 use Rattle.dob_rank.proofs.ClassNumbers.{class_number-below}
 use Rattle.dob_rank.proofs.Representatives.{class_setup_is}
@@ -44,13 +45,6 @@ use Rattle.dob_node.proofs.Copies.{NonePass, last_now-none}
 use Rattle.dob_share.proofs.Learning.{counted}
 
 -- ---- each move leads into one class
-
-sum_below-same : (f g : ℕ → ℕ) (n : ℕ) → ((k : ℕ) → k < n → f k ≡ g k) → sum_below f n ≡ sum_below g n
-sum_below-same f g zero same = refl
-sum_below-same f g (suc n) same =
-    let before = sum_below-same f g n (λ k below. same k (omega arith)) in
-    let last = same n (omega arith) in
-    ap (λ m. m + f n) before ∙ ap (λ m. sum_below g n + m) last
 
 sum_below-none : (n : ℕ) → sum_below (λ _. 0) n ≡ 0
 sum_below-none zero = refl
@@ -88,7 +82,7 @@ in_all_places f n [] below = sum_below-none n
 in_all_places f n (x ∷ xs) below =
     let here = its_place (f x) n (All-head (λ y. f y < n) x xs below) in
     let rest = in_all_places f n xs (All-tail (λ y. f y < n) x xs below) in
-    let parts = sum_below-same (λ k. count_by (λ y. eqb (f y) k) (x ∷ xs)) (λ k. cond (eqb (f x) k) 1 0 + count_by (λ y. eqb (f y) k) xs) n
+    let parts = sum_same (λ k. count_by (λ y. eqb (f y) k) (x ∷ xs)) (λ k. cond (eqb (f x) k) 1 0 + count_by (λ y. eqb (f y) k) xs) n
     (λ k low. sum_by-cons (λ y. cond (eqb (f y) k) 1 0) x xs) in
     let sums = sum_below-both (λ k. cond (eqb (f x) k) 1 0) (λ k. count_by (λ y. eqb (f y) k) xs) n in
     omega arith
@@ -130,7 +124,7 @@ module _ (set : PieceSet) (p : ℕ) (low : p < classes_of set) where
       let row : ℕ → List Value =
       λ q. each_below (λ (copy : ℕ). known (histories (owner_of n q)) (applied (owner_of n q)) p q copy ∷ []) (copies (predecessors set) p q) in
       length-each row (classes_of set)
-      ∙ sum_below-same (λ q. length (row q)) (λ q. edges set p q) (classes_of set)
+      ∙ sum_same (λ q. length (row q)) (λ q. edges set p q) (classes_of set)
       (λ q below. length-row (λ copy. known (histories (owner_of n q)) (applied (owner_of n q)) p q copy) (copies (predecessors set) p q)
       ∙ copies-edges q below)
       ∙ edges-all

@@ -4,6 +4,7 @@ ghost use Rattle.std.specs.Prelude.{true, false, None, Some, Ok, Err, IsTrue, If
 ghost use Rattle.std.specs.List.{All};
 ghost use Rattle.std.specs.VecDeque.{deque_len, deque_capacity};
 ghost use Rattle.dob_share.specs.Owners.{owner_of};
+ghost use Rattle.dob_update.specs.Batches.{most_items};
 ghost use Rattle.dob_update.specs.Items.{items_of};
 ghost use Rattle.dob_node.specs.declared.cause.Cause.TheVariants as cause;
 ghost use Rattle.dob_node.specs.OpeningLists.{opening_value, opening_settlement, opening_settlements, status_in};
@@ -40,9 +41,8 @@ pub struct Node {
     expanded: u64,
     own: VecDeque<Item>,
     outboxes: Vec<Outbox>,
-    // Lists whose room each expansion uses again.
+    // A list whose room each expansion uses again.
     targets: Vec<u64>,
-    items: Vec<Item>,
     // How many items were applied of the batch that was applied last.
     taken: usize,
     failed: Option<Cause>,
@@ -92,7 +92,6 @@ impl Node {
             own: VecDeque::new(alloc),
             outboxes,
             targets: Vec::new(alloc),
-            items: Vec::new(alloc),
             taken: 0,
             failed: None,
         })
@@ -140,17 +139,9 @@ impl Node {
         let room = mem::replace(&mut self.targets, Vec::new(self.alloc));
         let targets = back_into(room, classes, settlement.class)?;
         self.own.reserve(targets.len())?;
-        let mut items = mem::replace(&mut self.items, Vec::new(self.alloc));
-        add_for_others(
-            &mut items,
-            &mut self.outboxes,
-            settlement,
-            &targets,
-            self.id,
-        )?;
+        add_for_others(&mut self.outboxes, settlement, &targets, self.id)?;
         push_own(&mut self.own, settlement, &targets, self.n, self.id);
         self.targets = targets;
-        self.items = items;
         self.expanded += 1;
         Ok(true)
     }
@@ -301,7 +292,7 @@ impl Node {
         requires sound { IsSound self.old }
         requires to { to < self.old.n }
         requires some { 0 < size }
-        requires at_most { size ≤ 4096 }
+        requires at_most { size ≤ most_items }
         requires going { self.old.failed ≡ None }
         ensures none { (result ≡ Ok None) ↔ ((outbox_to self.old to).items ≡ []) }
         ensures nothing { result ≡ Ok None → self.new ≡ self.old }
@@ -324,7 +315,7 @@ impl Node {
         requires sound { IsSound self.old }
         requires to { to < self.old.n }
         requires some { 0 < size }
-        requires at_most { size ≤ 4096 }
+        requires at_most { size ≤ most_items }
         ensures none { (result ≡ Ok None) ↔ ((outbox_to self.old to).items ≡ []) }
         ensures nothing { result ≡ Ok None → self.new ≡ self.old }
         ensures cut { IfOk result (λ given. IfSome given (λ batch. HasCut to size batch self.old self.new)) }

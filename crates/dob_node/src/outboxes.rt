@@ -5,12 +5,12 @@ ghost use Rattle.std.specs.List.{All};
 ghost use Rattle.dob_pieces.specs.declared.piece_set.PieceSet.{PieceSet as Set};
 ghost use Rattle.dob_unmove.specs.Edges.{predecessors};
 ghost use Rattle.dob_update.specs.Items.{items_of};
-ghost use Rattle.dob_update.specs.Batches.{OutboxView, HasOneMore, empty_outbox, added};
+ghost use Rattle.dob_update.specs.Batches.{OutboxView, most_items, HasOneMore, empty_outbox, added};
 ghost use Rattle.dob_node.specs.Outboxes.{outbox_in, IsOutboxTo, AreAdded, HaveOneMore, IsCutFrom};
 
 use dob_pieces::{Memory, PieceSet};
-use dob_share::{Item, Settlement};
-use dob_update::{Batch, Outbox, count_items, push_items};
+use dob_share::Settlement;
+use dob_update::{Batch, Outbox, count_items};
 use std::alloc::Global;
 
 /// Outboxes with nothing to send, of node `from` among `n`, for each node.
@@ -31,11 +31,10 @@ pub(crate) fn empty_outboxes(
 }
 
 /// Adds a settlement to the outbox for each node but `from`, with its items for that node; `targets` are the classes
-/// with a move into the settled one. The list is for the items of one node at a time; what it held is gone.
+/// with a move into the settled one.
 ///
 /// Error: `Memory`, which leaves the outboxes as they were.
 pub(crate) fn add_for_others(
-    items: &mut Vec<Item>,
     outboxes: &mut Vec<Outbox>,
     settlement: Settlement,
     targets: &[u64],
@@ -48,7 +47,7 @@ pub(crate) fn add_for_others(
     let n = outboxes.len();
     for to in 0..n {
         if to != from {
-            match add_to(items, outboxes, to, settlement, targets) {
+            match add_to(outboxes, to, settlement, targets) {
                 Ok(()) => {}
                 Err(why) => {
                     take_back(outboxes, targets, from, to);
@@ -62,21 +61,18 @@ pub(crate) fn add_for_others(
 
 // Adds a settlement with its items to the outbox for a node. After `Memory` the outboxes are unchanged.
 fn add_to(
-    items: &mut Vec<Item>,
     outboxes: &mut Vec<Outbox>,
     to: usize,
     settlement: Settlement,
     targets: &[u64],
 ) -> Result<(), Memory>
     requires there { to < vec_len outboxes.old }
-    requires items { (default : OutboxView) → let outbox = slice_index_or outboxes.old.items to default in items_of (λ _. targets.now) (vec_len outboxes.old) to settlement ≡ items_of (predecessors outbox.set) outbox.n outbox.to settlement }
+    requires of { (default : OutboxView) → let outbox = slice_index_or outboxes.old.items to default in (outbox.n ≡ vec_len outboxes.old) × (outbox.to ≡ to) × (targets.now ≡ predecessors outbox.set settlement.class) }
     ensures added { OnOk result ((default : OutboxView) → outboxes.new.items ≡ slice_set outboxes.old.items to (added (slice_index_or outboxes.old.items to default) settlement (items_of (λ _. targets.now) (vec_len outboxes.old) to settlement))) }
     ensures unchanged { OnErr result (outboxes.new.items ≡ outboxes.old.items) }
 {
-    items.clear();
-    push_items(items, settlement, targets, outboxes.len(), to)?;
     let outbox = &mut outboxes[to];
-    outbox.add(settlement, items)
+    outbox.add_targets(settlement, targets)
 }
 
 // Takes the settlement that was added last back out of the outboxes for the nodes below `upto` but `from`; `targets`
@@ -115,7 +111,7 @@ pub(crate) fn cut_at(
 ) -> Result<Option<Batch>, Memory>
     requires there { to < vec_len outboxes.old }
     requires some { 0 < size }
-    requires at_most { size ≤ 4096 }
+    requires at_most { size ≤ most_items }
     requires counted { (default : OutboxView) → (slice_index_or outboxes.old.items to default).next + 1 < 2 ^ 64 }
     ensures none { IfOk result (λ given. IsNone given → (default : OutboxView) → (slice_index_or outboxes.old.items to default).items ≡ []) }
     ensures nothing { IfOk result (λ given. IsNone given → outboxes.new.items ≡ outboxes.old.items) }

@@ -6,6 +6,7 @@ use Rattle.dob_pieces.specs.declared.piece_set.PieceSet.{PieceSet}
 use Rattle.dob_pieces.proofs.Boards.{all_below, all_below-at}
 use Rattle.dob_rank.specs.declared.starts.TheConstants.{STARTS}
 use Rattle.dob_rank.specs.Numbers.{product, digits_of, sum_below, choose, block_bases, block_size, own_squares, enemy_squares, free_squares}
+use Rattle.dob_rank.proofs.Sums.{sum_same}
 use Rattle.dob_rank.proofs.Numbering.{block_size-product}
 
 -- the bases and the size of a block by the numbers of the set
@@ -61,10 +62,6 @@ tells c e g block lc le lg upto few =
     (second (nat_lt (product (bases_of c e g)) block) (nat_eq (start_in (9 * c + 3 * e + g) block) (sum_below (size_by c e g) block)) here
     (le-ltb (product (bases_of c e g)) block upto))
 
-sum_below-same : (f g : ℕ → ℕ) → ((n : ℕ) → f n ≡ g n) → (n : ℕ) → sum_below f n ≡ sum_below g n
-sum_below-same f g h zero = refl
-sum_below-same f g h (suc n) = (let a = sum_below-same f g h n in let b = h n in omega arith)
-
 pub small_set : (n : ℕ) → n ≤ 2 → n < 3
 small_set n h = omega arith
 
@@ -73,7 +70,7 @@ pub start_is : (set : PieceSet) (block : ℕ) → block ≤ product (block_bases
 start_is set block upto few =
     tells set.chicks set.elephants set.giraffes block (small_set _ set.few_chicks) (small_set _ set.few_elephants)
     (small_set _ set.few_giraffes) upto (omega arith)
-    ∙ sym (sum_below-same (block_size set) (size_by set.chicks set.elephants set.giraffes) (λ n. block_size-product set n) block)
+    ∙ sym (sum_same (block_size set) (size_by set.chicks set.elephants set.giraffes) block (λ n low. block_size-product set n))
 
 -- ---- how large they are: the entries of all rows
 

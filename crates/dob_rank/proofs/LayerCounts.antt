@@ -67,13 +67,13 @@ length-settle t pieces number (l ∷ ls) = elim (cases_eq l (order Empty)) [
 
 -- ---- a layer of one cell
 
-pub choice_of_none : (t : ℕ) (ls : List ℕ) → count t ls ≡ 0 → choice t ls ≡ 0
-choice_of_none t [] h = refl
-choice_of_none t (l ∷ ls) h = elim (cases_order l t) [
+pub choice_none : (t : ℕ) (ls : List ℕ) → count t ls ≡ 0 → choice t ls ≡ 0
+choice_none t [] h = refl
+choice_none t (l ∷ ls) h = elim (cases_order l t) [
   | inl e ↦ absurd (let one : count t (l ∷ ls) ≡ suc (count t ls) = ap (λ (x : ℕ). count t (x ∷ ls)) e ∙ count_same t ls in omega arith)
   | inr o ↦ (let other : l ≡ t → ⊥ = elim o [ inl lt ↦ omega arith | inr gt ↦ omega arith ] in
       let none : count t ls ≡ 0 = sym (count_other t l ls other) ∙ h in
-      let rest : choice t ls ≡ 0 = choice_of_none t ls none in
+      let rest : choice t ls ≡ 0 = choice_none t ls none in
       elim o [
         | inl lt ↦ choice_not_later t l ls (omega arith) ∙ rest
         | inr gt ↦ choice_later t l ls gt ∙ ap (λ (x : ℕ). with_first (count_from t ls) x + choice t ls) none ∙ ap (λ (x : ℕ). 0 + x) rest
@@ -95,7 +95,7 @@ lion_at [] h = absurd (omega arith)
 lion_at (zero ∷ ls) h =
     let none : count (order OwnLion) ls ≡ 0 = (let one : count (order OwnLion) (zero ∷ ls) ≡ suc (count (order OwnLion) ls)
     = count_same (order OwnLion) ls in omega arith) in
-    ap (λ (x : ℕ). get_or (zero ∷ ls) x (order Empty)) (choice_not_later (order OwnLion) 0 ls (omega arith) ∙ choice_of_none (order OwnLion) ls none)
+    ap (λ (x : ℕ). get_or (zero ∷ ls) x (order Empty)) (choice_not_later (order OwnLion) 0 ls (omega arith) ∙ choice_none (order OwnLion) ls none)
 lion_at (suc l ∷ ls) h =
     let one : count (order OwnLion) ls ≡ 1 = sym (count_other (order OwnLion) (suc l) ls (omega arith)) ∙ h in
     let next : choice (order OwnLion) (suc l ∷ ls) ≡ suc (choice (order OwnLion) ls) = choice_later (order OwnLion) (suc l) ls (omega arith)
@@ -112,7 +112,7 @@ lion_only [] k h e = absurd (omega arith)
 lion_only (zero ∷ ls) k h e =
     let none : count (order OwnLion) ls ≡ 0 = (let one : count (order OwnLion) (zero ∷ ls) ≡ suc (count (order OwnLion) ls)
     = count_same (order OwnLion) ls in omega arith) in
-    let here : choice (order OwnLion) (zero ∷ ls) ≡ 0 = choice_not_later (order OwnLion) 0 ls (omega arith) ∙ choice_of_none (order OwnLion) ls none in
+    let here : choice (order OwnLion) (zero ∷ ls) ≡ 0 = choice_not_later (order OwnLion) 0 ls (omega arith) ∙ choice_none (order OwnLion) ls none in
     first_only ls k none e ∙ sym here
 lion_only (suc l ∷ ls) zero h e = absurd (let z : suc l ≡ 0 = e in omega arith)
 lion_only (suc l ∷ ls) (suc k) h e =

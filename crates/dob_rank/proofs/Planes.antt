@@ -15,7 +15,7 @@ use Rattle.dob_rank.specs.Masks.{layer_mask, from_mask, plane_len, all_squares, 
 use Rattle.dob_rank.proofs.Choices.{count_same, count_other, count_from_lower, count_from_later, choice_later, choice_not_later}
 use Rattle.dob_pieces.specs.Setups.{Cell}
 use Rattle.dob_pieces.proofs.Boards.{all_below, all_below-at}
-use Rattle.dob_rank.proofs.LayerCounts.{count_from-next}
+use Rattle.dob_rank.proofs.LayerCounts.{count_from-next, choice_none}
 use Rattle.dob_rank.proofs.EmptySquares.{choose_one, one_way}
 use Rattle.dob_rank.proofs.BlockStarts.{same_number, second}
 
@@ -210,21 +210,6 @@ second_bits t (l ∷ ls) h = elim (cases_order l t) [
 ]
 
 -- ---- the number of the choice
-
-pub choice_none : (t : ℕ) (ls : List ℕ) → count t ls ≡ 0 → choice t ls ≡ 0
-choice_none t [] h = refl
-choice_none t (l ∷ ls) h = elim (cases_order l t) [
-  | inl e ↦ (let more : count t (l ∷ ls) ≡ suc (count t ls) = ap (λ (x : ℕ). count t (x ∷ ls)) e ∙ count_same t ls in absurd (omega arith))
-  | inr o ↦ elim o [
-    | inl lt ↦ (let other : l ≡ t → ⊥ = omega arith in
-        choice_not_later t l ls (omega arith) ∙ choice_none t ls (sym (count_other t l ls other) ∙ h))
-    | inr gt ↦ (let other : l ≡ t → ⊥ = omega arith in
-        let none : count t ls ≡ 0 = sym (count_other t l ls other) ∙ h in
-        let rest : choice t ls ≡ 0 = choice_none t ls none in
-        choice_later t l ls gt ∙ ap (λ (n : ℕ). with_first (count_from t ls) n + choice t ls) none
-        ∙ (let e : with_first (count_from t ls) 0 + choice t ls ≡ 0 = omega arith in e))
-  ]
-]
 
 pub choice_one : (t : ℕ) (ls : List ℕ) → count t ls ≡ 1 → choice t ls ≡ before_first t ls
 choice_one t [] h = absurd (omega arith)

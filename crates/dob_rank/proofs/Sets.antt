@@ -11,6 +11,7 @@ use Rattle.dob_rank.specs.Numbers.{layer, count, product, number_of, digits_of, 
 use Rattle.dob_rank.specs.Numbers.{block_of, block_size, rank_of}
 use Rattle.dob_rank.specs.declared.layers.Layer.TheVariants.{OwnLion, EnemyLion, Chicks, Elephants, Giraffes, Empty}
 use Rattle.dob_rank.proofs.Digits.{HasParts, HasParts-from_position}
+use Rattle.dob_rank.proofs.Sums.{sum_same}
 use Rattle.dob_rank.proofs.Numbering.{block_size-product, rank_of-place, place_of, HasRank-rank_of}
 
 -- a legal setup with the totals of the set
@@ -80,10 +81,6 @@ block_size-same p q b c e g =
     (slice_index (digits_of (block_bases q) b) 2) c e g)
     ∙ sym (block_size-product q b)
 
-sum_below-same : (f g : ℕ → ℕ) → ((n : ℕ) → f n ≡ g n) → (n : ℕ) → sum_below f n ≡ sum_below g n
-sum_below-same f g h zero = refl
-sum_below-same f g h (suc n) = (let a : sum_below f n ≡ sum_below g n = sum_below-same f g h n in let b : f n ≡ g n = h n in omega arith)
-
 pub rank_of-sets : (p q : PieceSet) (s : Setup) → IsPositionOf p s → IsPositionOf q s → rank_of p s ≡ rank_of q s
 rank_of-sets p q s hp hq =
     let c : p.chicks ≡ q.chicks = sym (hp.pieces hand.Chick) ∙ hq.pieces hand.Chick in
@@ -91,7 +88,7 @@ rank_of-sets p q s hp hq =
     let g : p.giraffes ≡ q.giraffes = sym (hp.pieces hand.Giraffe) ∙ hq.pieces hand.Giraffe in
     rank_of-place p s
     ∙ ap (λ (xs : List ℕ). sum_below (block_size p) (number_of xs (on_board s)) + place_of p s) (block_bases-same p q c e g)
-    ∙ ap (λ (n : ℕ). n + place_of p s) (sum_below-same (block_size p) (block_size q) (λ n. block_size-same p q n c e g) (block_of q s))
+    ∙ ap (λ (n : ℕ). n + place_of p s) (sum_same (block_size p) (block_size q) (block_of q s) (λ n low. block_size-same p q n c e g))
     ∙ ap (λ (xs : List ℕ). sum_below (block_size q) (block_of q s) + number_of xs (digits s))
     (bases-same p q (count (order Chicks) (map layer s.board)) (count (order Elephants) (map layer s.board)) (count (order Giraffes) (map layer s.board)) c e g)
     ∙ sym (rank_of-place q s)
@@ -104,7 +101,7 @@ abbrev set_with : (c e g : ℕ) → c ≤ 2 → e ≤ 2 → g ≤ 2 → PieceSet
 set_with c e g few_c few_e few_g = record { chicks = c; elephants = e; giraffes = g; few_chicks = few_c; few_elephants = few_e; few_giraffes = few_g }
 
 -- sets with the same numbers are the same
-same_numbers : (p q : PieceSet) → p.chicks ≡ q.chicks → p.elephants ≡ q.elephants → p.giraffes ≡ q.giraffes → p ≡ q
+pub same_numbers : (p q : PieceSet) → p.chicks ≡ q.chicks → p.elephants ≡ q.elephants → p.giraffes ≡ q.giraffes → p ≡ q
 same_numbers p q c e g =
     subst (λ (x : ℕ). (f : x ≤ 2) → p ≡ set_with x p.elephants p.giraffes f p.few_elephants p.few_giraffes) c
     (λ f. ap (λ (h : p.chicks ≤ 2). set_with p.chicks p.elephants p.giraffes h p.few_elephants p.few_giraffes) (le_prop p.few_chicks f)) q.few_chicks

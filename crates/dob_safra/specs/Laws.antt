@@ -3,7 +3,7 @@ use Rattle.std.specs.Prelude.{◌≡◌, ℕ, ◌^◌, ◌<◌, ◌≤◌, Bool,
 use Rattle.dob_safra.specs.declared.token.Token.{Token}
 use Rattle.dob_safra.specs.declared.event.RingEvent.{RingEvent}
 use Rattle.dob_safra.specs.declared.event.RingEvent.TheVariants.{Post, Take}
-use Rattle.dob_safra.specs.Tokens.{IsToken, IsPacked}
+use Rattle.dob_safra.specs.Tokens.{most_nodes, IsToken, IsPacked}
 use Rattle.dob_safra.specs.Rings.{Ring, counter, IsLawfulRing, IsStart, Moved, IsAnnounceable, AllWhite, AllTaken, in_flight}
 
 abbrev pub WordHasOneToken : Type 0
@@ -11,7 +11,7 @@ WordHasOneToken = (word : ℕ) (one other : Token) → IsPacked one word → IsP
 
 -- a ring of 1 to 16 nodes
 abbrev pub IsSize : ℕ → Type 0
-IsSize n = (0 < n) × (n ≤ 16)
+IsSize n = (0 < n) × (n ≤ most_nodes)
 
 abbrev pub StartIsLawful : Type 0
 StartIsLawful = (n : ℕ) (ring : Ring) → IsSize n → IsStart n ring → IsLawfulRing n ring

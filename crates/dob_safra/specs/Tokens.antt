@@ -2,9 +2,13 @@
 use Rattle.std.specs.Prelude.{◌≡◌, ℕ, ◌+◌, ◌-◌, ◌*◌, ◌^◌, ◌<◌, Bool, true, false, cond, ◌==◌, ℤ, pos, neg_ℤ, ◌+ℤ◌, ◌≤ℤ◌}
 use Rattle.dob_safra.specs.declared.token.Token.{Token}
 
+-- as many nodes as a ring may have
+abbrev pub most_nodes : ℕ
+most_nodes = 16
+
 -- one of the tokens that have a word
 pub record IsToken (token : Token) : Type 0 where
-  pub few_nodes : token.at < 16
+  pub few_nodes : token.at < most_nodes
   pub low : neg_ℤ (pos (2 ^ 48)) ≤ℤ token.sum
   pub high : token.sum ≤ℤ pos (2 ^ 48)
 

@@ -1,4 +1,4 @@
--- What the steps of reading give, where counts above 255 are taken as 255.
+-- What the steps of reading give, where counts above 255 are taken as 255. Only calls inside the crate name these.
 use Rattle.std.specs.Prelude.{ℕ, ◌+◌, ◌-◌, ◌*◌, min}
 use Rattle.dob_pieces.specs.declared.hand.Hand.{Hand}
 use Rattle.dob_pieces.specs.declared.setup.Setup.{Setup}

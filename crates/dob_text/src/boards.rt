@@ -37,7 +37,7 @@ fn place_of(square: usize) -> usize
 }
 
 /// The board of these fifteen bytes, if each letter is that of a square.
-pub fn board_of(grid: &[u8]) -> Option<[Option<Piece>; Square::COUNT]>
+pub(crate) fn board_of(grid: &[u8]) -> Option<[Option<Piece>; Square::COUNT]>
     requires { IsGrid grid.now }
     ensures { MatchOption result
         (¬ HasLetters grid.now)

@@ -29,7 +29,7 @@ fn capped_count(count: usize) -> u8
 }
 
 /// The hand that a word stands for, with 255 in place of a larger count.
-pub fn hand_of(word: &[u8], side: Side) -> Option<Hand>
+pub(crate) fn hand_of(word: &[u8], side: Side) -> Option<Hand>
     requires { 0 < length word.now }
     ensures { MatchOption result
         ((hand : Hand) → word.now ≢ hand_text side hand)

@@ -7,10 +7,10 @@ const GRID_LEN: usize = 15;
 
 /// The parts of a text, none of which has a space.
 #[derive(Clone, Copy)]
-pub struct Parts<'a> {
-    pub grid: &'a [u8],
-    pub mover: &'a [u8],
-    pub enemy: &'a [u8],
+pub(crate) struct Parts<'a> {
+    pub(crate) grid: &'a [u8],
+    pub(crate) mover: &'a [u8],
+    pub(crate) enemy: &'a [u8],
 }
 
 /// Whether these fifteen bytes have slashes at 3, 7 and 11, no other slash, and no space.
@@ -18,24 +18,14 @@ fn is_grid(grid: &[u8]) -> bool
     requires { length grid.now ≡ 15 }
     ensures { IsTrue result ↔ IsGrid grid.now }
 {
-    for (i, byte) in grid.iter().enumerate() {
-        if *byte == b' ' || (*byte == b'/') != (i % 4 == 3) {
-            return false;
-        }
-    }
-    true
+    grid.iter().enumerate().all(|(i, byte)| *byte != b' ' && (*byte == b'/') == (i % 4 == 3))
 }
 
 /// Whether there are bytes, and none is a space.
 fn is_word(word: &[u8]) -> bool
     ensures { IsTrue result ↔ IsWord word.now }
 {
-    for byte in word {
-        if *byte == b' ' {
-            return false;
-        }
-    }
-    !word.is_empty()
+    !word.is_empty() && word.iter().all(|byte| *byte != b' ')
 }
 
 /// The place of the first space.
@@ -62,7 +52,7 @@ fn words_of(text: &[u8]) -> Option<(&[u8], &[u8])>
 }
 
 /// The parts of a text of the right shape.
-pub fn parts_of(text: &[u8]) -> Option<Parts<'_>>
+pub(crate) fn parts_of(text: &[u8]) -> Option<Parts<'_>>
     ensures { MatchOption result
         (¬ HasShape text.now)
         (λ parts. IsAscii text.now × AreParts text.now parts.grid.now parts.mover.now parts.enemy.now) }

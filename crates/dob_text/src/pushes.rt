@@ -5,7 +5,7 @@ ghost use Rattle.std.specs.String.{string_bytes};
 use std::alloc::AllocError;
 
 /// Writes an ASCII byte at the end.
-pub fn push_byte(text: &mut String, byte: u8) -> Result<(), AllocError>
+pub(crate) fn push_byte(text: &mut String, byte: u8) -> Result<(), AllocError>
     requires { byte < 128 }
     ensures { OnOk result (string_bytes text.new ≡ string_bytes text.old ++ byte ∷ []) }
 {
@@ -13,7 +13,7 @@ pub fn push_byte(text: &mut String, byte: u8) -> Result<(), AllocError>
 }
 
 /// Writes an ASCII byte that many times at the end.
-pub fn push_times(text: &mut String, byte: u8, count: u8) -> Result<(), AllocError>
+pub(crate) fn push_times(text: &mut String, byte: u8, count: u8) -> Result<(), AllocError>
     requires { byte < 128 }
     ensures { OnOk result (string_bytes text.new ≡ string_bytes text.old ++ replicate count byte) }
 {

@@ -12,7 +12,7 @@ use crate::parts::parts_of;
 use dob_pieces::{Hands, Setup, Side};
 
 /// The setup that a text spells, a position or not, with 255 in place of a larger count in hand.
-pub fn read_setup(text: &[u8]) -> Result<Setup, TextFault>
+pub(crate) fn read_setup(text: &[u8]) -> Result<Setup, TextFault>
     ensures { MatchResult result
         (λ setup. (full : Setup) × Spells text.now full × (setup ≡ capped_setup full))
         (λ fault. HasTextFault text.now fault) }

@@ -14,7 +14,7 @@ use Rattle.dob_pieces.specs.declared.piece_set.PieceSet.{PieceSet}
 use Rattle.dob_share.specs.Owners.{owner_of}
 use Rattle.dob_unmove.specs.Edges.{predecessors}
 use Rattle.dob_update.specs.Items.{item_for, items_of}
-use Rattle.dob_update.specs.Parts.{total, front, behind, skip_behind, items_of_parts, target_of}
+use Rattle.dob_update.specs.Parts.{total, front, behind, skip_behind, items_of_parts, target_of, settlement_of, settlements_of}
 use Rattle.dob_update.specs.Batches.{OutboxView, added}
 use Rattle.dob_update.specs.Runs.{IsRest, AreListed}
 use Rattle.dob_update.proofs.PartLists.{front-zero, front-cons, behind-within, behind-past}
@@ -131,7 +131,7 @@ items_of_parts-behind k parts classes enough within =
 
 -- ---- the classes of items
 
-targets_of_items : (s : Settlement) (classes : List ℕ) → map target_of (map (item_for s) classes) ≡ classes
+pub targets_of_items : (s : Settlement) (classes : List ℕ) → map target_of (map (item_for s) classes) ≡ classes
 targets_of_items s [] = refl
 targets_of_items s (class ∷ classes) = ap (λ (xs : List ℕ). class ∷ xs) (targets_of_items s classes)
 
@@ -140,7 +140,7 @@ pub items_again : (s : Settlement) (items : List Item) (classes : List ℕ) → 
 items_again s items classes is =
     ap (λ (xs : List Item). map (item_for s) (map target_of xs)) is ∙ ap (λ (xs : List ℕ). map (item_for s) xs) (targets_of_items s classes) ∙ sym is
 
--- ---- telling
+-- ---- items made from parts
 
 -- the items of a settlement so far
 pub items_more : (s : Settlement) (before items : List Item) (classes : List ℕ) (start index class : ℕ) → start + index < length classes → class ≡ get_or classes (start + index) class
@@ -260,3 +260,26 @@ added_is view settlements items [] s some ss is = absurd (omega (arith, some))
 added_is view settlements items (item ∷ more) s some ss is =
     subst (λ (xs : List Item). (record view { settlements = settlements; items = xs }) ≡ added view s (item ∷ more)) (sym is)
     (subst (λ (ts : List Settlement). (record view { settlements = ts; items = view.items ++ item ∷ more }) ≡ added view s (item ∷ more)) (sym ss) refl)
+
+-- ---- an outbox that lists a settlement more, with the classes of its items
+
+module _ (set : PieceSet) (n to skip : ℕ) (parts grown : List Part) (classes longer : List ℕ) (s : Settlement) (more : List Item)
+    (listed : AreListed set n to parts skip classes) (some : 0 < length more) (low : length more < 2 ^ 64)
+    (of_settlement : more ≡ items_of (predecessors set) n to s) (parts_are : grown ≡ parts ++ (record { settlement = s; items = length more }) ∷ [])
+    (classes_are : longer ≡ classes ++ map target_of more) where
+  pub listed_grown : AreListed set n to grown skip longer
+  listed_grown =
+      subst (λ (ps : List Part). AreListed set n to ps skip longer) (sym parts_are)
+      (subst (λ (cs : List ℕ). AreListed set n to (parts ++ (record { settlement = s; items = length more }) ∷ []) skip cs) (sym classes_are)
+      (listed_more set n to parts skip classes s more listed some low of_settlement))
+
+  pub view_grown : (view : OutboxView) → view.settlements ≡ settlements_of parts → view.items ≡ items_of_parts parts classes →
+      (record view { settlements = settlements_of grown; items = items_of_parts grown longer }) ≡ added view s more
+  view_grown view before items =
+      added_is view (settlements_of grown) (items_of_parts grown longer) more s some
+      (ap settlements_of parts_are ∙ map-append settlement_of parts ((record { settlement = s; items = length more }) ∷ [])
+      ∙ ap (λ (ss : List Settlement). ss ++ s ∷ []) (sym before))
+      (ap (λ (ps : List Part). items_of_parts ps longer) parts_are
+      ∙ ap (λ (cs : List ℕ). items_of_parts (parts ++ (record { settlement = s; items = length more }) ∷ []) cs) classes_are
+      ∙ items_added set n to parts classes s more listed.counted of_settlement
+      ∙ ap (λ (xs : List Item). xs ++ more) (sym items))

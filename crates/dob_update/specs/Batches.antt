@@ -22,9 +22,16 @@ pub record BatchView : Type 0 where
 abbrev pub items_of_batches : List BatchView → List Item
 items_of_batches batches = flat_map (λ (b : BatchView). b.items) batches
 
+-- as many items as a batch may have, and as many batches as may wait on their way
+abbrev pub most_items : ℕ
+most_items = 4096
+
+abbrev pub most_batches : ℕ
+most_batches = 1024
+
 -- nodes may cut batches of at most so many items, of which at most so many wait on their way
 abbrev pub AreSizes : ℕ → ℕ → Type 0
-AreSizes batch capacity = (0 < batch) × (batch ≤ 4096) × (0 < capacity) × (capacity ≤ 1024)
+AreSizes batch capacity = (0 < batch) × (batch ≤ most_items) × (0 < capacity) × (capacity ≤ most_batches)
 
 -- what a node has still to send to another, and the number of the next batch
 pub record OutboxView : Type 0 where

@@ -1,4 +1,4 @@
--- Settlements with the number of items that each of them has somewhere.
+-- Settlements with the number of items that each of them has somewhere. Only types' invariants and calls inside the crate name these.
 use Rattle.std.specs.Prelude.{◌≡◌, ℕ, ◌+◌, ◌-◌, ◌^◌, ◌<◌, ◌≤◌, ◌==◌, nat_lt, min, cond, List, [], ◌∷◌, ◌++◌, length, map, take, drop}
 use Rattle.dob_share.specs.declared.news.Settlement.{Settlement}
 use Rattle.dob_share.specs.declared.news.Item.{Item}

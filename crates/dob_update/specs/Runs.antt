@@ -1,4 +1,4 @@
--- What batches and outboxes keep beside what is seen of them.
+-- What batches and outboxes keep beside what is seen of them: the invariants of their types, which no public call names.
 use Rattle.std.specs.Prelude.{◌≡◌, ℕ, ◌<◌, List, length, take, drop}
 use Rattle.dob_pieces.specs.declared.piece_set.PieceSet.{PieceSet}
 use Rattle.dob_unmove.specs.Edges.{predecessors}

@@ -1,18 +1,20 @@
 // Outboxes: what an owner has still to send to another.
-ghost use Rattle.std.specs.Prelude.{◌≡◌, ◌≢◌, ◌<◌, ◌≤◌, ◌+◌, ◌*◌, ◌-◌, ◌^◌, ◌↔◌, ℕ, [], ◌∷◌, ◌++◌, length, take, drop};
+ghost use Rattle.std.specs.Prelude.{◌≡◌, ◌≢◌, ◌<◌, ◌≤◌, ◌+◌, ◌*◌, ◌-◌, ◌^◌, ◌==◌, ◌↔◌, ℕ, [], ◌∷◌, ◌++◌, length, take, drop};
 ghost use Rattle.std.specs.Prelude.{map, vec_len, IsTrue, IsSome, IsNone, IfOk, IfSome, OnOk, OnErr};
+ghost use Rattle.std.specs.List.{filter};
 ghost use Rattle.std.specs.VecDeque.{deque_len, deque_capacity};
 ghost use Rattle.dob_unmove.specs.Edges.{predecessors};
 ghost use Rattle.dob_share.specs.declared.news.Settlement.{Settlement as Settled};
+ghost use Rattle.dob_share.specs.Owners.{owner_of};
 ghost use Rattle.dob_update.specs.Items.{item_for, items_of};
 ghost use Rattle.dob_update.specs.Parts.{front, behind, skip_behind, total, items_of_parts, target_of, AreWhole};
-ghost use Rattle.dob_update.specs.Batches.{OutboxView, IsOutbox, HasOneMore, IsCut, empty_outbox, added};
+ghost use Rattle.dob_update.specs.Batches.{OutboxView, most_items, IsOutbox, HasOneMore, IsCut, empty_outbox, added};
 
 use crate::batch::Batch;
 use crate::items::item_for;
 use crate::part::Part;
 use dob_pieces::{Memory, PieceSet};
-use dob_share::{Item, Settlement};
+use dob_share::{Item, Settlement, owner};
 use std::alloc::Global;
 use std::collections::VecDeque;
 use std::marker::Model;
@@ -106,6 +108,27 @@ impl Outbox {
         Ok(())
     }
 
+    /// Adds a settlement of whose class these are the predecessors, with an item for each of them that the receiver owns; one
+    /// without items isn't listed. It is `add` for a caller that has no items, so that none are made before a batch is cut. After
+    /// `Memory` the outbox is unchanged.
+    pub fn add_targets(&mut self, settlement: Settlement, targets: &[u64]) -> Result<(), Memory>
+        requires owners { 0 < self.old.n }
+        requires targets { targets.now ≡ predecessors self.old.set settlement.class }
+        ensures ok { OnOk result (self.new ≡ added self.old settlement (items_of (λ _. targets.now) self.old.n self.old.to settlement)) }
+        ensures err { OnErr result (self.new ≡ self.old) }
+    {
+        self.parts.reserve(1)?;
+        self.classes.reserve(targets.len())?;
+        let before = self.classes.len();
+        push_owned(&mut self.classes, targets, self.n, self.to);
+        let items = self.classes.len() - before;
+        if items == 0 {
+            return Ok(());
+        }
+        self.parts.push_back_reserved(Part { settlement, items });
+        Ok(())
+    }
+
     /// Takes back the settlement that was added last, with its `count` items for the receiver, of which none was cut; one
     /// without items isn't listed.
     pub fn take_back(&mut self, count: usize)
@@ -124,7 +147,7 @@ impl Outbox {
     /// is, which takes no memory. After `Memory` the outbox is unchanged. The outbox has cut fewer than 2^64 - 1 batches before.
     pub fn cut(&mut self, size: usize) -> Result<Option<Batch>, Memory>
         requires some { 0 < size }
-        requires at_most { size ≤ 4096 }
+        requires at_most { size ≤ most_items }
         requires counted { self.old.next + 1 < 2 ^ 64 }
         ensures none { IfOk result (λ batch. IsNone batch ↔ (self.old.items ≡ [])) }
         ensures nothing { IfOk result (λ batch. IsNone batch → self.new ≡ self.old) }
@@ -154,6 +177,19 @@ fn push_classes(queue: &mut VecDeque<u64>, items: &[Item])
 {
     for item in items {
         queue.push_back_reserved(item.to);
+    }
+}
+
+// Appends those of the classes that are the owner's, one of `n`; there is room for all of them.
+fn push_owned(queue: &mut VecDeque<u64>, classes: &[u64], n: usize, to: usize)
+    requires owners { 0 < n }
+    requires room { deque_len queue.old + length classes.now ≤ deque_capacity queue.old }
+    ensures { queue.new.items ≡ queue.old.items ++ filter (λ class. owner_of n class == to) classes.now }
+{
+    for class in classes {
+        if owner(*class, n) == to {
+            queue.push_back_reserved(*class);
+        }
     }
 }
 

@@ -3,9 +3,9 @@ use Rattle.std.proofs.Common.{◌≡◌, ◌<◌, ℕ, length, vec_len, set, get
 use Rattle.dob_pieces.specs.declared.piece_set.PieceSet.{PieceSet}
 use Rattle.dob_unmove.specs.Edges.{predecessors}
 use Rattle.dob_update.specs.Items.{items_of}
-use Rattle.dob_update.specs.Batches.{empty_outbox, added}
+use Rattle.dob_update.specs.Batches.{OutboxView, empty_outbox, added}
 use Rattle.dob_node.specs.Outboxes.{outbox_in, IsOutboxTo}
-use Rattle.dob_node.proofs.Sends.{added_none, added_own, added_one, items_asked}
+use Rattle.dob_node.proofs.Sends.{added_none, added_own, added_one, addressed_still}
 use Rattle.dob_node.proofs.TakenBack.{one_more_each}
 use Rattle.dob_node.proofs.outboxes.add_for_others.Goals as goal
 use Rattle.dob_node.proofs.outboxes.add_for_others.Goals.{then-to-from+in-Ok, else-to-from}
@@ -13,21 +13,23 @@ use Rattle.dob_node.proofs.outboxes.add_for_others.Goals.{then-to-from+in-Ok, el
 pub loop-to-init : goal.loop-to-init
 loop-to-init c = added_none c.args.targets.now c.args.settlement c.len-n.result c.args.from c.args.outboxes.now.items
 
-pub add_to-requires-clause-items : goal.add_to-requires-clause-items
-add_to-requires-clause-items c =
+pub add_to-requires-clause-of : goal.add_to-requires-clause-of
+add_to-requires-clause-of c =
     let old = c.args.outboxes.now in
     let mid = c.loop-to.outboxes in
     let targets = c.args.targets.now in
     let settlement = c.args.settlement in
     let from = c.args.from in
+    let to = c.loop-to.to in
     let n = c.len-n.result in
     let count : n ≡ length old.items = c.len-n.ensures ∙ old.ok.0 in
     let same : vec_len mid ≡ n = mid.ok.0 ∙ c.loop-to.invariant.whole ∙ sym count in
-    items_asked targets settlement n from c.loop-to.to old.items mid.items (items_of (λ _. targets) (vec_len mid) c.loop-to.to settlement) c.loop-to.invariant
+    subst (λ (m : ℕ). (default : OutboxView) → ((get_or mid.items to default).n ≡ m) × ((get_or mid.items to default).to ≡ to)
+    × (targets ≡ predecessors (get_or mid.items to default).set settlement.class)) (sym same)
+    (addressed_still targets settlement n from to old.items mid.items c.loop-to.invariant
     (subst (λ (m : ℕ). (st : PieceSet) × (targets ≡ predecessors st settlement.class) × ((to : ℕ) → IsOutboxTo st m from to (outbox_in st m from old.items to)))
     (sym count) c.requires.addressed)
-    (subst (λ (m : ℕ). c.loop-to.to < m) count c.loop-to-test.true)
-    (ap (λ (m : ℕ). items_of (λ _. targets) m c.loop-to.to settlement) same)
+    (subst (λ (m : ℕ). to < m) count c.loop-to-test.true))
 
 pub loop-to-preserved : goal.loop-to-preserved
 loop-to-preserved c = elim c.if-to-from.branch [

@@ -1,0 +1,12 @@
+-- The owner's among the classes so far are appended, and there is room for the others.
+use Rattle.std.proofs.Common.{◌≡◌, ◌+◌, ◌-◌, ◌≤◌, ◌++◌, ◌==◌, length, take}
+use Rattle.std.specs.List.{filter}
+use Rattle.std.specs.VecDeque.{deque_len, deque_capacity}
+use Rattle.dob_share.specs.Owners.{owner_of}
+use Rattle.dob_update.proofs.outbox.push_owned.Given as goal
+
+abbrev pub invariant-loop-class : goal.invariant-loop-class
+invariant-loop-class l = record {
+  appended : l.queue.items ≡ l.initial.queue.items ++ filter (λ class. owner_of l.n class == l.to) (take l.class-index l.classes);
+  room : deque_len l.queue + (length l.classes - l.class-index) ≤ deque_capacity l.queue;
+}
