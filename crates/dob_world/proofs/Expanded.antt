@@ -96,13 +96,13 @@ module _ (k : Setting) (nodes : List Node) (lanes : List Lane) (i : ℕ) (node a
   pub left_to_expand : node.expanded ≤ length node.history.settlements → (node.expanded ≡ length node.history.settlements → ⊥) →
       (world_shown k.set k.n nodes lanes).expanded i < length ((world_shown k.set k.n nodes lanes).nodes.history i)
   unfolding world_shown nodes_shown
-  left_to_expand matches left =
+  left_to_expand within left =
       let e : part 0 (λ (x : Node). x.expanded) (slice_get nodes i) ≡ node.expanded = was nodes i node node there 0 (λ (x : Node). x.expanded) in
       let h : length (part [] (λ (x : Node). x.history.settlements) (slice_get nodes i)) ≡ length node.history.settlements =
       ap length (was nodes i node node there [] (λ (x : Node). x.history.settlements)) in
       elim (cases_eq node.expanded (length node.history.settlements)) [
         | inl all ↦ absurd (left all)
-        | inr some ↦ by_order node.expanded (length node.history.settlements) _ _ matches some e h
+        | inr some ↦ by_order node.expanded (length node.history.settlements) _ _ within some e h
       ]
     where
       by_order : (a b c d : ℕ) → a ≤ b → (a ≡ b → ⊥) → c ≡ a → d ≡ b → c < d

@@ -82,10 +82,10 @@ returns-in-Err-clause-stopped c =
     let low : i < length nodes = omega (arith, c.requires.standing.places.nodes_whole) in
     let below : i < c.args.self.now.n = c.if-node-self.false in
     let there : slice_get nodes i ≡ Some node = read_there nodes i node low c.index_mut.ensures.value in
-    let matches : node.expanded ≤ length node.history.settlements = (c.requires.standing.places.node i node there).sound.emitted in (
+    let within : node.expanded ≤ length node.history.settlements = (c.requires.standing.places.node i node there).sound.emitted in (
       (
         below,
-        left_to_expand k nodes c.args.self.now.lanes.items i node node there matches
+        left_to_expand k nodes c.args.self.now.lanes.items i node node there within
             (λ all. let no = c.in-Err.ensures.done.1 all in absurd (cc)),
       ),
       ap (λ (why : Cause). Stopped i why) c.in-Err.ensures.memory,
@@ -100,5 +100,5 @@ returns-in-Err-clause-shown c = λ memory.
     let low : i < length nodes = omega (arith, c.requires.standing.places.nodes_whole) in
     let below : i < c.args.self.now.n = c.if-node-self.false in
     let there : slice_get nodes i ≡ Some node = read_there nodes i node low c.index_mut.ensures.value in
-    let matches : node.expanded ≤ length node.history.settlements = (c.requires.standing.places.node i node there).sound.emitted in
+    let within : node.expanded ≤ length node.history.settlements = (c.requires.standing.places.node i node there).sound.emitted in
     node_unseen k nodes c.args.self.now.lanes.items i node c.expand.new.self there c.in-Err.ensures.unchanged
