@@ -8,7 +8,9 @@ use Rattle.dob_node.specs.declared.node.Node.{Node}
 use Rattle.dob_node.specs.Outboxes.{outbox_in}
 use Rattle.dob_node.specs.Nodes.{outbox_to}
 use Rattle.dob_safra.specs.Rings.{Ring, IsStart as IsStartRing, Raises, CountsStay}
-use Rattle.dob_world.specs.Shown.{part, cut_by, AreCutsPosted, HasAtMost, AreOpenedNodes}
+use Rattle.dob_world.specs.Shown.{part, cut_by}
+use Rattle.dob_world.specs.Standing.{AreCutsPosted, HasAtMost}
+use Rattle.dob_world.specs.Start.{AreOpenedNodes}
 use Rattle.dob_world.proofs.Slots.{here, was, elsewhere, stays}
 
 -- ---- outboxes that stay

@@ -20,7 +20,8 @@ use Rattle.dob_safra.specs.Rings.{Ring}
 use Rattle.dob_world.specs.declared.lane.Lane.{Lane}
 use Rattle.dob_world.specs.Worlds.{Setting}
 use Rattle.dob_world.specs.Events.{Expands}
-use Rattle.dob_world.specs.Shown.{part, nodes_shown, world_shown, IsNodeOf, AreInPlace, AreCutsPosted}
+use Rattle.dob_world.specs.Shown.{part, nodes_shown, world_shown}
+use Rattle.dob_world.specs.Standing.{IsNodeOf, AreInPlace, AreCutsPosted}
 use Rattle.dob_world.proofs.Cuts.{cuts_stay}
 use Rattle.dob_world.proofs.Slots.{here, was, elsewhere, stays, set_cases}
 

@@ -11,7 +11,7 @@ use Rattle.dob_world.specs.declared.event.Event.{Event}
 use Rattle.dob_world.specs.declared.event.Event.TheVariants.{Expand, Own, Post, Take, Pass, Announce}
 use Rattle.dob_world.specs.Worlds.{Setting, Nodes, WorldView, State, IsIdle, Matches}
 use Rattle.dob_world.specs.Events.{Happens, Expands, AppliesOwn, Posts, TakesBatch, AppliesAll}
-use Rattle.dob_world.specs.Shown.{HasAtMost}
+use Rattle.dob_world.specs.Standing.{HasAtMost}
 use Rattle.dob_world.specs.Laws.{HappeningKeepsMatch}
 use Rattle.dob_world.proofs.Places.{at_link}
 

@@ -18,8 +18,10 @@ use Rattle.dob_world.specs.declared.world.World.{World}
 use Rattle.dob_world.specs.Worlds.{Setting, Nodes, WorldView as Shown, State, value_in, AreLawful, IsLinked, Matches, IsAtRest}
 use Rattle.dob_world.specs.Events.{CanHappen, Happens}
 use Rattle.dob_world.specs.Runs.{IsAfter}
-use Rattle.dob_world.specs.Headline.{HaveKnownValues, HasRightValues, Headline}
-use Rattle.dob_world.specs.Shown.{setting_of, state_of, world_shown, ring_of, IsSetting, HasOpenings, HasAtMost, Stand, IsStanding, IsUnchanged, IsStart}
+use Rattle.dob_world.specs.Headline.{HaveKnownValues, AreBeginnings, HasRightValues, Headline}
+use Rattle.dob_world.specs.Shown.{setting_of, state_of, world_shown, ring_of}
+use Rattle.dob_world.specs.Standing.{IsSetting, HasOpenings, HasAtMost, Stand, IsStanding, IsUnchanged}
+use Rattle.dob_world.specs.Start.{IsStart}
 use Rattle.dob_world.specs.Laws.{HeadlineHolds}
 use Rattle.dob_world.proofs.Kept.{lists_are_beginnings, happening_keeps_all}
 use Rattle.dob_world.proofs.Matching.{happening_keeps_match, posted_most}
@@ -43,6 +45,16 @@ known_values k nodes lawful class Open below is =
     value_follows (known_of k.set k.n nodes.history nodes.applied class) (nodes.cell class) (value_in k.n nodes class) (lawful.sums class below is)
     (some_known k.set class below k.n nodes.history (λ i. nodes.applied i (owner_of k.n class)) is) (lawful.cell_values class below is)
 
+-- a lawful and linked world has the promise's first part
+pub begins : (k : Setting) (world : Shown) → AreLawful k world.nodes → IsLinked k world → AreBeginnings k world
+begins k world lawful linked = record {
+  sent = λ i j low_i low_j differs. (lists_are_beginnings k world i j linked low_i low_j differs).0;
+  applied = λ i j low_i low_j differs. (lists_are_beginnings k world i j linked low_i low_j differs).1;
+  own = λ i low. lawful.begun i i low low;
+  cells = lawful;
+  known = known_values k world.nodes lawful;
+}
+
 module _ (k : Setting) (setting : IsSetting k) (openings : HasOpenings k.set) where
   pub right_at_rest : (world : Shown) → AreLawful k world.nodes → IsLinked k world → IsAtRest k world → HasRightValues k world
   right_at_rest world lawful linked rest values are =
@@ -50,13 +62,7 @@ module _ (k : Setting) (setting : IsSetting k) (openings : HasOpenings k.set) wh
 
   pub headline_of : (state : State) → AreLawful k state.world.nodes → IsLinked k state.world → Matches k state → Headline k state
   headline_of state lawful linked matches = record {
-    beginnings = record {
-      sent = λ i j low_i low_j differs. (lists_are_beginnings k state.world i j linked low_i low_j differs).0;
-      applied = λ i j low_i low_j differs. (lists_are_beginnings k state.world i j linked low_i low_j differs).1;
-      own = λ i low. lawful.begun i i low low;
-      cells = lawful;
-      known = known_values k state.world.nodes lawful;
-    };
+    beginnings = begins k state.world lawful linked;
     silence = λ ended. end_is_silent k state matches ended;
     gathering = λ ended. right_at_rest state.world lawful linked (end_is_silent k state matches ended).rest;
     matches = matches;
@@ -161,11 +167,3 @@ stand_unchanged old new same standing =
     (subst (λ xs. Stand (setting_of old) old.nodes.items xs new.detector new.steps) (sym same.lanes)
     (subst (λ (d : Detector). Stand (setting_of old) old.nodes.items old.lanes.items d new.steps) (sym same.detector)
     (subst (λ (m : ℕ). Stand (setting_of old) old.nodes.items old.lanes.items old.detector m) (sym same.steps) standing))))
-
--- a world in which an event can happen hasn't announced its end, and one with the same ring hasn't either
-pub stopped_silent : (old new : World) → IsStanding old → (event : Event) → CanHappen (setting_of old) (state_of old) event →
-    new.detector ≡ old.detector → new.detector.announced ≡ false
-stopped_silent old new standing event can same = ap (λ (d : Detector). d.announced) same ∙ (elim (cases_Bool old.detector.announced) [
-  | inl ended ↦ absurd (((standing_headline old standing).silence ended).nothing event can)
-  | inr going ↦ going
-])

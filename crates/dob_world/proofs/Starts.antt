@@ -38,7 +38,9 @@ use Rattle.dob_node.proofs.Rises.{opened_first, fresh_within, falls_start}
 use Rattle.dob_node.proofs.SoleOpens.{listed_opening}
 use Rattle.dob_world.specs.declared.lane.Lane.{Lane}
 use Rattle.dob_world.specs.Worlds.{Setting, Nodes, value_in, AreLawful, HaveFallsIn, IsLinked}
-use Rattle.dob_world.specs.Shown.{part, lane_at, nodes_shown, world_shown, IsNodeOf, AreInPlace, AreOpenedNodes, AreEmptyLanes, IsEmptyLane}
+use Rattle.dob_world.specs.Shown.{part, lane_at, nodes_shown, world_shown}
+use Rattle.dob_world.specs.Standing.{IsNodeOf, AreInPlace}
+use Rattle.dob_world.specs.Start.{AreOpenedNodes, AreEmptyLanes, IsEmptyLane}
 use Rattle.dob_world.specs.Lanes.{IsBatchFor}
 use Rattle.dob_link.specs.Links.{LinkView}
 use Rattle.std.proofs.lemmas.List.Elements.{All-nil}

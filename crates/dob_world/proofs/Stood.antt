@@ -13,7 +13,8 @@ use Rattle.dob_world.specs.declared.event.Event.{Event}
 use Rattle.dob_world.specs.declared.lane.Lane.{Lane}
 use Rattle.dob_world.specs.Worlds.{Setting, State, IsIdle}
 use Rattle.dob_world.specs.Events.{CanHappen, Happens}
-use Rattle.dob_world.specs.Shown.{nodes_shown, world_shown, ring_of, AreInPlace, IsCounted, Stand, HasAtMost, AreCutsPosted}
+use Rattle.dob_world.specs.Shown.{nodes_shown, world_shown, ring_of}
+use Rattle.dob_world.specs.Standing.{AreInPlace, IsCounted, Stand, HasAtMost, AreCutsPosted}
 use Rattle.dob_world.proofs.Slots.{was}
 use Rattle.dob_world.proofs.Kept.{happening_keeps_all}
 use Rattle.dob_world.proofs.Bounds.{happening_keeps_falls}

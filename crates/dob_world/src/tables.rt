@@ -4,7 +4,8 @@ ghost use Rattle.dob_rank.specs.Marks.{classes_of};
 ghost use Rattle.dob_value.specs.Follows.{IsEntry, IsValueTable};
 ghost use Rattle.dob_node.specs.Histories.{AreValuesBelow};
 ghost use Rattle.dob_world.specs.Worlds.{value_in, IsAtRest};
-ghost use Rattle.dob_world.specs.Shown.{setting_of, state_of, IsStanding};
+ghost use Rattle.dob_world.specs.Shown.{setting_of, state_of};
+ghost use Rattle.dob_world.specs.Standing.{IsStanding};
 
 use crate::world::World;
 use dob_pieces::Memory;

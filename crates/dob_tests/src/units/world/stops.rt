@@ -1,6 +1,6 @@
 // A world that stops. `rt try --test --fail-alloc N -- stopped_world` refuses the growth of that number; with none refused the world
 // comes to its end.
-ghost use Rattle.dob_world.specs.Shown.{IsKept};
+ghost use Rattle.dob_world.specs.Standing.{IsKept};
 
 use crate::sets::set_of;
 use dob_node::Cause;

@@ -2,7 +2,8 @@
 use Rattle.std.proofs.Common.{◌<◌, inr, refl, sym, ap, subst, arith, [], Ok}
 use Rattle.dob_rank.specs.Marks.{classes_of}
 use Rattle.dob_world.specs.Worlds.{Setting}
-use Rattle.dob_world.specs.Shown.{state_of, IsStart}
+use Rattle.dob_world.specs.Shown.{state_of}
+use Rattle.dob_world.specs.Start.{IsStart}
 use Rattle.dob_world.proofs.Ran.{ran, stepped, ran_more, run_stops}
 use Rattle.dob_world.proofs.runs.run.Goals as goal
 
