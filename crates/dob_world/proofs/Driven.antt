@@ -11,7 +11,8 @@ use Rattle.dob_world.specs.Events.{CanHappen}
 use Rattle.dob_world.specs.Runs.{IsAfter, IsStepOf, IsAfterSteps}
 use Rattle.dob_world.specs.Rounds.{round_length, round_event, round_front, round_of, rounds_of, IsStill}
 use Rattle.dob_world.specs.Shown.{setting_of, state_of, ring_of}
-use Rattle.dob_world.specs.Standing.{IsStanding, IsStopped}
+use Rattle.dob_world.specs.Standing.{IsStanding}
+use Rattle.dob_world.specs.Effects.{IsStopped}
 use Rattle.dob_world.specs.Results.{HasMadeRound, HasDriven, StopsInRounds, SomeCan, IsBusyRound}
 use Rattle.dob_world.specs.declared.fault.Fault.{Fault}
 use Rattle.dob_world.specs.Stops.{IsStopBy, IsLeftBy, IsStopInRounds}

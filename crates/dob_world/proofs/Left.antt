@@ -21,7 +21,8 @@ use Rattle.dob_world.specs.Events.{CanHappen}
 use Rattle.dob_world.specs.Stops.{TakesFront, IsLeftBy, IsForMemory}
 use Rattle.dob_world.specs.Headline.{AreBeginnings, Headline}
 use Rattle.dob_world.specs.Shown.{setting_of, state_of, ring_of}
-use Rattle.dob_world.specs.Standing.{IsStanding, IsLeft, IsKept, IsStopped}
+use Rattle.dob_world.specs.Standing.{IsStanding, IsLeft, IsKept}
+use Rattle.dob_world.specs.Effects.{IsStopped}
 use Rattle.dob_world.proofs.Places.{at_link}
 use Rattle.dob_world.proofs.Kept.{FrontApplied, front_applied, lists_are_beginnings}
 use Rattle.dob_world.proofs.Promise.{begins, known_values, standing_headline}

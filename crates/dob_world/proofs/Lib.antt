@@ -2,7 +2,7 @@
 pub mod Places  -- what holds at one node or link and at all others
 pub mod Firsts  -- first elements, and calls that can't have failed
 pub mod Slots  -- elements of lists after a write, and nodes and lanes among them
-pub mod Stands  -- nodes and lanes where they stand
+pub mod InPlace  -- nodes and lanes where they stand
 pub mod Lent  -- what a world shows of its nodes and lanes is what it lends
 pub mod Pushed  -- nodes and lanes, one more
 pub mod Counters  -- the detector's lists after an event, and what they show

@@ -20,7 +20,8 @@ use Rattle.dob_world.specs.Events.{CanHappen, Happens}
 use Rattle.dob_world.specs.Runs.{IsAfter}
 use Rattle.dob_world.specs.Headline.{HaveKnownValues, AreBeginnings, HasRightValues, Headline}
 use Rattle.dob_world.specs.Shown.{setting_of, state_of, world_shown, ring_of}
-use Rattle.dob_world.specs.Standing.{IsSetting, HasOpenings, HasAtMost, Stand, IsStanding, IsUnchanged}
+use Rattle.dob_world.specs.Standing.{IsSetting, HasOpenings, HasAtMost, Stand, IsStanding}
+use Rattle.dob_world.specs.Effects.{IsUnchanged}
 use Rattle.dob_world.specs.Start.{IsStart}
 use Rattle.dob_world.specs.Laws.{HeadlineHolds}
 use Rattle.dob_world.proofs.Kept.{lists_are_beginnings, happening_keeps_all}
@@ -37,7 +38,7 @@ pub record Keeps (k : Setting) (state : State) (steps : ℕ) : Type 0 where
   pub few : HasAtMost k.n steps state.ring
 
 -- the cells sum up what is known, and give the values
-known_values : (k : Setting) (nodes : Nodes) → AreLawful k nodes → HaveKnownValues k nodes
+pub known_values : (k : Setting) (nodes : Nodes) → AreLawful k nodes → HaveKnownValues k nodes
 known_values k nodes lawful class Caught below is = lawful.over class Caught below is (λ same. cc)
 known_values k nodes lawful class Tried below is = lawful.over class Tried below is (λ same. cc)
 known_values k nodes lawful class Stuck below is = lawful.over class Stuck below is (λ same. cc)

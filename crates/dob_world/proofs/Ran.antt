@@ -10,7 +10,8 @@ use Rattle.dob_world.specs.Worlds.{Setting, WorldView as Shown, State, HaveFalls
 use Rattle.dob_world.specs.Events.{CanHappen}
 use Rattle.dob_world.specs.Runs.{IsDoneOrSkipped, IsAfter, IsStepOf, IsAfterSteps}
 use Rattle.dob_world.specs.Shown.{setting_of, state_of, world_shown, ring_of}
-use Rattle.dob_world.specs.Standing.{IsSetting, IsStanding, IsUnchanged, IsMade, IsSkipped}
+use Rattle.dob_world.specs.Standing.{IsSetting, IsStanding}
+use Rattle.dob_world.specs.Effects.{IsUnchanged, IsMade, IsSkipped}
 use Rattle.dob_world.specs.Start.{IsStart}
 use Rattle.dob_world.specs.Results.{HasRun, HasStoppedAt}
 use Rattle.dob_world.specs.declared.fault.Fault.{Fault}

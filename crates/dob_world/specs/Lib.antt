@@ -9,6 +9,7 @@ pub mod Stops
 pub mod Shown
 pub mod Start
 pub mod Standing
+pub mod Effects
 pub mod Rounds
 pub mod Headline
 pub mod Results

@@ -15,14 +15,12 @@ use Rattle.dob_node.specs.Openings.{AreOpenings}
 use Rattle.dob_safra.specs.Laws.{IsSize}
 use Rattle.dob_safra.specs.Rings.{Ring, counter}
 use Rattle.dob_world.specs.declared.detector.Detector.{Detector}
-use Rattle.dob_world.specs.declared.event.Event.{Event}
 use Rattle.dob_world.specs.declared.fault.Fault.{Fault}
 use Rattle.dob_world.specs.declared.lane.Lane.{Lane}
 use Rattle.dob_world.specs.declared.world.World.{World}
 use Rattle.dob_world.specs.Lanes.{IsBatchFor}
 use Rattle.dob_world.specs.Worlds.{Setting, AreLawful, HaveFallsIn, IsLinked, Matches}
-use Rattle.dob_world.specs.Events.{CanHappen, Happens}
-use Rattle.dob_world.specs.Stops.{IsStop, IsStopBy, IsLeftBy, IsForMemory}
+use Rattle.dob_world.specs.Stops.{IsStop, IsForMemory}
 use Rattle.dob_world.specs.Headline.{AreBeginnings, Headline}
 use Rattle.dob_world.specs.Shown.{setting_of, world_shown, lane_at, ring_of, state_of, cut_by}
 
@@ -107,38 +105,3 @@ pub record IsLeft (fault : Fault) (world : World) : Type 0 where
 -- The world stands, or it has stopped; but never because an item contradicts its cell.
 abbrev pub IsKept : World → Type 0
 IsKept world = MatchOption world.failed (IsStanding world) (λ fault. IsLeft fault world)
-
--- ---- what becomes of an event
-
--- the world keeps all that it has
-pub record IsUnchanged (old new : World) : Type 0 where
-  pub setting : setting_of new ≡ setting_of old
-  pub nodes : new.nodes.items ≡ old.nodes.items
-  pub lanes : new.lanes.items ≡ old.lanes.items
-  pub detector : new.detector ≡ old.detector
-  pub steps : new.steps ≡ old.steps
-  pub failed : new.failed ≡ old.failed
-
--- the event was possible and is done
-pub record IsMade (event : Event) (old new : World) : Type 0 where
-  pub setting : setting_of new ≡ setting_of old
-  pub can : CanHappen (setting_of old) (state_of old) event
-  pub happens : Happens (setting_of old) (state_of old) event (state_of new)
-
--- It is done, the step isn't counted yet, and the world stands once it is.
-pub record IsDone (event : Event) (old new : World) : Type 0 where
-  pub made : IsMade event old new
-  pub stands : WillStand new
-  pub same : (new.failed ≡ old.failed) × (new.steps ≡ old.steps)
-
--- It was impossible, and is skipped.
-pub record IsSkipped (event : Event) (old new : World) : Type 0 where
-  pub cannot : ¬ CanHappen (setting_of old) (state_of old) event
-  pub unchanged : IsUnchanged old new
-
--- It was possible, and has stopped its node: counts, colours, token and the number of steps are as before it.
-pub record IsStopped (event : Event) (fault : Fault) (old new : World) : Type 0 where
-  pub setting : setting_of new ≡ setting_of old
-  pub stop : IsStopBy (setting_of old) (state_of old) event fault
-  pub left : IsLeftBy (setting_of old) (state_of old).world event fault (state_of new).world
-  pub same : (new.detector ≡ old.detector) × (new.steps ≡ old.steps)

@@ -38,12 +38,13 @@ pub struct World {
 
 impl World {
     ghost use Rattle.dob_world.specs.declared.event.Event.TheVariants.{Expand, Own, Post, Take, Pass, Announce};
-    ghost use Rattle.dob_world.specs.Worlds.{IsLinked, IsIdle, HaveFallsIn};
+    ghost use Rattle.dob_world.specs.Worlds.{setting_by, HaveFallsIn};
     ghost use Rattle.dob_world.specs.Events.{CanHappen, MayEnd};
     ghost use Rattle.dob_world.specs.declared.fault.Fault.TheVariants as fault;
-    ghost use Rattle.dob_world.specs.Stops.{IsStopBy, IsStop, IsLeftBy, IsForMemory};
+    ghost use Rattle.dob_world.specs.Stops.{IsStop, IsForMemory};
     ghost use Rattle.dob_world.specs.Shown.{setting_of, state_of};
-    ghost use Rattle.dob_world.specs.Standing.{IsStanding, IsKept, IsMade, IsDone, IsSkipped, IsStopped};
+    ghost use Rattle.dob_world.specs.Standing.{IsStanding, IsKept};
+    ghost use Rattle.dob_world.specs.Effects.{IsMade, IsDone, IsSkipped, IsStopped};
     ghost use Rattle.dob_world.specs.Start.{IsStart};
     ghost use Rattle.dob_world.specs.Results.{HasSettingFault};
     ghost use Rattle.dob_world.specs.Headline.{AreBeginnings, Headline};
@@ -61,10 +62,10 @@ impl World {
         capacity: usize,
     ) -> Result<World, Fault>
         ensures too_large { result ≡ Err fault.SetTooLarge ↔ IsTooLarge set }
-        ensures setting { IfOk result (λ world. setting_of world ≡ record { set = set; n = n; batch = batch; capacity = capacity }) }
+        ensures setting { IfOk result (λ world. setting_of world ≡ setting_by set n batch capacity) }
         ensures standing { IfOk result (λ world. IsStanding world × (world.failed ≡ None) × (world.steps ≡ 0)) }
         ensures opened { IfOk result (λ world. IsStart (setting_of world) (state_of world)) }
-        ensures fault { IfErr result (λ fault. HasSettingFault (record { set = set; n = n; batch = batch; capacity = capacity }) fault) }
+        ensures fault { IfErr result (λ fault. HasSettingFault (setting_by set n batch capacity) fault) }
     {
         if is_too_large(set) {
             return Err(Fault::SetTooLarge);
@@ -110,8 +111,7 @@ impl World {
         ensures stopped { IfErr result (λ fault. IsStop fault × (self.new.failed ≡ Some fault)) }
         ensures ring { OnErr result ((self.new.detector ≡ self.old.detector) × (self.new.steps ≡ self.old.steps)) }
         ensures shown { IfErr result (λ fault. IsForMemory fault → (state_of self.new).world ≡ (state_of self.old).world) }
-        ensures named { self.old.failed ≡ None → IfErr result (λ fault. IsStopBy (setting_of self.old) (state_of self.old) event fault) }
-        ensures left { self.old.failed ≡ None → IfErr result (λ fault. IsLeftBy (setting_of self.old) (state_of self.old).world event fault (state_of self.new).world) }
+        ensures named { self.old.failed ≡ None → IfErr result (λ fault. IsStopped event fault self.old self.new) }
         ensures stays { IfSome self.old.failed (λ fault. (result ≡ Err fault) × (self.new ≡ self.old)) }
         ensures unannounced { OnErr result (self.new.detector.announced ≡ false) }
         ensures memory { self.old.failed ≡ None → classes_of (setting_of self.old).set < 65535 → IfErr result IsForMemory }

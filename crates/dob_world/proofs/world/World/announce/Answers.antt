@@ -4,7 +4,7 @@ use Rattle.dob_safra.specs.declared.event.RingEvent.TheVariants as ring
 use Rattle.dob_world.specs.declared.event.Event.TheVariants.{Announce}
 use Rattle.dob_world.specs.Events.{CanHappen}
 use Rattle.dob_world.specs.Shown.{setting_of, state_of, ring_of}
-use Rattle.dob_world.proofs.Stands.{node_there}
+use Rattle.dob_world.proofs.InPlace.{node_there}
 use Rattle.dob_world.proofs.Cuts.{cuts_same}
 use Rattle.dob_world.proofs.Stood.{stand_after, moved_here, announceable_here, idle_shown, shown_idle}
 use Rattle.dob_world.proofs.world.World.announce.Goals as goal

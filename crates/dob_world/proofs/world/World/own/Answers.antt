@@ -4,7 +4,7 @@ use Rattle.dob_pieces.proofs.Elements.{read_there}
 use Rattle.dob_world.specs.declared.event.Event.TheVariants.{Own}
 use Rattle.dob_world.specs.Shown.{setting_of, ring_of}
 use Rattle.dob_world.proofs.Slots.{set_same}
-use Rattle.dob_world.proofs.Stands.{node_there, lane_there, slot_there}
+use Rattle.dob_world.proofs.InPlace.{node_there, lane_there, slot_there}
 use Rattle.dob_world.proofs.Cuts.{cuts_stay, next_same}
 use Rattle.dob_world.proofs.Outcomes.{owned, cant_own, some_own}
 use Rattle.dob_world.proofs.Stopped.{own_stops}

@@ -6,7 +6,7 @@ use Rattle.dob_world.specs.declared.event.Event.TheVariants.{Post}
 use Rattle.dob_safra.specs.declared.event.RingEvent.TheVariants as ring
 use Rattle.dob_world.specs.Shown.{setting_of, ring_of}
 use Rattle.dob_world.proofs.Slots.{set_same}
-use Rattle.dob_world.proofs.Stands.{node_there, lane_there, slot_there}
+use Rattle.dob_world.proofs.InPlace.{node_there, lane_there, slot_there}
 use Rattle.dob_world.proofs.Cuts.{cuts_posted, few_cut}
 use Rattle.dob_world.proofs.Outcomes.{posted, cant_post, can_post}
 use Rattle.dob_world.proofs.Unchanged.{node_unseen, lane_unseen}

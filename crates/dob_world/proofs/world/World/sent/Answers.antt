@@ -1,7 +1,7 @@
 -- The list of the lane.
 use Rattle.std.proofs.Common.{◌≡◌, ◌*◌, length, sym, ◌∙◌, arith}
 use Rattle.dob_world.specs.Shown.{setting_of}
-use Rattle.dob_world.proofs.Stands.{lane_found}
+use Rattle.dob_world.proofs.InPlace.{lane_found}
 use Rattle.dob_world.proofs.Lent.{sent_shown}
 use Rattle.dob_world.proofs.world.World.sent.Goals as goal
 

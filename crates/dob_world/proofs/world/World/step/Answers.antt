@@ -87,10 +87,9 @@ returns-in-Err-clause-shown c = λ memory.
     left_shown (setting_of old) (state_of old).world c.args.event c.in-Err.fault (state_of c.make.new.self).world c.in-Err.ensures.stopped.left memory
 
 pub returns-in-Err-clause-named : goal.returns-in-Err-clause-named
-returns-in-Err-clause-named c = λ going. c.in-Err.ensures.stopped.stop
-
-pub returns-in-Err-clause-left : goal.returns-in-Err-clause-left
-returns-in-Err-clause-left c = λ going. c.in-Err.ensures.stopped.left
+returns-in-Err-clause-named c = λ going.
+    let stopped = c.in-Err.ensures.stopped in
+    record { setting = stopped.setting; stop = stopped.stop; left = stopped.left; same = stopped.same }
 
 pub returns-in-Err-clause-unannounced : goal.returns-in-Err-clause-unannounced
 returns-in-Err-clause-unannounced c =

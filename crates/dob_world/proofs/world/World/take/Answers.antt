@@ -8,7 +8,7 @@ use Rattle.dob_world.specs.declared.event.Event.TheVariants.{Take}
 use Rattle.dob_safra.specs.declared.event.RingEvent.TheVariants as ring
 use Rattle.dob_world.specs.Shown.{setting_of, ring_of}
 use Rattle.dob_world.proofs.Slots.{set_same}
-use Rattle.dob_world.proofs.Stands.{node_there, lane_there, slot_there}
+use Rattle.dob_world.proofs.InPlace.{node_there, lane_there, slot_there}
 use Rattle.dob_world.proofs.Cuts.{cuts_stay, next_same}
 use Rattle.dob_world.proofs.Outcomes.{received, cant_take, some_waits}
 use Rattle.dob_world.proofs.Stopped.{take_stops}
