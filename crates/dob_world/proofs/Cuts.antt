@@ -29,7 +29,8 @@ next_same node after set_is id_is n_is boxes j = ap (λ (o : OutboxView). o.next
 
 -- ---- after an event
 
-module _ (n : ℕ) (nodes : List Node) (i : ℕ) (node after : Node) (old new : Ring) (there : slice_get nodes i ≡ Some node) (cuts : AreCutsPosted n nodes old) where
+module _ (n : ℕ) (nodes : List Node) (i : ℕ) (node after : Node) (old new : Ring) (there : slice_get nodes i ≡ Some node)
+    (cuts : AreCutsPosted n nodes old) where
   -- where none is cut and none is posted
   pub cuts_stay : ((j : ℕ) → j < n → i ≢ j → (outbox_to after j).next ≡ (outbox_to node j).next) → CountsStay n old.posted new.posted →
       AreCutsPosted n (set nodes i after) new

@@ -48,7 +48,8 @@ node_opened k i node sound of statuses going = record { sound = sound; of = of; 
 pub kept_of : (k : Setting) (i : ℕ) (node : Node) → IsNodeOf k i node → AreKept k.set k.n i node.share node.history
 kept_of k i node is = kept_sound k.set k.n i node is.of is.sound
 
-pub node_after : (k : Setting) (i : ℕ) (node after : Node) → IsNodeOf k i node → IsSound after → after.failed ≡ None → after.set ≡ node.set → after.id ≡ node.id →
+pub node_after : (k : Setting) (i : ℕ) (node after : Node) → IsNodeOf k i node → IsSound after → after.failed ≡ None → after.set ≡ node.set →
+    after.id ≡ node.id →
     after.n ≡ node.n → ((class : ℕ) → status_at after.share class ≡ status_at node.share class) → IsNodeOf k i after
 node_after k i node after is sound going set_is id_is n_is statuses = record {
   sound = sound;
@@ -95,7 +96,8 @@ module _ (k : Setting) (nodes : List Node) (lanes : List Lane) (i : ℕ) (low : 
     item = step.applied.item;
     first = own_first ∙ ap (λ xs. step.applied.item ∷ xs) (sym (here nodes i node after there_n [] (λ (x : Node). x.own.items)));
     applied = applies_one k nodes lanes i i low low node after lane next there_n there_l whole some step.applied.item
-        (after.own.items ++ items_from (predecessors k.set) k.n i (drop ((world_shown k.set k.n nodes lanes).expanded i) ((world_shown k.set k.n nodes lanes).nodes.history i)))
+        (after.own.items ++ items_from (predecessors k.set) k.n i (drop ((world_shown k.set k.n nodes lanes).expanded i)
+            ((world_shown k.set k.n nodes lanes).nodes.history i)))
         (kept_of k i node is) step.applied.taken lawful
         (next_own k (world_shown k.set k.n nodes lanes) i (step.applied.item ∷ after.own.items) linked low own_first) step.listed;
     others = elsewhere nodes i node after there_n [] (λ (x : Node). x.own.items);

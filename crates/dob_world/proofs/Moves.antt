@@ -112,7 +112,8 @@ module _ (k : Setting) (nodes : List Node) (lanes : List Lane) (i j : ℕ) (low_
         applied = λ m l. at_link (λ b c. new.applied b c ≡ (with_share k i j old after.share h a).applied b c) i j m l
             (applied_now ∙ sym (applied_here k i j old after.share h a))
             (λ other. applied_other m l other ∙ sym (applied_else k i j old after.share h a m l other));
-        cell = λ class. sym (by_test (own_test k j class) (cell_at after.share class) (old.cell class) (new.cell class) (cell_then class) (cell_elsewhere class));
+        cell = λ class. sym (by_test (own_test k j class) (cell_at after.share class) (old.cell class) (new.cell class) (cell_then class)
+            (cell_elsewhere class));
       })
 
   pub applies_one : 0 < k.n → (item : Item) (rest : List Item) → AreKept k.set k.n j node.share node.history →

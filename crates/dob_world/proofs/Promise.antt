@@ -149,11 +149,13 @@ kept_start k state setting start = record {
 
 pub headline_holds : HeadlineHolds
 headline_holds k start state events setting is_start room after =
-    let keeps = (kept_after k setting (is_start.openings, is_start.are_openings) start state events 0 (omega (arith, room)) after (kept_start k start setting is_start)).1 in
+    let keeps = (kept_after k setting (is_start.openings, is_start.are_openings) start state events 0 (omega (arith, room)) after
+        (kept_start k start setting is_start)).1 in
     headline_of k setting (is_start.openings, is_start.are_openings) state keeps.lawful keeps.linked keeps.matches
 
 pub standing_headline : (world : World) → IsStanding world → Headline (setting_of world) (state_of world)
-standing_headline world standing = headline_of (setting_of world) standing.setting standing.openings (state_of world) standing.lawful standing.linked standing.matches
+standing_headline world standing = headline_of (setting_of world) standing.setting standing.openings (state_of world) standing.lawful standing.linked
+    standing.matches
 
 pub stood_headline : (k : Setting) (nodes : List Node) (lanes : List Lane) (detector : Detector) (steps : ℕ) → Stand k nodes lanes detector steps →
     Headline k (record { world = world_shown k.set k.n nodes lanes; ring = ring_of detector })

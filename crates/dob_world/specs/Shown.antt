@@ -30,7 +30,8 @@ unfoldable pub nodes_shown : PieceSet → ℕ → List Node → List Lane → No
 nodes_shown set n nodes lanes = record {
   history = λ i. part [] (λ (node : Node). node.history.settlements) (slice_get nodes i);
   applied = λ i j. part [] (λ (lane : Lane). lane.applied.items) (lane_at n lanes i j);
-  cell = λ class. cond (nat_lt class (classes_of set)) (part (fresh 0) (λ (node : Node). cell_at node.share class) (slice_get nodes (owner_of n class))) (fresh 0);
+  cell = λ class. cond (nat_lt class (classes_of set)) (part (fresh 0) (λ (node : Node). cell_at node.share class) (slice_get nodes (owner_of n class)))
+      (fresh 0);
 }
 
 unfoldable pub world_shown : PieceSet → ℕ → List Node → List Lane → WorldView

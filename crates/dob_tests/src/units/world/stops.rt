@@ -95,7 +95,10 @@ fn have_same_links(rt: &impl Abort, one: &World, other: &World, from: usize)
 {
     for to in 0..2 {
         assert!(rt; one.sent(from, to) == other.sent(from, to), "{from} {to}");
-        assert!(rt; one.applied(from, to) == other.applied(from, to), "{from} {to}");
+        assert!(rt;
+            one.applied(from, to) == other.applied(from, to),
+            "{from} {to}"
+        );
     }
 }
 

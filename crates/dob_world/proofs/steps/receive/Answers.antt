@@ -45,7 +45,8 @@ returns-clause-received c = λ e. record {
   batch = c.in-Some-next.batch;
   first = ap (λ w. link_of w c.args.lane.now.link.capacity) c.in-Some-next.ensures.some
       ∙ ap (λ k. link_of (c.in-Some-next.batch ∷ c.next.new.self.waiting) k) (sym c.next.ensures.capacity);
-  taken = taken_since c.in-Some-next.batch.items c.args.node.now c.reserve-2.new.self c.apply_batch.new.self c.reserve-2.ensures.unchanged c.in-Ok.ensures.taken;
+  taken = taken_since c.in-Some-next.batch.items c.args.node.now c.reserve-2.new.self c.apply_batch.new.self c.reserve-2.ensures.unchanged
+      c.in-Ok.ensures.taken;
   listed = c.list_items.ensures ∙ ap (λ xs. xs ++ c.items.result.now) c.in_ok-reserve.ensures.items
       ∙ ap (λ xs. c.args.lane.now.applied.items ++ xs) c.items.ensures.items;
   same = refl;

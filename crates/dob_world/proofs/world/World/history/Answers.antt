@@ -11,4 +11,5 @@ returns c =
     let nodes = world.nodes.items in
     let node = c.index.result.now in
     let whole : length nodes ≡ world.n = omega (arith, world.nodes_whole) in
-    sym (history_shown (setting_of world) nodes world.lanes.items c.args.node node (node_found nodes world.n c.args.node node whole c.requires.node c.index.ensures))
+    sym (history_shown (setting_of world) nodes world.lanes.items c.args.node node (node_found nodes world.n c.args.node node whole c.requires.node
+        c.index.ensures))

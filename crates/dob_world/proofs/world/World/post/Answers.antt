@@ -85,7 +85,8 @@ count_post-requires-clause-few c =
     let k = setting_of c.args.self.now in
     let nodes = c.args.self.now.nodes.items in
     let lanes = c.args.self.now.lanes.items in
-    room_to_post k nodes lanes c.args.self.now.detector c.args.self.now.steps c.requires.standing c.args.from c.args.to c.if-from-self.false c.if-to-self.false c.requires.few
+    room_to_post k nodes lanes c.args.self.now.detector c.args.self.now.steps c.requires.standing c.args.from c.args.to c.if-from-self.false
+        c.if-to-self.false c.requires.few
 
 pub count_post-requires-clause-black : goal.count_post-requires-clause-black
 count_post-requires-clause-black c =
@@ -131,7 +132,8 @@ returns-in-Ok-true-clause-done c = λ e.
     let moved = moved_here k nodes lanes detector c.args.self.now.steps stand (ring.Post i j) (ring_of c.count_post.new.self) c.count_post.ensures.moved in
     record {
       made = record { setting = refl; can = o.can; happens = (o.happens, moved) };
-      stands = stand_after k nodes lanes detector c.args.self.now.steps stand (slice_set nodes i c.post.new.node) (slice_set lanes (i * c.args.self.now.n + j) c.post.new.lane)
+      stands = stand_after k nodes lanes detector c.args.self.now.steps stand (slice_set nodes i c.post.new.node)
+          (slice_set lanes (i * c.args.self.now.n + j) c.post.new.lane)
           c.count_post.new.self (Post i j) c.requires.few o.places c.count_post.ensures.counted.0 c.count_post.ensures.counted.1
           (cuts_posted k.n nodes i node c.post.new.node (ring_of detector) (ring_of c.count_post.new.self) there_n stand.cuts j low_i low_j c.if-from-to.false
           step.cut.cut.next step.cut.others moved.posted)

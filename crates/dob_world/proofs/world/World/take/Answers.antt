@@ -59,7 +59,8 @@ receive-requires-clause-batches c =
     let of = (c.requires.standing.places.node j node there_n).of in
     subst (λ (st : PieceSet). All (λ (b : BatchView). IsBatchFor st node.n node.id b) lane.link.waiting) (sym of.0)
     (subst (λ (m : ℕ). All (λ (b : BatchView). IsBatchFor k.set m node.id b) lane.link.waiting) (sym of.2)
-    (subst (λ (m : ℕ). All (λ (b : BatchView). IsBatchFor k.set k.n m b) lane.link.waiting) (sym of.1) (c.requires.standing.places.lane i j lane there_l).batches))
+    (subst (λ (m : ℕ). All (λ (b : BatchView). IsBatchFor k.set k.n m b) lane.link.waiting) (sym of.1)
+        (c.requires.standing.places.lane i j lane there_l).batches))
 
 pub count_take-requires-clause-counted : goal.count_take-requires-clause-counted
 count_take-requires-clause-counted c =
@@ -128,7 +129,8 @@ returns-in-Ok-true-clause-done c = λ e.
     let moved = moved_here k nodes lanes detector c.args.self.now.steps stand (ring.Take i j) (ring_of c.count_take.new.self) c.count_take.ensures.moved in
     record {
       made = record { setting = refl; can = o.can; happens = (o.happens, moved) };
-      stands = stand_after k nodes lanes detector c.args.self.now.steps stand (slice_set nodes j c.receive.new.node) (slice_set lanes (i * c.args.self.now.n + j) c.receive.new.lane)
+      stands = stand_after k nodes lanes detector c.args.self.now.steps stand (slice_set nodes j c.receive.new.node)
+          (slice_set lanes (i * c.args.self.now.n + j) c.receive.new.lane)
           c.count_take.new.self (Take i j) c.requires.few o.places c.count_take.ensures.counted.0 c.count_take.ensures.counted.1
           (cuts_stay k.n nodes j node c.receive.new.node (ring_of detector) (ring_of c.count_take.new.self) there_n stand.cuts
           (λ l low differs. next_same node c.receive.new.node step.taken.same.0 step.taken.same.1 step.taken.same.2 step.taken.outboxes l) moved.posted)
