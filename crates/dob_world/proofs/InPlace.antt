@@ -1,5 +1,5 @@
 -- Nodes and lanes where they stand.
-use Rattle.std.proofs.Common.{◌≡◌, ℕ, ◌+◌, ◌*◌, ◌<◌, sym, ◌∙◌, subst, List, Some, slice_get, get_or}
+use Rattle.std.proofs.Common.{◌≡◌, ℕ, ◌+◌, ◌*◌, ◌<◌, sym, ◌∙◌, subst, List, length, Some, slice_get, get_or}
 use Rattle.std.proofs.lemmas.Nat.{mul-add-lt}
 use Rattle.dob_pieces.proofs.Elements.{read_there}
 use Rattle.dob_node.specs.declared.node.Node.{Node}

@@ -124,7 +124,7 @@ pub record ReceivesFront (items : List Item) (node : Node) (lane : Lane) (after 
   pub listed : next.applied.items ≡ lane.applied.items ++ items
   pub same : next.sent.items ≡ lane.sent.items
 
-pub whole_received : (node after : Node) (lane next : Lane) (step : HasReceived node lane after next) → ReceivesFront step.batch.items node lane after next
+abbrev pub whole_received : (node after : Node) (lane next : Lane) (step : HasReceived node lane after next) → ReceivesFront step.batch.items node lane after next
 whole_received node after lane next step = record {
   batch = step.batch;
   behind = [];
@@ -135,7 +135,7 @@ whole_received node after lane next step = record {
   same = step.same;
 }
 
-pub front_received : (node after : Node) (lane next : Lane) (why : Cause) (step : HasReceivedFront node lane after next why) →
+abbrev pub front_received : (node after : Node) (lane next : Lane) (why : Cause) (step : HasReceivedFront node lane after next why) →
     ReceivesFront step.taken.front node lane after next
 front_received node after lane next why step = record {
   batch = step.batch;
