@@ -29,7 +29,8 @@ pub fn run(
     requires few { length events.now ≤ 2 ^ 40 }
     ensures run { IfOk result (λ world. HasRun (setting_by set n batch capacity) events.now world) }
     ensures memory { classes_of set < 65535 → IfErr result (λ fault. HasSettingFault (setting_by set n batch capacity) fault ⊎ IsForMemory fault) }
-    ensures fault { IfErr result (λ fault. HasSettingFault (setting_by set n batch capacity) fault ⊎ HasStoppedAt (setting_by set n batch capacity) events.now fault) }
+    ensures fault { IfErr result (λ fault. HasSettingFault (setting_by set n batch capacity) fault
+        ⊎ HasStoppedAt (setting_by set n batch capacity) events.now fault) }
 {
     let mut world = match World::open(alloc, set, n, batch, capacity) {
         Ok(world) => world,

@@ -21,7 +21,8 @@ impl World {
     pub fn gather(&self) -> Result<Table, Memory>
         requires standing { IsStanding self.now }
         ensures set { IfOk result (λ table. table.set ≡ self.now.classes.set) }
-        ensures values { IfOk result (λ table. AreValuesBelow (value_in self.now.n (state_of self.now).world.nodes) (classes_of self.now.classes.set) table.values) }
+        ensures values { IfOk result (λ table. AreValuesBelow (value_in self.now.n (state_of self.now).world.nodes) (classes_of self.now.classes.set)
+            table.values) }
         ensures right { IsAtRest (setting_of self.now) (state_of self.now).world → IfOk result (λ table. IsValueTable self.now.classes.set table.values) }
         ensures announced { (state_of self.now).ring.announced ≡ true → IfOk result (λ table. IsValueTable self.now.classes.set table.values) }
     {

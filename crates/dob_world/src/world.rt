@@ -1,5 +1,5 @@
 // The world: nodes that own the classes of a piece set, a lane from each to each, and what detects the end.
-ghost use Rattle.std.specs.Prelude.{◌≡◌, ◌≢◌, ◌+◌, ◌*◌, ◌^◌, ◌<◌, ◌≤◌, ◌↔◌, true, false, IfOk, IfErr, IfSome, OnOk, OnErr, Err, ℕ, vec_len};
+ghost use Rattle.std.specs.Prelude.{◌≡◌, ◌+◌, ◌*◌, ◌^◌, ◌<◌, ◌≤◌, ◌↔◌, true, false, IfOk, IfErr, IfSome, OnOk, OnErr, Err, vec_len};
 ghost use Rattle.dob_rank.specs.Limits.{IsTooLarge};
 ghost use Rattle.dob_rank.specs.Marks.{classes_of};
 
@@ -39,7 +39,6 @@ pub struct World {
 impl World {
     ghost use Rattle.dob_world.specs.declared.event.Event.TheVariants.{Expand, Own, Post, Take, Pass, Announce};
     ghost use Rattle.dob_world.specs.Worlds.{setting_by, HaveFallsIn};
-    ghost use Rattle.dob_world.specs.Events.{CanHappen, MayEnd};
     ghost use Rattle.dob_world.specs.declared.fault.Fault.TheVariants as fault;
     ghost use Rattle.dob_world.specs.Stops.{IsStop, IsForMemory};
     ghost use Rattle.dob_world.specs.Shown.{setting_of, state_of};
