@@ -4,7 +4,7 @@
 // pass of the token and `A` for the announcement. Behind it stands what the world then shows, as shown.rt says.
 ghost use Rattle.std.specs.Prelude.{◌≡◌, ◌*◌, ◌^◌, ◌≤◌, None, true, OnOk};
 ghost use Rattle.dob_world.specs.Rounds.{round_length};
-ghost use Rattle.dob_world.specs.Shown.{IsStanding, IsKept};
+ghost use Rattle.dob_world.specs.Standing.{IsStanding, IsKept};
 
 use crate::shown::show;
 use dob_pieces::{Memory, PieceSet};

@@ -4,7 +4,7 @@
 // each node's settlements, as `CLASS:WAS>NOW;`, and a `|`; and for each node and each other one over the items sent
 // from the one to the other, as `NUMBER:TO:WAS>NOW;`, a `|`, the items applied likewise, and a `|`.
 ghost use Rattle.std.specs.Prelude.{◌≡◌, ◌<◌};
-ghost use Rattle.dob_world.specs.Shown.{IsStanding};
+ghost use Rattle.dob_world.specs.Standing.{IsStanding};
 
 use crate::about_build::tell_outcomes;
 use crate::value_names::Named;

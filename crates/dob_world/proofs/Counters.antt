@@ -24,7 +24,8 @@ zero_counter n ring i posted taken =
     omega (arith, ints, one, other)
 
 -- what comes of a post
-module _ (n i j : ℕ) (old new : Ring) (low_i : i < n) (low_j : j < n) (posted : Raises n old.posted new.posted i j) (taken : CountsStay n old.taken new.taken) where
+module _ (n i j : ℕ) (old new : Ring) (low_i : i < n) (low_j : j < n) (posted : Raises n old.posted new.posted i j)
+    (taken : CountsStay n old.taken new.taken) where
   pub post_here : counter n new i ≡ counter n old i +ℤ pos 1
   post_here = omega (
     arith,
@@ -42,7 +43,8 @@ module _ (n i j : ℕ) (old new : Ring) (low_i : i < n) (low_j : j < n) (posted 
   )
 
 -- what comes of a take
-module _ (n i j : ℕ) (old new : Ring) (low_i : i < n) (low_j : j < n) (posted : CountsStay n old.posted new.posted) (taken : Raises n old.taken new.taken i j) where
+module _ (n i j : ℕ) (old new : Ring) (low_i : i < n) (low_j : j < n) (posted : CountsStay n old.posted new.posted)
+    (taken : Raises n old.taken new.taken i j) where
   pub take_here : counter n new j ≡ counter n old j -ℤ pos 1
   take_here = omega (
     arith,
@@ -127,7 +129,8 @@ module _ (n : ℕ) (posted taken : List ℕ) (black : List Bool) (token : Token)
   ring_was = shown n posted taken black token announced
 
   -- a batch posted
-  module _ (i j was now : ℕ) (low_i : i < n) (low_j : j < n) (whole : length posted ≡ n * n) (there : was ≡ get_or posted (i * n + j) was) (more : now ≡ was + 1) where
+  module _ (i j was now : ℕ) (low_i : i < n) (low_j : j < n) (whole : length posted ≡ n * n) (there : was ≡ get_or posted (i * n + j) was)
+      (more : now ≡ was + 1) where
     abbrev pub new : Ring
     new = shown n (set posted (i * n + j) now) taken black token announced
 
@@ -154,7 +157,8 @@ module _ (n : ℕ) (posted taken : List ℕ) (black : List Bool) (token : Token)
         up = raised n posted i j was now low_i low_j whole there more
 
   -- a batch taken
-  module _ (i j was now : ℕ) (low_i : i < n) (low_j : j < n) (whole : length taken ≡ n * n) (there : was ≡ get_or taken (i * n + j) was) (more : now ≡ was + 1) where
+  module _ (i j was now : ℕ) (low_i : i < n) (low_j : j < n) (whole : length taken ≡ n * n) (there : was ≡ get_or taken (i * n + j) was)
+      (more : now ≡ was + 1) where
     pub takes_shown : length black ≡ n → slice_index taken (i * n + j) < slice_index posted (i * n + j) →
         Takes n ring_was i j (shown n posted (set taken (i * n + j) now) (set black j true) token announced)
     takes_shown whole_b waiting = record {
@@ -174,9 +178,11 @@ module _ (n : ℕ) (posted taken : List ℕ) (black : List Bool) (token : Token)
     pub takes_counted : (counters : List ℤ) (z : ℤ) (after : List Bool) → length counters ≡ n → z ≡ counter n ring_was j -ℤ pos 1 →
         ((k : ℕ) → k < n → slice_index_or counters k (pos 0) ≡ counter n ring_was k) → (k : ℕ) → k < n →
         slice_index_or (set counters j z) k (pos 0) ≡ counter n (shown n posted (set taken (i * n + j) now) after token announced) k
-    takes_counted counters z after whole_c is counted = listed n counters j z (pos 0) (counter n (shown n posted (set taken (i * n + j) now) after token announced)) low_j whole_c
+    takes_counted counters z after whole_c is counted = listed n counters j z (pos 0) (counter n
+        (shown n posted (set taken (i * n + j) now) after token announced)) low_j whole_c
         (is ∙ sym (take_here n i j ring_was (shown n posted (set taken (i * n + j) now) after token announced) low_i low_j (λ k l low_k low_l. refl) up))
-        (λ k low apart. counted k low ∙ sym (take_else n i j ring_was (shown n posted (set taken (i * n + j) now) after token announced) low_i low_j (λ a b low_a low_b. refl) up k low apart))
+        (λ k low apart. counted k low ∙ sym (take_else n i j ring_was (shown n posted (set taken (i * n + j) now) after token announced) low_i low_j
+            (λ a b low_a low_b. refl) up k low apart))
       where
         up : Raises n ring_was.taken (λ k l. slice_index (set taken (i * n + j) now) (k * n + l)) i j
         up = raised n taken i j was now low_i low_j whole there more

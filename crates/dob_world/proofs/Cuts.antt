@@ -8,7 +8,9 @@ use Rattle.dob_node.specs.declared.node.Node.{Node}
 use Rattle.dob_node.specs.Outboxes.{outbox_in}
 use Rattle.dob_node.specs.Nodes.{outbox_to}
 use Rattle.dob_safra.specs.Rings.{Ring, IsStart as IsStartRing, Raises, CountsStay}
-use Rattle.dob_world.specs.Shown.{part, cut_by, AreCutsPosted, HasAtMost, AreOpenedNodes}
+use Rattle.dob_world.specs.Shown.{part, cut_by}
+use Rattle.dob_world.specs.Standing.{AreCutsPosted, HasAtMost}
+use Rattle.dob_world.specs.Start.{AreOpenedNodes}
 use Rattle.dob_world.proofs.Slots.{here, was, elsewhere, stays}
 
 -- ---- outboxes that stay
@@ -27,7 +29,8 @@ next_same node after set_is id_is n_is boxes j = ap (λ (o : OutboxView). o.next
 
 -- ---- after an event
 
-module _ (n : ℕ) (nodes : List Node) (i : ℕ) (node after : Node) (old new : Ring) (there : slice_get nodes i ≡ Some node) (cuts : AreCutsPosted n nodes old) where
+module _ (n : ℕ) (nodes : List Node) (i : ℕ) (node after : Node) (old new : Ring) (there : slice_get nodes i ≡ Some node)
+    (cuts : AreCutsPosted n nodes old) where
   -- where none is cut and none is posted
   pub cuts_stay : ((j : ℕ) → j < n → i ≢ j → (outbox_to after j).next ≡ (outbox_to node j).next) → CountsStay n old.posted new.posted →
       AreCutsPosted n (set nodes i after) new

@@ -1,20 +1,24 @@
 -- One event more of a round, and one round more.
-use Rattle.std.proofs.Common.{◌≡◌, ℕ, ◌+◌, ◌-◌, ◌*◌, ◌<◌, ◌≤◌, inl, inr, refl, sym, ap, ◌∙◌, subst, arith, add-one, nat_eq, Bool, true, false, None, [], ◌∷◌, ◌++◌}
+use Rattle.std.proofs.Common.{◌≡◌, ℕ, ◌+◌, ◌-◌, ◌*◌, ◌<◌, ◌≤◌, inl, inr, refl, sym, ap, ◌∙◌, subst, arith, add-one, nat_eq, Bool, true, false, None}
+use Rattle.std.proofs.Common.{Some, [], ◌∷◌, ◌++◌}
 use Rattle.std.proofs.Math.Nat.{mul-le-mul_right}
 use Rattle.std.proofs.lemmas.Bool.{cases_order, cases_lt, eqb-true}
 use Rattle.std.proofs.lemmas.Bool.Decides.{nat_tests}
 use Rattle.std.proofs.lemmas.List.FromFn.{map-range_with_len_more}
+use Rattle.dob_world.specs.declared.detector.Detector.{Detector}
 use Rattle.dob_world.specs.declared.world.World.{World}
 use Rattle.dob_world.specs.Worlds.{Setting, State}
 use Rattle.dob_world.specs.Events.{CanHappen}
 use Rattle.dob_world.specs.Runs.{IsAfter, IsStepOf, IsAfterSteps}
 use Rattle.dob_world.specs.Rounds.{round_length, round_event, round_front, round_of, rounds_of, IsStill}
-use Rattle.dob_world.specs.Shown.{setting_of, state_of, IsStanding}
-use Rattle.dob_world.specs.Results.{HasMadeRound, HasDriven, SomeCan, IsBusyRound}
+use Rattle.dob_world.specs.Shown.{setting_of, state_of, ring_of}
+use Rattle.dob_world.specs.Standing.{IsStanding}
+use Rattle.dob_world.specs.Effects.{IsStopped}
+use Rattle.dob_world.specs.Results.{HasMadeRound, HasDriven, StopsInRounds, SomeCan, IsBusyRound}
 use Rattle.dob_world.specs.declared.fault.Fault.{Fault}
-use Rattle.dob_world.specs.Stops.{IsStopBy, IsStopInRounds}
+use Rattle.dob_world.specs.Stops.{IsStopBy, IsLeftBy, IsStopInRounds}
 use Rattle.dob_world.proofs.Still.{still_ended}
-use Rattle.dob_world.proofs.Ran.{Stepped, is_after, after_both, after_both_steps, after_more}
+use Rattle.dob_world.proofs.Ran.{Stepped, is_after, after_both_steps, after_more}
 
 -- The first so many events of a round are made.
 pub record Partway (old new : World) (upto : ℕ) : Type 0 where
@@ -226,35 +230,54 @@ room_left old mid round rounds limit driven less room =
         let is : (round + 1) * l ≡ round * l + l = rw add-one (omega arith) in omega (arith, one, all, more, is)
 
 -- An event of the round stops a node.
-pub round_stops : (old mid : World) (place : ℕ) (fault : Fault) → Partway old mid place → place < round_length old.n →
-    IsStopBy (setting_of mid) (state_of mid) (round_event old.n place) fault → IsStopInRounds (setting_of old) (state_of old) 1 fault
-round_stops old mid place fault way low stop = record {
-  made = 0;
-  few = omega arith;
-  place = place;
-  low = low;
-  state = state_of mid;
-  after = is_after (setting_of old) (state_of old) (state_of mid) (round_front old.n place) (mid.steps - old.steps) way.after;
-  stop = subst (λ (k : Setting). IsStopBy k (state_of mid) (round_event old.n place) fault) way.setting stop;
+pub round_stops : (old mid new : World) (place : ℕ) (fault : Fault) → Partway old mid place → place < round_length old.n →
+    IsStopped (round_event old.n place) fault mid new → new.failed ≡ Some fault → StopsInRounds old 1 fault new
+round_stops old mid new place fault way low stopped failed = record {
+  setting = stopped.setting ∙ way.setting;
+  least = omega (arith, way.least, stopped.same.1);
+  stop = record {
+    made = 0;
+    few = omega arith;
+    place = place;
+    low = low;
+    state = state_of mid;
+    after = subst (λ (m : ℕ). IsAfterSteps (setting_of old) (state_of old) (round_front old.n place) m (state_of mid))
+        (ap (λ (m : ℕ). m - old.steps) (sym stopped.same.1)) way.after;
+    stop = subst (λ (k : Setting). IsStopBy k (state_of mid) (round_event old.n place) fault) way.setting stopped.stop;
+    left = subst (λ (k : Setting). IsLeftBy k (state_of mid).world (round_event old.n place) fault (state_of new).world) way.setting stopped.left;
+    ring = ap (λ (d : Detector). ring_of d) stopped.same.0;
+  };
+  failed = failed;
 }
 
 -- An event of a round after others stops a node.
-pub drive_stops : (old mid : World) (made rounds : ℕ) (fault : Fault) → HasDriven old made false mid → made < rounds →
-    IsStopInRounds (setting_of mid) (state_of mid) 1 fault → IsStopInRounds (setting_of old) (state_of old) rounds fault
-drive_stops old mid made rounds fault driven few stopped =
-    let here : IsStopInRounds (setting_of old) (state_of mid) 1 fault =
-    subst (λ (k : Setting). IsStopInRounds k (state_of mid) 1 fault) driven.setting stopped in
+pub drive_stops : (old mid new : World) (made rounds : ℕ) (fault : Fault) → HasDriven old made false mid → made < rounds →
+    StopsInRounds mid 1 fault new → StopsInRounds old rounds fault new
+drive_stops old mid new made rounds fault driven few stopped =
+    let k = setting_of old in
+    let here : IsStopInRounds k (state_of mid) 1 fault (new.steps - mid.steps) (state_of new) =
+    subst (λ (s : Setting). IsStopInRounds s (state_of mid) 1 fault (new.steps - mid.steps) (state_of new)) driven.setting stopped.stop in
     let first : here.made ≡ 0 = omega (arith, here.few) in
     let before : driven.made ≡ made = (driven.busy refl).0 in
     record {
-      made = made;
-      few = few;
-      place = here.place;
-      low = here.low;
-      state = here.state;
-      after = after_both (setting_of old) (state_of old) (state_of mid) here.state (rounds_of old.n made) (round_front old.n here.place)
-          (is_after (setting_of old) (state_of old) (state_of mid) (rounds_of old.n made) (mid.steps - old.steps)
-          (subst (λ (m : ℕ). IsAfterSteps (setting_of old) (state_of old) (rounds_of old.n m) (mid.steps - old.steps) (state_of mid)) before driven.after))
-          (subst (λ (m : ℕ). IsAfter (setting_of old) (state_of mid) (rounds_of old.n m ++ round_front old.n here.place) here.state) first here.after);
-      stop = here.stop;
+      setting = stopped.setting ∙ driven.setting;
+      least = omega (arith, driven.least, stopped.least);
+      stop = record {
+        made = made;
+        few = few;
+        place = here.place;
+        low = here.low;
+        state = here.state;
+        after = subst (λ (m : ℕ). IsAfterSteps k (state_of old) (rounds_of old.n made ++ round_front old.n here.place) m here.state)
+            (steps_between old.steps mid.steps new.steps driven.least stopped.least)
+            (after_both_steps k (state_of old) (state_of mid) here.state (rounds_of old.n made) (round_front old.n here.place)
+            (mid.steps - old.steps) (new.steps - mid.steps)
+            (subst (λ (m : ℕ). IsAfterSteps k (state_of old) (rounds_of old.n m) (mid.steps - old.steps) (state_of mid)) before driven.after)
+            (subst (λ (m : ℕ). IsAfterSteps k (state_of mid) (rounds_of old.n m ++ round_front old.n here.place) (new.steps - mid.steps) here.state)
+            first here.after));
+        stop = here.stop;
+        left = here.left;
+        ring = here.ring;
+      };
+      failed = stopped.failed;
     }

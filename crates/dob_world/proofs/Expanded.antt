@@ -1,5 +1,6 @@
 -- A settlement that a node of the world expands.
-use Rattle.std.proofs.Common.{◌≡◌, ℕ, ◌+◌, ◌<◌, ◌≤◌, inl, inr, arith, refl, sym, ap, ◌∙◌, subst, cond, nat_lt, List, [], ◌++◌, length, None, Some, slice_get, set}
+use Rattle.std.proofs.Common.{◌≡◌, ℕ, ◌+◌, ◌<◌, ◌≤◌, inl, inr, arith, refl, sym, ap, ◌∙◌, subst, cond, nat_lt, List, [], ◌++◌, length, None, Some}
+use Rattle.std.proofs.Common.{slice_get, set}
 use Rattle.std.proofs.lemmas.Bool.{cases_lt, cases_eq}
 use Rattle.std.proofs.lemmas.Option.{slice_get_within}
 use Rattle.std.proofs.lemmas.List.{length-set}
@@ -20,7 +21,8 @@ use Rattle.dob_safra.specs.Rings.{Ring}
 use Rattle.dob_world.specs.declared.lane.Lane.{Lane}
 use Rattle.dob_world.specs.Worlds.{Setting}
 use Rattle.dob_world.specs.Events.{Expands}
-use Rattle.dob_world.specs.Shown.{part, nodes_shown, world_shown, IsNodeOf, AreInPlace, AreCutsPosted}
+use Rattle.dob_world.specs.Shown.{part, nodes_shown, world_shown}
+use Rattle.dob_world.specs.Standing.{IsNodeOf, AreInPlace, AreCutsPosted}
 use Rattle.dob_world.proofs.Cuts.{cuts_stay}
 use Rattle.dob_world.proofs.Slots.{here, was, elsewhere, stays, set_cases}
 
@@ -72,14 +74,16 @@ module _ (k : Setting) (nodes : List Node) (lanes : List Lane) (i : ℕ) (node a
       history = stays nodes i node after there [] (λ (x : Node). x.history.settlements) (ap (λ (h : HistoryView). h.settlements) step.same.4);
       applied = λ m l. refl;
       cell = λ class. ap (λ c. cond (nat_lt class (classes_of k.set)) c (fresh 0))
-          (stays nodes i node after there (fresh 0) (λ (x : Node). cell_at x.share class) (ap (λ (s : Share). cell_at s class) step.same.3) (owner_of k.n class));
+          (stays nodes i node after there (fresh 0) (λ (x : Node). cell_at x.share class) (ap (λ (s : Share). cell_at s class) step.same.3)
+              (owner_of k.n class));
     };
     links = (λ m l. refl, λ m l. refl);
   }
 
   pub can_expand : (world_shown k.set k.n nodes lanes).expanded i < length ((world_shown k.set k.n nodes lanes).nodes.history i)
   unfolding world_shown nodes_shown
-  can_expand = slice_get_within (part [] (λ (x : Node). x.history.settlements) (slice_get nodes i)) (part 0 (λ (x : Node). x.expanded) (slice_get nodes i)) step.settlement
+  can_expand = slice_get_within (part [] (λ (x : Node). x.history.settlements) (slice_get nodes i)) (part 0 (λ (x : Node). x.expanded) (slice_get nodes i))
+      step.settlement
       (ap (λ o. slice_get (part [] (λ (x : Node). x.history.settlements) o) (part 0 (λ (x : Node). x.expanded) o)) there ∙ step.first)
 
 module _ (k : Setting) (nodes : List Node) (lanes : List Lane) (i : ℕ) (node after : Node) (there : slice_get nodes i ≡ Some node) where
@@ -96,13 +100,13 @@ module _ (k : Setting) (nodes : List Node) (lanes : List Lane) (i : ℕ) (node a
   pub left_to_expand : node.expanded ≤ length node.history.settlements → (node.expanded ≡ length node.history.settlements → ⊥) →
       (world_shown k.set k.n nodes lanes).expanded i < length ((world_shown k.set k.n nodes lanes).nodes.history i)
   unfolding world_shown nodes_shown
-  left_to_expand matches left =
+  left_to_expand within left =
       let e : part 0 (λ (x : Node). x.expanded) (slice_get nodes i) ≡ node.expanded = was nodes i node node there 0 (λ (x : Node). x.expanded) in
       let h : length (part [] (λ (x : Node). x.history.settlements) (slice_get nodes i)) ≡ length node.history.settlements =
       ap length (was nodes i node node there [] (λ (x : Node). x.history.settlements)) in
       elim (cases_eq node.expanded (length node.history.settlements)) [
         | inl all ↦ absurd (left all)
-        | inr some ↦ by_order node.expanded (length node.history.settlements) _ _ matches some e h
+        | inr some ↦ by_order node.expanded (length node.history.settlements) _ _ within some e h
       ]
     where
       by_order : (a b c d : ℕ) → a ≤ b → (a ≡ b → ⊥) → c ≡ a → d ≡ b → c < d

@@ -14,7 +14,8 @@ use Rattle.dob_node.proofs.Rest.{below_owner}
 use Rattle.dob_node.proofs.ShownValues.{value_shown}
 use Rattle.dob_world.specs.declared.lane.Lane.{Lane}
 use Rattle.dob_world.specs.Worlds.{Setting, Nodes, value_in, AreLawful}
-use Rattle.dob_world.specs.Shown.{part, nodes_shown, world_shown, IsNodeOf, AreInPlace}
+use Rattle.dob_world.specs.Shown.{part, nodes_shown, world_shown}
+use Rattle.dob_world.specs.Standing.{IsNodeOf, AreInPlace}
 use Rattle.dob_world.proofs.Made.{kept_of}
 
 module _ (k : Setting) (nodes : List Node) (lanes : List Lane) (some : 0 < k.n) (places : AreInPlace k nodes lanes)

@@ -6,11 +6,11 @@ use Rattle.dob_update.specs.Items.{items_from}
 use Rattle.dob_update.specs.Batches.{BatchView, items_of_batches}
 use Rattle.dob_node.proofs.Settles.{emitted_all}
 use Rattle.dob_world.specs.declared.event.Event.TheVariants.{Expand, Own, Post, Take, Pass, Announce}
-use Rattle.dob_world.specs.Worlds.{Setting, WorldView, State, items_in, AreLawful, IsLinked}
-use Rattle.dob_world.specs.Events.{Expands, AppliesOwn, Posts, TakesBatch}
+use Rattle.dob_world.specs.Worlds.{Setting, Nodes, WorldView, State, items_in, AreLawful, IsLinked}
+use Rattle.dob_world.specs.Events.{Expands, AppliesAll, AppliesOwn, Posts, TakesBatch}
 use Rattle.dob_world.specs.Laws.{HappeningKeepsAll, EventsKeepAll, ListsAreBeginnings, OwnItemFits, TakenItemFits}
 use Rattle.dob_world.proofs.Places.{lawful_stay}
-use Rattle.dob_world.proofs.Applied.{next_fits, lawful_step, step_grows, next_after, all_applied}
+use Rattle.dob_world.proofs.Applied.{Grows, next_fits, lawful_step, step_grows, next_after, all_applied}
 use Rattle.dob_world.proofs.Linked.{linked_expanded, linked_own, linked_posted, linked_taken}
 
 -- ---- what comes next on a node's way to itself and on a link
@@ -120,14 +120,32 @@ own_item_fits k world i item rest some lawful linked low is =
     let later = items_from (predecessors k.set) k.n i (drop (world.expanded i) (world.nodes.history i)) in
     next_fits k some i i low low item world.nodes lawful (rest ++ later) (next_own k world i (item ∷ rest) linked low is)
 
-pub taken_item_fits : TakenItemFits
-taken_item_fits k world i j batch batches front item behind nodes some lawful linked low_i low_j differs first items_are applied =
+-- What is left of nodes of which one has applied the first items of a batch: they are lawful, and the batch's others come next.
+pub record FrontApplied (k : Setting) (i j : ℕ) (front behind : List Item) (old new : Nodes) : Type 0 where
+  pub lawful : AreLawful k new
+  pub grows : Grows i j front old new
+  pub rest : List Item
+  pub next : items_in k new i j ≡ new.applied i j ++ (behind ++ rest)
+
+pub front_applied : (k : Setting) (world : WorldView) (i j : ℕ) (batch : BatchView) (batches : List BatchView) (front behind : List Item) (nodes : Nodes) →
+    0 < k.n → AreLawful k world.nodes → IsLinked k world → i < k.n → j < k.n → i ≢ j → world.waiting i j ≡ batch ∷ batches → batch.items ≡ front ++ behind →
+    AppliesAll k i j front world.nodes nodes → FrontApplied k i j front behind world.nodes nodes
+front_applied k world i j batch batches front behind nodes some lawful linked low_i low_j differs first items_are applied =
     let later = items_from (predecessors k.set) k.n j (drop (world.expanded i) (world.nodes.history i)) in
     let others = items_of_batches batches ++ (world.outbox i j ++ later) in
-    let next : items_in k world.nodes i j ≡ world.nodes.applied i j ++ (front ++ ((item ∷ behind) ++ others)) =
+    let next : items_in k world.nodes i j ≡ world.nodes.applied i j ++ (front ++ (behind ++ others)) =
     next_waiting k world i j batch batches linked low_i low_j differs first
     ∙ ap (λ xs. world.nodes.applied i j ++ (xs ++ others)) items_are
-    ∙ ap (λ xs. world.nodes.applied i j ++ xs) (append_assoc front (item ∷ behind) others) in
-    let both = all_applied k some i j low_i low_j differs front ((item ∷ behind) ++ others) world.nodes nodes lawful next applied in
-    next_fits k some i j low_i low_j item nodes both.0 (behind ++ others)
-    (next_after k i j front ((item ∷ behind) ++ others) world.nodes nodes differs both.1 next)
+    ∙ ap (λ xs. world.nodes.applied i j ++ xs) (append_assoc front behind others) in
+    let both = all_applied k some i j low_i low_j differs front (behind ++ others) world.nodes nodes lawful next applied in
+    record {
+      lawful = both.0;
+      grows = both.1;
+      rest = others;
+      next = next_after k i j front (behind ++ others) world.nodes nodes differs both.1 next;
+    }
+
+pub taken_item_fits : TakenItemFits
+taken_item_fits k world i j batch batches front item behind nodes some lawful linked low_i low_j differs first items_are applied =
+    let left = front_applied k world i j batch batches front (item ∷ behind) nodes some lawful linked low_i low_j differs first items_are applied in
+    next_fits k some i j low_i low_j item nodes left.lawful (behind ++ left.rest) left.next

@@ -2,7 +2,7 @@
 pub mod Places  -- what holds at one node or link and at all others
 pub mod Firsts  -- first elements, and calls that can't have failed
 pub mod Slots  -- elements of lists after a write, and nodes and lanes among them
-pub mod Stands  -- nodes and lanes where they stand
+pub mod InPlace  -- nodes and lanes where they stand
 pub mod Lent  -- what a world shows of its nodes and lanes is what it lends
 pub mod Pushed  -- nodes and lanes, one more
 pub mod Counters  -- the detector's lists after an event, and what they show
@@ -23,10 +23,11 @@ pub mod Made  -- items applied, and batches taken and posted, where a world stan
 pub mod Outcomes  -- the event was possible, it happened, and the world stands
 pub mod Unchanged  -- what a node and a lane show that are as they were
 pub mod Stood  -- what standing gives of the ring and of idle nodes
-pub mod Stopped  -- a node never stops because an item contradicts its cell
+pub mod Stopped  -- a node never stops because an item contradicts its cell, and what its stop leaves
 -- Runs from the start to the end.
 pub mod Starts  -- a world of opened nodes with empty lanes is lawful and linked
 pub mod Promise  -- the promise of the whole, after any events
+pub mod Left  -- what is left of it after a stop
 pub mod Ran  -- one event more of a run
 pub mod Still  -- where no event of a round can happen, the end is announced
 pub mod Driven  -- one event more of a round, and one round more

@@ -101,10 +101,10 @@ module _ (k : Setting) (i : ℕ) (old new : WorldView) (low_i : i < k.n) (linked
   linked_own = record {
     expanded = within_same k i i (step.item ∷ []) old new linked grows step.same.0;
     own = λ m low. at_node (λ a. emitted_in k new a a ≡ new.nodes.applied a a ++ new.own a) i m own_here (λ other.
-        matches m m low ∙ linked.own m low
+        emitted_stays m m low ∙ linked.own m low
         ∙ ap (λ xs. xs ++ old.own m) (sym (grows.others m m (inl other)))
         ∙ ap (λ xs. new.nodes.applied m m ++ xs) (sym (step.others m other)));
-    posted = λ m l low_m low_l differs. matches m l low_m ∙ linked.posted m l low_m low_l differs
+    posted = λ m l low_m low_l differs. emitted_stays m l low_m ∙ linked.posted m l low_m low_l differs
         ∙ ap (λ xs. xs ++ old.outbox m l) (sym (step.links.1 m l))
         ∙ ap (λ xs. new.sent m l ++ xs) (sym (step.same.1 m l));
     taken = λ m l low_m low_l differs. step.links.1 m l ∙ linked.taken m l low_m low_l differs
@@ -112,11 +112,11 @@ module _ (k : Setting) (i : ℕ) (old new : WorldView) (low_i : i < k.n) (linked
         ∙ ap (λ bs. new.nodes.applied m l ++ items_of_batches bs) (sym (step.links.0 m l));
   }
     where
-      matches : (m l : ℕ) → m < k.n → emitted_in k new m l ≡ emitted_in k old m l
-      matches = emitted_same k i i (step.item ∷ []) old new linked grows step.same.0
+      emitted_stays : (m l : ℕ) → m < k.n → emitted_in k new m l ≡ emitted_in k old m l
+      emitted_stays = emitted_same k i i (step.item ∷ []) old new linked grows step.same.0
 
       own_here : emitted_in k new i i ≡ new.nodes.applied i i ++ new.own i
-      own_here = matches i i low_i ∙ linked.own i low_i
+      own_here = emitted_stays i i low_i ∙ linked.own i low_i
           ∙ ap (λ xs. old.nodes.applied i i ++ xs) step.first
           ∙ sym (append_assoc (old.nodes.applied i i) (step.item ∷ []) (new.own i))
           ∙ ap (λ xs. xs ++ new.own i) (sym grows.applied)
@@ -128,8 +128,8 @@ module _ (k : Setting) (i : ℕ) (old new : WorldView) (low_i : i < k.n) (linked
 
 module _ (k : Setting) (i j : ℕ) (old new : WorldView) (low_i : i < k.n) (low_j : j < k.n) (differs : i ≢ j) (linked : IsLinked k old)
     (step : Posts k i j old new) where
-  matches_still : (m l : ℕ) → emitted_in k new m l ≡ emitted_in k old m l
-  matches_still m l =
+  emitted_still : (m l : ℕ) → emitted_in k new m l ≡ emitted_in k old m l
+  emitted_still m l =
       ap (λ h. items_from (predecessors k.set) k.n l (take (new.expanded m) h)) (step.nodes.history m)
       ∙ ap (λ e. items_from (predecessors k.set) k.n l (take e (old.nodes.history m))) (step.same.0 m)
 
@@ -140,10 +140,10 @@ module _ (k : Setting) (i j : ℕ) (old new : WorldView) (low_i : i < k.n) (low_
         let before : old.expanded m ≤ length (old.nodes.history m) = linked.expanded m low in
         let long : length (new.nodes.history m) ≡ length (old.nodes.history m) = ap length (step.nodes.history m) in
         omega arith;
-    own = λ m low. matches_still m m ∙ linked.own m low
+    own = λ m low. emitted_still m m ∙ linked.own m low
         ∙ ap (λ xs. xs ++ old.own m) (sym (step.nodes.applied m m))
         ∙ ap (λ xs. new.nodes.applied m m ++ xs) (sym (step.same.1 m));
-    posted = λ m l low_m low_l apart. matches_still m l ∙ linked.posted m l low_m low_l apart ∙ at_link (λ a b.
+    posted = λ m l low_m low_l apart. emitted_still m l ∙ linked.posted m l low_m low_l apart ∙ at_link (λ a b.
         old.sent a b ++ old.outbox a b ≡ new.sent a b ++ new.outbox a b) i j m l posted_here (λ other.
         ap (λ xs. xs ++ old.outbox m l) (sym (step.others.2 m l other)) ∙ ap (λ xs. new.sent m l ++ xs) (sym (step.others.0 m l other)));
     taken = λ m l low_m low_l apart. at_link (λ a b. old.sent a b ≡ old.nodes.applied a b ++ items_of_batches (old.waiting a b) →
@@ -178,10 +178,10 @@ module _ (k : Setting) (i j : ℕ) (old new : WorldView) (differs : i ≢ j) (li
   pub linked_taken : IsLinked k new
   linked_taken = record {
     expanded = within_same k i j step.batch.items old new linked grows step.same.0;
-    own = λ m low. matches m m low ∙ linked.own m low
+    own = λ m low. emitted_stays m m low ∙ linked.own m low
         ∙ ap (λ xs. xs ++ old.own m) (sym (grows.others m m (not_both m)))
         ∙ ap (λ xs. new.nodes.applied m m ++ xs) (sym (step.same.1 m));
-    posted = λ m l low_m low_l apart. matches m l low_m ∙ linked.posted m l low_m low_l apart
+    posted = λ m l low_m low_l apart. emitted_stays m l low_m ∙ linked.posted m l low_m low_l apart
         ∙ ap (λ xs. xs ++ old.outbox m l) (sym (step.same.3 m l))
         ∙ ap (λ xs. new.sent m l ++ xs) (sym (step.same.2 m l));
     taken = λ m l low_m low_l apart. step.same.3 m l ∙ linked.taken m l low_m low_l apart ∙ at_link (λ a b.
@@ -190,8 +190,8 @@ module _ (k : Setting) (i j : ℕ) (old new : WorldView) (differs : i ≢ j) (li
         ∙ ap (λ bs. new.nodes.applied m l ++ items_of_batches bs) (sym (step.others m l other)));
   }
     where
-      matches : (m l : ℕ) → m < k.n → emitted_in k new m l ≡ emitted_in k old m l
-      matches = emitted_same k i j step.batch.items old new linked grows step.same.0
+      emitted_stays : (m l : ℕ) → m < k.n → emitted_in k new m l ≡ emitted_in k old m l
+      emitted_stays = emitted_same k i j step.batch.items old new linked grows step.same.0
 
       not_both : (m : ℕ) → (m ≢ i) ⊎ (m ≢ j)
       not_both m = at_node (λ a. (a ≢ i) ⊎ (a ≢ j)) i m (inr differs) (λ other. inl other)

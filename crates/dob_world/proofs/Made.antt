@@ -1,7 +1,8 @@
 -- Own items applied, batches taken and batches posted in a world that stands.
-use Rattle.std.proofs.Common.{◌≡◌, ◌≢◌, ℕ, ◌+◌, ◌*◌, ◌<◌, ◌⊎◌, inl, inr, cond, nat_lt, sym, ap, ◌∙◌, subst}
+use Rattle.std.proofs.Common.{◌≡◌, ◌≢◌, ℕ, ◌+◌, ◌*◌, ◌<◌, ◌⊎◌, inl, inr, cond, nat_lt, refl, sym, ap, ◌∙◌, subst, append_assoc}
 use Rattle.std.proofs.Common.{List, [], ◌∷◌, ◌++◌, length, take, drop, None, Some, slice_get, set}
 use Rattle.std.specs.List.{All}
+use Rattle.std.proofs.lemmas.List.{append-nil}
 use Rattle.std.proofs.lemmas.List.Elements.{All-head, All-tail, All-append, All-cons, All-nil}
 use Rattle.dob_moves.specs.declared.position_status.Status.{Status}
 use Rattle.dob_moves.specs.Statuses.{HasStatus}
@@ -14,18 +15,21 @@ use Rattle.dob_share.specs.Owners.{owner_of}
 use Rattle.dob_share.specs.Cells.{fresh}
 use Rattle.dob_share.specs.Shares.{IsOwn, status_at, cell_at}
 use Rattle.dob_update.specs.Items.{items_from}
-use Rattle.dob_update.specs.Batches.{OutboxView, items_of_batches}
-use Rattle.dob_link.specs.Links.{LinkView}
+use Rattle.dob_update.specs.Batches.{BatchView, OutboxView, items_of_batches}
+use Rattle.dob_link.specs.Links.{LinkView, link_of}
 use Rattle.dob_node.specs.Stores.{HistoryView}
-use Rattle.dob_node.specs.TakenItems.{AreKept, AreTaken}
+use Rattle.dob_node.specs.declared.cause.Cause.{Cause}
+use Rattle.dob_node.specs.TakenItems.{HasEntries, AreKept, AreTaken}
 use Rattle.dob_node.specs.declared.node.Node.{Node}
-use Rattle.dob_node.specs.Nodes.{IsSound, outbox_to}
+use Rattle.dob_node.specs.Nodes.{IsSound, HasTaken, outbox_to}
 use Rattle.dob_node.proofs.Nodes.{outbox_same, kept_sound}
 use Rattle.dob_world.specs.declared.lane.Lane.{Lane}
-use Rattle.dob_world.specs.Worlds.{Setting, AreLawful, IsLinked}
-use Rattle.dob_world.specs.Events.{AppliesOwn, TakesBatch, Posts}
-use Rattle.dob_world.specs.Lanes.{IsBatchFor, HasListed, HasReceived, HasPosted}
-use Rattle.dob_world.specs.Shown.{part, lane_at, nodes_shown, world_shown, IsNodeOf, IsLaneOf}
+use Rattle.dob_world.specs.Worlds.{Setting, WorldView, AreLawful, IsLinked}
+use Rattle.dob_world.specs.Events.{Stays, LinksStay, OtherLinksStay, AppliesAll, AppliesOwn, TakesBatch, Posts}
+use Rattle.dob_world.specs.Stops.{GoesTooDeep, TakesFront}
+use Rattle.dob_world.specs.Lanes.{IsBatchFor, HasListed, HasReceived, HasReceivedFront, HasPosted}
+use Rattle.dob_world.specs.Shown.{part, lane_at, nodes_shown, world_shown}
+use Rattle.dob_world.specs.Standing.{IsNodeOf, IsLaneOf}
 use Rattle.dob_world.proofs.Slots.{here, was, elsewhere, stays, lane_here, lane_was, lane_else, lane_stays}
 use Rattle.dob_world.proofs.Kept.{next_own, next_waiting}
 use Rattle.dob_world.proofs.Moves.{applies_one, applies_many}
@@ -44,7 +48,8 @@ node_opened k i node sound of statuses going = record { sound = sound; of = of; 
 pub kept_of : (k : Setting) (i : ℕ) (node : Node) → IsNodeOf k i node → AreKept k.set k.n i node.share node.history
 kept_of k i node is = kept_sound k.set k.n i node is.of is.sound
 
-pub node_after : (k : Setting) (i : ℕ) (node after : Node) → IsNodeOf k i node → IsSound after → after.failed ≡ None → after.set ≡ node.set → after.id ≡ node.id →
+pub node_after : (k : Setting) (i : ℕ) (node after : Node) → IsNodeOf k i node → IsSound after → after.failed ≡ None → after.set ≡ node.set →
+    after.id ≡ node.id →
     after.n ≡ node.n → ((class : ℕ) → status_at after.share class ≡ status_at node.share class) → IsNodeOf k i after
 node_after k i node after is sound going set_is id_is n_is statuses = record {
   sound = sound;
@@ -91,7 +96,8 @@ module _ (k : Setting) (nodes : List Node) (lanes : List Lane) (i : ℕ) (low : 
     item = step.applied.item;
     first = own_first ∙ ap (λ xs. step.applied.item ∷ xs) (sym (here nodes i node after there_n [] (λ (x : Node). x.own.items)));
     applied = applies_one k nodes lanes i i low low node after lane next there_n there_l whole some step.applied.item
-        (after.own.items ++ items_from (predecessors k.set) k.n i (drop ((world_shown k.set k.n nodes lanes).expanded i) ((world_shown k.set k.n nodes lanes).nodes.history i)))
+        (after.own.items ++ items_from (predecessors k.set) k.n i (drop ((world_shown k.set k.n nodes lanes).expanded i)
+            ((world_shown k.set k.n nodes lanes).nodes.history i)))
         (kept_of k i node is) step.applied.taken lawful
         (next_own k (world_shown k.set k.n nodes lanes) i (step.applied.item ∷ after.own.items) linked low own_first) step.listed;
     others = elsewhere nodes i node after there_n [] (λ (x : Node). x.own.items);
@@ -106,14 +112,57 @@ module _ (k : Setting) (nodes : List Node) (lanes : List Lane) (i : ℕ) (low : 
     );
   }
 
--- ---- a batch taken
+-- ---- a batch taken, in whole or up to an item
+
+-- Of the first batch that waited on the lane the node has applied those items, which are its first, and the lane lists them.
+pub record ReceivesFront (items : List Item) (node : Node) (lane : Lane) (after : Node) (next : Lane) : Type 0 where
+  pub batch : BatchView
+  pub behind : List Item
+  pub items_are : batch.items ≡ items ++ behind
+  pub first : lane.link ≡ link_of (batch ∷ next.link.waiting) next.link.capacity
+  pub taken : HasTaken items node after
+  pub listed : next.applied.items ≡ lane.applied.items ++ items
+  pub same : next.sent.items ≡ lane.sent.items
+
+abbrev pub whole_received : (node after : Node) (lane next : Lane) (step : HasReceived node lane after next) → ReceivesFront step.batch.items node lane after next
+whole_received node after lane next step = record {
+  batch = step.batch;
+  behind = [];
+  items_are = sym (append-nil step.batch.items);
+  first = step.first;
+  taken = step.taken;
+  listed = step.listed;
+  same = step.same;
+}
+
+abbrev pub front_received : (node after : Node) (lane next : Lane) (why : Cause) (step : HasReceivedFront node lane after next why) →
+    ReceivesFront step.taken.front node lane after next
+front_received node after lane next why step = record {
+  batch = step.batch;
+  behind = step.taken.item ∷ step.taken.behind;
+  items_are = step.taken.items_are;
+  first = step.first;
+  taken = step.taken.taken;
+  listed = step.listed;
+  same = step.same;
+}
+
+All-front : (xs ys : List Item) → All HasEntries (xs ++ ys) → All HasEntries xs
+All-front [] ys all = All-nil HasEntries
+All-front (x ∷ xs) ys all = All-cons HasEntries x xs (All-head HasEntries x (xs ++ ys) all) (All-front xs ys (All-tail HasEntries x (xs ++ ys) all))
 
 module _ (k : Setting) (nodes : List Node) (lanes : List Lane) (i j : ℕ) (low_i : i < k.n) (low_j : j < k.n) (differs : i ≢ j) (node after : Node)
     (lane next : Lane) (there_n : slice_get nodes j ≡ Some node) (there_l : lane_at k.n lanes i j ≡ Some lane) (whole : length lanes ≡ k.n * k.n)
-    (is : IsNodeOf k j node) (is_lane : IsLaneOf k i j lane) (step : HasReceived node lane after next) where
+    (is : IsNodeOf k j node) (is_lane : IsLaneOf k i j lane) (items : List Item) (step : ReceivesFront items node lane after next) where
+  abbrev before : WorldView
+  before = world_shown k.set k.n nodes lanes
+
+  abbrev later : WorldView
+  later = world_shown k.set k.n (set nodes j after) (set lanes (i * k.n + j) next)
+
   pub node_received : IsSound after → after.failed ≡ None → IsNodeOf k j after
   node_received sound going = node_after k j node after is sound going step.taken.same.0 step.taken.same.1 step.taken.same.2
-      (chain_statuses step.batch.items node.share after.share node.history after.history step.taken.taken)
+      (chain_statuses items node.share after.share node.history after.history step.taken.taken)
 
   waits_are : lane.link.waiting ≡ step.batch ∷ next.link.waiting
   waits_are = ap (λ (l : LinkView). l.waiting) step.first
@@ -127,29 +176,68 @@ module _ (k : Setting) (nodes : List Node) (lanes : List Lane) (i j : ℕ) (low_
     batches = All-tail (IsBatchFor k.set k.n j) step.batch next.link.waiting batches_are;
   }
 
-  pub waits_first : (world_shown k.set k.n nodes lanes).waiting i j ≡ step.batch ∷ next.link.waiting
+  pub waits_first : before.waiting i j ≡ step.batch ∷ next.link.waiting
   unfolding world_shown
   waits_first = lane_was k.n lanes i j lane next low_i low_j whole there_l [] (λ (x : Lane). x.link.waiting) ∙ waits_are
 
-  pub receives : 0 < k.n → AreLawful k (world_shown k.set k.n nodes lanes).nodes → IsLinked k (world_shown k.set k.n nodes lanes) →
-      TakesBatch k i j (world_shown k.set k.n nodes lanes) (world_shown k.set k.n (set nodes j after) (set lanes (i * k.n + j) next))
+  waits_left : later.waiting i j ≡ next.link.waiting
   unfolding world_shown
-  receives some lawful linked = record {
+  waits_left = lane_here k.n lanes i j lane next low_i low_j whole there_l [] (λ (x : Lane). x.link.waiting)
+
+  others_wait : OtherLinksStay i j before.waiting later.waiting
+  unfolding world_shown
+  others_wait = lane_else k.n lanes i j lane next low_i low_j whole there_l [] (λ (x : Lane). x.link.waiting)
+
+  all_stay : Stays before.expanded later.expanded × Stays before.own later.own × LinksStay before.outbox later.outbox × LinksStay before.sent later.sent
+  unfolding world_shown
+  all_stay = (
+    stays nodes j node after there_n 0 (λ (x : Node). x.expanded) step.taken.same.3,
+    stays nodes j node after there_n [] (λ (x : Node). x.own.items) step.taken.own,
+    λ m l. stays nodes j node after there_n [] (λ (x : Node). (outbox_to x l).items) (ap (λ (o : OutboxView). o.items)
+        (outbox_same node after l step.taken.same.0 step.taken.same.1 step.taken.same.2 step.taken.outboxes)) m,
+    lane_stays k.n lanes i j lane next low_i low_j whole there_l [] (λ (x : Lane). x.sent.items) step.same,
+  )
+
+  pub items_received : 0 < k.n → AreLawful k before.nodes → IsLinked k before → AppliesAll k i j items before.nodes later.nodes
+  unfolding world_shown
+  items_received some lawful linked =
+      let others = items_of_batches next.link.waiting ++ (before.outbox i j
+      ++ items_from (predecessors k.set) k.n j (drop (before.expanded i) (before.nodes.history i))) in
+      applies_many k nodes lanes i j low_i low_j node after lane next there_n there_l whole some items (step.behind ++ others) differs (kept_of k j node is)
+      (All-front items step.behind (subst (λ xs. All HasEntries xs) step.items_are
+      (All-head (IsBatchFor k.set k.n j) step.batch next.link.waiting batches_are).entries)) step.taken.taken lawful
+      (next_waiting k before i j step.batch next.link.waiting linked low_i low_j differs waits_first
+      ∙ ap (λ xs. before.nodes.applied i j ++ (xs ++ others)) step.items_are
+      ∙ ap (λ xs. before.nodes.applied i j ++ xs) (append_assoc items step.behind others)) step.listed
+
+  pub receives : step.batch.items ≡ items → 0 < k.n → AreLawful k before.nodes → IsLinked k before → TakesBatch k i j before later
+  receives all some lawful linked = record {
     batch = step.batch;
-    first = waits_first ∙ ap (λ bs. step.batch ∷ bs) (sym (lane_here k.n lanes i j lane next low_i low_j whole there_l [] (λ (x : Lane). x.link.waiting)));
-    applied = applies_many k nodes lanes i j low_i low_j node after lane next there_n there_l whole some step.batch.items
-        (items_of_batches next.link.waiting ++ ((world_shown k.set k.n nodes lanes).outbox i j
-        ++ items_from (predecessors k.set) k.n j (drop ((world_shown k.set k.n nodes lanes).expanded i) ((world_shown k.set k.n nodes lanes).nodes.history i))))
-        differs (kept_of k j node is) (All-head (IsBatchFor k.set k.n j) step.batch next.link.waiting batches_are).entries step.taken.taken lawful
-        (next_waiting k (world_shown k.set k.n nodes lanes) i j step.batch next.link.waiting linked low_i low_j differs waits_first) step.listed;
-    others = lane_else k.n lanes i j lane next low_i low_j whole there_l [] (λ (x : Lane). x.link.waiting);
-    same = (
-      stays nodes j node after there_n 0 (λ (x : Node). x.expanded) step.taken.same.3,
-      stays nodes j node after there_n [] (λ (x : Node). x.own.items) step.taken.own,
-      λ m l. stays nodes j node after there_n [] (λ (x : Node). (outbox_to x l).items) (ap (λ (o : OutboxView). o.items)
-          (outbox_same node after l step.taken.same.0 step.taken.same.1 step.taken.same.2 step.taken.outboxes)) m,
-      lane_stays k.n lanes i j lane next low_i low_j whole there_l [] (λ (x : Lane). x.sent.items) step.same,
-    );
+    first = waits_first ∙ ap (λ bs. step.batch ∷ bs) (sym waits_left);
+    applied = subst (λ xs. AppliesAll k i j xs before.nodes later.nodes) (sym all) (items_received some lawful linked);
+    others = others_wait;
+    same = all_stay;
+  }
+
+  pub receives_front : (item : Item) (behind : List Item) → step.batch.items ≡ items ++ item ∷ behind → 0 < k.n → AreLawful k before.nodes →
+      IsLinked k before → GoesTooDeep later.nodes item → TakesFront k i j before later
+  receives_front item behind items_are some lawful linked deep = record {
+    deep = record {
+      batch = step.batch;
+      batches = next.link.waiting;
+      first = waits_first;
+      front = items;
+      item = item;
+      behind = behind;
+      items_are = items_are;
+      between = later.nodes;
+      applied = items_received some lawful linked;
+      deep = deep;
+    };
+    applied = refl;
+    left = waits_left;
+    others = others_wait;
+    same = all_stay;
   }
 
 -- ---- a batch posted

@@ -16,7 +16,8 @@ use Rattle.dob_node.specs.declared.node.Node.{Node}
 use Rattle.dob_world.specs.declared.lane.Lane.{Lane}
 use Rattle.dob_world.specs.Worlds.{Setting, Nodes, items_in, AreLawful}
 use Rattle.dob_world.specs.Events.{Applies, AppliesAll}
-use Rattle.dob_world.specs.Shown.{part, lane_at, nodes_shown, IsNodeOf, IsLaneOf, AreInPlace}
+use Rattle.dob_world.specs.Shown.{part, lane_at, nodes_shown}
+use Rattle.dob_world.specs.Standing.{IsNodeOf, IsLaneOf, AreInPlace}
 use Rattle.dob_world.proofs.Places.{at_node, at_link, nodes_same}
 use Rattle.dob_world.proofs.Slots.{here, was, elsewhere, set_cases, lane_here, lane_was, lane_else, lane_cases}
 use Rattle.dob_world.proofs.Taken.{with_share, own_test, history_here, history_else, applied_here, applied_else, item_applies, items_apply}
@@ -51,7 +52,7 @@ module _ (k : Setting) (nodes : List Node) (lanes : List Lane) (i j : ℕ) (low_
       ∙ ap (λ m. part (fresh 0) (λ (x : Node). cell_at x.share class) (slice_get nodes m)) (eqb-true (owner_of k.n class) j both.1)
       ∙ was nodes j node after there_n (fresh 0) (λ (x : Node). cell_at x.share class))
 
-  cell_then : (class : ℕ) → own_test k j class ≡ true → cell_at after.share class ≡ new.cell class
+  pub cell_then : (class : ℕ) → own_test k j class ≡ true → cell_at after.share class ≡ new.cell class
   unfolding nodes_shown
   cell_then class is =
       let both = and_parts (nat_lt class (classes_of k.set)) (eqb (owner_of k.n class) j) is in
@@ -111,7 +112,8 @@ module _ (k : Setting) (nodes : List Node) (lanes : List Lane) (i j : ℕ) (low_
         applied = λ m l. at_link (λ b c. new.applied b c ≡ (with_share k i j old after.share h a).applied b c) i j m l
             (applied_now ∙ sym (applied_here k i j old after.share h a))
             (λ other. applied_other m l other ∙ sym (applied_else k i j old after.share h a m l other));
-        cell = λ class. sym (by_test (own_test k j class) (cell_at after.share class) (old.cell class) (new.cell class) (cell_then class) (cell_elsewhere class));
+        cell = λ class. sym (by_test (own_test k j class) (cell_at after.share class) (old.cell class) (new.cell class) (cell_then class)
+            (cell_elsewhere class));
       })
 
   pub applies_one : 0 < k.n → (item : Item) (rest : List Item) → AreKept k.set k.n j node.share node.history →
@@ -137,16 +139,3 @@ module _ (k : Setting) (nodes : List Node) (lanes : List Lane) (i j : ℕ) (low_
       (items_apply k some i j low_i low_j old items node.share after.share node.history after.history lane.applied.items rest differs kept entries taken
       (subst (λ x. AreLawful k x) old_same lawful)
       (ap (λ x. items_in k x i j) (sym old_same) ∙ is ∙ ap (λ xs. xs ++ (items ++ rest)) applied_was)).0))
-
-  -- what is taken before an item that is refused
-  pub applies_front : 0 < k.n → (items rest : List Item) (share : Share) (grown : HistoryView) → i ≢ j → AreKept k.set k.n j node.share node.history →
-      All HasEntries items → AreTaken items node.share share node.history grown → AreLawful k old →
-      items_in k old i j ≡ old.applied i j ++ (items ++ rest) →
-      AppliesAll k i j items old (with_share k i j old share grown.settlements (lane.applied.items ++ items)) × AreKept k.set k.n j share grown
-  applies_front some items rest share grown differs kept entries taken lawful is =
-      let both = items_apply k some i j low_i low_j old items node.share share node.history grown lane.applied.items rest differs kept entries taken
-      (subst (λ x. AreLawful k x) old_same lawful)
-      (ap (λ x. items_in k x i j) (sym old_same) ∙ is ∙ ap (λ xs. xs ++ (items ++ rest)) applied_was) in (
-        subst (λ x. AppliesAll k i j items x (with_share k i j old share grown.settlements (lane.applied.items ++ items))) (sym old_same) both.0,
-        both.1,
-      )

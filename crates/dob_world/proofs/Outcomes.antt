@@ -1,5 +1,6 @@
 -- What comes of an event in a world that stands: it was possible, it happened, and the world stands.
-use Rattle.std.proofs.Common.{None, ◌≡◌, ◌≢◌, ℕ, ◌+◌, ◌*◌, ◌<◌, ◌≤◌, ◌⊎◌, inl, inr, arith, refl, sym, ap, ◌∙◌, subst, List, [], ◌∷◌, length, Some, slice_get, set}
+use Rattle.std.proofs.Common.{None, ◌≡◌, ◌≢◌, ℕ, ◌+◌, ◌*◌, ◌<◌, ◌≤◌, ◌⊎◌, inl, inr, arith, refl, sym, ap, ◌∙◌, subst, List, [], ◌∷◌, length, Some}
+use Rattle.std.proofs.Common.{slice_get, set}
 use Rattle.dob_update.specs.Batches.{BatchView}
 use Rattle.dob_share.specs.declared.news.Item.{Item}
 use Rattle.dob_node.specs.declared.node.Node.{Node}
@@ -8,10 +9,12 @@ use Rattle.dob_world.specs.declared.lane.Lane.{Lane}
 use Rattle.dob_world.specs.Worlds.{Setting, AreLawful, IsLinked}
 use Rattle.dob_world.specs.Events.{AppliesOwn, Posts, TakesBatch}
 use Rattle.dob_world.specs.Lanes.{HasListed, HasReceived, HasPosted}
-use Rattle.dob_world.specs.Shown.{part, lane_at, world_shown, AreInPlace}
+use Rattle.dob_world.specs.Shown.{part, lane_at, world_shown}
+use Rattle.dob_world.specs.Standing.{AreInPlace}
 use Rattle.dob_world.proofs.Slots.{was, lane_was}
 use Rattle.dob_world.proofs.Moves.{in_place_both}
-use Rattle.dob_world.proofs.Made.{owns, node_owned, lane_owned, receives, node_received, lane_received, waits_first, posts, node_posted, lane_posted}
+use Rattle.dob_world.proofs.Made.{owns, node_owned, lane_owned, whole_received, receives, node_received, lane_received, waits_first, posts, node_posted}
+use Rattle.dob_world.proofs.Made.{lane_posted}
 
 -- what an event could do, it did, and nodes and lanes stand in their places
 pub record Outcome (k : Setting) (Can Step : Type 0) (after : List Node) (next : List Lane) : Type 0 where
@@ -58,18 +61,21 @@ module _ (k : Setting) (nodes : List Node) (lanes : List Lane) (some : 0 < k.n) 
   received i j low_i low_j differs there_n there_l step =
       let is = places.node j node there_n in
       let is_lane = places.lane i j lane there_l in
+      let all = whole_received node after lane next step in
       record {
         can = (
           low_i,
           low_j,
           differs,
           some_of ((world_shown k.set k.n nodes lanes).waiting i j) next.link.waiting step.batch
-              (waits_first k nodes lanes i j low_i low_j differs node after lane next there_n there_l places.lanes_whole is is_lane step),
+              (waits_first k nodes lanes i j low_i low_j differs node after lane next there_n there_l places.lanes_whole is is_lane step.batch.items all),
         );
-        happens = receives k nodes lanes i j low_i low_j differs node after lane next there_n there_l places.lanes_whole is is_lane step some lawful linked;
+        happens = receives k nodes lanes i j low_i low_j differs node after lane next there_n there_l places.lanes_whole is is_lane step.batch.items all refl
+            some lawful linked;
         places = in_place_both k nodes lanes j node after i j lane next low_i low_j there_n there_l places
-            (node_received k nodes lanes i j low_i low_j differs node after lane next there_n there_l places.lanes_whole is is_lane step sound going)
-            (lane_received k nodes lanes i j low_i low_j differs node after lane next there_n there_l places.lanes_whole is is_lane step);
+            (node_received k nodes lanes i j low_i low_j differs node after lane next there_n there_l places.lanes_whole is is_lane step.batch.items all
+                sound going)
+            (lane_received k nodes lanes i j low_i low_j differs node after lane next there_n there_l places.lanes_whole is is_lane step.batch.items all);
       }
 
   outbox_was : (i j : ℕ) → slice_get nodes i ≡ Some node → (world_shown k.set k.n nodes lanes).outbox i j ≡ (outbox_to node j).items

@@ -38,7 +38,8 @@ end_is_rest k state size matches may =
 -- ---- what can happen where nothing is left to do
 
 pub rest_stays : RestStays
-rest_stays k old new (Expand i) rest can step = absurd (let e : old.world.expanded i ≡ length (old.world.nodes.history i) = rest.expanded i can.0 in omega (arith, can.1))
+rest_stays k old new (Expand i) rest can step = absurd (let e : old.world.expanded i ≡ length (old.world.nodes.history i) = rest.expanded i can.0 in
+    omega (arith, can.1))
 rest_stays k old new (Own i) rest can step = absurd (none_some (old.world.own i) (rest.own i can.0) can.1)
 rest_stays k old new (Post i j) rest can step = absurd (none_some (old.world.outbox i j) (rest.outboxes i j can.0 can.1 can.2) can.3)
 rest_stays k old new (Take i j) rest can step = absurd (none_some (old.world.waiting i j) (rest.links i j can.0 can.1 can.2) can.3)

@@ -18,8 +18,11 @@ use Rattle.dob_world.specs.declared.world.World.{World}
 use Rattle.dob_world.specs.Worlds.{Setting, Nodes, WorldView as Shown, State, value_in, AreLawful, IsLinked, Matches, IsAtRest}
 use Rattle.dob_world.specs.Events.{CanHappen, Happens}
 use Rattle.dob_world.specs.Runs.{IsAfter}
-use Rattle.dob_world.specs.Headline.{HaveKnownValues, HasRightValues, Headline}
-use Rattle.dob_world.specs.Shown.{setting_of, state_of, world_shown, ring_of, IsSetting, HasOpenings, HasAtMost, Stand, IsStanding, IsUnchanged, IsStart}
+use Rattle.dob_world.specs.Headline.{HaveKnownValues, AreBeginnings, HasRightValues, Headline}
+use Rattle.dob_world.specs.Shown.{setting_of, state_of, world_shown, ring_of}
+use Rattle.dob_world.specs.Standing.{IsSetting, HasOpenings, HasAtMost, Stand, IsStanding}
+use Rattle.dob_world.specs.Effects.{IsUnchanged}
+use Rattle.dob_world.specs.Start.{IsStart}
 use Rattle.dob_world.specs.Laws.{HeadlineHolds}
 use Rattle.dob_world.proofs.Kept.{lists_are_beginnings, happening_keeps_all}
 use Rattle.dob_world.proofs.Matching.{happening_keeps_match, posted_most}
@@ -35,13 +38,23 @@ pub record Keeps (k : Setting) (state : State) (steps : ℕ) : Type 0 where
   pub few : HasAtMost k.n steps state.ring
 
 -- the cells sum up what is known, and give the values
-known_values : (k : Setting) (nodes : Nodes) → AreLawful k nodes → HaveKnownValues k nodes
+pub known_values : (k : Setting) (nodes : Nodes) → AreLawful k nodes → HaveKnownValues k nodes
 known_values k nodes lawful class Caught below is = lawful.over class Caught below is (λ same. cc)
 known_values k nodes lawful class Tried below is = lawful.over class Tried below is (λ same. cc)
 known_values k nodes lawful class Stuck below is = lawful.over class Stuck below is (λ same. cc)
 known_values k nodes lawful class Open below is =
     value_follows (known_of k.set k.n nodes.history nodes.applied class) (nodes.cell class) (value_in k.n nodes class) (lawful.sums class below is)
     (some_known k.set class below k.n nodes.history (λ i. nodes.applied i (owner_of k.n class)) is) (lawful.cell_values class below is)
+
+-- a lawful and linked world has the promise's first part
+pub begins : (k : Setting) (world : Shown) → AreLawful k world.nodes → IsLinked k world → AreBeginnings k world
+begins k world lawful linked = record {
+  sent = λ i j low_i low_j differs. (lists_are_beginnings k world i j linked low_i low_j differs).0;
+  applied = λ i j low_i low_j differs. (lists_are_beginnings k world i j linked low_i low_j differs).1;
+  own = λ i low. lawful.begun i i low low;
+  cells = lawful;
+  known = known_values k world.nodes lawful;
+}
 
 module _ (k : Setting) (setting : IsSetting k) (openings : HasOpenings k.set) where
   pub right_at_rest : (world : Shown) → AreLawful k world.nodes → IsLinked k world → IsAtRest k world → HasRightValues k world
@@ -50,13 +63,7 @@ module _ (k : Setting) (setting : IsSetting k) (openings : HasOpenings k.set) wh
 
   pub headline_of : (state : State) → AreLawful k state.world.nodes → IsLinked k state.world → Matches k state → Headline k state
   headline_of state lawful linked matches = record {
-    beginnings = record {
-      sent = λ i j low_i low_j differs. (lists_are_beginnings k state.world i j linked low_i low_j differs).0;
-      applied = λ i j low_i low_j differs. (lists_are_beginnings k state.world i j linked low_i low_j differs).1;
-      own = λ i low. lawful.begun i i low low;
-      cells = lawful;
-      known = known_values k state.world.nodes lawful;
-    };
+    beginnings = begins k state.world lawful linked;
     silence = λ ended. end_is_silent k state matches ended;
     gathering = λ ended. right_at_rest state.world lawful linked (end_is_silent k state matches ended).rest;
     matches = matches;
@@ -142,11 +149,13 @@ kept_start k state setting start = record {
 
 pub headline_holds : HeadlineHolds
 headline_holds k start state events setting is_start room after =
-    let keeps = (kept_after k setting (is_start.openings, is_start.are_openings) start state events 0 (omega (arith, room)) after (kept_start k start setting is_start)).1 in
+    let keeps = (kept_after k setting (is_start.openings, is_start.are_openings) start state events 0 (omega (arith, room)) after
+        (kept_start k start setting is_start)).1 in
     headline_of k setting (is_start.openings, is_start.are_openings) state keeps.lawful keeps.linked keeps.matches
 
 pub standing_headline : (world : World) → IsStanding world → Headline (setting_of world) (state_of world)
-standing_headline world standing = headline_of (setting_of world) standing.setting standing.openings (state_of world) standing.lawful standing.linked standing.matches
+standing_headline world standing = headline_of (setting_of world) standing.setting standing.openings (state_of world) standing.lawful standing.linked
+    standing.matches
 
 pub stood_headline : (k : Setting) (nodes : List Node) (lanes : List Lane) (detector : Detector) (steps : ℕ) → Stand k nodes lanes detector steps →
     Headline k (record { world = world_shown k.set k.n nodes lanes; ring = ring_of detector })
@@ -161,11 +170,3 @@ stand_unchanged old new same standing =
     (subst (λ xs. Stand (setting_of old) old.nodes.items xs new.detector new.steps) (sym same.lanes)
     (subst (λ (d : Detector). Stand (setting_of old) old.nodes.items old.lanes.items d new.steps) (sym same.detector)
     (subst (λ (m : ℕ). Stand (setting_of old) old.nodes.items old.lanes.items old.detector m) (sym same.steps) standing))))
-
--- a world in which an event can happen hasn't announced its end, and one with the same ring hasn't either
-pub stopped_silent : (old new : World) → IsStanding old → (event : Event) → CanHappen (setting_of old) (state_of old) event →
-    new.detector ≡ old.detector → new.detector.announced ≡ false
-stopped_silent old new standing event can same = ap (λ (d : Detector). d.announced) same ∙ (elim (cases_Bool old.detector.announced) [
-  | inl ended ↦ absurd (((standing_headline old standing).silence ended).nothing event can)
-  | inr going ↦ going
-])

@@ -7,7 +7,7 @@ use Rattle.dob_share.specs.declared.opening.Opening.{Opening}
 use Rattle.dob_node.specs.declared.node.Node.{Node}
 use Rattle.dob_node.specs.Nodes.{IsSound, IsOpened}
 use Rattle.dob_world.specs.declared.lane.Lane.{Lane}
-use Rattle.dob_world.specs.Shown.{IsEmptyLane, AreEmptyLanes, AreOpenedNodes}
+use Rattle.dob_world.specs.Start.{IsEmptyLane, AreEmptyLanes, AreOpenedNodes}
 
 pub opened_more : (openings : List Opening) (set : PieceSet) (n m : ℕ) (nodes new : List Node) (node : Node) → AreOpenedNodes openings set n m nodes →
     IsOpened openings set m n node → IsSound node → new ≡ nodes ++ node ∷ [] → AreOpenedNodes openings set n (m + 1) new

@@ -9,7 +9,10 @@ use Rattle.dob_world.specs.declared.world.World.{World}
 use Rattle.dob_world.specs.Worlds.{Setting, WorldView as Shown, State, HaveFallsIn}
 use Rattle.dob_world.specs.Events.{CanHappen}
 use Rattle.dob_world.specs.Runs.{IsDoneOrSkipped, IsAfter, IsStepOf, IsAfterSteps}
-use Rattle.dob_world.specs.Shown.{setting_of, state_of, world_shown, ring_of, IsSetting, IsStanding, IsUnchanged, IsMade, IsStart}
+use Rattle.dob_world.specs.Shown.{setting_of, state_of, world_shown, ring_of}
+use Rattle.dob_world.specs.Standing.{IsSetting, IsStanding}
+use Rattle.dob_world.specs.Effects.{IsUnchanged, IsMade, IsSkipped}
+use Rattle.dob_world.specs.Start.{IsStart}
 use Rattle.dob_world.specs.Results.{HasRun, HasStoppedAt}
 use Rattle.dob_world.specs.declared.fault.Fault.{Fault}
 use Rattle.dob_world.specs.Stops.{IsStopBy}
@@ -17,16 +20,9 @@ use Rattle.dob_safra.specs.Rings.{Ring}
 use Rattle.dob_world.specs.declared.detector.Detector.{Detector}
 use Rattle.dob_world.specs.Headline.{Headline}
 use Rattle.dob_world.proofs.Promise.{standing_headline}
+use Rattle.dob_world.proofs.Left.{with_ring}
 
--- events, and then others
-pub after_both : (k : Setting) (old between new : State) (front behind : List Event) → IsAfter k old front between → IsAfter k between behind new →
-    IsAfter k old (front ++ behind) new
-after_both k old between new [] behind one other = subst (λ (w : State). IsAfter k w behind new) one other
-after_both k old between new (event ∷ front) behind one other = (one.0, one.1, after_both k one.0 between new front behind one.2 other)
-
--- ---- the same with the number of events that are done
-
--- without it
+-- without the number of those that are done
 pub is_after : (k : Setting) (old new : State) (events : List Event) (done : ℕ) → IsAfterSteps k old events done new → IsAfter k old events new
 is_after k old new [] done after = after.0
 is_after k old new (event ∷ events) done after = (after.0, is_step after.3, is_after k after.0 new events after.2 after.4)
@@ -64,9 +60,6 @@ state_same old new same =
     ∙ ap (λ n. world_shown old.classes.set n new.nodes.items new.lanes.items) (ap (λ (k : Setting). k.n) same.setting)
     ∙ ap (λ nodes. world_shown old.classes.set old.n nodes new.lanes.items) same.nodes
     ∙ ap (λ lanes. world_shown old.classes.set old.n old.nodes.items lanes) same.lanes)
-  where
-    with_ring : Shown → Ring → State
-    with_ring w r = record { world = w; ring = r }
 
 -- What a step makes of a world.
 pub record Stepped (event : Event) (old new : World) : Type 0 where
@@ -78,7 +71,7 @@ pub record Stepped (event : Event) (old new : World) : Type 0 where
   pub skipped : new.steps ≡ old.steps → (CanHappen (setting_of old) (state_of old) event → ⊥) × (state_of new ≡ state_of old)
 
 pub stepped : (event : Event) (old new : World) (given : Step) → (given ≡ Done → IsMade event old new × (new.steps ≡ old.steps + 1)) →
-    (given ≡ Skipped → (CanHappen (setting_of old) (state_of old) event → ⊥) × IsUnchanged old new) → Stepped event old new
+    (given ≡ Skipped → IsSkipped event old new) → Stepped event old new
 stepped event old new Done done skipped = let made = done refl in
     record {
       setting = made.0.setting;
@@ -90,12 +83,12 @@ stepped event old new Done done skipped = let made = done refl in
     }
 stepped event old new Skipped done skipped = let none = skipped refl in
     record {
-      setting = none.1.setting;
-      step = inr (none.0, state_same old new none.1, omega (arith, none.1.steps));
-      steps = omega (arith, none.1.steps);
-      least = omega (arith, none.1.steps);
-      idle = λ no. none.1.steps;
-      skipped = λ same. (none.0, state_same old new none.1);
+      setting = none.unchanged.setting;
+      step = inr (none.cannot, state_same old new none.unchanged, omega (arith, none.unchanged.steps));
+      steps = omega (arith, none.unchanged.steps);
+      least = omega (arith, none.unchanged.steps);
+      idle = λ no. none.unchanged.steps;
+      skipped = λ same. (none.cannot, state_same old new none.unchanged);
     }
 
 -- what holds of a run where its end is such a world

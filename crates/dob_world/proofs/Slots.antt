@@ -36,7 +36,8 @@ module _ (nodes : List Node) (i : ℕ) (node after : Node) (there : slice_get no
       slice_get (set nodes i after) m ≡ Some x → P m x
   set_cases P at others m x is = elim (cases_eq m i) [
     | inl same ↦ subst (λ a. P a x) (sym same)
-        (subst (P i) (same_Some after x (sym (get_set_same nodes i after (slice_get_within nodes i node there)) ∙ subst (λ a. slice_get (set nodes i after) a ≡ Some x) same is)) at)
+        (subst (P i) (same_Some after x (sym (get_set_same nodes i after (slice_get_within nodes i node there))
+        ∙ subst (λ a. slice_get (set nodes i after) a ≡ Some x) same is)) at)
     | inr other ↦ others m x (sym (get_set_other nodes i m after other) ∙ is)
   ]
 

@@ -38,7 +38,9 @@ use Rattle.dob_node.proofs.Rises.{opened_first, fresh_within, falls_start}
 use Rattle.dob_node.proofs.SoleOpens.{listed_opening}
 use Rattle.dob_world.specs.declared.lane.Lane.{Lane}
 use Rattle.dob_world.specs.Worlds.{Setting, Nodes, value_in, AreLawful, HaveFallsIn, IsLinked}
-use Rattle.dob_world.specs.Shown.{part, lane_at, nodes_shown, world_shown, IsNodeOf, AreInPlace, AreOpenedNodes, AreEmptyLanes, IsEmptyLane}
+use Rattle.dob_world.specs.Shown.{part, lane_at, nodes_shown, world_shown}
+use Rattle.dob_world.specs.Standing.{IsNodeOf, AreInPlace}
+use Rattle.dob_world.specs.Start.{AreOpenedNodes, AreEmptyLanes, IsEmptyLane}
 use Rattle.dob_world.specs.Lanes.{IsBatchFor}
 use Rattle.dob_link.specs.Links.{LinkView}
 use Rattle.std.proofs.lemmas.List.Elements.{All-nil}
@@ -104,7 +106,8 @@ module _ (k : Setting) (openings : List Opening) (nodes : List Node) (lanes : Li
       let low_i : i < k.n = below_owner k.n p some in
       let node = (of_n i low_i).0 in
       let there = (of_n i low_i).1 in
-      let within : p / k.n * k.n + i < length openings = subst (λ (m : ℕ). m < length openings) (sym (place_is p)) (subst (λ (m : ℕ). p < m) (sym are.whole) low) in
+      let within : p / k.n * k.n + i < length openings = subst (λ (m : ℕ). m < length openings) (sym (place_is p))
+          (subst (λ (m : ℕ). p < m) (sym are.whole) low) in
       ap (λ xs. value_of xs p) (history_is i node there)
       ∙ ap (λ (m : ℕ). value_of (opening_settlements status k.n i (places_of node.share)) m) (sym (place_is p))
       ∙ opened_value k.n i low_i status (places_of node.share) (p / k.n) (((opened.each i node there).0.places (p / k.n)).1 within)
@@ -174,7 +177,8 @@ module _ (k : Setting) (openings : List Opening) (nodes : List Node) (lanes : Li
   linked_start = record {
     expanded = λ i low. let e = none_expanded i low in omega arith;
     own = λ i low. emitted_none i i low ∙ sym (ap (λ xs. xs ++ part [] (λ (x : Node). x.own.items) (slice_get nodes i)) (none_applied i i) ∙ none_own i);
-    posted = λ i j low_i low_j differs. emitted_none i j low_i ∙ sym (ap (λ xs. xs ++ part [] (λ (x : Node). (outbox_to x j).items) (slice_get nodes i)) (none_sent i j) ∙ none_out i j);
+    posted = λ i j low_i low_j differs. emitted_none i j low_i ∙ sym (ap (λ xs. xs ++ part [] (λ (x : Node). (outbox_to x j).items) (slice_get nodes i))
+        (none_sent i j) ∙ none_out i j);
     taken = λ i j low_i low_j differs. none_sent i j
         ∙ sym (ap (λ xs. xs ++ items_of_batches (part [] (λ (x : Lane). x.link.waiting) (lane_at k.n lanes i j))) (none_applied i j)
         ∙ ap items_of_batches (none_waits i j));

@@ -9,7 +9,7 @@ use Rattle.dob_world.specs.declared.event.Event.TheVariants.{Expand, Own, Post, 
 use Rattle.dob_world.specs.Worlds.{Setting, State, IsLinked, IsIdle, Matches, IsAtRest}
 use Rattle.dob_world.specs.Events.{CanHappen}
 use Rattle.dob_world.specs.Rounds.{round_length, round_event, IsStill}
-use Rattle.dob_world.specs.Shown.{IsSetting}
+use Rattle.dob_world.specs.Standing.{IsSetting}
 use Rattle.dob_world.specs.Laws.{StillIsEnded}
 
 -- ---- the events of a round by their places

@@ -13,7 +13,8 @@ use Rattle.dob_world.specs.declared.event.Event.{Event}
 use Rattle.dob_world.specs.declared.lane.Lane.{Lane}
 use Rattle.dob_world.specs.Worlds.{Setting, State, IsIdle}
 use Rattle.dob_world.specs.Events.{CanHappen, Happens}
-use Rattle.dob_world.specs.Shown.{nodes_shown, world_shown, ring_of, AreInPlace, IsCounted, Stand, HasAtMost, AreCutsPosted}
+use Rattle.dob_world.specs.Shown.{nodes_shown, world_shown, ring_of}
+use Rattle.dob_world.specs.Standing.{AreInPlace, IsCounted, Stand, HasAtMost, AreCutsPosted}
 use Rattle.dob_world.proofs.Slots.{was}
 use Rattle.dob_world.proofs.Kept.{happening_keeps_all}
 use Rattle.dob_world.proofs.Bounds.{happening_keeps_falls}
@@ -30,7 +31,8 @@ module _ (k : Setting) (nodes : List Node) (lanes : List Lane) (detector : Detec
       new.n ≡ detector.n → AreCutsPosted k.n after (ring_of new) → CanHappen k (state_at k nodes lanes detector) event →
       Happens k (state_at k nodes lanes detector) event (state_at k after next new) → Stand k after next new (steps + 1)
   stand_after after next new event room places counted same cuts can happens =
-      let both = happening_keeps_all k (state_at k nodes lanes detector) (state_at k after next new) event stand.setting.nodes.0 stand.lawful stand.linked can happens in
+      let both = happening_keeps_all k (state_at k nodes lanes detector) (state_at k after next new) event stand.setting.nodes.0 stand.lawful stand.linked
+          can happens in
       let few : HasAtMost k.n (steps + 1) (ring_of new) =
       posted_most k (state_at k nodes lanes detector) (state_at k after next new) event steps happens stand.few in
       record {
@@ -106,7 +108,8 @@ module _ (k : Setting) (nodes : List Node) (lanes : List Lane) (places : AreInPl
     applied = sym (was nodes i node node there [] (λ (x : Node). x.own.items)) ∙ idle.own;
     sent = λ to. elim (cases_lt to k.n) [
       | inl within ↦ elim (cases_eq to i) [
-        | inl itself ↦ ap (λ (m : ℕ). (outbox_to node m).items) (itself ∙ sym (places.node i node there).of.1) ∙ (places.node i node there).sound.nothing_to_self
+        | inl itself ↦ ap (λ (m : ℕ). (outbox_to node m).items) (itself ∙ sym (places.node i node there).of.1) ∙
+            (places.node i node there).sound.nothing_to_self
         | inr other ↦ sym (was nodes i node node there [] (λ (x : Node). (outbox_to x to).items)) ∙ idle.outboxes to within other
       ]
       | inr past ↦ ap (λ (o : OutboxView). o.items) (beyond node.outboxes.items to (empty_outbox node.set node.n node.id to)

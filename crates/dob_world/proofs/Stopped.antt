@@ -1,13 +1,8 @@
--- Why a node of a world that stands stops: never because an item contradicts its cell.
-use Rattle.std.proofs.Common.{◌≡◌, ◌≢◌, ℕ, ◌<◌, ◌⊎◌, inl, inr, refl, sym, ap, ◌∙◌, subst, List, [], ◌∷◌, ◌++◌, append_assoc, drop, Some, slice_get}
-use Rattle.std.specs.List.{All}
-use Rattle.std.proofs.lemmas.List.Elements.{All-head, All-tail, All-nil, All-cons}
+-- Why a node of a world that stands stops, never because an item contradicts its cell, and what that leaves.
+use Rattle.std.proofs.Common.{◌≡◌, ◌≢◌, ℕ, ◌+◌, ◌*◌, ◌<◌, ◌⊎◌, inl, inr, refl, sym, ap, ◌∙◌, subst, List, [], ◌∷◌, Some, slice_get, set}
 use Rattle.dob_moves.specs.declared.position_status.Status.TheVariants.{Open}
 use Rattle.dob_moves.proofs.Cases.{one_status}
 use Rattle.dob_rank.specs.ClassRows.{class_setup}
-use Rattle.dob_unmove.specs.Edges.{predecessors}
-use Rattle.dob_update.specs.Items.{items_from}
-use Rattle.dob_update.specs.Batches.{BatchView, items_of_batches}
 use Rattle.dob_share.specs.declared.news.Item.{Item}
 use Rattle.dob_share.specs.declared.share.Share.{Share}
 use Rattle.dob_share.specs.Cells.{Cell, CanTake, changed}
@@ -17,25 +12,24 @@ use Rattle.dob_node.specs.Stores.{HistoryView}
 use Rattle.dob_node.specs.Lawful.{CanApply}
 use Rattle.dob_node.specs.declared.cause.Cause.{Cause}
 use Rattle.dob_node.specs.declared.cause.Cause.TheVariants as cause
-use Rattle.dob_node.specs.TakenItems.{HasEntries, AreKept, IsReason, StopsAt}
+use Rattle.dob_node.specs.TakenItems.{AreKept, IsReason}
 use Rattle.dob_node.specs.declared.node.Node.{Node}
-use Rattle.dob_node.specs.Nodes.{HasItemFault}
+use Rattle.dob_node.specs.Nodes.{IsSound, IsUnchanged, HasItemFault}
+use Rattle.dob_node.proofs.Nodes.{kept_sound}
 use Rattle.dob_world.specs.declared.lane.Lane.{Lane}
 use Rattle.dob_world.specs.declared.event.Event.TheVariants.{Own, Take}
 use Rattle.dob_world.specs.declared.fault.Fault.TheVariants.{Stopped}
-use Rattle.dob_world.specs.Worlds.{Setting, AreLawful, IsLinked, items_in}
-use Rattle.dob_world.specs.Lanes.{IsBatchFor}
-use Rattle.dob_world.specs.Stops.{IsCauseOf}
-use Rattle.dob_world.specs.Shown.{lane_at, nodes_shown, world_shown, IsNodeOf, AreInPlace}
-use Rattle.dob_world.proofs.Kept.{own_item_fits, taken_item_fits, next_waiting}
-use Rattle.dob_world.proofs.Slots.{was, lane_was}
-use Rattle.dob_world.proofs.Taken.{own_is, with_share, cell_here}
-use Rattle.dob_world.proofs.Moves.{cell_there, applies_front}
-use Rattle.dob_world.proofs.Made.{kept_of, chain_statuses}
-
-All-front : (xs ys : List Item) → All HasEntries (xs ++ ys) → All HasEntries xs
-All-front [] ys all = All-nil HasEntries
-All-front (x ∷ xs) ys all = All-cons HasEntries x xs (All-head HasEntries x (xs ++ ys) all) (All-front xs ys (All-tail HasEntries x (xs ++ ys) all))
+use Rattle.dob_world.specs.Worlds.{Setting, AreLawful, IsLinked}
+use Rattle.dob_world.specs.Lanes.{LaneStays, HasReceivedFront}
+use Rattle.dob_world.specs.Stops.{IsCauseOf, IsLeftBy, TakesFront}
+use Rattle.dob_world.specs.Shown.{lane_at, nodes_shown, world_shown}
+use Rattle.dob_world.specs.Standing.{IsNodeOf, AreInPlace}
+use Rattle.dob_world.proofs.Kept.{own_item_fits, taken_item_fits}
+use Rattle.dob_world.proofs.Slots.{was}
+use Rattle.dob_world.proofs.Taken.{own_is}
+use Rattle.dob_world.proofs.Moves.{cell_there, cell_then}
+use Rattle.dob_world.proofs.Made.{kept_of, chain_statuses, front_received, items_received, waits_first, receives_front}
+use Rattle.dob_world.proofs.Unchanged.{node_unseen, lane_unseen}
 
 pub fits_by : (k : Setting) (i : ℕ) (node : Node) (share : Share) (history : HistoryView) (cell : ℕ → Cell) (item : Item) → IsNodeOf k i node →
     AreKept k.set k.n i share history → ((class : ℕ) → status_at share class ≡ status_at node.share class) → CanApply k.set k.n i cell item →
@@ -56,6 +50,14 @@ reason_stop item share (cause.Contradiction class) fits is = absurd (is.1 fits)
 reason_stop item share cause.Memory fits is = inl refl
 reason_stop item share cause.Held fits is = absurd is
 reason_stop item share cause.Counts fits is = absurd is
+
+-- whether a cause is lack of memory
+memory_or : (why : Cause) → (why ≡ cause.Memory) ⊎ (why ≢ cause.Memory)
+memory_or cause.TooDeep = inr (λ e. cc)
+memory_or (cause.Contradiction class) = inr (λ e. cc)
+memory_or cause.Memory = inl refl
+memory_or cause.Held = inr (λ e. cc)
+memory_or cause.Counts = inr (λ e. cc)
 
 -- it goes too deep as much in an equal cell
 deep_there : (share : Share) (cell : ℕ → Cell) (item : Item) → cell item.to ≡ cell_at share item.to → GoesTooDeep share item →
@@ -100,53 +102,51 @@ module _ (k : Setting) (nodes : List Node) (lanes : List Lane) (some : 0 < k.n) 
         )
       ]
 
-  -- So is one of a batch.
-  pub take_stops : (i j : ℕ) (node : Node) (lane : Lane) (why : Cause) → i < k.n → j < k.n → i ≢ j → slice_get nodes j ≡ Some node →
-      lane_at k.n lanes i j ≡ Some lane → (why ≡ cause.Memory) ⊎ ((batch : BatchView) × (rest : List BatchView) × (lane.link.waiting ≡ batch ∷ rest)
-      × StopsAt batch.items node.share node.history why) → IsCauseOf k (world_shown k.set k.n nodes lanes) (Take i j) (Stopped j why)
+  refused_front : (i j : ℕ) (node after : Node) (lane next : Lane) (why : Cause) → i < k.n → j < k.n → i ≢ j → slice_get nodes j ≡ Some node →
+      lane_at k.n lanes i j ≡ Some lane → IsSound after → HasReceivedFront node lane after next why → why ≢ cause.Memory → (why ≡ cause.TooDeep)
+      × TakesFront k i j (world_shown k.set k.n nodes lanes) (world_shown k.set k.n (set nodes j after) (set lanes (i * k.n + j) next))
   unfolding world_shown
-  take_stops i j node lane why low_i low_j differs there_n there_l (inl memory) = inl (ap (λ (c : Cause). Stopped j c) memory)
-  take_stops i j node lane why low_i low_j differs there_n there_l (inr stopped) =
-      let batch = stopped.0 in
-      let at = stopped.3 in
-      let state = world_shown k.set k.n nodes lanes in
+  refused_front i j node after lane next why low_i low_j differs there_n there_l sound step other =
+      let whole = places.lanes_whole in
       let here = places.node j node there_n in
       let is_lane = places.lane i j lane there_l in
-      let first : state.waiting i j ≡ batch ∷ stopped.1 =
-      lane_was k.n lanes i j lane lane low_i low_j places.lanes_whole there_l [] (λ (x : Lane). x.link.waiting) ∙ stopped.2 in
-      let entries : All HasEntries batch.items =
-      (All-head (IsBatchFor k.set k.n j) batch stopped.1 (subst (λ bs. All (IsBatchFor k.set k.n j) bs) stopped.2 is_lane.batches)).entries in
-      let front_entries : All HasEntries at.front =
-      All-front at.front (at.item ∷ at.behind) (subst (λ xs. All HasEntries xs) at.items_are entries) in
-      let others = items_of_batches stopped.1 ++ (state.outbox i j ++ items_from (predecessors k.set) k.n j (drop (state.expanded i) (state.nodes.history i))) in
-      let next : items_in k (nodes_shown k.set k.n nodes lanes) i j ≡ (nodes_shown k.set k.n nodes lanes).applied i j ++ (at.front ++ ((at.item ∷ at.behind) ++ others)) =
-      next_waiting k state i j batch stopped.1 linked low_i low_j differs first
-      ∙ ap (λ xs. (nodes_shown k.set k.n nodes lanes).applied i j ++ (xs ++ others)) at.items_are
-      ∙ ap (λ xs. (nodes_shown k.set k.n nodes lanes).applied i j ++ xs) (append_assoc at.front (at.item ∷ at.behind) others) in
-      let both = applies_front k nodes lanes i j low_i low_j node node lane lane there_n there_l places.lanes_whole some at.front ((at.item ∷ at.behind) ++ others)
-      at.after at.grown differs (kept_of k j node here) front_entries at.taken lawful next in
-      let can = taken_item_fits k state i j batch stopped.1 at.front at.item at.behind
-      (with_share k i j (nodes_shown k.set k.n nodes lanes) at.after at.grown.settlements (lane.applied.items ++ at.front)) some lawful linked low_i low_j differs first
-      at.items_are both.0 in
-      let between = with_share k i j (nodes_shown k.set k.n nodes lanes) at.after at.grown.settlements (lane.applied.items ++ at.front) in
-      let same = cell_here k i j (nodes_shown k.set k.n nodes lanes) at.after at.grown.settlements (lane.applied.items ++ at.front) at.item.to can.below can.own in
-      let fits = fits_by k j node at.after at.grown between.cell at.item here both.1
-      (chain_statuses at.front node.share at.after node.history at.grown at.taken) can same in
-      elim (reason_stop at.item at.after why fits at.reason) [
-        | inl memory ↦ inl (ap (λ (c : Cause). Stopped j c) memory)
-        | inr deep ↦ inr (
-          ap (λ (c : Cause). Stopped j c) deep.0,
-          record {
-            batch = batch;
-            batches = stopped.1;
-            first = first;
-            front = at.front;
-            item = at.item;
-            behind = at.behind;
-            items_are = at.items_are;
-            between = between;
-            applied = both.0;
-            deep = deep_there at.after between.cell at.item same deep.1;
-          },
+      let at = step.taken in
+      let whole_front = front_received node after lane next why step in
+      let cells = nodes_shown k.set k.n (set nodes j after) (set lanes (i * k.n + j) next) in
+      let applied = items_received k nodes lanes i j low_i low_j differs node after lane next there_n there_l whole here is_lane at.front whole_front some
+          lawful linked in
+      let can = taken_item_fits k (world_shown k.set k.n nodes lanes) i j step.batch next.link.waiting at.front at.item at.behind cells some lawful linked
+      low_i low_j differs
+      (waits_first k nodes lanes i j low_i low_j differs node after lane next there_n there_l whole here is_lane at.front whole_front) at.items_are applied in
+      let same = sym (cell_then k nodes lanes i j low_i low_j node after lane next there_n there_l whole at.item.to
+      (own_is k i j cells after.share [] [] at.item.to can.below can.own)) in
+      let kept = kept_sound k.set k.n j after
+      (at.taken.same.0 ∙ here.of.0, at.taken.same.1 ∙ here.of.1, at.taken.same.2 ∙ here.of.2) sound in
+      let fits = fits_by k j node after.share after.history cells.cell at.item here kept
+      (chain_statuses at.front node.share after.share node.history after.history at.taken.taken) can same in
+      elim (reason_stop at.item after.share why fits at.reason) [
+        | inl memory ↦ absurd (other memory)
+        | inr deep ↦ (
+          deep.0,
+          receives_front k nodes lanes i j low_i low_j differs node after lane next there_n there_l whole here is_lane at.front whole_front at.item at.behind
+              at.items_are some lawful linked (deep_there after.share cells.cell at.item same deep.1),
         )
       ]
+
+  -- So does one of a batch, of which those before it are applied.
+  pub take_stops : (i j : ℕ) (node after : Node) (lane next : Lane) (why : Cause) → i < k.n → j < k.n → i ≢ j → slice_get nodes j ≡ Some node →
+      lane_at k.n lanes i j ≡ Some lane → IsSound after → (why ≡ cause.Memory → IsUnchanged node after × LaneStays lane next) →
+      (why ≢ cause.Memory → HasReceivedFront node lane after next why) → IsCauseOf k (world_shown k.set k.n nodes lanes) (Take i j) (Stopped j why)
+      × IsLeftBy k (world_shown k.set k.n nodes lanes) (Take i j) (Stopped j why) (world_shown k.set k.n (set nodes j after) (set lanes (i * k.n + j) next))
+  take_stops i j node after lane next why low_i low_j differs there_n there_l sound unseen refused = elim (memory_or why) [
+    | inl memory ↦
+        let is : Stopped j why ≡ Stopped j cause.Memory = ap (λ (c : Cause). Stopped j c) memory in
+        let same = unseen memory in
+        let stays = lane_unseen k (set nodes j after) lanes i j lane next low_i low_j places.lanes_whole there_l same.1
+        ∙ node_unseen k nodes lanes j node after there_n same.0 in
+        (inl is, inl (is, stays))
+    | inr other ↦
+        let left = refused_front i j node after lane next why low_i low_j differs there_n there_l sound (refused other) other in
+        let is : Stopped j why ≡ Stopped j cause.TooDeep = ap (λ (c : Cause). Stopped j c) left.0 in
+        (inr (is, left.1.deep), inr (is, left.1))
+  ]

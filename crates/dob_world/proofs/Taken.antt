@@ -172,8 +172,8 @@ module _ (k : Setting) (i j : ℕ) (nodes : Nodes) (share after : Share) (histor
 
 -- ---- one after the other
 
-stay_by : (old new : Nodes) → new ≡ old → NodesStay old new
-stay_by old new is = record {
+stay_by : (before after : Nodes) → after ≡ before → NodesStay before after
+stay_by before after is = record {
   history = λ m. ap (λ (x : Nodes). x.history m) is;
   applied = λ m l. ap (λ (x : Nodes). x.applied m l) is;
   cell = λ class. ap (λ (x : Nodes). x.cell class) is;

@@ -44,7 +44,8 @@ lane_unseen k nodes lanes i j lane next low_i low_j whole there same = λ d. rec
   nodes = record {
     history = λ m. part [] (λ (x : Node). x.history.settlements) (slice_get nodes m);
     applied = λ m l. lane_stays k.n lanes i j lane next low_i low_j whole there [] (λ (x : Lane). x.applied.items) same.applied m l d;
-    cell = λ class. cond (nat_lt class (classes_of k.set)) (part (fresh 0) (λ (x : Node). cell_at x.share class) (slice_get nodes (owner_of k.n class))) (fresh 0);
+    cell = λ class. cond (nat_lt class (classes_of k.set)) (part (fresh 0) (λ (x : Node). cell_at x.share class) (slice_get nodes (owner_of k.n class)))
+        (fresh 0);
   };
   expanded = λ m. part 0 (λ (x : Node). x.expanded) (slice_get nodes m);
   own = λ m. part [] (λ (x : Node). x.own.items) (slice_get nodes m);

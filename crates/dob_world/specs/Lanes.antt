@@ -1,4 +1,5 @@
--- What an event makes of a node that it names, and of the lane from one node to another.
+-- What an event makes of a node that it names, and of the lane from one node to another. For the parts of a step and for proofs:
+-- no public call promises it.
 use Rattle.std.specs.Prelude.{◌≡◌, ℕ, [], ◌∷◌, ◌++◌}
 use Rattle.std.specs.List.{All}
 use Rattle.dob_pieces.specs.declared.piece_set.PieceSet.{PieceSet}

@@ -16,7 +16,8 @@ use Rattle.dob_world.specs.Events.{CanHappen, Happens, MayEnd, AppliesAll}
 use Rattle.dob_world.specs.Runs.{IsAfter}
 use Rattle.dob_world.specs.Rounds.{IsStill}
 use Rattle.dob_world.specs.Headline.{IsSilent, Headline}
-use Rattle.dob_world.specs.Shown.{IsSetting, IsStart, HasAtMost}
+use Rattle.dob_world.specs.Standing.{IsSetting, HasAtMost}
+use Rattle.dob_world.specs.Start.{IsStart}
 
 -- each event leaves a lawful and linked world so
 abbrev pub HappeningKeepsAll : Type 0

@@ -7,6 +7,9 @@ pub mod FaultTexts
 pub mod Lanes
 pub mod Stops
 pub mod Shown
+pub mod Start
+pub mod Standing
+pub mod Effects
 pub mod Rounds
 pub mod Headline
 pub mod Results

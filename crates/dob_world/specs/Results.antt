@@ -1,5 +1,5 @@
 -- Which worlds there are, and what a run of events leaves.
-use Rattle.std.specs.Prelude.{◌≡◌, ℕ, ◌+◌, ◌-◌, ◌*◌, ◌<◌, ◌≤◌, Bool, true, false, None, List}
+use Rattle.std.specs.Prelude.{◌≡◌, ℕ, ◌+◌, ◌-◌, ◌*◌, ◌<◌, ◌≤◌, Bool, true, false, None, Some, List}
 use Rattle.dob_rank.specs.Limits.{IsSmall}
 use Rattle.dob_update.specs.Batches.{AreSizes}
 use Rattle.dob_safra.specs.Laws.{IsSize}
@@ -12,8 +12,10 @@ use Rattle.dob_world.specs.Runs.{IsAfter, IsAfterSteps}
 use Rattle.dob_world.specs.Events.{CanHappen}
 use Rattle.dob_world.specs.Rounds.{round_length, round_of, round_front, round_event, rounds_of, IsStill}
 use Rattle.dob_world.specs.Headline.{Headline}
-use Rattle.dob_world.specs.Stops.{IsStopIn}
-use Rattle.dob_world.specs.Shown.{setting_of, state_of, IsSetting, IsStanding, IsStart}
+use Rattle.dob_world.specs.Stops.{IsStopIn, IsStopInRounds}
+use Rattle.dob_world.specs.Shown.{setting_of, state_of}
+use Rattle.dob_world.specs.Standing.{IsSetting, IsStanding}
+use Rattle.dob_world.specs.Start.{IsStart}
 
 -- Why there is no world of that setting: the first of these that isn't so, or memory is refused where all are.
 abbrev pub HasSettingFault : Setting → Fault → Type 0
@@ -85,3 +87,10 @@ pub record HasDriven (old : World) (rounds : ℕ) (given : Bool) (new : World) :
   pub busy : given ≡ false → (made ≡ rounds) × ((round : ℕ) → round + 1 ≡ made → IsBusyRound (setting_of old) (state_of old) round)
   pub still : given ≡ true → (round : ℕ) × (round + 1 ≡ made) × IsStillRound (setting_of old) (state_of old) round (state_of new)
   pub ended : given ≡ true → new.detector.announced ≡ true
+
+-- The world stops at an event of one of so many rounds, and is what that stop leaves of it.
+pub record StopsInRounds (old : World) (rounds : ℕ) (fault : Fault) (new : World) : Type 0 where
+  pub setting : setting_of new ≡ setting_of old
+  pub least : old.steps ≤ new.steps
+  pub stop : IsStopInRounds (setting_of old) (state_of old) rounds fault (new.steps - old.steps) (state_of new)
+  pub failed : new.failed ≡ Some fault

@@ -1,4 +1,4 @@
--- Where a node of a world stops: at which event, and for which cause.
+-- Where a node of a world stops: at which event, for which cause, and what is left of the world then.
 use Rattle.std.specs.Prelude.{◌≡◌, ℕ, ◌<◌, ◌⊎◌, List, ◌∷◌, ◌++◌, take, slice_get, Some}
 use Rattle.dob_share.specs.declared.news.Item.{Item}
 use Rattle.dob_share.specs.Cells.{changed}
@@ -10,8 +10,8 @@ use Rattle.dob_world.specs.declared.event.Event.TheVariants.{Expand, Own, Post, 
 use Rattle.dob_world.specs.declared.fault.Fault.{Fault}
 use Rattle.dob_world.specs.declared.fault.Fault.TheVariants.{Stopped}
 use Rattle.dob_world.specs.Worlds.{Setting, Nodes, WorldView, State}
-use Rattle.dob_world.specs.Events.{CanHappen, AppliesAll}
-use Rattle.dob_world.specs.Runs.{IsAfter}
+use Rattle.dob_world.specs.Events.{CanHappen, AppliesAll, Stays, LinksStay, OtherLinksStay}
+use Rattle.dob_world.specs.Runs.{IsAfter, IsAfterSteps}
 use Rattle.dob_world.specs.Rounds.{round_length, round_event, round_front, rounds_of}
 
 -- the item would give its class a value whose distance is above the greatest that is kept
@@ -38,6 +38,15 @@ pub record TakenGoesTooDeep (k : Setting) (world : WorldView) (i j : ℕ) : Type
   pub applied : AppliesAll k i j front world.nodes between
   pub deep : GoesTooDeep between item
 
+-- Node j takes the first batch that waits on the link from i up to an item that goes too deep: just the items before that one are
+-- applied, in their order, and the batch waits no more.
+pub record TakesFront (k : Setting) (i j : ℕ) (old new : WorldView) : Type 0 where
+  pub deep : TakenGoesTooDeep k old i j
+  pub applied : new.nodes ≡ deep.between
+  pub left : new.waiting i j ≡ deep.batches
+  pub others : OtherLinksStay i j old.waiting new.waiting
+  pub same : Stays old.expanded new.expanded × Stays old.own new.own × LinksStay old.outbox new.outbox × LinksStay old.sent new.sent
+
 -- What stops the node that makes a step at the event: that a growth was refused, or that an item which it applies goes too
 -- deep. No node stops as it passes the token or announces the end.
 abbrev pub IsCauseOf : Setting → WorldView → Event → Fault → Type 0
@@ -47,6 +56,16 @@ IsCauseOf k world (Post i j) fault = fault ≡ Stopped i cause.Memory
 IsCauseOf k world (Take i j) fault = (fault ≡ Stopped j cause.Memory) ⊎ ((fault ≡ Stopped j cause.TooDeep) × TakenGoesTooDeep k world i j)
 IsCauseOf k world (Pass i) fault = ⊥
 IsCauseOf k world Announce fault = ⊥
+
+-- What is left of nodes and links after that: what there was before the event, but of a batch with an item that goes too deep what was
+-- taken.
+abbrev pub IsLeftBy : Setting → WorldView → Event → Fault → WorldView → Type 0
+IsLeftBy k old (Expand i) fault new = new ≡ old
+IsLeftBy k old (Own i) fault new = new ≡ old
+IsLeftBy k old (Post i j) fault new = new ≡ old
+IsLeftBy k old (Take i j) fault new = ((fault ≡ Stopped j cause.Memory) × (new ≡ old)) ⊎ ((fault ≡ Stopped j cause.TooDeep) × TakesFront k i j old new)
+IsLeftBy k old (Pass i) fault new = new ≡ old
+IsLeftBy k old Announce fault new = new ≡ old
 
 -- a node has stopped since a growth was refused
 abbrev pub IsForMemory : Fault → Type 0
@@ -69,12 +88,15 @@ pub record IsStopIn (k : Setting) (start : State) (events : List Event) (fault :
   pub after : IsAfter k start (take place events) state
   pub stop : IsStopBy k state event fault
 
--- An event of one of so many rounds stops a node, after the rounds before it and the events before it in its own.
-pub record IsStopInRounds (k : Setting) (start : State) (rounds : ℕ) (fault : Fault) : Type 0 where
+-- An event of one of so many rounds stops a node, after the rounds before it and the events before it in its own, so many of which are
+-- done; that state is left, with the ring as it was before the event.
+pub record IsStopInRounds (k : Setting) (start : State) (rounds : ℕ) (fault : Fault) (done : ℕ) (new : State) : Type 0 where
   pub made : ℕ
   pub few : made < rounds
   pub place : ℕ
   pub low : place < round_length k.n
   pub state : State
-  pub after : IsAfter k start (rounds_of k.n made ++ round_front k.n place) state
+  pub after : IsAfterSteps k start (rounds_of k.n made ++ round_front k.n place) done state
   pub stop : IsStopBy k state (round_event k.n place) fault
+  pub left : IsLeftBy k state.world (round_event k.n place) fault new.world
+  pub ring : new.ring ≡ state.ring

@@ -22,6 +22,9 @@ pub record Setting : Type 0 where
   pub batch : ℕ
   pub capacity : ℕ
 
+abbrev pub setting_by : PieceSet → ℕ → ℕ → ℕ → Setting
+setting_by set n batch capacity = record { set = set; n = n; batch = batch; capacity = capacity }
+
 -- What the nodes know: each one's history, the items from node i that node j has applied, and the cell of each class,
 -- which its owner keeps.
 pub record Nodes : Type 0 where

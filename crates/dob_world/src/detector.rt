@@ -3,7 +3,8 @@ ghost use Rattle.std.specs.Prelude.{◌≡◌, ◌<◌, ◌^◌, ◌↔◌, true
 ghost use Rattle.dob_safra.specs.declared.event.RingEvent.TheVariants.{Post, Take, Pass, Announce};
 ghost use Rattle.dob_safra.specs.Laws.{IsSize};
 ghost use Rattle.dob_safra.specs.Rings.{IsLawfulRing, IsStart, IsAnnounceable, Moved};
-ghost use Rattle.dob_world.specs.Shown.{ring_of, IsCounted};
+ghost use Rattle.dob_world.specs.Shown.{ring_of};
+ghost use Rattle.dob_world.specs.Standing.{IsCounted};
 
 use dob_pieces::Memory;
 use dob_safra::{Token, may_announce, passed};

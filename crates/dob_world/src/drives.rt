@@ -1,11 +1,12 @@
 // A world that is driven by rounds of events until nothing is left to do.
-ghost use Rattle.std.specs.Prelude.{◌≡◌, ℕ, ◌+◌, ◌*◌, ◌^◌, ◌<◌, ◌≤◌, None, Some, IfOk, IfErr};
+ghost use Rattle.std.specs.Prelude.{◌≡◌, ℕ, ◌+◌, ◌*◌, ◌^◌, ◌<◌, ◌≤◌, false, None, IfOk, IfErr, OnErr};
 ghost use Rattle.dob_rank.specs.Marks.{classes_of};
 ghost use Rattle.dob_world.specs.Rounds.{round_length, round_event};
-ghost use Rattle.dob_world.specs.Shown.{setting_of, state_of, IsStanding};
+ghost use Rattle.dob_world.specs.Shown.{setting_of, state_of};
+ghost use Rattle.dob_world.specs.Standing.{IsStanding, IsKept};
 ghost use Rattle.dob_world.specs.Worlds.{HaveFallsIn};
-ghost use Rattle.dob_world.specs.Stops.{IsStopInRounds, IsForMemory};
-ghost use Rattle.dob_world.specs.Results.{HasMadeRound, HasDriven};
+ghost use Rattle.dob_world.specs.Stops.{IsForMemory};
+ghost use Rattle.dob_world.specs.Results.{HasMadeRound, HasDriven, StopsInRounds};
 
 use crate::event::Event;
 use crate::fault::Fault;
@@ -17,7 +18,8 @@ impl World {
     /// `Announce`. The answer is whether no event of the last round was done; then the end is announced. It is false for no
     /// round.
     ///
-    /// Error: `Stopped`, as at a step; in a set of fewer than 65,535 classes for lack of memory alone.
+    /// Error: `Stopped`, as at a step, and the world is left as that step leaves it; in a set of fewer than 65,535 classes for lack
+    /// of memory alone.
     pub fn drive(&mut self, rounds: u64) -> Result<bool, Fault>
         requires few { self.old.steps + rounds * round_length self.old.n ≤ 2 ^ 40 }
         requires standing { IsStanding self.old }
@@ -25,7 +27,9 @@ impl World {
         ensures driven { IfOk result (λ still. HasDriven self.old rounds still self.new) }
         ensures memory { classes_of (setting_of self.old).set < 65535 → IfErr result IsForMemory }
         ensures falls { IfOk result (λ still. HaveFallsIn (setting_of self.new) (state_of self.new).world.nodes) }
-        ensures stopped { IfErr result (λ fault. IsStopInRounds (setting_of self.old) (state_of self.old) rounds fault × (self.new.failed ≡ Some fault)) }
+        ensures stopped { IfErr result (λ fault. StopsInRounds self.old rounds fault self.new) }
+        ensures unannounced { OnErr result (self.new.detector.announced ≡ false) }
+        ensures kept { IsKept self.new }
     {
         for _round in 0..rounds {
             match self.round() {
@@ -44,7 +48,8 @@ impl World {
         requires going { self.old.failed ≡ None }
         ensures made { IfOk result (λ still. HasMadeRound self.old still self.new) }
         ensures memory { classes_of (setting_of self.old).set < 65535 → IfErr result IsForMemory }
-        ensures stopped { IfErr result (λ fault. IsStopInRounds (setting_of self.old) (state_of self.old) 1 fault × (self.new.failed ≡ Some fault)) }
+        ensures stopped { IfErr result (λ fault. StopsInRounds self.old 1 fault self.new) }
+        ensures kept { IsKept self.new }
     {
         let before = self.steps;
         let n = self.n;

@@ -8,6 +8,7 @@ mod fault;
 mod lane;
 pub mod laws;
 mod lists;
+mod parts;
 mod runs;
 mod step;
 mod steps;

@@ -1,6 +1,6 @@
-// What a world lends: what went over its links, and the histories of its nodes.
+// What a world lends, also after a stop: what went over its links, and the histories of its nodes.
 ghost use Rattle.std.specs.Prelude.{◌≡◌, ◌<◌, length, Some, slice_get};
-ghost use Rattle.dob_world.specs.Shown.{state_of, IsStanding};
+ghost use Rattle.dob_world.specs.Shown.{state_of};
 
 use crate::world::World;
 use dob_node::Node;
@@ -39,7 +39,6 @@ impl World {
 
     /// The items that the node `from` has sent to the node `to`, in order.
     pub fn sent(&self, from: usize, to: usize) -> &[Item]
-        requires standing { IsStanding self.now }
         requires from { from < self.now.n }
         requires to { to < self.now.n }
         ensures { result.now ≡ (state_of self.now).world.sent from to }
@@ -49,7 +48,6 @@ impl World {
 
     /// The items of the node `from` that the node `to` has applied, in order.
     pub fn applied(&self, from: usize, to: usize) -> &[Item]
-        requires standing { IsStanding self.now }
         requires from { from < self.now.n }
         requires to { to < self.now.n }
         ensures { result.now ≡ (state_of self.now).world.nodes.applied from to }
@@ -59,7 +57,6 @@ impl World {
 
     /// The settlements of the node, in order.
     pub fn history(&self, node: usize) -> History<'_>
-        requires standing { IsStanding self.now }
         requires node { node < self.now.n }
         ensures { result ≡ (state_of self.now).world.nodes.history node }
     {

@@ -1,6 +1,7 @@
 // Events one after another.
 ghost use Rattle.std.specs.Prelude.{◌≡◌, ◌^◌, ◌<◌, ◌≤◌, ◌⊎◌, length, IfOk, IfErr};
 ghost use Rattle.dob_rank.specs.Marks.{classes_of};
+ghost use Rattle.dob_world.specs.Worlds.{setting_by};
 ghost use Rattle.dob_world.specs.Results.{HasSettingFault, HasRun, HasStoppedAt};
 ghost use Rattle.dob_world.specs.Stops.{IsForMemory};
 
@@ -26,9 +27,10 @@ pub fn run(
     events: &[Event],
 ) -> Result<World, Fault>
     requires few { length events.now ≤ 2 ^ 40 }
-    ensures run { IfOk result (λ world. HasRun (record { set = set; n = n; batch = batch; capacity = capacity }) events.now world) }
-    ensures memory { classes_of set < 65535 → IfErr result (λ fault. HasSettingFault (record { set = set; n = n; batch = batch; capacity = capacity }) fault ⊎ IsForMemory fault) }
-    ensures fault { IfErr result (λ fault. HasSettingFault (record { set = set; n = n; batch = batch; capacity = capacity }) fault ⊎ HasStoppedAt (record { set = set; n = n; batch = batch; capacity = capacity }) events.now fault) }
+    ensures run { IfOk result (λ world. HasRun (setting_by set n batch capacity) events.now world) }
+    ensures memory { classes_of set < 65535 → IfErr result (λ fault. HasSettingFault (setting_by set n batch capacity) fault ⊎ IsForMemory fault) }
+    ensures fault { IfErr result (λ fault. HasSettingFault (setting_by set n batch capacity) fault
+        ⊎ HasStoppedAt (setting_by set n batch capacity) events.now fault) }
 {
     let mut world = match World::open(alloc, set, n, batch, capacity) {
         Ok(world) => world,

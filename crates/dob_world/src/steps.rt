@@ -1,10 +1,9 @@
 // What an event does to the nodes and the lane that it names.
-ghost use Rattle.std.specs.Prelude.{◌≡◌, ◌≢◌, ◌+◌, ◌<◌, ◌≤◌, ◌^◌, None, Err, ◌↔◌, ◌⊎◌, List, [], ◌∷◌, ◌++◌, length, vec_len, vec_capacity, true, false, IfErr, OnOk, OnErr};
+ghost use Rattle.std.specs.Prelude.{◌≡◌, ◌≢◌, ◌+◌, ◌<◌, ◌≤◌, ◌^◌, None, Err, ◌↔◌, ◌⊎◌, [], ◌++◌, length, vec_len, vec_capacity};
+ghost use Rattle.std.specs.Prelude.{true, false, IfErr, OnOk, OnErr};
 ghost use Rattle.std.specs.List.{All};
-ghost use Rattle.dob_update.specs.Batches.{BatchView};
 ghost use Rattle.dob_node.specs.declared.cause.Cause.TheVariants as cause;
 ghost use Rattle.dob_node.specs.Nodes.{outbox_to, IsSound, IsUnchanged, HasItemFault};
-ghost use Rattle.dob_node.specs.TakenItems.{StopsAt};
 ghost use Rattle.dob_world.specs.Lanes.{LaneStays, IsBatchFor, HasListed, HasPosted, HasReceived, HasReceivedFront};
 
 use crate::lane::Lane;
@@ -86,7 +85,6 @@ pub(crate) fn receive(node: &mut Node, lane: &mut Lane) -> Result<bool, Cause>
     ensures none { (result ≡ Ok false) ↔ (lane.old.link.waiting ≡ []) }
     ensures nothing { result ≡ Ok false → (node.new ≡ node.old) × (lane.new ≡ lane.old) }
     ensures received { result ≡ Ok true → HasReceived node.old lane.old node.new lane.new }
-    ensures stopped { IfErr result (λ why. (why ≡ cause.Memory) ⊎ ((batch : BatchView) × (rest : List BatchView) × (lane.old.link.waiting ≡ batch ∷ rest) × StopsAt batch.items node.old.share node.old.history why)) }
     ensures unchanged { result ≡ Err cause.Memory → IsUnchanged node.old node.new × LaneStays lane.old lane.new }
     ensures front { IfErr result (λ why. why ≢ cause.Memory → HasReceivedFront node.old lane.old node.new lane.new why) }
     ensures going { OnOk result (node.new.failed ≡ None) }

@@ -4,7 +4,8 @@ ghost use Rattle.dob_rank.specs.Marks.{classes_of};
 ghost use Rattle.dob_value.specs.Follows.{IsEntry, IsValueTable};
 ghost use Rattle.dob_node.specs.Histories.{AreValuesBelow};
 ghost use Rattle.dob_world.specs.Worlds.{value_in, IsAtRest};
-ghost use Rattle.dob_world.specs.Shown.{setting_of, state_of, IsStanding};
+ghost use Rattle.dob_world.specs.Shown.{setting_of, state_of};
+ghost use Rattle.dob_world.specs.Standing.{IsStanding};
 
 use crate::world::World;
 use dob_pieces::Memory;
@@ -20,7 +21,8 @@ impl World {
     pub fn gather(&self) -> Result<Table, Memory>
         requires standing { IsStanding self.now }
         ensures set { IfOk result (λ table. table.set ≡ self.now.classes.set) }
-        ensures values { IfOk result (λ table. AreValuesBelow (value_in self.now.n (state_of self.now).world.nodes) (classes_of self.now.classes.set) table.values) }
+        ensures values { IfOk result (λ table. AreValuesBelow (value_in self.now.n (state_of self.now).world.nodes) (classes_of self.now.classes.set)
+            table.values) }
         ensures right { IsAtRest (setting_of self.now) (state_of self.now).world → IfOk result (λ table. IsValueTable self.now.classes.set table.values) }
         ensures announced { (state_of self.now).ring.announced ≡ true → IfOk result (λ table. IsValueTable self.now.classes.set table.values) }
     {

@@ -1,25 +1,25 @@
 // The world: nodes that own the classes of a piece set, a lane from each to each, and what detects the end.
-ghost use Rattle.std.specs.Prelude.{◌≡◌, ◌≢◌, ◌+◌, ◌*◌, ◌^◌, ◌<◌, ◌≤◌, ◌↔◌, true, false, IfOk, IfErr, IfSome, OnOk, OnErr, Err, ℕ};
-ghost use Rattle.dob_node.specs.Openings.{AreOpenings};
+ghost use Rattle.std.specs.Prelude.{◌≡◌, ◌+◌, ◌*◌, ◌^◌, ◌<◌, ◌≤◌, ◌↔◌, true, false, IfOk, IfErr, IfSome, OnOk, OnErr, Err, vec_len};
 ghost use Rattle.dob_rank.specs.Limits.{IsTooLarge};
 ghost use Rattle.dob_rank.specs.Marks.{classes_of};
-ghost use Rattle.dob_world.specs.Shown.{AreOpenedNodes, AreEmptyLanes};
 
 use crate::detector::Detector;
 use crate::event::Event;
 use crate::fault::Fault;
 use crate::lane::Lane;
+use crate::parts::{open_lanes, open_nodes};
 use crate::step::Step;
 use crate::steps::{apply_own, post, receive};
-use dob_node::{Node, Opening, opening};
-use dob_pieces::{Memory, PieceSet};
-use dob_rank::{Classes, SegmentLength, Segments, is_too_large};
+use dob_node::{Node, opening};
+use dob_pieces::PieceSet;
+use dob_rank::{Classes, SegmentLength, is_too_large};
 use dob_safra::is_size;
 use dob_update::are_sizes;
 use std::alloc::Global;
 
 /// Nodes of which each owns a share of a piece set's classes, the links between them, the lists of all items that were
-/// sent over these and applied, and the ring that detects the end.
+/// sent over these and applied, and the ring that detects the end. There are as many nodes and lanes as it says, also after a
+/// stop.
 #[derive(Drop)]
 pub struct World {
     pub(crate) alloc: Global,
@@ -32,17 +32,21 @@ pub struct World {
     pub(crate) detector: Detector,
     pub(crate) steps: u64,
     pub(crate) failed: Option<Fault>,
+    ghost nodes_whole: { vec_len nodes ≡ n },
+    ghost lanes_whole: { vec_len lanes ≡ n * n },
 }
 
 impl World {
     ghost use Rattle.dob_world.specs.declared.event.Event.TheVariants.{Expand, Own, Post, Take, Pass, Announce};
-    ghost use Rattle.dob_world.specs.Worlds.{IsLinked, IsIdle, HaveFallsIn};
-    ghost use Rattle.dob_world.specs.Events.{CanHappen, MayEnd};
+    ghost use Rattle.dob_world.specs.Worlds.{setting_by, HaveFallsIn};
     ghost use Rattle.dob_world.specs.declared.fault.Fault.TheVariants as fault;
-    ghost use Rattle.dob_world.specs.Stops.{IsStopBy, IsStop, IsForMemory};
-    ghost use Rattle.dob_world.specs.Shown.{setting_of, state_of, IsStanding, WillStand, IsKept, IsUnchanged, IsMade, IsStart};
+    ghost use Rattle.dob_world.specs.Stops.{IsStop, IsForMemory};
+    ghost use Rattle.dob_world.specs.Shown.{setting_of, state_of};
+    ghost use Rattle.dob_world.specs.Standing.{IsStanding, IsKept};
+    ghost use Rattle.dob_world.specs.Effects.{IsMade, IsDone, IsSkipped, IsStopped};
+    ghost use Rattle.dob_world.specs.Start.{IsStart};
     ghost use Rattle.dob_world.specs.Results.{HasSettingFault};
-    ghost use Rattle.dob_world.specs.Headline.{Headline};
+    ghost use Rattle.dob_world.specs.Headline.{AreBeginnings, Headline};
 
     /// A world of `n` nodes before its first event, with batches of at most `batch` items and links with room for
     /// `capacity` batches.
@@ -57,10 +61,10 @@ impl World {
         capacity: usize,
     ) -> Result<World, Fault>
         ensures too_large { result ≡ Err fault.SetTooLarge ↔ IsTooLarge set }
-        ensures setting { IfOk result (λ world. setting_of world ≡ record { set = set; n = n; batch = batch; capacity = capacity }) }
+        ensures setting { IfOk result (λ world. setting_of world ≡ setting_by set n batch capacity) }
         ensures standing { IfOk result (λ world. IsStanding world × (world.failed ≡ None) × (world.steps ≡ 0)) }
         ensures opened { IfOk result (λ world. IsStart (setting_of world) (state_of world)) }
-        ensures fault { IfErr result (λ fault. HasSettingFault (record { set = set; n = n; batch = batch; capacity = capacity }) fault) }
+        ensures fault { IfErr result (λ fault. HasSettingFault (setting_by set n batch capacity) fault) }
     {
         if is_too_large(set) {
             return Err(Fault::SetTooLarge);
@@ -93,24 +97,27 @@ impl World {
     /// Makes the event happen, or skips it where it can't.
     ///
     /// Error: `Stopped`, where the node that makes a step at the event has stopped; then, and at each further step, the same, which
-    /// changes nothing. A world that has stopped isn't one whose end is announced. After lack of memory all lists, counts and the
-    /// token are as before the event.
+    /// changes nothing. A world that has stopped isn't one whose end is announced. Counts, colours and the token are as before the
+    /// event, and so are all lists, but where an item of a batch goes too deep: then just the items before it are applied, and the
+    /// batch waits no more. In each case what was applied is a beginning of what was sent, and each cell is what is known.
     /// In a set of fewer than 65,535 classes it stops for lack of memory alone.
     pub fn step(&mut self, event: Event) -> Result<Step, Fault>
         requires few { self.old.steps < 2 ^ 40 }
         requires kept { IsKept self.old }
         ensures done { result ≡ Ok Step.Done → IsMade event self.old self.new × (self.new.steps ≡ self.old.steps + 1) }
-        ensures skipped { result ≡ Ok Step.Skipped → (¬ CanHappen (setting_of self.old) (state_of self.old) event) × IsUnchanged self.old self.new }
+        ensures skipped { result ≡ Ok Step.Skipped → IsSkipped event self.old self.new }
+        ensures setting { setting_of self.new ≡ setting_of self.old }
         ensures stopped { IfErr result (λ fault. IsStop fault × (self.new.failed ≡ Some fault)) }
         ensures ring { OnErr result ((self.new.detector ≡ self.old.detector) × (self.new.steps ≡ self.old.steps)) }
         ensures shown { IfErr result (λ fault. IsForMemory fault → (state_of self.new).world ≡ (state_of self.old).world) }
-        ensures named { self.old.failed ≡ None → IfErr result (λ fault. IsStopBy (setting_of self.old) (state_of self.old) event fault) }
+        ensures named { self.old.failed ≡ None → IfErr result (λ fault. IsStopped event fault self.old self.new) }
         ensures stays { IfSome self.old.failed (λ fault. (result ≡ Err fault) × (self.new ≡ self.old)) }
         ensures unannounced { OnErr result (self.new.detector.announced ≡ false) }
         ensures memory { self.old.failed ≡ None → classes_of (setting_of self.old).set < 65535 → IfErr result IsForMemory }
         ensures falls { OnOk result (HaveFallsIn (setting_of self.new) (state_of self.new).world.nodes) }
         ensures silent { self.old.detector.announced ≡ true → result ≡ Ok Step.Skipped }
         ensures headline { OnOk result (Headline (setting_of self.new) (state_of self.new)) }
+        ensures beginnings { AreBeginnings (setting_of self.new) (state_of self.new).world }
         ensures going { OnOk result ((self.new.failed ≡ None) × IsStanding self.new) }
         ensures kept { IsKept self.new }
     {
@@ -134,11 +141,9 @@ impl World {
     fn make(&mut self, event: Event) -> Result<bool, Fault>
         requires standing { IsStanding self.old }
         requires few { self.old.steps < 2 ^ 40 }
-        ensures done { result ≡ Ok true → IsMade event self.old self.new × WillStand self.new × (self.new.failed ≡ self.old.failed) × (self.new.steps ≡ self.old.steps) }
-        ensures skipped { result ≡ Ok false → (¬ CanHappen (setting_of self.old) (state_of self.old) event) × IsUnchanged self.old self.new }
-        ensures stopped { IfErr result (λ fault. IsStopBy (setting_of self.old) (state_of self.old) event fault) }
-        ensures ring { OnErr result ((self.new.detector ≡ self.old.detector) × (self.new.steps ≡ self.old.steps)) }
-        ensures shown { IfErr result (λ fault. IsForMemory fault → (state_of self.new).world ≡ (state_of self.old).world) }
+        ensures done { result ≡ Ok true → IsDone event self.old self.new }
+        ensures skipped { result ≡ Ok false → IsSkipped event self.old self.new }
+        ensures stopped { IfErr result (λ fault. IsStopped event fault self.old self.new) }
     {
         match event {
             Event::Expand(node) => self.expand(node),
@@ -154,11 +159,9 @@ impl World {
     fn expand(&mut self, node: usize) -> Result<bool, Fault>
         requires standing { IsStanding self.old }
         requires few { self.old.steps < 2 ^ 40 }
-        ensures done { result ≡ Ok true → IsMade (Expand node) self.old self.new × WillStand self.new × (self.new.failed ≡ self.old.failed) × (self.new.steps ≡ self.old.steps) }
-        ensures skipped { result ≡ Ok false → (¬ CanHappen (setting_of self.old) (state_of self.old) (Expand node)) × IsUnchanged self.old self.new }
-        ensures stopped { IfErr result (λ fault. IsStopBy (setting_of self.old) (state_of self.old) (Expand node) fault) }
-        ensures ring { OnErr result ((self.new.detector ≡ self.old.detector) × (self.new.steps ≡ self.old.steps)) }
-        ensures shown { IfErr result (λ fault. IsForMemory fault → (state_of self.new).world ≡ (state_of self.old).world) }
+        ensures done { result ≡ Ok true → IsDone (Expand node) self.old self.new }
+        ensures skipped { result ≡ Ok false → IsSkipped (Expand node) self.old self.new }
+        ensures stopped { IfErr result (λ fault. IsStopped (Expand node) fault self.old self.new) }
     {
         if node >= self.n {
             return Ok(false);
@@ -173,11 +176,9 @@ impl World {
     fn own(&mut self, node: usize) -> Result<bool, Fault>
         requires standing { IsStanding self.old }
         requires few { self.old.steps < 2 ^ 40 }
-        ensures done { result ≡ Ok true → IsMade (Own node) self.old self.new × WillStand self.new × (self.new.failed ≡ self.old.failed) × (self.new.steps ≡ self.old.steps) }
-        ensures skipped { result ≡ Ok false → (¬ CanHappen (setting_of self.old) (state_of self.old) (Own node)) × IsUnchanged self.old self.new }
-        ensures stopped { IfErr result (λ fault. IsStopBy (setting_of self.old) (state_of self.old) (Own node) fault) }
-        ensures ring { OnErr result ((self.new.detector ≡ self.old.detector) × (self.new.steps ≡ self.old.steps)) }
-        ensures shown { IfErr result (λ fault. IsForMemory fault → (state_of self.new).world ≡ (state_of self.old).world) }
+        ensures done { result ≡ Ok true → IsDone (Own node) self.old self.new }
+        ensures skipped { result ≡ Ok false → IsSkipped (Own node) self.old self.new }
+        ensures stopped { IfErr result (λ fault. IsStopped (Own node) fault self.old self.new) }
     {
         if node >= self.n {
             return Ok(false);
@@ -193,11 +194,9 @@ impl World {
     fn post(&mut self, from: usize, to: usize) -> Result<bool, Fault>
         requires standing { IsStanding self.old }
         requires few { self.old.steps < 2 ^ 40 }
-        ensures done { result ≡ Ok true → IsMade (Post from to) self.old self.new × WillStand self.new × (self.new.failed ≡ self.old.failed) × (self.new.steps ≡ self.old.steps) }
-        ensures skipped { result ≡ Ok false → (¬ CanHappen (setting_of self.old) (state_of self.old) (Post from to)) × IsUnchanged self.old self.new }
-        ensures stopped { IfErr result (λ fault. IsStopBy (setting_of self.old) (state_of self.old) (Post from to) fault) }
-        ensures ring { OnErr result ((self.new.detector ≡ self.old.detector) × (self.new.steps ≡ self.old.steps)) }
-        ensures shown { IfErr result (λ fault. IsForMemory fault → (state_of self.new).world ≡ (state_of self.old).world) }
+        ensures done { result ≡ Ok true → IsDone (Post from to) self.old self.new }
+        ensures skipped { result ≡ Ok false → IsSkipped (Post from to) self.old self.new }
+        ensures stopped { IfErr result (λ fault. IsStopped (Post from to) fault self.old self.new) }
     {
         if from >= self.n || to >= self.n || from == to {
             return Ok(false);
@@ -222,11 +221,9 @@ impl World {
     fn take(&mut self, from: usize, to: usize) -> Result<bool, Fault>
         requires standing { IsStanding self.old }
         requires few { self.old.steps < 2 ^ 40 }
-        ensures done { result ≡ Ok true → IsMade (Take from to) self.old self.new × WillStand self.new × (self.new.failed ≡ self.old.failed) × (self.new.steps ≡ self.old.steps) }
-        ensures skipped { result ≡ Ok false → (¬ CanHappen (setting_of self.old) (state_of self.old) (Take from to)) × IsUnchanged self.old self.new }
-        ensures stopped { IfErr result (λ fault. IsStopBy (setting_of self.old) (state_of self.old) (Take from to) fault) }
-        ensures ring { OnErr result ((self.new.detector ≡ self.old.detector) × (self.new.steps ≡ self.old.steps)) }
-        ensures shown { IfErr result (λ fault. IsForMemory fault → (state_of self.new).world ≡ (state_of self.old).world) }
+        ensures done { result ≡ Ok true → IsDone (Take from to) self.old self.new }
+        ensures skipped { result ≡ Ok false → IsSkipped (Take from to) self.old self.new }
+        ensures stopped { IfErr result (λ fault. IsStopped (Take from to) fault self.old self.new) }
     {
         if from >= self.n || to >= self.n || from == to {
             return Ok(false);
@@ -246,8 +243,8 @@ impl World {
     fn pass(&mut self, node: usize) -> bool
         requires standing { IsStanding self.old }
         requires few { self.old.steps < 2 ^ 40 }
-        ensures done { result ≡ true → IsMade (Pass node) self.old self.new × WillStand self.new × (self.new.failed ≡ self.old.failed) × (self.new.steps ≡ self.old.steps) }
-        ensures skipped { result ≡ false → (¬ CanHappen (setting_of self.old) (state_of self.old) (Pass node)) × IsUnchanged self.old self.new }
+        ensures done { result ≡ true → IsDone (Pass node) self.old self.new }
+        ensures skipped { result ≡ false → IsSkipped (Pass node) self.old self.new }
     {
         if node >= self.n || node != self.detector.token.at || self.detector.announced {
             return false;
@@ -266,8 +263,8 @@ impl World {
     fn announce(&mut self) -> bool
         requires standing { IsStanding self.old }
         requires few { self.old.steps < 2 ^ 40 }
-        ensures done { result ≡ true → IsMade Announce self.old self.new × WillStand self.new × (self.new.failed ≡ self.old.failed) × (self.new.steps ≡ self.old.steps) }
-        ensures skipped { result ≡ false → (¬ CanHappen (setting_of self.old) (state_of self.old) Announce) × IsUnchanged self.old self.new }
+        ensures done { result ≡ true → IsDone Announce self.old self.new }
+        ensures skipped { result ≡ false → IsSkipped Announce self.old self.new }
     {
         if self.detector.announced || !self.detector.may_end() {
             return false;
@@ -278,35 +275,4 @@ impl World {
         self.detector.announce_end();
         true
     }
-}
-
-// The nodes of all owners, as they are opened.
-fn open_nodes(
-    alloc: Global,
-    openings: &Segments<Opening>,
-    set: PieceSet,
-    n: usize,
-) -> Result<Vec<Node>, Memory>
-    requires openings { AreOpenings set openings.now }
-    requires owners { n ≤ 16 }
-    ensures { IfOk result (λ nodes. AreOpenedNodes openings.now set n n nodes.items) }
-{
-    let mut nodes = Vec::new(alloc);
-    for id in 0..n {
-        nodes.push(Node::open(alloc, openings, set, id, n)?)?;
-    }
-    Ok(nodes)
-}
-
-// So many lanes over which nothing has gone.
-fn open_lanes(alloc: Global, count: usize, capacity: usize) -> Result<Vec<Lane>, Memory>
-    requires some { 1 ≤ capacity }
-    requires at_most { capacity ≤ 1024 }
-    ensures { IfOk result (λ lanes. AreEmptyLanes capacity count lanes.items) }
-{
-    let mut lanes = Vec::new(alloc);
-    for _place in 0..count {
-        lanes.push(Lane::open(alloc, capacity)?)?;
-    }
-    Ok(lanes)
 }

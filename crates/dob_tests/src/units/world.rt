@@ -1,6 +1,6 @@
 // Worlds by values known from outside.
 ghost use Rattle.std.specs.Prelude.{◌≡◌, ◌<◌, None};
-ghost use Rattle.dob_world.specs.Shown.{IsStanding, IsKept};
+ghost use Rattle.dob_world.specs.Standing.{IsStanding, IsKept};
 
 mod ring;
 mod schedules;

@@ -1,6 +1,6 @@
 // Worlds and their ring: who passes the token, when the end is announced, and that nothing happens after it.
 ghost use Rattle.std.specs.Prelude.{◌≡◌, None};
-ghost use Rattle.dob_world.specs.Shown.{IsStanding, IsKept};
+ghost use Rattle.dob_world.specs.Standing.{IsStanding, IsKept};
 
 use super::{NODES, SIZES, does, finish, make, opened, skips, world_of};
 use crate::sets::set_of;

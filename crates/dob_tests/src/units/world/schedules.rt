@@ -1,6 +1,6 @@
 // Worlds under events drawn at random: what was sent and applied on the way, and the tables that they end with.
 ghost use Rattle.std.specs.Prelude.{◌≡◌, ◌<◌, None};
-ghost use Rattle.dob_world.specs.Shown.{IsStanding, IsKept};
+ghost use Rattle.dob_world.specs.Standing.{IsStanding, IsKept};
 
 use super::{finish, make, world_of};
 use crate::sets::{classes_of, is_same_table, set_of};

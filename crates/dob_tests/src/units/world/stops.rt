@@ -1,10 +1,17 @@
-// A world that stops. `rt try --test --fail-alloc N -- stopped_world` refuses the growth of that number; with none refused the world
-// comes to its end.
-ghost use Rattle.dob_world.specs.Shown.{IsKept};
+// A world that stops, and what it has left. `rt try --test --fail-alloc N -- stopped_world` refuses the growth of that number; with none
+// refused each world comes to its end.
+ghost use Rattle.std.specs.Prelude.{◌≡◌, ◌<◌};
+ghost use Rattle.dob_world.specs.Standing.{IsKept};
 
-use crate::sets::set_of;
-use dob_node::Cause;
-use dob_world::{Event, Fault, World};
+use super::super::outboxes::{add, won};
+use crate::sets::{classes_of, set_of};
+use dob_node::{Cause, Node, have_entries, opening};
+use dob_pieces::Memory;
+use dob_share::Settlement;
+use dob_update::{Batch, Outbox};
+use dob_value::Value;
+use dob_world::{Event, Fault, History, World};
+use std::alloc::Global;
 use std::process::Abort;
 
 // What happens by turns in a world of two nodes.
@@ -66,4 +73,120 @@ fn a_stopped_world_stays(rt: HostRuntime) {
         }
         Some(_) => panic!(rt; "another fault"),
     }
+}
+
+// The two worlds of two nodes have done as many events, and lend the same lists.
+fn are_alike(rt: &impl Abort, one: &World, other: &World)
+    requires one { one.now.n ≡ 2 }
+    requires other { other.now.n ≡ 2 }
+{
+    assert!(rt; one.steps() == other.steps());
+    assert!(rt; one.announced() == other.announced());
+    for node in 0..2 {
+        have_same_links(rt, one, other, node);
+        have_same_histories(rt, &one.history(node), &other.history(node));
+    }
+}
+
+fn have_same_links(rt: &impl Abort, one: &World, other: &World, from: usize)
+    requires one { one.now.n ≡ 2 }
+    requires other { other.now.n ≡ 2 }
+    requires from { from < 2 }
+{
+    for to in 0..2 {
+        assert!(rt; one.sent(from, to) == other.sent(from, to), "{from} {to}");
+        assert!(rt;
+            one.applied(from, to) == other.applied(from, to),
+            "{from} {to}"
+        );
+    }
+}
+
+fn have_same_histories(rt: &impl Abort, one: &History<'_>, other: &History<'_>) {
+    let count = one.count();
+    assert!(rt; other.count() == count);
+    for number in 0..count {
+        assert!(rt; one.get(number) == other.get(number), "{number}");
+    }
+}
+
+// Makes the event in both worlds, in the second one a moment later. Whether neither stops; if the first one does it is as the second,
+// and stays so.
+fn make_both(rt: &impl Abort, one: &mut World, other: &mut World, event: Event) -> bool
+    requires kept { IsKept one.old × IsKept other.old }
+    requires n { (one.old.n ≡ 2) × (other.old.n ≡ 2) }
+    ensures kept { IsKept one.new × IsKept other.new }
+    ensures n { (one.new.n ≡ 2) × (other.new.n ≡ 2) }
+{
+    assert!(rt; one.steps() < 1 << 40 && other.steps() < 1 << 40);
+    if let Err(fault) = one.step(event) {
+        assert!(rt; !one.announced());
+        are_alike(rt, one, other);
+        answers_the_same(rt, one, fault);
+        are_alike(rt, one, other);
+        return false;
+    }
+    other.step(event).is_ok()
+}
+
+// The world that has stopped answers the same at each event.
+fn answers_the_same(rt: &impl Abort, world: &mut World, fault: Fault)
+    requires kept { IsKept world.old }
+    requires n { world.old.n ≡ 2 }
+    ensures kept { IsKept world.new }
+    ensures n { world.new.n ≡ 2 }
+{
+    for event in &EVENTS {
+        assert!(rt; world.steps() < 1 << 40);
+        assert!(rt; world.step(*event) == Err(fault), "{event:?}");
+    }
+}
+
+// At each growth that is refused: the same lists as those of a world to which the same has happened, but for that event.
+#[test]
+fn a_stopped_world_is_as_before(rt: HostRuntime) {
+    let Ok(mut world) = World::open(rt.alloc(), set_of(&rt, "000"), 2, 2, 1) else {
+        return;
+    };
+    let Ok(mut twin) = World::open(rt.alloc(), set_of(&rt, "000"), 2, 2, 1) else {
+        return;
+    };
+    for number in 0..11_000 {
+        if !make_both(&rt, &mut world, &mut twin, EVENTS[number % 11]) {
+            return;
+        }
+    }
+    assert!(rt; world.announced());
+    are_alike(&rt, &world, &twin);
+}
+
+// The five items of a settlement, and then those of one of a distance that leaves no room for a longer one.
+fn batch_with_a_long_distance(rt: &impl Abort, alloc: Global) -> Result<Batch, Memory> {
+    let classes = classes_of(rt, alloc, "000");
+    let mut outbox = Outbox::new(alloc, classes.set, 2, 0, 1);
+    add(rt, alloc, &classes, &mut outbox, won(0, 16))?;
+    let long = Settlement {
+        number: 1,
+        class: 16,
+        was: Value::Draw,
+        now: Value::Loss(65534),
+    };
+    add(rt, alloc, &classes, &mut outbox, long)?;
+    assert!(rt; outbox.cut_count() < 100);
+    Ok(outbox.cut(4096)?.expect(rt, "a batch"))
+}
+
+// No world of a set this small meets such a distance, so a node is handed one. It has applied the items before it, and tells how many:
+// as many a world lists.
+#[test]
+fn a_batch_is_applied_up_to_an_item_that_goes_too_deep(rt: HostRuntime) -> Result<(), Memory> {
+    let classes = classes_of(&rt, rt.alloc(), "000");
+    let openings = opening(rt.alloc(), &classes).expect(&rt, "openings");
+    let mut node = Node::open(rt.alloc(), &openings, classes.set, 1, 2).expect(&rt, "a node");
+    let batch = batch_with_a_long_distance(&rt, rt.alloc())?;
+    assert!(rt; batch.items().len() == 10 && have_entries(batch.items()));
+    assert!(rt; batch.set() == classes.set && batch.owners() == 2);
+    assert!(rt; node.apply_batch(&batch) == Err(Cause::TooDeep));
+    assert!(rt; node.taken() == 5 && node.failed() == Some(Cause::TooDeep));
+    Ok(())
 }

@@ -1,10 +1,10 @@
 -- The lane's first batch is one for the node, which takes and lists its items, or stops at one of them.
-use Rattle.std.proofs.Common.{refl, sym, ap, ◌∙◌, subst, inr, ◌++◌, ◌∷◌, take}
+use Rattle.std.proofs.Common.{refl, sym, ap, ◌∙◌, subst, ◌++◌, ◌∷◌, take}
 use Rattle.std.specs.List.{All}
 use Rattle.std.proofs.lemmas.List.Elements.{All-head}
 use Rattle.dob_link.specs.Links.{link_of}
 use Rattle.dob_update.specs.Batches.{BatchView}
-use Rattle.dob_node.proofs.TakenLists.{taken_since, before_since, stops_since}
+use Rattle.dob_node.proofs.TakenLists.{taken_since, before_since}
 use Rattle.dob_world.specs.Lanes.{IsBatchFor}
 use Rattle.dob_world.proofs.Firsts.{front_is}
 use Rattle.dob_world.proofs.steps.receive.Goals as goal
@@ -22,14 +22,6 @@ apply_batch-requires-clause-set c = let P = λ (b : BatchView). IsBatchFor c.arg
 pub apply_batch-requires-clause-entries : goal.apply_batch-requires-clause-entries
 apply_batch-requires-clause-entries c = let P = λ (b : BatchView). IsBatchFor c.args.node.now.set c.args.node.now.n c.args.node.now.id b in
     (All-head P c.in-Some-next.batch c.next.new.self.waiting (subst (λ xs. All P xs) c.in-Some-next.ensures.some c.requires.batches)).entries
-
-pub returns-in-Err-clause-stopped : goal.returns-in-Err-clause-stopped
-returns-in-Err-clause-stopped c = inr (
-  c.in-Some-next.batch,
-  c.next.new.self.waiting,
-  c.in-Some-next.ensures.some,
-  stops_since c.in-Some-next.batch.items c.args.node.now c.reserve-2.new.self c.in-Err.cause c.reserve-2.ensures.unchanged c.in-Err.ensures.stopped,
-)
 
 pub returns-in-Err-clause-front : goal.returns-in-Err-clause-front
 returns-in-Err-clause-front c = λ other.
@@ -53,7 +45,8 @@ returns-clause-received c = λ e. record {
   batch = c.in-Some-next.batch;
   first = ap (λ w. link_of w c.args.lane.now.link.capacity) c.in-Some-next.ensures.some
       ∙ ap (λ k. link_of (c.in-Some-next.batch ∷ c.next.new.self.waiting) k) (sym c.next.ensures.capacity);
-  taken = taken_since c.in-Some-next.batch.items c.args.node.now c.reserve-2.new.self c.apply_batch.new.self c.reserve-2.ensures.unchanged c.in-Ok.ensures.taken;
+  taken = taken_since c.in-Some-next.batch.items c.args.node.now c.reserve-2.new.self c.apply_batch.new.self c.reserve-2.ensures.unchanged
+      c.in-Ok.ensures.taken;
   listed = c.list_items.ensures ∙ ap (λ xs. xs ++ c.items.result.now) c.in_ok-reserve.ensures.items
       ∙ ap (λ xs. c.args.lane.now.applied.items ++ xs) c.items.ensures.items;
   same = refl;

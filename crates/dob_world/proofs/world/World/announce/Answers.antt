@@ -4,7 +4,7 @@ use Rattle.dob_safra.specs.declared.event.RingEvent.TheVariants as ring
 use Rattle.dob_world.specs.declared.event.Event.TheVariants.{Announce}
 use Rattle.dob_world.specs.Events.{CanHappen}
 use Rattle.dob_world.specs.Shown.{setting_of, state_of, ring_of}
-use Rattle.dob_world.proofs.Stands.{node_there}
+use Rattle.dob_world.proofs.InPlace.{node_there}
 use Rattle.dob_world.proofs.Cuts.{cuts_same}
 use Rattle.dob_world.proofs.Stood.{stand_after, moved_here, announceable_here, idle_shown, shown_idle}
 use Rattle.dob_world.proofs.world.World.announce.Goals as goal
@@ -17,10 +17,11 @@ returns-then-not-is_idle-clause-skipped c = λ e.
     let places = c.requires.standing.places in
     let node = c.index.result.now in
     let some = c.requires.standing.setting.nodes.0 in
-    let there = node_there k nodes lanes places 0 node some c.index.ensures in (
-      λ can. let both = sym (c.is_idle.ensures.1 (shown_idle k nodes lanes places 0 node some there can.0.0)) ∙ c.if-not-is_idle.true in cc,
-      record { setting = refl; nodes = refl; lanes = refl; detector = refl; steps = refl; failed = refl },
-    )
+    let there = node_there k nodes lanes places 0 node some c.index.ensures in
+    record {
+      cannot = λ can. let both = sym (c.is_idle.ensures.1 (shown_idle k nodes lanes places 0 node some there can.0.0)) ∙ c.if-not-is_idle.true in cc;
+      unchanged = record { setting = refl; nodes = refl; lanes = refl; detector = refl; steps = refl; failed = refl };
+    }
 
 pub returns-clause-done : goal.returns-clause-done
 returns-clause-done c = λ e.
@@ -40,11 +41,11 @@ returns-clause-done c = λ e.
       ),
       c.if-self.false,
     ) in
-    let moved = moved_here k nodes lanes detector steps stand ring.Announce (ring_of c.announce_end.new.self) c.announce_end.ensures.moved in (
-      record { setting = refl; can = can; happens = (refl, moved) },
-      stand_after k nodes lanes detector steps stand nodes lanes c.announce_end.new.self Announce c.requires.few stand.places
+    let moved = moved_here k nodes lanes detector steps stand ring.Announce (ring_of c.announce_end.new.self) c.announce_end.ensures.moved in
+    record {
+      made = record { setting = refl; can = can; happens = (refl, moved) };
+      stands = stand_after k nodes lanes detector steps stand nodes lanes c.announce_end.new.self Announce c.requires.few stand.places
           c.announce_end.ensures.counted.0 c.announce_end.ensures.counted.1
-          (cuts_same k.n nodes (ring_of detector) (ring_of c.announce_end.new.self) moved.posted stand.cuts) can (refl, moved),
-      refl,
-      refl,
-    )
+          (cuts_same k.n nodes (ring_of detector) (ring_of c.announce_end.new.self) moved.posted stand.cuts) can (refl, moved);
+      same = (refl, refl);
+    }

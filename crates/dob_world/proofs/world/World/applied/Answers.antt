@@ -1,15 +1,15 @@
 -- The list of the lane.
-use Rattle.std.proofs.Common.{sym, ◌∙◌}
+use Rattle.std.proofs.Common.{◌≡◌, ◌*◌, length, sym, ◌∙◌, arith}
 use Rattle.dob_world.specs.Shown.{setting_of}
-use Rattle.dob_world.proofs.Stands.{lane_there}
+use Rattle.dob_world.proofs.InPlace.{lane_found}
 use Rattle.dob_world.proofs.Lent.{applied_shown}
 use Rattle.dob_world.proofs.world.World.applied.Goals as goal
 
 pub returns : goal.returns
 returns c =
-    let k = setting_of c.args.self.now in
-    let nodes = c.args.self.now.nodes.items in
-    let lanes = c.args.self.now.lanes.items in
+    let world = c.args.self.now in
+    let lanes = world.lanes.items in
     let lane = c.index.result.now in
-    c.deref.ensures.value ∙ sym (applied_shown k nodes lanes c.args.from c.args.to lane
-    (lane_there k nodes lanes c.requires.standing.places c.args.from c.args.to lane c.requires.from c.requires.to c.index.ensures))
+    let whole : length lanes ≡ world.n * world.n = omega (arith, world.lanes_whole) in
+    c.deref.ensures.value ∙ sym (applied_shown (setting_of world) world.nodes.items lanes c.args.from c.args.to lane
+    (lane_found lanes world.n c.args.from c.args.to lane whole c.requires.from c.requires.to c.index.ensures))

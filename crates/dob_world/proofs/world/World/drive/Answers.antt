@@ -3,6 +3,7 @@ use Rattle.std.proofs.Common.{◌+◌, ◌<◌, ◌≤◌, Bool, true, false, ar
 use Rattle.dob_rank.specs.Marks.{classes_of}
 use Rattle.dob_world.specs.Worlds.{Setting}
 use Rattle.dob_world.specs.Results.{HasMadeRound}
+use Rattle.dob_world.proofs.Left.{kept_standing, kept_left}
 use Rattle.dob_world.proofs.Driven.{no_rounds, round_more, still_longer, drive_stops}
 use Rattle.dob_world.proofs.world.World.drive.Goals as goal
 
@@ -31,8 +32,11 @@ pub returns-clause-falls : goal.returns-clause-falls
 returns-clause-falls c = c.loop-round.invariant.standing.falls
 
 pub returns-in-Err-clause-stopped : goal.returns-in-Err-clause-stopped
-returns-in-Err-clause-stopped c = (
-  drive_stops c.args.self.now c.loop-round.self c.loop-round._round c.args.rounds c.in-Err.fault c.loop-round.invariant c.loop-round-test.true
-      c.in-Err.ensures.stopped.0,
-  c.in-Err.ensures.stopped.1,
-)
+returns-in-Err-clause-stopped c = drive_stops c.args.self.now c.loop-round.self c.round.new.self c.loop-round._round c.args.rounds c.in-Err.fault
+    c.loop-round.invariant c.loop-round-test.true c.in-Err.ensures.stopped
+
+pub returns-in-Err-clause-unannounced : goal.returns-in-Err-clause-unannounced
+returns-in-Err-clause-unannounced c = (kept_left c.round.new.self c.in-Err.fault c.in-Err.ensures.stopped.failed c.in-Err.ensures.kept).unannounced
+
+pub returns-clause-kept : goal.returns-clause-kept
+returns-clause-kept c = kept_standing c.loop-round.self c.loop-round.invariant.standing c.loop-round.invariant.going

@@ -3,7 +3,9 @@ use Rattle.std.proofs.Common.{◌<◌, refl, sym, subst, arith}
 use Rattle.std.proofs.lemmas.Bool.{both_ways}
 use Rattle.dob_world.specs.Worlds.{Setting}
 use Rattle.dob_pieces.specs.declared.piece_set.PieceSet.{PieceSet}
-use Rattle.dob_world.specs.Shown.{world_shown, ring_of, AreOpenedNodes, IsSetting}
+use Rattle.dob_world.specs.Shown.{world_shown, ring_of}
+use Rattle.dob_world.specs.Standing.{IsSetting}
+use Rattle.dob_world.specs.Start.{AreOpenedNodes}
 use Rattle.dob_rank.specs.Limits.{IsSmall}
 use Rattle.dob_world.proofs.Starts.{places_start, falls_shown, lawful_shown, linked_start, waits_start}
 use Rattle.dob_world.proofs.Cuts.{cuts_start}

@@ -5,7 +5,7 @@ use Rattle.dob_safra.specs.Rings.{Moved}
 use Rattle.dob_world.specs.declared.event.Event.TheVariants.{Pass}
 use Rattle.dob_world.specs.Events.{CanHappen, MayEnd}
 use Rattle.dob_world.specs.Shown.{setting_of, state_of, ring_of}
-use Rattle.dob_world.proofs.Stands.{node_there}
+use Rattle.dob_world.proofs.InPlace.{node_there}
 use Rattle.dob_world.proofs.Cuts.{cuts_same}
 use Rattle.dob_world.proofs.Stood.{stand_after, moved_here, announceable_there, idle_shown, shown_idle}
 use Rattle.dob_world.proofs.world.World.pass.Goals as goal
@@ -19,10 +19,11 @@ returns-then-not-is_idle-clause-skipped c = λ e.
     let places = c.requires.standing.places in
     let node = c.index.result.now in
     let low : c.args.node < c.args.self.now.n = c.if-node-self.false in
-    let there = node_there k nodes lanes places c.args.node node low c.index.ensures in (
-      λ can. let both = sym (c.is_idle.ensures.1 (shown_idle k nodes lanes places c.args.node node low there can.2)) ∙ c.if-not-is_idle.true in cc,
-      record { setting = refl; nodes = refl; lanes = refl; detector = refl; steps = refl; failed = refl },
-    )
+    let there = node_there k nodes lanes places c.args.node node low c.index.ensures in
+    record {
+      cannot = λ can. let both = sym (c.is_idle.ensures.1 (shown_idle k nodes lanes places c.args.node node low there can.2)) ∙ c.if-not-is_idle.true in cc;
+      unchanged = record { setting = refl; nodes = refl; lanes = refl; detector = refl; steps = refl; failed = refl };
+    }
 
 pub returns-clause-done : goal.returns-clause-done
 returns-clause-done c = λ e.
@@ -49,11 +50,11 @@ returns-clause-done c = λ e.
       not_yet,
     ) in
     let moved = subst (λ (i : ℕ). Moved k.n (ring_of detector) (ring.Pass i) (ring_of c.pass_token.new.self)) at
-    (moved_here k nodes lanes detector steps stand (ring.Pass detector.token.at) (ring_of c.pass_token.new.self) c.pass_token.ensures.moved) in (
-      record { setting = refl; can = can; happens = (refl, moved) },
-      stand_after k nodes lanes detector steps stand nodes lanes c.pass_token.new.self (Pass c.args.node) c.requires.few stand.places
+    (moved_here k nodes lanes detector steps stand (ring.Pass detector.token.at) (ring_of c.pass_token.new.self) c.pass_token.ensures.moved) in
+    record {
+      made = record { setting = refl; can = can; happens = (refl, moved) };
+      stands = stand_after k nodes lanes detector steps stand nodes lanes c.pass_token.new.self (Pass c.args.node) c.requires.few stand.places
           c.pass_token.ensures.counted.0 c.pass_token.ensures.counted.1
-          (cuts_same k.n nodes (ring_of detector) (ring_of c.pass_token.new.self) moved.posted stand.cuts) can (refl, moved),
-      refl,
-      refl,
-    )
+          (cuts_same k.n nodes (ring_of detector) (ring_of c.pass_token.new.self) moved.posted stand.cuts) can (refl, moved);
+      same = (refl, refl);
+    }

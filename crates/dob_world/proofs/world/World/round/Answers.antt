@@ -4,9 +4,9 @@ use Rattle.dob_world.specs.declared.event.Event.{Event}
 use Rattle.dob_rank.specs.Marks.{classes_of}
 use Rattle.dob_world.specs.Worlds.{Setting}
 use Rattle.dob_world.specs.Rounds.{round_length}
-use Rattle.dob_world.specs.Stops.{IsStopBy}
-use Rattle.dob_world.specs.Shown.{setting_of, state_of}
+use Rattle.dob_world.specs.Effects.{IsStopped}
 use Rattle.dob_world.proofs.Ran.{Stepped, stepped}
+use Rattle.dob_world.proofs.Left.{kept_standing}
 use Rattle.dob_world.proofs.Driven.{one_more, round_done, round_stops}
 use Rattle.dob_world.proofs.world.World.round.Goals as goal
 
@@ -35,8 +35,9 @@ pub returns-in-Err-clause-stopped : goal.returns-in-Err-clause-stopped
 returns-in-Err-clause-stopped c =
     let mid = c.loop-place.self in
     let way = c.loop-place.invariant.way in
-    let low : c.loop-place.place < round_length c.args.self.now.n = omega (arith, c.loop-place-test.true) in (
-      round_stops c.args.self.now mid c.loop-place.place c.in-Err.fault way low
-          (subst (λ (e : Event). IsStopBy (setting_of mid) (state_of mid) e c.in-Err.fault) c.event_at.ensures (c.in-Err.ensures.named way.going)),
-      c.in-Err.ensures.stopped.1,
-    )
+    let low : c.loop-place.place < round_length c.args.self.now.n = omega (arith, c.loop-place-test.true) in
+    round_stops c.args.self.now mid c.step.new.self c.loop-place.place c.in-Err.fault way low
+    (subst (λ (e : Event). IsStopped e c.in-Err.fault mid c.step.new.self) c.event_at.ensures (c.in-Err.ensures.named way.going)) c.in-Err.ensures.stopped.1
+
+pub returns-clause-kept : goal.returns-clause-kept
+returns-clause-kept c = kept_standing c.loop-place.self c.loop-place.invariant.way.standing c.loop-place.invariant.way.going

@@ -3,7 +3,7 @@ use Rattle.std.proofs.Common.{◌≡◌, ℕ, subst, Some, slice_get}
 use Rattle.dob_share.specs.Owners.{owner_of}
 use Rattle.dob_node.specs.declared.node.Node.{Node}
 use Rattle.dob_world.specs.Shown.{setting_of}
-use Rattle.dob_world.proofs.Stands.{node_there}
+use Rattle.dob_world.proofs.InPlace.{node_there}
 use Rattle.dob_world.proofs.Gathered.{owned, shows, shows_entry}
 use Rattle.dob_world.proofs.world.World.value_of.Goals as goal
 use Rattle.dob_world.proofs.world.World.value_of.Goals.{After-index}

@@ -1,6 +1,6 @@
 -- The nodes so far are opened.
-use Rattle.dob_world.specs.Shown.{AreOpenedNodes}
-use Rattle.dob_world.proofs.world.open_nodes.Given as goal
+use Rattle.dob_world.specs.Start.{AreOpenedNodes}
+use Rattle.dob_world.proofs.parts.open_nodes.Given as goal
 
 abbrev pub invariant-loop-id : goal.invariant-loop-id
 invariant-loop-id l = AreOpenedNodes l.openings l.set l.n l.id l.nodes.items

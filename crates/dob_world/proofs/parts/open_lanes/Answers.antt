@@ -1,8 +1,8 @@
 -- One lane more is empty.
 use Rattle.std.proofs.Common.{subst, sym}
-use Rattle.dob_world.specs.Shown.{AreEmptyLanes}
+use Rattle.dob_world.specs.Start.{AreEmptyLanes}
 use Rattle.dob_world.proofs.Pushed.{empty_more, none_empty}
-use Rattle.dob_world.proofs.world.open_lanes.Goals as goal
+use Rattle.dob_world.proofs.parts.open_lanes.Goals as goal
 
 pub loop-place-init : goal.loop-place-init
 loop-place-init c = subst (λ xs. AreEmptyLanes c.args.capacity 0 xs) (sym c.new-lanes.ensures.items) (none_empty c.args.capacity)

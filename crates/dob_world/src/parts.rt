@@ -1,0 +1,41 @@
+// The parts of a world as it is opened: its nodes and its lanes.
+ghost use Rattle.std.specs.Prelude.{◌≤◌, IfOk};
+ghost use Rattle.dob_node.specs.Openings.{AreOpenings};
+ghost use Rattle.dob_world.specs.Start.{AreOpenedNodes, AreEmptyLanes};
+
+use crate::lane::Lane;
+use dob_node::{Node, Opening};
+use dob_pieces::{Memory, PieceSet};
+use dob_rank::Segments;
+use std::alloc::Global;
+
+/// The nodes of all owners, as they are opened.
+pub(crate) fn open_nodes(
+    alloc: Global,
+    openings: &Segments<Opening>,
+    set: PieceSet,
+    n: usize,
+) -> Result<Vec<Node>, Memory>
+    requires openings { AreOpenings set openings.now }
+    requires owners { n ≤ 16 }
+    ensures { IfOk result (λ nodes. AreOpenedNodes openings.now set n n nodes.items) }
+{
+    let mut nodes = Vec::new(alloc);
+    for id in 0..n {
+        nodes.push(Node::open(alloc, openings, set, id, n)?)?;
+    }
+    Ok(nodes)
+}
+
+/// So many lanes over which nothing has gone.
+pub(crate) fn open_lanes(alloc: Global, count: usize, capacity: usize) -> Result<Vec<Lane>, Memory>
+    requires some { 1 ≤ capacity }
+    requires at_most { capacity ≤ 1024 }
+    ensures { IfOk result (λ lanes. AreEmptyLanes capacity count lanes.items) }
+{
+    let mut lanes = Vec::new(alloc);
+    for _place in 0..count {
+        lanes.push(Lane::open(alloc, capacity)?)?;
+    }
+    Ok(lanes)
+}
