@@ -131,7 +131,7 @@ unfolding walked defaults_fault
 moves_entered = record { walks = refl; turns = refl; ends = λ rest. refl; enters = λ rest. refl }
 
 -- the subcommand that was met is one of these, and has this name and these texts
-abbrev pub IsMet : List Form → Text → List Text → Option (Text × List Row) → Type 0
+abbrev pub IsMet : List Form → Text → List (Option Text) → Option (Text × List Row) → Type 0
 IsMet [] name texts met = ⊥
 IsMet (f ∷ fs) name texts met = ((f.name ≡ name) × Finds f texts met) ⊎ IsMet fs name texts met
 
@@ -146,7 +146,7 @@ abbrev FitsAt : Meaning → List Text → Type 0
 FitsAt m words = Fits m (kinds_at start words) (subcommand_of dobutsu_app words)
 
 module _ (f : Form) (is : IsTaken f) (enters : IsEntered f) (spelled : IsSpelled f)
-    (among : (name : Text) (texts : List Text) (met : Option (Text × List Row)) → (f.name ≡ name) × Finds f texts met → IsMet forms name texts met) where
+    (among : (name : Text) (texts : List (Option Text)) (met : Option (Text × List Row)) → (f.name ≡ name) × Finds f texts met → IsMet forms name texts met) where
   steps : (rest : List Text) → fold (walked top.rules names) start (f.name ∷ rest) ≡ entered_at f.name rest
   steps rest = ap (λ w. fold (walked top.rules names) w rest) enters.walks ∙ sym (walk_stopped top.rules names start f.name [] rest)
 

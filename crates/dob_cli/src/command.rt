@@ -11,19 +11,20 @@
 // - what it owes by a definition like `AnswersCount`, a case in each definition of specs/Orders.antt and a field of `Ran` in
 //   specs/Runs.antt;
 // - in program.rt an arm of `answer`, and its cases in proofs/Orders.antt and proofs/Runs.antt.
-ghost use Rattle.std.specs.Prelude.{◌≡◌, ◌∷◌, [], IfOk, IsSomeAnd, List, codes, map, true};
+ghost use Rattle.std.specs.Prelude.{◌≡◌, [], IfOk, IsSomeAnd, List, Option, codes, false, map, true};
 ghost use Rattle.clap.specs.Words.{App, Rule, kind_of, subcommand_rows_of, with_rule, with_subcommand};
 ghost use Rattle.dob_cli.specs.Forms.{Form, Text, build_form, check_form, count_form, forms, line_form, look_form, probe_form};
-ghost use Rattle.dob_cli.specs.Forms.{moves_form, show_form, value_form, file_option, nodes_option, out_option, set_option};
+ghost use Rattle.dob_cli.specs.Forms.{moves_form, show_form, value_form, file_option, nodes_option, numbered_flag, out_option, picture_option};
+ghost use Rattle.dob_cli.specs.Forms.{plain_form, set_option};
 ghost use Rattle.dob_cli.specs.Lines.{IsAmong, IsLine};
 ghost use Rattle.dob_cli.specs.Words.{asks, has_topic, is_topic, is_version, meaning_of, meaning_of_topic, names_subcommand};
-ghost use Rattle.dob_cli.specs.Shapes.{Finds, HasShape, IsRead, bare_app, dobutsu_app, form_app, option_rule, text_rule};
+ghost use Rattle.dob_cli.specs.Shapes.{Finds, HasShape, IsRead, bare_app, dobutsu_app, flag_rule, form_app, option_rule, text_rule};
 ghost use Rattle.dob_cli.specs.Readings.{ComesFromLine, IsOrder, IsReadingOf, IsReadingOfKind};
 
 mod orders;
 
 use clap::error::ErrorKind;
-use clap::{Arg, ArgMatches, Command, Error, value_parser};
+use clap::{Arg, ArgAction, ArgMatches, Command, Error, value_parser};
 use std::alloc::{AllocError, Global};
 
 /// What the program is asked to do.
@@ -44,9 +45,10 @@ pub enum Order<'a> {
         file: &'a str,
         position: &'a str,
     },
-    /// To print the line of the position by the table of the file.
+    /// To print the line of the position by the table of the file, each move on a line with its number where it is numbered.
     Line {
         file: &'a str,
+        is_numbered: bool,
         position: &'a str,
     },
     /// To tell whether the table of the file is consistent.
@@ -56,8 +58,13 @@ pub enum Order<'a> {
         file: &'a str,
         position: &'a str,
     },
-    /// To draw the position that the text names.
-    Show(&'a str),
+    /// To draw the position that the text names, in a file too where one is named for the picture; where a table's file is
+    /// named, to print the position's value and its line by it.
+    Show {
+        file: Option<&'a str>,
+        picture: Option<&'a str>,
+        position: &'a str,
+    },
     /// To print the moves of the position with their values by the table of the file.
     Moves {
         file: &'a str,
@@ -215,7 +222,7 @@ Example: dobutsu moves --db 000.db \"..l/.../L../... - -\" prints `La2-a3 win 3`
 pub fn read_words<'a>(alloc: Global, words: &'a [&'a str]) -> Result<Reading<'a>, AllocError>
     ensures meaning { IfOk result (IsReadingOf (meaning_of (map (λ w. w.now) words.now))) }
     ensures sound { IfOk result (ComesFromLine (map (λ w. w.now) words.now)) }
-    ensures complete { (form : Form) (texts : List Text) → IsAmong form forms
+    ensures complete { (form : Form) (texts : List (Option Text)) → IsAmong form forms
         → IsLine form (map (λ w. w.now) words.now) texts → IfOk result (IsReadingOf (asks form.name texts)) }
 {
     if asks_version(words) {
@@ -392,6 +399,7 @@ fn line_command<'a>(alloc: Global) -> Result<Command<'a>, AllocError>
         .about("Prints the best play from a position by a database file")
         .after_help(LINE_HELP)
         .arg(file_argument(alloc));
+    let command = add_argument(command, numbered_argument(alloc));
     add_argument(command, position_argument(alloc))
 }
 
@@ -420,10 +428,12 @@ fn look_command<'a>(alloc: Global) -> Result<Command<'a>, AllocError>
 fn show_command<'a>(alloc: Global) -> Result<Command<'a>, AllocError>
     ensures { IfOk result (HasShape (form_app show_form)) }
 {
-    Command::new(alloc, "show")
+    let command = Command::new(alloc, "show")
         .about("Draws the board of a position, with its squares' names and both hands")
         .after_help(SHOW_HELP)
-        .arg(position_argument(alloc))
+        .arg(shown_file_argument(alloc));
+    let command = add_argument(command, picture_argument(alloc));
+    add_argument(command, position_argument(alloc))
 }
 
 // The subcommand `moves`.
@@ -450,44 +460,82 @@ fn add_argument<'a>(
 
 // The option `--set CEG`.
 fn set_argument<'a>(alloc: Global) -> Arg<'a>
-    ensures { IsRead (option_rule [] set_option) result }
+    ensures { IsRead (option_rule count_form set_option) result }
 {
-    option_argument(alloc, "set", "CEG", "The piece set, as three digits")
+    option_argument(alloc, "set", "CEG", "The piece set, as three digits").required(true)
 }
 
 // The option `--nodes N`.
 fn nodes_argument<'a>(alloc: Global) -> Arg<'a>
-    ensures { IsRead (option_rule (codes "N" ∷ []) nodes_option) result }
+    ensures { IsRead (option_rule build_form nodes_option) result }
 {
     let number = value_parser!(u64);
-    option_argument(alloc, "nodes", "N", "The number of nodes, 1 to 16").value_parser(number)
+    let help = "The number of nodes, 1 to 16";
+    option_argument(alloc, "nodes", "N", help)
+        .required(true)
+        .value_parser(number)
 }
 
 // The option `--out FILE`.
 fn out_argument<'a>(alloc: Global) -> Arg<'a>
-    ensures { IsRead (option_rule [] out_option) result }
+    ensures { IsRead (option_rule build_form out_option) result }
 {
     let help = "The database file, made anew or overwritten";
-    option_argument(alloc, "out", "FILE", help)
+    option_argument(alloc, "out", "FILE", help).required(true)
 }
 
 // The option `--db FILE`.
 fn file_argument<'a>(alloc: Global) -> Arg<'a>
-    ensures { IsRead (option_rule [] file_option) result }
+    ensures { IsRead (option_rule probe_form file_option) result }
 {
-    option_argument(alloc, "db", "FILE", "The database file")
+    option_argument(alloc, "db", "FILE", "The database file").required(true)
 }
 
-// An option that has to be there: the name behind `--`, and what its text is called.
-fn option_argument<'a>(alloc: Global, name: &'a str, label: &'a str, help: &'a str) -> Arg<'a>
-    ensures { IsRead (option_rule [] (name.now, label.now)) result }
+// The same, where it may be left out.
+fn shown_file_argument<'a>(alloc: Global) -> Arg<'a>
+    ensures { IsRead (option_rule show_form file_option) result }
 {
-    Arg::new(alloc, label).long(name).required(true).help(help)
+    let help = "A database file, for the value and the best play";
+    option_argument(alloc, "db", "FILE", help)
+}
+
+// The option `--svg OUT`.
+fn picture_argument<'a>(alloc: Global) -> Arg<'a>
+    ensures { IsRead (option_rule show_form picture_option) result }
+{
+    let help = "A file for the board as a picture, made anew or overwritten";
+    option_argument(alloc, "svg", "OUT", help)
+}
+
+// The flag `--numbered`.
+fn numbered_argument<'a>(alloc: Global) -> Arg<'a>
+    ensures { IsRead (flag_rule numbered_flag) result }
+{
+    flag_argument(alloc, "numbered", "Each move on a line, with its number")
+}
+
+// An option that may be left out: the name behind `--`, and what its text is called.
+fn option_argument<'a>(alloc: Global, name: &'a str, label: &'a str, help: &'a str) -> Arg<'a>
+    ensures { IsRead (record (option_rule (plain_form [] [] []) (name.now, label.now)) { required = false }) result }
+{
+    Arg::new(alloc, label).long(name).help(help)
+}
+
+// A flag: the name behind `--`, by which it is called too. Its text is empty where it is given.
+fn flag_argument<'a>(alloc: Global, name: &'a str, help: &'a str) -> Arg<'a>
+    ensures { IsRead (flag_rule name.now) result }
+{
+    Arg::new(alloc, name)
+        .long(name)
+        .action(ArgAction::Set)
+        .num_args(0)
+        .default_missing_value("")
+        .help(help)
 }
 
 // The argument POSITION.
 fn position_argument<'a>(alloc: Global) -> Arg<'a>
-    ensures { IsRead (text_rule [] (codes "POSITION")) result }
+    ensures { IsRead (text_rule value_form (codes "POSITION")) result }
 {
     Arg::new(alloc, "POSITION")
         .required(true)
@@ -496,7 +544,7 @@ fn position_argument<'a>(alloc: Global) -> Arg<'a>
 
 // What the matches of the program's command ask for.
 fn order_of<'a>(matches: &ArgMatches<'a>) -> Option<Order<'a>>
-    ensures { (form : Form) (texts : List Text) → IsAmong form forms → Finds form texts (subcommand_rows_of matches.now)
+    ensures { (form : Form) (texts : List (Option Text)) → IsAmong form forms → Finds form texts (subcommand_rows_of matches.now)
         → IsSomeAnd result (IsOrder form.name texts) }
 {
     let (name, inner) = matches.subcommand()?;

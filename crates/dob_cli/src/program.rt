@@ -127,10 +127,18 @@ fn answer<S: Shelf>(
         Order::Count(set) => answer_count(alloc, set),
         Order::Build { set, nodes, file } => answer_build(rt, alloc, shelf, set, nodes, file),
         Order::Probe { file, position } => answer_probe(alloc, shelf, file, position),
-        Order::Line { file, position } => answer_line(alloc, shelf, file, position),
+        Order::Line {
+            file,
+            is_numbered,
+            position,
+        } => answer_line(alloc, shelf, file, is_numbered, position),
         Order::Check(file) => answer_check(rt, alloc, shelf, file),
         Order::Look { file, position } => answer_look(alloc, shelf, file, position),
-        Order::Show(position) => answer_show(alloc, position),
+        Order::Show {
+            file,
+            picture,
+            position,
+        } => answer_show(alloc, shelf, file, picture, position),
         Order::Moves { file, position } => answer_moves(alloc, shelf, file, position),
     }
 }
