@@ -4,7 +4,7 @@ use Rattle.std.specs.Borrow.{Bor}
 use Rattle.std.specs.Str.{bytes_eq}
 use Rattle.dob_cli.specs.Forms.{Text}
 use Rattle.dob_cli.specs.declared.command.Order.{Order}
-use Rattle.dob_cli.specs.declared.command.Order.TheVariants.{Value, Count, Build, Probe, Line, Check, Look, Show, Moves}
+use Rattle.dob_cli.specs.declared.command.Order.TheVariants.{Value, Count, Build, Probe, Line, Check, Look, Show, Moves, Stats}
 use Rattle.dob_cli.specs.Endings.{Ending}
 use Rattle.dob_cli.specs.Shelves.{SameFiles, SameOthers, ShelfChange}
 use Rattle.dob_cli.specs.Words.{Meaning, asks, build, flag_text, help, number_of, show, usage, version}
@@ -17,6 +17,7 @@ use Rattle.dob_cli.specs.Builds.{AnswersBuild}
 use Rattle.dob_cli.specs.Looks.{AnswersLook}
 use Rattle.dob_cli.specs.Choices.{AnswersMoves}
 use Rattle.dob_cli.specs.Shows.{AnswersShow, KeepsButPicture}
+use Rattle.dob_cli.specs.Stats.{AnswersStats}
 use Rattle.dob_cli.specs.Tables.{AnswersCheck, AnswersLine, AnswersProbe}
 
 -- two names that differ aren't one
@@ -105,6 +106,10 @@ module _ (c : ShelfChange) (e : Ending) where
       subst (λ (x : Text). AnswersMoves c x text e) same.0 (subst (λ (x : Text). AnswersMoves c f.now x e) same.1 answers)
   done_moves o file text is answers = absurd (differs (name_of_order o) (codes "moves") refl refl is.0)
 
+  pub done_stats : (o : Order) (file : Text) → IsOrder (codes "stats") (Some file ∷ []) o → AnswersOrder c o e → AnswersStats c file e
+  done_stats (Stats f) file is answers = subst (λ (x : Text). AnswersStats c x e) (one_text f.now file is.1) answers
+  done_stats o file is answers = absurd (differs (name_of_order o) (codes "stats") refl refl is.0)
+
 -- ---- files
 
 module _ (c : ShelfChange) where
@@ -151,3 +156,4 @@ module _ (c : ShelfChange) where
   kept_files m (Check f) is none undrawn keeps = keeps
   kept_files m (Look f t) is none undrawn keeps = keeps
   kept_files m (Moves f t) is none undrawn keeps = keeps
+  kept_files m (Stats f) is none undrawn keeps = keeps

@@ -22,6 +22,7 @@ name_of_order (order.Check _) = codes "check"
 name_of_order (order.Look _ _) = codes "look"
 name_of_order (order.Show _ _ _) = codes "show"
 name_of_order (order.Moves _ _) = codes "moves"
+name_of_order (order.Stats _) = codes "stats"
 
 -- the text that may be left out
 abbrev pub text_given : Option (Bor Text) → Option Text
@@ -40,6 +41,7 @@ HasTexts texts (order.Check file) = Some file.now ∷ [] ≡ texts
 HasTexts texts (order.Look file position) = Some file.now ∷ Some position.now ∷ [] ≡ texts
 HasTexts texts (order.Show file picture position) = text_given file ∷ text_given picture ∷ Some position.now ∷ [] ≡ texts
 HasTexts texts (order.Moves file position) = Some file.now ∷ Some position.now ∷ [] ≡ texts
+HasTexts texts (order.Stats file) = Some file.now ∷ [] ≡ texts
 
 -- the order is for this subcommand and these texts
 abbrev pub IsOrder : Text → List (Option Text) → Order → Type 0

@@ -15,7 +15,7 @@ ghost use Rattle.std.specs.Prelude.{◌≡◌, [], IfOk, IsSomeAnd, List, Option
 ghost use Rattle.clap.specs.Words.{App, Rule, kind_of, subcommand_rows_of, with_rule, with_subcommand};
 ghost use Rattle.dob_cli.specs.Forms.{Form, Text, build_form, check_form, count_form, forms, line_form, look_form, probe_form};
 ghost use Rattle.dob_cli.specs.Forms.{moves_form, show_form, value_form, file_option, nodes_option, numbered_flag, out_option, picture_option};
-ghost use Rattle.dob_cli.specs.Forms.{plain_form, set_option};
+ghost use Rattle.dob_cli.specs.Forms.{plain_form, set_option, stats_form};
 ghost use Rattle.dob_cli.specs.Lines.{IsAmong, IsLine};
 ghost use Rattle.dob_cli.specs.Words.{asks, has_topic, is_topic, is_version, meaning_of, meaning_of_topic, names_subcommand};
 ghost use Rattle.dob_cli.specs.Shapes.{Finds, HasShape, IsRead, bare_app, dobutsu_app, flag_rule, form_app, option_rule, text_rule};
@@ -70,6 +70,8 @@ pub enum Order<'a> {
         file: &'a str,
         position: &'a str,
     },
+    /// To print how many classes of the file's table have which value.
+    Stats(&'a str),
 }
 
 /// What the words come to.
@@ -171,7 +173,7 @@ first such move: a piece's letter, its square, `-` or `x` for a catch, the squar
 side that isn't to move first are in lower case.
 
 Answers: the moves, `draw` where neither side can force an end, or `end` where the side to move has
-lost already.
+lost already. With `--numbered` each move stands on a line of its own behind its number, as `1. La2-a3`.
 
 Example: dobutsu line --db 000.db \"..l/.../L../... - -\" prints `La2-a3 lc4-b4 La3xb4`.";
 
@@ -199,6 +201,10 @@ so that `b2` names the square where column b meets row 2. Capital letters are th
 move, which go up; small letters are those of the other side, which go down. A hand holds the pieces
 that were caught and can be dropped again.
 
+With `--db FILE` an empty line follows, then the position's value and its best play, as `dobutsu probe` and
+`dobutsu line --numbered` print them. With `--svg OUT` the board is drawn as a picture too, for a browser: the
+file OUT is made anew or overwritten, as `dobutsu build --help` says of its own.
+
 Example: dobutsu show \"gle/.c./.C./ELG - -\" draws the board that a game begins with.
 `dobutsu value --help` says how a position is written.";
 
@@ -211,6 +217,16 @@ Answers: `MOVE win D`, `MOVE loss D` or `MOVE draw`; where the other side's lion
 catch, `MOVE win 1`; and `end` where the side to move has lost already.
 
 Example: dobutsu moves --db 000.db \"..l/.../L../... - -\" prints `La2-a3 win 3` first.";
+
+const STATS_HELP: &str =
+    "How hard a piece set is: so many of its classes are won and lost at each distance. A class is a position with its mirror
+image; a file that `dobutsu check` calls consistent holds the values by definition.
+
+Answers: the lines of `dobutsu build`, `classes N`, `win N`, `loss N` and `draw N`; then `win D N` or `loss D N`
+for each distance D in plies that occurs, the least first; then `longest win D POSITION` and `longest loss D POSITION`,
+each with the first class of that distance, where there are wins and losses.
+
+Example: dobutsu stats --db 000.db prints `classes 54` first.";
 
 /// Reads the words after the program's name. `--help`, `-h` and the subcommand `help`, alone or with the name of another
 /// one, give a help. As the first word `--version` asks for the version. A word that begins with `-` is an option, but for a lone `-`,
@@ -302,6 +318,7 @@ fn names_subcommand(name: &str) -> bool
             | "look"
             | "show"
             | "moves"
+            | "stats"
     )
 }
 
@@ -318,7 +335,8 @@ fn dobutsu_command<'a>(alloc: Global) -> Result<Command<'a>, AllocError>
     let command = add_subcommand(command, check_command(alloc));
     let command = add_subcommand(command, look_command(alloc));
     let command = add_subcommand(command, show_command(alloc));
-    add_subcommand(command, moves_command(alloc))
+    let command = add_subcommand(command, moves_command(alloc));
+    add_subcommand(command, stats_command(alloc))
 }
 
 // The command with the subcommand, where memory was left for both. It takes their results, since a chain of `?` is slow
@@ -447,6 +465,16 @@ fn moves_command<'a>(alloc: Global) -> Result<Command<'a>, AllocError>
     add_argument(command, position_argument(alloc))
 }
 
+// The subcommand `stats`.
+fn stats_command<'a>(alloc: Global) -> Result<Command<'a>, AllocError>
+    ensures { IfOk result (HasShape (form_app stats_form)) }
+{
+    Command::new(alloc, "stats")
+        .about("Prints how many classes of a database file have which value, and the longest ones")
+        .after_help(STATS_HELP)
+        .arg(file_argument(alloc))
+}
+
 // The command with a further argument, where memory was left for it so far. It takes a result, as `add_subcommand` does.
 fn add_argument<'a>(
     command: Result<Command<'a>, AllocError>,
@@ -558,6 +586,7 @@ fn order_of<'a>(matches: &ArgMatches<'a>) -> Option<Order<'a>>
         "look" => orders::look_order(inner),
         "show" => orders::show_order(inner),
         "moves" => orders::moves_order(inner),
+        "stats" => orders::stats_order(inner),
         _ => None,
     }
 }

@@ -20,6 +20,7 @@ use crate::fault::Fault;
 use crate::looks::answer_look;
 use crate::shelf::Shelf;
 use crate::shows::answer_show;
+use crate::stats::answer_stats;
 use crate::tables::{answer_check, answer_line, answer_probe};
 use dob_dbfile::{Lent, Sink, put_all, write_all};
 use dob_text::read_position;
@@ -140,6 +141,7 @@ fn answer<S: Shelf>(
             position,
         } => answer_show(alloc, shelf, file, picture, position),
         Order::Moves { file, position } => answer_moves(alloc, shelf, file, position),
+        Order::Stats(file) => answer_stats(alloc, shelf, file),
     }
 }
 

@@ -2,7 +2,7 @@
 ghost use Rattle.std.specs.Prelude.{IsSomeAnd, List, Option, Some, codes};
 ghost use Rattle.clap.specs.Words.{found_of, rows_of};
 ghost use Rattle.dob_cli.specs.Forms.{Text, build_form, check_form, count_form, line_form, look_form, probe_form, show_form};
-ghost use Rattle.dob_cli.specs.Forms.{moves_form, value_form};
+ghost use Rattle.dob_cli.specs.Forms.{moves_form, stats_form, value_form};
 ghost use Rattle.dob_cli.specs.Shapes.{Finds};
 ghost use Rattle.dob_cli.specs.Readings.{IsOrder};
 
@@ -100,4 +100,12 @@ pub(super) fn moves_order<'a>(inner: &ArgMatches<'a>) -> Option<Order<'a>>
         file: inner.get_str("FILE")?,
         position: inner.get_str("POSITION")?,
     })
+}
+
+/// What the matches of `stats` ask for.
+pub(super) fn stats_order<'a>(inner: &ArgMatches<'a>) -> Option<Order<'a>>
+    ensures { (texts : List (Option Text)) → Finds stats_form texts (Some (codes "stats", rows_of (found_of inner.now)))
+        → IsSomeAnd result (IsOrder (codes "stats") texts) }
+{
+    Some(Order::Stats(inner.get_str("FILE")?))
 }
