@@ -15,7 +15,7 @@ use Rattle.dob_cli.specs.Faults.{is_io}
 use Rattle.dob_cli.specs.Orders.{AnswersOrder, AreLinesFor, IsFaultFor, KeepsFiles}
 use Rattle.dob_cli.specs.Runs.{Ran, RanOn}
 use Rattle.dob_cli.proofs.Shelves.{others_kept}
-use Rattle.dob_cli.proofs.TableFaults.{probe_right}
+use Rattle.dob_cli.proofs.TableFaults.{moves_right, probe_right}
 use Rattle.dob_cli.proofs.ByPlace.{look_right}
 use Rattle.dob_cli.proofs.Orders.{done_build, done_check, done_count, done_line, done_look, done_moves, done_probe, done_show, done_stats, done_value, kept_but_picture, kept_files, kept_others}
 
@@ -60,6 +60,7 @@ module _ (c : ShelfChange) (words : List Text) (e : Ending) where
     look_right = λ file text _ _. memory_answered _ _ e (tt, works) told;
     look = λ file text _. memory_answered _ _ e (tt, works) told;
     show = λ file picture text _. memory_answered _ _ e (same, works) told;
+    moves_right = λ file text _ _. memory_answered _ _ e (tt, works) told;
     moves = λ file text _. memory_answered _ _ e (tt, works) told;
     stats = λ file _. memory_answered _ _ e (tt, works) told;
     help = λ _. inr told;
@@ -88,6 +89,7 @@ module _ (c : ShelfChange) (words : List Text) (e : Ending) where
     check = λ file is. done_check c e o file (asked (reading.Order o) read _ is) answers;
     look = λ file text is. done_look c e o file text (asked (reading.Order o) read _ is) answers;
     show = λ file picture text is. done_show c e o file picture text (asked (reading.Order o) read _ is) answers;
+    moves_right = λ file text is right. moves_right c file text e right (done_moves c e o file text (asked (reading.Order o) read _ is) answers);
     moves = λ file text is. done_moves c e o file text (asked (reading.Order o) read _ is) answers;
     stats = λ file is. done_stats c e o file (asked (reading.Order o) read _ is) answers;
     look_right = λ file text is right. look_right c file text e right (done_look c e o file text (asked (reading.Order o) read _ is) answers);
@@ -112,6 +114,7 @@ module _ (c : ShelfChange) (words : List Text) (e : Ending) where
     check = λ file is. absurd (asked reading.Version read _ is);
     look = λ file text is. absurd (asked reading.Version read _ is);
     show = λ file picture text is. absurd (asked reading.Version read _ is);
+    moves_right = λ file text is. absurd (asked reading.Version read _ is);
     moves = λ file text is. absurd (asked reading.Version read _ is);
     stats = λ file is. absurd (asked reading.Version read _ is);
     look_right = λ file text is. absurd (asked reading.Version read _ is);

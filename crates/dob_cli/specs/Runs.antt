@@ -9,7 +9,7 @@ use Rattle.dob_cli.specs.Program.{AnswersValue}
 use Rattle.dob_cli.specs.Sizes.{AnswersCount}
 use Rattle.dob_cli.specs.Builds.{AnswersBuild}
 use Rattle.dob_cli.specs.Looks.{AnswersLook, AnswersLookRight}
-use Rattle.dob_cli.specs.Choices.{AnswersMoves}
+use Rattle.dob_cli.specs.Choices.{AnswersMoves, AnswersMovesRight}
 use Rattle.dob_cli.specs.Shows.{AnswersShow}
 use Rattle.dob_cli.specs.Stats.{AnswersStats}
 use Rattle.dob_cli.specs.Tables.{AnswersCheck, AnswersLine, AnswersProbe, AnswersProbeRight, HasValueFile}
@@ -36,6 +36,7 @@ pub record Ran (c : ShelfChange) (words : List Text) (e : Ending) : Type 0 where
   pub look_right : (file position : Text) → meaning_of words ≡ look file position → HasValueFile (c.before.has file) → AnswersLookRight c file position e
   pub look : (file position : Text) → meaning_of words ≡ look file position → AnswersLook c file position e
   pub show : (file picture : Option Text) (position : Text) → meaning_of words ≡ show file picture position → AnswersShow c file picture position e
+  pub moves_right : (file position : Text) → meaning_of words ≡ moves file position → HasValueFile (c.before.has file) → AnswersMovesRight c file position e
   pub moves : (file position : Text) → meaning_of words ≡ moves file position → AnswersMoves c file position e
   pub stats : (file : Text) → meaning_of words ≡ stats file → AnswersStats c file e
   pub help : meaning_of words ≡ help → AnswersHelp e

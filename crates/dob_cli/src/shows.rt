@@ -28,10 +28,10 @@ pub(crate) fn answer_show<S: Shelf>(
     picture: Option<&str>,
     text: &str,
 ) -> Result<String, Fault>
-    ensures ok { IfOk result (λ lines. AreShowLines (shelf_change (S.state shelf.old) (S.state shelf.new)) (text_given file) (text_given picture)
+    ensures ok { IfOk result (λ lines. AreShowLines (shelf_change (S.state shelf.old) (S.state shelf.new)) (text_given file.entry) (text_given picture.entry)
         text.now (string_bytes lines)) }
-    ensures err { IfErr result (IsShowFault (shelf_change (S.state shelf.old) (S.state shelf.new)) (text_given file) (text_given picture) text.now) }
-    ensures files { KeepsButPicture (text_given picture) (S.state shelf.old).has (S.state shelf.new).has }
+    ensures err { IfErr result (IsShowFault (shelf_change (S.state shelf.old) (S.state shelf.new)) (text_given file.entry) (text_given picture.entry) text.now) }
+    ensures files { KeepsButPicture (text_given picture.entry) (S.state shelf.old).has (S.state shelf.new).has }
     ensures failed { FailsWhere (shelf_change (S.state shelf.old) (S.state shelf.new)) (is_io_error result) }
 {
     let position = read_position(text)?;
@@ -52,8 +52,8 @@ fn drawn_lines<S: Shelf>(
     file: Option<&str>,
     position: &Position,
 ) -> Result<String, Fault>
-    ensures ok { IfOk result (λ lines. AreDrawn (S.state shelf.old).has (text_given file) position.now.setup (string_bytes lines)) }
-    ensures err { IfErr result (IsDrawingFault (S.state shelf.old).has (text_given file) position.now.setup) }
+    ensures ok { IfOk result (λ lines. AreDrawn (S.state shelf.old).has (text_given file.entry) position.now.setup (string_bytes lines)) }
+    ensures err { IfErr result (IsDrawingFault (S.state shelf.old).has (text_given file.entry) position.now.setup) }
     ensures files { SameFiles (S.state shelf.old).has (S.state shelf.new).has }
     ensures told { (S.state shelf.new).tells ≡ (S.state shelf.old).tells }
     ensures failed { FailsWhere (shelf_change (S.state shelf.old) (S.state shelf.new)) (is_io_error result) }
