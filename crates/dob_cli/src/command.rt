@@ -3,8 +3,9 @@
 // A further subcommand, as `probe --db FILE POSITION`, has
 // - a form in specs/Forms.antt, also in `forms`, and the name of what it asks for at the end of specs/Words.antt;
 // - a variant of `Order` here, with its case in both functions of specs/Readings.antt;
-// - a function that makes its command, its options by `option_argument`, which `dobutsu_command` adds, a function in
-//   command/orders.rt that reads its matches, and an arm in `order_of`;
+// - a function that makes its command, which `dobutsu_command` adds: its options by `option_argument`, `required` but those that its
+//   form says may be left out, its flags by `flag_argument`, and then POSITION, as its form orders them; a function in
+//   command/orders.rt that reads its matches, of a flag whether it has a text, and an arm in `order_of`;
 // - a record in proofs/Taken.antt, proofs/AllWords.antt and proofs/Lines.antt, by `refl`, and a line each in `all_fit` and
 //   `all_known`;
 // - its cases in the answers of `dobutsu_command` and `order_of`, as those of `count`;
