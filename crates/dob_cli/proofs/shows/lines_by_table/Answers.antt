@@ -8,7 +8,7 @@ use Rattle.dob_cli.proofs.shows.lines_by_table.Goals as goal
 
 pub returns-in_err-table-clause-err : goal.returns-in_err-table-clause-err
 returns-in_err-table-clause-err g c =
-    let p = err_from_is_err_and c.from_residual-in_err-table.result c.from_residual-in_err-table.ensures.1 in
+    let p = err_from_is_err_and c.from_residual.result c.from_residual.ensures.1 in
     rw (p.1, p.2) (opening_probes ((g.S.Shelf.state c.args.shelf.now).has c.args.file.now) c.args.position.now.setup _ c.in_err-table.ensures.fault)
 
 pub returns-in_err-value-clause-err : goal.returns-in_err-value-clause-err
