@@ -1,6 +1,6 @@
 -- How `clap` reads the words after the name of a subcommand, for any form. A further subcommand needs a record
 -- `IsTaken` of its form, each field of which is `refl` (proofs/Taken.antt).
-use Rattle.std.proofs.Common.{◌≡◌, ◌∙◌, ℕ, ◌+◌, min, Bool, refl, sym, ap, subst, cond, codes, true, false, [], ◌∷◌, ◌++◌, List, Option, Some, None, map}
+use Rattle.std.proofs.Common.{ap₂, ◌≡◌, ◌∙◌, ℕ, ◌+◌, min, Bool, refl, sym, ap, subst, cond, codes, true, false, [], ◌∷◌, ◌++◌, List, Option, Some, None, map}
 use Rattle.std.proofs.Common.{true≢false}
 use Rattle.std.specs.Prelude.{is_some, not, find, fold, option_map, ◌&&◌, ◌||◌, ◌==◌}
 use Rattle.std.specs.Option.{option_map_or}
@@ -18,79 +18,106 @@ use Rattle.clap.specs.Kinds.{Kinds, or_else}
 use Rattle.clap.specs.Faults.{check_fault, defaults_fault, level_fault, settle_fault, step_fault, turn_fault, walk_fault}
 use Rattle.clap.specs.declared.error.kind.ErrorKind.TheVariants as kind
 use Rattle.std.proofs.Math.Bool.{or-false}
-use Rattle.dob_cli.specs.Forms.{Form, labels}
+use Rattle.dob_cli.specs.Forms.{Form, is_among, labels}
 use Rattle.dob_cli.specs.Words.{Given, Meaning, Stand, Text, after_dashes, after_part, after_word, asked, asks, at_end, behind, between, call, dashes, ended}
-use Rattle.dob_cli.specs.Words.{fits, help, is_dashes, is_help_flag, is_text, kept, label_of, meaning_of_form, name_in, once, option, option_part, placed, text}
+use Rattle.dob_cli.specs.Words.{fits, help, is_dashes, is_help_flag, is_text, flag, kept, label_of, meaning_of_form, name_in, named_part, once, option, placed, text}
 use Rattle.dob_cli.specs.Words.{text_of, texts_of, unknown, usage, valued, version, wanted, wants}
 use Rattle.dob_cli.specs.Shapes.{bare_app, form_app}
 use Rattle.dob_cli.proofs.Lexing.{View, empty as no_byte, letter as a_letter, hyphen as one_hyphen, dashes as two_hyphens, long as a_long, short as a_short}
 use Rattle.dob_cli.proofs.Lexing.{flip_bytes, long_name, long_short, no_first, flag_letter, view}
 use Rattle.dob_cli.proofs.Turns.{KnowsHelp, help_flag, held, is_usage, or_else_usage}
 use Rattle.dob_cli.proofs.Steps.{closed_at, failing_turn, help_turn, open_at, other_turn, text_taken, text_turn, text_turn_at, text_walked, waiting_at}
-use Rattle.dob_cli.proofs.Texts.{Each, Looked, defaults_none, looked, no_faults, kept_both, rows_of, text_arg, use_misfit, use_passes, use_twice, used_fresh}
+use Rattle.dob_cli.proofs.Texts.{Each, Looked, defaults_none, flag_arg, flag_passes, flag_twice, flagged_fresh, looked, no_faults, kept_both, rows_of, some_missing}
+use Rattle.dob_cli.proofs.Texts.{text_arg, use_misfit, use_passes, use_twice, used_fresh}
 
 -- ---- the subcommand's arguments, built
 
-abbrev pub option_arg : List Text → Text × Text → Rule
-option_arg numbers o = text_arg numbers (Some o.0) None o.1
+abbrev pub option_arg : Form → Text × Text → Rule
+option_arg f o = text_arg f (Some o.0) None o.1
 
-abbrev pub placed_args : List Text → ℕ → List Text → List Rule
-placed_args numbers i [] = []
-placed_args numbers i (label ∷ more) = text_arg numbers None (Some i) label ∷ placed_args numbers (min (i + 1) usize_max) more
+abbrev pub placed_args : Form → ℕ → List Text → List Rule
+placed_args f i [] = []
+placed_args f i (label ∷ more) = text_arg f None (Some i) label ∷ placed_args f (min (i + 1) usize_max) more
 
 abbrev pub args_of : Form → List Rule
-args_of f = map (option_arg f.numbers) f.options ++ (placed_args f.numbers 1 f.positions ++ help_flag ∷ [])
+args_of f = map (option_arg f) f.options ++ (map flag_arg f.flags ++ (placed_args f 1 f.positions ++ help_flag ∷ []))
 
 -- the subcommand, built
 abbrev pub shape_of : Form → Shape
 shape_of f = record (built_leaf (inherited (with_leaf_noted (marked_built bare_app.top)) (form_app f).top)) { rules = args_of f }
 
 -- the places from this one on
-abbrev pub ArePlaced : List Text → List Rule → ℕ → List Text → Type 0
-ArePlaced numbers rules p [] = arg_by_index rules p ≡ None
-ArePlaced numbers rules p (label ∷ left) =
-    (arg_by_index rules p ≡ Some (text_arg numbers None (Some p) label)) × (arg_by_id rules label ≡ Some (text_arg numbers None (Some p) label))
-    × ArePlaced numbers rules (next_position (text_arg numbers None (Some p) label) p) left
+abbrev pub ArePlaced : Form → List Rule → ℕ → List Text → Type 0
+ArePlaced f rules p [] = arg_by_index rules p ≡ None
+ArePlaced f rules p (label ∷ left) =
+    (arg_by_index rules p ≡ Some (text_arg f None (Some p) label)) × (arg_by_id rules label ≡ Some (text_arg f None (Some p) label))
+    × ArePlaced f rules (next_position (text_arg f None (Some p) label) p) left
 
--- what has to hold of a form: its labels and its options' names differ
+-- what has to hold of a form: its labels and the names of its options and flags differ, and no flag has to be a number
 pub record IsTaken (f : Form) : Type 0 where
-  pub options : Each (λ o. arg_by_id (args_of f) o.1 ≡ Some (option_arg f.numbers o)) f.options
-  pub positions : ArePlaced f.numbers (args_of f) 1 f.positions
-  pub no_help : label_of f.options (codes "help") ≡ None
-  pub no_empty : label_of f.options [] ≡ None
+  pub options : Each (λ o. arg_by_id (args_of f) o.1 ≡ Some (option_arg f o)) f.options
+  pub positions : ArePlaced f (args_of f) 1 f.positions
+  pub flags : Each (λ n. fits f.numbers n [] ≡ true) f.flags
+  pub no_help : (label_of f.options (codes "help") ≡ None) × (is_among f.flags (codes "help") ≡ false)
+  pub no_empty : (label_of f.options [] ≡ None) × (is_among f.flags [] ≡ false)
   pub defaults : Each (λ a. a.defaults ≡ []) (args_of f)
-  pub required : (rows : List Row) → list_any (λ a. a.required && not (is_given a.id rows)) (args_of f) ≡ list_any (λ l. not (is_given l rows)) (labels f)
+  pub required : (rows : List Row) → list_any (λ a. a.required && not (is_given a.id rows)) (args_of f) ≡ some_missing f rows (labels f)
 
 -- ---- the arguments by their names
 
-long_options : (numbers : List Text) (os : List (Text × Text)) (more : List Rule) (name : Text)
-    → arg_by_long (map (option_arg numbers) os ++ more) name
-    ≡ option_map_or (λ o. Some (option_arg numbers o)) (find (λ o. bytes_eq o.0 name) os) (arg_by_long more name)
-long_options numbers [] more name = refl
-long_options numbers (o ∷ os) more name = go (bytes_eq o.0 name) (long_options numbers os more name)
+long_options : (f : Form) (os : List (Text × Text)) (more : List Rule) (name : Text)
+    → arg_by_long (map (option_arg f) os ++ more) name
+    ≡ option_map_or (λ o. Some (option_arg f o)) (find (λ o. bytes_eq o.0 name) os) (arg_by_long more name)
+long_options f [] more name = refl
+long_options f (o ∷ os) more name = go (bytes_eq o.0 name) (long_options f os more name)
   where
     go : (b : Bool)
-        → arg_by_long (map (option_arg numbers) os ++ more) name
-        ≡ option_map_or (λ x. Some (option_arg numbers x)) (find (λ x. bytes_eq x.0 name) os) (arg_by_long more name)
-        → cond (b || false) (Some (option_arg numbers o)) (arg_by_long (map (option_arg numbers) os ++ more) name)
-        ≡ option_map_or (λ x. Some (option_arg numbers x)) (cond b (Some o) (find (λ x. bytes_eq x.0 name) os)) (arg_by_long more name)
+        → arg_by_long (map (option_arg f) os ++ more) name
+        ≡ option_map_or (λ x. Some (option_arg f x)) (find (λ x. bytes_eq x.0 name) os) (arg_by_long more name)
+        → cond (b || false) (Some (option_arg f o)) (arg_by_long (map (option_arg f) os ++ more) name)
+        ≡ option_map_or (λ x. Some (option_arg f x)) (cond b (Some o) (find (λ x. bytes_eq x.0 name) os)) (arg_by_long more name)
     go true rec = refl
     go false rec = rec
 
-long_placed : (numbers : List Text) (i : ℕ) (labels : List Text) (more : List Rule) (name : Text)
-    → arg_by_long (placed_args numbers i labels ++ more) name ≡ arg_by_long more name
-long_placed numbers i [] more name = refl
-long_placed numbers i (label ∷ labels) more name = long_placed numbers (min (i + 1) usize_max) labels more name
+long_flags : (names : List Text) (more : List Rule) (name : Text)
+    → arg_by_long (map flag_arg names ++ more) name ≡ cond (is_among names name) (Some (flag_arg name)) (arg_by_long more name)
+long_flags [] more name = refl
+long_flags (n ∷ names) more name = go (bytes_eq n name) refl (long_flags names more name)
+  where
+    go : (b : Bool) → bytes_eq n name ≡ b
+        → arg_by_long (map flag_arg names ++ more) name ≡ cond (is_among names name) (Some (flag_arg name)) (arg_by_long more name)
+        → cond (b || false) (Some (flag_arg n)) (arg_by_long (map flag_arg names ++ more) name)
+        ≡ cond (b || is_among names name) (Some (flag_arg name)) (arg_by_long more name)
+    go true e rec = ap (λ x. Some (flag_arg x)) ((bytes_eq-Decides n name).0 e)
+    go false e rec = rec
 
-short_options : (numbers : List Text) (os : List (Text × Text)) (more : List Rule) (x : ℕ) → arg_by_short (map (option_arg numbers) os ++ more) x
+long_placed : (f : Form) (i : ℕ) (labels : List Text) (more : List Rule) (name : Text)
+    → arg_by_long (placed_args f i labels ++ more) name ≡ arg_by_long more name
+long_placed f i [] more name = refl
+long_placed f i (label ∷ labels) more name = long_placed f (min (i + 1) usize_max) labels more name
+
+short_options : (f : Form) (os : List (Text × Text)) (more : List Rule) (x : ℕ) → arg_by_short (map (option_arg f) os ++ more) x
     ≡ arg_by_short more x
-short_options numbers [] more x = refl
-short_options numbers (o ∷ os) more x = short_options numbers os more x
+short_options f [] more x = refl
+short_options f (o ∷ os) more x = short_options f os more x
 
-short_placed : (numbers : List Text) (i : ℕ) (labels : List Text) (more : List Rule) (x : ℕ)
-    → arg_by_short (placed_args numbers i labels ++ more) x ≡ arg_by_short more x
-short_placed numbers i [] more x = refl
-short_placed numbers i (label ∷ labels) more x = short_placed numbers (min (i + 1) usize_max) labels more x
+short_flags : (names : List Text) (more : List Rule) (x : ℕ) → arg_by_short (map flag_arg names ++ more) x ≡ arg_by_short more x
+short_flags [] more x = refl
+short_flags (n ∷ names) more x = short_flags names more x
+
+short_placed : (f : Form) (i : ℕ) (labels : List Text) (more : List Rule) (x : ℕ)
+    → arg_by_short (placed_args f i labels ++ more) x ≡ arg_by_short more x
+short_placed f i [] more x = refl
+short_placed f i (label ∷ labels) more x = short_placed f (min (i + 1) usize_max) labels more x
+
+-- what holds of each flag holds of the one of a name
+pub each_flag : (P : Text → Type 0) (names : List Text) (name : Text) → Each P names → is_among names name ≡ true → P name
+each_flag P [] name each e = absurd (true≢false (sym e))
+each_flag P (n ∷ names) name each e = go (bytes_eq n name) refl e (each_flag P names name each.1)
+  where
+    go : (b : Bool) → bytes_eq n name ≡ b → (b || is_among names name) ≡ true → (is_among names name ≡ true → P name) → P name
+    go true is e rec = subst P ((bytes_eq-Decides n name).0 is) each.0
+    go false is e rec = rec e
 
 abbrev pub ForFound : (Text × Text → Type 0) → Option (Text × Text) → Type 0
 ForFound P None = Unit {0}
@@ -112,35 +139,50 @@ module _ (f : Form) (is : IsTaken f) where
   s = shape_of f
 
   abbrev places : List Rule
-  places = placed_args f.numbers 1 f.positions ++ help_flag ∷ []
+  places = placed_args f 1 f.positions ++ help_flag ∷ []
 
   abbrev found : Text → Option (Text × Text)
   found name = find (λ o. bytes_eq o.0 name) f.options
 
-  help_by_long : (name : Text) → arg_by_long places name ≡ cond (bytes_eq (codes "help") name) (Some help_flag) None
-  help_by_long name = long_placed f.numbers 1 f.positions (help_flag ∷ []) name
+  abbrev help_or_none : Text → Option Rule
+  help_or_none name = cond (bytes_eq (codes "help") name) (Some help_flag) None
+
+  -- a flag of this name, or the help flag
+  abbrev flag_or_help : Text → Option Rule
+  flag_or_help name = cond (is_among f.flags name) (Some (flag_arg name)) (help_or_none name)
+
+  help_by_long : (name : Text) → arg_by_long places name ≡ help_or_none name
+  help_by_long name = long_placed f 1 f.positions (help_flag ∷ []) name
       ∙ ap (λ b. cond b (Some help_flag) None) (or-false (bytes_eq (codes "help") name))
 
-  by_long : (name : Text)
-      → arg_by_long rules name ≡ option_map_or (λ o. Some (option_arg f.numbers o)) (found name) (cond (bytes_eq (codes "help") name) (Some help_flag) None)
-  by_long name = long_options f.numbers f.options places name ∙ ap (option_map_or (λ o. Some (option_arg f.numbers o)) (found name)) (help_by_long name)
+  flag_by_long : (name : Text) → arg_by_long (map flag_arg f.flags ++ places) name ≡ flag_or_help name
+  flag_by_long name = long_flags f.flags places name ∙ ap (cond (is_among f.flags name) (Some (flag_arg name))) (help_by_long name)
+
+  by_long : (name : Text) → arg_by_long rules name ≡ option_map_or (λ o. Some (option_arg f o)) (found name) (flag_or_help name)
+  by_long name =
+      long_options f f.options (map flag_arg f.flags ++ places) name
+      ∙ ap (option_map_or (λ o. Some (option_arg f o)) (found name)) (flag_by_long name)
 
   by_short : (x : ℕ) → arg_by_short rules x ≡ cond (104 == x) (Some help_flag) None
-  by_short x = short_options f.numbers f.options places x ∙ (short_placed f.numbers 1 f.positions (help_flag ∷ []) x
-      ∙ ap (λ b. cond b (Some help_flag) None) (or-false (104 == x)))
+  by_short x = short_options f f.options (map flag_arg f.flags ++ places) x ∙ (short_flags f.flags places x
+      ∙ (short_placed f 1 f.positions (help_flag ∷ []) x ∙ ap (λ b. cond b (Some help_flag) None) (or-false (104 == x))))
 
-  -- the name is one of its options'
-  abbrev is_option : Text → Bool
-  is_option name = is_some (label_of f.options name)
+  -- the name is that of one of its options or flags
+  abbrev is_named : Text → Bool
+  is_named name = is_some (label_of f.options name) || is_among f.flags name
 
-  other_by_long : (name : Text) → is_option name ≡ false → arg_by_long rules name ≡ cond (bytes_eq (codes "help") name) (Some help_flag) None
-  other_by_long name e = by_long name ∙ go (found name) e
+  other_by_long : (name : Text) → is_named name ≡ false → arg_by_long rules name ≡ help_or_none name
+  other_by_long name e = by_long name ∙ go (found name) (is_among f.flags name) e
     where
-      go : (o : Option (Text × Text)) → is_some (option_map (λ x. x.1) o) ≡ false
-          → option_map_or (λ x. Some (option_arg f.numbers x)) o (cond (bytes_eq (codes "help") name) (Some help_flag) None)
-          ≡ cond (bytes_eq (codes "help") name) (Some help_flag) None
-      go None e = refl
-      go (Some o) e = absurd (true≢false e)
+      go : (o : Option (Text × Text)) (b : Bool) → (is_some (option_map (λ x. x.1) o) || b) ≡ false
+          → option_map_or (λ x. Some (option_arg f x)) o (cond b (Some (flag_arg name)) (help_or_none name)) ≡ help_or_none name
+      go None false e = refl
+      go None true e = absurd (true≢false e)
+      go (Some o) b e = absurd (true≢false e)
+
+  -- no name is that of an option or a flag where neither is
+  not_named : (name : Text) → (label_of f.options name ≡ None) × (is_among f.flags name ≡ false) → is_named name ≡ false
+  not_named name none = rw (none.0, none.1) refl
 
   -- ---- where the walk stands
 
@@ -152,12 +194,12 @@ module _ (f : Form) (is : IsTaken f) where
   good_rows : (given : Given) → Good (rows_of given) None given
   good_rows given = record { settles = refl; rows_are = refl }
 
-  module _ (long : Option Text) (index : Option ℕ) (label : Text) (known : arg_by_id rules label ≡ Some (text_arg f.numbers long index label)) where
+  module _ (long : Option Text) (index : Option ℕ) (label : Text) (known : arg_by_id rules label ≡ Some (text_arg f long index label)) where
     good_pending : (given : Given) (t : Text) → text_of label given ≡ None → fits f.numbers label t ≡ true
         → Good (rows_of given) (Some (label, t ∷ [])) (given ++ (label, t) ∷ [])
     good_pending given t fresh fit = record {
-      settles = rw known (use_passes f.numbers long index label t given fresh fit);
-      rows_are = rw known (used_fresh f.numbers long index label t given fresh);
+      settles = rw known (use_passes f long index label t given fresh fit);
+      rows_are = rw known (used_fresh f long index label t given fresh);
     }
 
     -- the text is kept
@@ -168,7 +210,7 @@ module _ (f : Form) (is : IsTaken f) where
     -- a text that isn't what it has to be
     misfit_fails : (given : Given) (t : Text) → text_of label given ≡ None → fits f.numbers label t ≡ false
         → is_usage (settle_fault rules false (held (rows_of given) (Some (label, t ∷ [])))) ≡ true
-    misfit_fails given t fresh misfit = rw (known, use_misfit f.numbers long index label t given fresh misfit) refl
+    misfit_fails given t fresh misfit = rw (known, use_misfit f long index label t given fresh misfit) refl
 
     -- that, or a second text of one label
     unfit_fails : (given : Given) (t : Text) → (is_some (text_of label given) || not (fits f.numbers label t)) ≡ true
@@ -177,7 +219,7 @@ module _ (f : Form) (is : IsTaken f) where
       where
         go : (o : Option Text) (b : Bool) → text_of label given ≡ o → fits f.numbers label t ≡ b → (is_some o || not b) ≡ true
             → is_usage (settle_fault rules false (held (rows_of given) (Some (label, t ∷ [])))) ≡ true
-        go (Some u) b there fit e = rw (known, use_twice f.numbers long index label t u given there) refl
+        go (Some u) b there fit e = rw (known, use_twice f long index label t u given there) refl
         go None false fresh fit e = misfit_fails given t fresh fit
         go None true fresh fit e = absurd (true≢false (sym e))
 
@@ -185,9 +227,9 @@ module _ (f : Form) (is : IsTaken f) where
     wanted_fails : (rows : List Row) → is_usage (settle_fault rules false (held rows (Some (label, [])))) ≡ true
     wanted_fails rows = rw known refl
 
-  knows_help : (rows : List Row) (pending : Option (Text × List Text)) (given : Given) → Good rows pending given → KnowsHelp rules rows pending is_option
+  knows_help : (rows : List Row) (pending : Option (Text × List Text)) (given : Given) → Good rows pending given → KnowsHelp rules rows pending is_named
   knows_help rows pending given good =
-      record { no_option = ap is_some is.no_help; by_long = other_by_long; by_short = by_short; asks = rw good.settles refl }
+      record { no_option = not_named (codes "help") is.no_help; by_long = other_by_long; by_short = by_short; asks = rw good.settles refl }
 
   -- ---- the kinds of error
 
@@ -212,7 +254,7 @@ module _ (f : Form) (is : IsTaken f) where
 
   -- the kinds of error, and the rows, go with what the words ask for
   abbrev pub Comes : Meaning → Kinds → List Row → Type 0
-  Comes (asks name texts) kinds rows = (f.name ≡ name) × (kinds ≡ []) × (map (λ l. first_of l rows) (labels f) ≡ map (λ t. Some t) texts)
+  Comes (asks name texts) kinds rows = (f.name ≡ name) × (kinds ≡ []) × (map (λ l. first_of l rows) (labels f) ≡ texts)
   Comes help kinds rows = kinds ≡ kind.DisplayHelp ∷ []
   Comes usage kinds rows = is_usage kinds ≡ true
   Comes version kinds rows = ⊥
@@ -265,16 +307,16 @@ module _ (f : Form) (is : IsTaken f) where
   and_false false = refl
 
   module _ (rows : List Row) (pending : Option (Text × List Text)) (fails : is_usage (settle_fault rules false (held rows pending)) ≡ true)
-      (p : ℕ) (left : List Text) (at : ArePlaced f.numbers rules p left) where
+      (p : ℕ) (left : List Text) (at : ArePlaced f rules p left) where
     abbrev stray : Kinds
     stray = step_fault s p (held rows pending) a_value
 
     stray_fails : is_usage stray ≡ true
     stray_fails = go left at
       where
-        go : (ls : List Text) → ArePlaced f.numbers rules p ls → is_usage stray ≡ true
+        go : (ls : List Text) → ArePlaced f rules p ls → is_usage stray ≡ true
         go [] e = rw e refl
-        go (l ∷ ls) e = rw (e.0, and_false (is_pending (text_arg f.numbers None (Some p) l) pending)) fails
+        go (l ∷ ls) e = rw (e.0, and_false (is_pending (text_arg f None (Some p) l) pending)) fails
 
     closed_fails : (waiting : Waiting) (words : List Text) → is_usage (kinds_at (behind_at waiting rows pending p) words) ≡ true
     closed_fails waiting [] = ends_failing (behind_at waiting rows pending p) fails
@@ -314,12 +356,12 @@ module _ (f : Form) (is : IsTaken f) where
 
   good_end : (rows : List Row) (pending : Option (Text × List Text)) (given : Given) → Good rows pending given
       → Comes (asked f given) (ending_of (held rows pending)) (finished rules (held rows pending))
-  good_end rows pending given good = go (texts_of (labels f) given) (looked (labels f) given)
+  good_end rows pending given good = go (texts_of f (labels f) given) (looked f (labels f) given)
     where
       last : finished rules (held rows pending) ≡ rows_of given
       last = ap (λ r. fold with_default r rules) good.rows_are ∙ defaults_none rules (rows_of given) is.defaults
 
-      go : (o : Option (List Text)) → Looked (labels f) given o
+      go : (o : Option (List (Option Text))) → Looked f (labels f) given o
           → Comes (option_map_or (asks f.name) o usage) (ending_of (held rows pending)) (finished rules (held rows pending))
       go (Some texts) l =
           (refl, rw (good.settles, no_faults rules (settled_rows rules pending rows) is.defaults, last, is.required (rows_of given), l.0) refl, rw last l.1)
@@ -354,14 +396,14 @@ module _ (f : Form) (is : IsTaken f) where
   -- where `clap`'s walk stands, by what the words so far come to
   data Rel : Stand → Walk → Type 0 where
     rel_between : (rows : List Row) (pending : Option (Text × List Text)) (p : ℕ) (given : Given) (left : List Text) → Good rows pending given
-        → ArePlaced f.numbers rules p left
+        → ArePlaced f rules p left
         → Rel (between given left) (open_at rows pending p)
     rel_wants : (long : Option Text) (index : Option ℕ) (label : Text) (p : ℕ) (given : Given) (left : List Text)
-        → arg_by_id rules label ≡ Some (text_arg f.numbers long index label)
-        → text_of label given ≡ None → ArePlaced f.numbers rules p left
+        → arg_by_id rules label ≡ Some (text_arg f long index label)
+        → text_of label given ≡ None → ArePlaced f rules p left
         → Rel (wants label given left) (waiting_at (waits_for label) (rows_of given) (Some (label, [])) p)
     rel_behind : (rows : List Row) (pending : Option (Text × List Text)) (p : ℕ) (given : Given) (left : List Text) → Good rows pending given
-        → ArePlaced f.numbers rules p left
+        → ArePlaced f rules p left
         → Rel (behind given left) (closed_at rows pending p)
 
   -- the rest goes on so
@@ -375,8 +417,8 @@ module _ (f : Form) (is : IsTaken f) where
 
     -- a text that an option wants
     wanted_step : (name : Option Text) (index : Option ℕ) (label : Text) (p : ℕ) (given : Given) (left : List Text)
-        → arg_by_id rules label ≡ Some (text_arg f.numbers name index label)
-        → text_of label given ≡ None → ArePlaced f.numbers rules p left
+        → arg_by_id rules label ≡ Some (text_arg f name index label)
+        → text_of label given ≡ None → ArePlaced f rules p left
         → Stepped (next_stand (wants label given left) word) (waiting_at (waits_for label) (rows_of given) (Some (label, [])) p)
     wanted_step name index label p given left known fresh at = go (is_text word) refl
       where
@@ -410,17 +452,17 @@ module _ (f : Form) (is : IsTaken f) where
     -- a text for the next place, or one too many; `stand` and `at` tell whether it comes behind `--`
     place_step : (stand : Given → List Text → Stand) (at_walk : List Row → Option (Text × List Text) → ℕ → Walk)
         → ((rows : List Row) (pending : Option (Text × List Text)) (p : ℕ) (given : Given) (left : List Text) → Good rows pending given
-        → ArePlaced f.numbers rules p left
+        → ArePlaced f rules p left
         → Rel (stand given left) (at_walk rows pending p))
         → ((rows : List Row) (pending : Option (Text × List Text)) (p : ℕ) (left : List Text) → is_usage (settle_fault rules false (held rows pending)) ≡ true
-        → ArePlaced f.numbers rules p left
+        → ArePlaced f rules p left
         → is_usage (kinds_at (at_walk rows pending p) rest) ≡ true)
         → (rows : List Row) (pending : Option (Text × List Text)) (p : ℕ) (given : Given) (left : List Text) → Good rows pending given
-        → ArePlaced f.numbers rules p left
+        → ArePlaced f rules p left
         → turn_fault s [] (at_walk rows pending p) word ≡ step_fault s p (held rows pending) a_value
-        → ((label : Text) → arg_by_index rules p ≡ Some (text_arg f.numbers None (Some p) label)
+        → ((label : Text) → arg_by_index rules p ≡ Some (text_arg f None (Some p) label)
         → walked rules [] (at_walk rows pending p) word
-        ≡ at_walk (settled_rows rules pending rows) (Some (label, word ∷ [])) (next_position (text_arg f.numbers None (Some p) label) p))
+        ≡ at_walk (settled_rows rules pending rows) (Some (label, word ∷ [])) (next_position (text_arg f None (Some p) label) p))
         → Stepped (placed f stand given left word) (at_walk rows pending p)
     place_step stand at_walk related failing_on rows pending p given [] good at turn walks =
         ends_so usage (at_walk rows pending p) (word ∷ rest) rest (misused (at_walk rows pending p) word rest (rw (turn, at) refl))
@@ -428,10 +470,10 @@ module _ (f : Form) (is : IsTaken f) where
         go (is_some (text_of label given) || not (fits f.numbers label word)) refl
       where
         next : ℕ
-        next = next_position (text_arg f.numbers None (Some p) label) p
+        next = next_position (text_arg f None (Some p) label) p
 
         passing_on : turn_fault s [] (at_walk rows pending p) word ≡ []
-        passing_on = turn ∙ rw (at.0, and_false (is_pending (text_arg f.numbers None (Some p) label) pending), good.settles) refl
+        passing_on = turn ∙ rw (at.0, and_false (is_pending (text_arg f None (Some p) label) pending), good.settles) refl
 
         there : walked rules [] (at_walk rows pending p) word ≡ at_walk (rows_of given) (Some (label, word ∷ [])) next
         there = walks label at.0 ∙ ap (λ r. at_walk r (Some (label, word ∷ [])) next) good.rows_are
@@ -448,23 +490,23 @@ module _ (f : Form) (is : IsTaken f) where
             (failing_on (rows_of given) (Some (label, word ∷ [])) next left (unfit_fails None (Some p) label at.1 given word e) at.2))
 
     behind_step : (rows : List Row) (pending : Option (Text × List Text)) (p : ℕ) (given : Given) (left : List Text) → Good rows pending given
-        → ArePlaced f.numbers rules p left
+        → ArePlaced f rules p left
         → Stepped (placed f behind given left word) (closed_at rows pending p)
     unfolding walked
     behind_step rows pending p given left good at =
         place_step behind closed_at rel_behind (λ r q i ls fails places. closed_fails r q fails i ls places idle rest) rows pending p given left good at refl
-        (λ label known. rw (known, and_false (is_pending (text_arg f.numbers None (Some p) label) pending)) refl)
+        (λ label known. rw (known, and_false (is_pending (text_arg f None (Some p) label) pending)) refl)
 
     text_step : (rows : List Row) (pending : Option (Text × List Text)) (p : ℕ) (given : Given) (left : List Text) → Good rows pending given
-        → ArePlaced f.numbers rules p left → is_text word ≡ true
+        → ArePlaced f rules p left → is_text word ≡ true
         → Stepped (placed f between given left word) (open_at rows pending p)
     text_step rows pending p given left good at e =
         place_step between open_at rel_between (λ r q i ls fails places. failing r q fails i ls places rest) rows pending p given left good at
         (text_turn s [] rows pending p word refl refl e)
-        (λ label known. text_walked s [] rows pending p word refl e ∙ rw (known, and_false (is_pending (text_arg f.numbers None (Some p) label) pending)) refl)
+        (λ label known. text_walked s [] rows pending p word refl e ∙ rw (known, and_false (is_pending (text_arg f None (Some p) label) pending)) refl)
 
     module _ (rows : List Row) (pending : Option (Text × List Text)) (p : ℕ) (given : Given) (left : List Text) (good : Good rows pending given)
-        (at : ArePlaced f.numbers rules p left) where
+        (at : ArePlaced f rules p left) where
       abbrev here : Walk
       here = open_at rows pending p
 
@@ -476,19 +518,19 @@ module _ (f : Form) (is : IsTaken f) where
       call_step : is_help_flag word ≡ true → Stepped (ended help) here
       call_step e =
           ends_so help here (word ∷ rest) rest
-          (helps here word rest (help_turn s [] rows pending p word is_option refl refl (knows_help rows pending given good) e))
+          (helps here word rest (help_turn s [] rows pending p word is_named refl refl (knows_help rows pending given good) e))
 
-      unknown_step : is_option (long_name word) ≡ false → is_text word ≡ false → is_dashes word ≡ false → is_help_flag word ≡ false → Stepped (ended usage) here
+      unknown_step : is_named (long_name word) ≡ false → is_text word ≡ false → is_dashes word ≡ false → is_help_flag word ≡ false → Stepped (ended usage) here
       unknown_step own no_text no_dashes no_call = ends_so usage here (word ∷ rest) rest
           (misused here word rest
-          (other_turn s [] rows pending p word is_option refl refl (knows_help rows pending given good) own no_text no_call
+          (other_turn s [] rows pending p word is_named refl refl (knows_help rows pending given good) own no_text no_call
           (flip_bytes (codes "--") word false no_dashes)))
 
   -- what follows a second option of one label
-  again_fails : (name : Option Text) (index : Option ℕ) (label : Text) → arg_by_id rules label ≡ Some (text_arg f.numbers name index label)
+  again_fails : (name : Option Text) (index : Option ℕ) (label : Text) → arg_by_id rules label ≡ Some (text_arg f name index label)
       → (given : Given) (u : Text)
       → text_of label given ≡ Some u
-      → (p : ℕ) (left : List Text) → ArePlaced f.numbers rules p left → (words : List Text)
+      → (p : ℕ) (left : List Text) → ArePlaced f rules p left → (words : List Text)
       → is_usage (kinds_at (waiting_at (waits_for label) (rows_of given) (Some (label, [])) p) words) ≡ true
   again_fails name index label known given u there p left at [] =
       ends_failing (waiting_at (waits_for label) (rows_of given) (Some (label, [])) p) (wanted_fails name index label known (rows_of given))
@@ -510,7 +552,7 @@ module _ (f : Form) (is : IsTaken f) where
 
   module _ (rest : List Text) (goes : Goes rest) (c : ℕ) (cs : Text) (rows : List Row) (pending : Option (Text × List Text)) (p : ℕ) (given : Given)
       (left : List Text)
-      (good : Good rows pending given) (at : ArePlaced f.numbers rules p left) where
+      (good : Good rows pending given) (at : ArePlaced f rules p left) where
     abbrev word : Text
     word = 45 ∷ 45 ∷ c ∷ cs
 
@@ -527,13 +569,13 @@ module _ (f : Form) (is : IsTaken f) where
     Led stand = Reached (at_end f (fold next_stand stand rest)) from (word ∷ rest)
 
     module _ (o : Text × Text) (is_found : found (name_in (c ∷ cs)) ≡ Some o) where
-      named : arg_by_long rules (name_in (c ∷ cs)) ≡ Some (option_arg f.numbers o)
+      named : arg_by_long rules (name_in (c ∷ cs)) ≡ Some (option_arg f o)
       named =
           by_long (name_in (c ∷ cs))
-          ∙ ap (λ m. option_map_or (λ x. Some (option_arg f.numbers x)) m (cond (bytes_eq (codes "help") (name_in (c ∷ cs))) (Some help_flag) None)) is_found
+          ∙ ap (λ m. option_map_or (λ x. Some (option_arg f x)) m (flag_or_help (name_in (c ∷ cs)))) is_found
 
-      labelled : arg_by_id rules o.1 ≡ Some (option_arg f.numbers o)
-      labelled = each_found (λ x. arg_by_id rules x.1 ≡ Some (option_arg f.numbers x)) (λ x. bytes_eq x.0 (name_in (c ∷ cs))) f.options o is.options is_found
+      labelled : arg_by_id rules o.1 ≡ Some (option_arg f o)
+      labelled = each_found (λ x. arg_by_id rules x.1 ≡ Some (option_arg f x)) (λ x. bytes_eq x.0 (name_in (c ∷ cs))) f.options o is.options is_found
 
       option_fits : has_equals ≡ false → turn_fault s [] from word ≡ []
       option_fits e = rw (e, named, good.settles) refl
@@ -559,8 +601,8 @@ module _ (f : Form) (is : IsTaken f) where
           go : (m : Option Text) (b : Bool) → text_of o.1 given ≡ m → fits f.numbers o.1 after_equals ≡ b
               → Led (cond (is_some m || not b) (ended usage) (between (given ++ (o.1, after_equals) ∷ []) left))
           go None true fresh fit = passes _ from (open_at (rows_of (given ++ (o.1, after_equals) ∷ [])) None p) word rest
-              (rw (e, named, good.settles, good.rows_are, use_passes f.numbers (Some o.0) None o.1 after_equals given fresh fit) refl)
-              (rw (e, named, good.rows_are, used_fresh f.numbers (Some o.0) None o.1 after_equals given fresh) refl)
+              (rw (e, named, good.settles, good.rows_are, use_passes f (Some o.0) None o.1 after_equals given fresh fit) refl)
+              (rw (e, named, good.rows_are, used_fresh f (Some o.0) None o.1 after_equals given fresh) refl)
               (goes _ _ (rel_between _ None p (given ++ (o.1, after_equals) ∷ []) left (good_rows (given ++ (o.1, after_equals) ∷ [])) at))
           go None false fresh misfit = ends_so usage from (word ∷ rest) rest
               (misused from word rest (rw (
@@ -568,29 +610,54 @@ module _ (f : Form) (is : IsTaken f) where
                 named,
                 good.settles,
                 good.rows_are,
-                use_misfit f.numbers
-                    (Some o.0) None o.1 after_equals given fresh misfit,
+                use_misfit f (Some o.0) None o.1 after_equals given fresh misfit,
               ) refl))
           go (Some u) b there fit = ends_so usage from (word ∷ rest) rest
-              (misused from word rest (rw (e, named, good.settles, good.rows_are, use_twice f.numbers (Some o.0) None o.1 after_equals u given there) refl))
+              (misused from word rest (rw (e, named, good.settles, good.rows_are, use_twice f (Some o.0) None o.1 after_equals u given there) refl))
 
-    long_step : is_text word ≡ false → is_dashes word ≡ false → is_help_flag word ≡ false → Led (after_part f given left word (option_part f.options (c ∷ cs)))
-    long_step no_text no_dashes no_call = go (found (name_in (c ∷ cs))) has_equals refl refl
+    abbrev own_name : Text
+    own_name = name_in (c ∷ cs)
+
+    module _ (is_none : found own_name ≡ None) (own : is_among f.flags own_name ≡ true) where
+      flag_named : arg_by_long rules own_name ≡ Some (flag_arg own_name)
+      flag_named = by_long own_name ∙ rw (is_none, own) refl
+
+      -- a flag has no text
+      flag_refused : has_equals ≡ true → Led (ended usage)
+      flag_refused e = ends_so usage from (word ∷ rest) rest (misused from word rest (rw (e, flag_named) refl))
+
+      flag_step : has_equals ≡ false → Led (kept f own_name [] given (between (given ++ (own_name, []) ∷ []) left))
+      unfolding walked
+      flag_step e = rw (each_flag (λ n. fits f.numbers n [] ≡ true) f.flags own_name is.flags own) (go (text_of own_name given) refl)
+        where
+          go : (m : Option Text) → text_of own_name given ≡ m → Led (cond (is_some m || false) (ended usage) (between (given ++ (own_name, []) ∷ []) left))
+          go None fresh = passes _ from (open_at (rows_of (given ++ (own_name, []) ∷ [])) None p) word rest
+              (rw (e, flag_named, good.settles, good.rows_are, flag_passes own_name given fresh) refl)
+              (rw (e, flag_named, good.rows_are, flagged_fresh own_name given fresh) refl)
+              (goes _ _ (rel_between _ None p (given ++ (own_name, []) ∷ []) left (good_rows (given ++ (own_name, []) ∷ [])) at))
+          go (Some u) there = ends_so usage from (word ∷ rest) rest
+              (misused from word rest (rw (e, flag_named, good.settles, good.rows_are, flag_twice own_name u given there) refl))
+
+    long_step : is_text word ≡ false → is_dashes word ≡ false → is_help_flag word ≡ false → Led (after_part f given left word (named_part f (c ∷ cs)))
+    long_step no_text no_dashes no_call = go (found own_name) has_equals (is_among f.flags own_name) refl refl refl
       where
-        go : (m : Option (Text × Text)) (b : Bool) → found (name_in (c ∷ cs)) ≡ m → has_equals ≡ b
+        go : (m : Option (Text × Text)) (b h : Bool) → found own_name ≡ m → has_equals ≡ b → is_among f.flags own_name ≡ h
             → Led (after_part f given left word
-            (option_map_or (λ label. option_map_or (valued label) (cond b (Some after_equals) None) (option label)) (option_map (λ x. x.1) m) unknown))
-        go None b e eq =
+            (option_map_or (λ label. option_map_or (valued label) (cond b (Some after_equals) None) (option label)) (option_map (λ x. x.1) m)
+            (cond (h && not (is_some (cond b (Some after_equals) None))) (flag own_name) unknown)))
+        go None b false e eq own =
             unknown_step rest goes word rows pending p given left good at
-            (ap (λ (x : Option (Text × Text)). is_some (option_map (λ y. y.1) x)) e) no_text no_dashes no_call
-        go (Some o) false e eq = option_step o e eq
-        go (Some o) true e eq = valued_step o e eq
+            (ap₂ (λ (x : Option (Text × Text)) (y : Bool). is_some (option_map (λ z. z.1) x) || y) e own) no_text no_dashes no_call
+        go None false true e eq own = flag_step e own eq
+        go None true true e eq own = flag_refused e own eq
+        go (Some o) false h e eq own = option_step o e eq
+        go (Some o) true h e eq own = valued_step o e eq
 
   -- a word that begins with a hyphen, is not `--` and asks for no help
   hyphen_step : (rest : List Text) → Goes rest → (word : Text) → View word
       → (rows : List Row) (pending : Option (Text × List Text)) (p : ℕ) (given : Given) (left : List Text)
-      → Good rows pending given → ArePlaced f.numbers rules p left → is_text word ≡ false → is_dashes word ≡ false → is_help_flag word ≡ false
-      → Reached (at_end f (fold next_stand (after_part f given left word (option_map_or (option_part f.options) (after_dashes word) unknown)) rest))
+      → Good rows pending given → ArePlaced f rules p left → is_text word ≡ false → is_dashes word ≡ false → is_help_flag word ≡ false
+      → Reached (at_end f (fold next_stand (after_part f given left word (option_map_or (named_part f) (after_dashes word) unknown)) rest))
       (open_at rows pending p) (word ∷ rest)
   hyphen_step rest goes _ no_byte rows pending p given left good at t d c = absurd (true≢false t)
   hyphen_step rest goes _ (a_letter x more e) rows pending p given left good at t d c =
@@ -600,7 +667,7 @@ module _ (f : Form) (is : IsTaken f) where
   hyphen_step rest goes _ (a_long x xs) rows pending p given left good at t d c = long_step rest goes x xs rows pending p given left good at t d c
   hyphen_step rest goes _ (a_short y ys e) rows pending p given left good at t d c =
       rw e (unknown_step rest goes (45 ∷ y ∷ ys) rows pending p given left good at
-      (ap is_option (ap (λ (m : Option (Text × Option Text)). option_map_or (λ q. q.0) m []) (long_short y ys e)) ∙ ap is_some is.no_empty) t d c)
+      (ap is_named (ap (λ (m : Option (Text × Option Text)). option_map_or (λ q. q.0) m []) (long_short y ys e)) ∙ not_named [] is.no_empty) t d c)
 
   -- ---- all the words
 
@@ -612,7 +679,7 @@ module _ (f : Form) (is : IsTaken f) where
       go : (a b c : Bool) → is_text word ≡ a → is_dashes word ≡ b → is_help_flag word ≡ c
           → Reached (at_end f
           (fold next_stand
-          (after_part f given left word (cond a text (cond b dashes (cond c call (option_map_or (option_part f.options) (after_dashes word) unknown))))) rest))
+          (after_part f given left word (cond a text (cond b dashes (cond c call (option_map_or (named_part f) (after_dashes word) unknown))))) rest))
           (open_at rows pending p) (word ∷ rest)
       go true b c t d h = text_step rest goes word rows pending p given left good at t
       go false true c t d h = dashes_step rest goes word rows pending p given left good at d
@@ -620,7 +687,7 @@ module _ (f : Form) (is : IsTaken f) where
       go false false false t d h = hyphen_step rest goes word (view word) rows pending p given left good at t d h
 
   ends_wanting : (label : Text) (p : ℕ) (given : Given) (name : Option Text) (index : Option ℕ) → arg_by_id rules label
-      ≡ Some (text_arg f.numbers name index label)
+      ≡ Some (text_arg f name index label)
       → Reached usage (waiting_at (waits_for label) (rows_of given) (Some (label, [])) p) []
   ends_wanting label p given name index known =
       ends_failing (waiting_at (waits_for label) (rows_of given) (Some (label, [])) p) (wanted_fails name index label known (rows_of given))

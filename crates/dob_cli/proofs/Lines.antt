@@ -8,19 +8,20 @@ use Rattle.std.specs.Str.{bytes_eq}
 use Rattle.std.proofs.lemmas.Slice.Eq.{bytes_eq-Decides}
 use Rattle.std.proofs.lemmas.Bool.Decides.{Decides-eqb}
 use Rattle.clap.specs.Lexer.{has_byte}
-use Rattle.dob_cli.specs.Forms.{Form, Text, build_form, check_form, count_form, forms, labels, line_form, look_form, moves_form, probe_form, show_form, value_form}
+use Rattle.dob_cli.specs.Forms.{is_among, is_needed}
+use Rattle.dob_cli.specs.Forms.{Form, Text, build_form, check_form, count_form, forms, labels, line_form, look_form, moves_form, probe_form, show_form, stats_form, value_form}
 use Rattle.dob_cli.specs.Words.{Given, Meaning, Stand, after_dashes, after_part, after_word, asked, asks, at_end, behind, between, call, dashes}
-use Rattle.dob_cli.specs.Words.{ended, fits, has_topic, help, meaning_of_topic}
-use Rattle.dob_cli.specs.Words.{is_dashes, is_help_flag, is_text, label_of, meaning_of, meaning_of_form, meaning_of_other, name_in, option, option_part}
+use Rattle.dob_cli.specs.Words.{ended, fits, flag, has_topic, help, kept, meaning_of_topic, named_part}
+use Rattle.dob_cli.specs.Words.{is_dashes, is_help_flag, is_text, label_of, meaning_of, meaning_of_form, meaning_of_other, name_in, option}
 use Rattle.dob_cli.specs.Words.{part_of, placed, text, text_of, texts_of, unknown, usage, valued, version, wanted, wants}
-use Rattle.dob_cli.specs.Lines.{AreNew, Behind, Gives, IsAmong, IsLine, by_dashes, by_option, by_place, by_value, next, none, nothing}
-use Rattle.dob_cli.specs.Shapes.{AreFit}
+use Rattle.dob_cli.specs.Lines.{AreNew, Behind, Gives, IsAmong, IsLine, by_dashes, by_flag, by_option, by_place, by_value, next, none, nothing}
+use Rattle.dob_cli.specs.Shapes.{AreFit, IsFit}
 use Rattle.dob_cli.specs.Readings.{ComesFromLine, IsReadingOf, SomeLine}
 use Rattle.dob_cli.specs.declared.command.Reading.{Reading}
 use Rattle.dob_cli.specs.declared.command.Reading.TheVariants as reading
 use Rattle.dob_cli.proofs.Lexing.{hyphen_first, before_none, take_one}
 use Rattle.dob_cli.proofs.Texts.{Each, kept_both}
-use Rattle.dob_cli.proofs.FormWords.{each_found}
+use Rattle.dob_cli.proofs.FormWords.{each_flag, each_found}
 
 -- ---- options' words
 
@@ -52,7 +53,7 @@ abbrev asked_name : Meaning → Text
 asked_name (asks name texts) = name
 asked_name _ = []
 
-abbrev asked_texts : Meaning → List Text
+abbrev asked_texts : Meaning → List (Option Text)
 asked_texts (asks name texts) = texts
 asked_texts _ = []
 
@@ -66,7 +67,7 @@ found_passes p (x ∷ xs) o e = go (p x) refl e (found_passes p xs o)
 
 -- ---- what is asked for is given by the words
 
-module _ (f : Form) (name : Text) (texts : List Text) where
+module _ (f : Form) (name : Text) (texts : List (Option Text)) where
   abbrev next_stand : Stand → Text → Stand
   next_stand = after_word f
 
@@ -157,9 +158,9 @@ module _ (f : Form) (name : Text) (texts : List Text) where
         go false t e = not_usage (ended_told usage rest e)
         go true t e = by_fit (fits f.numbers label word) refl t e
 
-    option_told : (before : Given) (left : List Text) (r : Text) → codes "--" ++ r ≡ word → Led (after_part f before left word (option_part f.options r))
+    named_told : (before : Given) (left : List Text) (r : Text) → codes "--" ++ r ≡ word → Led (after_part f before left word (named_part f r))
         → Told (between before left) (word ∷ rest)
-    option_told before left r is e = go (label_of f.options (name_in r)) (has_byte 61 r) refl refl e
+    named_told before left r is e = go (label_of f.options (name_in r)) (has_byte 61 r) (is_among f.flags (name_in r)) refl refl refl e
       where
         behind_equals : Text
         behind_equals = after_first (λ x. x == 61) r
@@ -189,26 +190,46 @@ module _ (f : Form) (name : Text) (texts : List Text) where
               came_more label behind_equals before q.0 both.0 both.1 q.2,
             )
 
-        go : (o : Option Text) (b : Bool) → label_of f.options (name_in r) ≡ o → has_byte 61 r ≡ b
+        with_flag : is_among f.flags r ≡ true → (b : Bool) → (is_some (text_of r before) || not (fits f.numbers r [])) ≡ b
+            → Led (cond b (ended usage) (between (before ++ (r, []) ∷ []) left)) → Told (between before left) (word ∷ rest)
+        with_flag own true h e = not_usage (ended_told usage rest e)
+        with_flag own false h e =
+            let both = kept_both (text_of r before) (fits f.numbers r []) h in
+            let q : Told (between (before ++ (r, []) ∷ []) left) rest = rec (between (before ++ (r, []) ∷ []) left) e in (
+              (r, []) ∷ q.0,
+              subst (λ w. Gives f left (w ∷ rest) ((r, []) ∷ q.0)) is (by_flag r left rest q.0 own q.1),
+              came_more r [] before q.0 both.0 both.1 q.2,
+            )
+
+        -- without `=` all is the name
+        all_name : has_byte 61 r ≡ false → name_in r ≡ r
+        all_name h = before_none r h
+
+        go : (o : Option Text) (b own : Bool) → label_of f.options (name_in r) ≡ o → has_byte 61 r ≡ b → is_among f.flags (name_in r) ≡ own
             → Led (after_part f before left word
-            (option_map_or (λ label. option_map_or (valued label) (cond b (Some behind_equals) None) (option label)) o unknown))
+            (option_map_or (λ label. option_map_or (valued label) (cond b (Some behind_equals) None) (option label)) o
+            (cond (own && not (is_some (cond b (Some behind_equals) None))) (flag (name_in r)) unknown)))
             → Told (between before left) (word ∷ rest)
-        go None b known h e = not_usage (ended_told usage rest e)
-        go (Some label) false known h e = with_option label (ap (label_of f.options) (sym (before_none r h)) ∙ known) (text_of label before) refl e
-        go (Some label) true known h e = with_value label known (equals_split r h) (is_some (text_of label before) || not
+        go None b false known h own e = not_usage (ended_told usage rest e)
+        go None true true known h own e = not_usage (ended_told usage rest e)
+        go None false true known h own e =
+            with_flag (ap (is_among f.flags) (sym (all_name h)) ∙ own) (is_some (text_of r before) || not (fits f.numbers r [])) refl
+            (subst (λ n. Led (kept f n [] before (between (before ++ (n, []) ∷ []) left))) (all_name h) e)
+        go (Some label) false b known h own e =
+            with_option label (ap (label_of f.options) (sym (all_name h)) ∙ known) (text_of label before) refl e
+        go (Some label) true b known h own e = with_value label known (equals_split r h) (is_some (text_of label before) || not
             (fits f.numbers label behind_equals)) refl e
 
     hyphen_told : (before : Given) (left : List Text) (o : Option Text) → after_dashes word ≡ o
-        → Led (after_part f before left word (option_map_or (option_part f.options) o unknown)) → Told (between before left) (word ∷ rest)
+        → Led (after_part f before left word (option_map_or (named_part f) o unknown)) → Told (between before left) (word ∷ rest)
     hyphen_told before left None is e = not_usage (ended_told usage rest e)
-    hyphen_told before left (Some r) is e = option_told before left r (dashes_of word r is) e
+    hyphen_told before left (Some r) is e = named_told before left r (dashes_of word r is) e
 
     between_told : (before : Given) (left : List Text) → Led (next_stand (between before left) word) → Told (between before left) (word ∷ rest)
     between_told before left e = go (is_text word) (is_dashes word) (is_help_flag word) refl refl e
       where
         go : (a b c : Bool) → is_text word ≡ a → is_dashes word ≡ b
-            → Led (after_part f before left word (cond a text (cond b dashes (cond c call (option_map_or (option_part f.options)
-            (after_dashes word) unknown)))))
+            → Led (after_part f before left word (cond a text (cond b dashes (cond c call (option_map_or (named_part f) (after_dashes word) unknown)))))
             → Told (between before left) (word ∷ rest)
         go true b c t d e = placed_told before left t e
         go false true c t d e =
@@ -232,18 +253,19 @@ module _ (f : Form) (name : Text) (texts : List Text) where
 
 -- ---- and what a line gives is asked for
 
--- the options' words are read as such
+-- the words of options and flags are read as such
 pub record IsSpelled (f : Form) : Type 0 where
-  pub by_name : Each (λ o. part_of f.options (codes "--" ++ o.0) ≡ option o.1) f.options
-  pub by_value : Each (λ o. (t : Text) → part_of f.options (codes "--" ++ o.0 ++ 61 ∷ t) ≡ valued o.1 t) f.options
+  pub by_name : Each (λ o. part_of f (codes "--" ++ o.0) ≡ option o.1) f.options
+  pub by_value : Each (λ o. (t : Text) → part_of f (codes "--" ++ o.0 ++ 61 ∷ t) ≡ valued o.1 t) f.options
+  pub by_flag : Each (λ n. part_of f (codes "--" ++ n) ≡ flag n) f.flags
 
 -- a word with two hyphens
-pub long_part : (options : List (Text × Text)) (c : ℕ) (cs : Text) → bytes_eq (codes "help") (c ∷ cs) ≡ false
-    → part_of options (45 ∷ 45 ∷ c ∷ cs) ≡ option_part options (c ∷ cs)
-long_part options c cs differs = rw (hyphen_first (c ∷ cs), differs) refl
+pub long_part : (f : Form) (c : ℕ) (cs : Text) → bytes_eq (codes "help") (c ∷ cs) ≡ false
+    → part_of f (45 ∷ 45 ∷ c ∷ cs) ≡ named_part f (c ∷ cs)
+long_part f c cs differs = rw (hyphen_first (c ∷ cs), differs) refl
 
-dashes_part : (options : List (Text × Text)) → part_of options (codes "--") ≡ dashes
-dashes_part options = rw (hyphen_first []) refl
+dashes_part : (f : Form) → part_of f (codes "--") ≡ dashes
+dashes_part f = rw (hyphen_first []) refl
 
 module _ (f : Form) (is : IsSpelled f) where
   abbrev after : Stand → Text → Stand
@@ -251,20 +273,20 @@ module _ (f : Form) (is : IsSpelled f) where
 
   -- an option is one of the form's
   known_option : (name label : Text) → label_of f.options name ≡ Some label
-      → (part_of f.options (codes "--" ++ name) ≡ option label) × ((t : Text) → part_of f.options (codes "--" ++ name ++ 61 ∷ t) ≡ valued label t)
+      → (part_of f (codes "--" ++ name) ≡ option label) × ((t : Text) → part_of f (codes "--" ++ name ++ 61 ∷ t) ≡ valued label t)
   known_option name label e = go (find (λ o. bytes_eq o.0 name) f.options) refl e
     where
       go : (m : Option (Text × Text)) → find (λ o. bytes_eq o.0 name) f.options ≡ m → option_map (λ o. o.1) m ≡ Some label
-          → (part_of f.options (codes "--" ++ name) ≡ option label) × ((t : Text) → part_of f.options (codes "--" ++ name ++ 61 ∷ t) ≡ valued label t)
+          → (part_of f (codes "--" ++ name) ≡ option label) × ((t : Text) → part_of f (codes "--" ++ name ++ 61 ∷ t) ≡ valued label t)
       go None found e = absurd (true≢false (sym (ap is_some e)))
       go (Some o) found e =
           let name_is : o.0 ≡ name = (bytes_eq-Decides o.0 name).0 (found_passes (λ x. bytes_eq x.0 name) f.options o found) in
           let label_is : o.1 ≡ label = ap (λ (m : Option Text). unwrap_or m []) e in (
-            subst (λ n. part_of f.options (codes "--" ++ n) ≡ option label) name_is
-                (each_found (λ x. part_of f.options (codes "--" ++ x.0) ≡ option x.1) (λ x. bytes_eq x.0 name) f.options o is.by_name found
+            subst (λ n. part_of f (codes "--" ++ n) ≡ option label) name_is
+                (each_found (λ x. part_of f (codes "--" ++ x.0) ≡ option x.1) (λ x. bytes_eq x.0 name) f.options o is.by_name found
                 ∙ ap option label_is),
-            λ t. subst (λ n. part_of f.options (codes "--" ++ n ++ 61 ∷ t) ≡ valued label t) name_is
-                (each_found (λ x. (u : Text) → part_of f.options (codes "--" ++ x.0 ++ 61 ∷ u) ≡ valued x.1 u)
+            λ t. subst (λ n. part_of f (codes "--" ++ n ++ 61 ∷ t) ≡ valued label t) name_is
+                (each_found (λ x. (u : Text) → part_of f (codes "--" ++ x.0 ++ 61 ∷ u) ≡ valued x.1 u)
                 (λ x. bytes_eq x.0 name) f.options o is.by_value found t ∙ ap (λ l. valued l t) label_is),
           )
 
@@ -286,10 +308,14 @@ module _ (f : Form) (is : IsSpelled f) where
   given_asked _ _ _ before (by_value name label t left words given known more) new =
       rw ((known_option name label known).1 t, new.0, new.1)
       (given_asked left words given (before ++ (label, t) ∷ []) more new.2 ∙ ap (asked f) (append_assoc before ((label, t) ∷ []) given))
-  given_asked _ _ _ before (by_dashes left words given more) new = rw (dashes_part f.options) (behind_asked left words given before more new)
+  given_asked _ _ _ before (by_flag name left words given own more) new =
+      rw (each_flag (λ n. part_of f (codes "--" ++ n) ≡ flag n) f.flags name is.by_flag own, new.0, new.1)
+      (given_asked left words given (before ++ (name, []) ∷ []) more new.2 ∙ ap (asked f) (append_assoc before ((name, []) ∷ []) given))
+  given_asked _ _ _ before (by_dashes left words given more) new = rw (dashes_part f) (behind_asked left words given before more new)
 
   -- the words of a line ask for its texts
-  line_asked : (rest texts : List Text) (given : Given) → Gives f f.positions rest given → AreNew f [] given → texts_of (labels f) given ≡ Some texts
+  line_asked : (rest : List Text) (texts : List (Option Text)) (given : Given) → Gives f f.positions rest given → AreNew f [] given
+      → texts_of f (labels f) given ≡ Some texts
       → meaning_of_form f rest ≡ asks f.name texts
   line_asked rest texts given gives new complete =
       given_asked f.positions rest given [] gives new ∙ ap (λ o. option_map_or (asks f.name) o usage) complete
@@ -308,69 +334,101 @@ module _ (f : Form) (is : IsSpelled f) where
           subst (λ l. fits f.numbers l t ≡ true) ((bytes_eq-Decides g.0 label).0 same) (subst (λ u. fits f.numbers g.0 u ≡ true) is_t new.1)
       go false same e rec = rec e
 
-  texts_fit : (given : Given) → AreNew f [] given → (ls texts : List Text) → texts_of ls given ≡ Some texts → AreFit f.numbers ls texts
-  texts_fit given new [] texts e = tt
-  texts_fit given new (l ∷ ls) texts e = go (text_of l given) (texts_of ls given) refl refl e (texts_fit given new ls)
+  -- what was given for a label is fit, and so is nothing where the label may be left out
+  text_fits : (given : Given) → AreNew f [] given → (l : Text) (o : Option Text) → text_of l given ≡ o → (is_needed f l && not (is_some o)) ≡ false
+      → IsFit f l o
+  text_fits given new l None is free = and_true (is_needed f l) free
     where
-      go : (o : Option Text) (more : Option (List Text)) → text_of l given ≡ o → texts_of ls given ≡ more
-          → option_and_then (λ t. option_map (λ ts. t ∷ ts) more) o ≡ Some texts
-          → ((ts : List Text) → texts_of ls given ≡ Some ts → AreFit f.numbers ls ts) → AreFit f.numbers (l ∷ ls) texts
-      go None more is are e rec = absurd (true≢false (sym (ap is_some e)))
-      go (Some t) None is are e rec = absurd (true≢false (sym (ap is_some e)))
-      go (Some t) (Some ts) is are e rec =
-          subst (AreFit f.numbers (l ∷ ls)) (ap (λ (m : Option (List Text)). unwrap_or m []) e) (given_fits given [] new l t is, rec ts are)
+      and_true : (b : Bool) → (b && true) ≡ false → b ≡ false
+      and_true false e = refl
+      and_true true e = e
+  text_fits given new l (Some t) is free = given_fits given [] new l t is
+
+  texts_fit : (given : Given) → AreNew f [] given → (ls : List Text) (texts : List (Option Text)) → texts_of f ls given ≡ Some texts → AreFit f ls texts
+  texts_fit given new [] texts e = tt
+  texts_fit given new (l ∷ ls) texts e =
+      go (is_needed f l && not (is_some (text_of l given))) (texts_of f ls given) refl refl e (texts_fit given new ls)
+    where
+      go : (b : Bool) (more : Option (List (Option Text))) → (is_needed f l && not (is_some (text_of l given))) ≡ b → texts_of f ls given ≡ more
+          → cond b None (option_map (λ ts. text_of l given ∷ ts) more) ≡ Some texts
+          → ((ts : List (Option Text)) → texts_of f ls given ≡ Some ts → AreFit f ls ts) → AreFit f (l ∷ ls) texts
+      go true more is are e rec = absurd (true≢false (sym (ap is_some e)))
+      go false None is are e rec = absurd (true≢false (sym (ap is_some e)))
+      go false (Some ts) is are e rec =
+          subst (AreFit f (l ∷ ls)) (ap (λ (m : Option (List (Option Text))). unwrap_or m []) e)
+          (text_fits given new l (text_of l given) refl is, rec ts are)
 
 -- each text of a line is what it has to be
-pub line_fits : (f : Form) (words texts : List Text) → IsSpelled f → IsLine f words texts → AreFit f.numbers (labels f) texts
+pub line_fits : (f : Form) (words : List Text) (texts : List (Option Text)) → IsSpelled f → IsLine f words texts → AreFit f (labels f) texts
 line_fits f words texts is line = texts_fit f is line.given line.new (labels f) texts line.complete
 
 -- ---- the program's forms
 
 pub value_spelled : IsSpelled value_form
-value_spelled = record { by_name = tt; by_value = tt }
+value_spelled = record { by_name = tt; by_value = tt; by_flag = tt }
 
 pub count_spelled : IsSpelled count_form
-count_spelled =
-    record {
-      by_name = (long_part count_form.options 115 (codes "et") refl, tt);
-      by_value = (λ t. long_part count_form.options 115 (codes "et=" ++ t) refl, tt);
-    }
+count_spelled = record {
+  by_name = (long_part count_form 115 (codes "et") refl, tt);
+  by_value = (λ t. long_part count_form 115 (codes "et=" ++ t) refl, tt);
+  by_flag = tt;
+}
 
 pub build_spelled : IsSpelled build_form
-build_spelled =
-    record {
-      by_name = (
-        long_part build_form.options 115 (codes "et") refl,
-        (long_part build_form.options 110 (codes "odes") refl, (long_part build_form.options 111 (codes "ut") refl, tt)),
-      );
-      by_value = (
-        λ t. long_part build_form.options 115 (codes "et=" ++ t) refl,
-        (λ t. long_part build_form.options 110 (codes "odes=" ++ t) refl, (λ t. long_part build_form.options 111 (codes "ut=" ++ t) refl, tt)),
-      );
-    }
+build_spelled = record {
+  by_name = (long_part build_form 115 (codes "et") refl, (long_part build_form 110 (codes "odes") refl, (long_part build_form 111 (codes "ut") refl, tt)));
+  by_value = (λ t. long_part build_form 115 (codes "et=" ++ t) refl, (λ t. long_part build_form 110 (codes "odes=" ++ t) refl, (λ t. long_part build_form 111 (codes "ut=" ++ t) refl, tt)));
+  by_flag = tt;
+}
 
 pub probe_spelled : IsSpelled probe_form
-probe_spelled =
-    record { by_name = (long_part probe_form.options 100 (codes "b") refl, tt); by_value = (λ t. long_part probe_form.options 100 (codes "b=" ++ t) refl, tt) }
+probe_spelled = record {
+  by_name = (long_part probe_form 100 (codes "b") refl, tt);
+  by_value = (λ t. long_part probe_form 100 (codes "b=" ++ t) refl, tt);
+  by_flag = tt;
+}
 
 pub line_spelled : IsSpelled line_form
-line_spelled =
-    record { by_name = (long_part line_form.options 100 (codes "b") refl, tt); by_value = (λ t. long_part line_form.options 100 (codes "b=" ++ t) refl, tt) }
+line_spelled = record {
+  by_name = (long_part line_form 100 (codes "b") refl, tt);
+  by_value = (λ t. long_part line_form 100 (codes "b=" ++ t) refl, tt);
+  by_flag = (long_part line_form 110 (codes "umbered") refl, tt);
+}
 
 pub check_spelled : IsSpelled check_form
-check_spelled =
-    record { by_name = (long_part check_form.options 100 (codes "b") refl, tt); by_value = (λ t. long_part check_form.options 100 (codes "b=" ++ t) refl, tt) }
+check_spelled = record {
+  by_name = (long_part check_form 100 (codes "b") refl, tt);
+  by_value = (λ t. long_part check_form 100 (codes "b=" ++ t) refl, tt);
+  by_flag = tt;
+}
 
 pub look_spelled : IsSpelled look_form
-look_spelled =
-    record { by_name = (long_part look_form.options 100 (codes "b") refl, tt); by_value = (λ t. long_part look_form.options 100 (codes "b=" ++ t) refl, tt) }
+look_spelled = record {
+  by_name = (long_part look_form 100 (codes "b") refl, tt);
+  by_value = (λ t. long_part look_form 100 (codes "b=" ++ t) refl, tt);
+  by_flag = tt;
+}
 
 pub show_spelled : IsSpelled show_form
-show_spelled = record { by_name = tt; by_value = tt }
+show_spelled = record {
+  by_name = (long_part show_form 100 (codes "b") refl, (long_part show_form 115 (codes "vg") refl, tt));
+  by_value = (λ t. long_part show_form 100 (codes "b=" ++ t) refl, (λ t. long_part show_form 115 (codes "vg=" ++ t) refl, tt));
+  by_flag = tt;
+}
 
 pub moves_spelled : IsSpelled moves_form
-moves_spelled =
-    record { by_name = (long_part moves_form.options 100 (codes "b") refl, tt); by_value = (λ t. long_part moves_form.options 100 (codes "b=" ++ t) refl, tt) }
+moves_spelled = record {
+  by_name = (long_part moves_form 100 (codes "b") refl, tt);
+  by_value = (λ t. long_part moves_form 100 (codes "b=" ++ t) refl, tt);
+  by_flag = tt;
+}
+
+pub stats_spelled : IsSpelled stats_form
+stats_spelled = record {
+  by_name = (long_part stats_form 100 (codes "b") refl, tt);
+  by_value = (λ t. long_part stats_form 100 (codes "b=" ++ t) refl, tt);
+  by_flag = tt;
+}
 
 abbrev EachForm : (Form → Type 0) → List Form → Type 0
 EachForm P [] = Unit {0}
@@ -386,7 +444,7 @@ all_known = (
     (count_spelled, λ rest. refl),
     (
       (build_spelled, λ rest. refl),
-      ((probe_spelled, λ rest. refl), ((line_spelled, λ rest. refl), ((check_spelled, λ rest. refl), ((look_spelled, λ rest. refl), ((show_spelled, λ rest. refl), ((moves_spelled, λ rest. refl), tt)))))),
+      ((probe_spelled, λ rest. refl), ((line_spelled, λ rest. refl), ((check_spelled, λ rest. refl), ((look_spelled, λ rest. refl), ((show_spelled, λ rest. refl), ((moves_spelled, λ rest. refl), ((stats_spelled, λ rest. refl), tt))))))),
     ),
   ),
 )
@@ -397,25 +455,25 @@ among_known (g ∷ fs) f each (inl e) = subst IsKnown (sym e) each.0
 among_known (g ∷ fs) f each (inr more) = among_known fs f each.1 more
 
 -- a line asks for its texts
-pub line_means : (f : Form) (words texts : List Text) → IsAmong f forms → IsLine f words texts → meaning_of words ≡ asks f.name texts
+pub line_means : (f : Form) (words : List Text) (texts : List (Option Text)) → IsAmong f forms → IsLine f words texts → meaning_of words ≡ asks f.name texts
 line_means f words texts among line =
     let known : IsKnown f = among_known forms f all_known among in
     ap meaning_of line.named ∙ (known.1 line.rest ∙ line_asked f known.0 line.rest texts line.given line.gives line.new line.complete)
 
 -- and where something is asked for, the words are a line of it
 
-pub form_line : (f : Form) (rest : List Text) (name : Text) (texts : List Text) → meaning_of_form f rest ≡ asks name texts
+pub form_line : (f : Form) (rest : List Text) (name : Text) (texts : List (Option Text)) → meaning_of_form f rest ≡ asks name texts
     → (f.name ≡ name) × IsLine f (f.name ∷ rest) texts
 form_line f rest name texts e =
     let r : Told f name texts (between [] f.positions) rest = told f name texts rest (between [] f.positions) e in
-    let p = texts_asked (texts_of (labels f) r.0) r.2.1 in
+    let p = texts_asked (texts_of f (labels f) r.0) r.2.1 in
     (p.0, record { rest = rest; given = r.0; named = refl; gives = r.1; new = r.2.0; complete = p.1 })
   where
-    texts_asked : (o : Option (List Text)) → option_map_or (asks f.name) o usage ≡ asks name texts → (f.name ≡ name) × (o ≡ Some texts)
+    texts_asked : (o : Option (List (Option Text))) → option_map_or (asks f.name) o usage ≡ asks name texts → (f.name ≡ name) × (o ≡ Some texts)
     texts_asked None e = not_usage f name texts e
     texts_asked (Some ts) e = (ap asked_name e, ap (λ m. Some (asked_texts m)) e)
 
-pub line_of : (words : List Text) (name : Text) (texts : List Text) → meaning_of words ≡ asks name texts → SomeLine words name texts
+pub line_of : (words : List Text) (name : Text) (texts : List (Option Text)) → meaning_of words ≡ asks name texts → SomeLine words name texts
 line_of [] name texts e = not_usage value_form name texts e
 line_of (word ∷ rest) name texts e = first (bytes_eq (codes "--version") word) (bytes_eq (codes "help") word) e
   where
@@ -463,7 +521,7 @@ order_from_line words (reading.Help s) h = tt
 order_from_line words (reading.Usage s) h = tt
 
 -- and at each line it is read
-pub reading_at_line : (words : List Text) (f : Form) (texts : List Text) (r : Reading) → IsAmong f forms → IsLine f words texts
+pub reading_at_line : (words : List Text) (f : Form) (texts : List (Option Text)) (r : Reading) → IsAmong f forms → IsLine f words texts
     → IsReadingOf (meaning_of words) r
     → IsReadingOf (asks f.name texts) r
 reading_at_line words f texts r among line h = subst (λ m. IsReadingOf m r) (line_means f words texts among line) h

@@ -1,9 +1,9 @@
--- The texts of a subcommand that takes one, two or three, from its own matches, and which form's matches they are.
-use Rattle.std.proofs.Common.{◌≡◌, ◌∙◌, ◌&&◌, ◌++◌, ℕ, Bool, true, false, cond, inl, inr, ap, sym, subst, refl}
+-- The texts of a subcommand, from its own matches, and which form's matches they are.
+use Rattle.std.proofs.Common.{◌≡◌, ◌∙◌, ◌&&◌, ◌++◌, ℕ, Bool, true, false, cond, inl, inr, ap, ap₂, sym, subst, refl}
 use Rattle.std.proofs.Common.{true≢false, map, List, [], ◌∷◌, Option, Some, None, is_some}
-use Rattle.std.specs.Prelude.{IsSomeAnd, Result, option_map, slice_get, unwrap_or}
+use Rattle.std.specs.Prelude.{IsSomeAnd, Result, option_map, unwrap_or}
 use Rattle.std.specs.Result.{result_ok}
-use Rattle.std.specs.List.{filter, list_all}
+use Rattle.std.specs.List.{filter}
 use Rattle.std.specs.Str.{bytes_eq}
 use Rattle.std.specs.Str.Parse.{ParsesUnsigned}
 use Rattle.std.proofs.lemmas.Result.{Ok-from_Ok_iff}
@@ -13,16 +13,35 @@ use Rattle.clap.specs.Words.{Row, first_of, first_value, found_of, rows_of, subc
 use Rattle.clap.specs.declared.parser.ArgMatches.{ArgMatches}
 use Rattle.clap.specs.declared.builder.value_parser.ValueParser.TheVariants.{Unsigned}
 use Rattle.clap.proofs.ValueTestLemmas.{accepts-Accepts}
-use Rattle.dob_cli.specs.Forms.{Form, Text, forms, labels}
+use Rattle.dob_cli.specs.Forms.{Form, Text, forms, is_needed, labels}
 use Rattle.dob_cli.specs.Lines.{IsAmong}
-use Rattle.dob_cli.specs.Words.{fits, is_number, number_of}
-use Rattle.dob_cli.specs.Shapes.{AreFit, Finds}
-use Rattle.dob_cli.specs.Readings.{IsOrder}
+use Rattle.dob_cli.specs.Words.{is_number, number_of}
+use Rattle.dob_cli.specs.Shapes.{AreFit, Finds, IsFit}
+use Rattle.dob_cli.specs.Readings.{IsOrder, text_given}
 use Rattle.dob_cli.specs.declared.command.Order.{Order}
 use Rattle.dob_cli.proofs.Texts.{taken_number}
-use Rattle.dob_cli.proofs.Outcomes.{found_texts, none_missing, text_in_matches}
+use Rattle.dob_cli.proofs.Outcomes.{text_in_matches}
 
-module _ (f : Form) (texts : List Text) (met : Option (Text × List Row)) (found : Finds f texts met) (inner : ArgMatches)
+-- this is what the matches have for a label
+abbrev pub IsGot : ArgMatches → Text → Option (Bor Text) → Type 0
+IsGot inner label o = text_given o ≡ first_value (found_of inner) label
+
+-- and for each of these
+abbrev pub AreGot : ArgMatches → List Text → List (Option (Bor Text)) → Type 0
+AreGot inner [] [] = Unit {0}
+AreGot inner (label ∷ labels) (o ∷ os) = IsGot inner label o × AreGot inner labels os
+AreGot inner _ _ = ⊥
+
+-- where it is there
+pub got_some : (inner : ArgMatches) (label : Text) (o was : Option (Bor Text)) → IsGot inner label o → o ≡ was → IsGot inner label was
+got_some inner label o was got is = subst (IsGot inner label) is got
+
+-- a flag's text is there where it was got
+pub flag_there : (o : Option (Bor Text)) → is_some o ≡ is_some (text_given o)
+flag_there None = refl
+flag_there (Some t) = refl
+
+module _ (f : Form) (texts : List (Option Text)) (met : Option (Text × List Row)) (found : Finds f texts met) (inner : ArgMatches)
     (kept : Some (rows_of (found_of inner)) ≡ option_map (λ p. p.1) met) where
   -- they are what was found in the matches of the subcommand
   pub found_inside : Finds f texts (Some (f.name, rows_of (found_of inner)))
@@ -30,75 +49,36 @@ module _ (f : Form) (texts : List Text) (met : Option (Text × List Row)) (found
       let same : rows_of (found_of inner) ≡ found.0 = ap (λ (x : Option (List Row)). unwrap_or x []) (kept ∙ ap (option_map (λ p. p.1)) found.1) in
       subst (Finds f texts) (found.1 ∙ ap (λ (rows : List Row). Some (f.name, rows)) (sym same)) found
 
-  -- this is what the matches have for a label
-  abbrev IsGot : Text → Option (Bor Text) → Type 0
-  IsGot label o = option_map (λ s. s.now) o ≡ first_value (found_of inner) label
-
   -- so it is what was found for the label
-  in_rows : (label : Text) (o was : Option (Bor Text)) → IsGot label o → o ≡ was → first_of label found.0 ≡ option_map (λ s. s.now) was
-  in_rows label o was got is = text_in_matches label f texts met found inner o kept got ∙ ap (option_map (λ s. s.now)) is
+  in_rows : (label : Text) (o : Option (Bor Text)) → IsGot inner label o → first_of label found.0 ≡ text_given o
+  in_rows label o got = text_in_matches label f texts met found inner o kept got
 
-  -- what was found for the labels
-  of_labels : (ls : List Text) → labels f ≡ ls → map (λ l. first_of l found.0) ls ≡ map (λ t. Some t) texts
-  of_labels ls are = ap (map (λ l. first_of l found.0)) (sym are) ∙ found.2
+  all_in_rows : (ls : List Text) (os : List (Option (Bor Text))) → AreGot inner ls os → map (λ l. first_of l found.0) ls ≡ map text_given os
+  all_in_rows [] [] got = refl
+  all_in_rows [] (o ∷ os) got = absurd got
+  all_in_rows (l ∷ ls) [] got = absurd got
+  all_in_rows (l ∷ ls) (o ∷ os) got = ap₂ (λ x xs. x ∷ xs) (in_rows l o got.0) (all_in_rows ls os got.1)
 
-  -- one of the labels has none
-  misses : (before after : List Text) (label : Text) → first_of label found.0 ≡ None
-      → list_all is_some (map (λ l. first_of l found.0) (before ++ label ∷ after)) ≡ false
-  misses [] after label none = rw none refl
-  misses (l ∷ ls) after label none = rw (misses ls after label none) (and_false (is_some (first_of l found.0)))
+  -- the texts are what was got for the labels
+  pub texts_got : (ls : List Text) (os : List (Option (Bor Text))) → labels f ≡ ls → AreGot inner ls os → map text_given os ≡ texts
+  texts_got ls os are got = sym (all_in_rows ls os got) ∙ (ap (map (λ l. first_of l found.0)) (sym are) ∙ found.2)
+
+  -- what was got for a label is fit
+  pub got_fit : (before after : List Text) (label : Text) → labels f ≡ before ++ label ∷ after → (o : Option (Bor Text)) → IsGot inner label o
+      → IsFit f label (text_given o)
+  got_fit before after label are o got =
+      subst (IsFit f label) (in_rows label o got)
+      (go before (subst (λ ls. AreFit f ls (map (λ l. first_of l found.0) ls)) are (subst (AreFit f (labels f)) (sym found.2) found.3)))
     where
-      and_false : (b : Bool) → (b && false) ≡ false
-      and_false true = refl
-      and_false false = refl
+      go : (ls : List Text) → AreFit f (ls ++ label ∷ after) (map (λ l. first_of l found.0) (ls ++ label ∷ after)) → IsFit f label (first_of label found.0)
+      go [] fit = fit.0
+      go (l ∷ ls) fit = go ls fit.1
 
-  -- so that no texts were found
-  pub no_label : (before after : List Text) (label : Text) → labels f ≡ before ++ label ∷ after → (o : Option (Bor Text)) → IsGot label o → o ≡ None → ⊥
-  no_label before after label are o got is =
-      none_missing (map (λ l. first_of l found.0) (before ++ label ∷ after)) texts (of_labels (before ++ label ∷ after) are)
-      (misses before after label (in_rows label o None got is))
-
-  -- ---- one text, and two
-
-  pub one_text : (label : Text) → labels f ≡ label ∷ [] → (o : Option (Bor Text)) (t : Bor Text) → IsGot label o → o ≡ Some t → t.now ∷ [] ≡ texts
-  one_text label only o t got is =
-      found_texts (t.now ∷ []) texts (ap (λ x. x ∷ []) (sym (in_rows label o (Some t) got is)) ∙ of_labels (label ∷ []) only)
-
-  -- two texts that may be there
-  pair : {x y z w : Option Text} → x ≡ z → y ≡ w → x ∷ y ∷ [] ≡ z ∷ w ∷ []
-  pair e g = cc
-
-  pub two_texts : (a b : Text) → labels f ≡ a ∷ b ∷ [] → (o : Option (Bor Text)) (t : Bor Text) → IsGot a o → o ≡ Some t
-      → (p : Option (Bor Text)) (u : Bor Text) → IsGot b p → p ≡ Some u → t.now ∷ u.now ∷ [] ≡ texts
-  two_texts a b both o t got is p u next there =
-      found_texts (t.now ∷ u.now ∷ []) texts (sym (pair (in_rows a o (Some t) got is) (in_rows b p (Some u) next there)) ∙ of_labels (a ∷ b ∷ []) both)
-
-  -- ---- three texts
-
-  module _ (a b c : Text) (are : labels f ≡ a ∷ b ∷ c ∷ []) where
-    triple : {x y z u v w : Option Text} → x ≡ u → y ≡ v → z ≡ w → x ∷ y ∷ z ∷ [] ≡ u ∷ v ∷ w ∷ []
-    triple e g h = cc
-
-    pub three_texts : (o p q : Option (Bor Text)) (t u v : Bor Text) → IsGot a o → o ≡ Some t → IsGot b p → p ≡ Some u → IsGot c q → q ≡ Some v
-        → t.now ∷ u.now ∷ v.now ∷ [] ≡ texts
-    three_texts o p q t u v first is_first second is_second third is_third =
-        found_texts (t.now ∷ u.now ∷ v.now ∷ []) texts
-        (sym (triple (in_rows a o (Some t) first is_first) (in_rows b p (Some u) second is_second) (in_rows c q (Some v) third is_third))
-        ∙ of_labels (a ∷ b ∷ c ∷ []) are)
-
-    -- the second is what it has to be
-    pub second_fits : (o : Option (Bor Text)) (u : Bor Text) → IsGot b o → o ≡ Some u → fits f.numbers b u.now ≡ true
-    second_fits o u got is = go texts
-        (ap (λ y. first_of a found.0 ∷ y ∷ first_of c found.0 ∷ []) (sym (in_rows b o (Some u) got is)) ∙ of_labels (a ∷ b ∷ c ∷ []) are)
-        (subst (λ ls. AreFit f.numbers ls texts) are found.3)
-      where
-        go : (ts : List Text) → first_of a found.0 ∷ Some u.now ∷ first_of c found.0 ∷ [] ≡ map (λ t. Some t) ts → AreFit f.numbers (a ∷ b ∷ c ∷ []) ts
-            → fits f.numbers b u.now ≡ true
-        go [] e fit = absurd (true≢false (ap (λ (os : List (Option Text)). is_some (slice_get os 1)) e))
-        go (t ∷ []) e fit = absurd (true≢false (ap (λ (os : List (Option Text)). is_some (slice_get os 1)) e))
-        go (t ∷ w ∷ ts) e fit =
-            let same : u.now ≡ w = ap (λ (os : List (Option Text)). unwrap_or (unwrap_or (slice_get os 1) None) []) e in
-            subst (λ x. fits f.numbers b x ≡ true) (sym same) fit.1.0
+  -- so it is there, where it is needed
+  pub not_missing : (before after : List Text) (label : Text) → labels f ≡ before ++ label ∷ after → is_needed f label ≡ true
+      → (o : Option (Bor Text)) → IsGot inner label o → o ≡ None → ⊥
+  not_missing before after label are needed o got is =
+      true≢false (sym needed ∙ got_fit before after label are None (got_some inner label o None got is))
 
 -- a number is read from its text
 pub number_read : {E : Type 0} (t : Text) (r : Result ℕ E) (o : Option ℕ) → is_number t ≡ true → ParsesUnsigned 64 10 t r → o ≡ result_ok r
@@ -134,8 +114,8 @@ among_named n form (f ∷ fs) (inr more) named = kept (bytes_eq f.name n) _ (amo
 -- where just one form has the name, what is read of its matches is the order of each form that was met
 pub order_found : (this : Form) → filter (λ f. bytes_eq f.name this.name) forms ≡ this ∷ [] → (m inner : ArgMatches) (name : Text) → name ≡ this.name
     → Some name ≡ subcommand_name_of m → Some (rows_of (found_of inner)) ≡ option_map (λ p. p.1) (subcommand_rows_of m) → (o : Option Order)
-    → ((texts : List Text) → Finds this texts (Some (this.name, rows_of (found_of inner))) → IsSomeAnd o (IsOrder this.name texts))
-    → (form : Form) (texts : List Text) → IsAmong form forms → Finds form texts (subcommand_rows_of m) → IsSomeAnd o (IsOrder form.name texts)
+    → ((texts : List (Option Text)) → Finds this texts (Some (this.name, rows_of (found_of inner))) → IsSomeAnd o (IsOrder this.name texts))
+    → (form : Form) (texts : List (Option Text)) → IsAmong form forms → Finds form texts (subcommand_rows_of m) → IsSomeAnd o (IsOrder form.name texts)
 order_found this alone m inner name is named kept o reads form texts among found =
     let same : form.name ≡ this.name = ap (λ (x : Option Text). unwrap_or x []) (sym (name_met _ _ _ form.name found.0 found.1) ∙ sym named) ∙ is in
     let only : form ≡ this = sole (subst (IsAmong form) alone (among_named this.name form forms among same)) in

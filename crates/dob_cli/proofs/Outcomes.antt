@@ -39,7 +39,7 @@ argument_shape old arg new a r first read adds =
     (adds.shape read.1 ∙ ap₂ with_rule first.0 read.0, adds.globals ∙ ap₂ (λ (x y : Bool). x || y) first.1 read.1)
 
 -- the text that the subcommand's own matches have for a label is the one that was found
-pub text_in_matches : (label : Text) (f : Form) (texts : List Text) (met : Option (Text × List Row)) (found : Finds f texts met) (inner : ArgMatches)
+pub text_in_matches : (label : Text) (f : Form) (texts : List (Option Text)) (met : Option (Text × List Row)) (found : Finds f texts met) (inner : ArgMatches)
     (o : Option (Bor Text))
     → Some (rows_of (found_of inner)) ≡ option_map (λ p. p.1) met → option_map (λ s. s.now) o ≡ first_value (found_of inner) label
     → first_of label found.0 ≡ option_map (λ s. s.now) o
@@ -47,26 +47,10 @@ text_in_matches label f texts met found inner o kept got =
     let same : rows_of (found_of inner) ≡ found.0 = ap (λ (x : Option (List Row)). unwrap_or x []) (kept ∙ ap (option_map (λ p. p.1)) found.1) in
     sym (got ∙ (first_value-rows (found_of inner) label ∙ ap (first_of label) same))
 
--- none of the texts that were found is missing
-pub none_missing : (os : List (Option Text)) (texts : List Text) → os ≡ map (λ t. Some t) texts → list_all is_some os ≡ false → ⊥
-none_missing os texts e missing = true≢false (sym (all texts) ∙ (ap (list_all is_some) (sym e) ∙ missing))
-  where
-    all : (ts : List Text) → list_all is_some (map (λ t. Some t) ts) ≡ true
-    all [] = refl
-    all (t ∷ ts) = all ts
-
--- texts that are found are the texts
-pub found_texts : (ys texts : List Text) → map (λ t. Some t) ys ≡ map (λ t. Some t) texts → ys ≡ texts
-found_texts ys texts e = sym (back ys) ∙ (ap (map (λ (o : Option Text). unwrap_or o [])) e ∙ back texts)
-  where
-    back : (xs : List Text) → map (λ (o : Option Text). unwrap_or o []) (map (λ t. Some t) xs) ≡ xs
-    back [] = refl
-    back (x ∷ xs) = ap (λ zs. x ∷ zs) (back xs)
-
 -- what is asked for, and found in the matches
 pub record IsAsked (words : List Text) (met : Option (Text × List Row)) : Type 0 where
   pub name : Text
-  pub texts : List Text
+  pub texts : List (Option Text)
   pub meant : meaning_of_command words ≡ asks name texts
   pub found : IsMet forms name texts met
 
@@ -93,35 +77,31 @@ asked_by_matches app words m no_topic is kinds matches =
 
 -- so there is an order
 pub order_is_there : {X : Type 0} (words : List Text) (met : Option (Text × List Row)) → IsAsked words met
-    → ((form : Form) (texts : List Text) → IsAmongForms form forms → Finds form texts met → X) → X
+    → ((form : Form) (texts : List (Option Text)) → IsAmongForms form forms → Finds form texts met → X) → X
 order_is_there {X} words met is each = go forms each is.found
   where
-    go : (fs : List Form) → ((form : Form) (texts : List Text) → IsAmongForms form fs → Finds form texts met → X) → IsMet fs is.name is.texts met → X
+    go : (fs : List Form) → ((form : Form) (texts : List (Option Text)) → IsAmongForms form fs → Finds form texts met → X) → IsMet fs is.name is.texts met → X
     go [] each found = absurd found
     go (f ∷ fs) each (inl h) = each f is.texts (inl refl) h.1
     go (f ∷ fs) each (inr h) = go fs (λ form texts among. each form texts (inr among)) h
 
 -- and it is what the words ask for
 pub order_is_meant : (words : List Text) (met : Option (Text × List Row)) (o : Order) → IsAsked words met
-    → ((form : Form) (texts : List Text) → IsAmongForms form forms → Finds form texts met → IsOrder form.name texts o)
+    → ((form : Form) (texts : List (Option Text)) → IsAmongForms form forms → Finds form texts met → IsOrder form.name texts o)
     → IsReadingOf (meaning_of_command words) (reading.Order o)
 order_is_meant words met o is each = subst (λ m. IsReadingOf m (reading.Order o)) (sym is.meant) (go forms each is.found)
   where
-    go : (fs : List Form) → ((form : Form) (texts : List Text) → IsAmongForms form fs → Finds form texts met → IsOrder form.name texts o)
+    go : (fs : List Form) → ((form : Form) (texts : List (Option Text)) → IsAmongForms form fs → Finds form texts met → IsOrder form.name texts o)
         → IsMet fs is.name is.texts met → IsOrder is.name is.texts o
     go [] each found = absurd found
     go (f ∷ fs) each (inl h) = subst (λ n. IsOrder n is.texts o) h.0 (each f is.texts (inl refl) h.1)
     go (f ∷ fs) each (inr h) = go fs (λ form texts among. each form texts (inr among)) h
 
 -- an order that was read is the one that the words ask for
-pub asked_order : (m : Meaning) (name : Text) (texts : List Text) (r : Reading) (o : Order) → r ≡ reading.Order o → m ≡ asks name texts → IsReadingOf m r
+pub asked_order : (m : Meaning) (name : Text) (texts : List (Option Text)) (r : Reading) (o : Order) → r ≡ reading.Order o → m ≡ asks name texts → IsReadingOf m r
     → IsOrder name texts o
 asked_order m name texts r o is asked read =
     subst (λ (r' : Reading). IsReadingOf (asks name texts) r') is (subst (λ (m' : Meaning). IsReadingOf m' r) asked read)
-
--- the only text of a list
-pub first_text : (x y : Text) → x ∷ [] ≡ y ∷ [] → x ≡ y
-first_text x y e = ap (λ (ts : List Text). unwrap_or (slice_get ts 0) []) e
 
 -- ---- clap's errors
 

@@ -15,9 +15,9 @@ use Rattle.dob_cli.specs.Faults.{is_io}
 use Rattle.dob_cli.specs.Orders.{AnswersOrder, AreLinesFor, IsFaultFor, KeepsFiles}
 use Rattle.dob_cli.specs.Runs.{Ran, RanOn}
 use Rattle.dob_cli.proofs.Shelves.{others_kept}
-use Rattle.dob_cli.proofs.TableFaults.{probe_right}
+use Rattle.dob_cli.proofs.TableFaults.{moves_right, probe_right}
 use Rattle.dob_cli.proofs.ByPlace.{look_right}
-use Rattle.dob_cli.proofs.Orders.{done_build, done_check, done_count, done_line, done_look, done_moves, done_probe, done_show, done_value, kept_files, kept_others}
+use Rattle.dob_cli.proofs.Orders.{done_build, done_check, done_count, done_line, done_look, done_moves, done_probe, done_show, done_stats, done_value, kept_but_picture, kept_files, kept_others}
 
 -- ---- the streams are those that they were
 
@@ -55,17 +55,20 @@ module _ (c : ShelfChange) (words : List Text) (e : Ending) where
     build = λ set nodes file _. memory_answered _ _ e (same, works) told;
     probe_right = λ file text _ _. memory_answered _ _ e (tt, works) told;
     probe = λ file text _. memory_answered _ _ e (tt, works) told;
-    line = λ file text _. memory_answered _ _ e (tt, works) told;
+    line = λ file is_numbered text _. memory_answered _ _ e (tt, works) told;
     check = λ file _. memory_answered _ _ e (tt, works) told;
     look_right = λ file text _ _. memory_answered _ _ e (tt, works) told;
     look = λ file text _. memory_answered _ _ e (tt, works) told;
-    show = λ text _. memory_answered _ _ e (tt, works) told;
+    show = λ file picture text _. memory_answered _ _ e (same, works) told;
+    moves_right = λ file text _ _. memory_answered _ _ e (tt, works) told;
     moves = λ file text _. memory_answered _ _ e (tt, works) told;
+    stats = λ file _. memory_answered _ _ e (tt, works) told;
     help = λ _. inr told;
     version = λ _. inr told;
     usage = λ _. inr told;
     others = λ set nodes file _. others_kept file c.before.has c.after.has same;
-    files = λ _. same;
+    others_of_picture = λ file picture text _. others_kept picture c.before.has c.after.has same;
+    files = λ _ _. same;
     same_out = untouched_same e.out told.1;
     same_err = said_same e.err _ told.0.1;
   }
@@ -82,17 +85,20 @@ module _ (c : ShelfChange) (words : List Text) (e : Ending) where
     probe = λ file text is. done_probe c e o file text (asked (reading.Order o) read _ is) answers;
     probe_right = λ file text is right.
         probe_right c file text e right (done_probe c e o file text (asked (reading.Order o) read _ is) answers);
-    line = λ file text is. done_line c e o file text (asked (reading.Order o) read _ is) answers;
+    line = λ file is_numbered text is. done_line c e o file is_numbered text (asked (reading.Order o) read _ is) answers;
     check = λ file is. done_check c e o file (asked (reading.Order o) read _ is) answers;
     look = λ file text is. done_look c e o file text (asked (reading.Order o) read _ is) answers;
-    show = λ text is. done_show c e o text (asked (reading.Order o) read _ is) answers;
+    show = λ file picture text is. done_show c e o file picture text (asked (reading.Order o) read _ is) answers;
+    moves_right = λ file text is right. moves_right c file text e right (done_moves c e o file text (asked (reading.Order o) read _ is) answers);
     moves = λ file text is. done_moves c e o file text (asked (reading.Order o) read _ is) answers;
+    stats = λ file is. done_stats c e o file (asked (reading.Order o) read _ is) answers;
     look_right = λ file text is right. look_right c file text e right (done_look c e o file text (asked (reading.Order o) read _ is) answers);
     help = λ is. absurd (asked (reading.Order o) read _ is);
     version = λ is. absurd (asked (reading.Order o) read _ is);
     usage = λ is. absurd (asked (reading.Order o) read _ is);
     others = λ set nodes file is. kept_others c o set nodes file (asked (reading.Order o) read _ is) keeps;
-    files = λ none. kept_files c (meaning_of words) o read none keeps;
+    others_of_picture = λ file picture text is. kept_but_picture c o file picture text (asked (reading.Order o) read _ is) keeps;
+    files = λ none undrawn. kept_files c (meaning_of words) o read none undrawn keeps;
     same_out = (answers_same (λ lines. AreLinesFor c o lines × FailsWhere c false) (λ fault. IsFaultFor c o fault × FailsWhere c (is_io fault)) e answers).0;
     same_err = (answers_same (λ lines. AreLinesFor c o lines × FailsWhere c false) (λ fault. IsFaultFor c o fault × FailsWhere c (is_io fault)) e answers).1;
   }
@@ -104,17 +110,20 @@ module _ (c : ShelfChange) (words : List Text) (e : Ending) where
     build = λ set nodes file is. absurd (asked reading.Version read _ is);
     probe = λ file text is. absurd (asked reading.Version read _ is);
     probe_right = λ file text is. absurd (asked reading.Version read _ is);
-    line = λ file text is. absurd (asked reading.Version read _ is);
+    line = λ file is_numbered text is. absurd (asked reading.Version read _ is);
     check = λ file is. absurd (asked reading.Version read _ is);
     look = λ file text is. absurd (asked reading.Version read _ is);
-    show = λ text is. absurd (asked reading.Version read _ is);
+    show = λ file picture text is. absurd (asked reading.Version read _ is);
+    moves_right = λ file text is. absurd (asked reading.Version read _ is);
     moves = λ file text is. absurd (asked reading.Version read _ is);
+    stats = λ file is. absurd (asked reading.Version read _ is);
     look_right = λ file text is. absurd (asked reading.Version read _ is);
     help = λ is. absurd (asked reading.Version read _ is);
     version = λ _. inl told;
     usage = λ is. absurd (asked reading.Version read _ is);
     others = λ set nodes file is. absurd (asked reading.Version read _ is);
-    files = λ _. same;
+    others_of_picture = λ file picture text is. absurd (asked reading.Version read _ is);
+    files = λ _ _. same;
     same_out = (told_same _ e told).0;
     same_err = (told_same _ e told).1;
   }

@@ -5,6 +5,7 @@ use Rattle.dob_value.specs.Follows.{ClassTable, IsValueTable}
 use Rattle.dob_dbfile.proofs.Written.{same_files}
 use Rattle.dob_probe.specs.declared.fault.Fault as probing
 use Rattle.dob_probe.specs.declared.fault.Fault.TheVariants as table_fault
+use Rattle.dob_probe.proofs.ByValue.{valued_rightly}
 use Rattle.dob_probe.specs.Faults.{IsFaultOfCheck, IsFaultOfLine, IsFaultOfMoves}
 use Rattle.dob_cli.specs.declared.fault.Fault.{Fault}
 use Rattle.dob_cli.specs.declared.fault.Fault.TheVariants.{Text, SetText, SetTooLarge, TooDeep, Run, File, Table, Memory, Io}
@@ -14,6 +15,7 @@ use Rattle.dob_cli.specs.declared.shelf.ShelfFault.{ShelfFault}
 use Rattle.dob_cli.specs.declared.shelf.ShelfFault.TheVariants as shelf_fault
 use Rattle.dob_cli.specs.Endings.{Answers, Ending}
 use Rattle.dob_cli.specs.Program.{IsValueLineOf}
+use Rattle.dob_cli.specs.Choices.{AnswersMoves, AnswersMovesRight, AreChoiceLines, AreRightChoiceLines}
 use Rattle.dob_cli.specs.Tables.{AnswersProbe, AnswersProbeRight, HasValueFile, IsCheckFault, IsFileOf, IsOpeningFault, IsPositionFault, IsShut}
 use Rattle.dob_cli.specs.Tables.{IsProbeLine, IsTextOf}
 
@@ -72,6 +74,19 @@ line_right Has words lines file told =
       told.same,
     )
 
+-- and the moves have the values told by definition
+choices_right : (Has : List ℕ → Type 0) (words lines : List ℕ) → HasValueFile Has → AreChoiceLines Has words lines → AreRightChoiceLines words lines
+choices_right Has words lines file told =
+    let same : file.0 ≡ told.table = same_files file.0 told.table file.1.table told.file.whole (told.file.same _ file.2) in
+    let right : IsValueTable told.table.set told.table.values = subst (λ (t : ClassTable). IsValueTable t.set t.values) same file.1 in
+    record {
+      position = told.position;
+      named = told.named;
+      choices = told.choices;
+      valued = valued_rightly told.table right told.position told.member told.choices told.valued;
+      same = told.same;
+    }
+
 -- where lines of one kind are of another one
 pub answers_weaker : (A B : List ℕ → Type 0) (Holds : Fault → Type 0) (e : Ending) → ((lines : List ℕ) → A lines → B lines)
     → Answers A Holds e → Answers B Holds e
@@ -88,3 +103,11 @@ probe_right c file words e right =
     (λ lines. IsValueLineOf words lines × FailsWhere c false)
     (λ fault. IsPositionFault (c.before.has file) words fault × FailsWhere c (is_io fault)) e
     (λ lines told. (line_right (c.before.has file) words lines right told.0, told.1))
+
+pub moves_right : (c : ShelfChange) (file words : List ℕ) (e : Ending) → HasValueFile (c.before.has file) → AnswersMoves c file words e
+    → AnswersMovesRight c file words e
+moves_right c file words e right =
+    answers_weaker (λ lines. AreChoiceLines (c.before.has file) words lines × FailsWhere c false)
+    (λ lines. AreRightChoiceLines words lines × FailsWhere c false)
+    (λ fault. IsPositionFault (c.before.has file) words fault × FailsWhere c (is_io fault)) e
+    (λ lines told. (choices_right (c.before.has file) words lines right told.0, told.1))

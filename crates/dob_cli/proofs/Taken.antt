@@ -1,14 +1,15 @@
 -- `clap` takes the words of each form so: what `proofs/FormWords.antt` asks of a form holds by computing.
 use Rattle.std.proofs.Common.{refl}
-use Rattle.dob_cli.specs.Forms.{build_form, check_form, count_form, line_form, look_form, moves_form, probe_form, show_form, value_form}
+use Rattle.dob_cli.specs.Forms.{build_form, check_form, count_form, line_form, look_form, moves_form, probe_form, show_form, stats_form, value_form}
 use Rattle.dob_cli.proofs.FormWords.{IsTaken}
 
 pub value_taken : IsTaken value_form
 value_taken = record {
   options = tt;
   positions = (refl, refl, refl);
-  no_help = refl;
-  no_empty = refl;
+  flags = tt;
+  no_help = (refl, refl);
+  no_empty = (refl, refl);
   defaults = (refl, (refl, tt));
   required = λ rows. refl;
 }
@@ -17,8 +18,9 @@ pub count_taken : IsTaken count_form
 count_taken = record {
   options = (refl, tt);
   positions = refl;
-  no_help = refl;
-  no_empty = refl;
+  flags = tt;
+  no_help = (refl, refl);
+  no_empty = (refl, refl);
   defaults = (refl, (refl, tt));
   required = λ rows. refl;
 }
@@ -27,8 +29,9 @@ pub build_taken : IsTaken build_form
 build_taken = record {
   options = (refl, (refl, (refl, tt)));
   positions = refl;
-  no_help = refl;
-  no_empty = refl;
+  flags = tt;
+  no_help = (refl, refl);
+  no_empty = (refl, refl);
   defaults = (refl, (refl, (refl, (refl, tt))));
   required = λ rows. refl;
 }
@@ -37,8 +40,9 @@ pub probe_taken : IsTaken probe_form
 probe_taken = record {
   options = (refl, tt);
   positions = (refl, refl, refl);
-  no_help = refl;
-  no_empty = refl;
+  flags = tt;
+  no_help = (refl, refl);
+  no_empty = (refl, refl);
   defaults = (refl, (refl, (refl, tt)));
   required = λ rows. refl;
 }
@@ -47,9 +51,10 @@ pub line_taken : IsTaken line_form
 line_taken = record {
   options = (refl, tt);
   positions = (refl, refl, refl);
-  no_help = refl;
-  no_empty = refl;
-  defaults = (refl, (refl, (refl, tt)));
+  flags = (refl, tt);
+  no_help = (refl, refl);
+  no_empty = (refl, refl);
+  defaults = (refl, (refl, (refl, (refl, tt))));
   required = λ rows. refl;
 }
 
@@ -57,8 +62,9 @@ pub check_taken : IsTaken check_form
 check_taken = record {
   options = (refl, tt);
   positions = refl;
-  no_help = refl;
-  no_empty = refl;
+  flags = tt;
+  no_help = (refl, refl);
+  no_empty = (refl, refl);
   defaults = (refl, (refl, tt));
   required = λ rows. refl;
 }
@@ -67,19 +73,21 @@ pub look_taken : IsTaken look_form
 look_taken = record {
   options = (refl, tt);
   positions = (refl, refl, refl);
-  no_help = refl;
-  no_empty = refl;
+  flags = tt;
+  no_help = (refl, refl);
+  no_empty = (refl, refl);
   defaults = (refl, (refl, (refl, tt)));
   required = λ rows. refl;
 }
 
 pub show_taken : IsTaken show_form
 show_taken = record {
-  options = tt;
+  options = (refl, (refl, tt));
   positions = (refl, refl, refl);
-  no_help = refl;
-  no_empty = refl;
-  defaults = (refl, (refl, tt));
+  flags = tt;
+  no_help = (refl, refl);
+  no_empty = (refl, refl);
+  defaults = (refl, (refl, (refl, (refl, tt))));
   required = λ rows. refl;
 }
 
@@ -87,8 +95,20 @@ pub moves_taken : IsTaken moves_form
 moves_taken = record {
   options = (refl, tt);
   positions = (refl, refl, refl);
-  no_help = refl;
-  no_empty = refl;
+  flags = tt;
+  no_help = (refl, refl);
+  no_empty = (refl, refl);
   defaults = (refl, (refl, (refl, tt)));
+  required = λ rows. refl;
+}
+
+pub stats_taken : IsTaken stats_form
+stats_taken = record {
+  options = (refl, tt);
+  positions = refl;
+  flags = tt;
+  no_help = (refl, refl);
+  no_empty = (refl, refl);
+  defaults = (refl, (refl, tt));
   required = λ rows. refl;
 }

@@ -22,11 +22,16 @@ use Rattle.clap.specs.Faults.{default_fault, defaults_fault, use_fault}
 use Rattle.clap.specs.declared.error.kind.ErrorKind.TheVariants as kind
 use Rattle.clap.specs.declared.parser.matches.ValueSource.TheVariants.{CommandLine}
 use Rattle.dob_cli.specs.Words.{Given, Text, fits, is_number, number_of, text_of, texts_of}
-use Rattle.dob_cli.specs.Shapes.{text_rule}
+use Rattle.dob_cli.specs.Forms.{Form, is_among, is_needed, plain_form}
+use Rattle.dob_cli.specs.Shapes.{flag_rule, text_rule}
 
 -- the argument of a text, built: an option's by its name, another by its place
-abbrev pub text_arg : List Text → Option Text → Option ℕ → Text → Rule
-text_arg numbers long index label = record (filled (text_rule numbers label)) { long = long; index = index }
+abbrev pub text_arg : Form → Option Text → Option ℕ → Text → Rule
+text_arg f long index label = record (filled (text_rule f label)) { long = long; index = index }
+
+-- a flag, built
+abbrev pub flag_arg : Text → Rule
+flag_arg name = filled (flag_rule name)
 
 -- the row of a given text
 abbrev pub row_of : Text × Text → Row
@@ -77,21 +82,27 @@ has_found label (g ∷ given) = go (bytes_eq g.0 label) (has_found label given)
     go true rec = refl
     go false rec = rec
 
--- all the texts are there, or one is missing
-abbrev pub Looked : List Text → Given → Option (List Text) → Type 0
-Looked labels given (Some texts) =
-    (list_any (λ l. not (is_given l (rows_of given))) labels ≡ false) × (map (λ l. first_of l (rows_of given)) labels ≡ map (λ t. Some t) texts)
-Looked labels given None = list_any (λ l. not (is_given l (rows_of given))) labels ≡ true
+-- a text of one of these labels is missing
+abbrev pub some_missing : Form → List Row → List Text → Bool
+some_missing f rows = list_any (λ l. is_needed f l && not (is_given l rows))
 
-pub looked : (labels : List Text) (given : Given) → Looked labels given (texts_of labels given)
-looked [] given = (refl, refl)
-looked (l ∷ ls) given = go (text_of l given) (texts_of ls given) refl (looked ls given)
+-- all the texts are there that are needed, or one is missing
+abbrev pub Looked : Form → List Text → Given → Option (List (Option Text)) → Type 0
+Looked f labels given (Some texts) =
+    (some_missing f (rows_of given) labels ≡ false) × (map (λ l. first_of l (rows_of given)) labels ≡ texts)
+Looked f labels given None = some_missing f (rows_of given) labels ≡ true
+
+pub looked : (f : Form) (labels : List Text) (given : Given) → Looked f labels given (texts_of f labels given)
+looked f [] given = (refl, refl)
+looked f (l ∷ ls) given = go (is_needed f l) (text_of l given) (texts_of f ls given) refl refl (looked f ls given)
   where
-    go : (o : Option Text) (more : Option (List Text)) → text_of l given ≡ o → Looked ls given more
-        → Looked (l ∷ ls) given (option_and_then (λ t. option_map (λ ts. t ∷ ts) more) o)
-    go None more e rest = rw (given_found l given, e) refl
-    go (Some t) None e rest = rw (given_found l given, e) rest
-    go (Some t) (Some ts) e rest = (rw (given_found l given, e) rest.0, rw (first_found l given, e) (ap (λ xs. Some t ∷ xs) rest.1))
+    go : (b : Bool) (o : Option Text) (more : Option (List (Option Text))) → is_needed f l ≡ b → text_of l given ≡ o → Looked f ls given more
+        → Looked f (l ∷ ls) given (cond (b && not (is_some o)) None (option_map (λ ts. o ∷ ts) more))
+    go true None more n e rest = rw (n, given_found l given, e) refl
+    go true (Some t) None n e rest = rw (n, given_found l given, e) rest
+    go false o None n e rest = rw n rest
+    go true (Some t) (Some ts) n e rest = (rw (n, given_found l given, e) rest.0, rw (first_found l given, e) (ap (λ xs. Some t ∷ xs) rest.1))
+    go false o (Some ts) n e rest = (rw n rest.0, rw (first_found l given, e) (ap (λ xs. o ∷ xs) rest.1))
 
 -- ---- one more text
 
@@ -109,11 +120,11 @@ as_written : (is_one : Bool) → reading_of (parser_of_value (Some (unwrap_or (c
 as_written true = refl
 as_written false = refl
 
-pub used_fresh : (numbers : List Text) (long : Option Text) (index : Option ℕ) (label t : Text) (given : Given) → text_of label given ≡ None
-    → used (text_arg numbers long index label) (t ∷ []) (rows_of given) ≡ rows_of (given ++ (label, t) ∷ [])
-used_fresh numbers long index label t given fresh =
+pub used_fresh : (f : Form) (long : Option Text) (index : Option ℕ) (label t : Text) (given : Given) → text_of label given ≡ None
+    → used (text_arg f long index label) (t ∷ []) (rows_of given) ≡ rows_of (given ++ (label, t) ∷ [])
+used_fresh f long index label t given fresh =
     let none : has_row label (rows_of given) ≡ false = has_found label given ∙ ap is_some fresh in
-    ap (λ (how : Reading). with_values label how CommandLine (t ∷ []) (without label (rows_of given))) (as_written (list_any (λ l. bytes_eq l label) numbers))
+    ap (λ (how : Reading). with_values label how CommandLine (t ∷ []) (without label (rows_of given))) (as_written (is_among f.numbers label))
     ∙ ap (at_row label (more_values CommandLine (t ∷ [])) (row_of (label, t) ∷ []))
     (at_row_fresh label (λ _. []) [] (rows_of given) none ∙ append-nil (rows_of given))
     ∙ (at_row_fresh label (more_values CommandLine (t ∷ [])) (row_of (label, t) ∷ []) (rows_of given) none ∙ sym (map-append row_of given ((label, t) ∷ [])))
@@ -151,24 +162,38 @@ kept_both None true e = (refl, refl)
 kept_both None false e = absurd (true≢false e)
 kept_both (Some t) fit e = absurd (true≢false e)
 
-module _ (numbers : List Text) (long : Option Text) (index : Option ℕ) (label : Text) where
-  pub use_passes : (t : Text) (given : Given) → text_of label given ≡ None → fits numbers label t ≡ true
-      → use_fault false (text_arg numbers long index label) (t ∷ []) (rows_of given) ≡ []
-  use_passes t given fresh fit = rw (has_found label given, fresh, fit_kinds (list_any (λ l. bytes_eq l label) numbers) t fit) refl
+module _ (f : Form) (long : Option Text) (index : Option ℕ) (label : Text) where
+  pub use_passes : (t : Text) (given : Given) → text_of label given ≡ None → fits f.numbers label t ≡ true
+      → use_fault false (text_arg f long index label) (t ∷ []) (rows_of given) ≡ []
+  use_passes t given fresh fit = rw (has_found label given, fresh, fit_kinds (is_among f.numbers label) t fit) refl
 
   -- a text that isn't a number, and has to be, is refused
-  pub use_misfit : (t : Text) (given : Given) → text_of label given ≡ None → fits numbers label t ≡ false
-      → use_fault false (text_arg numbers long index label) (t ∷ []) (rows_of given) ≡ kind.ValueValidation ∷ []
-  use_misfit t given fresh misfit = rw (has_found label given, fresh, misfit_kinds (list_any (λ l. bytes_eq l label) numbers) t misfit) refl
+  pub use_misfit : (t : Text) (given : Given) → text_of label given ≡ None → fits f.numbers label t ≡ false
+      → use_fault false (text_arg f long index label) (t ∷ []) (rows_of given) ≡ kind.ValueValidation ∷ []
+  use_misfit t given fresh misfit = rw (has_found label given, fresh, misfit_kinds (is_among f.numbers label) t misfit) refl
 
   -- a second text of one label is refused
   pub use_twice : (t u : Text) (given : Given) → text_of label given ≡ Some u
-      → use_fault false (text_arg numbers long index label) (t ∷ []) (rows_of given) ≡ kind.ArgumentConflict ∷ []
+      → use_fault false (text_arg f long index label) (t ∷ []) (rows_of given) ≡ kind.ArgumentConflict ∷ []
   use_twice t u given there = rw (has_found label given, there) refl
 
   -- and so is none
-  pub use_none : (rows : List Row) → use_fault false (text_arg numbers long index label) [] rows ≡ kind.InvalidValue ∷ []
+  pub use_none : (rows : List Row) → use_fault false (text_arg f long index label) [] rows ≡ kind.InvalidValue ∷ []
   use_none rows = refl
+
+-- ---- one more flag
+
+-- a flag's row is that of the empty text
+pub flagged_fresh : (name : Text) (given : Given) → text_of name given ≡ None → used (flag_arg name) [] (rows_of given) ≡ rows_of (given ++ (name, []) ∷ [])
+flagged_fresh name given fresh = used_fresh (plain_form [] [] []) None None name [] given fresh
+
+pub flag_passes : (name : Text) (given : Given) → text_of name given ≡ None → use_fault false (flag_arg name) [] (rows_of given) ≡ []
+flag_passes name given fresh = rw (has_found name given, fresh) refl
+
+-- a second use of one flag is refused
+pub flag_twice : (name u : Text) (given : Given) → text_of name given ≡ Some u
+    → use_fault false (flag_arg name) [] (rows_of given) ≡ kind.ArgumentConflict ∷ []
+flag_twice name u given there = rw (has_found name given, there) refl
 
 -- ---- no argument has a default
 

@@ -6,7 +6,6 @@ use Rattle.dob_value.specs.Faults as value_texts
 use Rattle.dob_value.specs.declared.fault.Fault as value
 use Rattle.dob_value.specs.declared.fault.Fault.TheVariants as value_fault
 use Rattle.dob_rank.specs.Faults as rank_texts
-use Rattle.dob_rank.specs.declared.fault.Fault as rank
 use Rattle.dob_rank.specs.declared.fault.Fault.TheVariants as rank_fault
 use Rattle.dob_dbfile.specs.FaultTexts as file
 use Rattle.dob_dbfile.specs.Faults as reading
@@ -68,11 +67,6 @@ abbrev pub fault_of_value : value.Fault → Fault
 fault_of_value value_fault.SetTooLarge = SetTooLarge
 fault_of_value value_fault.TooDeep = TooDeep
 fault_of_value value_fault.Memory = Memory
-
--- a fault of numbering a piece set
-abbrev pub fault_of_rank : rank.Fault → Fault
-fault_of_rank rank_fault.SetTooLarge = SetTooLarge
-fault_of_rank rank_fault.Memory = Memory
 
 -- a fault of opening or making a file
 abbrev pub fault_of_shelf : shelf.ShelfFault → Fault

@@ -1,6 +1,8 @@
 -- The subcommands of the program: what each of them takes. A further one has its form here, in `forms`, and what it
 -- asks for in specs/Words.antt.
-use Rattle.std.specs.Prelude.{ℕ, List, [], ◌∷◌, ◌++◌, map, codes}
+use Rattle.std.specs.Prelude.{ℕ, Bool, not, List, [], ◌∷◌, ◌++◌, map, codes}
+use Rattle.std.specs.List.{list_any}
+use Rattle.std.specs.Str.{bytes_eq}
 
 abbrev pub Text : Type 0
 Text = List ℕ
@@ -10,18 +12,41 @@ pub record Form : Type 0 where
   pub name : Text
   -- its options, each with one text: the name behind `--`, and what its text is called
   pub options : List (Text × Text)
+  -- its flags, each with no text: the name behind `--`, and so it is called
+  pub flags : List Text
   -- what the texts are called that come with no option, in the order of their places
   pub positions : List Text
   -- what those of its texts are called that are numbers
   pub numbers : List Text
+  -- what those of its texts are called that may be left out
+  pub optional : List Text
 
--- what all its texts are called
+-- what all its texts are called; a flag that is given has the empty one
 abbrev pub labels : Form → List Text
-labels form = map (λ o. o.1) form.options ++ form.positions
+labels form = map (λ o. o.1) form.options ++ form.flags ++ form.positions
+
+-- the label is one of these
+abbrev pub is_among : List Text → Text → Bool
+is_among labels label = list_any (λ l. bytes_eq l label) labels
+
+-- the text of this label has to be given
+abbrev pub is_needed : Form → Text → Bool
+is_needed form label = not (is_among (form.optional ++ form.flags) label)
+
+-- a subcommand of which no text may be left out, and none is a number
+abbrev pub plain_form : Text → List (Text × Text) → List Text → Form
+plain_form name options positions = record {
+  name = name;
+  options = options;
+  flags = [];
+  positions = positions;
+  numbers = [];
+  optional = [];
+}
 
 -- `value POSITION`
 abbrev pub value_form : Form
-value_form = record { name = codes "value"; options = []; positions = codes "POSITION" ∷ []; numbers = [] }
+value_form = plain_form (codes "value") [] (codes "POSITION" ∷ [])
 
 -- the option `--set CEG`
 abbrev pub set_option : Text × Text
@@ -29,7 +54,7 @@ set_option = (codes "set", codes "CEG")
 
 -- `count --set CEG`
 abbrev pub count_form : Form
-count_form = record { name = codes "count"; options = set_option ∷ []; positions = []; numbers = [] }
+count_form = plain_form (codes "count") (set_option ∷ []) []
 
 -- the option `--db FILE`
 abbrev pub file_option : Text × Text
@@ -37,27 +62,41 @@ file_option = (codes "db", codes "FILE")
 
 -- `probe --db FILE POSITION`
 abbrev pub probe_form : Form
-probe_form = record { name = codes "probe"; options = file_option ∷ []; positions = codes "POSITION" ∷ []; numbers = [] }
+probe_form = plain_form (codes "probe") (file_option ∷ []) (codes "POSITION" ∷ [])
 
--- `line --db FILE POSITION`
+-- the flag `--numbered`
+abbrev pub numbered_flag : Text
+numbered_flag = codes "numbered"
+
+-- `line --db FILE [--numbered] POSITION`
 abbrev pub line_form : Form
-line_form = record { name = codes "line"; options = file_option ∷ []; positions = codes "POSITION" ∷ []; numbers = [] }
+line_form = record (plain_form (codes "line") (file_option ∷ []) (codes "POSITION" ∷ [])) { flags = numbered_flag ∷ [] }
 
 -- `look --db FILE POSITION`
 abbrev pub look_form : Form
-look_form = record { name = codes "look"; options = file_option ∷ []; positions = codes "POSITION" ∷ []; numbers = [] }
+look_form = plain_form (codes "look") (file_option ∷ []) (codes "POSITION" ∷ [])
 
--- `show POSITION`
+-- the option `--svg OUT`
+abbrev pub picture_option : Text × Text
+picture_option = (codes "svg", codes "OUT")
+
+-- `show [--db FILE] [--svg OUT] POSITION`
 abbrev pub show_form : Form
-show_form = record { name = codes "show"; options = []; positions = codes "POSITION" ∷ []; numbers = [] }
+show_form = record (plain_form (codes "show") (file_option ∷ picture_option ∷ []) (codes "POSITION" ∷ [])) {
+  optional = codes "FILE" ∷ codes "OUT" ∷ [];
+}
 
 -- `moves --db FILE POSITION`
 abbrev pub moves_form : Form
-moves_form = record { name = codes "moves"; options = file_option ∷ []; positions = codes "POSITION" ∷ []; numbers = [] }
+moves_form = plain_form (codes "moves") (file_option ∷ []) (codes "POSITION" ∷ [])
 
 -- `check --db FILE`
 abbrev pub check_form : Form
-check_form = record { name = codes "check"; options = file_option ∷ []; positions = []; numbers = [] }
+check_form = plain_form (codes "check") (file_option ∷ []) []
+
+-- `stats --db FILE`
+abbrev pub stats_form : Form
+stats_form = plain_form (codes "stats") (file_option ∷ []) []
 
 -- the options `--nodes N` and `--out FILE`
 abbrev pub nodes_option : Text × Text
@@ -68,13 +107,8 @@ out_option = (codes "out", codes "FILE")
 
 -- `build --set CEG --nodes N --out FILE`
 abbrev pub build_form : Form
-build_form = record {
-  name = codes "build";
-  options = set_option ∷ nodes_option ∷ out_option ∷ [];
-  positions = [];
-  numbers = codes "N" ∷ [];
-}
+build_form = record (plain_form (codes "build") (set_option ∷ nodes_option ∷ out_option ∷ []) []) { numbers = codes "N" ∷ [] }
 
 -- the subcommands, in the order of the help
 abbrev pub forms : List Form
-forms = value_form ∷ count_form ∷ build_form ∷ probe_form ∷ line_form ∷ check_form ∷ look_form ∷ show_form ∷ moves_form ∷ []
+forms = value_form ∷ count_form ∷ build_form ∷ probe_form ∷ line_form ∷ check_form ∷ look_form ∷ show_form ∷ moves_form ∷ stats_form ∷ []

@@ -1,6 +1,6 @@
 -- The lines that ask for something, as a relation between words and the texts that they give.
-use Rattle.std.specs.Prelude.{◌≡◌, ◌⊎◌, true, List, [], ◌∷◌, ◌++◌, Some, None, codes}
-use Rattle.dob_cli.specs.Forms.{Form, Text, labels}
+use Rattle.std.specs.Prelude.{◌≡◌, ◌⊎◌, true, List, [], ◌∷◌, ◌++◌, Option, Some, None, codes}
+use Rattle.dob_cli.specs.Forms.{Form, Text, is_among, labels}
 use Rattle.dob_pieces.specs.Bytes.{equals_sign}
 use Rattle.dob_cli.specs.Words.{Given, fits, is_text, label_of, text_of, texts_of}
 
@@ -22,6 +22,9 @@ pub data Gives (form : Form) : List Text → List Text → Given → Type 0 wher
   -- `--NAME=TEXT`, where anything may stand behind the `=`
   by_value : (name label t : Text) (left words : List Text) (given : Given) → label_of form.options name ≡ Some label → Gives form left words given
       → Gives form left ((codes "--" ++ name ++ equals_sign ∷ t) ∷ words) ((label, t) ∷ given)
+  -- `--NAME` for a flag
+  by_flag : (name : Text) (left words : List Text) (given : Given) → is_among form.flags name ≡ true → Gives form left words given
+      → Gives form left ((codes "--" ++ name) ∷ words) ((name, []) ∷ given)
   -- `--`
   by_dashes : (left words : List Text) (given : Given) → Behind left words given → Gives form left (codes "--" ∷ words) given
 
@@ -30,14 +33,14 @@ abbrev pub AreNew : Form → Given → Given → Type 0
 AreNew form before [] = Unit {0}
 AreNew form before (g ∷ more) = (text_of g.0 before ≡ None) × (fits form.numbers g.0 g.1 ≡ true) × AreNew form (before ++ g ∷ []) more
 
--- The words are the subcommand's name, and then each of these texts once, in any order of its options and its places.
-pub record IsLine (form : Form) (words texts : List Text) : Type 0 where
+-- The words are the subcommand's name, and then each of these texts once, in any order of its options, its flags and its places.
+pub record IsLine (form : Form) (words : List Text) (texts : List (Option Text)) : Type 0 where
   pub rest : List Text
   pub given : Given
   pub named : words ≡ form.name ∷ rest
   pub gives : Gives form form.positions rest given
   pub new : AreNew form [] given
-  pub complete : texts_of (labels form) given ≡ Some texts
+  pub complete : texts_of form (labels form) given ≡ Some texts
 
 -- it is one of these
 abbrev pub IsAmong : Form → List Form → Type 0

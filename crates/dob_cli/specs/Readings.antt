@@ -1,5 +1,6 @@
 -- How what was read of the words goes with what they ask for.
-use Rattle.std.specs.Prelude.{◌≡◌, true, List, [], ◌∷◌, codes}
+use Rattle.std.specs.Prelude.{◌≡◌, true, List, [], ◌∷◌, Option, Some, codes, is_some, option_map}
+use Rattle.std.specs.Borrow.{Bor}
 use Rattle.clap.specs.declared.error.kind.ErrorKind.{ErrorKind}
 use Rattle.clap.specs.declared.error.kind.ErrorKind.TheVariants as kind
 use Rattle.dob_cli.specs.Forms.{Form, Text, forms}
@@ -16,26 +17,34 @@ name_of_order (order.Value _) = codes "value"
 name_of_order (order.Count _) = codes "count"
 name_of_order (order.Build _ _ _) = codes "build"
 name_of_order (order.Probe _ _) = codes "probe"
-name_of_order (order.Line _ _) = codes "line"
+name_of_order (order.Line _ _ _) = codes "line"
 name_of_order (order.Check _) = codes "check"
 name_of_order (order.Look _ _) = codes "look"
-name_of_order (order.Show _) = codes "show"
+name_of_order (order.Show _ _ _) = codes "show"
 name_of_order (order.Moves _ _) = codes "moves"
+name_of_order (order.Stats _) = codes "stats"
+
+-- the text that may be left out
+abbrev pub text_given : Option (Bor Text) → Option Text
+text_given = option_map (λ t. t.now)
 
 -- it has these texts, in the order of the subcommand's form; of a number the text may be any that tells it
-abbrev pub HasTexts : List Text → Order → Type 0
-HasTexts texts (order.Value position) = position.now ∷ [] ≡ texts
-HasTexts texts (order.Count set) = set.now ∷ [] ≡ texts
-HasTexts texts (order.Build set nodes file) = (t : Text) × (set.now ∷ t ∷ file.now ∷ [] ≡ texts) × (is_number t ≡ true) × (nodes ≡ number_of t)
-HasTexts texts (order.Probe file position) = file.now ∷ position.now ∷ [] ≡ texts
-HasTexts texts (order.Line file position) = file.now ∷ position.now ∷ [] ≡ texts
-HasTexts texts (order.Check file) = file.now ∷ [] ≡ texts
-HasTexts texts (order.Look file position) = file.now ∷ position.now ∷ [] ≡ texts
-HasTexts texts (order.Show position) = position.now ∷ [] ≡ texts
-HasTexts texts (order.Moves file position) = file.now ∷ position.now ∷ [] ≡ texts
+abbrev pub HasTexts : List (Option Text) → Order → Type 0
+HasTexts texts (order.Value position) = Some position.now ∷ [] ≡ texts
+HasTexts texts (order.Count set) = Some set.now ∷ [] ≡ texts
+HasTexts texts (order.Build set nodes file) =
+    (t : Text) × (Some set.now ∷ Some t ∷ Some file.now ∷ [] ≡ texts) × (is_number t ≡ true) × (nodes ≡ number_of t)
+HasTexts texts (order.Probe file position) = Some file.now ∷ Some position.now ∷ [] ≡ texts
+HasTexts texts (order.Line file is_numbered position) =
+    (flag : Option Text) × (Some file.now ∷ flag ∷ Some position.now ∷ [] ≡ texts) × (is_numbered ≡ is_some flag)
+HasTexts texts (order.Check file) = Some file.now ∷ [] ≡ texts
+HasTexts texts (order.Look file position) = Some file.now ∷ Some position.now ∷ [] ≡ texts
+HasTexts texts (order.Show file picture position) = text_given file ∷ text_given picture ∷ Some position.now ∷ [] ≡ texts
+HasTexts texts (order.Moves file position) = Some file.now ∷ Some position.now ∷ [] ≡ texts
+HasTexts texts (order.Stats file) = Some file.now ∷ [] ≡ texts
 
 -- the order is for this subcommand and these texts
-abbrev pub IsOrder : Text → List Text → Order → Type 0
+abbrev pub IsOrder : Text → List (Option Text) → Order → Type 0
 IsOrder name texts o = (name_of_order o ≡ name) × HasTexts texts o
 
 -- what was read is what the words ask for
@@ -47,12 +56,12 @@ IsReadingOf usage (reading.Usage _) = Unit {0}
 IsReadingOf _ _ = ⊥
 
 -- the words are a line for the subcommand of this name and these texts
-abbrev pub SomeLine : List Text → Text → List Text → Type 0
+abbrev pub SomeLine : List Text → Text → List (Option Text) → Type 0
 SomeLine words name texts = (form : Form) × IsAmong form forms × (form.name ≡ name) × IsLine form words texts
 
 -- an order is read only from a line that asks for it
 abbrev pub ComesFromLine : List Text → Reading → Type 0
-ComesFromLine words (reading.Order o) = (texts : List Text) × HasTexts texts o × SomeLine words (name_of_order o) texts
+ComesFromLine words (reading.Order o) = (texts : List (Option Text)) × HasTexts texts o × SomeLine words (name_of_order o) texts
 ComesFromLine words _ = Unit {0}
 
 -- what an error of this kind is read as

@@ -1,7 +1,7 @@
 -- What the program does with its words, whatever they are.
-use Rattle.std.specs.Prelude.{◌≡◌, ◌≢◌, ◌⊎◌, ℕ, false, List, [], ◌∷◌, ◌++◌, Option, codes}
+use Rattle.std.specs.Prelude.{◌≡◌, ◌≢◌, ◌⊎◌, ℕ, Bool, false, List, [], ◌∷◌, ◌++◌, Option, Some, codes}
 use Rattle.dob_dbfile.specs.Sinks.{Change, IsSame, IsUntouched, Says}
-use Rattle.dob_cli.specs.Words.{Text, build, check, count, help, line, look, meaning_of, moves, number_of, probe, show, usage, value, version}
+use Rattle.dob_cli.specs.Words.{Text, build, check, count, help, line, look, meaning_of, moves, number_of, probe, show, stats, usage, value, version}
 use Rattle.dob_pieces.specs.Bytes.{line_feed}
 use Rattle.dob_cli.specs.Endings.{AnswersHelp, AnswersUsage, AnswersVersion, Ending, TellsMemory, ended}
 use Rattle.dob_cli.specs.Shelves.{SameFiles, SameOthers, ShelfChange}
@@ -9,15 +9,20 @@ use Rattle.dob_cli.specs.Program.{AnswersValue}
 use Rattle.dob_cli.specs.Sizes.{AnswersCount}
 use Rattle.dob_cli.specs.Builds.{AnswersBuild}
 use Rattle.dob_cli.specs.Looks.{AnswersLook, AnswersLookRight}
-use Rattle.dob_cli.specs.Choices.{AnswersMoves}
+use Rattle.dob_cli.specs.Choices.{AnswersMoves, AnswersMovesRight}
 use Rattle.dob_cli.specs.Shows.{AnswersShow}
+use Rattle.dob_cli.specs.Stats.{AnswersStats}
 use Rattle.dob_cli.specs.Tables.{AnswersCheck, AnswersLine, AnswersProbe, AnswersProbeRight, HasValueFile}
 
 -- It does what these words ask for, over a shelf that changes so.
 pub record Ran (c : ShelfChange) (words : List Text) (e : Ending) : Type 0 where
-  -- a build leaves the other files what they had, and all else leaves all files so
+  -- a build and a picture leave the other files what they had, and all else leaves all files so
   pub others : (set nodes file : Text) → meaning_of words ≡ build set nodes file → SameOthers file c.before.has c.after.has
-  pub files : ((set nodes file : Text) → meaning_of words ≢ build set nodes file) → SameFiles c.before.has c.after.has
+  pub others_of_picture : (file : Option Text) (picture position : Text) → meaning_of words ≡ show file (Some picture) position
+      → SameOthers picture c.before.has c.after.has
+  pub files : ((set nodes file : Text) → meaning_of words ≢ build set nodes file)
+      → ((file : Option Text) (picture position : Text) → meaning_of words ≢ show file (Some picture) position)
+      → SameFiles c.before.has c.after.has
   -- what it tells
   pub value : (position : Text) → meaning_of words ≡ value position → AnswersValue c position e
   pub count : (set : Text) → meaning_of words ≡ count set → AnswersCount c set e
@@ -25,12 +30,15 @@ pub record Ran (c : ShelfChange) (words : List Text) (e : Ending) : Type 0 where
   -- by the file of a value table the value told is right
   pub probe_right : (file position : Text) → meaning_of words ≡ probe file position → HasValueFile (c.before.has file) → AnswersProbeRight c file position e
   pub probe : (file position : Text) → meaning_of words ≡ probe file position → AnswersProbe c file position e
-  pub line : (file position : Text) → meaning_of words ≡ line file position → AnswersLine c file position e
+  pub line : (file : Text) (is_numbered : Bool) (position : Text) → meaning_of words ≡ line file is_numbered position
+      → AnswersLine c file is_numbered position e
   pub check : (file : Text) → meaning_of words ≡ check file → AnswersCheck c file e
   pub look_right : (file position : Text) → meaning_of words ≡ look file position → HasValueFile (c.before.has file) → AnswersLookRight c file position e
   pub look : (file position : Text) → meaning_of words ≡ look file position → AnswersLook c file position e
-  pub show : (position : Text) → meaning_of words ≡ show position → AnswersShow c position e
+  pub show : (file picture : Option Text) (position : Text) → meaning_of words ≡ show file picture position → AnswersShow c file picture position e
+  pub moves_right : (file position : Text) → meaning_of words ≡ moves file position → HasValueFile (c.before.has file) → AnswersMovesRight c file position e
   pub moves : (file position : Text) → meaning_of words ≡ moves file position → AnswersMoves c file position e
+  pub stats : (file : Text) → meaning_of words ≡ stats file → AnswersStats c file e
   pub help : meaning_of words ≡ help → AnswersHelp e
   pub version : meaning_of words ≡ version → AnswersVersion e
   pub usage : meaning_of words ≡ usage → AnswersUsage e

@@ -1,10 +1,10 @@
 -- What the program owes where it is asked for something of a database file.
-use Rattle.std.specs.Prelude.{◌≡◌, ◌⊎◌, ℕ, Bool, false, not, List, [], ◌∷◌, ◌++◌, codes}
+use Rattle.std.specs.Prelude.{◌≡◌, ◌⊎◌, ℕ, Bool, false, if◌then◌else◌, not, List, [], ◌∷◌, ◌++◌, codes}
 use Rattle.dob_pieces.specs.declared.setup.Setup.{Setup}
 use Rattle.dob_pieces.specs.Setups.{IsLegal}
 use Rattle.dob_text.specs.PositionText.{Spells}
 use Rattle.dob_text.specs.Faults as text
-use Rattle.dob_text.specs.MoveText.{move_text}
+use Rattle.dob_text.specs.MoveText.{move_text, numbered_text}
 use Rattle.dob_moves.specs.declared.game_move.Move.{Move}
 use Rattle.dob_rank.specs.Order.{IsPositionOf}
 use Rattle.dob_value.specs.declared.value.Value.{Value}
@@ -71,13 +71,13 @@ abbrev pub end_text : Value → List ℕ
 end_text Draw = codes "draw"
 end_text _ = codes "end"
 
--- the line that tells moves, of a position of that value
-abbrev pub moves_line : Value → List Move → List ℕ
-moves_line value [] = end_text value ++ line_feed ∷ []
-moves_line value moves = moves_text false moves ++ line_feed ∷ []
+-- the lines that tell moves, of a position of that value: all on one, or each on its own with its number
+abbrev pub moves_lines : Bool → Value → List Move → List ℕ
+moves_lines is_numbered value [] = end_text value ++ line_feed ∷ []
+moves_lines is_numbered value moves = if is_numbered then numbered_text moves else moves_text false moves ++ line_feed ∷ []
 
--- the lines tell the line of the text's position by the file's table
-pub record IsMovesLine (Has : List ℕ → Type 0) (words lines : List ℕ) : Type 0 where
+-- the lines tell the line of the text's position by the file's table, numbered where that is asked for
+pub record AreMovesLines (Has : List ℕ → Type 0) (is_numbered : Bool) (words lines : List ℕ) : Type 0 where
   pub table : ClassTable
   pub file : IsFileOf Has table
   pub position : Setup
@@ -86,7 +86,7 @@ pub record IsMovesLine (Has : List ℕ → Type 0) (words lines : List ℕ) : Ty
   pub given : GivenBy table position value
   pub moves : List Move
   pub line : IsLine (GivenBy table) position moves
-  pub same : lines ≡ moves_line value moves
+  pub same : lines ≡ moves_lines is_numbered value moves
 
 -- the lines say that the file's table is the value table
 pub record IsCheckLine (Has : List ℕ → Type 0) (lines : List ℕ) : Type 0 where
@@ -144,8 +144,8 @@ AnswersProbe c file words = AnswersOver c (IsProbeLine (c.before.has file) words
 abbrev pub AnswersProbeRight : ShelfChange → List ℕ → List ℕ → Ending → Type 0
 AnswersProbeRight c file words = AnswersOver c (IsValueLineOf words) (IsPositionFault (c.before.has file) words)
 
-abbrev pub AnswersLine : ShelfChange → List ℕ → List ℕ → Ending → Type 0
-AnswersLine c file words = AnswersOver c (IsMovesLine (c.before.has file) words) (IsPositionFault (c.before.has file) words)
+abbrev pub AnswersLine : ShelfChange → List ℕ → Bool → List ℕ → Ending → Type 0
+AnswersLine c file is_numbered words = AnswersOver c (AreMovesLines (c.before.has file) is_numbered words) (IsPositionFault (c.before.has file) words)
 
 abbrev pub AnswersCheck : ShelfChange → List ℕ → Ending → Type 0
 AnswersCheck c file = AnswersOver c (IsCheckLine (c.before.has file)) (IsCheckFault (c.before.has file))

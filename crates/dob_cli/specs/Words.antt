@@ -8,7 +8,7 @@ use Rattle.std.specs.Option.{option_map_or}
 use Rattle.std.specs.Str.{bytes_eq, chars}
 use Rattle.std.specs.Str.Parse.{digits_value, without_leading_plus}
 use Rattle.dob_pieces.specs.Bytes.{hyphen, equals_sign, lower_h}
-use Rattle.dob_cli.specs.Forms.{Form, forms, labels}
+use Rattle.dob_cli.specs.Forms.{Form, forms, is_among, is_needed, labels}
 pub use Rattle.dob_cli.specs.Forms.{Text}
 
 -- ---- what one word is
@@ -50,9 +50,9 @@ is_number t =
 
 -- the text of this label is a number, where it has to be one
 abbrev pub fits : List Text → Text → Text → Bool
-fits numbers label t = not (list_any (λ l. bytes_eq l label) numbers) || is_number t
+fits numbers label t = not (is_among numbers label) || is_number t
 
--- what a word is to a subcommand that takes such options
+-- what a word is to a subcommand of a form
 pub data Part : Type 0 where
   -- a text
   text : Part
@@ -64,17 +64,23 @@ pub data Part : Type 0 where
   option : Text → Part
   -- `--NAME=TEXT`
   valued : Text → Text → Part
-  -- an option that it does not know
+  -- `--NAME` for the flag of this name
+  flag : Text → Part
+  -- an option or a flag that it does not know
   unknown : Part
 
 -- the label of the option's text
 abbrev pub label_of : List (Text × Text) → Text → Option Text
 label_of options name = option_map (λ o. o.1) (find (λ o. bytes_eq o.0 name) options)
 
--- an option's word, by what follows `--`
-abbrev pub option_part : List (Text × Text) → Text → Part
-option_part options rest =
-    option_map_or (λ label. option_map_or (valued label) (text_in rest) (option label)) (label_of options (name_in rest)) unknown
+-- a flag's word, by what follows `--`: it has no text
+abbrev pub flag_part : List Text → Text → Part
+flag_part flags rest = if is_among flags (name_in rest) && not (is_some (text_in rest)) then flag (name_in rest) else unknown
+
+-- an option's word or a flag's, by what follows `--`
+abbrev pub named_part : Form → Text → Part
+named_part form rest =
+    option_map_or (λ label. option_map_or (valued label) (text_in rest) (option label)) (label_of form.options (name_in rest)) (flag_part form.flags rest)
 
 -- what follows a word's `--`
 abbrev pub after_dashes : Text → Option Text
@@ -82,19 +88,19 @@ after_dashes [] = None
 after_dashes (a ∷ []) = None
 after_dashes (a ∷ b ∷ rest) = if a == hyphen && b == hyphen then Some rest else None
 
-abbrev pub part_of : List (Text × Text) → Text → Part
-part_of options word =
+abbrev pub part_of : Form → Text → Part
+part_of form word =
     if is_text word then text
     else if is_dashes word then dashes
     else if is_help_flag word then call
-    else option_map_or (option_part options) (after_dashes word) unknown
+    else option_map_or (named_part form) (after_dashes word) unknown
 
 -- ---- what the words come to
 
 -- what the words ask for
 pub data Meaning : Type 0 where
-  -- what the subcommand of this name does with these texts
-  asks : Text → List Text → Meaning
+  -- what the subcommand of this name does with these texts, in the order of its form; what may be left out may have none
+  asks : Text → List (Option Text) → Meaning
   -- a help text
   help : Meaning
   -- the program's version
@@ -109,11 +115,12 @@ Given = List (Text × Text)
 abbrev pub text_of : Text → Given → Option Text
 text_of label given = option_map (λ g. g.1) (find (λ g. bytes_eq g.0 label) given)
 
--- the texts of these labels, where each is given
-abbrev pub texts_of : List Text → Given → Option (List Text)
-texts_of [] given = Some []
-texts_of (label ∷ more) given =
-    option_and_then (λ t. option_map (λ ts. t ∷ ts) (texts_of more given)) (text_of label given)
+-- what is given for these labels, where each that is needed is
+abbrev pub texts_of : Form → List Text → Given → Option (List (Option Text))
+texts_of form [] given = Some []
+texts_of form (label ∷ more) given =
+    if is_needed form label && not (is_some (text_of label given)) then None
+    else option_map (λ texts. text_of label given ∷ texts) (texts_of form more given)
 
 -- where the words of a subcommand stand after some of them: what is given, and the labels of the places that are left
 pub data Stand : Type 0 where
@@ -145,6 +152,7 @@ after_part form given left word dashes = behind given left
 after_part form given left word call = ended help
 after_part form given left word (option label) = once label given (wants label given left)
 after_part form given left word (valued label t) = kept form label t given (between (given ++ (label, t) ∷ []) left)
+after_part form given left word (flag name) = kept form name [] given (between (given ++ (name, []) ∷ []) left)
 after_part form given left word unknown = ended usage
 
 -- the word is the text of the option before it
@@ -153,14 +161,14 @@ wanted form label given left word = if fits form.numbers label word then between
 
 -- after one more word
 abbrev pub after_word : Form → Stand → Text → Stand
-after_word form (between given left) word = after_part form given left word (part_of form.options word)
+after_word form (between given left) word = after_part form given left word (part_of form word)
 after_word form (wants label given left) word = if is_text word then wanted form label given left word else ended usage
 after_word form (behind given left) word = placed form behind given left word
 after_word form (ended meaning) word = ended meaning
 
 -- what is asked for where these texts were given
 abbrev pub asked : Form → Given → Meaning
-asked form given = option_map_or (asks form.name) (texts_of (labels form) given) usage
+asked form given = option_map_or (asks form.name) (texts_of form (labels form) given) usage
 
 -- after the last word
 abbrev pub at_end : Form → Stand → Meaning
@@ -216,38 +224,50 @@ meaning_of words =
 
 -- ---- what is asked for, by name
 
+-- the texts of a subcommand of which none may be left out
+abbrev pub asks_all : Text → List Text → Meaning
+asks_all name texts = asks name (map (λ t. Some t) texts)
+
+-- what a flag's text is, where it is given and where it isn't
+abbrev pub flag_text : Bool → Option Text
+flag_text is_given = if is_given then Some [] else None
+
 -- the value of the position that the text names
 abbrev pub value : Text → Meaning
-value position = asks (codes "value") (position ∷ [])
+value position = asks_all (codes "value") (position ∷ [])
 
 -- the numbers of positions and classes of the piece set that the text names
 abbrev pub count : Text → Meaning
-count set = asks (codes "count") (set ∷ [])
+count set = asks_all (codes "count") (set ∷ [])
 
 -- a file of the table of the piece set that the text names, built by so many nodes
 abbrev pub build : Text → Text → Text → Meaning
-build set nodes file = asks (codes "build") (set ∷ nodes ∷ file ∷ [])
+build set nodes file = asks_all (codes "build") (set ∷ nodes ∷ file ∷ [])
 
 -- the value of the position by the table of the file
 abbrev pub probe : Text → Text → Meaning
-probe file position = asks (codes "probe") (file ∷ position ∷ [])
+probe file position = asks_all (codes "probe") (file ∷ position ∷ [])
 
--- the line of the position by the table of the file
-abbrev pub line : Text → Text → Meaning
-line file position = asks (codes "line") (file ∷ position ∷ [])
+-- the line of the position by the table of the file, each move on a line with its number where that is asked for
+abbrev pub line : Text → Bool → Text → Meaning
+line file is_numbered position = asks (codes "line") (Some file ∷ flag_text is_numbered ∷ Some position ∷ [])
 
 -- whether the table of the file is consistent
 abbrev pub check : Text → Meaning
-check file = asks (codes "check") (file ∷ [])
+check file = asks_all (codes "check") (file ∷ [])
 
 -- the value that the file's record of the position's class says
 abbrev pub look : Text → Text → Meaning
-look file position = asks (codes "look") (file ∷ position ∷ [])
+look file position = asks_all (codes "look") (file ∷ position ∷ [])
 
--- the position that the text names, drawn
-abbrev pub show : Text → Meaning
-show position = asks (codes "show") (position ∷ [])
+-- the position that the text names, drawn; by a file its value and its line too, and as a picture in another
+abbrev pub show : Option Text → Option Text → Text → Meaning
+show file picture position = asks (codes "show") (file ∷ picture ∷ Some position ∷ [])
 
 -- the moves of the position with their values by the table of the file
 abbrev pub moves : Text → Text → Meaning
-moves file position = asks (codes "moves") (file ∷ position ∷ [])
+moves file position = asks_all (codes "moves") (file ∷ position ∷ [])
+
+-- how many classes of the file's table have which value
+abbrev pub stats : Text → Meaning
+stats file = asks_all (codes "stats") (file ∷ [])

@@ -67,8 +67,8 @@ fn keep_table<S: Shelf>(
     }
 }
 
-// The lines that tell how many classes the table has, and how many of them have which value.
-fn lines_of(alloc: Global, table: &Table) -> Result<String, AllocError>
+/// The lines that tell how many classes the table has, and how many of them have which value.
+pub(crate) fn lines_of(alloc: Global, table: &Table) -> Result<String, AllocError>
     ensures { IfOk result (λ lines. string_bytes lines ≡ class_lines table.now.values) }
 {
     let classes = table.class_count();

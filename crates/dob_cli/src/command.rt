@@ -3,27 +3,29 @@
 // A further subcommand, as `probe --db FILE POSITION`, has
 // - a form in specs/Forms.antt, also in `forms`, and the name of what it asks for at the end of specs/Words.antt;
 // - a variant of `Order` here, with its case in both functions of specs/Readings.antt;
-// - a function that makes its command, its options by `option_argument`, which `dobutsu_command` adds, a function in
-//   command/orders.rt that reads its matches, and an arm in `order_of`;
+// - a function that makes its command, which `dobutsu_command` adds: its options by `option_argument`, `required` but those that its
+//   form says may be left out, its flags by `flag_argument`, and then POSITION, as its form orders them; a function in
+//   command/orders.rt that reads its matches, of a flag whether it has a text, and an arm in `order_of`;
 // - a record in proofs/Taken.antt, proofs/AllWords.antt and proofs/Lines.antt, by `refl`, and a line each in `all_fit` and
 //   `all_known`;
 // - its cases in the answers of `dobutsu_command` and `order_of`, as those of `count`;
 // - what it owes by a definition like `AnswersCount`, a case in each definition of specs/Orders.antt and a field of `Ran` in
 //   specs/Runs.antt;
 // - in program.rt an arm of `answer`, and its cases in proofs/Orders.antt and proofs/Runs.antt.
-ghost use Rattle.std.specs.Prelude.{◌≡◌, ◌∷◌, [], IfOk, IsSomeAnd, List, codes, map, true};
+ghost use Rattle.std.specs.Prelude.{◌≡◌, [], IfOk, IsSomeAnd, List, Option, codes, false, map, true};
 ghost use Rattle.clap.specs.Words.{App, Rule, kind_of, subcommand_rows_of, with_rule, with_subcommand};
 ghost use Rattle.dob_cli.specs.Forms.{Form, Text, build_form, check_form, count_form, forms, line_form, look_form, probe_form};
-ghost use Rattle.dob_cli.specs.Forms.{moves_form, show_form, value_form, file_option, nodes_option, out_option, set_option};
+ghost use Rattle.dob_cli.specs.Forms.{moves_form, show_form, value_form, file_option, nodes_option, numbered_flag, out_option, picture_option};
+ghost use Rattle.dob_cli.specs.Forms.{plain_form, set_option, stats_form};
 ghost use Rattle.dob_cli.specs.Lines.{IsAmong, IsLine};
 ghost use Rattle.dob_cli.specs.Words.{asks, has_topic, is_topic, is_version, meaning_of, meaning_of_topic, names_subcommand};
-ghost use Rattle.dob_cli.specs.Shapes.{Finds, HasShape, IsRead, bare_app, dobutsu_app, form_app, option_rule, text_rule};
+ghost use Rattle.dob_cli.specs.Shapes.{Finds, HasShape, IsRead, bare_app, dobutsu_app, flag_rule, form_app, option_rule, text_rule};
 ghost use Rattle.dob_cli.specs.Readings.{ComesFromLine, IsOrder, IsReadingOf, IsReadingOfKind};
 
 mod orders;
 
 use clap::error::ErrorKind;
-use clap::{Arg, ArgMatches, Command, Error, value_parser};
+use clap::{Arg, ArgAction, ArgMatches, Command, Error, value_parser};
 use std::alloc::{AllocError, Global};
 
 /// What the program is asked to do.
@@ -44,9 +46,10 @@ pub enum Order<'a> {
         file: &'a str,
         position: &'a str,
     },
-    /// To print the line of the position by the table of the file.
+    /// To print the line of the position by the table of the file, each move on a line with its number where it is numbered.
     Line {
         file: &'a str,
+        is_numbered: bool,
         position: &'a str,
     },
     /// To tell whether the table of the file is consistent.
@@ -56,13 +59,20 @@ pub enum Order<'a> {
         file: &'a str,
         position: &'a str,
     },
-    /// To draw the position that the text names.
-    Show(&'a str),
+    /// To draw the position that the text names, in a file too where one is named for the picture; where a table's file is
+    /// named, to print the position's value and its line by it.
+    Show {
+        file: Option<&'a str>,
+        picture: Option<&'a str>,
+        position: &'a str,
+    },
     /// To print the moves of the position with their values by the table of the file.
     Moves {
         file: &'a str,
         position: &'a str,
     },
+    /// To print how many classes of the file's table have which value.
+    Stats(&'a str),
 }
 
 /// What the words come to.
@@ -164,7 +174,7 @@ first such move: a piece's letter, its square, `-` or `x` for a catch, the squar
 side that isn't to move first are in lower case.
 
 Answers: the moves, `draw` where neither side can force an end, or `end` where the side to move has
-lost already.
+lost already. With `--numbered` each move stands on a line of its own behind its number, as `1. La2-a3`.
 
 Example: dobutsu line --db 000.db \"..l/.../L../... - -\" prints `La2-a3 lc4-b4 La3xb4`.";
 
@@ -192,6 +202,10 @@ so that `b2` names the square where column b meets row 2. Capital letters are th
 move, which go up; small letters are those of the other side, which go down. A hand holds the pieces
 that were caught and can be dropped again.
 
+With `--db FILE` an empty line follows, then the position's value and its best play, as `dobutsu probe` and
+`dobutsu line --numbered` print them. With `--svg OUT` the board is drawn as a picture too, for a browser: the
+file OUT is made anew or overwritten, as `dobutsu build --help` says of its own.
+
 Example: dobutsu show \"gle/.c./.C./ELG - -\" draws the board that a game begins with.
 `dobutsu value --help` says how a position is written.";
 
@@ -205,6 +219,16 @@ catch, `MOVE win 1`; and `end` where the side to move has lost already.
 
 Example: dobutsu moves --db 000.db \"..l/.../L../... - -\" prints `La2-a3 win 3` first.";
 
+const STATS_HELP: &str =
+    "How hard a piece set is: so many of its classes are won and lost at each distance. A class is a position with its mirror
+image; a file that `dobutsu check` calls consistent holds the values by definition.
+
+Answers: the lines of `dobutsu build`, `classes N`, `win N`, `loss N` and `draw N`; then `win D N` or `loss D N`
+for each distance D in plies that occurs, the least first; then `longest win D POSITION` and `longest loss D POSITION`,
+each with the first class of that distance, where there are wins and losses.
+
+Example: dobutsu stats --db 000.db prints `classes 54` first.";
+
 /// Reads the words after the program's name. `--help`, `-h` and the subcommand `help`, alone or with the name of another
 /// one, give a help. As the first word `--version` asks for the version. A word that begins with `-` is an option, but for a lone `-`,
 /// the first `--` and what follows it.
@@ -215,7 +239,7 @@ Example: dobutsu moves --db 000.db \"..l/.../L../... - -\" prints `La2-a3 win 3`
 pub fn read_words<'a>(alloc: Global, words: &'a [&'a str]) -> Result<Reading<'a>, AllocError>
     ensures meaning { IfOk result (IsReadingOf (meaning_of (map (λ w. w.now) words.now))) }
     ensures sound { IfOk result (ComesFromLine (map (λ w. w.now) words.now)) }
-    ensures complete { (form : Form) (texts : List Text) → IsAmong form forms
+    ensures complete { (form : Form) (texts : List (Option Text)) → IsAmong form forms
         → IsLine form (map (λ w. w.now) words.now) texts → IfOk result (IsReadingOf (asks form.name texts)) }
 {
     if asks_version(words) {
@@ -295,6 +319,7 @@ fn names_subcommand(name: &str) -> bool
             | "look"
             | "show"
             | "moves"
+            | "stats"
     )
 }
 
@@ -311,7 +336,8 @@ fn dobutsu_command<'a>(alloc: Global) -> Result<Command<'a>, AllocError>
     let command = add_subcommand(command, check_command(alloc));
     let command = add_subcommand(command, look_command(alloc));
     let command = add_subcommand(command, show_command(alloc));
-    add_subcommand(command, moves_command(alloc))
+    let command = add_subcommand(command, moves_command(alloc));
+    add_subcommand(command, stats_command(alloc))
 }
 
 // The command with the subcommand, where memory was left for both. It takes their results, since a chain of `?` is slow
@@ -392,6 +418,7 @@ fn line_command<'a>(alloc: Global) -> Result<Command<'a>, AllocError>
         .about("Prints the best play from a position by a database file")
         .after_help(LINE_HELP)
         .arg(file_argument(alloc));
+    let command = add_argument(command, numbered_argument(alloc));
     add_argument(command, position_argument(alloc))
 }
 
@@ -420,10 +447,12 @@ fn look_command<'a>(alloc: Global) -> Result<Command<'a>, AllocError>
 fn show_command<'a>(alloc: Global) -> Result<Command<'a>, AllocError>
     ensures { IfOk result (HasShape (form_app show_form)) }
 {
-    Command::new(alloc, "show")
+    let command = Command::new(alloc, "show")
         .about("Draws the board of a position, with its squares' names and both hands")
         .after_help(SHOW_HELP)
-        .arg(position_argument(alloc))
+        .arg(shown_file_argument(alloc));
+    let command = add_argument(command, picture_argument(alloc));
+    add_argument(command, position_argument(alloc))
 }
 
 // The subcommand `moves`.
@@ -435,6 +464,16 @@ fn moves_command<'a>(alloc: Global) -> Result<Command<'a>, AllocError>
         .after_help(MOVES_HELP)
         .arg(file_argument(alloc));
     add_argument(command, position_argument(alloc))
+}
+
+// The subcommand `stats`.
+fn stats_command<'a>(alloc: Global) -> Result<Command<'a>, AllocError>
+    ensures { IfOk result (HasShape (form_app stats_form)) }
+{
+    Command::new(alloc, "stats")
+        .about("Prints how many classes of a database file have which value, and the longest ones")
+        .after_help(STATS_HELP)
+        .arg(file_argument(alloc))
 }
 
 // The command with a further argument, where memory was left for it so far. It takes a result, as `add_subcommand` does.
@@ -450,44 +489,82 @@ fn add_argument<'a>(
 
 // The option `--set CEG`.
 fn set_argument<'a>(alloc: Global) -> Arg<'a>
-    ensures { IsRead (option_rule [] set_option) result }
+    ensures { IsRead (option_rule count_form set_option) result }
 {
-    option_argument(alloc, "set", "CEG", "The piece set, as three digits")
+    option_argument(alloc, "set", "CEG", "The piece set, as three digits").required(true)
 }
 
 // The option `--nodes N`.
 fn nodes_argument<'a>(alloc: Global) -> Arg<'a>
-    ensures { IsRead (option_rule (codes "N" ∷ []) nodes_option) result }
+    ensures { IsRead (option_rule build_form nodes_option) result }
 {
     let number = value_parser!(u64);
-    option_argument(alloc, "nodes", "N", "The number of nodes, 1 to 16").value_parser(number)
+    let help = "The number of nodes, 1 to 16";
+    option_argument(alloc, "nodes", "N", help)
+        .required(true)
+        .value_parser(number)
 }
 
 // The option `--out FILE`.
 fn out_argument<'a>(alloc: Global) -> Arg<'a>
-    ensures { IsRead (option_rule [] out_option) result }
+    ensures { IsRead (option_rule build_form out_option) result }
 {
     let help = "The database file, made anew or overwritten";
-    option_argument(alloc, "out", "FILE", help)
+    option_argument(alloc, "out", "FILE", help).required(true)
 }
 
 // The option `--db FILE`.
 fn file_argument<'a>(alloc: Global) -> Arg<'a>
-    ensures { IsRead (option_rule [] file_option) result }
+    ensures { IsRead (option_rule probe_form file_option) result }
 {
-    option_argument(alloc, "db", "FILE", "The database file")
+    option_argument(alloc, "db", "FILE", "The database file").required(true)
 }
 
-// An option that has to be there: the name behind `--`, and what its text is called.
-fn option_argument<'a>(alloc: Global, name: &'a str, label: &'a str, help: &'a str) -> Arg<'a>
-    ensures { IsRead (option_rule [] (name.now, label.now)) result }
+// The same, where it may be left out.
+fn shown_file_argument<'a>(alloc: Global) -> Arg<'a>
+    ensures { IsRead (option_rule show_form file_option) result }
 {
-    Arg::new(alloc, label).long(name).required(true).help(help)
+    let help = "A database file, for the value and the best play";
+    option_argument(alloc, "db", "FILE", help)
+}
+
+// The option `--svg OUT`.
+fn picture_argument<'a>(alloc: Global) -> Arg<'a>
+    ensures { IsRead (option_rule show_form picture_option) result }
+{
+    let help = "A file for the board as a picture, made anew or overwritten";
+    option_argument(alloc, "svg", "OUT", help)
+}
+
+// The flag `--numbered`.
+fn numbered_argument<'a>(alloc: Global) -> Arg<'a>
+    ensures { IsRead (flag_rule numbered_flag) result }
+{
+    flag_argument(alloc, "numbered", "Each move on a line, with its number")
+}
+
+// An option that may be left out: the name behind `--`, and what its text is called.
+fn option_argument<'a>(alloc: Global, name: &'a str, label: &'a str, help: &'a str) -> Arg<'a>
+    ensures { IsRead (record (option_rule (plain_form [] [] []) (name.now, label.now)) { required = false }) result }
+{
+    Arg::new(alloc, label).long(name).help(help)
+}
+
+// A flag: the name behind `--`, by which it is called too. Its text is empty where it is given.
+fn flag_argument<'a>(alloc: Global, name: &'a str, help: &'a str) -> Arg<'a>
+    ensures { IsRead (flag_rule name.now) result }
+{
+    Arg::new(alloc, name)
+        .long(name)
+        .action(ArgAction::Set)
+        .num_args(0)
+        .default_missing_value("")
+        .help(help)
 }
 
 // The argument POSITION.
 fn position_argument<'a>(alloc: Global) -> Arg<'a>
-    ensures { IsRead (text_rule [] (codes "POSITION")) result }
+    ensures { IsRead (text_rule value_form (codes "POSITION")) result }
 {
     Arg::new(alloc, "POSITION")
         .required(true)
@@ -496,7 +573,7 @@ fn position_argument<'a>(alloc: Global) -> Arg<'a>
 
 // What the matches of the program's command ask for.
 fn order_of<'a>(matches: &ArgMatches<'a>) -> Option<Order<'a>>
-    ensures { (form : Form) (texts : List Text) → IsAmong form forms → Finds form texts (subcommand_rows_of matches.now)
+    ensures { (form : Form) (texts : List (Option Text)) → IsAmong form forms → Finds form texts (subcommand_rows_of matches.now)
         → IsSomeAnd result (IsOrder form.name texts) }
 {
     let (name, inner) = matches.subcommand()?;
@@ -510,6 +587,7 @@ fn order_of<'a>(matches: &ArgMatches<'a>) -> Option<Order<'a>>
         "look" => orders::look_order(inner),
         "show" => orders::show_order(inner),
         "moves" => orders::moves_order(inner),
+        "stats" => orders::stats_order(inner),
         _ => None,
     }
 }

@@ -106,19 +106,6 @@ impl From<dob_value::Fault> for Fault {
     }
 }
 
-impl From<dob_rank::Fault> for Fault {
-    ghost use Rattle.dob_cli.specs.Faults.{fault_of_rank};
-
-    ghost from_gives = { λ given result. result ≡ fault_of_rank given };
-
-    fn from(given: dob_rank::Fault) -> Fault {
-        match given {
-            dob_rank::Fault::SetTooLarge => Fault::SetTooLarge,
-            dob_rank::Fault::Memory => Fault::Memory,
-        }
-    }
-}
-
 impl From<dob_run::Fault> for Fault {
     ghost from_gives = { λ given result. result ≡ fault.Run given };
 

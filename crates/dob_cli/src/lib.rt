@@ -12,6 +12,7 @@ mod looks;
 mod program;
 mod shelf;
 mod shows;
+mod stats;
 mod tables;
 mod tally;
 

@@ -20,6 +20,7 @@ use crate::fault::Fault;
 use crate::looks::answer_look;
 use crate::shelf::Shelf;
 use crate::shows::answer_show;
+use crate::stats::answer_stats;
 use crate::tables::{answer_check, answer_line, answer_probe};
 use dob_dbfile::{Lent, Sink, put_all, write_all};
 use dob_text::read_position;
@@ -127,11 +128,20 @@ fn answer<S: Shelf>(
         Order::Count(set) => answer_count(alloc, set),
         Order::Build { set, nodes, file } => answer_build(rt, alloc, shelf, set, nodes, file),
         Order::Probe { file, position } => answer_probe(alloc, shelf, file, position),
-        Order::Line { file, position } => answer_line(alloc, shelf, file, position),
+        Order::Line {
+            file,
+            is_numbered,
+            position,
+        } => answer_line(alloc, shelf, file, is_numbered, position),
         Order::Check(file) => answer_check(rt, alloc, shelf, file),
         Order::Look { file, position } => answer_look(alloc, shelf, file, position),
-        Order::Show(position) => answer_show(alloc, position),
+        Order::Show {
+            file,
+            picture,
+            position,
+        } => answer_show(alloc, shelf, file, picture, position),
         Order::Moves { file, position } => answer_moves(alloc, shelf, file, position),
+        Order::Stats(file) => answer_stats(alloc, shelf, file),
     }
 }
 

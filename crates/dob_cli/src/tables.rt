@@ -1,11 +1,11 @@
 // Answers by the table of a database file.
-ghost use Rattle.std.specs.Prelude.{◌≡◌, ◌++◌, ◌∷◌, [], false, IfOk, IfErr, OnOk, string_bytes};
-ghost use Rattle.dob_text.specs.MoveText.{move_text};
+ghost use Rattle.std.specs.Prelude.{◌≡◌, ◌++◌, ◌∷◌, [], false, if◌then◌else◌, IfOk, IfErr, OnOk, string_bytes};
+ghost use Rattle.dob_text.specs.MoveText.{move_text, numbered_text};
 ghost use Rattle.dob_cli.specs.Shelves.{FailsWhere, SameFiles, shelf_change};
 ghost use Rattle.dob_cli.specs.Faults.{is_io_error};
 ghost use Rattle.dob_pieces.specs.Bytes.{line_feed};
-ghost use Rattle.dob_cli.specs.Tables.{IsCheckFault, IsCheckLine, IsFileOf, IsMovesLine, IsOpeningFault, IsPositionFault};
-ghost use Rattle.dob_cli.specs.Tables.{IsProbeLine, moves_line, moves_text, space_before};
+ghost use Rattle.dob_cli.specs.Tables.{IsCheckFault, IsCheckLine, IsFileOf, AreMovesLines, IsOpeningFault, IsPositionFault};
+ghost use Rattle.dob_cli.specs.Tables.{IsProbeLine, end_text, moves_lines, moves_text, space_before};
 
 use crate::fault::Fault;
 use crate::program::line_of;
@@ -14,7 +14,7 @@ use dob_dbfile::read_table;
 use dob_moves::Move;
 use dob_pieces::Memory;
 use dob_probe::{check, line, probe};
-use dob_text::{read_position, write_move};
+use dob_text::{read_position, write_line, write_move};
 use dob_value::{Table, Value};
 use std::alloc::Global;
 use std::thread::Threads;
@@ -37,14 +37,16 @@ pub(crate) fn answer_probe<S: Shelf>(
     Ok(line_of(alloc, value)?)
 }
 
-/// The line that tells the moves from the position that the text names, by the table of the file.
+/// The lines that tell the moves from the position that the text names, by the table of the file: one of all moves, or one for
+/// each with its number.
 pub(crate) fn answer_line<S: Shelf>(
     alloc: Global,
     shelf: &mut S,
     file: &str,
+    is_numbered: bool,
     text: &str,
 ) -> Result<String, Fault>
-    ensures ok { IfOk result (λ line. IsMovesLine ((S.state shelf.old).has file.now) text.now (string_bytes line)) }
+    ensures ok { IfOk result (λ lines. AreMovesLines ((S.state shelf.old).has file.now) is_numbered text.now (string_bytes lines)) }
     ensures err { IfErr result (IsPositionFault ((S.state shelf.old).has file.now) text.now) }
     ensures files { SameFiles (S.state shelf.old).has (S.state shelf.new).has }
     ensures failed { FailsWhere (shelf_change (S.state shelf.old) (S.state shelf.new)) (is_io_error result) }
@@ -53,7 +55,7 @@ pub(crate) fn answer_line<S: Shelf>(
     let table = open(alloc, shelf, file)?;
     let value = probe(&table, &position)?;
     let moves = line(alloc, &table, &position)?;
-    Ok(moves_line(alloc, value, &moves)?)
+    Ok(moves_lines(alloc, is_numbered, value, &moves)?)
 }
 
 /// The line that tells that the table of the file is consistent, and so the value table.
@@ -78,6 +80,7 @@ pub(crate) fn open<S: Shelf>(alloc: Global, shelf: &mut S, file: &str) -> Result
     ensures table { IfOk result (λ table. IsFileOf ((S.state shelf.old).has file.now) table) }
     ensures fault { IfErr result (IsOpeningFault ((S.state shelf.old).has file.now)) }
     ensures files { SameFiles (S.state shelf.old).has (S.state shelf.new).has }
+    ensures told { (S.state shelf.new).tells ≡ (S.state shelf.old).tells }
     ensures failed { FailsWhere (shelf_change (S.state shelf.old) (S.state shelf.new)) (is_io_error result) }
 {
     let mut source = shelf.find(file)?;
@@ -86,12 +89,29 @@ pub(crate) fn open<S: Shelf>(alloc: Global, shelf: &mut S, file: &str) -> Result
     Ok(read?)
 }
 
-// The line that tells the moves of a position of that value.
-fn moves_line(alloc: Global, value: Value, moves: &[Move]) -> Result<String, Memory>
-    ensures { IfOk result (λ line. string_bytes line ≡ moves_line value moves.now) }
+// The lines that tell the moves of a position of that value.
+fn moves_lines(
+    alloc: Global,
+    is_numbered: bool,
+    value: Value,
+    moves: &[Move],
+) -> Result<String, Memory>
+    ensures { IfOk result (λ lines. string_bytes lines ≡ moves_lines is_numbered value moves.now) }
 {
     if moves.is_empty() {
         Ok(end_line(value).to_string(alloc)?)
+    } else {
+        played_lines(alloc, is_numbered, moves)
+    }
+}
+
+// The same, of some moves.
+fn played_lines(alloc: Global, is_numbered: bool, moves: &[Move]) -> Result<String, Memory>
+    ensures { IfOk result (λ lines. string_bytes lines
+        ≡ (if is_numbered then numbered_text moves.now else moves_text false moves.now ++ line_feed ∷ [])) }
+{
+    if is_numbered {
+        write_line(alloc, moves)
     } else {
         move_line(alloc, moves)
     }
@@ -99,7 +119,7 @@ fn moves_line(alloc: Global, value: Value, moves: &[Move]) -> Result<String, Mem
 
 // The line where there are no moves.
 fn end_line(value: Value) -> &'static str
-    ensures { result.now ≡ moves_line value [] }
+    ensures { result.now ≡ end_text value ++ line_feed ∷ [] }
 {
     match value {
         Value::Draw => "draw\n",

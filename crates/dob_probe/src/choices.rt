@@ -38,6 +38,7 @@ pub fn valued_moves(
 ) -> Result<Vec<ValuedMove>, Fault>
     ensures moves { IfOk result (λ list. AreValuedMoves (GivenBy table.now) position.now.setup list.items) }
     ensures fault { IfErr result (IsFaultOfMoves table.now position.now.setup) }
+    ensures member { OnOk result (IsPositionOf table.now.set position.now.setup) }
     ensures other { (IsPositionOf table.now.set position.now.setup → ⊥) → result ≡ Err Fault.OtherSet }
     ensures right { IsConsistent table.now.set table.now.values →
         IfOk result (λ list. AreValuedMoves HasValue position.now.setup list.items) }

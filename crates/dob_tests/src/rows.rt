@@ -53,6 +53,35 @@ L lion, G giraffe, E elephant, C chick, H hen
 
 const SHOWN: &str = "..l/e../..H/L.. EG cg";
 
+// The same with what the file of lions alone says of it: at a catch the line is that move.
+const PLAYED: &str = "The other side: small letters, going down the board.
+In hand: nothing
+
+     a   b   c
+   +---+---+---+
+ 4 |   |   |   | 4
+   +---+---+---+
+ 3 |   | l |   | 3
+   +---+---+---+
+ 2 |   | L |   | 2
+   +---+---+---+
+ 1 |   |   |   | 1
+   +---+---+---+
+     a   b   c
+
+The side to move: capital letters, going up the board.
+In hand: nothing
+
+L lion, G giraffe, E elephant, C chick, H hen
+
+win 1
+1. Lb2xb3
+";
+
+// Counted of the values of lions alone that were found apart from this program.
+const STATS_OF_000: &str = "classes 54\nwin 38\nloss 12\ndraw 4\nloss 0 7\nwin 1 29\nloss 2 2\nwin 3 3\nloss 4 1\nwin 5 3\nloss 6 2\nwin 7 3
+longest win 7 l../.../.../L.. - -\nlongest loss 6 .../l../.../L.. - -\n";
+
 const LINES_OF_000: &str = "classes 54\nwin 38\nloss 12\ndraw 4\n";
 
 // Over the same files: moves with their values, positions drawn, and a few more. One table of all rows takes the prover too long.
@@ -89,7 +118,33 @@ const FURTHER_ROWS: &[Row] = &[
         "",
         "dobutsu: E7 OtherSet\n",
     ),
+    (
+        &["line", "--db", "lions.db", "--numbered", WIN_3],
+        0,
+        "1. La2-a3\n2. lc4-b4\n3. La3xb4\n",
+        "",
+    ),
+    (
+        &["line", "--numbered", "--db", "lions.db", DRAW],
+        0,
+        "draw\n",
+        "",
+    ),
+    (&["stats", "--db", "lions.db"], 0, STATS_OF_000, ""),
+    (
+        &["stats", "--db", "count.db"],
+        1,
+        "",
+        "dobutsu: E18 ClassCount\n",
+    ),
     (&["show", SHOWN], 0, DRAWN, ""),
+    (&["show", CATCH, "--db", "lions.db"], 0, PLAYED, ""),
+    (
+        &["show", "--db", "lions.db", CHICK],
+        1,
+        "",
+        "dobutsu: E7 OtherSet\n",
+    ),
     (
         &["show", "L../.../.../..l - -"],
         1,

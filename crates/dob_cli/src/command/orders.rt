@@ -1,8 +1,8 @@
 // What the matches of each subcommand ask for.
-ghost use Rattle.std.specs.Prelude.{IsSomeAnd, List, Some, codes};
+ghost use Rattle.std.specs.Prelude.{IsSomeAnd, List, Option, Some, codes};
 ghost use Rattle.clap.specs.Words.{found_of, rows_of};
 ghost use Rattle.dob_cli.specs.Forms.{Text, build_form, check_form, count_form, line_form, look_form, probe_form, show_form};
-ghost use Rattle.dob_cli.specs.Forms.{moves_form, value_form};
+ghost use Rattle.dob_cli.specs.Forms.{moves_form, stats_form, value_form};
 ghost use Rattle.dob_cli.specs.Shapes.{Finds};
 ghost use Rattle.dob_cli.specs.Readings.{IsOrder};
 
@@ -11,7 +11,7 @@ use clap::ArgMatches;
 
 /// What the matches of `value` ask for.
 pub(super) fn value_order<'a>(inner: &ArgMatches<'a>) -> Option<Order<'a>>
-    ensures { (texts : List Text) → Finds value_form texts (Some (codes "value", rows_of (found_of inner.now)))
+    ensures { (texts : List (Option Text)) → Finds value_form texts (Some (codes "value", rows_of (found_of inner.now)))
         → IsSomeAnd result (IsOrder (codes "value") texts) }
 {
     Some(Order::Value(inner.get_str("POSITION")?))
@@ -19,7 +19,7 @@ pub(super) fn value_order<'a>(inner: &ArgMatches<'a>) -> Option<Order<'a>>
 
 /// What the matches of `count` ask for.
 pub(super) fn count_order<'a>(inner: &ArgMatches<'a>) -> Option<Order<'a>>
-    ensures { (texts : List Text) → Finds count_form texts (Some (codes "count", rows_of (found_of inner.now)))
+    ensures { (texts : List (Option Text)) → Finds count_form texts (Some (codes "count", rows_of (found_of inner.now)))
         → IsSomeAnd result (IsOrder (codes "count") texts) }
 {
     Some(Order::Count(inner.get_str("CEG")?))
@@ -27,7 +27,7 @@ pub(super) fn count_order<'a>(inner: &ArgMatches<'a>) -> Option<Order<'a>>
 
 /// What the matches of `build` ask for.
 pub(super) fn build_order<'a>(inner: &ArgMatches<'a>) -> Option<Order<'a>>
-    ensures { (texts : List Text) → Finds build_form texts (Some (codes "build", rows_of (found_of inner.now)))
+    ensures { (texts : List (Option Text)) → Finds build_form texts (Some (codes "build", rows_of (found_of inner.now)))
         → IsSomeAnd result (IsOrder (codes "build") texts) }
 {
     Some(Order::Build {
@@ -39,7 +39,7 @@ pub(super) fn build_order<'a>(inner: &ArgMatches<'a>) -> Option<Order<'a>>
 
 /// What the matches of `probe` ask for.
 pub(super) fn probe_order<'a>(inner: &ArgMatches<'a>) -> Option<Order<'a>>
-    ensures { (texts : List Text) → Finds probe_form texts (Some (codes "probe", rows_of (found_of inner.now)))
+    ensures { (texts : List (Option Text)) → Finds probe_form texts (Some (codes "probe", rows_of (found_of inner.now)))
         → IsSomeAnd result (IsOrder (codes "probe") texts) }
 {
     Some(Order::Probe {
@@ -50,18 +50,19 @@ pub(super) fn probe_order<'a>(inner: &ArgMatches<'a>) -> Option<Order<'a>>
 
 /// What the matches of `line` ask for.
 pub(super) fn line_order<'a>(inner: &ArgMatches<'a>) -> Option<Order<'a>>
-    ensures { (texts : List Text) → Finds line_form texts (Some (codes "line", rows_of (found_of inner.now)))
+    ensures { (texts : List (Option Text)) → Finds line_form texts (Some (codes "line", rows_of (found_of inner.now)))
         → IsSomeAnd result (IsOrder (codes "line") texts) }
 {
     Some(Order::Line {
         file: inner.get_str("FILE")?,
+        is_numbered: inner.get_str("numbered").is_some(),
         position: inner.get_str("POSITION")?,
     })
 }
 
 /// What the matches of `check` ask for.
 pub(super) fn check_order<'a>(inner: &ArgMatches<'a>) -> Option<Order<'a>>
-    ensures { (texts : List Text) → Finds check_form texts (Some (codes "check", rows_of (found_of inner.now)))
+    ensures { (texts : List (Option Text)) → Finds check_form texts (Some (codes "check", rows_of (found_of inner.now)))
         → IsSomeAnd result (IsOrder (codes "check") texts) }
 {
     Some(Order::Check(inner.get_str("FILE")?))
@@ -69,7 +70,7 @@ pub(super) fn check_order<'a>(inner: &ArgMatches<'a>) -> Option<Order<'a>>
 
 /// What the matches of `look` ask for.
 pub(super) fn look_order<'a>(inner: &ArgMatches<'a>) -> Option<Order<'a>>
-    ensures { (texts : List Text) → Finds look_form texts (Some (codes "look", rows_of (found_of inner.now)))
+    ensures { (texts : List (Option Text)) → Finds look_form texts (Some (codes "look", rows_of (found_of inner.now)))
         → IsSomeAnd result (IsOrder (codes "look") texts) }
 {
     Some(Order::Look {
@@ -80,19 +81,31 @@ pub(super) fn look_order<'a>(inner: &ArgMatches<'a>) -> Option<Order<'a>>
 
 /// What the matches of `show` ask for.
 pub(super) fn show_order<'a>(inner: &ArgMatches<'a>) -> Option<Order<'a>>
-    ensures { (texts : List Text) → Finds show_form texts (Some (codes "show", rows_of (found_of inner.now)))
+    ensures { (texts : List (Option Text)) → Finds show_form texts (Some (codes "show", rows_of (found_of inner.now)))
         → IsSomeAnd result (IsOrder (codes "show") texts) }
 {
-    Some(Order::Show(inner.get_str("POSITION")?))
+    Some(Order::Show {
+        file: inner.get_str("FILE"),
+        picture: inner.get_str("OUT"),
+        position: inner.get_str("POSITION")?,
+    })
 }
 
 /// What the matches of `moves` ask for.
 pub(super) fn moves_order<'a>(inner: &ArgMatches<'a>) -> Option<Order<'a>>
-    ensures { (texts : List Text) → Finds moves_form texts (Some (codes "moves", rows_of (found_of inner.now)))
+    ensures { (texts : List (Option Text)) → Finds moves_form texts (Some (codes "moves", rows_of (found_of inner.now)))
         → IsSomeAnd result (IsOrder (codes "moves") texts) }
 {
     Some(Order::Moves {
         file: inner.get_str("FILE")?,
         position: inner.get_str("POSITION")?,
     })
+}
+
+/// What the matches of `stats` ask for.
+pub(super) fn stats_order<'a>(inner: &ArgMatches<'a>) -> Option<Order<'a>>
+    ensures { (texts : List (Option Text)) → Finds stats_form texts (Some (codes "stats", rows_of (found_of inner.now)))
+        → IsSomeAnd result (IsOrder (codes "stats") texts) }
+{
+    Some(Order::Stats(inner.get_str("FILE")?))
 }

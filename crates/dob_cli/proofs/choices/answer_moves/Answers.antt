@@ -27,6 +27,7 @@ returns-clause-ok g c =
       file = c.in_ok-table.ensures.table;
       position = position.setup;
       named = (position.legal, record { squares = position.legal.squares; spelled = c.in_ok-position.ensures.read });
+      member = c.in_ok-choices.ensures.member;
       choices = c.in_ok-choices.choices.items;
       valued = c.in_ok-choices.ensures.moves;
       same = c.in_ok-choice_lines.ensures ∙ ap choice_lines c.deref.ensures.value;

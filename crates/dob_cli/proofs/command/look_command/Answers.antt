@@ -1,15 +1,21 @@
 -- The texts of help change nothing that is read, and the arguments join one after the other.
-use Rattle.std.proofs.Common.{[], codes}
+use Rattle.std.proofs.Common.{codes}
 use Rattle.std.proofs.lemmas.Result.{IfOk-weaker}
-use Rattle.clap.specs.Words.{new_app, with_rule}
+use Rattle.clap.specs.Words.{Rule, new_app, with_rule}
 use Rattle.dob_cli.specs.Forms.{file_option, look_form}
 use Rattle.dob_cli.specs.Shapes.{HasShape, option_rule, text_rule}
 use Rattle.dob_cli.proofs.Outcomes.{argument_shape}
 use Rattle.dob_cli.proofs.command.look_command.Goals as goal
 
+abbrev first : Rule
+first = option_rule look_form file_option
+
+abbrev second : Rule
+second = text_rule look_form (codes "POSITION")
+
 pub returns : goal.returns
 returns c =
     let bare : HasShape (new_app look_form.name) c.after_help.result = rw (c.after_help.ensures, c.about.ensures) (c.new.ensures.app, c.new.ensures.local) in
-    let file = IfOk-weaker c.arg-command.result _ _
-    (λ r adds. argument_shape _ _ r (new_app look_form.name) (option_rule [] file_option) bare c.file_argument.ensures adds) c.arg-command.ensures in
-    c.add_argument.ensures (with_rule (new_app look_form.name) (option_rule [] file_option)) (text_rule [] (codes "POSITION")) file c.position_argument.ensures
+    let one = IfOk-weaker c.arg-command.result _ _
+    (λ r adds. argument_shape _ _ r (new_app look_form.name) first bare c.file_argument.ensures adds) c.arg-command.ensures in
+    c.add_argument.ensures (with_rule (new_app look_form.name) first) second one c.position_argument.ensures

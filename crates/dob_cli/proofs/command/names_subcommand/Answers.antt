@@ -23,4 +23,5 @@ returns-in_default c =
       apart (codes "look") name c.in_default.not-look,
       apart (codes "show") name c.in_default.not-show,
       apart (codes "moves") name c.in_default.not-moves,
+      apart (codes "stats") name c.in_default.not-stats,
     ) refl

@@ -1,6 +1,6 @@
 -- Each subcommand's own matches are those that were found, and no other form has its name.
 use Rattle.std.proofs.Common.{refl}
-use Rattle.dob_cli.specs.Forms.{build_form, check_form, count_form, line_form, look_form, moves_form, probe_form, show_form, value_form}
+use Rattle.dob_cli.specs.Forms.{build_form, check_form, count_form, line_form, look_form, moves_form, probe_form, show_form, stats_form, value_form}
 use Rattle.dob_cli.proofs.Matches.{order_found}
 use Rattle.dob_cli.proofs.command.order_of.Goals as goal
 
@@ -48,3 +48,8 @@ pub returns-in-moves : goal.returns-in-moves
 returns-in-moves c =
     order_found moves_form refl c.args.matches.now c.in_ok-name.inner.now c.in_ok-name.name.now c.in-moves.is c.in_ok-name.ensures.name
     c.in_ok-name.ensures.rows c.moves_order.result c.moves_order.ensures
+
+pub returns-in-stats : goal.returns-in-stats
+returns-in-stats c =
+    order_found stats_form refl c.args.matches.now c.in_ok-name.inner.now c.in_ok-name.name.now c.in-stats.is c.in_ok-name.ensures.name
+    c.in_ok-name.ensures.rows c.stats_order.result c.stats_order.ensures

@@ -2,7 +2,7 @@
 use Rattle.std.proofs.Common.{rules, ◌∙◌, ap}
 use Rattle.std.proofs.lemmas.Result.{err_from_is_err_and}
 use Rattle.dob_rank.specs.Order.{IsPositionOf}
-use Rattle.dob_cli.specs.Tables.{moves_line}
+use Rattle.dob_cli.specs.Tables.{moves_lines}
 use Rattle.dob_cli.proofs.TableFaults.{line_fault_holds, opening_fault_holds}
 use Rattle.dob_cli.proofs.tables.answer_line.Goals as goal
 
@@ -43,5 +43,5 @@ returns-clause-ok g c =
       given = c.in_ok-value.ensures.value;
       moves = c.in_ok-moves.moves.items;
       line = c.in_ok-moves.ensures.line;
-      same = c.in_ok-moves_line.ensures ∙ ap (moves_line c.in_ok-value.value) c.deref.ensures.value;
+      same = c.in_ok-moves_lines.ensures ∙ ap (moves_lines c.args.is_numbered c.in_ok-value.value) c.deref.ensures.value;
     }

@@ -1,0 +1,77 @@
+-- What the program owes where it is asked for the statistics of a database file.
+use Rattle.std.specs.Prelude.{◌≡◌, ℕ, List, [], ◌∷◌, ◌++◌, Option, None, Some, codes, flat_map, fold}
+use Rattle.std.specs.Fmt.{decimal}
+use Rattle.dob_pieces.specs.declared.setup.Setup.{Setup}
+use Rattle.dob_pieces.specs.Bytes.{line_feed, space}
+use Rattle.dob_text.specs.PositionText.{text_of}
+use Rattle.dob_rank.specs.Order.{HasClass, IsRepresentative}
+use Rattle.dob_value.specs.declared.value.Value.{Value}
+use Rattle.dob_value.specs.declared.value.Value.TheVariants.{Win, Loss, Draw}
+use Rattle.dob_value.specs.Follows.{ClassTable}
+use Rattle.dob_probe.specs.declared.groups.Group.{Group}
+use Rattle.dob_probe.specs.Statistics.{AreGroups}
+use Rattle.dob_cli.specs.declared.stats.Longest.{Longest}
+use Rattle.dob_cli.specs.Builds.{class_lines}
+use Rattle.dob_cli.specs.declared.fault.Fault.{Fault}
+use Rattle.dob_cli.specs.Endings.{AnswersOver, Ending}
+use Rattle.dob_cli.specs.Shelves.{ShelfChange}
+use Rattle.dob_cli.specs.Tables.{IsFileOf, IsOpeningFault}
+
+-- how many classes have a distance, as `win 3 12`; the draws are told before
+abbrev pub distance_line : Value → ℕ → List ℕ
+distance_line (Win plies) classes = codes "win " ++ (decimal plies ++ (space ∷ (decimal classes ++ line_feed ∷ [])))
+distance_line (Loss plies) classes = codes "loss " ++ (decimal plies ++ (space ∷ (decimal classes ++ line_feed ∷ [])))
+distance_line Draw classes = []
+
+abbrev pub group_line : Group → List ℕ
+group_line group = distance_line group.value group.classes
+
+-- a group is the last of its kind so far
+abbrev pub with_value : Value → Group → Longest → Longest
+with_value (Win plies) group longest = record longest { win = Some group }
+with_value (Loss plies) group longest = record longest { loss = Some group }
+with_value Draw group longest = longest
+
+abbrev pub with_group : Longest → Group → Longest
+with_group longest group = with_value group.value group longest
+
+-- the last group of wins and the last of losses: of groups by ascending distance the longest ones
+abbrev pub longest_of : List Group → Longest
+longest_of groups = fold with_group (record { win = None; loss = None }) groups
+
+-- the longest win or loss with an example, as `longest win 3 ..l/.../L../... - -`
+abbrev pub longest_text : Value → List ℕ → List ℕ
+longest_text (Win plies) text = codes "longest win " ++ (decimal plies ++ (space ∷ (text ++ line_feed ∷ [])))
+longest_text (Loss plies) text = codes "longest loss " ++ (decimal plies ++ (space ∷ (text ++ line_feed ∷ [])))
+longest_text Draw text = []
+
+-- the line of the group's value with the text of the representative of its first class, or none where there is no group
+abbrev pub IsLongestLine : ClassTable → Option Group → List ℕ → Type 0
+IsLongestLine table None line = line ≡ []
+IsLongestLine table (Some group) line =
+    (position : Setup) × IsRepresentative table.set position × HasClass table.set position group.first
+    × (line ≡ longest_text group.value (text_of position))
+
+-- The four lines of a build, a line for each distance that occurs, ascending, and then the longest win and the longest loss.
+pub record AreStatsOf (table : ClassTable) (groups : List Group) (lines : List ℕ) : Type 0 where
+  pub win : List ℕ
+  pub loss : List ℕ
+  pub longest_win : IsLongestLine table (longest_of groups).win win
+  pub longest_loss : IsLongestLine table (longest_of groups).loss loss
+  pub same : lines ≡ class_lines table.values ++ (flat_map group_line groups ++ (win ++ loss))
+
+-- the lines tell of the file's table, by the groups of its classes of one value
+pub record AreStatsLines (Has : List ℕ → Type 0) (lines : List ℕ) : Type 0 where
+  pub table : ClassTable
+  pub file : IsFileOf Has table
+  pub groups : List Group
+  pub grouped : AreGroups table.values groups
+  pub told : AreStatsOf table groups lines
+
+-- the fault is one of opening the file, or memory failed
+abbrev pub IsStatsFault : (List ℕ → Type 0) → Fault → Type 0
+IsStatsFault Has fault = IsOpeningFault Has fault
+
+-- what the program does where it is asked for the statistics of a file
+abbrev pub AnswersStats : ShelfChange → List ℕ → Ending → Type 0
+AnswersStats c file = AnswersOver c (AreStatsLines (c.before.has file)) (IsStatsFault (c.before.has file))

@@ -1,0 +1,144 @@
+// How many classes of a database file's table have which value, and examples of the longest win and the longest loss.
+ghost use Rattle.std.specs.Prelude.{◌≡◌, ◌++◌, ◌<◌, IfOk, IfErr, IfSome, OnOk, flat_map, length, string_bytes};
+ghost use Rattle.dob_probe.specs.Statistics.{AreGroups};
+ghost use Rattle.dob_cli.specs.Faults.{is_io_error};
+ghost use Rattle.dob_cli.specs.Shelves.{FailsWhere, SameFiles, shelf_change};
+ghost use Rattle.dob_cli.specs.Stats.{AreStatsLines, AreStatsOf, IsLongestLine, IsStatsFault, group_line, longest_of, longest_text, with_group};
+
+use crate::builds::lines_of;
+use crate::fault::Fault;
+use crate::shelf::Shelf;
+use crate::tables::open;
+use dob_pieces::Memory;
+use dob_probe::{Group, statistics};
+use dob_text::write_position;
+use dob_value::{Table, Value};
+use std::alloc::Global;
+
+/// The last group of wins and the last of losses, where there are any.
+#[derive(Clone, Copy)]
+pub(crate) struct Longest {
+    pub(crate) win: Option<Group>,
+    pub(crate) loss: Option<Group>,
+}
+
+/// The lines that tell how many classes of the file's table have which value, and the longest win and loss with an example each.
+pub(crate) fn answer_stats<S: Shelf>(
+    alloc: Global,
+    shelf: &mut S,
+    file: &str,
+) -> Result<String, Fault>
+    ensures ok { IfOk result (λ lines. AreStatsLines ((S.state shelf.old).has file.now) (string_bytes lines)) }
+    ensures err { IfErr result (IsStatsFault ((S.state shelf.old).has file.now)) }
+    ensures files { SameFiles (S.state shelf.old).has (S.state shelf.new).has }
+    ensures failed { FailsWhere (shelf_change (S.state shelf.old) (S.state shelf.new)) (is_io_error result) }
+{
+    let table = open(alloc, shelf, file)?;
+    let groups = statistics(alloc, &table)?;
+    Ok(stats_lines(alloc, &table, &groups)?)
+}
+
+// The lines that tell of the table, by its groups.
+fn stats_lines(alloc: Global, table: &Table, groups: &[Group]) -> Result<String, Memory>
+    requires { AreGroups table.now.values groups.now }
+    ensures { IfOk result (λ lines. AreStatsOf table.now groups.now (string_bytes lines)) }
+{
+    let mut lines = lines_of(alloc, table)?;
+    push_groups(alloc, &mut lines, groups)?;
+    let longest = longest_of(groups);
+    let win = longest_line(alloc, table, longest.win)?;
+    let loss = longest_line(alloc, table, longest.loss)?;
+    lines.push_str(win.as_str())?;
+    lines.push_str(loss.as_str())?;
+    Ok(lines)
+}
+
+// Writes the lines of the groups at the end.
+fn push_groups(alloc: Global, lines: &mut String, groups: &[Group]) -> Result<(), Memory>
+    ensures { OnOk result (string_bytes lines.new ≡ string_bytes lines.old ++ flat_map group_line groups.now) }
+{
+    for group in groups {
+        push_group(alloc, lines, *group)?;
+    }
+    Ok(())
+}
+
+// Writes the line of the group at the end.
+fn push_group(alloc: Global, lines: &mut String, group: Group) -> Result<(), Memory>
+    ensures { OnOk result (string_bytes lines.new ≡ string_bytes lines.old ++ group_line group) }
+{
+    let line = group_line(alloc, group)?;
+    lines.push_str(line.as_str())?;
+    Ok(())
+}
+
+// The line of the group.
+fn group_line(alloc: Global, group: Group) -> Result<String, Memory>
+    ensures { IfOk result (λ line. string_bytes line ≡ group_line group) }
+{
+    let classes = group.classes;
+    match group.value {
+        Value::Win(plies) => Ok(format!(in alloc; "win {plies} {classes}\n")?),
+        Value::Loss(plies) => Ok(format!(in alloc; "loss {plies} {classes}\n")?),
+        Value::Draw => Ok(String::new(alloc)),
+    }
+}
+
+// The last group of wins and the last of losses.
+fn longest_of(groups: &[Group]) -> Longest
+    ensures { result ≡ longest_of groups.now }
+{
+    let mut longest = Longest {
+        win: None,
+        loss: None,
+    };
+    let mut left = groups;
+    while let Some((first, rest)) = left.split_first() {
+        longest = with_group(longest, *first);
+        left = rest;
+    }
+    longest
+}
+
+// The same with one group more.
+fn with_group(longest: Longest, group: Group) -> Longest
+    ensures { result ≡ with_group longest group }
+{
+    match group.value {
+        Value::Win(_) => Longest {
+            win: Some(group),
+            ..longest
+        },
+        Value::Loss(_) => Longest {
+            loss: Some(group),
+            ..longest
+        },
+        Value::Draw => longest,
+    }
+}
+
+// The line of the group's value with the position of its first class, or nothing where there is no group.
+fn longest_line(alloc: Global, table: &Table, group: Option<Group>) -> Result<String, Memory>
+    requires { IfSome group (λ group. group.first < length table.now.values) }
+    ensures { IfOk result (λ line. IsLongestLine table.now group (string_bytes line)) }
+{
+    match group {
+        None => Ok(String::new(alloc)),
+        Some(group) => {
+            let position = table.classes().class_at(group.first);
+            let text = write_position(alloc, &position)?;
+            longest_text(alloc, group.value, text.as_str())
+        }
+    }
+}
+
+// The line of a longest win or loss with that example.
+fn longest_text(alloc: Global, value: Value, text: &str) -> Result<String, Memory>
+    ensures { IfOk result (λ line. string_bytes line ≡ longest_text value text.now) }
+{
+    match value {
+        Value::Win(plies) => Ok(format!(in alloc; "longest win {plies} {text}\n")?),
+        Value::Loss(plies) => Ok(format!(in alloc; "longest loss {plies} {text}\n")?),
+        Value::Draw => Ok(String::new(alloc)),
+    }
+}
