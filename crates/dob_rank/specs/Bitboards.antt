@@ -3,6 +3,7 @@ use Rattle.std.specs.Prelude.{◌≡◌, ℕ, ◌==◌, ◌||◌, Bool, false, L
 use Rattle.dob_pieces.specs.declared.kind.Kind.TheVariants.{Hen}
 use Rattle.dob_pieces.specs.declared.kind.Side.TheVariants.{Mover, Enemy}
 use Rattle.dob_pieces.specs.declared.piece_set.PieceSet.{PieceSet}
+use Rattle.dob_pieces.specs.declared.profile.Family.{Family}
 use Rattle.dob_pieces.specs.declared.setup.Setup.{Setup}
 use Rattle.dob_pieces.specs.Masks.{AreSquares, is_piece, is_prey}
 use Rattle.dob_pieces.specs.Setups.{Cell}
@@ -12,6 +13,7 @@ use Rattle.dob_rank.specs.declared.layers.Layer.TheVariants.{OwnLion, EnemyLion,
 use Rattle.dob_rank.specs.Masks.{layer_mask}
 use Rattle.dob_rank.specs.Numbers.{order, layer, count}
 use Rattle.dob_rank.specs.Order.{IsPositionOf}
+use Rattle.dob_rank.specs.Families.{IsPositionIn}
 
 -- a piece of that layer
 abbrev pub is_of : Layer → Cell → Bool
@@ -55,6 +57,11 @@ pub record AreBitboards (setup : Setup) (bits : Bitboards) : Type 0 where
 -- they show a position of the set
 pub record IsShown (set : PieceSet) (setup : Setup) (bits : Bitboards) : Type 0 where
   pub position : IsPositionOf set setup
+  pub squares : AreBitboards setup bits
+
+-- they show a position of the family
+pub record IsShownIn (family : Family) (setup : Setup) (bits : Bitboards) : Type 0 where
+  pub position : IsPositionIn family setup
   pub squares : AreBitboards setup bits
 
 -- and those of a layer with so many pieces

@@ -3,11 +3,11 @@ pub mod Numbers
 pub mod Placing
 pub mod Masks
 pub mod BoardMasks
-pub mod Bitboards
-pub mod BoardDigits
 pub mod Marks
 pub mod ClassRows
 pub mod Families
+pub mod Bitboards
+pub mod BoardDigits
 pub mod Runs
 pub mod Weights
 pub mod Places

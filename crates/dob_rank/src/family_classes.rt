@@ -1,15 +1,18 @@
 // The classes of a family, block by block.
-ghost use Rattle.std.specs.Prelude.{◌≡◌, ◌<◌, ◌≤◌, ◌+◌, IfOk, IfSome, MatchOption, vec_len};
+ghost use Rattle.std.specs.Prelude.{◌≡◌, ◌<◌, ◌≤◌, ◌+◌, ◌^◌, IfOk, IfSome, MatchOption, vec_len};
 ghost use Rattle.dob_rank.specs.Order.{IsFirstOfTwo};
 ghost use Rattle.dob_rank.specs.Families.{IsPositionIn, IsRepresentativeIn, HasClassesIn, HasClassIn, IsInClassIn, is_marked, classes_in, class_number_in};
 ghost use Rattle.dob_rank.specs.Numbers.{product, block_bases, start_of, rank_of};
 ghost use Rattle.dob_rank.specs.Marks.{marks_below};
 ghost use Rattle.dob_rank.specs.FamilyBlocks.{AreBlocksIn};
+ghost use Rattle.dob_pieces.specs.declared.setup.Setup.{Setup};
+ghost use Rattle.dob_rank.specs.Bitboards.{IsShownIn};
 ghost use Rattle.dob_rank.specs.BoardMasks.{AreMasks};
 
+use crate::bitboards::Bitboards;
 use crate::block;
 use crate::family_blocks::FamilyBlock;
-use crate::family_spots::spot_in;
+use crate::family_spots::{spot_in, spot_shown_in};
 use crate::masks::{Masks, masks_of};
 use crate::ranks::position_by;
 use dob_pieces::{Family, Memory, Position};
@@ -52,6 +55,7 @@ impl FamilyClasses {
     pub fn class_count(&self) -> u64
         ensures count { HasClassesIn self.now.family result }
         ensures number { result ≡ classes_in self.now.family }
+        ensures bound { result < 2 ^ 31 }
     {
         self.count
     }
@@ -98,6 +102,18 @@ impl FamilyClasses {
     {
         let (is_representative, class) = self.look_up(position);
         if is_representative { Some(class) } else { None }
+    }
+
+    /// The same by the sets of squares that show the position.
+    pub fn class_of_shown(&self, bits: &Bitboards) -> Option<u64>
+        requires { (setup : Setup) × IsShownIn self.now.family setup bits.now }
+        ensures class { (setup : Setup) → IsShownIn self.now.family setup bits.now → MatchOption result (¬ IsFirstOfTwo setup)
+            (λ class. IsFirstOfTwo setup × HasClassIn self.now.family setup class) }
+        ensures number { (setup : Setup) → IsShownIn self.now.family setup bits.now → IfSome result (λ class. class ≡ class_number_in self.now.family setup) }
+        ensures bound { IfSome result (λ class. class < classes_in self.now.family) }
+    {
+        let (is_first, class) = self.look_up_shown(bits);
+        if is_first { Some(class) } else { None }
     }
 
     /// The representative of the class of that number, which is below the number of classes.
@@ -148,6 +164,18 @@ impl FamilyClasses {
         ensures before { result.1 ≡ marks_below (is_marked self.now.family) (rank_of self.now.family.set position.now.setup) }
     {
         let (block, spot) = spot_in(self.family, position, masks);
+        self.blocks[block as usize].look_up(spot)
+    }
+
+    /// The same by the sets of squares that show the position.
+    fn look_up_shown(&self, bits: &Bitboards) -> (bool, u64)
+        requires { (setup : Setup) × IsShownIn self.now.family setup bits.now }
+        ensures mark { (setup : Setup) → IsShownIn self.now.family setup bits.now
+            → result.0 ≡ is_marked self.now.family (rank_of self.now.family.set setup) }
+        ensures before { (setup : Setup) → IsShownIn self.now.family setup bits.now
+            → result.1 ≡ marks_below (is_marked self.now.family) (rank_of self.now.family.set setup) }
+    {
+        let (block, spot) = spot_shown_in(self.family, bits);
         self.blocks[block as usize].look_up(spot)
     }
 }

@@ -3,6 +3,8 @@
 ghost use Rattle.std.specs.Prelude.{◌≡◌, ◌<◌, ◌≤◌, slice_index};
 ghost use Rattle.dob_pieces.specs.Profiles.{IsAllowed};
 ghost use Rattle.dob_pieces.specs.declared.profile.Profile.TheVariants.{B};
+ghost use Rattle.dob_pieces.specs.declared.setup.Setup.{Setup};
+ghost use Rattle.dob_rank.specs.Bitboards.{IsShownIn};
 ghost use Rattle.dob_rank.specs.BoardMasks.{AreMasks};
 ghost use Rattle.dob_rank.specs.Order.{IsPositionOf};
 ghost use Rattle.dob_rank.specs.Families.{family_of, IsPositionIn};
@@ -12,13 +14,14 @@ ghost use Rattle.dob_rank.specs.Numbers.{product, block_bases, block_of, choose,
 ghost use Rattle.dob_rank.specs.Runs.{AreFewOnBoard, runs_in, run_size, run_of, local_of};
 ghost use Rattle.dob_rank.specs.Weights.{squares_by, others_by, others_squares, others_forms};
 
+use crate::bitboards::Bitboards;
 use crate::block::{self, DIGITS, EachKind};
 use crate::family_ranks::{add_product, allowed_forms, weight_of};
 use crate::far_places::count_upto;
 use crate::far_rows::before_choice;
 use crate::masks::Masks;
 use crate::radix;
-use crate::ranks::{digits_of, numbers_on_board, spot_by};
+use crate::ranks::{digits_of, numbers_on_board, spot_by, spot_shown};
 use crate::runs::{LIONS, Spot};
 use dob_pieces::{Family, PieceSet, Position, Profile};
 
@@ -56,7 +59,21 @@ pub(crate) fn spot_in(family: Family, position: &Position, masks: Masks) -> (u64
     }
 }
 
-/// The same in profile B.
+/// The same by the sets of squares that show the position.
+pub(crate) fn spot_shown_in(family: Family, bits: &Bitboards) -> (u64, Spot)
+    requires { (setup : Setup) × IsShownIn family setup bits.now }
+    ensures block { (setup : Setup) → IsShownIn family setup bits.now → result.0 ≡ block_of family.set setup }
+    ensures run { (setup : Setup) → IsShownIn family setup bits.now → result.1.run ≡ run_of family.set setup }
+    ensures local { (setup : Setup) → IsShownIn family setup bits.now
+        → result.1.local ≡ marks_below (is_there family (block_of family.set setup) (run_of family.set setup)) (local_of setup) }
+{
+    let (block, spot) = spot_shown(family.set, bits);
+    let local = count_before(family, block, spot.run, spot.local);
+    let run = spot.run;
+    (block, Spot { run, local })
+}
+
+/// The same of a position in profile B.
 fn far_spot(set: PieceSet, position: &Position, masks: Masks) -> (u64, Spot)
     requires position { IsPositionOf set position.now.setup }
     requires allowed { IsAllowed B position.now.setup }
