@@ -56,7 +56,8 @@ pub(crate) fn spot_in(family: Family, position: &Position, masks: Masks) -> (u64
     }
 }
 
-/// The same in profile B.
+/// The same in profile B, out of the way of what profile A does.
+#[inline(never)]
 fn far_spot(set: PieceSet, position: &Position, masks: Masks) -> (u64, Spot)
     requires position { IsPositionOf set position.now.setup }
     requires allowed { IsAllowed B position.now.setup }
