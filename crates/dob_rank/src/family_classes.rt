@@ -157,6 +157,7 @@ impl FamilyClasses {
     }
 
     /// The same by the position's masks.
+    #[inline(always)]
     fn look_up_by(&self, position: &Position, masks: Masks) -> (bool, u64)
         requires position { IsPositionIn self.now.family position.now.setup }
         requires masks { AreMasks position.now.setup.board masks }

@@ -73,7 +73,8 @@ pub(crate) fn spot_shown_in(family: Family, bits: &Bitboards) -> (u64, Spot)
     (block, Spot { run, local })
 }
 
-/// The same of a position in profile B.
+/// The same of a position in profile B, out of the way of what profile A does.
+#[inline(never)]
 fn far_spot(set: PieceSet, position: &Position, masks: Masks) -> (u64, Spot)
     requires position { IsPositionOf set position.now.setup }
     requires allowed { IsAllowed B position.now.setup }

@@ -146,6 +146,7 @@ fn parts_at(chicks: u64, lions: u64, others: u64, number: u64) -> (u64, u64, u64
 }
 
 /// The place in a run of those lions at which the position stands before which the run has so many of profile B.
+#[inline(never)]
 pub(crate) fn local_at(on_board: &EachKind, lions: u64, number: u64) -> u64
     requires few { AreFewOnBoard on_board.now }
     requires lions { lions < LIONS }
