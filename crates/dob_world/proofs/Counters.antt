@@ -182,7 +182,7 @@ module _ (n : ℕ) (posted taken : List ℕ) (black : List Bool) (token : Token)
         (shown n posted (set taken (i * n + j) now) after token announced)) low_j whole_c
         (is ∙ sym (take_here n i j ring_was (shown n posted (set taken (i * n + j) now) after token announced) low_i low_j (λ k l low_k low_l. refl) up))
         (λ k low apart. counted k low ∙ sym (take_else n i j ring_was (shown n posted (set taken (i * n + j) now) after token announced) low_i low_j
-            (λ a b low_a low_b. refl) up k low apart))
+        (λ a b low_a low_b. refl) up k low apart))
       where
         up : Raises n ring_was.taken (λ k l. slice_index (set taken (i * n + j) now) (k * n + l)) i j
         up = raised n taken i j was now low_i low_j whole there more

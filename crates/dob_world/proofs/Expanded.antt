@@ -75,7 +75,7 @@ module _ (k : Setting) (nodes : List Node) (lanes : List Lane) (i : ℕ) (node a
       applied = λ m l. refl;
       cell = λ class. ap (λ c. cond (nat_lt class (classes_of k.set)) c (fresh 0))
           (stays nodes i node after there (fresh 0) (λ (x : Node). cell_at x.share class) (ap (λ (s : Share). cell_at s class) step.same.3)
-              (owner_of k.n class));
+          (owner_of k.n class));
     };
     links = (λ m l. refl, λ m l. refl);
   }

@@ -1,10 +1,9 @@
 -- What is left of a world after a stop: of the promise the first part, and after lack of memory all of it.
-use Rattle.std.proofs.Common.{◌≡◌, ◌≢◌, ℕ, ◌<◌, inl, inr, true, false, refl, sym, ap, ◌∙◌, subst, append_assoc, List, ◌∷◌, ◌++◌, None, Some}
+use Rattle.std.proofs.Common.{◌≡◌, ◌≢◌, ℕ, ◌<◌, inl, inr, false, sym, ap, ◌∙◌, subst, append_assoc, ◌∷◌, ◌++◌, None, Some}
 use Rattle.std.specs.Prelude.{MatchOption}
 use Rattle.std.proofs.lemmas.Bool.{cases_Bool}
 use Rattle.dob_pieces.specs.Lists.{IsBeginning}
 use Rattle.dob_unmove.specs.Edges.{predecessors}
-use Rattle.dob_share.specs.declared.news.Item.{Item}
 use Rattle.dob_update.specs.Items.{items_from}
 use Rattle.dob_update.specs.Batches.{items_of_batches}
 use Rattle.dob_node.specs.declared.cause.Cause.TheVariants as cause

@@ -97,7 +97,7 @@ module _ (k : Setting) (nodes : List Node) (lanes : List Lane) (i : ℕ) (low : 
     first = own_first ∙ ap (λ xs. step.applied.item ∷ xs) (sym (here nodes i node after there_n [] (λ (x : Node). x.own.items)));
     applied = applies_one k nodes lanes i i low low node after lane next there_n there_l whole some step.applied.item
         (after.own.items ++ items_from (predecessors k.set) k.n i (drop ((world_shown k.set k.n nodes lanes).expanded i)
-            ((world_shown k.set k.n nodes lanes).nodes.history i)))
+        ((world_shown k.set k.n nodes lanes).nodes.history i)))
         (kept_of k i node is) step.applied.taken lawful
         (next_own k (world_shown k.set k.n nodes lanes) i (step.applied.item ∷ after.own.items) linked low own_first) step.listed;
     others = elsewhere nodes i node after there_n [] (λ (x : Node). x.own.items);

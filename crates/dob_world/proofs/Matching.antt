@@ -59,7 +59,7 @@ module _ (k : Setting) (old new : State) (size : IsSize k.n) (matches : Matches 
     lawful = subst (λ (r : Ring). IsLawfulRing k.n r) (sym same) matches.lawful;
     idle = white_else k old new i (λ m below other. ap (λ (r : Ring). r.black m) same)
         (ap (λ (r : Ring). r.black i) same ∙ busy_black k old matches i low (λ idle.
-            let e : old.world.expanded i ≡ length (old.world.nodes.history i) = idle.expanded in omega arith))
+        let e : old.world.expanded i ≡ length (old.world.nodes.history i) = idle.expanded in omega arith))
         (λ m below other. idle_same k old.world new.world m (step.others.0 m other) (step.nodes.history m) (step.others.1 m other)
         (λ j low_j differs. ap (λ f. f j) (step.others.2 m other))) matches;
     posted = λ m l low_m low_l. ap (λ (r : Ring). r.posted m l) same ∙ matches.posted m l low_m low_l

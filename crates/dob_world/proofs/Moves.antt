@@ -6,11 +6,9 @@ use Rattle.std.proofs.lemmas.Bool.{eqb-true, eq-eqb, and_parts, and_cases}
 use Rattle.std.proofs.lemmas.List.{length-set}
 use Rattle.dob_rank.specs.Marks.{classes_of}
 use Rattle.dob_share.specs.declared.news.Item.{Item}
-use Rattle.dob_share.specs.declared.share.Share.{Share}
 use Rattle.dob_share.specs.Owners.{owner_of}
 use Rattle.dob_share.specs.Cells.{Cell, fresh}
 use Rattle.dob_share.specs.Shares.{cell_at}
-use Rattle.dob_node.specs.Stores.{HistoryView}
 use Rattle.dob_node.specs.TakenItems.{HasEntries, AreKept, IsTaken, AreTaken}
 use Rattle.dob_node.specs.declared.node.Node.{Node}
 use Rattle.dob_world.specs.declared.lane.Lane.{Lane}

@@ -74,7 +74,7 @@ module _ (k : Setting) (nodes : List Node) (lanes : List Lane) (some : 0 < k.n) 
             some lawful linked;
         places = in_place_both k nodes lanes j node after i j lane next low_i low_j there_n there_l places
             (node_received k nodes lanes i j low_i low_j differs node after lane next there_n there_l places.lanes_whole is is_lane step.batch.items all
-                sound going)
+            sound going)
             (lane_received k nodes lanes i j low_i low_j differs node after lane next there_n there_l places.lanes_whole is is_lane step.batch.items all);
       }
 

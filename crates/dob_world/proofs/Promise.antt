@@ -2,7 +2,6 @@
 use Rattle.std.proofs.Common.{◌≡◌, ℕ, ◌+◌, ◌^◌, ◌<◌, ◌≤◌, inl, inr, true, false, sym, ap, ◌∙◌, subst, arith, List, [], ◌∷◌, length}
 use Rattle.std.proofs.Math.IntN.{pos}
 use Rattle.std.proofs.lemmas.Int.{ints}
-use Rattle.std.proofs.lemmas.Bool.{cases_Bool}
 use Rattle.dob_safra.specs.declared.token.Token.{Token}
 use Rattle.dob_safra.specs.Rings.{Ring, IsLawfulRing, black_token, IsStart as IsStartRing}
 use Rattle.dob_moves.specs.declared.position_status.Status.TheVariants.{Caught, Tried, Stuck, Open}
@@ -150,7 +149,7 @@ kept_start k state setting start = record {
 pub headline_holds : HeadlineHolds
 headline_holds k start state events setting is_start room after =
     let keeps = (kept_after k setting (is_start.openings, is_start.are_openings) start state events 0 (omega (arith, room)) after
-        (kept_start k start setting is_start)).1 in
+    (kept_start k start setting is_start)).1 in
     headline_of k setting (is_start.openings, is_start.are_openings) state keeps.lawful keeps.linked keeps.matches
 
 pub standing_headline : (world : World) → IsStanding world → Headline (setting_of world) (state_of world)

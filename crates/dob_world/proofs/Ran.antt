@@ -16,7 +16,6 @@ use Rattle.dob_world.specs.Start.{IsStart}
 use Rattle.dob_world.specs.Results.{HasRun, HasStoppedAt}
 use Rattle.dob_world.specs.declared.fault.Fault.{Fault}
 use Rattle.dob_world.specs.Stops.{IsStopBy}
-use Rattle.dob_safra.specs.Rings.{Ring}
 use Rattle.dob_world.specs.declared.detector.Detector.{Detector}
 use Rattle.dob_world.specs.Headline.{Headline}
 use Rattle.dob_world.proofs.Promise.{standing_headline}

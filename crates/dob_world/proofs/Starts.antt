@@ -107,7 +107,7 @@ module _ (k : Setting) (openings : List Opening) (nodes : List Node) (lanes : Li
       let node = (of_n i low_i).0 in
       let there = (of_n i low_i).1 in
       let within : p / k.n * k.n + i < length openings = subst (λ (m : ℕ). m < length openings) (sym (place_is p))
-          (subst (λ (m : ℕ). p < m) (sym are.whole) low) in
+      (subst (λ (m : ℕ). p < m) (sym are.whole) low) in
       ap (λ xs. value_of xs p) (history_is i node there)
       ∙ ap (λ (m : ℕ). value_of (opening_settlements status k.n i (places_of node.share)) m) (sym (place_is p))
       ∙ opened_value k.n i low_i status (places_of node.share) (p / k.n) (((opened.each i node there).0.places (p / k.n)).1 within)

@@ -32,7 +32,7 @@ module _ (k : Setting) (nodes : List Node) (lanes : List Lane) (detector : Detec
       Happens k (state_at k nodes lanes detector) event (state_at k after next new) → Stand k after next new (steps + 1)
   stand_after after next new event room places counted same cuts can happens =
       let both = happening_keeps_all k (state_at k nodes lanes detector) (state_at k after next new) event stand.setting.nodes.0 stand.lawful stand.linked
-          can happens in
+      can happens in
       let few : HasAtMost k.n (steps + 1) (ring_of new) =
       posted_most k (state_at k nodes lanes detector) (state_at k after next new) event steps happens stand.few in
       record {

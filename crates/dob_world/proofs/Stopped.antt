@@ -114,7 +114,7 @@ module _ (k : Setting) (nodes : List Node) (lanes : List Lane) (some : 0 < k.n) 
       let whole_front = front_received node after lane next why step in
       let cells = nodes_shown k.set k.n (set nodes j after) (set lanes (i * k.n + j) next) in
       let applied = items_received k nodes lanes i j low_i low_j differs node after lane next there_n there_l whole here is_lane at.front whole_front some
-          lawful linked in
+      lawful linked in
       let can = taken_item_fits k (world_shown k.set k.n nodes lanes) i j step.batch next.link.waiting at.front at.item at.behind cells some lawful linked
       low_i low_j differs
       (waits_first k nodes lanes i j low_i low_j differs node after lane next there_n there_l whole here is_lane at.front whole_front) at.items_are applied in

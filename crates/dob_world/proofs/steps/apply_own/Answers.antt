@@ -20,6 +20,6 @@ returns-clause-applied c = λ e.
       listed = c.push_reserved.ensures.items
           ∙ ap (λ xs. xs ++ c.in-Some.item ∷ []) c.in_ok-reserve.ensures.items
           ∙ ap (λ x. c.args.lane.now.applied.items ++ x ∷ []) (first_same c.args.node.now.own.items c.apply_own.new.self.own.items c.in-Some.item
-              applied.item there applied.first);
+          applied.item there applied.first);
       same = (refl, refl);
     }

@@ -18,20 +18,20 @@ pub expand-requires-clause-set : goal.expand-requires-clause-set
 expand-requires-clause-set c =
     let low : c.args.node < length c.args.self.now.nodes.items = omega (arith, c.requires.standing.places.nodes_whole) in
     let is = c.requires.standing.places.node c.args.node c.index_mut.result.now (read_there c.args.self.now.nodes.items c.args.node c.index_mut.result.now
-        low c.index_mut.ensures.value) in
+    low c.index_mut.ensures.value) in
     sym is.of.0
 
 pub expand-requires-clause-sound : goal.expand-requires-clause-sound
 expand-requires-clause-sound c =
     let low : c.args.node < length c.args.self.now.nodes.items = omega (arith, c.requires.standing.places.nodes_whole) in
     (c.requires.standing.places.node c.args.node c.index_mut.result.now (read_there c.args.self.now.nodes.items c.args.node c.index_mut.result.now low
-        c.index_mut.ensures.value)).sound
+    c.index_mut.ensures.value)).sound
 
 pub expand-requires-clause-going : goal.expand-requires-clause-going
 expand-requires-clause-going c =
     let low : c.args.node < length c.args.self.now.nodes.items = omega (arith, c.requires.standing.places.nodes_whole) in
     (c.requires.standing.places.node c.args.node c.index_mut.result.now (read_there c.args.self.now.nodes.items c.args.node c.index_mut.result.now low
-        c.index_mut.ensures.value)).going
+    c.index_mut.ensures.value)).going
 
 pub returns-in-Ok-clause-done : goal.returns-in-Ok-clause-done
 returns-in-Ok-clause-done c = λ e.
@@ -49,13 +49,13 @@ returns-in-Ok-clause-done c = λ e.
     let can : CanHappen k (state_of c.args.self.now) (Expand i) = (below, can_expand k nodes lanes i node after there is step) in
     let expanded = expands k nodes lanes i node after there is step in
     let places = in_place_node k nodes lanes i node after there c.requires.standing.places (still_node k nodes lanes i node after there is step
-        c.in-Ok.ensures.sound c.in-Ok.ensures.going) in
+    c.in-Ok.ensures.sound c.in-Ok.ensures.going) in
     record {
       made = record { setting = refl; can = can; happens = (expanded, refl) };
       stands = stand_after k nodes lanes c.args.self.now.detector c.args.self.now.steps c.requires.standing (slice_set nodes i after) lanes
           c.args.self.now.detector
           (Expand i) c.requires.few places c.requires.standing.counted refl (cuts_expanded k nodes i node after there is step
-              (ring_of c.args.self.now.detector) c.requires.standing.cuts) can (expanded, refl);
+          (ring_of c.args.self.now.detector) c.requires.standing.cuts) can (expanded, refl);
       same = (refl, refl);
     }
 

@@ -1,5 +1,5 @@
 -- At rest it is the value table.
-use Rattle.std.proofs.Common.{◌≡◌, ℕ, IfOk, ap, subst}
+use Rattle.std.proofs.Common.{ℕ, IfOk, ap, subst}
 use Rattle.dob_pieces.specs.declared.piece_set.PieceSet.{PieceSet}
 use Rattle.dob_rank.specs.Marks.{classes_of}
 use Rattle.dob_value.proofs.Parity.{IfOk-both}

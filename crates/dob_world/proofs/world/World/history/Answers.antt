@@ -12,4 +12,4 @@ returns c =
     let node = c.index.result.now in
     let whole : length nodes ≡ world.n = omega (arith, world.nodes_whole) in
     sym (history_shown (setting_of world) nodes world.lanes.items c.args.node node (node_found nodes world.n c.args.node node whole c.requires.node
-        c.index.ensures))
+    c.index.ensures))

@@ -48,9 +48,9 @@ returns-in-Ok-clause-done c = λ e.
           (slice_set lanes (i * c.args.self.now.n + i) c.apply_own.new.lane) c.args.self.now.detector
           (Own i) c.requires.few o.places c.requires.standing.counted refl
           (cuts_stay k.n nodes i node c.apply_own.new.node (ring_of c.args.self.now.detector) (ring_of c.args.self.now.detector) there_n
-              c.requires.standing.cuts
+          c.requires.standing.cuts
           (λ j low differs. next_same node c.apply_own.new.node step.applied.same.0 step.applied.same.1 step.applied.same.2 step.applied.outboxes j)
-              (λ m l low_m low_l. refl))
+          (λ m l low_m low_l. refl))
           o.can (o.happens, refl);
       same = (refl, refl);
     }

@@ -86,7 +86,7 @@ count_post-requires-clause-few c =
     let nodes = c.args.self.now.nodes.items in
     let lanes = c.args.self.now.lanes.items in
     room_to_post k nodes lanes c.args.self.now.detector c.args.self.now.steps c.requires.standing c.args.from c.args.to c.if-from-self.false
-        c.if-to-self.false c.requires.few
+    c.if-to-self.false c.requires.few
 
 pub count_post-requires-clause-black : goal.count_post-requires-clause-black
 count_post-requires-clause-black c =

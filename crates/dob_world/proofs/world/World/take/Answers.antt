@@ -60,7 +60,7 @@ receive-requires-clause-batches c =
     subst (λ (st : PieceSet). All (λ (b : BatchView). IsBatchFor st node.n node.id b) lane.link.waiting) (sym of.0)
     (subst (λ (m : ℕ). All (λ (b : BatchView). IsBatchFor k.set m node.id b) lane.link.waiting) (sym of.2)
     (subst (λ (m : ℕ). All (λ (b : BatchView). IsBatchFor k.set k.n m b) lane.link.waiting) (sym of.1)
-        (c.requires.standing.places.lane i j lane there_l).batches))
+    (c.requires.standing.places.lane i j lane there_l).batches))
 
 pub count_take-requires-clause-counted : goal.count_take-requires-clause-counted
 count_take-requires-clause-counted c =

@@ -1,7 +1,6 @@
 -- The class is its owner's own, which shows the value of the world.
 use Rattle.std.proofs.Common.{◌≡◌, ℕ, subst, Some, slice_get}
 use Rattle.dob_share.specs.Owners.{owner_of}
-use Rattle.dob_node.specs.declared.node.Node.{Node}
 use Rattle.dob_world.specs.Shown.{setting_of}
 use Rattle.dob_world.proofs.InPlace.{node_there}
 use Rattle.dob_world.proofs.Gathered.{owned, shows, shows_entry}
