@@ -30,10 +30,10 @@ each_is R from (suc n) (y ∷ xs) are (suc k) x e =
 -- what stands in two lists joined stands in one of them
 at_either : {A : Type 0} → (xs ys : List A) (k : ℕ) (x : A) → slice_get (xs ++ ys) k ≡ Some x →
     (slice_get xs k ≡ Some x) ⊎ ((j : ℕ) × (k ≡ length xs + j) × (slice_get ys j ≡ Some x))
-at_either [] ys k x e = inr (k, (omega arith, e))
+at_either [] ys k x e = inr (k, omega arith, e)
 at_either (y ∷ xs) ys zero x e = inl e
 at_either (y ∷ xs) ys (suc k) x e =
-    ⊎_elim (λ l. inl l) (λ r. let place = r.1.0 in inr (r.0, (omega arith, r.1.1))) (at_either xs ys k x e)
+    ⊎_elim (λ l. inl l) (λ r. let place = r.1 in inr (r.0, omega arith, r.2)) (at_either xs ys k x e)
 
 pub openings_are : (set : PieceSet) (first upto : ℕ) (openings : List Opening) → first ≤ upto →
     AllZip (λ (class : ℕ) (given : Opening). IsOpening (class_setup set class) given) (range_with_len first (upto - first)) openings →
@@ -52,7 +52,7 @@ openings_joined set first upto before more are next = record {
   each = λ class given there. elim (at_either before more class given there) [
     | inl earlier ↦ are.each class given earlier
     | inr later ↦ (
-      let place : first + later.0 ≡ class = omega (arith, are.whole, later.1.0) in
-      subst (λ (c : ℕ). IsOpening (class_setup set c) given) place (next.each later.0 given later.1.1))
+      let place : first + later.0 ≡ class = omega (arith, are.whole, later.1) in
+      subst (λ (c : ℕ). IsOpening (class_setup set c) given) place (next.each later.0 given later.2))
   ];
 }
