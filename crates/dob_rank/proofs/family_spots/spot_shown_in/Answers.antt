@@ -2,15 +2,16 @@
 use Rattle.std.proofs.Common.{ℕ, refl, ap, ◌∙◌, arith, ◌≤◌, ◌<◌}
 use Rattle.dob_rank.specs.Bitboards.{IsShown}
 use Rattle.dob_rank.specs.Marks.{marks_below}
+use Rattle.dob_rank.specs.Numbers.{block_of}
+use Rattle.dob_rank.specs.Runs.{run_of}
 use Rattle.dob_rank.specs.FamilyRuns.{is_there}
 use Rattle.dob_rank.proofs.RunPlaces.{HasSpot, spot_there}
 use Rattle.dob_rank.proofs.family_spots.spot_shown_in.Goals as goal
-use Rattle.dob_rank.proofs.family_spots.spot_shown_in.Goals.{After-spot_shown-block}
 
 pub spot_shown-block-requires : goal.spot_shown-block-requires
 spot_shown-block-requires c = (c.requires.0, record { position = c.requires.1.position.of_set; squares = c.requires.1.squares })
 
-spot : (c : After-spot_shown-block) → HasSpot c.args.family.set c.requires.0 c.args.family.set c.spot_shown-block.result.0 c.spot_shown-block.result.1.run
+spot : (c : goal.After-spot-1) → HasSpot c.args.family.set c.requires.0 c.args.family.set c.spot_shown-block.result.0 c.spot_shown-block.result.1.run
     c.spot_shown-block.result.1.local
 spot c =
     let shown : IsShown c.args.family.set c.requires.0 c.args.bits.now =
@@ -43,5 +44,5 @@ returns-clause-local c = λ setup shown.
     let of : IsShown c.args.family.set setup c.args.bits.now = record { position = shown.position.of_set; squares = shown.squares } in
     c.count_before-local.ensures
     ∙ ap (λ (n : ℕ). marks_below (is_there c.args.family n c.spot_shown-block.result.1.run) c.spot_shown-block.result.1.local) (at.block setup of)
-    ∙ ap (λ (n : ℕ). marks_below (is_there c.args.family _ n) c.spot_shown-block.result.1.local) (at.run setup of)
-    ∙ ap (λ (n : ℕ). marks_below (is_there c.args.family _ _) n) (at.local setup of)
+    ∙ ap (λ (n : ℕ). marks_below (is_there c.args.family (block_of c.args.family.set setup) n) c.spot_shown-block.result.1.local) (at.run setup of)
+    ∙ ap (λ (n : ℕ). marks_below (is_there c.args.family (block_of c.args.family.set setup) (run_of c.args.family.set setup)) n) (at.local setup of)
