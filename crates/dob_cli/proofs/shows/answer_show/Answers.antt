@@ -9,5 +9,5 @@ returns-in_ok-keep_picture-in-Some-clause-ok g c =
       position = position.setup;
       named = (position.legal, record { squares = position.legal.squares; spelled = c.in_ok-position.ensures.read });
       drawn = c.in_ok-lines.ensures.ok;
-      kept = rw c.in-Some.is (λ tells. c.in_ok-keep_picture.ensures.kept (subst (λ (b : Bool). IsTrue b) (sym c.drawn_lines.ensures.told) tells));
+      kept = rw c.in-Some.is (λ tells. c.in_ok-keep_picture-in-Some.ensures.kept (subst (λ (b : Bool). IsTrue b) (sym c.drawn_lines.ensures.told) tells));
     }
