@@ -1,5 +1,5 @@
 -- What the masks of a position say of its digits and its piece set.
-use Rattle.std.proofs.Common.{◌≡◌, ℕ, ◌+◌, ◌-◌, ◌≤◌, List, length, map, slice_index, refl, sym, ◌∙◌, subst, arith}
+use Rattle.std.proofs.Common.{◌≡◌, ℕ, ◌+◌, ◌-◌, ◌≤◌, List, [], ◌∷◌, length, map, slice_index, refl, sym, ◌∙◌, subst, arith}
 use Rattle.std.proofs.lemmas.List.{length-map}
 use Rattle.dob_pieces.specs.declared.kind.HandKind.TheVariants as hand
 use Rattle.dob_pieces.specs.declared.setup.Setup.{Setup}
@@ -92,3 +92,6 @@ numbers_are s numbers legal e =
 
 pub small_total : (n total : ℕ) → n ≡ total → total ≤ 2 → n ≤ 2
 small_total n total e h = omega arith
+
+pub three : (a b c d e f : ℕ) → a ≡ d → b ≡ e → c ≡ f → a ∷ b ∷ c ∷ [] ≡ d ∷ e ∷ f ∷ []
+three a b c d e f p q r = cc

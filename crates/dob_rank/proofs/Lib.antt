@@ -25,6 +25,9 @@ pub mod Sets  -- a position and its set
 pub mod Found  -- what the code's lists and numbers are
 pub mod Planes  -- masks of layers and what their bits count
 pub mod BoardMasks  -- what the masks of a position say
+pub mod BitPlanes  -- sets of squares in one pass over a board
+pub mod BitSquares  -- layers and forms by sets of squares
+pub mod BitNumbers  -- the digits of a position that sets of squares show
 -- Classes.
 pub mod Marks  -- marked ranks are representatives
 pub mod Words  -- marks below a place

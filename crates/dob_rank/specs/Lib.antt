@@ -3,6 +3,8 @@ pub mod Numbers
 pub mod Placing
 pub mod Masks
 pub mod BoardMasks
+pub mod Bitboards
+pub mod BoardDigits
 pub mod Marks
 pub mod ClassRows
 pub mod Families

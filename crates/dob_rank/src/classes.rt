@@ -5,14 +5,17 @@ ghost use Rattle.dob_rank.specs.Order.{IsPositionOf, IsFirstOfTwo, IsRepresentat
 ghost use Rattle.dob_rank.specs.Numbers.{product, block_bases, start_of, rank_of};
 ghost use Rattle.dob_rank.specs.Marks.{marked, marks_below, classes_of, class_number};
 ghost use Rattle.dob_rank.specs.BlockTables.{AreBlocks};
+ghost use Rattle.dob_pieces.specs.declared.setup.Setup.{Setup};
+ghost use Rattle.dob_rank.specs.Bitboards.{IsShown};
 ghost use Rattle.dob_rank.specs.BoardMasks.{AreMasks};
 
+use crate::bitboards::Bitboards;
 use crate::block;
 use crate::block_classes::BlockClasses;
 use crate::fault::Fault;
 use crate::limit::is_too_large;
 use crate::masks::{Masks, masks_of};
-use crate::ranks::{position_by, spot_by};
+use crate::ranks::{position_by, spot_by, spot_shown};
 use dob_pieces::{PieceSet, Position};
 use std::alloc::Global;
 
@@ -100,6 +103,18 @@ impl Classes {
         if is_representative { Some(class) } else { None }
     }
 
+    /// The same by the sets of squares that show the position.
+    pub fn class_of_shown(&self, bits: &Bitboards) -> Option<u64>
+        requires { (setup : Setup) × IsShown self.now.set setup bits.now }
+        ensures class { (setup : Setup) → IsShown self.now.set setup bits.now → MatchOption result (¬ IsFirstOfTwo setup)
+            (λ class. IsFirstOfTwo setup × HasClass self.now.set setup class) }
+        ensures number { (setup : Setup) → IsShown self.now.set setup bits.now → IfSome result (λ class. class ≡ class_number self.now.set setup) }
+        ensures bound { IfSome result (λ class. class < classes_of self.now.set) }
+    {
+        let (is_first, class) = self.look_up_shown(bits);
+        if is_first { Some(class) } else { None }
+    }
+
     /// The representative of the class of that number, which is below the number of classes.
     pub fn class_at(&self, class: u64) -> Position
         requires { class < classes_of self.now.set }
@@ -148,6 +163,16 @@ impl Classes {
         ensures before { result.1 ≡ marks_below (marked self.now.set) (rank_of self.now.set position.now.setup) }
     {
         let (block, spot) = spot_by(self.set, position, masks);
+        self.blocks[block as usize].look_up(spot)
+    }
+
+    /// The same by the sets of squares that show the position.
+    fn look_up_shown(&self, bits: &Bitboards) -> (bool, u64)
+        requires { (setup : Setup) × IsShown self.now.set setup bits.now }
+        ensures mark { (setup : Setup) → IsShown self.now.set setup bits.now → result.0 ≡ marked self.now.set (rank_of self.now.set setup) }
+        ensures before { (setup : Setup) → IsShown self.now.set setup bits.now → result.1 ≡ marks_below (marked self.now.set) (rank_of self.now.set setup) }
+    {
+        let (block, spot) = spot_shown(self.set, bits);
         self.blocks[block as usize].look_up(spot)
     }
 }

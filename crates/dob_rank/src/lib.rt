@@ -7,6 +7,7 @@
 // block a position is a number in mixed radix, with a digit for each further part of the key.
 #![tactic(auto)]
 
+mod bitboards;
 mod block;
 mod block_classes;
 mod class_counts;
@@ -29,6 +30,7 @@ mod segmented;
 mod starts;
 mod stretches;
 
+pub use bitboards::Bitboards;
 pub use class_counts::count_classes;
 pub use classes::Classes;
 pub use family_ranks::{rank_in, size_in, unrank_in};

@@ -1,6 +1,9 @@
 // The rank of a position, the position of a rank, and the representative of a class.
 ghost use Rattle.std.specs.Prelude.{◌≡◌, ◌<◌, ◌≤◌, ◌+◌, ◌*◌, ◌^◌};
 ghost use Rattle.dob_pieces.specs.Setups.{total};
+ghost use Rattle.dob_pieces.specs.declared.setup.Setup.{Setup};
+ghost use Rattle.dob_rank.specs.Bitboards.{IsShown};
+ghost use Rattle.dob_rank.specs.BoardDigits.{ArePartsOf, AreNumbersOf};
 ghost use Rattle.dob_rank.specs.BoardMasks.{AreMasks};
 ghost use Rattle.dob_rank.specs.Order.{IsPositionOf, HasSize, HasRank, RepresentativeOf};
 ghost use Rattle.dob_rank.specs.Numbers.{size_of, rank_of, product, number_of, block_bases, block_of};
@@ -8,6 +11,7 @@ ghost use Rattle.dob_rank.specs.Numbers.{HasBlock, bases_by, on_board as on_boar
 ghost use Rattle.dob_rank.specs.Numbers.{HasDigits};
 ghost use Rattle.dob_rank.specs.Runs.{runs_in, run_size, run_bases, square_bases, local_bases, run_of, local_of};
 
+use crate::bitboards::Bitboards;
 use crate::block::{self, DIGITS, EachKind};
 use crate::layers::Layer;
 use crate::masks::{self, Masks};
@@ -81,9 +85,36 @@ fn spot_with(set: PieceSet, position: &Position, masks: Masks, on_board: &EachKi
     ensures run { result.1.run ≡ run_of set position.now.setup }
     ensures local { result.1.local ≡ local_of position.now.setup }
 {
+    spot_from(set, on_board, &digits_of(position, masks, on_board))
+}
+
+/// The same by the sets of squares that show the position.
+pub(crate) fn spot_shown(set: PieceSet, bits: &Bitboards) -> (u64, Spot)
+    requires { (setup : Setup) × IsShown set setup bits.now }
+    ensures block { (setup : Setup) → IsShown set setup bits.now → result.0 ≡ block_of set setup }
+    ensures run { (setup : Setup) → IsShown set setup bits.now → result.1.run ≡ run_of set setup }
+    ensures local { (setup : Setup) → IsShown set setup bits.now → result.1.local ≡ local_of setup }
+{
+    let masks = bits.layers();
+    let on_board = numbers_in(masks);
+    let forms = [
+        bits.forms_of(masks.chicks, Layer::Chicks, on_board[0]),
+        bits.forms_of(masks.elephants, Layer::Elephants, on_board[1]),
+        bits.forms_of(masks.giraffes, Layer::Giraffes, on_board[2]),
+    ];
+    let digits = digits_from(bits.hands.mover, masks, &on_board, &forms);
+    spot_from(set, &on_board, &digits)
+}
+
+/// The same by the position's numbers on the board and its digits.
+fn spot_from(set: PieceSet, on_board: &EachKind, digits: &[u64; DIGITS]) -> (u64, Spot)
+    requires { (setup : Setup) × AreNumbersOf set on_board.now digits.now setup }
+    ensures block { (setup : Setup) → AreNumbersOf set on_board.now digits.now setup → result.0 ≡ block_of set setup }
+    ensures run { (setup : Setup) → AreNumbersOf set on_board.now digits.now setup → result.1.run ≡ run_of set setup }
+    ensures local { (setup : Setup) → AreNumbersOf set on_board.now digits.now setup → result.1.local ≡ local_of setup }
+{
     let block = radix::number_of(&block::block_bases_of(set), on_board);
-    let digits = digits_of(position, masks, on_board);
-    (block, block::spot_from(set, on_board, &digits))
+    (block, block::spot_from(set, on_board, digits))
 }
 
 /// The piece set of a position, by the numbers on its board.
@@ -156,6 +187,13 @@ pub(crate) fn numbers_on_board(position: &Position, masks: Masks) -> EachKind
     requires { AreMasks position.now.setup.board masks }
     ensures { result ≡ on_board_of position.now.setup }
 {
+    numbers_in(masks)
+}
+
+/// The same by the masks alone.
+fn numbers_in(masks: Masks) -> EachKind
+    ensures { (setup : Setup) → AreMasks setup.board masks → result ≡ on_board_of setup }
+{
     [
         masks::count(masks.chicks),
         masks::count(masks.elephants),
@@ -170,7 +208,19 @@ pub(crate) fn digits_of(position: &Position, masks: Masks, on_board: &EachKind) 
     ensures { result ≡ all_digits_of position.now.setup }
 {
     let board = &position.setup.board;
-    let hand = position.setup.hands.mover;
+    let forms = [
+        masks::forms_of(board, masks.chicks, Layer::Chicks, on_board[0]),
+        masks::forms_of(board, masks.elephants, Layer::Elephants, on_board[1]),
+        masks::forms_of(board, masks.giraffes, Layer::Giraffes, on_board[2]),
+    ];
+    digits_from(position.setup.hands.mover, masks, on_board, &forms)
+}
+
+/// The digits of the position with that hand of the mover, those masks, and those numbers on the board and of its forms.
+fn digits_from(hand: Hand, masks: Masks, on_board: &EachKind, forms: &EachKind) -> [u64; DIGITS]
+    requires { (setup : Setup) × ArePartsOf hand masks on_board.now forms.now setup }
+    ensures { (setup : Setup) → ArePartsOf hand masks on_board.now forms.now setup → result ≡ all_digits_of setup }
+{
     let after_own_lion = masks::ALL - masks.own_lion;
     let after_lions = after_own_lion - masks.enemy_lion;
     let after_chicks = after_lions - masks.chicks;
@@ -185,9 +235,9 @@ pub(crate) fn digits_of(position: &Position, masks: Masks, on_board: &EachKind) 
         masks::choice_of(masks.chicks, after_chicks, on_board[0]),
         masks::choice_of(masks.elephants, after_elephants, on_board[1]),
         masks::choice_of(masks.giraffes, empty, on_board[2]),
-        masks::forms_of(board, masks.chicks, Layer::Chicks, on_board[0]),
-        masks::forms_of(board, masks.elephants, Layer::Elephants, on_board[1]),
-        masks::forms_of(board, masks.giraffes, Layer::Giraffes, on_board[2]),
+        forms[0],
+        forms[1],
+        forms[2],
     ]
 }
 

@@ -1,0 +1,49 @@
+-- A setup as sets of squares, with no board.
+use Rattle.std.specs.Prelude.{◌≡◌, ℕ, ◌==◌, ◌||◌, Bool, false, List, map, length, Some, None}
+use Rattle.dob_pieces.specs.declared.kind.Kind.TheVariants.{Hen}
+use Rattle.dob_pieces.specs.declared.kind.Side.TheVariants.{Mover, Enemy}
+use Rattle.dob_pieces.specs.declared.piece_set.PieceSet.{PieceSet}
+use Rattle.dob_pieces.specs.declared.setup.Setup.{Setup}
+use Rattle.dob_pieces.specs.Masks.{AreSquares, is_piece, is_prey}
+use Rattle.dob_pieces.specs.Setups.{Cell}
+use Rattle.dob_rank.specs.declared.bitboards.Bitboards.{Bitboards}
+use Rattle.dob_rank.specs.declared.layers.Layer.{Layer}
+use Rattle.dob_rank.specs.declared.layers.Layer.TheVariants.{OwnLion, EnemyLion, Chicks, Elephants, Giraffes}
+use Rattle.dob_rank.specs.Masks.{layer_mask}
+use Rattle.dob_rank.specs.Numbers.{order, layer, count}
+use Rattle.dob_rank.specs.Order.{IsPositionOf}
+
+-- a piece of that layer
+abbrev pub is_of : Layer → Cell → Bool
+is_of of_layer cell = layer cell == order of_layer
+
+abbrev pub is_hen : Cell → Bool
+is_hen cell = is_piece Mover Hen cell || is_piece Enemy Hen cell
+
+-- a piece of the enemy other than the lion
+abbrev pub is_enemy : Cell → Bool
+is_enemy None = false
+is_enemy (Some piece) = is_prey piece.side piece.kind
+
+-- each set has the squares that its name says
+pub record AreBitboards (setup : Setup) (bits : Bitboards) : Type 0 where
+  pub own_lion_is : AreSquares setup (is_of OwnLion) bits.own_lion
+  pub enemy_lion_is : AreSquares setup (is_of EnemyLion) bits.enemy_lion
+  pub chicks_are : AreSquares setup (is_of Chicks) bits.chicks
+  pub elephants_are : AreSquares setup (is_of Elephants) bits.elephants
+  pub giraffes_are : AreSquares setup (is_of Giraffes) bits.giraffes
+  pub hens_are : AreSquares setup is_hen bits.hens
+  pub enemies_are : AreSquares setup is_enemy bits.enemies
+  pub hands_are : bits.hands ≡ setup.hands
+
+-- they show a position of the set
+pub record IsShown (set : PieceSet) (setup : Setup) (bits : Bitboards) : Type 0 where
+  pub position : IsPositionOf set setup
+  pub squares : AreBitboards setup bits
+
+-- and those of a layer with so many pieces
+pub record HasOfLayer (of_layer : Layer) (mask pieces : ℕ) (setup : Setup) (bits : Bitboards) : Type 0 where
+  pub long : length setup.board ≡ 12
+  pub squares : AreBitboards setup bits
+  pub mask_is : mask ≡ layer_mask (order of_layer) (map layer setup.board)
+  pub pieces_are : pieces ≡ count (order of_layer) (map layer setup.board)

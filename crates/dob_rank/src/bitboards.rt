@@ -1,0 +1,153 @@
+// A setup as sets of squares, with no board: what a position's rank needs is told from them.
+ghost use Rattle.std.specs.Prelude.{◌≡◌, ◌<◌, ◌≤◌, ◌/◌, ◌%◌, length};
+ghost use Rattle.std.specs.Int.{bit_at};
+ghost use Rattle.dob_pieces.specs.declared.setup.Setup.{Setup};
+ghost use Rattle.dob_pieces.specs.Setups.{at, setup_of};
+ghost use Rattle.dob_rank.specs.Bitboards.{AreBitboards, HasOfLayer};
+ghost use Rattle.dob_rank.specs.BoardMasks.{AreMasks};
+ghost use Rattle.dob_rank.specs.Numbers.{order, forms_number};
+ghost use Rattle.dob_rank.specs.Order.{form};
+
+use crate::forms::base_of;
+use crate::layers::Layer;
+use crate::masks::Masks;
+use dob_pieces::{CellTable, Hands, Piece, Setup, Square, entry_of};
+
+/// What stands on a board as sets of squares, with a bit for each square, that of square 0 as the lowest; and what lies in
+/// the hands.
+#[derive(Clone, Copy)]
+pub struct Bitboards {
+    pub own_lion: u16,
+    pub enemy_lion: u16,
+    /// Chicks and hens of both sides.
+    pub chicks: u16,
+    pub elephants: u16,
+    pub giraffes: u16,
+    /// Hens of both sides.
+    pub hens: u16,
+    /// The enemy's pieces other than the lion.
+    pub enemies: u16,
+    pub hands: Hands,
+}
+
+// The lowest bits of five planes of a word: the lions of both, ..
+const LIONS: u64 = 1;
+
+// .. the enemy's pieces, ..
+const ENEMIES: u64 = 1 << 12;
+
+// .. chicks and hens, ..
+const CHICKS: u64 = 1 << 24;
+
+// .. elephants, ..
+const ELEPHANTS: u64 = 1 << 36;
+
+// .. and giraffes and hens.
+const GIRAFFES_AND_HENS: u64 = 1 << 48;
+
+const PLANES: CellTable = [
+    [0, LIONS, LIONS + ENEMIES, 0],
+    [0, GIRAFFES_AND_HENS, GIRAFFES_AND_HENS + ENEMIES, 0],
+    [0, ELEPHANTS, ELEPHANTS + ENEMIES, 0],
+    [0, CHICKS, CHICKS + ENEMIES, 0],
+    [
+        0,
+        CHICKS + GIRAFFES_AND_HENS,
+        CHICKS + GIRAFFES_AND_HENS + ENEMIES,
+        0,
+    ],
+];
+
+impl Bitboards {
+    /// The setup's.
+    pub fn of(setup: &Setup) -> Bitboards
+        ensures { AreBitboards setup.now result }
+    {
+        Bitboards::by(&setup.board, setup.hands)
+    }
+
+    /// Those of the setup with that board and those hands, found in one pass without a branch on what stands on a square.
+    fn by(board: &[Option<Piece>; Square::COUNT], hands: Hands) -> Bitboards
+        ensures { AreBitboards (setup_of board.now hands) result }
+    {
+        let mut planes: u64 = 0;
+        for square in (0..Square::COUNT).rev() {
+            let entry = entry_of(&PLANES, board[square]);
+            planes = 2 * planes + entry;
+        }
+        let lions = plane(planes, LIONS);
+        let enemies = plane(planes, ENEMIES);
+        let chicks = plane(planes, CHICKS);
+        let elephants = plane(planes, ELEPHANTS);
+        let giraffes_and_hens = plane(planes, GIRAFFES_AND_HENS);
+        Bitboards {
+            own_lion: lions & !enemies,
+            enemy_lion: lions & enemies,
+            chicks,
+            elephants,
+            giraffes: giraffes_and_hens & !chicks,
+            hens: giraffes_and_hens & chicks,
+            enemies: enemies & !lions,
+            hands,
+        }
+    }
+
+    /// The squares of each layer.
+    pub(crate) fn layers(&self) -> Masks
+        ensures { (setup : Setup) → AreBitboards setup self.now → length setup.board ≡ 12 → AreMasks setup.board result }
+    {
+        Masks {
+            own_lion: u64::from(self.own_lion),
+            enemy_lion: u64::from(self.enemy_lion),
+            chicks: u64::from(self.chicks),
+            elephants: u64::from(self.elephants),
+            giraffes: u64::from(self.giraffes),
+        }
+    }
+
+    /// The number whose digits are the forms of the pieces of a layer with those squares, at most two.
+    pub(crate) fn forms_of(&self, mask: u64, of_layer: Layer, pieces: u64) -> u64
+        requires few { pieces ≤ 2 }
+        requires layer { (setup : Setup) × HasOfLayer of_layer mask pieces setup self.now }
+        ensures { (setup : Setup) → HasOfLayer of_layer mask pieces setup self.now → result ≡ forms_number (order of_layer) setup.board }
+    {
+        if pieces == 0 {
+            return 0;
+        }
+        let first = self.form_at(mask.trailing_zeros());
+        if pieces == 1 {
+            return first;
+        }
+        let rest = mask & mask.saturating_sub(1);
+        let second = self.form_at(rest.trailing_zeros());
+        first * base_of(of_layer) + second
+    }
+
+    /// The form of the piece on the square of that number.
+    fn form_at(&self, square: u32) -> u64
+        requires { square < 12 }
+        ensures value { (setup : Setup) → AreBitboards setup self.now → result ≡ form (at setup square) }
+        ensures bound { result ≤ 3 }
+    {
+        let enemy_chicks = self.enemies & self.chicks;
+        let others = self.enemies & !self.chicks | self.hens;
+        u64::from(2 * bit_of(enemy_chicks, square) + bit_of(others, square))
+    }
+}
+
+/// The mask whose lowest bit has that value in the word.
+fn plane(planes: u64, unit: u64) -> u16
+    requires { 0 < unit }
+    ensures { result ≡ planes / unit % 4096 }
+{
+    (planes / unit % 4096) as u16
+}
+
+/// The bit of a square.
+fn bit_of(mask: u16, square: u32) -> u16
+    requires { square < 12 }
+    ensures value { result ≡ bit_at mask square }
+    ensures bound { result ≤ 1 }
+{
+    mask >> square & 1
+}
