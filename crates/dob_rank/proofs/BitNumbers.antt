@@ -59,3 +59,22 @@ module _ (set : PieceSet) (bits : Bitboards) (masks : Masks) (numbers : List ℕ
 
   pub numbers_found : (all : List ℕ) → all ≡ digits setup → AreNumbersOf set numbers all setup
   numbers_found all e = record { position = found.shown.position; numbers_are = found.numbers_are; digits_are = e }
+
+-- by what the code's calls say
+module _ (set : PieceSet) (bits : Bitboards) (masks : Masks) (numbers : List ℕ)
+    (layers : (s : Setup) → AreBitboards s bits → length s.board ≡ 12 → AreMasks s.board masks)
+    (counts : (s : Setup) → AreMasks s.board masks → numbers ≡ on_board s) (first second third : ℕ)
+    (chicks : (s : Setup) → HasOfLayer Chicks masks.chicks (slice_index numbers 0) s bits → first ≡ forms_number (order Chicks) s.board)
+    (elephants : (s : Setup) → HasOfLayer Elephants masks.elephants (slice_index numbers 1) s bits → second ≡ forms_number (order Elephants) s.board)
+    (giraffes : (s : Setup) → HasOfLayer Giraffes masks.giraffes (slice_index numbers 2) s bits → third ≡ forms_number (order Giraffes) s.board) where
+  pub parts_shown : (setup : Setup) → IsShown set setup bits → ArePartsOf bits.hands.mover masks numbers (first ∷ second ∷ third ∷ []) setup
+  parts_shown setup shown =
+      let found = are_found set bits masks numbers setup shown layers counts in
+      parts_found set bits masks numbers setup found first second third (chicks setup (chicks_found set bits masks numbers setup found))
+      (elephants setup (elephants_found set bits masks numbers setup found)) (giraffes setup (giraffes_found set bits masks numbers setup found))
+
+  pub numbers_shown : (all : List ℕ)
+      → ((s : Setup) → ArePartsOf bits.hands.mover masks numbers (first ∷ second ∷ third ∷ []) s → all ≡ digits s)
+      → (setup : Setup) → IsShown set setup bits → AreNumbersOf set numbers all setup
+  numbers_shown all told setup shown =
+      numbers_found set bits masks numbers setup (are_found set bits masks numbers setup shown layers counts) all (told setup (parts_shown setup shown))

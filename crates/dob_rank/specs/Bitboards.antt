@@ -17,6 +17,22 @@ use Rattle.dob_rank.specs.Order.{IsPositionOf}
 abbrev pub is_of : Layer → Cell → Bool
 is_of of_layer cell = layer cell == order of_layer
 
+-- the same by name
+abbrev pub is_own_lion : Cell → Bool
+is_own_lion = is_of OwnLion
+
+abbrev pub is_enemy_lion : Cell → Bool
+is_enemy_lion = is_of EnemyLion
+
+abbrev pub is_chick : Cell → Bool
+is_chick = is_of Chicks
+
+abbrev pub is_elephant : Cell → Bool
+is_elephant = is_of Elephants
+
+abbrev pub is_giraffe : Cell → Bool
+is_giraffe = is_of Giraffes
+
 abbrev pub is_hen : Cell → Bool
 is_hen cell = is_piece Mover Hen cell || is_piece Enemy Hen cell
 
@@ -27,11 +43,11 @@ is_enemy (Some piece) = is_prey piece.side piece.kind
 
 -- each set has the squares that its name says
 pub record AreBitboards (setup : Setup) (bits : Bitboards) : Type 0 where
-  pub own_lion_is : AreSquares setup (is_of OwnLion) bits.own_lion
-  pub enemy_lion_is : AreSquares setup (is_of EnemyLion) bits.enemy_lion
-  pub chicks_are : AreSquares setup (is_of Chicks) bits.chicks
-  pub elephants_are : AreSquares setup (is_of Elephants) bits.elephants
-  pub giraffes_are : AreSquares setup (is_of Giraffes) bits.giraffes
+  pub own_lion_is : AreSquares setup is_own_lion bits.own_lion
+  pub enemy_lion_is : AreSquares setup is_enemy_lion bits.enemy_lion
+  pub chicks_are : AreSquares setup is_chick bits.chicks
+  pub elephants_are : AreSquares setup is_elephant bits.elephants
+  pub giraffes_are : AreSquares setup is_giraffe bits.giraffes
   pub hens_are : AreSquares setup is_hen bits.hens
   pub enemies_are : AreSquares setup is_enemy bits.enemies
   pub hands_are : bits.hands ≡ setup.hands

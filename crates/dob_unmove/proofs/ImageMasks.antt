@@ -123,3 +123,8 @@ pub AreSquares-mirrored : (setup : Setup) (test : Cell → Bool) (mask result : 
 AreSquares-mirrored setup test mask result mirrors is =
     IsMask-same (λ s. test (at setup (mirrored_square s))) (λ s. test (at (mirrored setup) s)) result
     (λ s lt. ap test (sym (at-mirrored setup s lt))) (mirrors (λ s. test (at setup s)) is)
+
+-- the hands stay
+pub hands-mirrored : (setup : Setup) → (mirrored setup).hands ≡ setup.hands
+unfolding mirrored
+hands-mirrored setup = refl

@@ -1,5 +1,5 @@
 -- Taking a move back keeps the lions and the other pieces.
-use Rattle.std.proofs.Common.{◌≡◌, length, sym, ap, ◌∙◌, subst, arith}
+use Rattle.std.proofs.Common.{◌≡◌, length, refl, sym, ap, ◌∙◌, subst, arith}
 use Rattle.std.specs.List.{count_by}
 use Rattle.std.proofs.lemmas.List.{length-set}
 use Rattle.dob_pieces.specs.declared.piece_set.PieceSet.{PieceSet}
@@ -12,6 +12,8 @@ use Rattle.dob_pieces.specs.Setups.{holds_lion, HasLions, HasFewPieces, HasLionO
 use Rattle.dob_pieces.proofs.Boards.{length-turned, HasFewPieces-turned, IsLegal-mirrored}
 use Rattle.dob_pieces.proofs.Symmetries.{turned-turned, turned-mirrored}
 use Rattle.dob_moves.proofs.Outcomes.{total-Goes, lions-Goes}
+use Rattle.dob_rank.specs.declared.bitboards.Bitboards.{Bitboards}
+use Rattle.dob_rank.specs.Bitboards.{AreBitboards, IsShown}
 use Rattle.dob_rank.specs.Order.{IsPositionOf}
 use Rattle.dob_rank.proofs.Found.{IsPositionOf-mirrored}
 use Rattle.dob_unmove.specs.declared.undo.Undo.{Undo}
@@ -65,11 +67,25 @@ position_before set after p u can t e legal = record {
       ∙ t.1.pieces kind;
 }
 
+pub squares_turned : (after : Setup) → IsTurned IsLegal after → length after.board ≡ 12
+squares_turned after t = ap (λ (s : Setup). length s.board) t.2 ∙ length-turned t.0
+
 pub few_turned : (after : Setup) → IsTurned IsLegal after → HasFewPieces after
 few_turned after t = subst HasFewPieces (sym t.2) (HasFewPieces-turned t.0 t.1.squares t.1.few)
 
 pub legal_turned : (set : PieceSet) (after : Setup) → IsTurned (IsPositionOf set) after → IsTurned IsLegal after
 legal_turned set after t = (t.0, t.1.legal, t.2)
+
+-- what sets of squares show of it
+pub shown_before : (set : PieceSet) (after : Setup) (u : Undo) (bits found : Bitboards) → CanUndo after u → IsTurned (IsPositionOf set) after
+    → HasLionOffFarRow (earlier after u) → AreBitboards after bits
+    → ((s : Setup) → CanUndo s u → length s.board ≡ 12 → AreBitboards s bits → AreBitboards (earlier s u) found) → IsShown set (earlier after u) found
+shown_before set after u bits found can t home are before =
+    let legal = legal_turned set after t in
+    record {
+      position = position_before set after (earlier after u) u can t refl (legal_before after (earlier after u) u can legal refl home);
+      squares = before after can (squares_turned after legal) are;
+    }
 
 pub position_mirrored : (set : PieceSet) (q image : Setup) → IsPositionOf set q → image ≡ mirrored q → IsPositionOf set image
 position_mirrored set q image is e = subst (IsPositionOf set) (sym e) (IsPositionOf-mirrored set q is)

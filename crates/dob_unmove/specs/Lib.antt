@@ -1,4 +1,5 @@
 pub mod Undoes
+pub mod Changes
 pub mod Walks
 pub mod Unmoves
 pub mod Edges

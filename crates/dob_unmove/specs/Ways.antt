@@ -11,6 +11,7 @@ use Rattle.dob_pieces.specs.Masks.{IsMask, AreMasks, is_own, is_empty, is_piece}
 use Rattle.dob_unmove.specs.declared.attackers.Threat.{Threat}
 use Rattle.dob_unmove.specs.declared.ways.Ways.{Ways}
 use Rattle.dob_pieces.specs.declared.piece_set.PieceSet.{PieceSet}
+use Rattle.dob_rank.specs.Bitboards.{AreBitboards}
 use Rattle.dob_rank.specs.Order.{IsPositionOf}
 use Rattle.dob_unmove.specs.Classes.{IsTurned}
 use Rattle.dob_unmove.specs.Threats.{elsewhere, IsThreat}
@@ -47,6 +48,7 @@ may_come after lion kind to square =
 
 -- what is known of the setup after a move
 pub record AreWays (after : Setup) (ways : Ways) : Type 0 where
+  pub bits_are : AreBitboards after ways.bits
   pub masks_are : AreMasks after ways.masks
   pub threat_is : IsThreat after ways.threat
   pub homes_are : IsMask (is_home ways.threat.lion) ways.homes

@@ -1,6 +1,6 @@
 // The position before a move.
 ghost use Rattle.std.specs.Prelude.{◌≡◌, MatchOption};
-ghost use Rattle.dob_pieces.specs.Setups.{HasFewPieces, HasLionOffFarRow, IsLegal};
+ghost use Rattle.dob_pieces.specs.Setups.{HasFewPieces, IsLegal};
 ghost use Rattle.dob_moves.specs.Statuses.{HasStatus};
 ghost use Rattle.dob_moves.specs.declared.position_status.Status.TheVariants.{Open};
 ghost use Rattle.dob_unmove.specs.Undoes.{CanGiveBack, CanUndo, without_caught, enemy_cell, earlier};
@@ -25,16 +25,6 @@ pub(crate) fn open_before(after: &Setup, undo: Undo) -> Option<Position>
     } else {
         None
     }
-}
-
-/// The same where the mover's lion is known to have stood off row 4.
-pub(crate) fn position_before(after: &Setup, undo: Undo) -> Position
-    requires can { CanUndo after.now undo }
-    requires legal { IsTurned IsLegal after.now }
-    requires home { HasLionOffFarRow (earlier after.now undo) }
-    ensures { result.setup ≡ earlier after.now undo }
-{
-    Position::new(earlier(after, undo))
 }
 
 // What stood and lay where before the move.
@@ -105,7 +95,7 @@ fn enemy_cell(caught: Option<Kind>) -> Option<Piece>
 }
 
 // The hand without the piece that was caught, if there is one.
-fn without_caught(hand: Hand, caught: Option<Kind>) -> Hand
+pub(crate) fn without_caught(hand: Hand, caught: Option<Kind>) -> Hand
     requires { CanGiveBack hand caught }
     ensures { result ≡ without_caught hand caught }
 {

@@ -1,11 +1,14 @@
-// The masks of a mirror image, from those of the setup: no second look at a board.
+// What the sets of squares of a setup say of its masks, and of the sets of its mirror image: no look at a board.
 ghost use Rattle.std.specs.Prelude.{ℕ, Bool};
 ghost use Rattle.dob_pieces.specs.Masks.{IsMask, AreMasks};
 ghost use Rattle.dob_pieces.specs.Setups.{mirrored};
 ghost use Rattle.dob_pieces.specs.Squares.{mirrored_square};
 ghost use Rattle.dob_pieces.specs.declared.setup.Setup.{Setup};
+ghost use Rattle.dob_rank.specs.Bitboards.{AreBitboards};
 
+use crate::ways::ALL;
 use dob_pieces::Masks;
+use dob_rank::Bitboards;
 
 /// The squares of column a, the lowest of the three of each row, and those of column b.
 const COLUMN_A: u16 = 0b001_001_001_001;
@@ -19,19 +22,37 @@ fn mirrored_mask(mask: u16) -> u16
     (COLUMN_A & mask) << 2 | COLUMN_B & mask | COLUMN_A & (mask >> 2)
 }
 
-/// The masks of the setup's mirror image.
-pub(crate) fn mirrored_masks(masks: &Masks) -> Masks
-    ensures { (setup : Setup) → AreMasks setup masks.now → AreMasks (mirrored setup) result }
+/// The sets of the setup's mirror image.
+pub(crate) fn mirrored_bits(bits: &Bitboards) -> Bitboards
+    ensures { (setup : Setup) → AreBitboards setup bits.now → AreBitboards (mirrored setup) result }
 {
+    Bitboards {
+        own_lion: mirrored_mask(bits.own_lion),
+        enemy_lion: mirrored_mask(bits.enemy_lion),
+        chicks: mirrored_mask(bits.chicks),
+        elephants: mirrored_mask(bits.elephants),
+        giraffes: mirrored_mask(bits.giraffes),
+        hens: mirrored_mask(bits.hens),
+        enemies: mirrored_mask(bits.enemies),
+        hands: bits.hands,
+    }
+}
+
+/// The masks of the setup.
+pub(crate) fn masks_of(bits: &Bitboards) -> Masks
+    ensures { (setup : Setup) → AreBitboards setup bits.now → AreMasks setup result }
+{
+    let pieces = bits.chicks | bits.elephants | bits.giraffes;
+    let empty = ALL & !(bits.own_lion | bits.enemy_lion | pieces);
     Masks {
-        lion: mirrored_mask(masks.lion),
-        giraffes: mirrored_mask(masks.giraffes),
-        elephants: mirrored_mask(masks.elephants),
-        chicks: mirrored_mask(masks.chicks),
-        hens: mirrored_mask(masks.hens),
-        own: mirrored_mask(masks.own),
-        ends: mirrored_mask(masks.ends),
-        empty: mirrored_mask(masks.empty),
-        enemy_lion: mirrored_mask(masks.enemy_lion),
+        lion: bits.own_lion,
+        giraffes: bits.giraffes & !bits.enemies,
+        elephants: bits.elephants & !bits.enemies,
+        chicks: bits.chicks & !(bits.hens | bits.enemies),
+        hens: bits.hens & !bits.enemies,
+        own: bits.own_lion | pieces & !bits.enemies,
+        ends: empty | bits.enemies,
+        empty,
+        enemy_lion: bits.enemy_lion,
     }
 }

@@ -2,6 +2,7 @@
 #![tactic(auto)]
 
 mod attackers;
+mod bits_before;
 mod earlier;
 mod images;
 pub mod plain;

@@ -1,10 +1,11 @@
 // The classes from which a class is reached: the walk over the ways back that masks leave.
-ghost use Rattle.std.specs.Prelude.{◌≡◌, ◌↔◌, true, false, ◌<◌, ℕ, ◌∷◌, [], Some, IsTrue, IfOk, OnOk};
+ghost use Rattle.std.specs.Prelude.{◌≡◌, ◌↔◌, true, false, ◌<◌, ℕ, ◌∷◌, [], Some, IsTrue, IfOk, OnOk, MatchOption};
 ghost use Rattle.dob_pieces.specs.declared.setup.Setup.{Setup};
 ghost use Rattle.dob_pieces.specs.Pieces.{kind_on_board};
 ghost use Rattle.dob_pieces.specs.Setups.{at, piece_of, turned, mirrored, HasLionOffFarRow};
 ghost use Rattle.dob_pieces.specs.declared.kind.Kind.{Kind};
 ghost use Rattle.dob_pieces.specs.declared.kind.Side.TheVariants.{Mover};
+ghost use Rattle.dob_rank.specs.Bitboards.{IsShown};
 ghost use Rattle.dob_rank.specs.Marks.{classes_of};
 ghost use Rattle.dob_unmove.specs.declared.undo.Undo.{Undo};
 ghost use Rattle.dob_unmove.specs.Undoes.{arrives_at as arrival, CanUndo, earlier};
@@ -16,8 +17,8 @@ ghost use Rattle.dob_unmove.specs.Threats.{elsewhere, stood_before};
 ghost use Rattle.dob_unmove.specs.Walks.{stands, uncatch, unsteps_from, unsteps, unputs, undoes_at, undoes};
 ghost use Rattle.dob_unmove.specs.Ways.{HasLionHome, may_come, AreWays, CanWalk};
 
-use crate::earlier::position_before;
-use crate::images::mirrored_masks;
+use crate::bits_before::bits_before;
+use crate::images::mirrored_bits;
 use crate::plain::class_if_representative;
 use crate::undo::Undo;
 use crate::walk::holds_caught;
@@ -25,7 +26,7 @@ use crate::ways::Ways;
 use dob_pieces::{
     HandKind, Kind, Memory, Position, Setup, Side, Square, lowest_square, without_square,
 };
-use dob_rank::Classes;
+use dob_rank::{Bitboards, Classes};
 use std::alloc::Global;
 
 /// Appends the classes of the open representatives that stood before the setup. In it the side that made the last move is the
@@ -273,7 +274,16 @@ fn class_before(classes: &Classes, after: &Setup, ways: &Ways, undo: Undo) -> Op
     requires home { HasLionOffFarRow (earlier after.now undo) }
     ensures { Finds (RepresentsIn classes.now.set) (earlier after.now undo) result }
 {
-    class_if_representative(classes, &position_before(after, undo))
+    class_if_shown(classes, &bits_before(ways.bits, undo))
+}
+
+/// The class whose representative is the position of the set that the sets show; `None` where it is none.
+fn class_if_shown(classes: &Classes, bits: &Bitboards) -> Option<u64>
+    requires { (setup : Setup) × IsShown classes.now.set setup bits.now }
+    ensures { (setup : Setup) → IsShown classes.now.set setup bits.now
+        → MatchOption result (¬ ((class : ℕ) × RepresentsIn classes.now.set setup class)) (RepresentsIn classes.now.set setup) }
+{
+    classes.class_of_shown(bits)
 }
 
 /// Whether the representative is its own mirror image. What is known of the turned setup says mostly that it isn't.
@@ -303,7 +313,7 @@ fn gather(room: Vec<u64>, classes: &Classes, representative: &Position) -> Resul
         return Ok(found);
     }
     let image = after.mirrored();
-    let image_ways = Ways::by(&image, mirrored_masks(&ways.masks));
+    let image_ways = Ways::by(&image, mirrored_bits(&ways.bits));
     gather_all(classes, &image, &image_ways, &mut found)?;
     Ok(found)
 }

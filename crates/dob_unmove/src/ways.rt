@@ -1,18 +1,21 @@
 // What masks tell of the ways to take a move back: where it may have ended, and from where a piece may have come, so that what
 // stood before was open and the earlier one of its class. All other ways are skipped.
 ghost use Rattle.std.specs.Prelude.{◌≡◌, not, IsTrue};
-ghost use Rattle.dob_pieces.specs.Masks.{IsMask, AreMasks};
+ghost use Rattle.dob_pieces.specs.Masks.{IsMask};
 ghost use Rattle.dob_pieces.specs.Setups.{mirrored, IsLegal};
 ghost use Rattle.dob_pieces.specs.declared.setup.Setup.{Setup};
+ghost use Rattle.dob_rank.specs.Bitboards.{AreBitboards};
 ghost use Rattle.dob_unmove.specs.Classes.{IsTurned};
 ghost use Rattle.dob_unmove.specs.Threats.{elsewhere};
 ghost use Rattle.dob_unmove.specs.Ways.{is_home, comes_home, may_come, AreWays};
 
 use crate::attackers::{Attackers, Threat};
+use crate::images::masks_of;
 use dob_pieces::{Kind, Masks, Setup, Square};
+use dob_rank::Bitboards;
 
 /// All squares. Of the twelve bits of a mask the lowest three are row 1, and of the three of a row the lowest is column a.
-const ALL: u16 = 0b111_111_111_111;
+pub(crate) const ALL: u16 = 0b111_111_111_111;
 
 /// The squares of rows 1 to 3 on column a, and those on columns a and b.
 const HOMES_ON_A: u16 = 0b000_001_001_001;
@@ -25,6 +28,7 @@ const BESIDE_B: u16 = 0b101_101_101_101;
 /// What the masks of a setup after a move tell, in which the side that made it is the mover.
 #[derive(Clone, Copy)]
 pub(crate) struct Ways {
+    pub(crate) bits: Bitboards,
     pub(crate) masks: Masks,
     pub(crate) threat: Threat,
     /// Where the mover's lion of a representative may stand.
@@ -63,15 +67,16 @@ impl Ways {
         requires { IsTurned IsLegal after.now }
         ensures { AreWays after.now result }
     {
-        Ways::by(after, Masks::of(after))
+        Ways::by(after, Bitboards::of(after))
     }
 
-    /// The same by the masks of that setup.
-    pub(crate) fn by(after: &Setup, masks: Masks) -> Ways
+    /// The same by the sets of squares of that setup.
+    pub(crate) fn by(after: &Setup, bits: Bitboards) -> Ways
         requires legal { IsTurned IsLegal after.now }
-        requires masks { AreMasks after.now masks }
+        requires bits { AreBitboards after.now bits }
         ensures { AreWays after.now result }
     {
+        let masks = masks_of(&bits);
         let threat = Threat::by(after, &masks);
         let homes = homes_of(threat.lion);
         let calm = masks.own & calm_ends(threat.attackers);
@@ -81,6 +86,7 @@ impl Ways {
             calm
         };
         Ways {
+            bits,
             masks,
             threat,
             homes,

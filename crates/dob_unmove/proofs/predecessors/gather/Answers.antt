@@ -1,7 +1,7 @@
 -- The walks over the position and over its mirror image count the edges.
 use Rattle.std.proofs.Common.{true≢false, sym, ap, ◌∙◌, subst}
 use Rattle.dob_pieces.specs.declared.setup.Setup.{Setup}
-use Rattle.dob_pieces.specs.Masks.{AreMasks}
+use Rattle.dob_rank.specs.Bitboards.{AreBitboards}
 use Rattle.dob_pieces.specs.Setups.{mirrored}
 use Rattle.dob_unmove.specs.Classes.{RepresentsIn}
 use Rattle.dob_unmove.proofs.Classes.{IsNumbering-classes}
@@ -19,10 +19,10 @@ pub by-image_ways-requires-clause-legal : goal.by-image_ways-requires-clause-leg
 by-image_ways-requires-clause-legal c =
     turned_legal c.args.representative.now.setup c.mirrored-image.result c.args.representative.now.legal (c.mirrored-image.ensures ∙ ap mirrored c.turned-after.ensures)
 
-pub by-image_ways-requires-clause-masks : goal.by-image_ways-requires-clause-masks
-by-image_ways-requires-clause-masks c =
-    subst (λ (s : Setup). AreMasks s c.mirrored_masks.result) (sym c.mirrored-image.ensures)
-    (c.mirrored_masks.ensures c.turned-after.result c.of-ways.ensures.masks_are)
+pub by-image_ways-requires-clause-bits : goal.by-image_ways-requires-clause-bits
+by-image_ways-requires-clause-bits c =
+    subst (λ (s : Setup). AreBitboards s c.mirrored_bits.result) (sym c.mirrored-image.ensures)
+    (c.mirrored_bits.ensures c.turned-after.result c.of-ways.ensures.bits_are)
 
 pub gather_all-requires-2 : goal.gather_all-requires-2
 gather_all-requires-2 c = record {

@@ -13,11 +13,14 @@ use Rattle.dob_unmove.proofs.WayMasks.{away, at_home, calm_ends, lion_ends}
 use Rattle.dob_unmove.proofs.ways.Ways.by.Goals as goal
 use Rattle.dob_unmove.proofs.ways.Ways.by.Goals.{then-masks-homes-eq0, else-masks-homes-eq0}
 
+pub by-threat-requires-clause-masks : goal.by-threat-requires-clause-masks
+by-threat-requires-clause-masks c = c.masks_of-masks.ensures c.args.after.now c.requires.bits
+
 pub returns : goal.returns
 returns c =
     let after = c.args.after.now in
-    let masks = c.args.masks in
-    let are = c.requires.masks in
+    let masks = c.masks_of-masks.result in
+    let are = c.masks_of-masks.ensures after c.requires.bits in
     let threat = c.by-threat.result in
     let lions = turned_lions after c.requires.legal in
     let place : ℕ = trailing_zeros w16 masks.lion in
@@ -27,6 +30,7 @@ returns c =
     let low : place < 12 = omega (arith, within, twelve) in
     elim c.if-masks-homes-eq0.branch [
       | then-masks-homes-eq0 w ↦ record {
+        bits_are = c.requires.bits;
         masks_are = are;
         threat_is = c.by-threat.ensures;
         homes_are = c.homes_of-homes.ensures;
@@ -38,6 +42,7 @@ returns c =
             c.calm_ends.ensures there low);
       }
       | else-masks-homes-eq0 w ↦ record {
+        bits_are = c.requires.bits;
         masks_are = are;
         threat_is = c.by-threat.ensures;
         homes_are = c.homes_of-homes.ensures;

@@ -1,0 +1,61 @@
+-- Sets of squares when a move is taken back.
+use Rattle.std.proofs.Common.{◌≡◌, ◌≢◌, ℕ, ◌<◌, Option, None, Some, length, refl, sym, ap, ◌∙◌, arith}
+use Rattle.std.proofs.lemmas.List.{length-set, get_or-set_same, get_or-set_other}
+use Rattle.dob_pieces.specs.declared.hand.Hand.{Hand}
+use Rattle.dob_pieces.specs.declared.hand.Hands.{Hands}
+use Rattle.dob_pieces.specs.declared.kind.Kind.{Kind}
+use Rattle.dob_pieces.specs.declared.kind.HandKind.{HandKind}
+use Rattle.dob_pieces.specs.declared.kind.Side.TheVariants.{Mover, Enemy}
+use Rattle.dob_pieces.specs.declared.setup.Setup.{Setup}
+use Rattle.dob_pieces.specs.Setups.{Cell, at, piece_of, with_one_more}
+use Rattle.dob_pieces.specs.Pieces.{kind_on_board}
+use Rattle.dob_pieces.proofs.Boards.{within-from_piece}
+use Rattle.dob_rank.specs.declared.bitboards.Bitboards.{Bitboards}
+use Rattle.dob_rank.specs.Bitboards.{AreBitboards}
+use Rattle.dob_unmove.specs.declared.undo.Undo.TheVariants.{Unstep, Unput}
+use Rattle.dob_unmove.specs.Changes.{IsWith}
+use Rattle.dob_unmove.specs.Undoes.{CanUnstep, CanUndo, earlier, enemy_cell, without_caught, arrives_at}
+use Rattle.dob_unmove.proofs.BitChanges.{with_cell, with_cells, with_one, with_hands}
+
+-- a square on which nothing stands isn't one with a piece
+apart : (s : Setup) (from to : ℕ) (kind : Kind) → at s from ≡ None → at s to ≡ Some (piece_of Mover kind) → from ≢ to
+apart s from to kind empty stands e = let both = sym empty ∙ ap (at s) e ∙ stands in cc
+
+-- what a function does that puts a cell on an empty square
+abbrev pub PutsOn : Bitboards → ℕ → Cell → Bitboards → Type 0
+PutsOn old square cell new = (before after : Setup) → at before square ≡ None → IsWith before after square cell → AreBitboards before old → AreBitboards after new
+
+pub step_undone : (after : Setup) (kind : Kind) (from to : ℕ) (caught : Option Kind) → length after.board ≡ 12 → CanUnstep after kind from to caught
+    → (bits cleared given own : Bitboards) (hand : Hand) → AreBitboards after bits
+    → ((before next : Setup) → IsWith before next to None → AreBitboards before bits → AreBitboards next cleared)
+    → PutsOn cleared to (enemy_cell caught) given → PutsOn given from (Some (piece_of Mover kind)) own
+    → hand ≡ without_caught bits.hands.mover caught
+    → AreBitboards (earlier after (Unstep kind from to caught)) (record own { hands = record { mover = hand; enemy = bits.hands.enemy } })
+unfolding earlier
+step_undone after kind from to caught twelve can bits cleared given own hand are clear give put h =
+    let low : to < 12 = omega (arith, twelve, within-from_piece after to _ can.stands) in
+    let other = apart after from to _ can.empty can.stands in
+    let one = with_cell after to None in
+    let two = with_cell after to (enemy_cell caught) in
+    let three = with_cell two from (Some (piece_of Mover kind)) in
+    let a = clear after one (with_one after to None twelve low) are in
+    let b = give one two (get_or-set_same after.board to None None (omega (arith, twelve, low))) (with_cells after to None (enemy_cell caught) twelve low) a in
+    let c = put two three (get_or-set_other after.board to from (enemy_cell caught) None other ∙ can.empty)
+    (with_one two from (Some (piece_of Mover kind)) (length-set after.board to (enemy_cell caught) ∙ twelve) can.on_board) b in
+    with_hands three own (record after.hands { mover = without_caught after.hands.mover caught }) _
+    (ap (λ (m : Hand). record { mover = m; enemy = bits.hands.enemy }) h
+    ∙ ap (λ (hs : Hands). record hs { mover = without_caught hs.mover caught }) are.hands_are) c
+
+pub drop_undone : (after : Setup) (kind : HandKind) (to : ℕ) → length after.board ≡ 12 → CanUndo after (Unput kind to)
+    → (bits cleared : Bitboards) (hand : Hand) → AreBitboards after bits
+    → ((before next : Setup) → IsWith before next to None → AreBitboards before bits → AreBitboards next cleared)
+    → hand ≡ with_one_more bits.hands.mover kind
+    → AreBitboards (earlier after (Unput kind to)) (record cleared { hands = record { mover = hand; enemy = bits.hands.enemy } })
+unfolding earlier
+drop_undone after kind to twelve can bits cleared hand are clear h =
+    let low : to < 12 = omega (arith, twelve, within-from_piece after to (piece_of Mover (kind_on_board kind)) can) in
+    let one = with_cell after to None in
+    with_hands one cleared (record after.hands { mover = with_one_more after.hands.mover kind }) _
+    (ap (λ (m : Hand). record { mover = m; enemy = bits.hands.enemy }) h
+    ∙ ap (λ (hs : Hands). record hs { mover = with_one_more hs.mover kind }) are.hands_are)
+    (clear after one (with_one after to None twelve low) are)

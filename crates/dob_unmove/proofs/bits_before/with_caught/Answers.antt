@@ -1,0 +1,16 @@
+-- by whether there is one
+use Rattle.std.proofs.Common.{Option, subst, rules}
+use Rattle.dob_pieces.specs.declared.kind.Kind.{Kind}
+use Rattle.dob_unmove.specs.Changes.{IsWith}
+use Rattle.dob_unmove.specs.Undoes.{enemy_cell}
+use Rattle.dob_unmove.proofs.BitChanges.{nothing_added}
+use Rattle.dob_unmove.proofs.bits_before.with_caught.Goals as goal
+
+pub returns-in-None : goal.returns-in-None
+returns-in-None c = λ before after empty w are.
+    nothing_added before after c.args.square (search rules) c.args.bits are empty
+    (subst (λ (o : Option Kind). IsWith before after c.args.square (enemy_cell o)) c.in-None.is w)
+
+pub returns-in-Some : goal.returns-in-Some
+returns-in-Some c = λ before after empty w are.
+    c.with_enemy.ensures before after empty (subst (λ (o : Option Kind). IsWith before after c.args.square (enemy_cell o)) c.in-Some.is w) are

@@ -1,0 +1,164 @@
+// What stood before a move as sets of squares: no board is made. The square where the move ended is cleared, a piece that was
+// caught there comes back, and the piece that stepped stands where it came from.
+ghost use Rattle.std.specs.Prelude.{◌≡◌, ◌<◌, length, None, Some};
+ghost use Rattle.dob_pieces.specs.declared.kind.Side.TheVariants.{Mover, Enemy};
+ghost use Rattle.dob_pieces.specs.declared.setup.Setup.{Setup};
+ghost use Rattle.dob_pieces.specs.Setups.{at, held, piece_of, HasFewPieces};
+ghost use Rattle.dob_rank.specs.Bitboards.{AreBitboards};
+ghost use Rattle.dob_unmove.specs.declared.undo.Undo.{Undo};
+ghost use Rattle.dob_unmove.specs.Changes.{IsWith};
+ghost use Rattle.dob_unmove.specs.Undoes.{CanUndo, earlier, enemy_cell};
+
+use crate::earlier::without_caught;
+use crate::undo::Undo;
+use dob_pieces::{HandKind, Hands, Kind, Square, without_square};
+use dob_rank::Bitboards;
+
+/// What stood and lay where before the move, by the sets of what stands after it.
+pub(crate) fn bits_before(bits: Bitboards, undo: Undo) -> Bitboards
+    requires { (after : Setup) × CanUndo after undo × (length after.board ≡ 12) × HasFewPieces after × AreBitboards after bits }
+    ensures { (after : Setup) → CanUndo after undo → length after.board ≡ 12 → AreBitboards after bits → AreBitboards (earlier after undo) result }
+{
+    match undo {
+        Undo::Unstep {
+            kind,
+            from,
+            to,
+            caught,
+        } => bits_before_step(bits, kind, from, to, caught),
+        Undo::Unput { kind, to } => bits_before_put(bits, kind, to),
+    }
+}
+
+// The same of a step.
+fn bits_before_step(
+    bits: Bitboards,
+    kind: Kind,
+    from: Square,
+    to: Square,
+    caught: Option<Kind>,
+) -> Bitboards
+    requires { (after : Setup) × CanUndo after (Undo.Unstep kind from to caught) × (length after.board ≡ 12) × AreBitboards after bits }
+    ensures { (after : Setup) → CanUndo after (Undo.Unstep kind from to caught) → length after.board ≡ 12 → AreBitboards after bits
+        → AreBitboards (earlier after (Undo.Unstep kind from to caught)) result }
+{
+    let hands = Hands {
+        mover: without_caught(bits.hands.mover, caught),
+        enemy: bits.hands.enemy,
+    };
+    let given_back = with_caught(without(bits, to), to, caught);
+    Bitboards {
+        hands,
+        ..with_own(given_back, from, kind)
+    }
+}
+
+// The same of a drop.
+fn bits_before_put(bits: Bitboards, kind: HandKind, to: Square) -> Bitboards
+    requires { held bits.hands.mover kind < 255 }
+    ensures { (after : Setup) → CanUndo after (Undo.Unput kind to) → length after.board ≡ 12 → AreBitboards after bits
+        → AreBitboards (earlier after (Undo.Unput kind to)) result }
+{
+    let hands = Hands {
+        mover: bits.hands.mover.with_one_more(kind),
+        enemy: bits.hands.enemy,
+    };
+    Bitboards {
+        hands,
+        ..without(bits, to)
+    }
+}
+
+// The sets with nothing on the square.
+fn without(bits: Bitboards, square: Square) -> Bitboards
+    ensures { (before after : Setup) → IsWith before after square None → AreBitboards before bits → AreBitboards after result }
+{
+    Bitboards {
+        own_lion: without_square(bits.own_lion, square),
+        enemy_lion: without_square(bits.enemy_lion, square),
+        chicks: without_square(bits.chicks, square),
+        elephants: without_square(bits.elephants, square),
+        giraffes: without_square(bits.giraffes, square),
+        hens: without_square(bits.hens, square),
+        enemies: without_square(bits.enemies, square),
+        hands: bits.hands,
+    }
+}
+
+// The sets with an enemy piece of that kind, if there is one, on an empty square.
+fn with_caught(bits: Bitboards, square: Square, caught: Option<Kind>) -> Bitboards
+    ensures { (before after : Setup) → at before square ≡ None → IsWith before after square (enemy_cell caught) → AreBitboards before bits
+        → AreBitboards after result }
+{
+    match caught {
+        None => bits,
+        Some(kind) => with_enemy(bits, square, kind),
+    }
+}
+
+// The sets with the mover's piece of that kind on an empty square.
+fn with_own(bits: Bitboards, square: Square, kind: Kind) -> Bitboards
+    ensures { (before after : Setup) → at before square ≡ None → IsWith before after square (Some (piece_of Mover kind)) → AreBitboards before bits
+        → AreBitboards after result }
+{
+    let bit = 1 << square.index();
+    match kind {
+        Kind::Lion => Bitboards {
+            own_lion: bits.own_lion | bit,
+            ..bits
+        },
+        Kind::Giraffe => Bitboards {
+            giraffes: bits.giraffes | bit,
+            ..bits
+        },
+        Kind::Elephant => Bitboards {
+            elephants: bits.elephants | bit,
+            ..bits
+        },
+        Kind::Chick => Bitboards {
+            chicks: bits.chicks | bit,
+            ..bits
+        },
+        Kind::Hen => Bitboards {
+            chicks: bits.chicks | bit,
+            hens: bits.hens | bit,
+            ..bits
+        },
+    }
+}
+
+// The sets with an enemy piece of that kind on an empty square.
+fn with_enemy(bits: Bitboards, square: Square, kind: Kind) -> Bitboards
+    ensures { (before after : Setup) → at before square ≡ None → IsWith before after square (Some (piece_of Enemy kind)) → AreBitboards before bits
+        → AreBitboards after result }
+{
+    let bit = 1 << square.index();
+    let enemies = bits.enemies | bit;
+    match kind {
+        Kind::Lion => Bitboards {
+            enemy_lion: bits.enemy_lion | bit,
+            ..bits
+        },
+        Kind::Giraffe => Bitboards {
+            giraffes: bits.giraffes | bit,
+            enemies,
+            ..bits
+        },
+        Kind::Elephant => Bitboards {
+            elephants: bits.elephants | bit,
+            enemies,
+            ..bits
+        },
+        Kind::Chick => Bitboards {
+            chicks: bits.chicks | bit,
+            enemies,
+            ..bits
+        },
+        Kind::Hen => Bitboards {
+            chicks: bits.chicks | bit,
+            hens: bits.hens | bit,
+            enemies,
+            ..bits
+        },
+    }
+}
