@@ -1,5 +1,5 @@
 -- The numbers and digits of a position that sets of squares show.
-use Rattle.std.proofs.Common.{◌≡◌, ℕ, ◌≤◌, List, [], ◌∷◌, map, length, slice_index, ap, sym, ◌∙◌, refl}
+use Rattle.std.proofs.Common.{◌≡◌, ℕ, List, [], ◌∷◌, length, slice_index, ap, sym}
 use Rattle.dob_pieces.specs.declared.hand.Hands.{Hands}
 use Rattle.dob_pieces.specs.declared.piece_set.PieceSet.{PieceSet}
 use Rattle.dob_pieces.specs.declared.setup.Setup.{Setup}
@@ -9,7 +9,7 @@ use Rattle.dob_rank.specs.declared.masks.Masks.{Masks}
 use Rattle.dob_rank.specs.Bitboards.{IsShown, AreBitboards, HasOfLayer}
 use Rattle.dob_rank.specs.BoardDigits.{ArePartsOf, AreNumbersOf}
 use Rattle.dob_rank.specs.BoardMasks.{AreMasks}
-use Rattle.dob_rank.specs.Numbers.{order, layer, count, forms_number, on_board, digits}
+use Rattle.dob_rank.specs.Numbers.{order, forms_number, on_board, digits}
 use Rattle.dob_rank.proofs.BoardMasks.{numbers_are, AreNumbers, three}
 
 -- a position that is shown, by the masks and the numbers found
@@ -34,17 +34,26 @@ are_found set bits masks numbers setup shown layers counts =
 module _ (set : PieceSet) (bits : Bitboards) (masks : Masks) (numbers : List ℕ) (setup : Setup) (found : AreFound set bits masks numbers setup) where
   pub chicks_found : HasOfLayer Chicks masks.chicks (slice_index numbers 0) setup bits
   chicks_found = record {
-    long = found.shown.position.legal.squares; squares = found.shown.squares; mask_is = found.masks_are.chicks; pieces_are = sym found.counted.chicks_are;
+    long = found.shown.position.legal.squares;
+    squares = found.shown.squares;
+    mask_is = found.masks_are.chicks;
+    pieces_are = sym found.counted.chicks_are;
   }
 
   pub elephants_found : HasOfLayer Elephants masks.elephants (slice_index numbers 1) setup bits
   elephants_found = record {
-    long = found.shown.position.legal.squares; squares = found.shown.squares; mask_is = found.masks_are.elephants; pieces_are = sym found.counted.elephants_are;
+    long = found.shown.position.legal.squares;
+    squares = found.shown.squares;
+    mask_is = found.masks_are.elephants;
+    pieces_are = sym found.counted.elephants_are;
   }
 
   pub giraffes_found : HasOfLayer Giraffes masks.giraffes (slice_index numbers 2) setup bits
   giraffes_found = record {
-    long = found.shown.position.legal.squares; squares = found.shown.squares; mask_is = found.masks_are.giraffes; pieces_are = sym found.counted.giraffes_are;
+    long = found.shown.position.legal.squares;
+    squares = found.shown.squares;
+    mask_is = found.masks_are.giraffes;
+    pieces_are = sym found.counted.giraffes_are;
   }
 
   pub parts_found : (first second third : ℕ) → first ≡ forms_number (order Chicks) setup.board → second ≡ forms_number (order Elephants) setup.board

@@ -1,6 +1,6 @@
 -- Sets of squares found in one pass over the board: five in one word, twelve bits each, which no sum carries over.
 use Rattle.std.proofs.Common.{◌≡◌, ℕ, suc, ◌+◌, ◌-◌, ◌*◌, ◌/◌, ◌%◌, ◌^◌, ◌<◌, ◌≤◌, Bool, false, ◌||◌, List, [], ◌∷◌, Some, None, map}
-use Rattle.std.proofs.Common.{length, drop, slice_index_or, ap, ◌∙◌, arith}
+use Rattle.std.proofs.Common.{length, drop, slice_index_or, refl, sym, ap, ◌∙◌, arith}
 use Rattle.std.proofs.Math.Pow.{pow_mono}
 use Rattle.std.proofs.Math.Seq.{drop-cons}
 use Rattle.std.proofs.lemmas.List.{length-map, length-drop}
@@ -9,11 +9,13 @@ use Rattle.dob_pieces.specs.declared.kind.Kind.{Kind}
 use Rattle.dob_pieces.specs.declared.kind.Kind.TheVariants.{Lion, Giraffe, Elephant, Chick, Hen}
 use Rattle.dob_pieces.specs.declared.kind.Side.{Side}
 use Rattle.dob_pieces.specs.declared.kind.Side.TheVariants.{Mover, Enemy}
-use Rattle.dob_pieces.specs.Masks.{is_piece, entry_of}
-use Rattle.dob_pieces.specs.Pieces.{is_side}
-use Rattle.dob_pieces.specs.Setups.{Cell, piece_of}
+use Rattle.dob_pieces.specs.Masks.{entry_of}
+use Rattle.dob_pieces.specs.declared.setup.Setup.{Setup}
+use Rattle.dob_pieces.specs.Pieces.{is_side, other_side}
+use Rattle.dob_pieces.specs.Setups.{Cell, at, piece_of, turned, turned_cell}
+use Rattle.dob_pieces.proofs.Boards.{length-turned, at-turned}
 use Rattle.dob_pieces.proofs.Planes.{mask_of, is_lion}
-use Rattle.dob_rank.specs.declared.bitboards.TheConstants.{PLANES}
+use Rattle.dob_rank.specs.declared.bitboards.TheConstants.{TURNED_PLANES}
 use Rattle.dob_rank.specs.declared.layers.Layer.TheVariants.{Chicks, Elephants, Giraffes}
 use Rattle.dob_rank.specs.Bitboards.{is_of, is_hen}
 
@@ -37,7 +39,7 @@ word_of cells =
     + 281474976710656 * mask_of is_giraffe_or_hen cells
 
 word_piece : (side : Side) (kind : Kind) (cells : List Cell)
-    → word_of (Some (piece_of side kind) ∷ cells) ≡ 2 * word_of cells + entry_of PLANES (Some (piece_of side kind))
+    → word_of (Some (piece_of (other_side side) kind) ∷ cells) ≡ 2 * word_of cells + entry_of TURNED_PLANES (Some (piece_of side kind))
 unfolding word_of
 word_piece Mover Lion cells = omega arith
 word_piece Mover Giraffe cells = omega arith
@@ -50,19 +52,23 @@ word_piece Enemy Elephant cells = omega arith
 word_piece Enemy Chick cells = omega arith
 word_piece Enemy Hen cells = omega arith
 
-word_cell : (cell : Cell) (cells : List Cell) → word_of (cell ∷ cells) ≡ 2 * word_of cells + entry_of PLANES cell
+word_cell : (cell : Cell) (cells : List Cell) → word_of (turned_cell cell ∷ cells) ≡ 2 * word_of cells + entry_of TURNED_PLANES cell
 unfolding word_of
 word_cell None cells = omega arith
 word_cell (Some piece) cells = word_piece piece.side piece.kind cells
 
 -- ---- one more square
 
-word_more : (board : List Cell) (i word read : ℕ) → i < length board → word ≡ word_of (drop (suc i) board)
-    → read ≡ entry_of PLANES (slice_index_or board i None) → 2 * word + read ≡ word_of (drop i board)
-word_more board i word read lt w r =
+one_added : (word read : ℕ) (cell : Cell) (cells : List Cell) → word ≡ word_of cells → read ≡ entry_of TURNED_PLANES cell
+    → word_of (turned_cell cell ∷ cells) ≡ 2 * word_of cells + entry_of TURNED_PLANES cell → 2 * word + read ≡ word_of (turned_cell cell ∷ cells)
+one_added word read cell cells w r more = omega (arith, w, r, more)
+
+word_more : (board : List Cell) (i word read : ℕ) (cell : Cell) → i < length board → slice_index_or board i None ≡ turned_cell cell
+    → word ≡ word_of (drop (suc i) board) → read ≡ entry_of TURNED_PLANES cell → 2 * word + read ≡ word_of (drop i board)
+word_more board i word read cell lt there w r =
     let cons = drop-cons board i None lt in
-    let more = word_cell (slice_index_or board i None) (drop (suc i) board) in
-    rw cons (omega (arith, more, r, w))
+    let more = word_cell cell (drop (suc i) board) in
+    one_added word read cell (drop (suc i) board) w r more ∙ ap (λ (c : Cell). word_of (c ∷ drop (suc i) board)) (sym there) ∙ ap word_of (sym cons)
 
 -- ---- the masks in a word
 
@@ -110,15 +116,24 @@ pub record IsRead (word next bound : ℕ) (after : ℕ) : Type 0 where
   pub small_next : next < bound
   pub next_is : next ≡ after
 
-pub word_read : (board : List Cell) (square word read : ℕ) → length board ≡ 12 → 0 < square → square ≤ 12 → word ≡ word_of (drop square board)
-    → read ≡ entry_of PLANES (slice_index_or board (square - 1) None)
-    → IsRead word (2 * word + read) (2 ^ 60) (word_of (drop (square - 1) board))
-word_read board square word read twelve some le w r =
-    let e : square ≡ suc (square - 1) = omega arith in
-    let next = word_more board (square - 1) word read (omega arith) (w ∙ ap (λ (k : ℕ). word_of (drop k board)) e) r in
-    let before = word_small (drop square board) (from_start board square twelve) in
-    let after = word_small (drop (square - 1) board) (from_start board (square - 1) twelve) in
-    record { small = rw w before; small_next = rw next after; next_is = next }
+-- a pass over a board reads the turned one from its last square on
+pub word_read : (s : Setup) (square word read : ℕ) → square < 12 → word ≡ word_of (drop (12 - square) (turned s).board)
+    → read ≡ entry_of TURNED_PLANES (at s square)
+    → IsRead word (2 * word + read) (2 ^ 60) (word_of (drop (12 - (square + 1)) (turned s).board))
+word_read s square word read lt w r =
+    let board = (turned s).board in
+    let twelve = length-turned s in
+    let k : 12 - square ≡ suc (11 - square) = omega (arith, lt) in
+    let low : 11 - square < 12 = omega arith in
+    let back : 11 - (11 - square) ≡ square = omega (arith, lt) in
+    let there = at-turned s (11 - square) low ∙ ap (λ (n : ℕ). turned_cell (at s n)) back in
+    let next = word_more board (11 - square) word read (at s square) (omega (arith, twelve)) there
+    (w ∙ ap (λ (n : ℕ). word_of (drop n board)) k) r in
+    let last : 11 - square ≡ 12 - (square + 1) = omega (arith, lt) in
+    let is = next ∙ ap (λ (n : ℕ). word_of (drop n board)) last in
+    let before = word_small (drop (12 - square) board) (from_start board (12 - square) twelve) in
+    let after = word_small (drop (12 - (square + 1)) board) (from_start board (12 - (square + 1)) twelve) in
+    record { small = rw w before; small_next = rw is after; next_is = is }
 
 -- nothing is read of no squares
 pub none_read : (board : List Cell) → length board ≡ 12 → 0 ≡ word_of (drop 12 board)
@@ -126,3 +141,7 @@ unfolding word_of
 none_read (a ∷ b ∷ c ∷ d ∷ e ∷ i ∷ j ∷ k ∷ l ∷ m ∷ n ∷ o ∷ []) twelve = omega arith
 none_read board twelve = absurd (omega arith)
 
+-- the hands are exchanged
+pub hands-turned : (s : Setup) → record { mover = s.hands.enemy; enemy = s.hands.mover } ≡ (turned s).hands
+unfolding turned
+hands-turned s = refl

@@ -1,11 +1,10 @@
 -- Sets of squares of a setup: its layers as masks, and the form of a piece by the sets that have its square.
-use Rattle.std.proofs.Common.{◌≡◌, ℕ, zero, suc, ◌+◌, ◌*◌, ◌/◌, ◌%◌, ◌^◌, ◌<◌, ◌≤◌, ◌==◌, ◌&&◌, ◌||◌, not, Bool, true, false, cond, bit_and, bit_or, w16}
-use Rattle.std.proofs.Common.{List, [], ◌∷◌, length, map, slice_index_or, None, refl, sym, ap, ◌∙◌, subst, arith}
+use Rattle.std.proofs.Common.{◌≡◌, ℕ, zero, suc, ◌+◌, ◌*◌, ◌/◌, ◌^◌, ◌<◌, ◌==◌, ◌&&◌, ◌||◌, not, bit_and, bit_or, w16}
+use Rattle.std.proofs.Common.{List, [], ◌∷◌, length, map, slice_index_or, None, refl, sym, ap, ◌∙◌, arith}
 use Rattle.std.specs.Int.{bit_at, bit_not}
-use Rattle.std.proofs.lemmas.List.{length-map}
-use Rattle.std.proofs.lemmas.Nat.Bits.{bit_at-suc, bit_at-zero}
+use Rattle.std.proofs.lemmas.Nat.Bits.{bit_at-suc}
 use Rattle.dob_pieces.specs.declared.setup.Setup.{Setup}
-use Rattle.dob_pieces.specs.Masks.{IsMask, AreSquares}
+use Rattle.dob_pieces.specs.Masks.{AreSquares}
 use Rattle.dob_pieces.specs.Setups.{Cell, at}
 use Rattle.dob_pieces.proofs.MaskBits.{bit_if, IsMask-and, IsMask-or, IsMask-without}
 use Rattle.dob_rank.specs.declared.bitboards.Bitboards.{Bitboards}

@@ -1,5 +1,5 @@
 -- A setup as sets of squares, with no board.
-use Rattle.std.specs.Prelude.{◌≡◌, ℕ, ◌==◌, ◌||◌, Bool, false, List, map, length, Some, None}
+use Rattle.std.specs.Prelude.{◌≡◌, ℕ, ◌==◌, ◌||◌, Bool, false, map, length, Some, None}
 use Rattle.dob_pieces.specs.declared.kind.Kind.TheVariants.{Hen}
 use Rattle.dob_pieces.specs.declared.kind.Side.TheVariants.{Mover, Enemy}
 use Rattle.dob_pieces.specs.declared.piece_set.PieceSet.{PieceSet}

@@ -2,7 +2,7 @@
 ghost use Rattle.std.specs.Prelude.{◌≡◌, ◌<◌, ◌≤◌, ◌/◌, ◌%◌, length};
 ghost use Rattle.std.specs.Int.{bit_at};
 ghost use Rattle.dob_pieces.specs.declared.setup.Setup.{Setup};
-ghost use Rattle.dob_pieces.specs.Setups.{at, setup_of};
+ghost use Rattle.dob_pieces.specs.Setups.{at, setup_of, turned};
 ghost use Rattle.dob_rank.specs.Bitboards.{AreBitboards, HasOfLayer};
 ghost use Rattle.dob_rank.specs.BoardMasks.{AreMasks};
 ghost use Rattle.dob_rank.specs.Numbers.{order, forms_number};
@@ -45,34 +45,36 @@ const ELEPHANTS: u64 = 1 << 36;
 // .. and giraffes and hens.
 const GIRAFFES_AND_HENS: u64 = 1 << 48;
 
-const PLANES: CellTable = [
-    [0, LIONS, LIONS + ENEMIES, 0],
-    [0, GIRAFFES_AND_HENS, GIRAFFES_AND_HENS + ENEMIES, 0],
-    [0, ELEPHANTS, ELEPHANTS + ENEMIES, 0],
-    [0, CHICKS, CHICKS + ENEMIES, 0],
+/// By a cell's kind and owner what it adds to the word once the board is turned: the mover's pieces are the enemy's then.
+const TURNED_PLANES: CellTable = [
+    [0, LIONS + ENEMIES, LIONS, 0],
+    [0, GIRAFFES_AND_HENS + ENEMIES, GIRAFFES_AND_HENS, 0],
+    [0, ELEPHANTS + ENEMIES, ELEPHANTS, 0],
+    [0, CHICKS + ENEMIES, CHICKS, 0],
     [
         0,
-        CHICKS + GIRAFFES_AND_HENS,
         CHICKS + GIRAFFES_AND_HENS + ENEMIES,
+        CHICKS + GIRAFFES_AND_HENS,
         0,
     ],
 ];
 
 impl Bitboards {
-    /// The setup's.
-    pub fn of(setup: &Setup) -> Bitboards
-        ensures { AreBitboards setup.now result }
+    /// Those of the setup seen from the other side.
+    pub fn turned(setup: &Setup) -> Bitboards
+        ensures { AreBitboards (turned setup.now) result }
     {
-        Bitboards::by(&setup.board, setup.hands)
+        Bitboards::turned_by(&setup.board, setup.hands)
     }
 
-    /// Those of the setup with that board and those hands, found in one pass without a branch on what stands on a square.
-    fn by(board: &[Option<Piece>; Square::COUNT], hands: Hands) -> Bitboards
-        ensures { AreBitboards (setup_of board.now hands) result }
+    /// The same of that board and those hands, found in one pass without a branch on what stands on a square. The pass begins
+    /// with the square that becomes the last one.
+    fn turned_by(board: &[Option<Piece>; Square::COUNT], hands: Hands) -> Bitboards
+        ensures { AreBitboards (turned (setup_of board.now hands)) result }
     {
         let mut planes: u64 = 0;
-        for square in (0..Square::COUNT).rev() {
-            let entry = entry_of(&PLANES, board[square]);
+        for square in 0..Square::COUNT {
+            let entry = entry_of(&TURNED_PLANES, board[square]);
             planes = 2 * planes + entry;
         }
         let lions = plane(planes, LIONS);
@@ -88,7 +90,10 @@ impl Bitboards {
             giraffes: giraffes_and_hens & !chicks,
             hens: giraffes_and_hens & chicks,
             enemies: enemies & !lions,
-            hands,
+            hands: Hands {
+                mover: hands.enemy,
+                enemy: hands.mover,
+            },
         }
     }
 

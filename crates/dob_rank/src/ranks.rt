@@ -216,7 +216,9 @@ pub(crate) fn digits_of(position: &Position, masks: Masks, on_board: &EachKind) 
     digits_from(position.setup.hands.mover, masks, on_board, &forms)
 }
 
-/// The digits of the position with that hand of the mover, those masks, and those numbers on the board and of its forms.
+/// The digits of the position with that hand of the mover, those masks, and those numbers on the board and of its forms. Within
+/// its callers, since a call of its own hands over all of these, and eleven digits back, by memory.
+#[inline(always)]
 fn digits_from(hand: Hand, masks: Masks, on_board: &EachKind, forms: &EachKind) -> [u64; DIGITS]
     requires { (setup : Setup) × ArePartsOf hand masks on_board.now forms.now setup }
     ensures { (setup : Setup) → ArePartsOf hand masks on_board.now forms.now setup → result ≡ all_digits_of setup }

@@ -26,3 +26,4 @@ pub mod ImageMasks  -- masks of mirror images
 pub mod BitChanges  -- sets of squares when one square changes
 pub mod BitUndone  -- and when a move is taken back
 pub mod BitImages  -- masks and mirror images of sets of squares
+pub mod OwnKinds  -- the mover's piece on a square

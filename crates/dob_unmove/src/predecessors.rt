@@ -21,10 +21,9 @@ use crate::bits_before::bits_before;
 use crate::images::mirrored_bits;
 use crate::plain::class_if_representative;
 use crate::undo::Undo;
-use crate::walk::holds_caught;
 use crate::ways::Ways;
 use dob_pieces::{
-    HandKind, Kind, Memory, Position, Setup, Side, Square, lowest_square, without_square,
+    HandKind, Kind, Memory, Position, Setup, Square, lowest_square, without_square,
 };
 use dob_rank::{Bitboards, Classes};
 use std::alloc::Global;
@@ -62,12 +61,9 @@ fn gather_at(
     requires home { HasLionHome after.now ways.now.threat.lion to }
     ensures { OnOk result (Gathers (RepresentsIn classes.now.set) after.now (undoes_at after.now to) found.old.items found.new.items) }
 {
-    let Some(piece) = after.at(to) else {
-        return Ok(());
-    };
-    match piece.side {
-        Side::Mover => gather_kind(classes, after, ways, piece.kind, to, found),
-        Side::Enemy => Ok(()),
+    match ways.own_kind(to) {
+        Some(kind) => gather_kind(classes, after, ways, kind, to, found),
+        None => Ok(()),
     }
 }
 
@@ -216,7 +212,7 @@ fn gather_catch(
     requires comes { may_come after.now ways.now.threat.lion kind to from ≡ true }
     ensures { OnOk result (Gathers (RepresentsIn classes.now.set) after.now (uncatch after.now kind from to caught) found.old.items found.new.items) }
 {
-    if !holds_caught(&after.hands.mover, caught) {
+    if !ways.holds_caught(after, caught) {
         return Ok(());
     }
     let undo = Undo::Unstep {
@@ -299,7 +295,8 @@ fn is_own_image(classes: &Classes, representative: &Position, ways: &Ways) -> bo
 }
 
 /// The classes from which moves lead to the representative of a class or to its mirror image, in the order of the walk, in
-/// the room of that list.
+/// the room of that list. What the walks need of the setups are the sets of squares; the boards of the turned setup and of its
+/// image only say of what the sets are, and are not made when the program runs.
 fn gather(room: Vec<u64>, classes: &Classes, representative: &Position) -> Result<Vec<u64>, Memory>
     requires { (class : ℕ) × RepresentsIn classes.now.set representative.now.setup class }
     ensures { IfOk result (λ list. CountEdges (RepresentsIn classes.now.set) representative.now.setup list.items) }
@@ -307,7 +304,7 @@ fn gather(room: Vec<u64>, classes: &Classes, representative: &Position) -> Resul
     let mut found = room;
     found.clear();
     let after = representative.turned();
-    let ways = Ways::of(&after);
+    let ways = Ways::by(&after, Bitboards::turned(&representative.setup));
     gather_all(classes, &after, &ways, &mut found)?;
     if is_own_image(classes, representative, &ways) {
         return Ok(found);

@@ -1,16 +1,18 @@
 // What masks tell of the ways to take a move back: where it may have ended, and from where a piece may have come, so that what
 // stood before was open and the earlier one of its class. All other ways are skipped.
-ghost use Rattle.std.specs.Prelude.{◌≡◌, not, IsTrue};
+ghost use Rattle.std.specs.Prelude.{◌≡◌, ℕ, Bool, not, IsTrue};
 ghost use Rattle.dob_pieces.specs.Masks.{IsMask};
-ghost use Rattle.dob_pieces.specs.Setups.{mirrored, IsLegal};
+ghost use Rattle.dob_pieces.specs.Setups.{at, mirrored, IsLegal};
 ghost use Rattle.dob_pieces.specs.declared.setup.Setup.{Setup};
 ghost use Rattle.dob_rank.specs.Bitboards.{AreBitboards};
 ghost use Rattle.dob_unmove.specs.Classes.{IsTurned};
 ghost use Rattle.dob_unmove.specs.Threats.{elsewhere};
-ghost use Rattle.dob_unmove.specs.Ways.{is_home, comes_home, may_come, AreWays};
+ghost use Rattle.dob_unmove.specs.Ways.{is_home, comes_home, may_come, AreWays, IsOwnKind};
+ghost use Rattle.dob_unmove.specs.Walks.{holds_caught};
 
 use crate::attackers::{Attackers, Threat};
 use crate::images::masks_of;
+use crate::walk::holds_caught;
 use dob_pieces::{Kind, Masks, Setup, Square};
 use dob_rank::Bitboards;
 
@@ -59,18 +61,15 @@ fn calm_ends(attackers: Attackers) -> u16
     }
 }
 
-impl Ways {
-    /// What tells of the ways that lead to the setup. It is a call of its own, since mixed with the turning of the board it
-    /// keeps half of that on the stack.
-    #[inline(never)]
-    pub(crate) fn of(after: &Setup) -> Ways
-        requires { IsTurned IsLegal after.now }
-        ensures { AreWays after.now result }
-    {
-        Ways::by(after, Bitboards::of(after))
-    }
+/// Whether the mask has the square.
+fn has(mask: u16, square: Square) -> bool
+    ensures { (test : ℕ → Bool) → IsMask test mask → result ≡ test square }
+{
+    mask >> square.index() & 1 == 1
+}
 
-    /// The same by the sets of squares of that setup.
+impl Ways {
+    /// What tells of the ways that lead to the setup, by its sets of squares.
     pub(crate) fn by(after: &Setup, bits: Bitboards) -> Ways
         requires legal { IsTurned IsLegal after.now }
         requires bits { AreBitboards after.now bits }
@@ -109,6 +108,37 @@ impl Ways {
             Kind::Lion => self.homes,
             _ => ALL,
         }
+    }
+
+    /// The kind of the mover's piece on the square, if one stands there.
+    pub(crate) fn own_kind(&self, square: Square) -> Option<Kind>
+        ensures { (after : Setup) → AreWays after self.now → IsOwnKind (at after square) result }
+    {
+        if has(self.masks.lion, square) {
+            return Some(Kind::Lion);
+        }
+        if has(self.masks.giraffes, square) {
+            return Some(Kind::Giraffe);
+        }
+        if has(self.masks.elephants, square) {
+            return Some(Kind::Elephant);
+        }
+        if has(self.masks.chicks, square) {
+            return Some(Kind::Chick);
+        }
+        if has(self.masks.hens, square) {
+            return Some(Kind::Hen);
+        }
+        None
+    }
+
+    /// Whether the mover holds what a caught piece of that kind became. The setup only says of what the answer is so.
+    pub(crate) fn holds_caught(&self, after: &Setup, caught: Kind) -> bool
+        requires { AreWays after.now self.now }
+        ensures { result ≡ holds_caught after.now.hands.mover caught }
+    {
+        let _ = after;
+        holds_caught(&self.bits.hands.mover, caught)
     }
 
     /// Whether both lions stand on column b, as they do where the setup is its own mirror image.

@@ -9,11 +9,15 @@ use Rattle.dob_unmove.proofs.Gathering.{alone_found, both_found}
 use Rattle.dob_unmove.proofs.Kept.{turned_legal, turned_position}
 use Rattle.dob_unmove.proofs.predecessors.gather.Goals as goal
 
-pub of-ways-requires : goal.of-ways-requires
-of-ways-requires c = (c.args.representative.now.setup, c.args.representative.now.legal, c.turned-after.ensures)
+pub by-ways-requires-clause-legal : goal.by-ways-requires-clause-legal
+by-ways-requires-clause-legal c = (c.args.representative.now.setup, c.args.representative.now.legal, c.turned-after.ensures)
+
+pub by-ways-requires-clause-bits : goal.by-ways-requires-clause-bits
+by-ways-requires-clause-bits c =
+    subst (λ (s : Setup). AreBitboards s c.turned.result) (sym c.turned-after.ensures) c.turned.ensures
 
 pub gather_all-requires : goal.gather_all-requires
-gather_all-requires c = record { of_set = (c.args.representative.now.setup, c.requires.1.0.0, c.turned-after.ensures); ways_are = c.of-ways.ensures }
+gather_all-requires c = record { of_set = (c.args.representative.now.setup, c.requires.1.0.0, c.turned-after.ensures); ways_are = c.by-ways.ensures }
 
 pub by-image_ways-requires-clause-legal : goal.by-image_ways-requires-clause-legal
 by-image_ways-requires-clause-legal c =
@@ -22,7 +26,7 @@ by-image_ways-requires-clause-legal c =
 pub by-image_ways-requires-clause-bits : goal.by-image_ways-requires-clause-bits
 by-image_ways-requires-clause-bits c =
     subst (λ (s : Setup). AreBitboards s c.mirrored_bits.result) (sym c.mirrored-image.ensures)
-    (c.mirrored_bits.ensures c.turned-after.result c.of-ways.ensures.bits_are)
+    (c.mirrored_bits.ensures c.turned-after.result c.by-ways.ensures.bits_are)
 
 pub gather_all-requires-2 : goal.gather_all-requires-2
 gather_all-requires-2 c = record {

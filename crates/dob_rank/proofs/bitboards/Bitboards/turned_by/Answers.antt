@@ -1,43 +1,41 @@
 -- Each square adds its bits, and the sets are made of the planes of the word.
-use Rattle.std.proofs.Common.{◌≡◌, ◌≤◌, ◌/◌, ◌%◌, ◌&&◌, not, refl, ℕ, length, drop, ap, ◌∙◌, arith, rules}
-use Rattle.dob_pieces.specs.Setups.{setup_of}
+use Rattle.std.proofs.Common.{◌-◌, ◌≡◌, ◌≤◌, ◌/◌, ◌%◌, refl, ℕ, length, drop, ap, ◌∙◌, arith}
+use Rattle.dob_pieces.specs.Setups.{setup_of, turned}
+use Rattle.dob_pieces.proofs.Boards.{length-turned}
 use Rattle.dob_pieces.proofs.Planes.{are_squares, of_both, of_first, is_lion}
 use Rattle.dob_rank.specs.declared.layers.Layer.TheVariants.{OwnLion, EnemyLion, Chicks, Elephants, Giraffes}
 use Rattle.dob_rank.specs.Bitboards.{is_of, is_hen, is_enemy}
-use Rattle.dob_rank.proofs.BitPlanes.{word_of, word_read, none_read, word_planes, is_foe, is_giraffe_or_hen}
-use Rattle.dob_rank.proofs.bitboards.Bitboards.by.Goals as goal
+use Rattle.dob_rank.proofs.BitPlanes.{word_of, word_read, none_read, word_planes, hands-turned, is_foe, is_giraffe_or_hen}
+use Rattle.dob_rank.proofs.bitboards.Bitboards.turned_by.Goals as goal
 
 pub loop-square-init : goal.loop-square-init
-loop-square-init c = none_read c.args.board.now c.told-board
+loop-square-init c = none_read (turned (setup_of c.args.board.now c.args.hands)).board (length-turned (setup_of c.args.board.now c.args.hands))
 
 pub overflow_mul-planes : goal.overflow_mul-planes
 overflow_mul-planes c =
-    let here = word_read c.args.board.now c.loop-square.square c.loop-square.planes c.entry_of-entry.result c.told-board (omega arith) (omega arith)
-    c.loop-square.invariant c.entry_of-entry.ensures in
-    let small = here.small in
+    let small = (word_read (setup_of c.args.board.now c.args.hands) c.loop-square.square c.loop-square.planes c.entry_of-entry.result (omega arith)
+    c.loop-square.invariant c.entry_of-entry.ensures).small in
     record { fits = omega (arith, small) }
 
 pub overflow_add-planes : goal.overflow_add-planes
 overflow_add-planes c =
-    let here = word_read c.args.board.now c.loop-square.square c.loop-square.planes c.entry_of-entry.result c.told-board (omega arith) (omega arith)
-    c.loop-square.invariant c.entry_of-entry.ensures in
-    let small = here.small_next in
+    let small = (word_read (setup_of c.args.board.now c.args.hands) c.loop-square.square c.loop-square.planes c.entry_of-entry.result (omega arith)
+    c.loop-square.invariant c.entry_of-entry.ensures).small_next in
     record { fits = omega (arith, small) }
 
 pub loop-square-preserved : goal.loop-square-preserved
-loop-square-preserved c =
-    (word_read c.args.board.now c.loop-square.square c.loop-square.planes c.entry_of-entry.result c.told-board (omega arith) (omega arith)
+loop-square-preserved c = (word_read (setup_of c.args.board.now c.args.hands) c.loop-square.square c.loop-square.planes c.entry_of-entry.result (omega arith)
     c.loop-square.invariant c.entry_of-entry.ensures).next_is
 
 pub returns : goal.returns
 returns c =
-    let setup = setup_of c.args.board.now c.args.hands in
-    let twelve : length c.args.board.now ≡ 12 = c.told-board in
-    let le : length c.args.board.now ≤ 12 = omega arith in
-    let none : c.loop-square.square ≡ 0 = omega arith in
-    let word : c.loop-square.planes ≡ word_of c.args.board.now =
-    c.loop-square.invariant ∙ ap (λ (k : ℕ). word_of (drop k c.args.board.now)) none in
-    let a = word_planes c.args.board.now le in
+    let setup = turned (setup_of c.args.board.now c.args.hands) in
+    let twelve = length-turned (setup_of c.args.board.now c.args.hands) in
+    let le : length (turned (setup_of c.args.board.now c.args.hands)).board ≤ 12 = omega (arith, twelve) in
+    let none : 12 - c.loop-square.square ≡ 0 = omega arith in
+    let word : c.loop-square.planes ≡ word_of (turned (setup_of c.args.board.now c.args.hands)).board =
+    c.loop-square.invariant ∙ ap (λ (k : ℕ). word_of (drop k (turned (setup_of c.args.board.now c.args.hands)).board)) none in
+    let a = word_planes (turned (setup_of c.args.board.now c.args.hands)).board le in
     let unit = λ (unit : ℕ). ap (λ (word : ℕ). word / unit % 4096) word in
     let lions = are_squares setup is_lion c.plane-lions.result twelve (c.plane-lions.ensures ∙ unit 1 ∙ a.0) in
     let foes = are_squares setup is_foe c.plane-enemies.result twelve (c.plane-enemies.ensures ∙ unit 4096 ∙ a.1) in
@@ -52,5 +50,5 @@ returns c =
       giraffes_are = of_first setup is_giraffe_or_hen (is_of Chicks) (is_of Giraffes) c.plane-giraffes_and_hens.result c.plane-chicks.result refl long chicks;
       hens_are = of_both setup is_giraffe_or_hen (is_of Chicks) is_hen c.plane-giraffes_and_hens.result c.plane-chicks.result refl long chicks;
       enemies_are = of_first setup is_foe is_lion is_enemy c.plane-enemies.result c.plane-lions.result refl foes lions;
-      hands_are = refl;
+      hands_are = hands-turned (setup_of c.args.board.now c.args.hands);
     }
