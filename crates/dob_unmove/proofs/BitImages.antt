@@ -1,12 +1,12 @@
 -- The masks of a setup by its sets of squares.
-use Rattle.std.proofs.Common.{◌≡◌, ℕ, ◌<◌, ◌&&◌, ◌||◌, not, Bool, true, bit_and, bit_or, w16, None, refl}
+use Rattle.std.proofs.Common.{◌≡◌, ℕ, ◌&&◌, ◌||◌, not, Bool, true, bit_and, bit_or, w16, None, refl}
 use Rattle.std.specs.Int.{bit_not}
 use Rattle.dob_pieces.specs.declared.kind.Kind.TheVariants.{Lion, Giraffe, Elephant, Chick, Hen}
 use Rattle.dob_pieces.specs.declared.kind.Side.TheVariants.{Mover, Enemy}
 use Rattle.dob_pieces.specs.declared.setup.Setup.{Setup}
 use Rattle.dob_pieces.specs.Masks.{AreSquares, AreMasks, is_piece, is_own, is_end, is_empty}
 use Rattle.dob_pieces.specs.Setups.{Cell, at}
-use Rattle.dob_pieces.proofs.MaskBits.{IsMask-and, IsMask-or, IsMask-without, IsMask-same}
+use Rattle.dob_pieces.proofs.MaskBits.{IsMask-or, IsMask-without, IsMask-same}
 use Rattle.dob_pieces.proofs.Planes.{all_are}
 use Rattle.dob_rank.proofs.EachCell.{OfEachKind, of_cell}
 use Rattle.dob_rank.specs.declared.bitboards.Bitboards.{Bitboards}

@@ -1,11 +1,11 @@
 -- Sets of squares when a move is taken back.
-use Rattle.std.proofs.Common.{◌≡◌, ◌≢◌, ℕ, ◌<◌, Option, None, Some, length, refl, sym, ap, ◌∙◌, arith}
+use Rattle.std.proofs.Common.{◌≡◌, ◌≢◌, ℕ, ◌<◌, Option, None, Some, length, sym, ap, ◌∙◌, arith}
 use Rattle.std.proofs.lemmas.List.{length-set, get_or-set_same, get_or-set_other}
 use Rattle.dob_pieces.specs.declared.hand.Hand.{Hand}
 use Rattle.dob_pieces.specs.declared.hand.Hands.{Hands}
 use Rattle.dob_pieces.specs.declared.kind.Kind.{Kind}
 use Rattle.dob_pieces.specs.declared.kind.HandKind.{HandKind}
-use Rattle.dob_pieces.specs.declared.kind.Side.TheVariants.{Mover, Enemy}
+use Rattle.dob_pieces.specs.declared.kind.Side.TheVariants.{Mover}
 use Rattle.dob_pieces.specs.declared.setup.Setup.{Setup}
 use Rattle.dob_pieces.specs.Setups.{Cell, at, piece_of, with_one_more}
 use Rattle.dob_pieces.specs.Pieces.{kind_on_board}
@@ -14,7 +14,7 @@ use Rattle.dob_rank.specs.declared.bitboards.Bitboards.{Bitboards}
 use Rattle.dob_rank.specs.Bitboards.{AreBitboards}
 use Rattle.dob_unmove.specs.declared.undo.Undo.TheVariants.{Unstep, Unput}
 use Rattle.dob_unmove.specs.Changes.{IsWith}
-use Rattle.dob_unmove.specs.Undoes.{CanUnstep, CanUndo, earlier, enemy_cell, without_caught, arrives_at}
+use Rattle.dob_unmove.specs.Undoes.{CanUnstep, CanUndo, earlier, enemy_cell, without_caught}
 use Rattle.dob_unmove.proofs.BitChanges.{with_cell, with_cells, with_one, with_hands}
 
 -- a square on which nothing stands isn't one with a piece

@@ -1,5 +1,5 @@
 -- The mover's piece on a square, told by the masks.
-use Rattle.std.proofs.Common.{◌≡◌, Bool, true, false, true≢false, None, Some, refl, sym}
+use Rattle.std.proofs.Common.{◌≡◌, true, false, true≢false, Some, refl, sym}
 use Rattle.dob_pieces.specs.declared.kind.Kind.{Kind}
 use Rattle.dob_pieces.specs.declared.kind.Kind.TheVariants.{Lion, Giraffe, Elephant, Chick, Hen}
 use Rattle.dob_pieces.specs.declared.kind.Side.TheVariants.{Mover}

@@ -22,9 +22,7 @@ use crate::images::mirrored_bits;
 use crate::plain::class_if_representative;
 use crate::undo::Undo;
 use crate::ways::Ways;
-use dob_pieces::{
-    HandKind, Kind, Memory, Position, Setup, Square, lowest_square, without_square,
-};
+use dob_pieces::{HandKind, Kind, Memory, Position, Setup, Square, lowest_square, without_square};
 use dob_rank::{Bitboards, Classes};
 use std::alloc::Global;
 

@@ -1,5 +1,5 @@
 -- by the way
-use Rattle.std.proofs.Common.{◌<◌, sym, ap, subst}
+use Rattle.std.proofs.Common.{◌<◌, sym, subst}
 use Rattle.dob_pieces.specs.declared.hand.Hands.{Hands}
 use Rattle.dob_pieces.specs.Setups.{held}
 use Rattle.dob_rank.specs.Bitboards.{AreBitboards}

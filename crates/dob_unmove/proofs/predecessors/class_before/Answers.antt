@@ -15,9 +15,11 @@ bits_before-requires c =
 
 pub class_if_shown-requires : goal.class_if_shown-requires
 class_if_shown-requires c =
-    let w = c.requires.walk in
-    (earlier c.args.after.now c.args.undo, shown_before c.args.classes.now.set c.args.after.now c.args.undo _ _ c.requires.can w.of_set c.requires.home
-    w.ways_are.bits_are c.bits_before.ensures)
+    let w = c.requires.walk in (
+      earlier c.args.after.now c.args.undo,
+      shown_before c.args.classes.now.set c.args.after.now c.args.undo _ _ c.requires.can w.of_set c.requires.home
+          w.ways_are.bits_are c.bits_before.ensures,
+    )
 
 pub returns : goal.returns
 returns c =
