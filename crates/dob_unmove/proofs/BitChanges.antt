@@ -49,7 +49,8 @@ module _ (before after : Setup) (square : ℕ) (cell : Cell) (lt : square < 12) 
     bits = λ s below. elim (cases_eq s square) [
       | inl e ↦ subst (λ (n : ℕ). bit_at (bit_or mask (bit square)) n ≡ bit_if (test (at after n))) (sym e)
           (bit_at_set_same w16 mask square (omega (arith, lt)) ∙ sym (ap bit_if (ap test w.here ∙ passes)))
-      | inr apart ↦ bit_at_set_other w16 mask square (omega (arith, lt)) s apart ∙ are.bits s below ∙ ap (λ (c : Cell). bit_if (test c)) (sym (w.there s below apart))
+      | inr apart ↦ bit_at_set_other w16 mask square (omega (arith, lt)) s apart ∙ are.bits s below
+          ∙ ap (λ (c : Cell). bit_if (test c)) (sym (w.there s below apart))
     ];
   }
 
@@ -102,7 +103,8 @@ module _ (before after : Setup) (square : ℕ) (lt : square < 12) (b : Bitboards
   }
 
   module _ (empty : at before square ≡ None) where
-    stays : (cell : Cell) (test : Cell → Bool) (mask : ℕ) → IsWith before after square cell → AreSquares before test mask → test cell ≡ test None → AreSquares after test mask
+    stays : (cell : Cell) (test : Cell → Bool) (mask : ℕ) → IsWith before after square cell → AreSquares before test mask → test cell ≡ test None
+        → AreSquares after test mask
     stays cell test mask w is same = kept before after square cell lt w test mask is (same ∙ ap test (sym empty))
 
     grows : (cell : Cell) (test : Cell → Bool) (mask : ℕ) → IsWith before after square cell → AreSquares before test mask → test cell ≡ true
@@ -230,7 +232,8 @@ abbrev pub with_cell : Setup → ℕ → Cell → Setup
 with_cell s square cell = record s { board = set s.board square cell }
 
 -- a square is changed once more
-pub with_cells : (s : Setup) (square : ℕ) (first second : Cell) → length s.board ≡ 12 → square < 12 → IsWith (with_cell s square first) (with_cell s square second) square second
+pub with_cells : (s : Setup) (square : ℕ) (first second : Cell) → length s.board ≡ 12 → square < 12
+    → IsWith (with_cell s square first) (with_cell s square second) square second
 with_cells s square first second twelve lt = record {
   here = get_or-set_same s.board square second None (omega (arith, twelve, lt));
   there = λ k below apart. get_or-set_other s.board square k second None apart ∙ sym (get_or-set_other s.board square k first None apart);
@@ -245,7 +248,8 @@ with_one s square cell twelve lt = record {
 }
 
 -- other hands
-pub with_hands : (s : Setup) (b : Bitboards) (hands found : Hands) → found ≡ hands → AreBitboards s b → AreBitboards (record s { hands = hands }) (record b { hands = found })
+pub with_hands : (s : Setup) (b : Bitboards) (hands found : Hands) → found ≡ hands → AreBitboards s b
+    → AreBitboards (record s { hands = hands }) (record b { hands = found })
 with_hands s b hands found e are = record {
   own_lion_is = are.own_lion_is;
   enemy_lion_is = are.enemy_lion_is;

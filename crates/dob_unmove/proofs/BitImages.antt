@@ -21,11 +21,13 @@ but_not f g cell = f cell && not (g cell)
 of_either : (setup : Setup) (f g : Cell → Bool) (a b : ℕ) → AreSquares setup f a → AreSquares setup g b → AreSquares setup (either f g) (bit_or a b)
 of_either setup f g a b is are = IsMask-or (λ s. f (at setup s)) (λ s. g (at setup s)) a b is are
 
-of_but_not : (setup : Setup) (f g : Cell → Bool) (a b : ℕ) → AreSquares setup f a → AreSquares setup g b → AreSquares setup (but_not f g) (bit_and a (bit_not w16 b))
+of_but_not : (setup : Setup) (f g : Cell → Bool) (a b : ℕ) → AreSquares setup f a → AreSquares setup g b
+    → AreSquares setup (but_not f g) (bit_and a (bit_not w16 b))
 of_but_not setup f g a b is are = IsMask-without (λ s. f (at setup s)) (λ s. g (at setup s)) a b is are
 
 -- a set by a test that says the same of every cell
-by_test : (setup : Setup) (f g : Cell → Bool) (a : ℕ) → f None ≡ g None → OfEachKind (λ cell. f cell ≡ g cell) Mover → OfEachKind (λ cell. f cell ≡ g cell) Enemy
+by_test : (setup : Setup) (f g : Cell → Bool) (a : ℕ) → f None ≡ g None → OfEachKind (λ cell. f cell ≡ g cell) Mover
+    → OfEachKind (λ cell. f cell ≡ g cell) Enemy
     → AreSquares setup f a → AreSquares setup g a
 by_test setup f g a none mover enemy is =
     IsMask-same (λ s. f (at setup s)) (λ s. g (at setup s)) a (λ s lt. of_cell (λ cell. f cell ≡ g cell) none mover enemy (at setup s)) is
@@ -61,9 +63,11 @@ masks_found setup b are =
       lion_is = by_test setup is_own_lion (is_piece Mover Lion) b.own_lion refl (refl, refl, refl, refl, refl) (refl, refl, refl, refl, refl) are.own_lion_is;
       giraffes_are = by_test setup (but_not is_giraffe is_enemy) (is_piece Mover Giraffe) _ refl (refl, refl, refl, refl, refl) (refl, refl, refl, refl, refl)
           (of_but_not setup is_giraffe is_enemy b.giraffes b.enemies are.giraffes_are are.enemies_are);
-      elephants_are = by_test setup (but_not is_elephant is_enemy) (is_piece Mover Elephant) _ refl (refl, refl, refl, refl, refl) (refl, refl, refl, refl, refl)
+      elephants_are = by_test setup (but_not is_elephant is_enemy) (is_piece Mover Elephant) _ refl (refl, refl, refl, refl, refl)
+          (refl, refl, refl, refl, refl)
           (of_but_not setup is_elephant is_enemy b.elephants b.enemies are.elephants_are are.enemies_are);
-      chicks_are = by_test setup (but_not is_chick (either is_hen is_enemy)) (is_piece Mover Chick) _ refl (refl, refl, refl, refl, refl) (refl, refl, refl, refl, refl)
+      chicks_are = by_test setup (but_not is_chick (either is_hen is_enemy)) (is_piece Mover Chick) _ refl (refl, refl, refl, refl, refl)
+          (refl, refl, refl, refl, refl)
           (of_but_not setup is_chick (either is_hen is_enemy) b.chicks (bit_or b.hens b.enemies) are.chicks_are
           (of_either setup is_hen is_enemy b.hens b.enemies are.hens_are are.enemies_are));
       hens_are = by_test setup (but_not is_hen is_enemy) (is_piece Mover Hen) _ refl (refl, refl, refl, refl, refl) (refl, refl, refl, refl, refl)
@@ -71,8 +75,11 @@ masks_found setup b are =
       own_are = by_test setup (either is_own_lion (but_not is_other is_enemy)) is_own _ refl (refl, refl, refl, refl, refl) (refl, refl, refl, refl, refl)
           (of_either setup is_own_lion (but_not is_other is_enemy) b.own_lion _ are.own_lion_is
           (of_but_not setup is_other is_enemy _ b.enemies pieces are.enemies_are));
-      ends_are = by_test setup (either (but_not (λ cell. true) (either is_any_lion is_other)) is_enemy) is_end _ refl (refl, refl, refl, refl, refl) (refl, refl, refl, refl, refl)
+      ends_are = by_test setup (either (but_not (λ cell. true) (either is_any_lion is_other)) is_enemy) is_end _ refl (refl, refl, refl, refl, refl)
+          (refl, refl, refl, refl, refl)
           (of_either setup (but_not (λ cell. true) (either is_any_lion is_other)) is_enemy _ b.enemies empty are.enemies_are);
-      empty_are = by_test setup (but_not (λ cell. true) (either is_any_lion is_other)) is_empty _ refl (refl, refl, refl, refl, refl) (refl, refl, refl, refl, refl) empty;
-      enemy_lion_is = by_test setup is_enemy_lion (is_piece Enemy Lion) b.enemy_lion refl (refl, refl, refl, refl, refl) (refl, refl, refl, refl, refl) are.enemy_lion_is;
+      empty_are = by_test setup (but_not (λ cell. true) (either is_any_lion is_other)) is_empty _ refl (refl, refl, refl, refl, refl)
+          (refl, refl, refl, refl, refl) empty;
+      enemy_lion_is = by_test setup is_enemy_lion (is_piece Enemy Lion) b.enemy_lion refl (refl, refl, refl, refl, refl)
+          (refl, refl, refl, refl, refl) are.enemy_lion_is;
     }

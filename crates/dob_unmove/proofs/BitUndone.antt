@@ -23,7 +23,8 @@ apart s from to kind empty stands e = let both = sym empty ∙ ap (at s) e ∙ s
 
 -- what a function does that puts a cell on an empty square
 abbrev pub PutsOn : Bitboards → ℕ → Cell → Bitboards → Type 0
-PutsOn old square cell new = (before after : Setup) → at before square ≡ None → IsWith before after square cell → AreBitboards before old → AreBitboards after new
+PutsOn old square cell new = (before after : Setup) → at before square ≡ None → IsWith before after square cell → AreBitboards before old
+    → AreBitboards after new
 
 pub step_undone : (after : Setup) (kind : Kind) (from to : ℕ) (caught : Option Kind) → length after.board ≡ 12 → CanUnstep after kind from to caught
     → (bits cleared given own : Bitboards) (hand : Hand) → AreBitboards after bits
