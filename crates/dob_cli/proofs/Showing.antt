@@ -77,10 +77,14 @@ module _ (c : ShelfChange) (file : Option (List ℕ)) (words : List ℕ) (positi
   pub picture_shows : (mid : ShelfState) (name : List ℕ) (fault : Fault) → SameFiles c.before.has mid.has → mid.tells ≡ c.before.tells
       → IsPictureFault (shelf_change mid c.after) name fault → IsShowFault c file (Some name) words fault
   picture_shows mid name Memory same told holds = same_chain c.before.has mid.has c.after.has same holds
-  picture_shows mid name Io same told holds = (position, named, inr (elim holds [
-    | inl still ↦ inl (same_chain c.before.has mid.has c.after.has same still)
-    | inr made ↦ inr (λ tells. made (subst (λ (b : Bool). IsTrue b) (sym told) tells))
-  ]))
+  picture_shows mid name Io same told holds = (
+    position,
+    named,
+    inr (elim holds [
+      | inl still ↦ inl (same_chain c.before.has mid.has c.after.has same still)
+      | inr made ↦ inr (λ tells. made (subst (λ (b : Bool). IsTrue b) (sym told) tells))
+    ]),
+  )
   picture_shows mid name (Text f) same told holds = absurd holds
   picture_shows mid name SetText same told holds = absurd holds
   picture_shows mid name SetTooLarge same told holds = absurd holds

@@ -79,7 +79,8 @@ win 1
 ";
 
 // Counted of the values of lions alone that were found apart from this program.
-const STATS_OF_000: &str = "classes 54\nwin 38\nloss 12\ndraw 4\nloss 0 7\nwin 1 29\nloss 2 2\nwin 3 3\nloss 4 1\nwin 5 3\nloss 6 2\nwin 7 3
+const STATS_OF_000: &str =
+    "classes 54\nwin 38\nloss 12\ndraw 4\nloss 0 7\nwin 1 29\nloss 2 2\nwin 3 3\nloss 4 1\nwin 5 3\nloss 6 2\nwin 7 3
 longest win 7 l../.../.../L.. - -\nlongest loss 6 .../l../.../L.. - -\n";
 
 const LINES_OF_000: &str = "classes 54\nwin 38\nloss 12\ndraw 4\n";

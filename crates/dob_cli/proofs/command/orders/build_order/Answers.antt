@@ -36,9 +36,9 @@ returns c = λ texts found.
       (
         number.now,
         texts_got build_form texts _ found c.args.inner.now refl (codes "CEG" ∷ codes "N" ∷ codes "FILE" ∷ []) (Some c.in_ok-get_str.field-0 ∷ Some number ∷ Some c.in_ok-get_str-3.field-0 ∷ []) refl (
-              got_some c.args.inner.now (codes "CEG") c.get_str.result (Some c.in_ok-get_str.field-0) c.get_str.ensures c.in_ok-get_str.was,
-              (got, (got_some c.args.inner.now (codes "FILE") c.get_str-3.result (Some c.in_ok-get_str-3.field-0) c.get_str-3.ensures c.in_ok-get_str-3.was, tt)),
-            ),
+          got_some c.args.inner.now (codes "CEG") c.get_str.result (Some c.in_ok-get_str.field-0) c.get_str.ensures c.in_ok-get_str.was,
+          (got, (got_some c.args.inner.now (codes "FILE") c.get_str-3.result (Some c.in_ok-get_str-3.field-0) c.get_str-3.ensures c.in_ok-get_str-3.was, tt)),
+        ),
         fit,
         some_read _ _ c.ok.result
             (number_read number.now c.parse.result c.ok.result fit c.parse.ensures.value.0 c.ok.ensures.value)
