@@ -3,15 +3,9 @@
 ghost use Rattle.std.specs.Prelude.{◌≡◌, ◌<◌};
 ghost use Rattle.dob_world.specs.Standing.{IsKept};
 
-use super::super::outboxes::{add, won};
-use crate::sets::{classes_of, set_of};
-use dob_node::{Cause, Node, have_entries, opening};
-use dob_pieces::Memory;
-use dob_share::Settlement;
-use dob_update::{Batch, Outbox};
-use dob_value::Value;
+use crate::sets::set_of;
+use dob_node::Cause;
 use dob_world::{Event, Fault, History, World};
-use std::alloc::Global;
 use std::process::Abort;
 
 // What happens by turns in a world of two nodes.
@@ -158,35 +152,4 @@ fn a_stopped_world_is_as_before(rt: HostRuntime) {
     }
     assert!(rt; world.announced());
     are_alike(&rt, &world, &twin);
-}
-
-// The five items of a settlement, and then those of one of a distance that leaves no room for a longer one.
-fn batch_with_a_long_distance(rt: &impl Abort, alloc: Global) -> Result<Batch, Memory> {
-    let classes = classes_of(rt, alloc, "000");
-    let mut outbox = Outbox::new(alloc, classes.set, 2, 0, 1);
-    add(rt, alloc, &classes, &mut outbox, won(0, 16))?;
-    let long = Settlement {
-        number: 1,
-        class: 16,
-        was: Value::Draw,
-        now: Value::Loss(65534),
-    };
-    add(rt, alloc, &classes, &mut outbox, long)?;
-    assert!(rt; outbox.cut_count() < 100);
-    Ok(outbox.cut(4096)?.expect(rt, "a batch"))
-}
-
-// No world of a set this small meets such a distance, so a node is handed one. It has applied the items before it, and tells how many:
-// as many a world lists.
-#[test]
-fn a_batch_is_applied_up_to_an_item_that_goes_too_deep(rt: HostRuntime) -> Result<(), Memory> {
-    let classes = classes_of(&rt, rt.alloc(), "000");
-    let openings = opening(rt.alloc(), &classes).expect(&rt, "openings");
-    let mut node = Node::open(rt.alloc(), &openings, classes.set, 1, 2).expect(&rt, "a node");
-    let batch = batch_with_a_long_distance(&rt, rt.alloc())?;
-    assert!(rt; batch.items().len() == 10 && have_entries(batch.items()));
-    assert!(rt; batch.set() == classes.set && batch.owners() == 2);
-    assert!(rt; node.apply_batch(&batch) == Err(Cause::TooDeep));
-    assert!(rt; node.taken() == 5 && node.failed() == Some(Cause::TooDeep));
-    Ok(())
 }
