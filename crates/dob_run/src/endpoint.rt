@@ -124,8 +124,7 @@ impl Endpoint {
         ensures { MatchOption result ((from : ℕ) → ¬ HoldsFor set self.now.seat.nodes from self.now.seat.node self.now.inlet)
             (λ from. HoldsFor set self.now.seat.nodes from self.now.seat.node self.now.inlet) }
     {
-        self.inlet
-            .sender_for(set, self.seat.nodes, self.seat.node)
+        self.inlet.sender_for(set, self.seat.nodes, self.seat.node)
     }
 
     /// The batch in the taking hand, which is one of the node `from`, another one, if the board says that it was posted: it is
