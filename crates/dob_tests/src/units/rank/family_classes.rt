@@ -130,5 +130,8 @@ fn has_representative_in_b(rt: &impl Abort, alloc: Global, set: &str, class: u64
     };
     let classes = FamilyClasses::open(alloc, family).expect(rt, "classes");
     assert!(rt; class < classes.class_count());
-    assert!(rt; classes.class_at(class) == position(rt, text), "class {class} of {set}");
+    assert!(rt;
+        classes.class_at(class) == position(rt, text),
+        "class {class} of {set}"
+    );
 }
