@@ -21,3 +21,9 @@ returns-in-Build-clause-err g c = rw c.in-Build.is c.answer_build.ensures.err
 
 pub returns-in-Moves-clause-ok : goal.returns-in-Moves-clause-ok
 returns-in-Moves-clause-ok g c = rw c.in-Moves.is c.answer_moves.ensures.ok
+
+pub returns-in-Show-clause-ok : goal.returns-in-Show-clause-ok
+returns-in-Show-clause-ok g c = rw c.in-Show.is c.answer_show.ensures.ok
+
+pub returns-in-Stats-clause-ok : goal.returns-in-Stats-clause-ok
+returns-in-Stats-clause-ok g c = rw c.in-Stats.is c.answer_stats.ensures.ok
