@@ -26,7 +26,7 @@ use Rattle.dob_rank.proofs.RunMarks.{marks_from, run_start_next, start_small}
 use Rattle.dob_rank.proofs.FamilyRuns.{ob_of, run_present, lions_alike}
 use Rattle.dob_rank.proofs.FamilyNumbers.{IsAtClassIn, at_class_in}
 use Rattle.dob_rank.proofs.FamilyMarks.{mark_of_number, number_of_position}
-use Rattle.dob_rank.proofs.FarCounts.{all_there}
+use Rattle.dob_rank.proofs.FarCounts.{all_there, same_left}
 use Rattle.dob_rank.proofs.Present.{represents, there}
 
 -- ---- the place of a number
@@ -59,9 +59,6 @@ run_size_in-far family block run within below =
     (marks_from (is_present family) (run_start family.set block run) (run_size family.set block)
     ∙ ap (marks_below (is_present family)) (sym (run_start_next family.set block run))
     ∙ sym (run_present family block run within below))
-  where
-    same_left : (x y z : ℕ) → x + y ≡ x + z → y ≡ z
-    same_left x y z e = omega (arith, e)
 
 pub number_fits : (family : Family) (block run number : ℕ) (ob : List ℕ) → IsInRunOf family block run number → family.profile ≡ B
     → ob ≡ digits_of (block_bases family.set) block
@@ -90,9 +87,6 @@ place_of_far family block run number place ob at b ob_is found =
       number_is = same_left (marks_below (is_present family) (run_start family.set block run)) (marks_below (is_there family block run) place) number
           (marks_from (is_present family) (run_start family.set block run) place ∙ here.before);
     }
-  where
-    same_left : (x y z : ℕ) → x + y ≡ x + z → y ≡ z
-    same_left x y z e = omega (arith, e)
 
 -- ---- the representative of a class in its run
 

@@ -15,13 +15,11 @@ use Rattle.dob_rank.proofs.Blocks.{sum_below_more}
 use Rattle.dob_rank.proofs.RunMarks.{run_start_first, run_start_end, lions_run, marks_agree}
 use Rattle.dob_rank.proofs.RunSums.{runs_by_hand}
 use Rattle.dob_rank.proofs.FamilyMarks.{first_marks_in, later_marks_in, classes_before_next, there_by_lions, alike_by_lions}
+use Rattle.dob_rank.proofs.FamilyTables.{same_upto}
 
 -- how many classes a run has
 abbrev pub run_marks_in : Family → ℕ → ℕ → ℕ
 run_marks_in family block run = marks_below (local_marks_in family block run) (run_size_in family block run)
-
-same_upto : (n : ℕ) → n ≤ n
-same_upto n = omega arith
 
 -- each position of a run whose lions say first is a representative
 pub first_run_in : (family : Family) (block run : ℕ) → block < product (block_bases family.set) → run < runs_in family.set block

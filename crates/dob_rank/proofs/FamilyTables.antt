@@ -24,7 +24,7 @@ use Rattle.dob_rank.proofs.FamilyMarks.{first_mark_in, later_mark_in, first_mark
 
 -- ---- how many marks a run has
 
-same_upto : (n : ℕ) → n ≤ n
+pub same_upto : (n : ℕ) → n ≤ n
 same_upto n = omega arith
 
 pub count_first_in : (family : Family) (block run size : ℕ) → block < product (block_bases family.set) → run < runs_in family.set block

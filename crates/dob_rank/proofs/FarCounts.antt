@@ -187,7 +187,7 @@ one_more x y h = omega (arith, h)
 lower : (d e m : ℕ) → d ≤ e → e < m → d < m
 lower d e m h k = omega (arith, h, k)
 
-same_left : (x y z : ℕ) → x + y ≡ x + z → y ≡ z
+pub same_left : (x y z : ℕ) → x + y ≡ x + z → y ≡ z
 same_left x y z e = omega (arith, e)
 
 regrouped : (x y z r o : ℕ) → (x + (y + z)) * r + o ≡ (x + y + z) * r + o
