@@ -49,12 +49,7 @@ impl Model for History {
 
 impl History {
     /// An empty history of owner `id` among `n`, in segments of that length.
-    pub(crate) fn new(
-        alloc: Global,
-        id: usize,
-        n: usize,
-        segment_length: SegmentLength,
-    ) -> History
+    pub(crate) fn new(alloc: Global, id: usize, n: usize, segment_length: SegmentLength) -> History
         requires one_of_n { id < n }
         requires few { n ≤ 16 }
         ensures { result ≡ record { id = id; n = n; settlements = []; room = 0 } }

@@ -52,7 +52,7 @@ openings_joined set first upto before more are next = record {
   each = λ class given there. elim (at_either before more class given there) [
     | inl earlier ↦ are.each class given earlier
     | inr later ↦ (
-      let place : first + later.0 ≡ class = omega (arith, are.whole, later.1) in
-      subst (λ (c : ℕ). IsOpening (class_setup set c) given) place (next.each later.0 given later.2))
+        let place : first + later.0 ≡ class = omega (arith, are.whole, later.1) in
+        subst (λ (c : ℕ). IsOpening (class_setup set c) given) place (next.each later.0 given later.2))
   ];
 }

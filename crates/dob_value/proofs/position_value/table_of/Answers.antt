@@ -1,8 +1,8 @@
 -- The table was given what was swept.
-use Rattle.std.proofs.Common.{◌≡◌, ◌<◌, ℕ, length, subst, sym, ◌∙◌}
+use Rattle.std.proofs.Common.{◌<◌, ℕ, subst, sym}
 use Rattle.std.proofs.lemmas.Option.{slice_get_within, get_or_from_slice_get}
 use Rattle.std.proofs.lemmas.Result.{IfOk-weaker}
-use Rattle.dob_value.specs.Follows.{ClassTable, IsEntry, IsValueTable, AreGiven}
+use Rattle.dob_value.specs.Follows.{ClassTable, IsEntry, IsValueTable}
 use Rattle.dob_value.proofs.Rows.{given_is_table}
 use Rattle.dob_value.proofs.position_value.table_of.Goals as goal
 

@@ -1,11 +1,10 @@
 -- Each class has the value that is given for it.
-use Rattle.std.proofs.Common.{◌≡◌, ℕ, ◌<◌, ◌∙◌, sym, subst, arith, length}
+use Rattle.std.proofs.Common.{◌≡◌, ℕ, ◌<◌, ◌∙◌, sym, subst, arith}
 use Rattle.std.proofs.lemmas.List.Elements.{All-push}
 use Rattle.std.specs.List.{All}
 use Rattle.dob_rank.specs.Order.{HasClasses}
 use Rattle.dob_rank.specs.Marks.{classes_of}
 use Rattle.dob_rank.proofs.Marks.{HasClasses-classes_of}
-use Rattle.dob_value.specs.Codes.{values_of_codes}
 use Rattle.dob_value.proofs.Parity.{entries_of_codes}
 use Rattle.dob_value.proofs.Listed.{given_more}
 use Rattle.dob_value.proofs.table.Table.from_fn.Goals as goal

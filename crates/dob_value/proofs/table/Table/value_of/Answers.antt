@@ -1,6 +1,5 @@
 -- A class number below the count has a value.
-use Rattle.std.proofs.Common.{◌<◌, length, sym, subst, refl}
-use Rattle.std.proofs.lemmas.Option.{slice_get_read}
+use Rattle.std.proofs.Common.{subst}
 use Rattle.dob_value.specs.Follows.{ClassTable, HasInTable}
 use Rattle.dob_value.proofs.Parity.{entry_read}
 use Rattle.dob_value.proofs.Rows.{class_has_code}
