@@ -15,7 +15,7 @@ spot : (c : goal.After-spot-1) → HasSpot c.args.family.set c.requires.0 c.args
     c.spot_shown-block.result.1.local
 spot c =
     let shown : IsShown c.args.family.set c.requires.0 c.args.bits.now =
-        record { position = c.requires.1.position.of_set; squares = c.requires.1.squares } in
+    record { position = c.requires.1.position.of_set; squares = c.requires.1.squares } in
     let at = c.spot_shown-block.ensures in
     spot_there c.args.family.set c.requires.0 c.args.family.set _ _ _ c.requires.1.position.of_set refl (at.block c.requires.0 shown)
     (at.run c.requires.0 shown) (at.local c.requires.0 shown)
