@@ -40,11 +40,7 @@ impl Detector {
             taken,
             counters,
             black,
-            token: Token {
-                at: 0,
-                black: true,
-                sum: 0,
-            },
+            token: Token::first(),
             announced: false,
         })
     }

@@ -18,7 +18,7 @@ returns-clause-counted c =
         black = ap length black ∙ length-replicate n true;
         counters = ap length counters ∙ length-replicate n (pos 0);
         counted = opened_counter n c.in_ok-posted.posted.items c.in_ok-taken.taken.items c.in_ok-counters.counters.items c.in_ok-black.black.items
-            (record { at = 0; black = true; sum = pos 0 }) false posted taken counters;
+            c.first.result false posted taken counters;
       },
       refl,
     )
